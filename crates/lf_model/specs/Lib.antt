@@ -1,0 +1,16 @@
+pub mod Address
+pub mod Registers
+pub mod Lines
+pub mod State
+pub mod Table
+pub mod Run
+pub mod Examples
+pub mod History
+pub mod Sharing
+pub mod Copies
+pub mod Laws
+pub mod Ring
+pub mod Fits
+pub mod InRange
+pub mod Numbers
+pub mod Outcomes

@@ -1,0 +1,37 @@
+//! The configured hierarchy.
+
+/// How the registers of a level name what they hold.
+#[derive(Clone, Copy, Debug, PartialEq, Eq)]
+pub enum OrgShape {
+    /// Each register holds one block and has a field for each word of it.
+    Implicit { registers: u32 },
+    /// Each register holds one block and has a number of entries, each with an offset of its own.
+    Explicit { registers: u32, entries: u32 },
+    /// One register for each possible destination. Several may hold one block.
+    Inverted,
+}
+
+/// One level of the cache. All numbers count per bank.
+#[derive(Clone, Copy, Debug, PartialEq, Eq)]
+pub struct Level {
+    /// 1 to 4,096.
+    pub sets: u32,
+    /// Lines per set, 1 to 16.
+    pub ways: u32,
+    pub organisation: OrgShape,
+}
+
+/// A two-level lockup-free cache.
+#[derive(Clone, Copy, Debug, PartialEq, Eq)]
+pub struct Shape {
+    /// 1 to 16.
+    pub ports: u32,
+    /// 1 to 16.
+    pub banks: u32,
+    /// The bytes of a block: 8, 16, 32 or 64.
+    pub block: u32,
+    /// Tags per port, 1 to 64.
+    pub tags: u32,
+    pub level1: Level,
+    pub level2: Level,
+}
