@@ -1,2 +1,8 @@
-//! Not written yet.
+//! Traces as bytes.
 #![tactic(auto)]
+
+mod fault;
+mod header;
+
+pub use fault::{CodecCause, CodecFault, Told};
+pub use header::Header;
