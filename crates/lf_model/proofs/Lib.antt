@@ -1,0 +1,17 @@
+pub mod Clauses
+pub mod Locality
+pub mod Parts
+pub mod Busy
+pub mod Once
+pub mod Shared
+pub mod Owed
+pub mod Flat
+pub mod Masks
+pub mod CopyBlock
+pub mod Forget
+pub mod CopyStep
+pub mod CopyRuns
+pub mod FitFacts
+pub mod Faults
+pub mod Rings
+pub mod Room

@@ -4,6 +4,7 @@ pub mod Lines
 pub mod State
 pub mod Table
 pub mod Run
+pub mod Order
 pub mod Examples
 pub mod History
 pub mod Sharing

@@ -7,6 +7,7 @@
 
 mod event;
 mod fitting;
+mod laws;
 mod mask;
 mod outcome;
 mod ring;
@@ -15,6 +16,7 @@ mod shape;
 
 pub use event::{Block, Event, Logs, Memory, Op, Record};
 pub use fitting::fits;
+pub use laws::{copies_are_flat, rings_admit_none, runs_are_right, runs_by_parts};
 pub use mask::{Mask, agree_off, overlay};
 pub use outcome::{NoMemory, Outcome};
 pub use ring::{Knot, Ring, Skeleton};

@@ -1,0 +1,43 @@
+-- Orders: lists of log numbers, which name at each place the log whose next element comes.
+use Rattle.std.specs.Prelude.{◌≡◌, ℕ, ◌<◌, ◌⊎◌, ◌==◌, List, [], ◌∷◌, map, filter, length, drop, slice_index_or, slice_set}
+use Rattle.std.specs.List.{range_with_len}
+
+module _ {T : Type 0} where
+  abbrev pub log_at : List (List T) → ℕ → List T
+  log_at logs log = slice_index_or logs log []
+
+  -- the logs without the next element of this one
+  abbrev pub after_next : List (List T) → ℕ → List (List T)
+  after_next logs log = slice_set logs log (drop 1 (log_at logs log))
+
+  -- The order takes these elements from the logs, each the next one of the log that it names, and leaves none.
+  abbrev pub Takes : List (List T) → List ℕ → List T → Type 0
+  Takes logs [] [] = (log : ℕ) → log_at logs log ≡ []
+  Takes logs [] (x ∷ xs) = ⊥
+  Takes logs (log ∷ order) [] = ⊥
+  Takes logs (log ∷ order) (x ∷ xs) = (log_at logs log ≡ x ∷ drop 1 (log_at logs log)) × Takes (after_next logs log) order xs
+
+-- ---- orders of skeletons: lists of (bank, number)
+
+abbrev pub entries_of : ℕ → List (ℕ × ℕ) → List (ℕ × ℕ)
+entries_of bank entries = filter (λ entry. entry.0 == bank) entries
+
+-- Each bank's entries carry 0, 1, 2, .. in this order.
+abbrev pub EntriesKeepNumbers : List (ℕ × ℕ) → Type 0
+EntriesKeepNumbers entries = (bank : ℕ) → map (λ entry. entry.1) (entries_of bank entries) ≡ range_with_len 0 (length (entries_of bank entries))
+
+-- The order takes all the skeletons' entries, and they keep the numbers.
+pub record IsOrder (skeletons : List (List (ℕ × ℕ))) (order : List ℕ) : Type 0 where
+  pub entries : List (ℕ × ℕ)
+  pub taken : Takes skeletons order entries
+  pub kept : EntriesKeepNumbers entries
+
+-- a stands before b in the order of words, or is b
+abbrev pub IsNotAbove : List ℕ → List ℕ → Type 0
+IsNotAbove [] b = Unit {0}
+IsNotAbove (x ∷ a) [] = ⊥
+IsNotAbove (x ∷ a) (y ∷ b) = (x < y) ⊎ ((x ≡ y) × IsNotAbove a b)
+
+pub record IsLeastOrder (skeletons : List (List (ℕ × ℕ))) (order : List ℕ) : Type 0 where
+  pub is_order : IsOrder skeletons order
+  pub least : (other : List ℕ) → IsOrder skeletons other → IsNotAbove order other
