@@ -15,3 +15,7 @@ pub mod FitFacts
 pub mod Faults
 pub mod Rings
 pub mod Room
+pub mod Outcomes
+pub mod Permuted
+pub mod Numbered
+pub mod Orders

@@ -1,5 +1,5 @@
 -- Which records a trace of these ports, banks and block size may have.
-use Rattle.std.specs.Prelude.{◌≡◌, ℕ, ◌+◌, ◌*◌, ◌/◌, ◌%◌, ◌^◌, ◌<◌, ◌≤◌, Bool, true, false, ◌&&◌, ◌||◌, ◌==◌, List, [], ◌∷◌, length, slice_index}
+use Rattle.std.specs.Prelude.{◌≡◌, ℕ, ◌+◌, ◌/◌, ◌%◌, ◌^◌, ◌<◌, Bool, true, ◌||◌, ◌==◌, length, slice_index}
 use Rattle.std.specs.Int.RustNames.{count_ones}
 use Rattle.arrayvec.specs.ArrayVec.{ArrayVec}
 use Rattle.lf_model.specs.declared.event.Op.{Op}

@@ -1,8 +1,10 @@
 -- The numbers that the records of a bank carry.
-use Rattle.std.specs.Prelude.{◌≡◌, ℕ, ◌<◌, ◌==◌, List, map, length, count_by, IsPermutation}
-use Rattle.std.specs.List.{range_with_len, flat_map}
+use Rattle.std.specs.Prelude.{◌≡◌, ℕ, ◌<◌, ◌⊎◌, ◌==◌, List, [], map, length, count_by, slice_index_or, IsPermutation}
+use Rattle.std.specs.List.{range_with_len, flat_map, AllByRecursion}
 use Rattle.lf_model.specs.declared.event.Record.{Record}
-use Rattle.lf_model.specs.Run.{of_bank}
+use Rattle.lf_model.specs.declared.shape.Shape.{Shape}
+use Rattle.lf_model.specs.Fits.{Fits}
+use Rattle.lf_model.specs.Run.{of_bank, Interleaves, KeepsNumbers}
 
 -- the records of all logs
 abbrev pub all_records : List (List Record) → List Record
@@ -38,3 +40,27 @@ IsWhole numbers = (k : ℕ) → k < length numbers → times k numbers ≡ 1
 pub record IsNumbered (logs : List (List Record)) (bank : ℕ) (rs : List Record) : Type 0 where
   pub numbers : numbers_of rs ≡ range_with_len 0 (length rs)
   pub same : IsPermutation rs (of_bank bank (all_records logs))
+
+-- ---- laws
+
+-- the records of all logs are those of an interleaving, so where they fit, those do
+abbrev pub InterleavingsFit : Type 0
+InterleavingsFit = (shape : Shape) (logs : List (List Record)) (rs : List Record) → Interleaves logs rs
+    → ((log : ℕ) → AllByRecursion (Fits shape) (slice_index_or logs log [])) → AllByRecursion (Fits shape) rs
+
+-- an interleaving that keeps the numbers has each bank's records of all logs, in the order of their numbers
+abbrev pub InterleavingsAreNumbered : Type 0
+InterleavingsAreNumbered = (logs : List (List Record)) (rs : List Record) → Interleaves logs rs → KeepsNumbers rs → (bank : ℕ) → IsNumbered logs bank (of_bank bank rs)
+
+-- there is only one such order
+abbrev pub NumberedIsOne : Type 0
+NumberedIsOne = (logs : List (List Record)) (bank : ℕ) (a b : List Record) → IsNumbered logs bank a → IsNumbered logs bank b → a ≡ b
+
+-- where there is one, the numbers are whole
+abbrev pub NumberedIsWhole : Type 0
+NumberedIsWhole = (logs : List (List Record)) (bank : ℕ) (rs : List Record) → IsNumbered logs bank rs → IsWhole (bank_numbers logs bank)
+
+-- where a number is missing or double, no list of all logs keeps the numbers
+abbrev pub GapsAdmitNone : Type 0
+GapsAdmitNone = (logs : List (List Record)) (bank k : ℕ) → IsMissing (bank_numbers logs bank) k ⊎ IsDouble (bank_numbers logs bank) k
+    → (rs : List Record) → Interleaves logs rs → KeepsNumbers rs → ⊥

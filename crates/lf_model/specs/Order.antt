@@ -1,6 +1,9 @@
 -- Orders: lists of log numbers, which name at each place the log whose next element comes.
-use Rattle.std.specs.Prelude.{◌≡◌, ℕ, ◌<◌, ◌⊎◌, ◌==◌, List, [], ◌∷◌, map, filter, length, drop, slice_index_or, slice_set}
+use Rattle.std.specs.Prelude.{◌≡◌, ℕ, ◌<◌, ◌↔◌, ◌⊎◌, ◌==◌, List, [], ◌∷◌, map, filter, length, drop, slice_index_or, slice_set}
 use Rattle.std.specs.List.{range_with_len}
+use Rattle.lf_model.specs.declared.event.Record.{Record}
+use Rattle.lf_model.specs.Run.{NameTheirLogs, Interleaves, KeepsNumbers}
+use Rattle.lf_model.specs.Ring.{entry_of, skeletons_of}
 
 module _ {T : Type 0} where
   abbrev pub log_at : List (List T) → ℕ → List T
@@ -41,3 +44,26 @@ IsNotAbove (x ∷ a) (y ∷ b) = (x < y) ⊎ ((x ≡ y) × IsNotAbove a b)
 pub record IsLeastOrder (skeletons : List (List (ℕ × ℕ))) (order : List ℕ) : Type 0 where
   pub is_order : IsOrder skeletons order
   pub least : (other : List ℕ) → IsOrder skeletons other → IsNotAbove order other
+
+-- ---- laws
+
+-- an order takes a list from the logs exactly where the list is an interleaving and the order names its logs
+abbrev pub OrdersInterleave : Type 0
+OrdersInterleave = (logs : List (List Record)) (order : List ℕ) (rs : List Record) → NameTheirLogs logs
+    → Takes logs order rs ↔ (Interleaves logs rs × (map (λ r. r.log) rs ≡ order))
+
+-- it takes only one list
+abbrev pub OrdersTakeOne : Type 0
+OrdersTakeOne = (logs : List (List Record)) (order : List ℕ) (a b : List Record) → Takes logs order a → Takes logs order b → a ≡ b
+
+-- what it takes from the skeletons are the entries of what it takes from the logs
+abbrev pub SkeletonsFollow : Type 0
+SkeletonsFollow = (logs : List (List Record)) (order : List ℕ) (rs : List Record) → Takes logs order rs → Takes (skeletons_of logs) order (map entry_of rs)
+
+abbrev pub LogsFollow : Type 0
+LogsFollow = (logs : List (List Record)) (order : List ℕ) (entries : List (ℕ × ℕ)) → Takes (skeletons_of logs) order entries
+    → (rs : List Record) × Takes logs order rs × (map entry_of rs ≡ entries)
+
+-- records keep the numbers exactly where their entries do
+abbrev pub EntriesKeepAlike : Type 0
+EntriesKeepAlike = (rs : List Record) → KeepsNumbers rs ↔ EntriesKeepNumbers (map entry_of rs)

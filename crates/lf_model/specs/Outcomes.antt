@@ -1,7 +1,8 @@
 -- What the replay of one port or of one bank answers.
-use Rattle.std.specs.Prelude.{◌≡◌, List}
+use Rattle.std.specs.Prelude.{◌≡◌, ◌⊎◌, ℕ, List}
 use Rattle.lf_model.specs.declared.shape.Shape.{Shape}
 use Rattle.lf_model.specs.declared.event.Record.{Record}
+use Rattle.lf_model.specs.declared.rule.Rule.{Rule}
 use Rattle.lf_model.specs.declared.outcome.Outcome.{Outcome}
 use Rattle.lf_model.specs.declared.outcome.Outcome.TheVariants.{Passed, Broken, NoMemory}
 use Rattle.lf_model.specs.Address.{FlatMemory}
@@ -32,3 +33,8 @@ IsPortOutcome shape rs outcome = (memory : FlatMemory) → IsOutcomeOf OfPort sh
 abbrev pub OutcomesAreOne : Type 0
 OutcomesAreOne = (side : Side) (shape : Shape) (memory : FlatMemory) (rs : List Record) (a b : Outcome) →
     IsOutcomeOf side shape memory rs a → IsOutcomeOf side shape memory rs b → (a ≡ NoMemory → ⊥) → (b ≡ NoMemory → ⊥) → a ≡ b
+
+-- and each has one: it is a run, or it breaks somewhere
+abbrev pub RunsOrBreaks : Type 0
+RunsOrBreaks = (side : Side) (shape : Shape) (memory : FlatMemory) (rs : List Record) →
+    IsRunOf side shape (first_local memory) rs ⊎ ((n : ℕ) × (rule : Rule) × BreaksAt side shape (first_local memory) rs n rule)

@@ -1,13 +1,10 @@
 -- Runs of the whole system, of one bank and of one port; interleavings and numbers.
-use Rattle.std.specs.Prelude.{◌≡◌, ℕ, zero, suc, ◌+◌, ◌%◌, ◌^◌, ◌<◌, ◌↔◌, ◌⊎◌, Bool, true, false, ◌==◌, List, [], ◌∷◌, map, filter, length, count_ones, Option, Some, None, slice_index_or, if◌then◌else◌}
+use Rattle.std.specs.Prelude.{◌≡◌, ℕ, zero, suc, ◌+◌, ◌<◌, ◌↔◌, Bool, true, false, ◌==◌, List, [], ◌∷◌, map, filter, length, Option, Some, None, slice_index_or, if◌then◌else◌}
 use Rattle.std.specs.List.{range_with_len, AllByRecursion}
-use Rattle.lf_model.specs.declared.event.Op.TheVariants.{Load, Store}
 use Rattle.lf_model.specs.declared.shape.Shape.{Shape}
 use Rattle.lf_model.specs.declared.event.Record.{Record}
 use Rattle.lf_model.specs.declared.rule.Rule.{Rule}
-use Rattle.lf_model.specs.declared.event.Event.{Event}
-use Rattle.lf_model.specs.declared.event.Event.TheVariants.{Issue, Reply, Hit, Primary, Merge, Stall, Fill1, Evict1, SecondHit, SecondPrimary, SecondStall, Fill2, Evict2}
-use Rattle.lf_model.specs.Address.{FlatMemory, block_of, bank_of}
+use Rattle.lf_model.specs.Address.{FlatMemory}
 use Rattle.lf_model.specs.Fits.{Fits}
 use Rattle.lf_model.specs.State.{State, Local, opening, seen_by, with_seen}
 use Rattle.lf_model.specs.Table.{Side, OfPort, OfBank, OfBoth, Clause, clauses, bank_effect, port_effect}
@@ -73,6 +70,10 @@ of_bank bank rs = filter (names bank) rs
 -- The list holds the logs, each in its own order, and no other records.
 pub record Interleaves (logs : List (List Record)) (rs : List Record) : Type 0 where
   pub each : (log : ℕ) → of_log log rs ≡ slice_index_or logs log []
+
+-- The records of list l name log l.
+abbrev pub NameTheirLogs : List (List Record) → Type 0
+NameTheirLogs logs = (log : ℕ) → AllByRecursion (λ r. r.log ≡ log) (slice_index_or logs log [])
 
 -- Each bank's records carry 0, 1, 2, .. in this order.
 abbrev pub KeepsNumbers : List Record → Type 0
