@@ -1,0 +1,89 @@
+-- The laws between the bytes of a trace and what they are read as.
+use Rattle.std.specs.Prelude.{◌≡◌, ℕ, ◌<◌, ◌≤◌, List, [], ◌++◌, length, take, slice_index, Some, None, ◌↔◌}
+use Rattle.lf_model.specs.Fits.{Bytes}
+use Rattle.lf_model.specs.declared.event.Record.{Record}
+use Rattle.lf_codec.specs.declared.header.Header.{Header}
+use Rattle.lf_codec.specs.declared.fault.CodecCause.TheVariants.{Truncated, NoMemory}
+use Rattle.lf_codec.specs.declared.fault.CodecFault.{CodecFault}
+use Rattle.lf_codec.specs.Reading.{Reading, reading_of, fault_so_far, trace_fault, header_of}
+use Rattle.lf_codec.specs.Trace.{IsTrace}
+use Rattle.lf_codec.specs.Reader.{HasRead, Gives}
+
+abbrev pub AreBytes : List ℕ → Type 0
+AreBytes bytes = (i : ℕ) → slice_index bytes i < 256
+
+-- ---- bytes without a fault
+
+-- what the reading makes of the bytes
+abbrev pub IsReadAs : List ℕ → Header → List (ℕ × Bytes) → List Record → Type 0
+IsReadAs bytes h memory records = (trace_fault bytes ≡ None) × (header_of bytes ≡ Some h) × ((reading_of bytes).memory ≡ memory) × ((reading_of bytes).records ≡ records)
+
+-- the reading finds no fault exactly where the bytes are a trace, and then this trace
+abbrev pub ReadingIsExact : Type 0
+ReadingIsExact = (bytes : List ℕ) (h : Header) (memory : List (ℕ × Bytes)) (records : List Record) → AreBytes bytes → IsReadAs bytes h memory records ↔ IsTrace bytes h memory records
+
+-- the bytes are a trace
+pub record IsSomeTrace (bytes : List ℕ) : Type 0 where
+  pub header : Header
+  pub memory : List (ℕ × Bytes)
+  pub records : List Record
+  pub trace : IsTrace bytes header memory records
+
+-- bytes without a fault are a trace, and a trace has no fault
+abbrev pub FaultlessBytesAreTraces : Type 0
+FaultlessBytesAreTraces = (bytes : List ℕ) → AreBytes bytes → (trace_fault bytes ≡ None) ↔ IsSomeTrace bytes
+
+-- two traces never have the same bytes
+abbrev pub BytesAreOfOneTrace : Type 0
+BytesAreOfOneTrace = (bytes : List ℕ) (h h' : Header) (memory memory' : List (ℕ × Bytes)) (records records' : List Record)
+    → IsTrace bytes h memory records → IsTrace bytes h' memory' records' → (h ≡ h') × (memory ≡ memory') × (records ≡ records')
+
+-- a trace has one spelling
+abbrev pub TracesHaveOneSpelling : Type 0
+TracesHaveOneSpelling = (bytes bytes' : List ℕ) (h : Header) (memory : List (ℕ × Bytes)) (records : List Record) → IsTrace bytes h memory records → IsTrace bytes' h memory records → bytes ≡ bytes'
+
+-- no trace begins another
+abbrev pub NoTraceBeginsAnother : Type 0
+NoTraceBeginsAnother = (bytes more : List ℕ) (h h' : Header) (memory memory' : List (ℕ × Bytes)) (records records' : List Record)
+    → IsTrace bytes h memory records → IsTrace (bytes ++ more) h' memory' records' → more ≡ []
+
+-- ---- bytes with a fault
+
+-- the fault so far is the fault of the bytes where that is not Truncated
+abbrev pub FaultsSoFarAreNotTruncated : Type 0
+FaultsSoFarAreNotTruncated = (bytes : List ℕ) (f : CodecFault) → (fault_so_far bytes ≡ Some f) ↔ ((trace_fault bytes ≡ Some f) × (f.cause ≡ Truncated → ⊥))
+
+-- both give the same header, memory records and records
+pub record GivesSame (a b : List ℕ) : Type 0 where
+  pub header : header_of a ≡ header_of b
+  pub memory : (reading_of a).memory ≡ (reading_of b).memory
+  pub records : (reading_of a).records ≡ (reading_of b).records
+
+-- bytes with more behind them are the same trace's bytes in the one fault and in what stands before it
+pub record IsDecided (bytes more : List ℕ) (f : CodecFault) : Type 0 where
+  pub so_far : fault_so_far (bytes ++ more) ≡ Some f
+  pub whole : trace_fault (bytes ++ more) ≡ Some f
+  pub same : GivesSame (bytes ++ more) bytes
+
+-- a fault that stands in a prefix is the fault of the whole, and nothing behind it is read
+abbrev pub FaultsStand : Type 0
+FaultsStand = (bytes more : List ℕ) (f : CodecFault) → fault_so_far bytes ≡ Some f → IsDecided bytes more f
+
+-- the bytes before the header or record in which the fault stands have no fault yet, and give all that there is
+pub record StandsBefore (bytes : List ℕ) (f : CodecFault) : Type 0 where
+  pub within : f.offset ≤ length bytes
+  pub fine : fault_so_far (take f.offset bytes) ≡ None
+  pub same : GivesSame (take f.offset bytes) bytes
+
+abbrev pub WhatStandsBeforeIsGiven : Type 0
+WhatStandsBeforeIsGiven = (bytes : List ℕ) (f : CodecFault) → AreBytes bytes → fault_so_far bytes ≡ Some f → StandsBefore bytes f
+
+-- want of memory is no fault of bytes
+abbrev pub BytesNeverWantMemory : Type 0
+BytesNeverWantMemory = (bytes : List ℕ) (f : CodecFault) → trace_fault bytes ≡ Some f → f.cause ≡ NoMemory → ⊥
+
+-- ---- readers
+
+-- what a reader has read is what it gives
+abbrev pub WhatIsReadIsGiven : Type 0
+WhatIsReadIsGiven = (r : Reading) (fed : List ℕ) (memory : List (ℕ × Bytes)) (records : List Record) → HasRead r fed memory records → Gives r fed memory records
