@@ -1,1 +1,2 @@
+mod PortRun
 mod Splitting

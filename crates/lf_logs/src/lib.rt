@@ -3,7 +3,9 @@
 #![tactic(auto)]
 
 mod logs;
+mod port;
 mod skeleton;
 
 pub use logs::split;
+pub use port::port_replay;
 pub use skeleton::skeletons;
