@@ -1,0 +1,2 @@
+mod PortRun
+mod Splitting

@@ -1,2 +1,11 @@
-//! Not written yet.
+//! The logs of a trace: each log's records in its own order, the rules of a port's log, and the
+//! numbers that give each bank's order.
 #![tactic(auto)]
+
+mod logs;
+mod port;
+mod skeleton;
+
+pub use logs::split;
+pub use port::port_replay;
+pub use skeleton::skeletons;

@@ -1,0 +1,85 @@
+//! The rules of a port's log. They look at nothing but which tags are busy.
+
+ghost use Rattle.std.specs.Prelude.{◌≡◌, ◌≢◌, ◌≤◌, ◌^◌, length};
+ghost use Rattle.lf_model.specs.declared.outcome.Outcome.{Outcome};
+ghost use Rattle.lf_model.specs.Outcomes.{IsPortOutcome};
+ghost use Rattle.lf_model.specs.State.{Local, idle};
+ghost use Rattle.lf_model.specs.Table.{OfPort, clauses};
+ghost use Rattle.lf_model.specs.Run.{first_failing, effect};
+ghost use Rattle.lf_logs.specs.Tags.{with_tags};
+
+use lf_model::{Event, Outcome, Record, Rule, Shape};
+
+/// A tag is a byte, whatever the shape allows of it.
+const TAGS: usize = 256;
+
+/// For each tag of a port the bank that owes its reply.
+#[derive(Drop)]
+struct BusyTags {
+    owed_by: [Option<u8>; TAGS],
+}
+
+impl BusyTags {
+    fn new() -> Self
+        ensures { (now : Local) → with_tags now result.owed_by ≡ record now { busy = idle } }
+    {
+        BusyTags {
+            owed_by: [None; TAGS],
+        }
+    }
+
+    /// The first rule of the port that the record breaks.
+    fn failing(&self, shape: &Shape, item: &Record) -> Option<Rule>
+        ensures { (now : Local) → result ≡ first_failing OfPort (clauses shape.now (with_tags now self.now.owed_by) item.now) }
+    {
+        match &item.event {
+            Event::Issue { tag, .. } => {
+                if u32::from(*tag) >= shape.tags {
+                    Some(Rule::TagRange)
+                } else if self.owed_by[usize::from(*tag)].is_some() {
+                    Some(Rule::TagBusy)
+                } else {
+                    None
+                }
+            }
+            Event::Reply { tag, .. } => {
+                if u32::from(*tag) >= shape.tags {
+                    Some(Rule::TagRange)
+                } else if self.owed_by[usize::from(*tag)] != Some(item.bank) {
+                    Some(Rule::NotOutstanding)
+                } else {
+                    None
+                }
+            }
+            _ => None,
+        }
+    }
+
+    /// An issue makes its tag busy, a reply frees it.
+    fn update(&mut self, shape: &Shape, item: &Record)
+        ensures { (now : Local) → effect OfPort shape.now (with_tags now self.old.owed_by) item.now ≡ with_tags now self.new.owed_by }
+    {
+        match &item.event {
+            Event::Issue { tag, .. } => self.owed_by[usize::from(*tag)] = Some(item.bank),
+            Event::Reply { tag, .. } => self.owed_by[usize::from(*tag)] = None,
+            _ => {}
+        }
+    }
+}
+
+/// Judges the log of one port, `records`, by the rules of ports: a tag is in range, an issue's is not
+/// busy, a reply's is busy with the reply's bank. The place in `Broken` counts from 0 in the log.
+pub fn port_replay(shape: &Shape, records: &[Record]) -> Outcome
+    requires { length records.now ≤ 2 ^ 20 }
+    ensures outcome { IsPortOutcome shape.now records.now result }
+    ensures memory { result ≢ Outcome.NoMemory }
+{
+    let mut tags = BusyTags::new();
+    for (at, item) in records.iter().enumerate() {
+        if let Some(rule) = tags.failing(shape, item) {
+            return Outcome::Broken(at as u32, rule);
+        }
+        tags.update(shape, item);
+    }
+    Outcome::Passed
+}

@@ -1,0 +1,35 @@
+//! What the order of a trace depends on.
+
+ghost use Rattle.std.specs.Prelude.{◌≡◌, map, IfOk};
+ghost use Rattle.lf_model.specs.Ring.{entry_of, skeletons_of};
+ghost use Rattle.lf_logs.specs.Lists.{lists_of};
+
+use lf_model::{Logs, NoMemory, Record, Skeleton};
+use std::alloc::Global;
+
+fn skeleton(alloc: Global, log: &[Record]) -> Result<Skeleton, NoMemory>
+    ensures { IfOk result (λ entries. entries.items ≡ map entry_of log.now) }
+{
+    let Ok(entries) = log
+        .iter()
+        .map(|item| (item.bank, item.number))
+        .collect(alloc)
+    else {
+        return Err(NoMemory);
+    };
+    Ok(entries)
+}
+
+/// Bank and number of each record, log by log, in the order of the logs.
+pub fn skeletons(alloc: Global, logs: &Logs) -> Result<Vec<Skeleton>, NoMemory>
+    ensures { IfOk result (λ all. lists_of all ≡ skeletons_of (lists_of logs.now)) }
+{
+    let mut all = Vec::new(alloc);
+    for log in logs {
+        let entries = skeleton(alloc, log)?;
+        if all.push(entries).is_err() {
+            return Err(NoMemory);
+        }
+    }
+    Ok(all)
+}
