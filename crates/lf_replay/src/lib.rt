@@ -1,2 +1,5 @@
-//! Not written yet.
+//! The replay of one bank.
 #![tactic(auto)]
+
+mod registers;
+mod request;

@@ -1,0 +1,80 @@
+//! What a bank keeps of a request, from its issue to its reply.
+
+ghost use Rattle.std.specs.Prelude.{◌≡◌, ℕ, ◌+◌, ◌<◌, ◌≤◌, ◌↔◌, length};
+ghost use Rattle.lf_model.specs.Table.{position};
+
+use arrayvec::ArrayVec;
+use lf_model::Op;
+use std::marker::Model;
+
+/// The bytes of a request: what a store writes, or a load's value.
+pub type Data = ArrayVec<u8, 8>;
+
+/// A request of a port, from its issue to its acceptance, and on as a target of a register.
+#[derive(Drop)]
+pub struct Request {
+    pub tag: u8,
+    pub op: Op,
+    pub block: u32,
+    pub offset: u8,
+    pub size: u8,
+    /// What a store writes.
+    pub bytes: Data,
+}
+
+impl Model for Request {
+    ghost use Rattle.lf_model.specs.State as model;
+
+    ghost Value = { model.Request };
+
+    ghost view = { λ r. record { tag = r.tag; op = r.op; block = r.block; offset = r.offset; size = r.size; bytes = r.bytes.items } };
+}
+
+/// A request that missed, and its value where it is a load.
+#[derive(Drop)]
+pub struct Missed {
+    pub port: u8,
+    pub request: Request,
+    pub value: Data,
+}
+
+impl Model for Missed {
+    ghost use Rattle.lf_model.specs.State as model;
+
+    ghost Value = { model.Missed };
+
+    ghost view = { λ m. record { port = m.port; request = m.request; value = m.value.items } };
+}
+
+/// The reply that a request may have: a load's value, and nothing for a store.
+#[derive(Drop)]
+pub struct Ready {
+    pub port: u8,
+    pub tag: u8,
+    pub value: Data,
+}
+
+impl Model for Ready {
+    ghost use Rattle.lf_model.specs.State as model;
+
+    ghost Value = { model.Ready };
+
+    ghost view = { λ r. record { port = r.port; tag = r.tag; value = r.value.items } };
+}
+
+impl Missed {
+    /// The word of the block that the request touches first.
+    pub fn word(&self) -> u32
+        ensures { result ≡ position self.now }
+    {
+        u32::from(self.request.offset()) / 8
+    }
+}
+
+impl Request {
+    pub fn offset(&self) -> u8
+        ensures { result ≡ self.now.offset }
+    {
+        self.offset
+    }
+}
