@@ -1,0 +1,207 @@
+//! The one spelling of a trace.
+
+ghost use Rattle.std.specs.Prelude.{◌≡◌, ◌++◌, ◌<◌, ◌^◌, length, take, OnOk, IfOk, vec_len};
+ghost use Rattle.std.specs.List.{flat_map};
+ghost use Rattle.lf_codec.specs.Trace.{FitsTrace, IsTrace};
+ghost use Rattle.lf_codec.specs.Layout.{u16_bytes, u32_bytes, u64_bytes, header_bytes, memory_bytes, fixed_bytes, data_of, head_bytes, record_bytes, end_bytes, code_of, kind_of, op_code, spelling};
+
+use crate::header::Header;
+use byteorder::{ByteOrder, LittleEndian};
+use lf_model::{Block, Event, Memory, NoMemory, Op, Record};
+use std::alloc::{AllocError, Global};
+
+#[tactic(auto, unfolding(crate::specs::Layout::u16_bytes))]
+fn put_u16(out: &mut Vec<u8>, n: u16) -> Result<(), AllocError>
+    ensures { OnOk result (out.new.items ≡ out.old.items ++ u16_bytes n) }
+{
+    let mut bytes = [0; 2];
+    LittleEndian::write_u16(&mut bytes, n);
+    out.extend_from_slice(&bytes)
+}
+
+#[tactic(auto, unfolding(crate::specs::Layout::u32_bytes))]
+fn put_u32(out: &mut Vec<u8>, n: u32) -> Result<(), AllocError>
+    ensures { OnOk result (out.new.items ≡ out.old.items ++ u32_bytes n) }
+{
+    let mut bytes = [0; 4];
+    LittleEndian::write_u32(&mut bytes, n);
+    out.extend_from_slice(&bytes)
+}
+
+#[tactic(auto, unfolding(crate::specs::Layout::u64_bytes))]
+fn put_u64(out: &mut Vec<u8>, n: u64) -> Result<(), AllocError>
+    ensures { OnOk result (out.new.items ≡ out.old.items ++ u64_bytes n) }
+{
+    let mut bytes = [0; 8];
+    LittleEndian::write_u64(&mut bytes, n);
+    out.extend_from_slice(&bytes)
+}
+
+fn put_header(out: &mut Vec<u8>, header: &Header) -> Result<(), AllocError>
+    ensures { OnOk result (out.new.items ≡ out.old.items ++ header_bytes header.now) }
+{
+    out.extend_from_slice(b"LFTS")?;
+    put_u16(out, header.version)?;
+    out.extend_from_slice(&[header.ports, header.banks])?;
+    put_u16(out, header.block)?;
+    put_u16(out, 0)?;
+    put_u32(out, header.memory_count)
+}
+
+fn put_memory(out: &mut Vec<u8>, item: &(u32, Block)) -> Result<(), AllocError>
+    ensures { OnOk result (out.new.items ≡ out.old.items ++ memory_bytes item.now) }
+{
+    put_u32(out, item.0)?;
+    out.extend_from_slice(&item.1)
+}
+
+fn code_of(event: &Event) -> u8
+    ensures { result ≡ code_of (kind_of event.now) }
+{
+    match event {
+        Event::Issue { .. } => 1,
+        Event::Reply { .. } => 2,
+        Event::Hit { .. } => 3,
+        Event::Primary { .. } => 4,
+        Event::Merge { .. } => 5,
+        Event::Stall { .. } => 6,
+        Event::Fill1 { .. } => 7,
+        Event::Evict1 { .. } => 8,
+        Event::SecondHit { .. } => 9,
+        Event::SecondPrimary { .. } => 10,
+        Event::SecondStall { .. } => 11,
+        Event::Fill2 { .. } => 12,
+        Event::Evict2 { .. } => 13,
+    }
+}
+
+fn op_code(op: Op) -> u8
+    ensures { result ≡ op_code op }
+{
+    match op {
+        Op::Load => 0,
+        Op::Store => 1,
+    }
+}
+
+fn put_fixed(out: &mut Vec<u8>, event: &Event) -> Result<(), AllocError>
+    ensures { OnOk result (out.new.items ≡ out.old.items ++ fixed_bytes event.now) }
+{
+    match event {
+        Event::Issue {
+            op,
+            tag,
+            size,
+            address,
+            ..
+        } => {
+            out.extend_from_slice(&[op_code(*op), *tag, *size, 0])?;
+            put_u64(out, *address)
+        }
+        Event::Reply { tag, size, .. } => {
+            out.extend_from_slice(&[*tag, *size])?;
+            put_u16(out, 0)
+        }
+        Event::Hit { port, tag } | Event::Stall { port, tag } => {
+            out.extend_from_slice(&[*port, *tag])?;
+            put_u16(out, 0)
+        }
+        Event::Primary {
+            port,
+            tag,
+            register,
+        }
+        | Event::Merge {
+            port,
+            tag,
+            register,
+        } => {
+            out.extend_from_slice(&[*port, *tag])?;
+            put_u16(out, *register)
+        }
+        Event::Fill1 { block, .. }
+        | Event::Fill2 { block, .. }
+        | Event::SecondHit { block }
+        | Event::SecondStall { block } => put_u32(out, *block),
+        Event::SecondPrimary { block, register } => {
+            put_u32(out, *block)?;
+            put_u16(out, *register)?;
+            put_u16(out, 0)
+        }
+        Event::Evict1 { block, mask, .. } => {
+            put_u32(out, *block)?;
+            put_u64(out, mask.0)
+        }
+        Event::Evict2 { block, mask, .. } => {
+            put_u32(out, *block)?;
+            put_u64(out, mask.0)
+        }
+    }
+}
+
+fn put_data(out: &mut Vec<u8>, event: &Event) -> Result<(), AllocError>
+    ensures { OnOk result (out.new.items ≡ out.old.items ++ data_of event.now) }
+{
+    match event {
+        Event::Issue { bytes, .. }
+        | Event::Reply { bytes, .. }
+        | Event::Fill1 { bytes, .. }
+        | Event::Evict1 { bytes, .. }
+        | Event::Fill2 { bytes, .. }
+        | Event::Evict2 { bytes, .. } => out.extend_from_slice(bytes),
+        _ => Ok(()),
+    }
+}
+
+fn put_record(out: &mut Vec<u8>, item: &Record) -> Result<(), AllocError>
+    ensures { OnOk result (out.new.items ≡ out.old.items ++ record_bytes item.now) }
+{
+    out.extend_from_slice(&[code_of(&item.event), item.log, item.bank, 0])?;
+    put_u32(out, item.number)?;
+    put_fixed(out, &item.event)?;
+    put_data(out, &item.event)
+}
+
+fn put_end(out: &mut Vec<u8>, count: u32) -> Result<(), AllocError>
+    ensures { OnOk result (out.new.items ≡ out.old.items ++ end_bytes count) }
+{
+    out.extend_from_slice(&[0, 0, 0, 0])?;
+    put_u32(out, count)
+}
+
+fn spell(
+    alloc: Global,
+    header: &Header,
+    memory: &Memory,
+    records: &[Record],
+) -> Result<Vec<u8>, AllocError>
+    requires { length records.now < 2 ^ 32 }
+    ensures { IfOk result (λ v. v.items ≡ spelling header.now memory.now.items records.now) }
+{
+    let mut out = Vec::new(alloc);
+    put_header(&mut out, header)?;
+    for item in memory {
+        put_memory(&mut out, item)?;
+    }
+    for item in records {
+        put_record(&mut out, item)?;
+    }
+    put_end(&mut out, records.len() as u32)?;
+    Ok(out)
+}
+
+/// The bytes of the trace with this header, memory and records, its end record included.
+pub fn encode(
+    alloc: Global,
+    header: &Header,
+    memory: &Memory,
+    records: &[Record],
+) -> Result<Vec<u8>, NoMemory>
+    requires { FitsTrace header.now memory.now.items records.now }
+    ensures { IfOk result (λ v. IsTrace v.items header.now memory.now.items records.now) }
+{
+    match spell(alloc, header, memory, records) {
+        Ok(bytes) => Ok(bytes),
+        Err(_) => Err(NoMemory),
+    }
+}
