@@ -1,0 +1,4 @@
+pub mod Logs
+pub mod Legal
+pub mod Parts
+pub mod Verdict

@@ -1,2 +1,14 @@
-//! Not written yet.
+//! The verdict of a trace. A trace and a shape go in; out comes a yes with one order of all events, a
+//! no with the fault and its place, or a refusal.
+//!
+//! A yes means that some interleaving of the trace's port and bank logs, each in its own order, is a
+//! run of the hierarchy: `IsLegal` of `specs/` says it in full. Which verdict a trace has is said by
+//! `IsVerdictOf`, and depends neither on how the bytes are cut into pieces nor on how the logs are
+//! mixed in them.
 #![tactic(auto)]
+
+mod answer;
+mod check;
+
+pub use answer::{Fault, HeaderField, Refusal, Verdict};
+pub use check::check_shape;

@@ -1,0 +1,94 @@
+-- Which verdict a trace has.
+use Rattle.std.specs.Prelude.{◌≡◌, ℕ, List, length, Some}
+use Rattle.lf_model.specs.declared.shape.Shape.{Shape}
+use Rattle.lf_model.specs.declared.shape.OrgShape.{OrgShape}
+use Rattle.lf_model.specs.declared.shape.OrgShape.TheVariants.{Explicit}
+use Rattle.lf_model.specs.declared.event.Record.{Record}
+use Rattle.lf_model.specs.Address.{FlatMemory, flat_memory}
+use Rattle.lf_model.specs.Fits.{Bytes}
+use Rattle.lf_model.specs.Numbers.{bank_numbers, IsMissing, IsDouble}
+use Rattle.lf_model.specs.Order.{IsLeastOrder}
+use Rattle.lf_model.specs.Ring.{skeletons_of, IsRing}
+use Rattle.lf_codec.specs.declared.header.Header.{Header}
+use Rattle.lf_codec.specs.Trace.{IsTrace}
+use Rattle.lf_codec.specs.Reading.{trace_fault}
+use Rattle.lf_verdict.specs.declared.answer.Verdict.{Verdict}
+use Rattle.lf_verdict.specs.declared.answer.Verdict.TheVariants.{Yes, No, Refused}
+use Rattle.lf_verdict.specs.declared.answer.Fault.{Fault}
+use Rattle.lf_verdict.specs.declared.answer.Fault.TheVariants.{Missing, Double, Port, Bank, Cycle}
+use Rattle.lf_verdict.specs.declared.answer.Refusal.{Refusal}
+use Rattle.lf_verdict.specs.declared.answer.Refusal.TheVariants as refusals
+use Rattle.lf_verdict.specs.declared.answer.HeaderField.{HeaderField}
+use Rattle.lf_verdict.specs.declared.answer.HeaderField.TheVariants as fields
+use Rattle.lf_verdict.specs.Legal.{IsTraceFor, IsLegal}
+use Rattle.lf_verdict.specs.Parts.{PartsRun, IsFirstNumber, IsPortFault, IsBankFault}
+
+-- ---- what the call takes so far
+
+abbrev pub IsExplicit : OrgShape → Type 0
+IsExplicit (Explicit registers entries) = Unit {0}
+IsExplicit _ = ⊥
+
+-- how many workers there may be
+abbrev pub IsWorkerCount : ℕ → Type 0
+IsWorkerCount n = n ≡ 1
+
+-- ---- the verdict of a trace, the earlier case first
+
+-- The field is the first of the header that is not the shape's.
+abbrev pub Differs : Shape → Header → HeaderField → Type 0
+Differs shape h fields.Ports = ¬ (h.ports ≡ shape.ports)
+Differs shape h fields.Banks = (h.ports ≡ shape.ports) × ¬ (h.banks ≡ shape.banks)
+Differs shape h fields.Block = (h.ports ≡ shape.ports) × (h.banks ≡ shape.banks) × ¬ (h.block ≡ shape.block)
+
+pub record IsOfAnother (shape : Shape) (bytes : List ℕ) (field : HeaderField) : Type 0 where
+  pub header : Header
+  pub memory : List (ℕ × Bytes)
+  pub records : List Record
+  pub trace : IsTrace bytes header memory records
+  pub differs : Differs shape header field
+
+-- The numbers are judged first, then the ports, then the banks, then whether the logs wait for one another.
+abbrev pub IsFaultOf : Shape → FlatMemory → List (List Record) → Fault → Type 0
+IsFaultOf shape memory logs (Missing bank k) = IsFirstNumber shape logs bank k × IsMissing (bank_numbers logs bank) k
+IsFaultOf shape memory logs (Double bank k) = IsFirstNumber shape logs bank k × IsDouble (bank_numbers logs bank) k
+IsFaultOf shape memory logs (Port port at rule) = IsPortFault shape memory logs port at rule
+IsFaultOf shape memory logs (Bank bank number rule) = IsBankFault shape memory logs bank number rule
+IsFaultOf shape memory logs (Cycle ring) = PartsRun shape memory logs × IsRing (skeletons_of logs) ring.items
+
+pub record IsNo (shape : Shape) (bytes : List ℕ) (fault : Fault) : Type 0 where
+  pub memory : List (ℕ × Bytes)
+  pub logs : List (List Record)
+  pub trace : IsTraceFor shape bytes memory logs
+  pub fault_of : IsFaultOf shape (flat_memory memory) logs fault
+
+pub record IsYes (shape : Shape) (bytes : List ℕ) (events : ℕ) (order : List ℕ) : Type 0 where
+  pub memory : List (ℕ × Bytes)
+  pub logs : List (List Record)
+  pub trace : IsTraceFor shape bytes memory logs
+  pub parts : PartsRun shape (flat_memory memory) logs
+  pub least : IsLeastOrder (skeletons_of logs) order
+  pub count : events ≡ length order
+
+abbrev pub IsTraceVerdict : Shape → List ℕ → Verdict → Type 0
+IsTraceVerdict shape bytes (Refused (refusals.Format fault)) = trace_fault bytes ≡ Some fault
+IsTraceVerdict shape bytes (Refused (refusals.Header field)) = IsOfAnother shape bytes field
+IsTraceVerdict shape bytes (No fault) = IsNo shape bytes fault
+IsTraceVerdict shape bytes (Yes events order) = IsYes shape bytes events order.items
+IsTraceVerdict shape bytes _ = ⊥
+
+-- The verdict of the bytes for the shape, with so many workers. Want of memory and of threads is never one.
+abbrev pub IsVerdictOf : Shape → ℕ → List ℕ → Verdict → Type 0
+IsVerdictOf shape workers bytes (Refused (refusals.Workers n)) = (n ≡ workers) × ¬ IsWorkerCount workers
+IsVerdictOf shape workers bytes verdict = IsWorkerCount workers × IsTraceVerdict shape bytes verdict
+
+-- memory did not run out, and no thread was refused
+abbrev pub IsJudged : Verdict → Type 0
+IsJudged (Refused refusals.Memory) = ⊥
+IsJudged (Refused refusals.Thread) = ⊥
+IsJudged _ = Unit {0}
+
+-- a yes is legal by its order, and counts its events
+abbrev pub IsLegalYes : Shape → List ℕ → Verdict → Type 0
+IsLegalYes shape bytes (Yes events order) = IsLegal shape bytes order.items × (events ≡ length order.items)
+IsLegalYes shape bytes _ = Unit {0}

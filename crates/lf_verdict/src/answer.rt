@@ -1,0 +1,58 @@
+//! What is said of a trace.
+
+use lf_codec::CodecFault;
+use lf_model::{Ring, Rule};
+
+/// What is said of a trace.
+#[derive(Debug, Drop, PartialEq)]
+pub enum Verdict {
+    /// The trace is legal. `order` names at each place the log whose next event comes, and is the
+    /// least such list in the order of words. `events` is its length.
+    Yes {
+        events: u32,
+        order: Vec<u8>,
+    },
+    No(Fault),
+    Refused(Refusal),
+}
+
+/// Why a trace is not legal.
+#[derive(Debug, Drop, PartialEq)]
+pub enum Fault {
+    /// No event of the bank has the number k, and one has a greater number.
+    Missing { bank: u8, k: u32 },
+    /// Two events of the bank have the number k.
+    Double { bank: u8, k: u32 },
+    /// The port's events before the place `at` of its log are a run of the port, and the one there
+    /// fails with the rule first.
+    Port { port: u8, at: u32, rule: Rule },
+    /// The bank's events before this number are a run of the bank, and the one of this number fails
+    /// with the rule first.
+    Bank { bank: u8, number: u32, rule: Rule },
+    /// Logs that wait for one another: no order of all events keeps each log's order and the banks'
+    /// numbers.
+    Cycle(Ring),
+}
+
+/// Why a trace is not judged.
+#[derive(Debug, Drop, PartialEq)]
+pub enum Refusal {
+    /// There cannot be so many workers.
+    Workers(u32),
+    /// The bytes are no trace.
+    Format(CodecFault),
+    /// The trace is one of another hierarchy.
+    Header(HeaderField),
+    /// A growth was refused.
+    Memory,
+    /// A thread was refused.
+    Thread,
+}
+
+/// The first number of the header that is not that of the shape.
+#[derive(Clone, Copy, Debug, PartialEq, Eq)]
+pub enum HeaderField {
+    Ports,
+    Banks,
+    Block,
+}
