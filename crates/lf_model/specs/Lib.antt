@@ -15,3 +15,4 @@ pub mod Fits
 pub mod InRange
 pub mod Numbers
 pub mod Outcomes
+pub mod CommonOrder

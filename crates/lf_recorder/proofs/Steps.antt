@@ -1,0 +1,257 @@
+-- Each step keeps the rule.
+use Rattle.std.proofs.Common.{◌≡◌, ◌≢◌, ℕ, zero, suc, ◌+◌, ◌*◌, ◌%◌, ◌^◌, ◌<◌, ◌≤◌, not, List, [], ◌∷◌, ◌++◌, length, set, Some, refl, sym, ap, ◌∙◌, subst, ⊎_elim, arith, length-append, length-set, get_or-set_same, get_or-set_other}
+use Rattle.std.specs.Prelude.{◌==◌, slice_get, slice_index}
+use mathlib.Core.Logic.{dite}
+use mathlib.Core.Option.{some, none, some-injective, some-ne-none}
+use native.Mathlib.Decide.{ℕ_discrete}
+use lib.ListN.{get_elem?}
+use Rattle.atomic_table.specs.Table.{step, keeps, stepped, opening, Allows, Splits, Joins}
+use Rattle.atomic_table.proofs.Lists.{at_set, at_longer, set_here, set_else}
+use Rattle.std.proofs.lemmas.List.Filters.{length-filter_both}
+use Rattle.lf_model.specs.declared.event.Record.{Record}
+use Rattle.lf_model.specs.declared.event.Event.{Event}
+use Rattle.lf_recorder.specs.declared.rule.View.{View}
+use Rattle.lf_recorder.specs.declared.rule.View.TheVariants.{Collector, Log, Spent}
+use Rattle.lf_model.specs.Run.{of_log, of_bank}
+use Rattle.lf_recorder.specs.Rule.{DeskState, Fits, IsListOf, Kept, IsAbove, Draws, new_collector}
+use Rattle.lf_recorder.proofs.Places.{slice_get_snoc, at_snoc_place, at_within}
+use Rattle.lf_recorder.proofs.Growth.{of_log_own, of_log_other, of_bank_own, of_bank_other, size_bound, log_below, keeps_more}
+
+-- two variants are apart
+spent_apart : (log : ℕ) (records : List Record) → Spent ≡ Log log records → ⊥
+spent_apart log records e = cc
+
+module _ (banks slots seat log : ℕ) (records : List Record) (bank : ℕ) (event : Event) (s : DeskState) (all : List Record) (was : IsListOf banks s all)
+    (at : get_elem? s.views seat ≡ some (Log log records)) (room : length records < 2 ^ 20) where
+  abbrev number : ℕ
+  number = slice_index s.words bank
+
+  abbrev new : Record
+  new = record { log = log; bank = bank; number = number; event = event }
+
+  abbrev after : View
+  after = Log log (records ++ new ∷ [])
+
+  mine : (seat ≡ log + 1) × (of_log log all ≡ records)
+  mine = was.seats seat (Log log records) at
+
+  there : get_elem? s.views (log + 1) ≡ some (Log log records)
+  there = subst (λ k. get_elem? s.views k ≡ some (Log log records)) mine.0 at
+
+  -- another seat's view still fits
+  other_fits : (j : ℕ) (u : View) → j ≢ seat → Fits all s.views j u → Fits (all ++ new ∷ []) (set s.views seat after) j u
+  other_fits j (Collector made joined) apart fits = (
+    fits.0,
+    length-set s.views seat after ∙ fits.1,
+    λ k y e. let x = fits.2 k y e in
+        let l : ℕ = y.0 in
+        let differ : log ≢ l = λ same. spent_apart log records (some-injective _ _ (sym x.1 ∙ subst (λ k. get_elem? s.views (k + 1) ≡ some (Log log records)) same there)) in
+        let place = mine.0 in
+        (of_log_other all new l differ ∙ x.0, set_else s.views seat (l + 1) after (λ e. differ (omega arith)) ∙ x.1),
+  )
+  other_fits j (Log m rs) apart fits = let place = mine.0 in let other = fits.0 in (fits.0, of_log_other all new m (λ e. apart (omega arith)) ∙ fits.1)
+  other_fits j Spent apart fits = tt
+
+  seats_after : (j : ℕ) (u : View) → get_elem? (set s.views seat after) j ≡ some u → Fits (all ++ new ∷ []) (set s.views seat after) j u
+  seats_after j u e = ⊎_elim
+      (λ (x : (j ≡ seat) × (after ≡ u)). subst (λ v. Fits (all ++ new ∷ []) (set s.views seat after) j v) x.1 (x.0 ∙ mine.0, of_log_own all new log refl ∙ ap (λ l. l ++ new ∷ []) mine.1))
+      (λ (x : (j ≢ seat) × (get_elem? s.views j ≡ some u)). other_fits j u x.0 (was.seats j u x.1))
+      (at_set s.views seat j after u e)
+
+  short_after : (l : ℕ) → length (of_log l (all ++ new ∷ [])) ≤ 2 ^ 20
+  short_after l = dite (ℕ_discrete log l)
+      (λ e. rw (of_log_own all new l e) (let n : length (of_log l all) ≡ length records = ap (λ k. length (of_log k all)) (sym e) ∙ ap length mine.1 in omega (arith, length-append (of_log l all) (new ∷ []))))
+      (λ ne. rw (of_log_other all new l ne) (was.short l))
+
+  unmade_after : (l : ℕ) → length (set s.views seat after) ≤ l + 1 → of_log l (all ++ new ∷ []) ≡ []
+  unmade_after l h = let within = at_within s.views seat (Log log records) at in let place = mine.0 in let same = length-set s.views seat after in
+      of_log_other all new l (λ e. absurd (omega arith)) ∙ was.unmade l (omega arith)
+
+  -- the words have no more than all logs have room for
+  fits_word : number < 2 ^ 25
+  fits_word =
+      let total : length (all ++ new ∷ []) ≤ 32 * 2 ^ 20 = size_bound 32 (2 ^ 20) (all ++ new ∷ []) short_after
+      (λ l h. ap length (unmade_after l (let few = was.few in let same = length-set s.views seat after in omega arith))) in
+      let split = length-filter_both (λ (r : Record). r.bank == bank) (λ (r : Record). not (r.bank == bank)) (λ _. refl) all in
+      let count = was.counts bank in
+      omega (arith, length-append all (new ∷ []))
+
+  counts_after : bank < banks → (b : ℕ) → length (of_bank b (all ++ new ∷ [])) ≡ slice_index (set s.words bank ((number + 1) % 2 ^ 64)) b
+  counts_after there b = dite (ℕ_discrete bank b)
+      (λ e.
+      let next : ℕ = (number + 1) % 2 ^ 64 in
+      let small : next ≡ number + 1 = let few = fits_word in omega arith in
+      let put : slice_index (set s.words bank next) bank ≡ next = get_or-set_same s.words bank next 0 (let wide = was.words in omega arith) in
+      let put' : slice_index (set s.words bank next) b ≡ number + 1 = subst (λ k. slice_index (set s.words bank next) k ≡ next) e put ∙ small in
+      let count : length (of_bank b all) ≡ number = ap (λ k. length (of_bank k all)) (sym e) ∙ was.counts bank in
+      rw (of_bank_own all new b e) (omega (arith, length-append (of_bank b all) (new ∷ []))))
+      (λ ne. rw (of_bank_other all new b ne) (was.counts b ∙ sym (get_or-set_other s.words bank b _ 0 (λ e. ne (sym e)))))
+
+  drawn : bank < banks → IsListOf banks (stepped s bank ((number + 1) % 2 ^ 64) seat [] after keeps) (all ++ new ∷ [])
+  drawn there' = record {
+    words = length-set s.words bank _ ∙ was.words;
+    counts = counts_after there';
+    numbers = keeps_more all new was.numbers (sym (was.counts bank));
+    short = short_after;
+    few = let few = was.few in let same = length-set s.views seat after in omega arith;
+    unmade = unmade_after;
+    seats = seats_after;
+  }
+
+  above : IsAbove number bank records
+  above = subst (λ (l : List Record). IsAbove number bank l) mine.1 (subst (λ n. IsAbove n bank (of_log log all)) (was.counts bank) (log_below all log bank was.numbers))
+
+-- a draw keeps the rule
+pub draws : (banks slots seat log : ℕ) (records : List Record) (bank : ℕ) (event : Event) → bank < banks → length records < 2 ^ 20
+    → Allows (Kept banks) slots seat (Log log records, []) bank (λ n. (n + 1) % 2 ^ 64) (Draws event (step slots bank 1 0 none) (Log log records, []))
+draws banks slots seat log records bank event there room s kept homes at small =
+    let all = kept.0 in let was = kept.1 in (
+      after banks slots seat log records bank event s all was at room,
+      keeps,
+      tt,
+      (all ++ new banks slots seat log records bank event s all was at room ∷ [], drawn banks slots seat log records bank event s all was at room there),
+      (fits_word banks slots seat log records bank event s all was at room, above banks slots seat log records bank event s all was at room, refl),
+    )
+
+-- the desk gives the next log a seat
+module _ (banks seat made : ℕ) (joined : List (ℕ × List Record)) (room : made < 32) (s : DeskState) (all : List Record) (was : IsListOf banks s all)
+    (at : get_elem? s.views seat ≡ some (Collector made joined)) where
+  abbrev kept_front : List View
+  kept_front = set s.views seat (Collector (made + 1) joined)
+
+  abbrev with_next : List View
+  with_next = kept_front ++ Log made [] ∷ []
+
+  collector_fits : Fits all s.views seat (Collector made joined)
+  collector_fits = was.seats seat (Collector made joined) at
+
+  longer : length with_next ≡ made + 2
+  longer = let a = length-append kept_front (Log made [] ∷ []) in let b = length-set s.views seat (Collector (made + 1) joined) in let c = collector_fits.1 in omega arith
+
+  old_fits : (j : ℕ) (u : View) → j ≢ seat → Fits all s.views j u → Fits all with_next j u
+  old_fits j (Collector m js) apart fits = absurd (apart (fits.0 ∙ sym collector_fits.0))
+  old_fits j (Log m rs) apart fits = fits
+  old_fits j Spent apart fits = tt
+
+  seats_opened : (j : ℕ) (u : View) → get_elem? with_next j ≡ some u → Fits all with_next j u
+  seats_opened j u e = ⊎_elim
+      (λ (old : get_elem? kept_front j ≡ some u). ⊎_elim
+      (λ (x : (j ≡ seat) × (Collector (made + 1) joined ≡ u)). subst (λ v. Fits all with_next j v) x.1 (
+        x.0 ∙ collector_fits.0,
+        (let l = longer in omega arith),
+        λ k y e. let f = collector_fits.2 k y e in let zero_is = collector_fits.0 in
+            (f.0, at_longer kept_front (Log made [] ∷ []) (y.0 + 1) Spent (set_else s.views seat (y.0 + 1) (Collector (made + 1) joined) (λ q. absurd (omega arith)) ∙ f.1)),
+      ))
+      (λ (x : (j ≢ seat) × (get_elem? s.views j ≡ some u)). old_fits j u x.0 (was.seats j u x.1))
+      (at_set s.views seat j (Collector (made + 1) joined) u old))
+      (λ (x : (j ≡ length kept_front) × (Log made [] ≡ u)).
+      let count = collector_fits.1 in let same = length-set s.views seat (Collector (made + 1) joined) in
+      subst (λ v. Fits all with_next j v) x.1 (let j_is = x.0 in omega arith, was.unmade made (omega arith)))
+      (at_snoc_place kept_front (Log made []) u j e)
+
+  opened : IsListOf banks (record { words = s.words; homes = s.homes; views = with_next }) all
+  opened = record {
+    words = was.words;
+    counts = was.counts;
+    numbers = was.numbers;
+    short = was.short;
+    few = let l = longer in omega arith;
+    unmade = λ log h. was.unmade log (let l = longer in let count = collector_fits.1 in omega arith);
+    seats = seats_opened;
+  }
+
+pub opens : (banks seat made : ℕ) (joined : List (ℕ × List Record)) → made < 32 → Splits (Kept banks) seat (Collector made joined) (Collector (made + 1) joined) (Log made [])
+opens banks seat made joined room s kept at = (kept.0, opened banks seat made joined room s kept.0 kept.1 at)
+
+-- the desk takes in the log that comes next
+module _ (banks seat made : ℕ) (joined : List (ℕ × List Record)) (other log : ℕ) (records : List Record) (s : DeskState) (all : List Record)
+    (was : IsListOf banks s all) (at : get_elem? s.views seat ≡ some (Collector made joined)) (apart : ¬ (other ≡ seat))
+    (there : get_elem? (set s.views seat (Collector made (joined ++ (log, records) ∷ []))) other ≡ some (Log log records)) where
+  abbrev both : View
+  both = Collector made (joined ++ (log, records) ∷ [])
+
+  abbrev taken : List View
+  taken = set (set s.views seat both) other Spent
+
+  desk_fits : Fits all s.views seat (Collector made joined)
+  desk_fits = was.seats seat (Collector made joined) at
+
+  log_there : get_elem? s.views other ≡ some (Log log records)
+  log_there = ⊎_elim (λ (x : (other ≡ seat) × (both ≡ Log log records)). absurd (apart x.0)) (λ (x : (other ≢ seat) × (get_elem? s.views other ≡ some (Log log records))). x.1) (at_set s.views seat other both (Log log records) there)
+
+  log_fits : (other ≡ log + 1) × (of_log log all ≡ records)
+  log_fits = was.seats other (Log log records) log_there
+
+  same_length : length taken ≡ length s.views
+  same_length = length-set (set s.views seat both) other Spent ∙ length-set s.views seat both
+
+  spent_here : get_elem? taken other ≡ some Spent
+  spent_here = set_here (set s.views seat both) other Spent (at_within (set s.views seat both) other (Log log records) there)
+
+  spent_still : (k : ℕ) → k ≢ seat → get_elem? s.views k ≡ some Spent → get_elem? taken k ≡ some Spent
+  spent_still k differ e = dite (ℕ_discrete k other) (λ q. subst (λ i. get_elem? taken i ≡ some Spent) (sym q) spent_here)
+      (λ q. set_else (set s.views seat both) other k Spent q ∙ (set_else s.views seat k both differ ∙ e))
+
+  rest_fits : (j : ℕ) (u : View) → j ≢ seat → Fits all s.views j u → Fits all taken j u
+  rest_fits j (Collector m js) differ fits = absurd (differ (fits.0 ∙ sym desk_fits.0))
+  rest_fits j (Log m rs) differ fits = fits
+  rest_fits j Spent differ fits = tt
+
+  both_fits : Fits all taken seat both
+  both_fits = (
+    desk_fits.0,
+    same_length ∙ desk_fits.1,
+    λ k y e. let zero_is = desk_fits.0 in let entry : ℕ × List Record = (log, records) in ⊎_elim
+        (λ (x : slice_get joined k ≡ Some y). let f = desk_fits.2 k y x in (f.0, spent_still (y.0 + 1) (λ q. absurd (omega arith)) f.1))
+        (λ (x : (k ≡ length joined) × (entry ≡ y)). subst (λ (z : ℕ × List Record). (of_log z.0 all ≡ z.1) × (get_elem? taken (z.0 + 1) ≡ some Spent)) x.1 (log_fits.1, subst (λ i. get_elem? taken i ≡ some Spent) log_fits.0 spent_here))
+        (slice_get_snoc joined (log, records) y k e),
+  )
+
+  seats_taken : (j : ℕ) (u : View) → get_elem? taken j ≡ some u → Fits all taken j u
+  seats_taken j u e = ⊎_elim
+      (λ (x : (j ≡ other) × (Spent ≡ u)). subst (λ v. Fits all taken j v) x.1 tt)
+      (λ (x : (j ≢ other) × (get_elem? (set s.views seat both) j ≡ some u)). ⊎_elim
+      (λ (y : (j ≡ seat) × (both ≡ u)). subst (λ (z : ℕ × View). Fits all taken z.0 z.1) (λ i. (sym y.0 i, y.1 i)) both_fits)
+      (λ (y : (j ≢ seat) × (get_elem? s.views j ≡ some u)). rest_fits j u y.0 (was.seats j u y.1))
+      (at_set s.views seat j both u x.1))
+      (at_set (set s.views seat both) other j Spent u e)
+
+  took : IsListOf banks (record { words = s.words; homes = s.homes; views = taken }) all
+  took = record {
+    words = was.words;
+    counts = was.counts;
+    numbers = was.numbers;
+    short = was.short;
+    few = let few = was.few in let same = same_length in omega arith;
+    unmade = λ l h. was.unmade l (let same = same_length in omega arith);
+    seats = seats_taken;
+  }
+
+pub takes : (banks seat made : ℕ) (joined : List (ℕ × List Record)) (other log : ℕ) (records : List Record)
+    → Joins (Kept banks) seat (Collector made joined) other (Log log records) (Collector made (joined ++ (log, records) ∷ [])) Spent
+takes banks seat made joined other log records s kept at apart there = (kept.0, took banks seat made joined other log records s kept.0 kept.1 at apart there)
+
+-- the table at the start
+pub starts : (banks : ℕ) (words : List ℕ) → length words ≡ banks → ((bank : ℕ) → slice_index words bank ≡ 0) → Kept banks (opening words [] new_collector)
+starts banks words wide zeros = (
+  [],
+  record {
+    words = wide;
+    counts = λ bank. sym (zeros bank);
+    numbers = λ bank k r e. absurd (none_at k r e);
+    short = λ log. omega arith;
+    few = omega arith;
+    unmade = λ log h. refl;
+    seats = first_fits;
+  },
+)
+  where
+    none_at : (k : ℕ) (r : Record) → slice_get [] k ≡ Some r → ⊥
+    none_at k r e = cc
+
+    first_fits : (j : ℕ) (u : View) → get_elem? (new_collector ∷ []) j ≡ some u → Fits [] (new_collector ∷ []) j u
+    first_fits zero u e = subst (λ v. Fits [] (new_collector ∷ []) 0 v) (some-injective new_collector u e) (refl, refl, λ k x h. absurd (none_in k x h))
+      where
+        none_in : (k : ℕ) (x : ℕ × List Record) → slice_get [] k ≡ Some x → ⊥
+        none_in k x h = cc
+    first_fits (suc j) u e = absurd (some-ne-none u (sym e))
