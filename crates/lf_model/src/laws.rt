@@ -1,5 +1,6 @@
 //! The laws of the definitions. Each function has an empty body: its contract is the law.
 
+ghost use Rattle.lf_model.specs.CommonOrder.{CollectedLogsAreFree};
 ghost use Rattle.lf_model.specs.Laws.{CopyRunsAreRuns, RunsAnswerOnce, RunsAreFlat, RunsShare};
 ghost use Rattle.lf_model.specs.Numbers.{GapsAdmitNone, InterleavingsAreNumbered, InterleavingsFit, NumberedIsOne, NumberedIsWhole};
 ghost use Rattle.lf_model.specs.Order.{EntriesKeepAlike, LogsFollow, OrdersInterleave, OrdersTakeOne, SkeletonsFollow};
@@ -52,6 +53,12 @@ pub fn numbers_are_whole()
 /// Where a bank's number is missing or double, no list of all logs keeps the numbers.
 pub fn gaps_admit_none()
     ensures { GapsAdmitNone }
+{}
+
+/// Logs that were recorded with a common order have no number missing or double, and do not wait for
+/// one another.
+pub fn collected_logs_are_free()
+    ensures { CollectedLogsAreFree }
 {}
 
 /// The list that an order takes from the logs holds them, and the order names its logs.
