@@ -2,9 +2,9 @@
 use Rattle.std.proofs.Common.{◌≡◌, ℕ, ◌<◌, Bool, true, false, cond, not, ◌||◌, ◌==◌, List, [], ◌∷◌, map, Option, Some, None, refl, sym, ap, ◌∙◌, subst, eqb-true, eq-eqb, ne_eqb, arith}
 use mathlib.Core.Path.{ap₂}
 use Rattle.std.specs.Prelude.{bytes_eq, slice_index}
-use Rattle.std.specs.List.{list_any, list_all, range_with_len, AllByRecursion}
+use Rattle.std.specs.List.{list_any, range_with_len, AllByRecursion}
 use Rattle.std.proofs.lemmas.Bool.{eqb-false, and_parts, both_ways, cond-false, not-true, or_left, or_right}
-use Rattle.std.proofs.lemmas.List.FromFn.{length-map-range_with_len, get_or-map-range_with_len}
+use Rattle.std.proofs.lemmas.List.FromFn.{get_or-map-range_with_len}
 use Rattle.lf_model.specs.declared.shape.Shape.{Shape}
 use Rattle.lf_model.specs.declared.event.Record.{Record}
 use Rattle.lf_model.specs.declared.event.Event.{Event}
@@ -33,10 +33,10 @@ head_home shape bank (q ∷ qs) tag e h = h.0
 
 -- the bytes that a fill moves agree with memory off the stores that wait
 fill_agrees : (bytes : List ℕ) (line now : ℕ → ℕ) (held : List (Held Missed)) (n : ℕ) → bytes ≡ map line (range_with_len 0 n) → serve held line ≡ now
-    → agree_off bytes (map now (range_with_len 0 n)) (mask_of_stores held) ≡ true
+    → agree_off n bytes (map now (range_with_len 0 n)) (mask_of_stores held) ≡ true
 fill_agrees bytes line now held n moved serves =
-    subst (λ xs. agree_off xs (map now (range_with_len 0 n)) (mask_of_stores held) ≡ true) (sym moved)
-    (subst (λ k. list_all test (range_with_len 0 k) ≡ true) (sym (length-map-range_with_len line 0 n)) (all_range test 0 n (λ i le lt. at i (omega arith) (is_under (mask_of_stores held) i) refl)))
+    subst (λ xs. agree_off n xs (map now (range_with_len 0 n)) (mask_of_stores held) ≡ true) (sym moved)
+    (all_range test 0 n (λ i le lt. at i (omega arith) (is_under (mask_of_stores held) i) refl))
   where
     test : ℕ → Bool
     test = λ i. is_under (mask_of_stores held) i || slice_index (map line (range_with_len 0 n)) i == slice_index (map now (range_with_len 0 n)) i

@@ -50,9 +50,9 @@ port_rules shape right left busy s t log bank _ = refl
 carries_same : (shape : Shape) (m n : FlatMemory) (slice : Slice) (log bank : ℕ) (e : Event) → NamesHome shape bank e → SameBlocks shape bank m n
     → carries shape m slice e ≡ carries shape n slice e
 carries_same shape m n slice log bank (Fill1 x bytes) fit same =
-    ap (λ (f : ℕ → ℕ). agree_off bytes.items (map f (range_with_len 0 shape.block)) (store_bytes slice.waiting x)) (same x fit)
+    ap (λ (f : ℕ → ℕ). agree_off shape.block bytes.items (map f (range_with_len 0 shape.block)) (store_bytes slice.waiting x)) (same x fit)
 carries_same shape m n slice log bank (Fill2 x bytes) fit same =
-    ap (λ (f : ℕ → ℕ). agree_off bytes.items (map f (range_with_len 0 shape.block)) (store_bytes slice.waiting x)) (same x fit)
+    ap (λ (f : ℕ → ℕ). agree_off shape.block bytes.items (map f (range_with_len 0 shape.block)) (store_bytes slice.waiting x)) (same x fit)
 carries_same shape m n slice log bank (Evict1 x mask bytes) fit same =
     ap (λ (f : ℕ → ℕ). bytes_eq bytes.items (masked (map f (range_with_len 0 shape.block)) mask.0)) (same x fit)
 carries_same shape m n slice log bank (Evict2 x mask bytes) fit same =

@@ -37,9 +37,9 @@ mask_of offset size = (2 ^ size - 1) * 2 ^ offset
 abbrev pub is_under : ℕ → ℕ → Bool
 is_under mask place = bit_at mask place == 1
 
--- equal at each byte whose bit is clear
-abbrev pub agree_off : List ℕ → List ℕ → ℕ → Bool
-agree_off xs ys mask = list_all (λ i. is_under mask i || slice_index xs i == slice_index ys i) (range_with_len 0 (length xs))
+-- of so many bytes, equal at each whose bit is clear
+abbrev pub agree_off : ℕ → List ℕ → List ℕ → ℕ → Bool
+agree_off size xs ys mask = list_all (λ i. is_under mask i || slice_index xs i == slice_index ys i) (range_with_len 0 size)
 
 -- the bytes whose bit is set, rising
 abbrev pub masked : List ℕ → ℕ → List ℕ

@@ -1,4 +1,5 @@
 pub mod Address
+pub mod Clauses
 pub mod Registers
 pub mod Lines
 pub mod State

@@ -1,6 +1,8 @@
 -- The register file of one level of one bank, by its organisation: what it holds is a list in the order of acceptance.
-use Rattle.std.specs.Prelude.{ℕ, Bool, true, not, ◌&&◌, ◌==◌, nat_lt, List, count_by, if◌then◌else◌}
+use Rattle.std.specs.Prelude.{ℕ, Bool, true, not, ◌&&◌, ◌==◌, nat_lt, List, [], ◌∷◌, count_by, if◌then◌else◌}
 use Rattle.std.specs.List.{range_with_len, list_any, filter}
+use Rattle.lf_model.specs.Clauses.{Clause, bank_wants}
+use Rattle.lf_model.specs.declared.rule.Rule.TheVariants.{PrimaryInFlight, NotInFlight, RegisterRange, WrongRegister, RegisterBusy, MergeFull}
 use Rattle.lf_model.specs.declared.shape.OrgShape.{OrgShape}
 use Rattle.lf_model.specs.declared.shape.OrgShape.TheVariants.{Implicit, Explicit, Inverted}
 
@@ -60,3 +62,21 @@ module _ {T : Type 0} where
       if holds held block
       then list_any (λ r. holds_in held r block && takes organisation position held r at) (range_with_len 0 (registers_of organisation destinations))
       else list_any (is_free held) (range_with_len 0 (registers_of organisation destinations))
+
+  -- what a primary miss to the block must meet to take the register, in order
+  abbrev pub primary_clauses : OrgShape → ℕ → List (Held T) → ℕ → ℕ → ℕ → List Clause
+  primary_clauses organisation destinations held block destination register =
+      bank_wants PrimaryInFlight (not (holds held block))
+      ∷ bank_wants RegisterRange (nat_lt register (registers_of organisation destinations))
+      ∷ bank_wants WrongRegister (right_for_primary organisation destination register)
+      ∷ bank_wants RegisterBusy (is_free held register)
+      ∷ []
+
+  -- what a further miss to the block must meet to join the register, in order
+  abbrev pub merge_clauses : OrgShape → ℕ → (T → ℕ) → List (Held T) → ℕ → ℕ → ℕ → ℕ → List Clause
+  merge_clauses organisation destinations position held block destination at register =
+      bank_wants NotInFlight (holds held block)
+      ∷ bank_wants RegisterRange (nat_lt register (registers_of organisation destinations))
+      ∷ bank_wants WrongRegister (right_for_merge organisation held block destination register)
+      ∷ bank_wants MergeFull (takes organisation position held register at)
+      ∷ []

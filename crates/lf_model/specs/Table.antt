@@ -7,10 +7,10 @@ use Rattle.lf_model.specs.declared.shape.Shape.{Shape}
 use Rattle.lf_model.specs.declared.event.Record.{Record}
 use Rattle.lf_model.specs.declared.event.Event.{Event}
 use Rattle.lf_model.specs.declared.event.Event.TheVariants.{Issue, Reply, Hit, Primary, Merge, Stall, Fill1, Evict1, SecondHit, SecondPrimary, SecondStall, Fill2, Evict2}
-use Rattle.lf_model.specs.declared.rule.Rule.{Rule}
-use Rattle.lf_model.specs.declared.rule.Rule.TheVariants.{TagRange, TagBusy, NotOutstanding, NotReady, ReplySize, ReplyData, NotHead, NotPresent, Present, PrimaryInFlight, NotInFlight, RegisterRange, WrongRegister, RegisterBusy, MergeFull, NeedlessStall, NotSupplied, SetFull, FillData, EvictAbsent, EvictMask, EvictData, NotAsked, SecondAbsent, SecondPresent, NotFetched, Inclusion}
+use Rattle.lf_model.specs.declared.rule.Rule.TheVariants.{TagRange, TagBusy, NotOutstanding, NotReady, ReplySize, ReplyData, NotHead, NotPresent, Present, NeedlessStall, NotSupplied, SetFull, FillData, EvictAbsent, EvictMask, EvictData, NotAsked, SecondAbsent, SecondPresent, NotFetched, Inclusion}
+pub use Rattle.lf_model.specs.Clauses.{Side, OfPort, OfBank, OfBoth, Clause, port_wants, bank_wants, both_want}
 use Rattle.lf_model.specs.Address.{FlatMemory, block_of, offset_of, block_bytes, mask_of, agree_off, masked}
-use Rattle.lf_model.specs.Registers.{Held, registers_of, holds, is_free, targets_of, released, right_for_primary, right_for_merge, takes, has_room}
+use Rattle.lf_model.specs.Registers.{Held, registers_of, holds, targets_of, released, has_room, primary_clauses, merge_clauses}
 use Rattle.lf_model.specs.State.{update, Request, Missed, Ready, Slice, Local}
 use Rattle.lf_model.specs.Lines.{has_line, dirty_mask, has_way, with_line, without_line, mark}
 
@@ -111,33 +111,14 @@ without blocks block = filter (λ b. not (b == block)) blocks
 
 -- ---- clauses
 
-pub data Side : Type 0 where
-  OfPort : Side
-  OfBank : Side
-  OfBoth : Side
-
-pub record Clause : Type 0 where
-  pub side : Side
-  pub rule : Rule
-  pub holds : Bool
-
-abbrev pub port_wants : Rule → Bool → Clause
-port_wants rule holds = record { side = OfPort; rule = rule; holds = holds }
-
-abbrev pub bank_wants : Rule → Bool → Clause
-bank_wants rule holds = record { side = OfBank; rule = rule; holds = holds }
-
-abbrev pub both_want : Rule → Bool → Clause
-both_want rule holds = record { side = OfBoth; rule = rule; holds = holds }
-
 abbrev pub is_at : Option ℕ → ℕ → Bool
 is_at None bank = false
 is_at (Some b) bank = b == bank
 
 -- Are the bytes that an event carries those of the memory, off or on the mask that its rule names?
 abbrev pub carries : Shape → FlatMemory → Slice → Event → Bool
-carries shape memory slice (Fill1 block bytes) = agree_off bytes.items (block_bytes shape memory block) (store_bytes slice.waiting block)
-carries shape memory slice (Fill2 block bytes) = agree_off bytes.items (block_bytes shape memory block) (store_bytes slice.waiting block)
+carries shape memory slice (Fill1 block bytes) = agree_off shape.block bytes.items (block_bytes shape memory block) (store_bytes slice.waiting block)
+carries shape memory slice (Fill2 block bytes) = agree_off shape.block bytes.items (block_bytes shape memory block) (store_bytes slice.waiting block)
 carries shape memory slice (Evict1 block mask bytes) = bytes_eq bytes.items (masked (block_bytes shape memory block) mask.0)
 carries shape memory slice (Evict2 block mask bytes) = bytes_eq bytes.items (masked (block_bytes shape memory block) mask.0)
 carries shape memory slice _ = true
@@ -162,23 +143,13 @@ rules_of shape right busy slice log bank (Hit port tag) =
     ∷ []
 rules_of shape right busy slice log bank (Primary port tag register) =
     let request = oldest (slice.queue port) in
-    let organisation = shape.level1.organisation in
     bank_wants NotHead (nat_lt port shape.ports && is_head (slice.queue port) tag)
     ∷ bank_wants Present (not (has_line slice.lines1 request.block))
-    ∷ bank_wants PrimaryInFlight (not (holds slice.waiting request.block))
-    ∷ bank_wants RegisterRange (nat_lt register (registers_of organisation (destinations shape)))
-    ∷ bank_wants WrongRegister (right_for_primary organisation (destination shape port tag) register)
-    ∷ bank_wants RegisterBusy (is_free slice.waiting register)
-    ∷ []
+    ∷ primary_clauses shape.level1.organisation (destinations shape) slice.waiting request.block (destination shape port tag) register
 rules_of shape right busy slice log bank (Merge port tag register) =
     let request = oldest (slice.queue port) in
-    let organisation = shape.level1.organisation in
     bank_wants NotHead (nat_lt port shape.ports && is_head (slice.queue port) tag)
-    ∷ bank_wants NotInFlight (holds slice.waiting request.block)
-    ∷ bank_wants RegisterRange (nat_lt register (registers_of organisation (destinations shape)))
-    ∷ bank_wants WrongRegister (right_for_merge organisation slice.waiting request.block (destination shape port tag) register)
-    ∷ bank_wants MergeFull (takes organisation position slice.waiting register (request.offset / 8))
-    ∷ []
+    ∷ merge_clauses shape.level1.organisation (destinations shape) position slice.waiting request.block (destination shape port tag) (request.offset / 8) register
 rules_of shape right busy slice log bank (Stall port tag) =
     let request = oldest (slice.queue port) in
     bank_wants NotHead (nat_lt port shape.ports && is_head (slice.queue port) tag)
@@ -200,14 +171,9 @@ rules_of shape right busy slice log bank (SecondHit block) =
     ∷ bank_wants SecondAbsent (has_line slice.lines2 block)
     ∷ []
 rules_of shape right busy slice log bank (SecondPrimary block register) =
-    let organisation = shape.level2.organisation in
     bank_wants NotAsked (is_asked slice.asked block)
     ∷ bank_wants SecondPresent (not (has_line slice.lines2 block))
-    ∷ bank_wants PrimaryInFlight (not (holds slice.regs2 block))
-    ∷ bank_wants RegisterRange (nat_lt register (registers_of organisation (destinations2 shape)))
-    ∷ bank_wants WrongRegister (right_for_primary organisation (asked_register slice.asked block) register)
-    ∷ bank_wants RegisterBusy (is_free slice.regs2 register)
-    ∷ []
+    ∷ primary_clauses shape.level2.organisation (destinations2 shape) slice.regs2 block (asked_register slice.asked block) register
 rules_of shape right busy slice log bank (SecondStall block) =
     bank_wants NotAsked (is_asked slice.asked block)
     ∷ bank_wants SecondPresent (not (has_line slice.lines2 block))
