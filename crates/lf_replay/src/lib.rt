@@ -1,5 +1,6 @@
 //! The replay of one bank.
 #![tactic(auto)]
 
+mod memory;
 mod registers;
 mod request;

@@ -72,9 +72,39 @@ impl Missed {
 }
 
 impl Request {
+    pub fn tag(&self) -> u8
+        ensures { result ≡ self.now.tag }
+    {
+        self.tag
+    }
+
+    pub fn op(&self) -> Op
+        ensures { result ≡ self.now.op }
+    {
+        self.op
+    }
+
+    pub fn block(&self) -> u32
+        ensures { result ≡ self.now.block }
+    {
+        self.block
+    }
+
     pub fn offset(&self) -> u8
         ensures { result ≡ self.now.offset }
     {
         self.offset
+    }
+
+    pub fn size(&self) -> u8
+        ensures { result ≡ self.now.size }
+    {
+        self.size
+    }
+
+    pub fn bytes(&self) -> &[u8]
+        ensures { result.now ≡ self.now.bytes }
+    {
+        &self.bytes
     }
 }

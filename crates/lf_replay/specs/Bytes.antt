@@ -1,0 +1,22 @@
+-- The bytes of a bank's memory.
+use Rattle.std.specs.Prelude.{◌≡◌, ℕ, ◌+◌, ◌-◌, ◌≤◌, Bool, true, false, ◌&&◌, nat_le, nat_lt, List, [], length, slice_index, unwrap_or, if◌then◌else◌}
+use Rattle.std.specs.Map.{lookup}
+use Rattle.std.specs.BTreeMap.{is_at}
+use Rattle.std.specs.Ordering.{nat_cmp}
+use Rattle.lf_model.specs.Address.{FlatMemory}
+use Rattle.lf_model.specs.State.{Request}
+use Rattle.lf_model.specs.Table.{is_store}
+
+-- the memory that has these bytes at these blocks, and zeros elsewhere
+abbrev pub flat_of : List (ℕ × List ℕ) → FlatMemory
+flat_of blocks block place = slice_index (unwrap_or (lookup (is_at (nat_cmp block)) blocks) []) place
+
+-- the bytes with new ones from a place on
+abbrev pub put : (ℕ → ℕ) → ℕ → List ℕ → ℕ → ℕ
+put bytes offset new place = if nat_le offset place && nat_lt place (offset + length new) then slice_index new (place - offset) else bytes place
+
+-- a request that lies within a block, whose store writes as many bytes as it says
+pub record IsSound (request : Request) : Type 0 where
+  pub within : request.offset + request.size ≤ 64
+  pub small : request.size ≤ 8
+  pub carried : is_store request ≡ true → length request.bytes ≡ request.size

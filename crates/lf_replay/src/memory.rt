@@ -1,0 +1,110 @@
+//! Flat memory, as far as a trace names it and stores wrote it. All other bytes are zero.
+
+ghost use Rattle.std.specs.Prelude.{◌≡◌, ℕ, ◌+◌, ◌-◌, ◌<◌, ◌≤◌, ◌&&◌, map, length, slice_index, OnOk, OnErr, if◌then◌else◌};
+ghost use Rattle.std.specs.List.{range_with_len};
+ghost use Rattle.lf_model.specs.State.{update};
+ghost use Rattle.lf_model.specs.Table.{value_of, accepted};
+ghost use Rattle.lf_replay.specs.Bytes.{flat_of, put, IsSound};
+
+use lf_model::{NoMemory, Op};
+use std::alloc::Global;
+use std::collections::BTreeMap;
+use std::marker::Model;
+
+use crate::request::{Data, Request};
+
+/// The bytes of a block, and zeros behind them.
+type Bytes = [u8; 64];
+
+static ZEROS: Bytes = [0; 64];
+
+#[derive(Drop)]
+pub struct FlatMemory {
+    blocks: BTreeMap<u32, Bytes>,
+}
+
+impl Model for FlatMemory {
+    ghost use Rattle.std.specs.Prelude.{ℕ, List};
+
+    ghost Value = { List (ℕ × List ℕ) };
+
+    ghost view = { λ m. m.blocks.entries };
+}
+
+/// The bytes with new ones from a place on.
+fn put(bytes: &mut Bytes, offset: usize, new: &[u8])
+    requires { offset + length new.now ≤ 64 }
+    ensures { slice_index bytes.new ≡ put (slice_index bytes.old) offset new.now }
+{
+    bytes[offset..offset + new.len()].copy_from_slice(new);
+}
+
+/// So many bytes from a place on.
+fn part(bytes: &Bytes, offset: usize, size: usize) -> Data
+    requires within { offset + size ≤ 64 }
+    requires small { size ≤ 8 }
+    ensures { result.items ≡ map (λ i. slice_index bytes.now (offset + i)) (range_with_len 0 size) }
+{
+    let mut data = Data::new();
+    for i in 0..size {
+        data.push(bytes[offset + i]);
+    }
+    data
+}
+
+impl FlatMemory {
+    /// The bytes of a block.
+    pub fn bytes_of(&self, block: u32) -> &Bytes
+        ensures { slice_index result.now ≡ flat_of self.now block }
+    {
+        match self.blocks.get(&block) {
+            Some(bytes) => bytes,
+            None => &ZEROS,
+        }
+    }
+
+    /// What the request finds: a load's bytes, and nothing for a store.
+    pub fn value_of(&self, request: &Request) -> Data
+        requires { IsSound request.now }
+        ensures { result.items ≡ value_of (flat_of self.now) request.now }
+    {
+        match request.op() {
+            Op::Store => Data::new(),
+            Op::Load => part(
+                self.bytes_of(request.block()),
+                usize::from(request.offset()),
+                usize::from(request.size()),
+            ),
+        }
+    }
+
+    /// The request takes effect: a store changes its block.
+    pub fn accept(&mut self, request: &Request) -> Result<(), NoMemory>
+        requires { IsSound request.now }
+        ensures ok { OnOk result (flat_of self.new ≡ accepted (flat_of self.old) request.now) }
+        ensures err { OnErr result (self.new ≡ self.old) }
+    {
+        match request.op() {
+            Op::Load => Ok(()),
+            Op::Store => self.store(
+                request.block(),
+                usize::from(request.offset()),
+                request.bytes(),
+            ),
+        }
+    }
+
+    /// The block takes these bytes from a place on.
+    fn store(&mut self, block: u32, offset: usize, new: &[u8]) -> Result<(), NoMemory>
+        requires { offset + length new.now ≤ 64 }
+        ensures ok { OnOk result (flat_of self.new ≡ update (flat_of self.old) block (put (flat_of self.old block) offset new.now)) }
+        ensures err { OnErr result (self.new ≡ self.old) }
+    {
+        let mut bytes = *self.bytes_of(block);
+        put(&mut bytes, offset, new);
+        match self.blocks.insert(block, bytes) {
+            Ok(_) => Ok(()),
+            Err(_) => Err(NoMemory),
+        }
+    }
+}
