@@ -1,2 +1,7 @@
-//! Not written yet.
+//! The join of all logs: one order of all their records, which keeps each log's order and each
+//! bank's numbers, or a ring of logs that wait for one another and so show that there is none.
 #![tactic(auto)]
+
+mod check;
+
+pub use check::check_cycle;

@@ -1,0 +1,60 @@
+//! Whether logs wait for one another in a ring.
+
+ghost use Rattle.std.specs.Prelude.{◌≡◌, ◌<◌, ◌+◌, ◌%◌, ◌↔◌, ◌==◌, ◌&&◌, IsTrue, drop, nat_lt};
+ghost use Rattle.std.specs.List.{list_any};
+ghost use Rattle.lf_model.specs.Order.{log_at};
+ghost use Rattle.lf_model.specs.Ring.{IsRing, IsWait, entry_at};
+ghost use Rattle.lf_join.specs.Join.{lists_of};
+
+use lf_model::{Knot, Ring, Skeleton};
+
+/// The entries of a log, none where there is no such log.
+pub(crate) fn entries(skeletons: &[Skeleton], log: usize) -> &[(u8, u32)]
+    ensures { result.now ≡ log_at (lists_of skeletons.now) log }
+{
+    match skeletons.get(log) {
+        Some(skeleton) => skeleton,
+        None => &[],
+    }
+}
+
+/// Whether an entry from this place on names the bank with a smaller number.
+fn has_smaller(entries: &[(u8, u32)], from: usize, bank: u8, number: u32) -> bool
+    ensures { result ≡ list_any (λ entry. (entry.0 == bank) && nat_lt entry.1 number) (drop from entries.now) }
+{
+    entries
+        .iter()
+        .skip(from)
+        .any(|entry| entry.0 == bank && entry.1 < number)
+}
+
+/// Whether the knot's entry waits for an entry behind the next knot's place.
+fn waits(skeletons: &[Skeleton], knot: Knot, next: Knot) -> bool
+    ensures { IsTrue result ↔ IsWait (lists_of skeletons.now) knot next }
+{
+    match entries(skeletons, knot.log as usize).get(knot.at as usize) {
+        Some(&(bank, number)) => {
+            let other = entries(skeletons, next.log as usize);
+            has_smaller(other, next.at as usize + 1, bank, number)
+        }
+        None => false,
+    }
+}
+
+/// Whether the logs wait for one another: each knot's entry is behind one of the same bank with a
+/// smaller number, which stands after the next knot's place in the next knot's log, and the last knot
+/// waits for the first. A ring is not empty.
+pub fn check_cycle(skeletons: &[Skeleton], ring: &Ring) -> bool
+    ensures { IsTrue result ↔ IsRing (lists_of skeletons.now) ring.now.items }
+{
+    let len = ring.len();
+    if len == 0 {
+        return false;
+    }
+    for j in 0..len {
+        if !waits(skeletons, ring[j], ring[(j + 1) % len]) {
+            return false;
+        }
+    }
+    true
+}
