@@ -20,3 +20,4 @@ pub mod Permuted
 pub mod Numbered
 pub mod Orders
 pub mod MaskBits
+pub mod RingExamples
