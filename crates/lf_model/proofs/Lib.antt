@@ -19,3 +19,5 @@ pub mod Outcomes
 pub mod Permuted
 pub mod Numbered
 pub mod Orders
+pub mod MaskBits
+pub mod RingExamples

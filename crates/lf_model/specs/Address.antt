@@ -1,5 +1,5 @@
 -- Where a byte lies, and the bytes of a block under a mask.
-use Rattle.std.specs.Prelude.{ℕ, ◌-◌, ◌*◌, ◌/◌, ◌%◌, ◌^◌, Bool, ◌||◌, ◌==◌, List, [], ◌∷◌, length, map, filter, slice_index, if◌then◌else◌}
+use Rattle.std.specs.Prelude.{◌≡◌, ℕ, ◌-◌, ◌*◌, ◌/◌, ◌%◌, ◌^◌, Bool, true, ◌||◌, ◌==◌, List, [], ◌∷◌, length, map, filter, slice_index, if◌then◌else◌}
 use Rattle.std.specs.List.{range_with_len, list_all}
 use Rattle.std.specs.Int.{bit_at}
 use Rattle.arrayvec.specs.ArrayVec.{ArrayVec}
@@ -36,6 +36,10 @@ mask_of offset size = (2 ^ size - 1) * 2 ^ offset
 
 abbrev pub is_under : ℕ → ℕ → Bool
 is_under mask place = bit_at mask place == 1
+
+-- each byte of the other mask is one of this
+abbrev pub Covers : ℕ → ℕ → Type 0
+Covers mask other = (i : ℕ) → is_under other i ≡ true → is_under mask i ≡ true
 
 -- of so many bytes, equal at each whose bit is clear
 abbrev pub agree_off : ℕ → List ℕ → List ℕ → ℕ → Bool
