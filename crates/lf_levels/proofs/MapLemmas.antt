@@ -1,5 +1,5 @@
 -- The calls of a sorted map, in the words for lines.
-use Rattle.std.proofs.Common.{◌≡◌, ℕ, Bool, true, false, not, cond, ◌⊎◌, [], ◌∷◌, ◌+◌, refl, ap, sym, subst, inl, inr, arith, Less, Equal, Greater, Ordering, Some, None, ◌∙◌}
+use Rattle.std.proofs.Common.{Option, ◌≡◌, ℕ, Bool, true, false, not, cond, ◌⊎◌, [], ◌∷◌, ◌+◌, refl, ap, sym, subst, inl, inr, arith, Less, Equal, Greater, Ordering, Some, None, ◌∙◌}
 use Rattle.std.specs.Prelude.{is_some, count_by, ◌==◌}
 use Rattle.std.specs.List.{filter, AllByRecursion}
 use Rattle.std.specs.List.Sorted.{IsStrictlySortedBy}
@@ -199,3 +199,13 @@ module _ (test : ℕ → Bool) where
       let first = passing-cons line (set_value at lines w) in
       ap passing (set_later at line lines w later) ∙ omega (arith, rest, first, all))
       (cases_Bool (at line.0))
+
+-- ---- what a call says of each block, in the words for lines
+pub changes_at : (block : ℕ) (mask : Option ℕ) (old new : Lines)
+    → ((q : ℕ) → lookup (is_at (nat_cmp q)) new ≡ cond (is_at (nat_cmp block) q) mask (lookup (is_at (nat_cmp q)) old))
+    → (other : ℕ) → lookup (is_at (nat_cmp other)) new ≡ cond (other == block) mask (lookup (is_at (nat_cmp other)) old)
+changes_at block mask old new updates other =
+    updates other ∙ ap (λ b. cond b mask (lookup (is_at (nat_cmp other)) old)) (test block other)
+  where
+    test : (k x : ℕ) → is_at (nat_cmp k) x ≡ (x == k)
+    test k x = grind (arith, nat_tests)

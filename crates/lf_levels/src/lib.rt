@@ -9,6 +9,8 @@ mod fault;
 mod level;
 mod lines;
 mod sets;
+#[cfg(test)]
+mod tests;
 
 pub use fault::LineFault;
 pub use level::{One, Two};

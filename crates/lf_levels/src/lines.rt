@@ -1,9 +1,9 @@
 //! A table of lines.
 
-ghost use Rattle.std.specs.Prelude.{◌≡◌, ◌≢◌, ◌↔◌, true, false, not, ◌&&◌, IsTrue, Option, option_map, IfOk, IfErr, OnErr};
+ghost use Rattle.std.specs.Prelude.{◌≡◌, ◌≢◌, ◌↔◌, true, false, not, ◌&&◌, IsTrue, Option, option_map, IfOk, IfErr, OnErr, bit_or};
 ghost use Rattle.lf_model.specs.InRange.{IsFrom};
 ghost use Rattle.lf_model.specs.Lines.{line_at, has_line, dirty_mask, lines_of_set};
-ghost use Rattle.lf_levels.specs.LineTable.{IsLineTable, empty_table, is_full, after_fill, after_mark, after_evict};
+ghost use Rattle.lf_levels.specs.LineTable.{IsLineTable, ChangesOnly, empty_table, is_full, after_fill, after_mark, after_evict};
 ghost use Rattle.lf_levels.specs.Refusals.{FillRefusal, EvictRefusal};
 
 use crate::fault::LineFault;
@@ -95,6 +95,7 @@ impl<L> Lines<L> {
         requires { has_line self.old.lines block ≡ false }
         ensures free_way { IfOk result (λ _. is_full self.old block ≡ false) }
         ensures filled { IfOk result (λ _. self.new ≡ after_fill self.old block mask.0) }
+        ensures here { IfOk result (λ _. ChangesOnly self.old self.new block (Some mask.0)) }
         ensures refused { IfErr result (λ fault. FillRefusal self.old block fault) }
         ensures unchanged { OnErr result (self.new ≡ self.old) }
     {
@@ -114,7 +115,8 @@ impl<L> Lines<L> {
     /// The dirty mask of the block's line gains these bytes.
     pub fn mark(&mut self, block: u32, mask: Mask)
         requires { has_line self.old.lines block ≡ true }
-        ensures { self.new ≡ after_mark self.old block mask.0 }
+        ensures marked { self.new ≡ after_mark self.old block mask.0 }
+        ensures here { ChangesOnly self.old self.new block (Some (bit_or (dirty_mask self.old.lines block) mask.0)) }
     {
         let Some(dirty) = self.masks.get_mut(&block) else {
             unreachable!()
@@ -128,6 +130,7 @@ impl<L> Lines<L> {
         ensures there { IfOk result (λ _. has_line self.old.lines block ≡ true) }
         ensures same_mask { IfOk result (λ _. mask.0 ≡ dirty_mask self.old.lines block) }
         ensures evicted { IfOk result (λ _. self.new ≡ after_evict self.old block) }
+        ensures here { IfOk result (λ _. ChangesOnly self.old self.new block None) }
         ensures refused { IfErr result (λ fault. EvictRefusal self.old block mask.0 fault) }
         ensures unchanged { OnErr result (self.new ≡ self.old) }
     {

@@ -1,8 +1,8 @@
-use Rattle.std.proofs.Common.{◌≡◌, ap, ◌∙◌, true, sym}
+use Rattle.std.proofs.Common.{None, ◌≡◌, ap, ◌∙◌, true, sym}
 use Rattle.std.specs.Prelude.{is_some}
 use Rattle.lf_model.specs.Lines.{has_line}
 use Rattle.lf_levels.proofs.CountLemmas.{IsCounted-evict, counts_line-at, table_of}
-use Rattle.lf_levels.proofs.MapLemmas.{remove_entry-sorted}
+use Rattle.lf_levels.proofs.MapLemmas.{remove_entry-sorted, changes_at}
 use Rattle.lf_levels.proofs.lines.Lines.evict.Goals as goal
 
 pub overflow_sub-index_mut : goal.overflow_sub-index_mut
@@ -20,3 +20,7 @@ pub returns-clause-evicted : goal.returns-clause-evicted
 returns-clause-evicted g c =
     let lines = c.remove.ensures.entries ∙ remove_entry-sorted c.args.block c.self.inside.masks.entries c.self.invariant.sorted in
     rw (← c.self.view_is) (ap (table_of c.self.inside.sets c.self.inside.ways c.self.inside.banks) lines)
+
+pub returns-clause-here : goal.returns-clause-here
+returns-clause-here g c =
+    rw (← c.self.view_is) (changes_at c.args.block None c.self.inside.masks.entries c.remove.new.self.entries c.remove.ensures.updates.0)
