@@ -2,5 +2,7 @@
 #![tactic(auto)]
 
 mod memory;
+mod queue;
 mod registers;
 mod request;
+mod state;
