@@ -1,8 +1,9 @@
 //! The state of one bank.
 
-ghost use Rattle.std.specs.Prelude.{◌≡◌, ℕ, ◌&&◌, nat_lt, Bool, true, false, length, MatchOption};
-ghost use Rattle.lf_model.specs.Table.{is_head, oldest, is_asked, is_among, asked_register};
-ghost use Rattle.lf_model.specs.Lines.{has_line};
+ghost use Rattle.std.specs.Prelude.{◌≡◌, ℕ, ◌&&◌, nat_lt, Bool, true, false, length, MatchOption, option_copied, ◌==◌};
+ghost use Rattle.std.specs.List.{find, list_any};
+ghost use Rattle.lf_model.specs.Table.{is_head, oldest, is_asked, is_among, asked_register, is_ready_for, first_ready};
+ghost use Rattle.lf_model.specs.Lines.{dirty_mask};
 ghost use Rattle.lf_replay.specs.Kept.{queue_at, IsFramed};
 ghost use Rattle.lf_replay.specs.View.{kept};
 
@@ -53,5 +54,56 @@ impl BankState {
         ensures { result ≡ is_among self.now.supplied.items block }
     {
         self.supplied.iter().any(|b| *b == block)
+    }
+
+    /// The level-one register of the block's primary miss, and 0 where the block is not asked for.
+    pub fn asked_register(&self, block: u32) -> u16
+        ensures { result ≡ asked_register self.now.asked.items block }
+    {
+        match self.asked_entry(block) {
+            Some(entry) => entry.1,
+            None => 0,
+        }
+    }
+
+    fn asked_entry(&self, block: u32) -> Option<&(u32, u16)>
+        ensures { option_copied result ≡ find (λ a. a.0 == block) self.now.asked.items }
+    {
+        self.asked.iter().find(|a| a.0 == block)
+    }
+
+    fn ready_entry(&self, port: u8, tag: u8) -> Option<&Ready>
+        ensures { option_copied result ≡ find (is_ready_for port tag) self.now.ready.items }
+    {
+        self.ready
+            .iter()
+            .find(|r| r.port() == port && r.tag() == tag)
+    }
+
+    /// The first reply that is ready for the port and tag.
+    pub fn ready_for(&self, port: u8, tag: u8) -> Option<&Ready>
+        ensures { let ready = self.now.ready.items in MatchOption result (list_any (is_ready_for port tag) ready ≡ false) (λ r. (list_any (is_ready_for port tag) ready ≡ true) × (r.now.value ≡ first_ready ready port tag)) }
+    {
+        self.ready_entry(port, tag)
+    }
+
+    /// The dirty mask of the block's line in level one, and 0 where there is none.
+    pub fn dirty1(&self, block: u32) -> u64
+        ensures { result ≡ dirty_mask self.now.lines1.lines block }
+    {
+        match self.lines1.dirty(block) {
+            Some(mask) => mask.0,
+            None => 0,
+        }
+    }
+
+    /// The same of level two.
+    pub fn dirty2(&self, block: u32) -> u64
+        ensures { result ≡ dirty_mask self.now.lines2.lines block }
+    {
+        match self.lines2.dirty(block) {
+            Some(mask) => mask.0,
+            None => 0,
+        }
     }
 }
