@@ -1,6 +1,9 @@
 //! The replay of one bank.
 #![tactic(auto)]
 
+mod judge;
 mod memory;
+mod queue;
 mod registers;
 mod request;
+mod state;

@@ -1,0 +1,61 @@
+//! The requests of one port to one bank that are not accepted yet, the oldest first.
+
+ghost use Rattle.std.specs.Prelude.{◌≡◌, ℕ, Bool, true, false, [], ◌∷◌, ◌++◌, drop, OnOk, OnErr, MatchOption};
+ghost use Rattle.lf_model.specs.Table.{is_head, oldest};
+
+use lf_model::NoMemory;
+use std::alloc::Global;
+use std::collections::VecDeque;
+use std::marker::Model;
+
+use crate::request::Request;
+
+#[derive(Drop)]
+pub struct Queue {
+    requests: VecDeque<Request>,
+}
+
+impl Model for Queue {
+    ghost use Rattle.std.specs.Prelude.{List};
+    ghost use Rattle.lf_model.specs.State as model;
+
+    ghost Value = { List model.Request };
+
+    ghost view = { λ q. q.requests.items };
+}
+
+impl Queue {
+    pub fn new(alloc: Global) -> Queue
+        ensures { result ≡ [] }
+    {
+        Queue {
+            requests: VecDeque::new(alloc),
+        }
+    }
+
+    /// The oldest request, where it has the tag.
+    pub fn head(&self, tag: u8) -> Option<&Request>
+        ensures { MatchOption result (is_head self.now tag ≡ false) (λ request. (is_head self.now tag ≡ true) × (request.now ≡ oldest self.now)) }
+    {
+        let request = self.requests.front()?;
+        if request.tag() == tag { Some(request) } else { None }
+    }
+
+    pub fn push(&mut self, request: Request) -> Result<(), NoMemory>
+        ensures ok { OnOk result (self.new ≡ self.old ++ request ∷ []) }
+        ensures err { OnErr result (self.new ≡ self.old) }
+    {
+        match self.requests.push_back(request) {
+            Ok(()) => Ok(()),
+            Err(_) => Err(NoMemory),
+        }
+    }
+
+    /// The oldest request leaves.
+    pub fn pop(&mut self) -> Option<Request>
+        ensures rest { self.new ≡ drop 1 self.old }
+        ensures oldest { MatchOption result (self.old ≡ []) (λ request. request ≡ oldest self.old) }
+    {
+        self.requests.pop_front()
+    }
+}

@@ -1,0 +1,109 @@
+//! The state of one bank.
+
+ghost use Rattle.std.specs.Prelude.{◌≡◌, ℕ, ◌&&◌, nat_lt, Bool, true, false, length, MatchOption, option_copied, ◌==◌};
+ghost use Rattle.std.specs.List.{find, list_any};
+ghost use Rattle.lf_model.specs.Table.{is_head, oldest, is_asked, is_among, asked_register, is_ready_for, first_ready};
+ghost use Rattle.lf_model.specs.Lines.{dirty_mask};
+ghost use Rattle.lf_replay.specs.Kept.{queue_at, IsFramed};
+ghost use Rattle.lf_replay.specs.View.{kept};
+
+use lf_levels::{Lines, One, Two};
+use lf_model::Shape;
+
+use crate::memory::FlatMemory;
+use crate::queue::Queue;
+use crate::registers::Held;
+use crate::request::{Missed, Ready, Request};
+
+/// What bank b of both levels holds, and its part of flat memory.
+#[derive(Drop)]
+pub struct BankState {
+    pub shape: Shape,
+    pub memory: FlatMemory,
+    /// One for each port.
+    pub queues: Vec<Queue>,
+    pub lines1: Lines<One>,
+    pub lines2: Lines<Two>,
+    /// The targets in level-one registers.
+    pub waiting: Vec<Held<Missed>>,
+    /// Those in level-two registers: a level-one register each.
+    pub regs2: Vec<Held<u16>>,
+    /// Blocks, each with the level-one register of its primary miss.
+    pub asked: Vec<(u32, u16)>,
+    pub supplied: Vec<u32>,
+    pub ready: Vec<Ready>,
+}
+
+impl BankState {
+    /// The oldest request of the port, where the port exists and that request has the tag.
+    pub fn head(&self, port: u8, tag: u8) -> Option<&Request>
+        requires { IsFramed (kept self.now) }
+        ensures { let queue = queue_at self.now.queues.items port in let is = nat_lt port self.now.shape.ports && is_head queue tag in MatchOption result (is ≡ false) (λ request. (is ≡ true) × (request.now ≡ oldest queue)) }
+    {
+        let queue = self.queues.get(port as usize)?;
+        queue.head(tag)
+    }
+
+    pub fn has_asked(&self, block: u32) -> bool
+        ensures { result ≡ is_asked self.now.asked.items block }
+    {
+        self.asked.iter().any(|a| a.0 == block)
+    }
+
+    pub fn has_supplied(&self, block: u32) -> bool
+        ensures { result ≡ is_among self.now.supplied.items block }
+    {
+        self.supplied.iter().any(|b| *b == block)
+    }
+
+    /// The level-one register of the block's primary miss, and 0 where the block is not asked for.
+    pub fn asked_register(&self, block: u32) -> u16
+        ensures { result ≡ asked_register self.now.asked.items block }
+    {
+        match self.asked_entry(block) {
+            Some(entry) => entry.1,
+            None => 0,
+        }
+    }
+
+    fn asked_entry(&self, block: u32) -> Option<&(u32, u16)>
+        ensures { option_copied result ≡ find (λ a. a.0 == block) self.now.asked.items }
+    {
+        self.asked.iter().find(|a| a.0 == block)
+    }
+
+    fn ready_entry(&self, port: u8, tag: u8) -> Option<&Ready>
+        ensures { option_copied result ≡ find (is_ready_for port tag) self.now.ready.items }
+    {
+        self.ready
+            .iter()
+            .find(|r| r.port() == port && r.tag() == tag)
+    }
+
+    /// The first reply that is ready for the port and tag.
+    pub fn ready_for(&self, port: u8, tag: u8) -> Option<&Ready>
+        ensures { let ready = self.now.ready.items in MatchOption result (list_any (is_ready_for port tag) ready ≡ false) (λ r. (list_any (is_ready_for port tag) ready ≡ true) × (r.now.value ≡ first_ready ready port tag)) }
+    {
+        self.ready_entry(port, tag)
+    }
+
+    /// The dirty mask of the block's line in level one, and 0 where there is none.
+    pub fn dirty1(&self, block: u32) -> u64
+        ensures { result ≡ dirty_mask self.now.lines1.lines block }
+    {
+        match self.lines1.dirty(block) {
+            Some(mask) => mask.0,
+            None => 0,
+        }
+    }
+
+    /// The same of level two.
+    pub fn dirty2(&self, block: u32) -> u64
+        ensures { result ≡ dirty_mask self.now.lines2.lines block }
+    {
+        match self.lines2.dirty(block) {
+            Some(mask) => mask.0,
+            None => 0,
+        }
+    }
+}
