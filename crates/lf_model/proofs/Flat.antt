@@ -2,7 +2,7 @@
 use Rattle.std.proofs.Common.{◌≡◌, ℕ, ◌+◌, ◌≤◌, Bool, true, false, cond, ◌&&◌, ◌||◌, ◌==◌, List, [], ◌∷◌, ◌++◌, map, drop, length, Option, Some, None, is_none, inl, inr, refl, sym, ap, ◌∙◌, subst, eqb-true, eq-eqb, arith}
 use mathlib.Core.Path.{ap₂}
 use Rattle.std.specs.Prelude.{bytes_eq}
-use Rattle.std.proofs.lemmas.Bool.{and_parts, both_ways, cases_Bool, cond-false}
+use Rattle.std.proofs.lemmas.Bool.{and_parts, both_ways, cases_Bool, cond-false, eqb-false}
 use Rattle.std.proofs.lemmas.List.FromFn.{length-map-range_with_len}
 use Rattle.std.specs.List.{list_any, AllByRecursion, filter, range_with_len}
 use Rattle.lf_model.specs.declared.shape.Shape.{Shape}
@@ -14,11 +14,11 @@ use Rattle.lf_model.specs.Registers.{Held, targets_of}
 use Rattle.lf_model.specs.State.{update, Request, Missed, Ready, Slice, State, opening, seen_by}
 use Rattle.lf_model.specs.Table.{request_of, OfBoth, is_store, oldest, is_head, value_of, accepted_if, value_at, is_at, is_ready_for, first_ready, without_ready, reply_of, replies_at, miss, carries, rules_of, accepts, slice_after, clauses}
 use Rattle.lf_model.specs.Run.{first_failing, state_after, IsRunFrom}
-use Rattle.lf_model.specs.History.{Act, Issues, Accepts, Replies, Nothing, act_if, act_of, act, latest_issue, before_acceptance, accepted_by, bytes_after, issue_after, acceptance_after, IsFlatAt, IsFlatFrom}
+use Rattle.lf_model.specs.History.{Act, Issues, Accepts, Replies, Nothing, act_if, act_of, act, latest_issue, before_acceptance, times_after, times_accepted, accepted_by, bytes_after, issue_after, acceptance_after, IsFlatAt, IsFlatFrom}
 use Rattle.lf_model.specs.Laws.{RunsAreFlat}
 use Rattle.lf_model.proofs.Clauses.{AllHold, all_hold}
 use Rattle.lf_model.proofs.Busy.{next_busy, busy_at}
-use Rattle.lf_model.proofs.Owed.{bit, counted, queued_as, waits_as, held_count, count_of, owed, CountMoves, head_tag, head_count, count_after}
+use Rattle.lf_model.proofs.Owed.{bit, counted, queued_as, waits_as, held_count, count_of, owed, CountMoves, HeldMoves, head_tag, head_count, count_after, held_after}
 
 -- ---- what is known of each request
 
@@ -46,6 +46,7 @@ pub record SliceOk (shape : Shape) (initial : FlatMemory) (history : List Record
 pub record StateOk (shape : Shape) (initial : FlatMemory) (history : List Record) (state : State) : Type 0 where
   pub memory : state.memory ≡ bytes_after shape initial history
   pub counts : (bank port t : ℕ) → count_of (state.slice bank) port t ≡ owed (state.busy port t) bank
+  pub times : (bank port t : ℕ) → owed (state.busy port t) bank ≡ 1 → times_accepted shape port t history ≡ held_count (state.slice bank) port t
   pub slices : (bank : ℕ) → SliceOk shape initial history (state.slice bank)
 
 -- ---- what an act needs
@@ -358,9 +359,28 @@ load_length : (m : FlatMemory) (q : Request) → is_store q ≡ false → length
 load_length m q e =
     ap length (cond-false (is_store q) [] (map (λ i. m q.block (q.offset + i)) (range_with_len 0 q.size)) e) ∙ length-map-range_with_len (λ i. m q.block (q.offset + i)) 0 q.size
 
+ready_counted : (rs : List Ready) (port t : ℕ) → list_any (is_ready_for port t) rs ≡ true → 1 ≤ counted (is_ready_for port t) rs
+ready_counted [] port t there = absurd (both_ways false refl there)
+ready_counted (r ∷ rs) port t there = go (is_ready_for port t r) there (ready_counted rs port t)
+  where
+    go : (b : Bool) → (b || list_any (is_ready_for port t) rs) ≡ true → (list_any (is_ready_for port t) rs ≡ true → 1 ≤ counted (is_ready_for port t) rs) → 1 ≤ bit b + counted (is_ready_for port t) rs
+    go true e rest = omega arith
+    go false e rest = let n = rest e in omega (arith, n)
+
+-- the tag that a bank owes a reply that is ready was accepted once
+accepted_once : (shape : Shape) (history : List Record) (o : Option ℕ) (slice : Slice) (bank port t : ℕ) → count_of slice port t ≡ owed o bank
+    → (owed o bank ≡ 1 → times_accepted shape port t history ≡ held_count slice port t)
+    → is_at o bank ≡ true → list_any (is_ready_for port t) slice.ready ≡ true → times_accepted shape port t history ≡ 1
+accepted_once shape history o slice bank port t counts times owes there =
+    let one : owed o bank ≡ 1 = ap bit owes in
+    let some = ready_counted slice.ready port t there in
+    let held = times one in
+    omega (arith, counts, one, some, held)
+
 flat_at : (shape : Shape) (initial : FlatMemory) (history : List Record) (right : Bool) (busy : ℕ → Option ℕ) (slice : Slice) (log bank : ℕ) (e : Event)
-    → AllHold (rules_of shape right busy slice log bank e) → SliceOk shape initial history slice → IsFlatAt shape initial history log e
-flat_at shape initial history right busy slice log bank (Reply tag size bytes) holds ok =
+    → AllHold (rules_of shape right busy slice log bank e) → SliceOk shape initial history slice
+    → ((t : ℕ) → is_at (busy t) bank ≡ true → list_any (is_ready_for log t) slice.ready ≡ true → times_accepted shape log t history ≡ 1) → IsFlatAt shape initial history log e
+flat_at shape initial history right busy slice log bank (Reply tag size bytes) holds ok once =
     let found = first_is shape initial history slice.ready log tag holds.1.1.0 ok.ready in
     let told = bytes_are bytes.items (first_ready slice.ready log tag) holds.1.1.1.1.0 in
     record {
@@ -368,10 +388,11 @@ flat_at shape initial history right busy slice log bank (Reply tag size bytes) h
       older = found.1.older;
       issued = found.1.issued;
       accepted = found.1.accepted;
+      once = once tag holds.1.0 holds.1.1.0;
       value = told ∙ found.1.known;
       length = λ load. eqb-true size (length (first_ready slice.ready log tag)) holds.1.1.1.0 ∙ ap length found.1.known ∙ load_length (bytes_after shape initial found.1.older) found.0 load;
     }
-flat_at shape initial history right busy slice log bank _ holds ok = tt
+flat_at shape initial history right busy slice log bank _ holds ok once = tt
 
 counts_after : (shape : Shape) (state : State) (r : Record) (new : Slice) (bank port t : ℕ)
     → Allowed (act shape port t r) r.bank (state.busy port t) (counted (queued_as t) ((state.slice r.bank).queue port))
@@ -383,6 +404,37 @@ counts_after shape state r new bank port t may counts moves =
       | true ↦ λ e. subst (λ k. count_of new port t ≡ owed (next_busy (act shape port t r) r.bank (state.busy port t)) k) (eqb-true r.bank bank e)
           (counts_here (act shape port t r) r.bank (state.busy port t) _ _ _ may moves (counts r.bank))
       | false ↦ λ e. counts bank ∙ sym (counts_apart (act shape port t r) r.bank bank (state.busy port t) _ e may)
+    ] refl
+
+times_here : (a : Act) (bank : ℕ) (o : Option ℕ) (queued times old new : ℕ) → Allowed a bank o queued → HeldMoves a old new → queued + old ≡ owed o bank
+    → (owed o bank ≡ 1 → times ≡ old) → owed (next_busy a bank o) bank ≡ 1 → times_after a times ≡ new
+times_here (Issues request) bank o queued times old new free moves all before now = let none : owed o bank ≡ 0 = ap (λ x. owed x bank) free in omega (arith, all, none, moves)
+times_here Accepts bank o queued times old new some moves all before now =
+    let le = bit_le (is_at o bank) in let same = before (omega (arith, le, all, some)) in omega (arith, same, moves)
+times_here Replies bank o queued times old new may moves all before now = absurd (omega (arith, now))
+times_here Nothing bank o queued times old new may moves all before now = before now ∙ sym moves
+
+times_apart : (a : Act) (bank other : ℕ) (o : Option ℕ) (queued held times old : ℕ) → (bank == other) ≡ false → Allowed a bank o queued → queued + held ≡ owed o bank
+    → (owed o other ≡ 1 → times ≡ old) → owed (next_busy a bank o) other ≡ 1 → times_after a times ≡ old
+times_apart (Issues request) bank other o queued held times old apart free all before now = let none = ap bit apart in absurd (omega (arith, none, now))
+times_apart Accepts bank other o queued held times old apart some all before now =
+    absurd (eqb-false bank other apart (owed_once o bank other (omega (arith, all, some)) (omega (arith, now))))
+times_apart Replies bank other o queued held times old apart may all before now = absurd (omega (arith, now))
+times_apart Nothing bank other o queued held times old apart may all before now = before now
+
+times_step : (shape : Shape) (history : List Record) (state : State) (r : Record) (new : Slice) (bank port t : ℕ)
+    → Allowed (act shape port t r) r.bank (state.busy port t) (counted (queued_as t) ((state.slice r.bank).queue port))
+    → count_of (state.slice r.bank) port t ≡ owed (state.busy port t) r.bank
+    → ((b : ℕ) → owed (state.busy port t) b ≡ 1 → times_accepted shape port t history ≡ held_count (state.slice b) port t)
+    → HeldMoves (act shape port t r) (held_count (state.slice r.bank) port t) (held_count new port t)
+    → owed (next_busy (act shape port t r) r.bank (state.busy port t)) bank ≡ 1
+    → times_accepted shape port t (r ∷ history) ≡ held_count (update state.slice r.bank new bank) port t
+times_step shape history state r new bank port t may counts times moves =
+    elim (r.bank == bank) as (λ b. (r.bank == bank) ≡ b → owed (next_busy (act shape port t r) r.bank (state.busy port t)) bank ≡ 1
+        → times_after (act shape port t r) (times_accepted shape port t history) ≡ held_count (cond b new (state.slice bank)) port t) [
+      | true ↦ λ e now. times_here (act shape port t r) r.bank (state.busy port t) _ _ _ _ may moves counts (times r.bank)
+          (subst (λ k. owed (next_busy (act shape port t r) r.bank (state.busy port t)) k ≡ 1) (sym (eqb-true r.bank bank e)) now)
+      | false ↦ λ e now. times_apart (act shape port t r) r.bank bank (state.busy port t) _ _ _ _ e may counts (times bank) now
     ] refl
 
 state_ok : (shape : Shape) (initial : FlatMemory) (history : List Record) (state : State) (r : Record)
@@ -404,6 +456,10 @@ state_ok shape initial history state r clauses_hold ok =
           let tags = busy_at shape state r port t in
           let moves = count_after shape right (state.busy r.log) (value_at state.memory (accepts (state.slice r.bank) r.event)) (state.slice r.bank) r.log r.bank r.event holds port t in
           counts_after shape state r _ bank port t (may port t) (λ b. ok.counts b port t) moves ∙ ap (λ o. owed o bank) (sym tags);
+      times = λ bank port t now.
+          let tags = busy_at shape state r port t in
+          let moves = held_after shape right (state.busy r.log) (value_at state.memory (accepts (state.slice r.bank) r.event)) (state.slice r.bank) r.log r.bank r.event holds port t in
+          times_step shape history state r _ bank port t (may port t) (ok.counts r.bank port t) (λ b. ok.times b port t) moves (ap (λ o. owed o bank) (sym tags) ∙ now);
       slices = update_keeps (λ bank s. SliceOk shape initial (r ∷ history) s) state.slice r.bank _
           (slice_ok shape initial history state.memory ok.memory right (state.busy r.log) (state.slice r.bank) r r.event refl holds (ok.slices r.bank) (grown r.bank)) grown;
     }
@@ -413,11 +469,12 @@ flat_from shape initial [] history state ok run = tt
 flat_from shape initial (r ∷ rs) history state ok run =
     let right : Bool = carries shape state.memory (state.slice r.bank) r.event in (
       flat_at shape initial history right (state.busy r.log) (state.slice r.bank) r.log r.bank r.event
-          (all_hold (rules_of shape right (state.busy r.log) (state.slice r.bank) r.log r.bank r.event) run.0) (ok.slices r.bank),
+          (all_hold (rules_of shape right (state.busy r.log) (state.slice r.bank) r.log r.bank r.event) run.0) (ok.slices r.bank)
+          (λ t. accepted_once shape history (state.busy r.log t) (state.slice r.bank) r.bank r.log t (ok.counts r.bank r.log t) (ok.times r.bank r.log t)),
       flat_from shape initial rs (r ∷ history) (state_after shape state r) (state_ok shape initial history state r run.0 ok) run.1,
     )
 
 pub runs_are_flat : RunsAreFlat
 runs_are_flat shape memory rs run =
     flat_from shape memory rs [] (opening memory)
-    (record { memory = refl; counts = λ bank port t. refl; slices = λ bank. record { queued = λ port. tt; waiting = tt; ready = tt } }) run
+    (record { memory = refl; counts = λ bank port t. refl; times = λ bank port t one. refl; slices = λ bank. record { queued = λ port. tt; waiting = tt; ready = tt } }) run

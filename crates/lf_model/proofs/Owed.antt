@@ -146,3 +146,62 @@ count_after shape right busy value slice log bank (Merge p tag register) holds p
 count_after shape right busy value slice log bank (Fill1 block bytes) holds port t =
     omega (arith, counted-append (is_ready_for port t) slice.ready (map reply_of (targets_of slice.waiting block)), fill_count slice.waiting block port t)
 count_after shape right busy value slice log bank _ holds port t = refl
+
+-- ---- how the queue and the missed or ready requests of a port's tag move
+
+abbrev pub QueueMoves : Act → ℕ → ℕ → Type 0
+QueueMoves (Issues request) old new = new ≡ old + 1
+QueueMoves Accepts old new = new + 1 ≡ old
+QueueMoves Replies old new = Unit {0}
+QueueMoves Nothing old new = new ≡ old
+
+abbrev pub HeldMoves : Act → ℕ → ℕ → Type 0
+HeldMoves (Issues request) old new = new ≡ old
+HeldMoves Accepts old new = new ≡ old + 1
+HeldMoves Replies old new = Unit {0}
+HeldMoves Nothing old new = new ≡ old
+
+held_moves : (a : Act) (q p h k : ℕ) → CountMoves a (q + h) (p + k) → QueueMoves a q p → HeldMoves a h k
+held_moves (Issues request) q p h k all part = omega (arith, all, part)
+held_moves Accepts q p h k all part = omega (arith, all, part)
+held_moves Replies q p h k all part = tt
+held_moves Nothing q p h k all part = omega (arith, all, part)
+
+issue_queue : (a b : Bool) (request : Request) (n m : ℕ) → (a ≡ true → m ≡ n) → QueueMoves (act_if (a && b) (Issues request)) n (cond a (m + bit b) n)
+issue_queue true true request n m same = let e = same refl in omega (arith, e)
+issue_queue true false request n m same = let e = same refl in omega (arith, e)
+issue_queue false b request n m same = refl
+
+reply_queue : (k : Bool) (n : ℕ) → QueueMoves (act_if k Replies) n n
+reply_queue true n = tt
+reply_queue false n = refl
+
+accept_queue : (a b : Bool) (n m : ℕ) → (a ≡ true → n ≡ bit b + m) → QueueMoves (act_if (a && b) Accepts) n (cond a m n)
+accept_queue true true n m head = let e = head refl in omega (arith, e)
+accept_queue true false n m head = let e = head refl in omega (arith, e)
+accept_queue false b n m head = refl
+
+popped_queue : (slice : Slice) (p tag port t : ℕ) → is_head (slice.queue p) tag ≡ true
+    → QueueMoves (act_if (p == port && tag == t) Accepts) (counted (queued_as t) (slice.queue port)) (counted (queued_as t) (update slice.queue p (drop 1 (slice.queue p)) port))
+popped_queue slice p tag port t head =
+    subst (QueueMoves (act_if (p == port && tag == t) Accepts) (counted (queued_as t) (slice.queue port))) (sym (queue_count (queued_as t) slice.queue p (drop 1 (slice.queue p)) port))
+    (accept_queue (p == port) (tag == t) _ _ (λ e. ap (λ k. counted (queued_as t) (slice.queue k)) (sym (eqb-true p port e)) ∙ head_count (slice.queue p) tag t head))
+
+queue_after : (shape : Shape) (right : Bool) (busy : ℕ → Option ℕ) (value : List ℕ) (replies : List Ready) (slice : Slice) (log bank : ℕ) (e : Event) → AllHold (rules_of shape right busy slice log bank e)
+    → (port t : ℕ) → QueueMoves (act_of shape port t log e) (counted (queued_as t) (slice.queue port)) (counted (queued_as t) ((slice_after shape value replies slice log e).queue port))
+queue_after shape right busy value replies slice log bank (Issue op tag size address bytes) holds port t =
+    let request = request_of shape tag op size address bytes.items in
+    subst (QueueMoves (act_if (log == port && tag == t) (Issues request)) (counted (queued_as t) (slice.queue port)))
+    (sym (queue_count (queued_as t) slice.queue log (slice.queue log ++ request ∷ []) port ∙ ap (λ n. cond (log == port) n (counted (queued_as t) (slice.queue port))) (counted-push (queued_as t) (slice.queue log) request)))
+    (issue_queue (log == port) (tag == t) request _ (counted (queued_as t) (slice.queue log)) (λ e. ap (λ k. counted (queued_as t) (slice.queue k)) (eqb-true log port e)))
+queue_after shape right busy value replies slice log bank (Reply tag size bytes) holds port t = reply_queue (log == port && tag == t) _
+queue_after shape right busy value replies slice log bank (Hit p tag) holds port t = popped_queue slice p tag port t (and_parts _ (is_head (slice.queue p) tag) holds.0).1
+queue_after shape right busy value replies slice log bank (Primary p tag register) holds port t = popped_queue slice p tag port t (and_parts _ (is_head (slice.queue p) tag) holds.0).1
+queue_after shape right busy value replies slice log bank (Merge p tag register) holds port t = popped_queue slice p tag port t (and_parts _ (is_head (slice.queue p) tag) holds.0).1
+queue_after shape right busy value replies slice log bank _ holds port t = refl
+
+pub held_after : (shape : Shape) (right : Bool) (busy : ℕ → Option ℕ) (value : List ℕ) (slice : Slice) (log bank : ℕ) (e : Event) → AllHold (rules_of shape right busy slice log bank e)
+    → (port t : ℕ) → HeldMoves (act_of shape port t log e) (held_count slice port t) (held_count (slice_after shape value (replies_at slice e) slice log e) port t)
+held_after shape right busy value slice log bank e holds port t =
+    held_moves (act_of shape port t log e) (counted (queued_as t) (slice.queue port)) (counted (queued_as t) ((slice_after shape value (replies_at slice e) slice log e).queue port)) _ _
+    (count_after shape right busy value slice log bank e holds port t) (queue_after shape right busy value (replies_at slice e) slice log bank e holds port t)

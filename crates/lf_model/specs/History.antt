@@ -1,6 +1,6 @@
 -- What a list of records says by itself, with no state: once replied to, and the flat value of a load.
 -- A history is the records so far, the newest first.
-use Rattle.std.specs.Prelude.{◌≡◌, ℕ, Bool, true, false, ◌&&◌, ◌==◌, IsTrue, List, [], ◌∷◌, Option, Some, None, if◌then◌else◌}
+use Rattle.std.specs.Prelude.{◌≡◌, ℕ, ◌+◌, Bool, true, false, ◌&&◌, ◌==◌, IsTrue, List, [], ◌∷◌, Option, Some, None, if◌then◌else◌}
 use Rattle.lf_model.specs.declared.shape.Shape.{Shape}
 use Rattle.lf_model.specs.declared.event.Record.{Record}
 use Rattle.lf_model.specs.declared.event.Event.{Event}
@@ -59,6 +59,16 @@ abbrev pub before_acceptance : Shape → ℕ → ℕ → List Record → Option 
 before_acceptance shape port tag [] = None
 before_acceptance shape port tag (r ∷ history) = acceptance_after (act shape port tag r) history (before_acceptance shape port tag history)
 
+-- how often the port's tag was accepted since its latest issue
+abbrev pub times_after : Act → ℕ → ℕ
+times_after (Issues request) times = 0
+times_after Accepts times = times + 1
+times_after _ times = times
+
+abbrev pub times_accepted : Shape → ℕ → ℕ → List Record → ℕ
+times_accepted shape port tag [] = 0
+times_accepted shape port tag (r ∷ history) = times_after (act shape port tag r) (times_accepted shape port tag history)
+
 -- the request that a record accepts: the latest issue of its port and tag
 abbrev pub accepted_by : Shape → List Record → Event → Option Request
 accepted_by shape history (Hit port tag) = latest_issue shape port tag history
@@ -71,12 +81,13 @@ abbrev pub bytes_after : Shape → FlatMemory → List Record → FlatMemory
 bytes_after shape initial [] = initial
 bytes_after shape initial (r ∷ history) = accepted_if (bytes_after shape initial history) (accepted_by shape history r.event)
 
--- A reply is to an acceptance of the latest issue. That of a load has its bytes as they were before the acceptance.
+-- A reply is to the one acceptance of the latest issue. That of a load has its bytes as they were before the acceptance.
 pub record IsFlatReply (shape : Shape) (initial : FlatMemory) (history : List Record) (port tag size : ℕ) (bytes : List ℕ) : Type 0 where
   pub request : Request
   pub older : List Record
   pub issued : latest_issue shape port tag history ≡ Some request
   pub accepted : before_acceptance shape port tag history ≡ Some older
+  pub once : times_accepted shape port tag history ≡ 1
   pub value : bytes ≡ value_of (bytes_after shape initial older) request
   pub length : is_store request ≡ false → size ≡ request.size
 
