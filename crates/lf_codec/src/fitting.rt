@@ -1,0 +1,89 @@
+//! Which header, memory and records may be written as a trace.
+
+ghost use Rattle.std.specs.Prelude.{◌≡◌, ℕ, ◌≤◌, ◌<◌, ◌↔◌, IsTrue, length, slice_index};
+ghost use Rattle.std.specs.List.{AllByRecursion};
+ghost use Rattle.lf_model.specs.Fits.{IsData, FitsRecord};
+ghost use Rattle.lf_codec.specs.Trace.{FitsHeader, FitsMemory, FitsTrace, log_len};
+
+use crate::header::Header;
+use lf_model::{Block, Memory, Record, fits};
+
+fn header_fits(header: &Header) -> bool
+    ensures { IsTrue result ↔ FitsHeader header.now }
+{
+    let _memory_count = header.memory_count;
+    header.version == 1
+        && 1 <= header.ports
+        && header.ports <= 16
+        && 1 <= header.banks
+        && header.banks <= 16
+        && (header.block == 8 || header.block == 16 || header.block == 32 || header.block == 64)
+}
+
+fn has_len(len: u16, bytes: &[u8]) -> bool
+    ensures size { IsTrue result ↔ (length bytes.now ≡ len) }
+    ensures bytes_fit { (i : ℕ) → slice_index bytes.now i < 256 }
+{
+    bytes.len() == usize::from(len)
+}
+
+fn is_data(len: u16, bytes: &Block) -> bool
+    ensures { IsTrue result ↔ IsData len bytes.now }
+{
+    has_len(len, bytes)
+}
+
+fn memory_fits(size: u16, memory: &Memory) -> bool
+    ensures { IsTrue result ↔ FitsMemory size 0 memory.now.items }
+{
+    let mut least = 0;
+    for (block, bytes) in memory {
+        if u64::from(*block) < least || !is_data(size, bytes) {
+            return false;
+        }
+        least = u64::from(*block) + 1;
+    }
+    true
+}
+
+fn records_fit(header: &Header, records: &[Record]) -> bool
+    requires { FitsHeader header.now }
+    ensures { IsTrue result ↔ AllByRecursion (FitsRecord header.now.ports header.now.banks header.now.block) records.now }
+{
+    let (ports, banks) = (u32::from(header.ports), u32::from(header.banks));
+    for item in records {
+        if !fits(ports, banks, u32::from(header.block), item) {
+            return false;
+        }
+    }
+    true
+}
+
+/// Whether no log has more than 2^20 records.
+fn logs_fit(header: &Header, records: &[Record]) -> bool
+    requires header { FitsHeader header.now }
+    requires each { AllByRecursion (FitsRecord header.now.ports header.now.banks header.now.block) records.now }
+    ensures { IsTrue result ↔ ((log : ℕ) → log_len log records.now ≤ 1048576) }
+{
+    let mut counts = [0u32; 32];
+    for item in records {
+        let log = item.log as usize;
+        if counts[log] >= 1048576 {
+            return false;
+        }
+        counts[log] += 1;
+    }
+    true
+}
+
+/// Whether these may be written as a trace: the header is in range and its `memory_count` is the
+/// memory's length, each record fits, and no log has more than 2^20 of them. It takes no memory.
+pub fn fits_trace(header: &Header, memory: &Memory, records: &[Record]) -> bool
+    ensures { IsTrue result ↔ FitsTrace header.now memory.now.items records.now }
+{
+    header_fits(header)
+        && header.memory_count as usize == memory.len()
+        && memory_fits(header.block, memory)
+        && records_fit(header, records)
+        && logs_fit(header, records)
+}
