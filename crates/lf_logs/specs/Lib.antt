@@ -1,2 +1,4 @@
 pub mod Lists
 pub mod Tags
+pub mod Places
+pub mod Tallies

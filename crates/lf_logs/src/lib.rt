@@ -3,9 +3,11 @@
 #![tactic(auto)]
 
 mod logs;
+mod order;
 mod port;
 mod skeleton;
 
 pub use logs::split;
+pub use order::{NumberFault, Place, bank_order};
 pub use port::port_replay;
 pub use skeleton::skeletons;

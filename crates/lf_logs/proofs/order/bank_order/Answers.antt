@@ -1,0 +1,46 @@
+use Rattle.std.proofs.Common.{map, length, ap, ◌∙◌, subst, arith}
+use Rattle.std.proofs.lemmas.Result.{err_from_is_err_and, IfOk-weaker}
+use Rattle.lf_logs.specs.Lists.{lists_of}
+use Rattle.lf_logs.specs.Tallies.{AreOnceBelow, IsFirstFault}
+use Rattle.lf_logs.specs.Places.{IsOrder}
+use Rattle.lf_logs.specs.declared.order.Tally.{Tally}
+use Rattle.lf_model.specs.Numbers.{bank_numbers, IsWhole}
+use Rattle.lf_logs.proofs.Joined.{all_records-le}
+use Rattle.lf_logs.proofs.Tallying.{whole_from, fault_from, no_fault_from}
+use Rattle.lf_logs.proofs.Judged.{IsOrder-from_tallies}
+use Rattle.lf_logs.proofs.order.bank_order.Goals as goal
+
+pub judge-requires : goal.judge-requires
+judge-requires c =
+    omega (arith, ap length c.deref.ensures.value, c.in_ok-tallies.ensures.len, all_records-le c.args.bank c.args.logs.now.items c.requires.short c.requires.few)
+
+pub returns-in_err-judge-clause-fault : goal.returns-in_err-judge-clause-fault
+returns-in_err-judge-clause-fault c =
+    let p = err_from_is_err_and c.from_residual-in_err-judge.result c.from_residual-in_err-judge.ensures.1 in
+    let tallies = c.in_ok-tallies.tallies.items in
+    let judged = subst (λ ts. IsFirstFault ts c.in_err-judge.field-0.0) c.deref.ensures.value c.in_err-judge.ensures.fault in
+    rw (p.1, p.2) (fault_from (lists_of c.args.logs.now) c.args.bank tallies c.in_ok-tallies.ensures.len c.in_ok-tallies.ensures.counted c.in_err-judge.field-0.0 judged)
+
+pub returns-in_err-judge-clause-succeeds : goal.returns-in_err-judge-clause-succeeds
+returns-in_err-judge-clause-succeeds c whole =
+    let tallies = c.in_ok-tallies.tallies.items in
+    let judged = subst (λ ts. IsFirstFault ts c.in_err-judge.field-0.0) c.deref.ensures.value c.in_err-judge.ensures.fault in
+    absurd (no_fault_from (lists_of c.args.logs.now) c.args.bank tallies c.in_ok-tallies.ensures.len c.in_ok-tallies.ensures.counted whole c.in_err-judge.field-0.0 judged)
+
+once : (c : goal.After-drop-tallies-2) → AreOnceBelow (length c.in_ok-tallies.tallies.items) c.in_ok-tallies.tallies.items
+once c = subst (λ ts. AreOnceBelow (length ts) ts) c.deref.ensures.value c.in_ok-judge.ensures.fine
+
+pub returns-clause-order : goal.returns-clause-order
+returns-clause-order c =
+    let tallies = c.in_ok-tallies.tallies.items in
+    let lists = lists_of c.args.logs.now in
+    IfOk-weaker c.last_places.result _ (λ places. IsOrder lists c.args.bank places.items)
+    (λ places is. IsOrder-from_tallies lists c.args.bank tallies places.items c.in_ok-tallies.ensures.len c.in_ok-tallies.ensures.counted (once c) (is ∙ ap (map (λ (t : Tally). t.last)) c.deref-2.ensures.value))
+    c.last_places.ensures.places
+
+pub returns-clause-whole : goal.returns-clause-whole
+returns-clause-whole c =
+    let tallies = c.in_ok-tallies.tallies.items in
+    IfOk-weaker c.last_places.result _ (λ _. IsWhole (bank_numbers (lists_of c.args.logs.now) c.args.bank))
+    (λ places is. whole_from (lists_of c.args.logs.now) c.args.bank tallies c.in_ok-tallies.ensures.len c.in_ok-tallies.ensures.counted (once c))
+    c.last_places.ensures.places

@@ -1,0 +1,140 @@
+//! The order of a bank's records, by their numbers.
+
+ghost use Rattle.std.specs.Prelude.{◌≡◌, ℕ, ◌+◌, ◌*◌, ◌<◌, ◌≤◌, ◌^◌, length, List, map, ◌++◌, [], IfOk, IfErr, IsOk, OnOk, slice_index_or};
+ghost use Rattle.std.specs.List.{All};
+ghost use Rattle.lf_model.specs.declared.event.Record.{Record};
+ghost use Rattle.lf_model.specs.Run.{of_bank};
+ghost use Rattle.lf_model.specs.Numbers.{all_records, bank_numbers, IsWhole};
+ghost use Rattle.lf_logs.specs.Lists.{lists_of};
+ghost use Rattle.lf_logs.specs.Places.{IsOrder, IsNumberFault};
+ghost use Rattle.lf_logs.specs.Tallies.{AreTallies, AreOnceBelow, IsFirstFault};
+
+use lf_model::{Logs, Record};
+use std::alloc::Global;
+
+/// A record's place: a log, and the place in it, from 0.
+#[derive(Clone, Copy, Debug, PartialEq, Eq)]
+pub struct Place {
+    pub log: u8,
+    pub at: u32,
+}
+
+/// Why the numbers of a bank give no order.
+#[derive(Clone, Copy, Debug, PartialEq, Eq)]
+pub enum NumberFault {
+    /// No record carries this number, and one carries a greater one.
+    Missing(u32),
+    /// More than one record carries this number.
+    Double(u32),
+    NoMemory,
+}
+
+/// How many records of the bank carry a number, and the place of the last that does.
+#[derive(Clone, Copy)]
+struct Tally {
+    times: u32,
+    last: Place,
+}
+
+fn count_of_bank(bank: u8, log: &[Record]) -> usize
+    ensures { result ≡ length (of_bank bank log.now) }
+{
+    log.iter().filter(|item| item.bank == bank).count()
+}
+
+/// How many records name the bank.
+fn bank_len(logs: &Logs, bank: u8) -> usize
+    requires few { length logs.now.items ≤ 32 }
+    requires short { All (λ log. length log.items ≤ 2 ^ 20) logs.now.items }
+    ensures { result ≡ length (of_bank bank (all_records (lists_of logs.now))) }
+{
+    let mut len = 0;
+    for log in logs {
+        len += count_of_bank(bank, log);
+    }
+    len
+}
+
+/// Counts the bank's records of one log. A number without a tally is left out.
+fn count_log(tallies: &mut [Tally], bank: u8, log: u8, records: &[Record])
+    requires low { All (λ tally. tally.times ≤ 2 ^ 25) tallies.old }
+    requires short { length records.now ≤ 2 ^ 20 }
+    ensures { (logs : List (List Record)) (seen : List Record) → slice_index_or logs log [] ≡ records.now
+        → AreTallies logs bank seen tallies.old → AreTallies logs bank (seen ++ records.now) tallies.new }
+{
+    for (at, item) in records.iter().enumerate() {
+        let number = item.number as usize;
+        if item.bank == bank && number < tallies.len() {
+            let tally = &mut tallies[number];
+            tally.times += 1;
+            tally.last = Place { log, at: at as u32 };
+        }
+    }
+}
+
+/// A tally for each number below the count of the bank's records.
+fn tallies_of(alloc: Global, logs: &Logs, bank: u8) -> Result<Vec<Tally>, NumberFault>
+    requires few { length logs.now.items ≤ 32 }
+    requires short { All (λ log. length log.items ≤ 2 ^ 20) logs.now.items }
+    ensures len { IfOk result (λ tallies. length tallies.items ≡ length (of_bank bank (all_records (lists_of logs.now)))) }
+    ensures counted { IfOk result (λ tallies. AreTallies (lists_of logs.now) bank (all_records (lists_of logs.now)) tallies.items) }
+    ensures memory { IfErr result (λ fault. fault ≡ NumberFault.NoMemory) }
+{
+    let nowhere = Place { log: 0, at: 0 };
+    let none = Tally {
+        times: 0,
+        last: nowhere,
+    };
+    let Ok(mut tallies) = vec![in alloc; none; bank_len(logs, bank)] else {
+        return Err(NumberFault::NoMemory);
+    };
+    for (log, records) in logs.iter().enumerate() {
+        count_log(&mut tallies, bank, log as u8, records);
+    }
+    Ok(tallies)
+}
+
+/// The first number that does not occur exactly once.
+fn judge(tallies: &[Tally]) -> Result<(), NumberFault>
+    requires { length tallies.now ≤ 2 ^ 25 }
+    ensures fine { OnOk result (AreOnceBelow (length tallies.now) tallies.now) }
+    ensures fault { IfErr result (IsFirstFault tallies.now) }
+{
+    for (k, tally) in tallies.iter().enumerate() {
+        match tally.times {
+            0 => return Err(NumberFault::Missing(k as u32)),
+            1 => {}
+            _ => return Err(NumberFault::Double(k as u32)),
+        }
+    }
+    Ok(())
+}
+
+fn last_places(alloc: Global, tallies: &[Tally]) -> Result<Vec<Place>, NumberFault>
+    ensures places { IfOk result (λ places. places.items ≡ map (λ tally. tally.last) tallies.now) }
+    ensures memory { IfErr result (λ fault. fault ≡ NumberFault.NoMemory) }
+{
+    let Ok(places) = tallies.iter().map(|tally| tally.last).collect(alloc) else {
+        return Err(NumberFault::NoMemory);
+    };
+    Ok(places)
+}
+
+/// The places of the records that name the bank, in the order of their numbers, where these are
+/// 0, 1, 2, .. and each occurs once. Otherwise the least number that is missing below a greater one
+/// or that occurs more than once.
+pub fn bank_order(alloc: Global, logs: &Logs, bank: u8) -> Result<Vec<Place>, NumberFault>
+    requires few { length logs.now.items ≤ 32 }
+    requires short { All (λ log. length log.items ≤ 2 ^ 20) logs.now.items }
+    ensures order { IfOk result (λ places. IsOrder (lists_of logs.now) bank places.items) }
+    ensures whole { OnOk result (IsWhole (bank_numbers (lists_of logs.now) bank)) }
+    ensures fault { IfErr result (IsNumberFault (bank_numbers (lists_of logs.now) bank)) }
+
+    // Whole numbers have an order, so that only want of memory is left to refuse them.
+    ensures succeeds { IsWhole (bank_numbers (lists_of logs.now) bank)
+        → IfErr result (λ fault. fault ≡ NumberFault.NoMemory) }
+{
+    let tallies = tallies_of(alloc, logs, bank)?;
+    judge(&tallies)?;
+    last_places(alloc, &tallies)
+}
