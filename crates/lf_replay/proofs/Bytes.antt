@@ -1,15 +1,18 @@
 -- Bytes of a block, and blocks of a memory.
-use Rattle.std.proofs.Common.{◌≡◌, ℕ, ◌+◌, ◌-◌, ◌<◌, ◌≤◌, Bool, true, false, cond, ◌&&◌, ◌==◌, List, [], ◌∷◌, ◌++◌, Option, Some, None, replicate, get_or, take, drop, refl, ap, sym, ◌∙◌, ⊎_elim, length, arith, slice_index, nat_le, nat_lt, map, leb, ltb}
+use Rattle.std.proofs.Common.{◌≡◌, ℕ, ◌+◌, ◌-◌, ◌*◌, ◌^◌, ◌%◌, ◌<◌, ◌≤◌, Bool, true, false, cond, ◌&&◌, ◌==◌, List, [], ◌∷◌, ◌++◌, Option, Some, None, replicate, get_or, take, drop, refl, ap, sym, ◌∙◌, ⊎_elim, length, arith, slice_index, nat_le, nat_lt, map, leb, ltb, subst, zero, suc, append-nil, add-one}
 use mathlib.Core.Path.{fun_ext}
 use Rattle.std.specs.Prelude.{unwrap_or}
 use Rattle.std.specs.Map.{lookup}
 use Rattle.std.specs.BTreeMap.{is_at}
 use Rattle.std.specs.Ordering.{nat_cmp}
 use Rattle.std.specs.Cmp.{unsigned_tied}
-use Rattle.std.proofs.lemmas.List.{get_or-replicate, get_or_past, length-replicate, get_or_append_left, get_or-take, get_or-append_right, get_or-drop, length-take}
+use Rattle.std.proofs.lemmas.List.{get_or-replicate, get_or_past, length-replicate, get_or_append_left, get_or-take, get_or-append_right, get_or-drop, length-take, map-append}
 use Rattle.std.proofs.lemmas.Bool.{cases_lt, leb-true, leb-false, ltb-true, ltb-false}
 use Rattle.std.proofs.lemmas.List.FromFn.{map-range_with_len_more}
-use Rattle.std.specs.List.{range_with_len}
+use Rattle.std.proofs.lemmas.List.Elements.{filter-append}
+use Rattle.std.proofs.lemmas.Nat.{pow-add}
+use Rattle.std.proofs.Math.Nat.{mod-eq_of_lt, one-le-pow, pow-le-pow_right}
+use Rattle.std.specs.List.{range_with_len, filter}
 use borrow.Rule.Slice.PartMut.{put_mid, mid_of}
 use Rattle.lf_model.specs.declared.event.Op.{Op}
 use Rattle.lf_model.specs.declared.event.Op.TheVariants.{Load, Store}
@@ -64,3 +67,40 @@ value_read memory q bytes xs offset size load read at long here =
     read ∙ ap (λ n. map (λ i. bytes (n + i)) (range_with_len 0 size)) at ∙ ap (λ n. map (λ i. bytes (q.offset + i)) (range_with_len 0 n)) long
     ∙ ap (λ (f : ℕ → ℕ). map (λ i. f (q.offset + i)) (range_with_len 0 q.size)) here
     ∙ ap (λ op. cond (elim op [ Load ↦ false | Store ↦ true ]) [] (map (λ i. memory q.block (q.offset + i)) (range_with_len 0 q.size))) load
+
+-- a mask fits its word
+mask_below : (c b : ℕ) → 1 ≤ b → (c + 1) * b ≤ 2 ^ 64 → c * b < 2 ^ 64
+mask_below c b some all = omega arith
+
+pub mask_whole : (offset size : ℕ) → offset + size ≤ 64 → size ≤ 8 → (1 * 2 ^ size % 18446744073709551616 - 1) * 2 ^ offset % 18446744073709551616 ≡ (2 ^ size - 1) * 2 ^ offset
+mask_whole offset size within small =
+    let low : 2 ^ size ≤ 2 ^ 8 = pow-le-pow_right {n = 2} (omega arith) small in
+    let some : 1 ≤ 2 ^ size = one-le-pow size 2 (omega arith) in
+    let one : 1 * 2 ^ size ≡ 2 ^ size = omega arith in
+    let whole : 2 ^ size % 18446744073709551616 ≡ 2 ^ size = mod-eq_of_lt (omega arith) in
+    let bound : 2 ^ size * 2 ^ offset ≤ 2 ^ 64 = subst (λ (n : ℕ). n ≤ 2 ^ 64) (pow-add 2 size offset) (pow-le-pow_right {n = 2} (omega arith) {i = size + offset} {j = 64} (omega arith)) in
+    let back : 2 ^ size - 1 + 1 ≡ 2 ^ size = omega arith in
+    let above : (2 ^ size - 1 + 1) * 2 ^ offset ≤ 2 ^ 64 = subst (λ (n : ℕ). n * 2 ^ offset ≤ 2 ^ 64) (sym back) bound in
+    ap (λ n. (n % 18446744073709551616 - 1) * 2 ^ offset % 18446744073709551616) one
+    ∙ ap (λ n. (n - 1) * 2 ^ offset % 18446744073709551616) whole
+    ∙ mod-eq_of_lt (mask_below (2 ^ size - 1) (2 ^ offset) (one-le-pow offset 2 (omega arith)) above)
+
+-- ---- bytes under a mask
+
+pub range_more : (a n j : ℕ) → a + n ≡ j → range_with_len a (n + 1) ≡ range_with_len a n ++ j ∷ []
+range_more a zero j e = ap (λ k. k ∷ []) (omega (arith, e))
+range_more a (suc n) j e =
+    let next : suc n + 1 ≡ suc (n + 1) = omega arith in
+    ap (range_with_len a) next ∙ ap (λ (xs : List ℕ). a ∷ xs) (range_more (a + 1) n j (omega (arith, e)))
+
+pub taken_more : (f : ℕ → ℕ) (p : ℕ → Bool) (i : ℕ) (xs ys : List ℕ) (y : ℕ) → p i ≡ true → ys ≡ xs ++ y ∷ [] → y ≡ f i
+    → xs ≡ map f (filter p (range_with_len 0 i)) → ys ≡ map f (filter p (range_with_len 0 (i + 1)))
+taken_more f p i xs ys y under pushed is taken =
+    pushed ∙ ap (λ (zs : List ℕ). zs ++ y ∷ []) taken ∙ ap (λ z. map f (filter p (range_with_len 0 i)) ++ z ∷ []) is
+    ∙ sym (ap (λ zs. map f (filter p zs)) (range_more 0 i i (omega arith)) ∙ ap (map f) (filter-append p (range_with_len 0 i) (i ∷ [])) ∙ map-append f (filter p (range_with_len 0 i)) (filter p (i ∷ []))
+      ∙ ap (λ b. map f (filter p (range_with_len 0 i)) ++ map f (cond b (i ∷ []) [])) under)
+
+pub passed_over : (f : ℕ → ℕ) (p : ℕ → Bool) (i : ℕ) (xs : List ℕ) → p i ≡ false → xs ≡ map f (filter p (range_with_len 0 i)) → xs ≡ map f (filter p (range_with_len 0 (i + 1)))
+passed_over f p i xs off taken =
+    taken ∙ sym (ap (λ zs. map f (filter p zs)) (range_more 0 i i (omega arith)) ∙ ap (map f) (filter-append p (range_with_len 0 i) (i ∷ [])) ∙ map-append f (filter p (range_with_len 0 i)) (filter p (i ∷ []))
+      ∙ ap (λ b. map f (filter p (range_with_len 0 i)) ++ map f (cond b (i ∷ []) [])) off ∙ append-nil (map f (filter p (range_with_len 0 i))))
