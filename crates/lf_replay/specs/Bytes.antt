@@ -1,5 +1,5 @@
 -- The bytes of a bank's memory.
-use Rattle.std.specs.Prelude.{◌≡◌, ℕ, ◌+◌, ◌-◌, ◌≤◌, Bool, true, false, ◌&&◌, nat_le, nat_lt, List, [], length, slice_index, unwrap_or, if◌then◌else◌}
+use Rattle.std.specs.Prelude.{◌≡◌, ℕ, ◌+◌, ◌-◌, ◌<◌, ◌≤◌, Bool, true, false, ◌&&◌, nat_le, nat_lt, List, [], length, slice_index, unwrap_or, if◌then◌else◌}
 use Rattle.std.specs.Map.{lookup}
 use Rattle.std.specs.BTreeMap.{is_at}
 use Rattle.std.specs.Ordering.{nat_cmp}
@@ -18,5 +18,6 @@ put bytes offset new place = if nat_le offset place && nat_lt place (offset + le
 -- a request that lies within a block, whose store writes as many bytes as it says
 pub record IsSound (request : Request) : Type 0 where
   pub within : request.offset + request.size ≤ 64
+  pub some : 0 < request.size
   pub small : request.size ≤ 8
   pub carried : is_store request ≡ true → length request.bytes ≡ request.size

@@ -1,6 +1,7 @@
 //! The replay of one bank.
 #![tactic(auto)]
 
+mod data;
 mod judge;
 mod memory;
 mod queue;

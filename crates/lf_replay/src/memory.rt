@@ -1,12 +1,13 @@
 //! Flat memory, as far as a trace names it and stores wrote it. All other bytes are zero.
 
-ghost use Rattle.std.specs.Prelude.{◌≡◌, ℕ, ◌+◌, ◌-◌, ◌<◌, ◌≤◌, ◌&&◌, map, length, slice_index, OnOk, OnErr, if◌then◌else◌};
-ghost use Rattle.std.specs.List.{range_with_len};
+ghost use Rattle.std.specs.Prelude.{◌≡◌, ℕ, ◌+◌, ◌-◌, ◌<◌, ◌≤◌, ◌||◌, ◌==◌, map, length, slice_index, OnOk, OnErr, if◌then◌else◌};
+ghost use Rattle.std.specs.List.{range_with_len, list_all, filter};
+ghost use Rattle.lf_model.specs.Address.{is_under};
 ghost use Rattle.lf_model.specs.State.{update};
 ghost use Rattle.lf_model.specs.Table.{value_of, accepted};
 ghost use Rattle.lf_replay.specs.Bytes.{flat_of, put, IsSound};
 
-use lf_model::{NoMemory, Op};
+use lf_model::{Block, NoMemory, Op};
 use std::alloc::Global;
 use std::collections::BTreeMap;
 use std::marker::Model;
@@ -65,7 +66,6 @@ impl FlatMemory {
 
     /// What the request finds: a load's bytes, and nothing for a store.
     pub fn value_of(&self, request: &Request) -> Data
-        requires { IsSound request.now }
         ensures { result.items ≡ value_of (flat_of self.now) request.now }
     {
         match request.op() {
@@ -80,7 +80,6 @@ impl FlatMemory {
 
     /// The request takes effect: a store changes its block.
     pub fn accept(&mut self, request: &Request) -> Result<(), NoMemory>
-        requires { IsSound request.now }
         ensures ok { OnOk result (flat_of self.new ≡ accepted (flat_of self.old) request.now) }
         ensures err { OnErr result (self.new ≡ self.old) }
     {
@@ -107,4 +106,47 @@ impl FlatMemory {
             Err(_) => Err(NoMemory),
         }
     }
+
+    /// Whether the bytes are those of the block, off the mask.
+    pub fn agrees_off(&self, block: u32, bytes: &[u8], mask: u64) -> bool
+        requires { length bytes.now ≤ 64 }
+        ensures { result ≡ list_all (λ i. is_under mask i || slice_index bytes.now i == flat_of self.now block i) (range_with_len 0 (length bytes.now)) }
+    {
+        agree_off(bytes, self.bytes_of(block), mask)
+    }
+
+    /// The block's bytes under the mask, rising, of the first so many.
+    pub fn masked(&self, block: u32, size: u32, mask: u64) -> Block
+        requires { size ≤ 64 }
+        ensures { result.items ≡ map (flat_of self.now block) (filter (is_under mask) (range_with_len 0 size)) }
+    {
+        masked(self.bytes_of(block), size, mask)
+    }
+}
+
+fn is_under(mask: u64, place: usize) -> bool
+    requires { place < 64 }
+    ensures { result ≡ is_under mask place }
+{
+    mask >> place & 1 == 1
+}
+
+fn agree_off(bytes: &[u8], stored: &Bytes, mask: u64) -> bool
+    requires { length bytes.now ≤ 64 }
+    ensures { result ≡ list_all (λ i. is_under mask i || slice_index bytes.now i == slice_index stored.now i) (range_with_len 0 (length bytes.now)) }
+{
+    (0..bytes.len()).all(|i| is_under(mask, i) || bytes[i] == stored[i])
+}
+
+fn masked(stored: &Bytes, size: u32, mask: u64) -> Block
+    requires { size ≤ 64 }
+    ensures { result.items ≡ map (slice_index stored.now) (filter (is_under mask) (range_with_len 0 size)) }
+{
+    let mut bytes = Block::new();
+    for i in 0..size as usize {
+        if is_under(mask, i) {
+            bytes.push(stored[i]);
+        }
+    }
+    bytes
 }

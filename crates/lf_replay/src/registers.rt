@@ -3,7 +3,7 @@
 ghost use Rattle.std.specs.Prelude.{◌≡◌, ℕ, ◌+◌, ◌<◌, ◌≤◌, ◌↔◌, ◌==◌, ◌&&◌, length, count_by};
 ghost use Rattle.std.specs.List.{list_any, range_with_len};
 ghost use Rattle.lf_model.specs.Registers as model;
-ghost use Rattle.lf_model.specs.Table.{position, only_position};
+ghost use Rattle.lf_model.specs.Table.{position, only_position, store_bytes, store_mask};
 ghost use Rattle.lf_model.specs.Registers.{holds, is_free, holds_in, registers_of, right_for_primary, right_for_merge, takes, has_room, released};
 
 use lf_model::OrgShape;
@@ -206,4 +206,14 @@ pub fn release<T: Drop>(held: &mut Vec<Held<T>>, block: u32)
     ensures { held.new.items ≡ released held.old.items block }
 {
     held.retain(|h| h.block() != block);
+}
+
+/// The bytes that waiting stores of the block write.
+pub fn store_bytes(waiting: &[Held<Missed>], block: u32) -> u64
+    ensures { result ≡ store_bytes waiting.now block }
+{
+    waiting
+        .iter()
+        .filter(|h| h.block() == block)
+        .fold(0, |mask, h| mask | h.target().store_mask())
 }

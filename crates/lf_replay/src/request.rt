@@ -1,7 +1,9 @@
 //! What a bank keeps of a request, from its issue to its reply.
 
 ghost use Rattle.std.specs.Prelude.{◌≡◌, ℕ, ◌+◌, ◌<◌, ◌≤◌, ◌↔◌, length};
-ghost use Rattle.lf_model.specs.Table.{position};
+ghost use Rattle.lf_model.specs.Address.{mask_of};
+ghost use Rattle.lf_model.specs.Table.{position, store_mask};
+ghost use Rattle.lf_replay.specs.Bytes.{IsSound};
 
 use arrayvec::ArrayVec;
 use lf_model::Op;
@@ -25,9 +27,13 @@ pub struct Request {
 impl Model for Request {
     ghost use Rattle.lf_model.specs.State as model;
 
+    ghost use Rattle.lf_replay.specs.Bytes.{IsSound};
+
     ghost Value = { model.Request };
 
     ghost view = { λ r. record { tag = r.tag; op = r.op; block = r.block; offset = r.offset; size = r.size; bytes = r.bytes.items } };
+
+    ghost invariant = { λ r. let request : model.Request = record { tag = r.tag; op = r.op; block = r.block; offset = r.offset; size = r.size; bytes = r.bytes.items } in IsSound request };
 }
 
 /// A request that missed, and its value where it is a load.
@@ -71,6 +77,14 @@ impl Missed {
     }
 }
 
+impl Missed {
+    pub fn store_mask(&self) -> u64
+        ensures { result ≡ store_mask self.now.request }
+    {
+        self.request.store_mask()
+    }
+}
+
 impl Request {
     pub fn tag(&self) -> u8
         ensures { result ≡ self.now.tag }
@@ -91,7 +105,8 @@ impl Request {
     }
 
     pub fn offset(&self) -> u8
-        ensures { result ≡ self.now.offset }
+        ensures value { result ≡ self.now.offset }
+        ensures sound { IsSound self.now }
     {
         self.offset
     }
@@ -107,6 +122,25 @@ impl Request {
     {
         &self.bytes
     }
+
+    /// The bytes that a store writes, as a mask of its block, and none for a load.
+    pub fn store_mask(&self) -> u64
+        ensures { result ≡ store_mask self.now }
+    {
+        match self.op {
+            Op::Load => 0,
+            Op::Store => mask_of(self.offset, self.size),
+        }
+    }
+}
+
+/// A bit for each byte.
+fn mask_of(offset: u8, size: u8) -> u64
+    requires within { offset + size ≤ 64 }
+    requires small { (0 < size) × (size ≤ 8) }
+    ensures { result ≡ mask_of offset size }
+{
+    ((1 << size) - 1) << offset
 }
 
 impl Ready {
