@@ -1,0 +1,4 @@
+pub mod Counted
+pub mod Line
+pub mod Watch
+pub mod Run

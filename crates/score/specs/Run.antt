@@ -1,0 +1,81 @@
+-- What a run of the engine reads, answers and writes.
+use Rattle.std.specs.Prelude.{◌≡◌, ◌≢◌, ℕ, ◌≤◌, ◌<◌, ◌↔◌, List, [], ◌∷◌, ◌++◌, codes, Option, Result, Ok, Err, IfOk, IfErr, ◌⊎◌}
+use Rattle.std.specs.Io.KnownBytes.{Consumes, IsAtEnd}
+use Rattle.lf_model.specs.declared.shape.Shape.{Shape}
+use Rattle.lf_codec.specs.Laws.{AreBytes}
+use Rattle.lf_verdict.specs.declared.answer.Verdict.{Verdict}
+use Rattle.lf_verdict.specs.declared.answer.Verdict.TheVariants.{Yes, Refused}
+use Rattle.lf_verdict.specs.declared.answer.Refusal.TheVariants.{Memory, Thread}
+use Rattle.lf_verdict.specs.Legal.{IsLegal}
+use Rattle.lf_verdict.specs.Verdict.{IsWorkerCount, IsJudged, IsVerdictOf}
+use Rattle.score.specs.declared.counted.Counted.{Counted}
+use Rattle.score.specs.declared.fault.RunFault.{RunFault}
+use Rattle.score.specs.declared.fault.RunFault.TheVariants.{Read, Turns, Write}
+use Rattle.score.specs.Counted.{calls_of, failures_of, inner_of}
+use Rattle.score.specs.Line.{line_of}
+use Rattle.score.specs.Watch.{HasFault}
+
+-- ---- what is read
+
+-- No fault stood in the bytes before the last read.
+abbrev pub NoMore : List ℕ → Type 0
+NoMore bytes = (before : List ℕ) × (last : List ℕ) × (bytes ≡ before ++ last) × ¬ HasFault before
+
+-- The reader gave these bytes between two moments, and then no more were wanted: it was at its end, or a fault
+-- stands in them, which came with the last read.
+pub record Reads {R : Type 0} (remaining : R → Option (List ℕ)) (old new : R) (bytes : List ℕ) : Type 0 where
+  pub are_bytes : AreBytes bytes
+  pub given : Consumes (remaining old) (remaining new) bytes
+  pub enough : ¬ HasFault bytes → IsAtEnd (remaining new)
+  pub no_more : NoMore bytes
+
+-- The reader gave bytes in which no fault stands.
+abbrev pub GaveSound : {R : Type 0} → (R → Option (List ℕ)) → R → R → Type 0
+GaveSound remaining old new = (bytes : List ℕ) × Consumes (remaining old) (remaining new) bytes × ¬ HasFault bytes
+
+-- ---- what is answered
+
+-- The verdict is that of the bytes that the reader gave. Where there cannot be so many workers, nothing was read.
+pub record IsVerdictOfRead {R : Type 0} (remaining : R → Option (List ℕ)) (old new : R) (shape : Shape) (workers : ℕ) (v : Verdict) : Type 0 where
+  pub bytes : List ℕ
+  pub reads : IsWorkerCount workers → Reads remaining old new bytes
+  pub verdict : IsVerdictOf shape workers bytes v
+
+-- The bytes that the reader gave are a legal trace, by this order.
+pub record IsLegalRead {R : Type 0} (remaining : R → Option (List ℕ)) (old new : R) (shape : Shape) (order : List ℕ) : Type 0 where
+  pub bytes : List ℕ
+  pub reads : Reads remaining old new bytes
+  pub legal : IsLegal shape bytes order
+
+abbrev pub IfYes : Verdict → (List ℕ → Type 0) → Type 0
+IfYes (Yes events order) P = P order.items
+IfYes _ P = Unit {0}
+
+-- What a run came to before it wrote.
+pub record IsOutcome {R : Type 0} (remaining : R → Option (List ℕ)) (old new : Counted R) (shape : Shape) (workers turns : ℕ) (outcome : Result Verdict RunFault) : Type 0 where
+  pub reads : calls_of new ≤ turns
+  pub unread : ¬ IsWorkerCount workers → new ≡ old
+  pub verdict : IfOk outcome (λ v. IsJudged v → IsVerdictOfRead remaining (inner_of old) (inner_of new) shape workers v)
+  pub legal : IfOk outcome (λ v. IfYes v (IsLegalRead remaining (inner_of old) (inner_of new) shape))
+  pub no_thread : outcome ≢ Ok (Refused Thread)
+  pub read : (outcome ≡ Err Read) ↔ (0 < failures_of new)
+  pub turned : outcome ≡ Err Turns → calls_of new ≡ turns
+  pub sound : IfErr outcome (λ _. GaveSound remaining (inner_of old) (inner_of new))
+  pub no_write : outcome ≢ Err Write
+
+-- What is told is what a run came to, or that memory ran out in telling a verdict.
+abbrev pub Follows : Result Verdict RunFault → Result Verdict RunFault → Type 0
+Follows (Ok v) (Ok told) = (told ≡ v) ⊎ (told ≡ Refused Memory)
+Follows (Ok v) (Err e) = ⊥
+Follows (Err e) told = told ≡ Err e
+
+-- ---- what is written
+
+-- what is written where the trace was not read
+abbrev pub not_read_line : List ℕ
+not_read_line = codes "refused read trace" ++ 10 ∷ []
+
+-- the line of what a run came to
+abbrev pub outcome_line : Result Verdict RunFault → List ℕ
+outcome_line (Ok v) = line_of v
+outcome_line (Err e) = not_read_line

@@ -1,0 +1,186 @@
+//! Reads the bytes of a trace, judges them and writes the line of the verdict.
+
+ghost use Rattle.std.specs.Prelude.{◌≡◌, ◌≢◌, ◌≤◌, ◌<◌, ◌↔◌, ℕ, take, Ok, Err, IfOk, IfErr, IfSome, IsErrOf, IsTrue, Result, string_bytes};
+ghost use Rattle.std.specs.Io.KnownBytes.{Appends};
+ghost use Rattle.lf_model.specs.InRange.{IsShape};
+ghost use Rattle.lf_verdict.specs.declared.answer.Verdict.{Verdict};
+ghost use Rattle.lf_verdict.specs.Verdict.{IsExplicit, IsWorkerCount, IsJudged, IsVerdictOf};
+ghost use Rattle.lf_verdict.specs.Legal.{IsLegal};
+ghost use Rattle.lf_verdict.specs.declared.answer.Refusal.{Refusal};
+ghost use Rattle.score.specs.Counted.{calls_of, failures_of, inner_of};
+ghost use Rattle.score.specs.declared.fault.RunFault.{RunFault};
+ghost use Rattle.score.specs.Line.{line_of};
+ghost use Rattle.score.specs.Run.{outcome_line, GaveSound, IfYes, IsVerdictOfRead, IsLegalRead, IsOutcome, Follows};
+
+use crate::counted::Counted;
+use crate::fault::RunFault;
+use crate::gathering::{Stop, gather, zeros};
+use crate::line::Line;
+use crate::output::put;
+use lf_codec::{exact_reading, fault_so_far, faults_stand};
+use lf_model::Shape;
+use lf_verdict::{Refusal, Verdict, check_shape};
+use std::alloc::{AllocError, Global};
+use std::io::{Read, Write};
+
+/// The most bytes that one read asks for.
+const PIECE: usize = 65536;
+
+/// Whether there can be so many workers.
+fn are_workers(workers: u32) -> bool
+    ensures { IsTrue result ↔ IsWorkerCount workers }
+{
+    workers == 1
+}
+
+/// Reads and judges.
+fn judge<T: AllocGlobal, R: Read>(
+    rt: &T,
+    reader: &mut Counted<R>,
+    shape: &Shape,
+    workers: u32,
+    turns: u32,
+) -> Result<Verdict, RunFault>
+    requires calls { calls_of reader.old ≡ 0 }
+    requires failures { failures_of reader.old ≡ 0 }
+    requires shape { IsShape shape.now }
+    requires level1 { IsExplicit shape.now.level1.organisation }
+    requires level2 { IsExplicit shape.now.level2.organisation }
+    requires workers { IsWorkerCount workers }
+    ensures { IsOutcome R.remaining reader.old reader.new shape.now workers turns result }
+{
+    let Ok(mut buffer) = zeros(rt.alloc(), PIECE) else {
+        return Ok(Verdict::Refused(Refusal::Memory));
+    };
+    match gather(rt.alloc(), reader, buffer.as_mut_slice(), turns) {
+        Ok(bytes) => {
+            let pieces = [bytes.as_slice()];
+            Ok(check_shape(rt, shape, pieces.as_slice(), workers))
+        }
+        Err(Stop::Memory) => Ok(Verdict::Refused(Refusal::Memory)),
+        Err(Stop::Read) => Err(RunFault::Read),
+        Err(Stop::Turns) => Err(RunFault::Turns),
+    }
+}
+
+/// Judges the workers, and only then reads.
+fn decide<T: AllocGlobal, R: Read>(
+    rt: &T,
+    reader: &mut Counted<R>,
+    shape: &Shape,
+    workers: u32,
+    turns: u32,
+) -> Result<Verdict, RunFault>
+    requires calls { calls_of reader.old ≡ 0 }
+    requires failures { failures_of reader.old ≡ 0 }
+    requires shape { IsShape shape.now }
+    requires level1 { IsExplicit shape.now.level1.organisation }
+    requires level2 { IsExplicit shape.now.level2.organisation }
+    ensures { IsOutcome R.remaining reader.old reader.new shape.now workers turns result }
+{
+    if !are_workers(workers) {
+        return Ok(Verdict::Refused(Refusal::Workers(workers)));
+    }
+    judge(rt, reader, shape, workers, turns)
+}
+
+/// The line of a verdict.
+fn text_of(alloc: Global, verdict: &Verdict) -> Result<String, AllocError>
+    ensures { IfOk result (λ text. string_bytes text ≡ line_of verdict.now) }
+{
+    let line = Line(verdict);
+    format!(in alloc; "{line}\n")
+}
+
+/// Writes the line of what a run came to.
+fn tell<W: Write>(
+    alloc: Global,
+    writer: &mut Counted<W>,
+    outcome: Result<Verdict, RunFault>,
+) -> Result<Verdict, RunFault>
+    requires failures { failures_of writer.old ≡ 0 }
+    requires no_write { outcome ≢ Err RunFault.Write }
+    ensures write { IsErrOf result RunFault.Write ↔ (0 < failures_of writer.new) }
+    ensures follows { result ≢ Err RunFault.Write → Follows outcome result }
+    ensures whole { result ≢ Err RunFault.Write →
+        Appends (W.contents (inner_of writer.old)) (W.contents (inner_of writer.new)) (outcome_line result) }
+    ensures prefix { result ≡ Err RunFault.Write → (told : Result Verdict RunFault) × Follows outcome told × ((n : ℕ) ×
+        Appends (W.contents (inner_of writer.old)) (W.contents (inner_of writer.new)) (take n (outcome_line told))) }
+{
+    let verdict = match outcome {
+        Ok(verdict) => verdict,
+        Err(fault) => {
+            put(writer, b"refused read trace\n")?;
+            return Err(fault);
+        }
+    };
+    match text_of(alloc, &verdict) {
+        Ok(text) => {
+            put(writer, text.as_bytes())?;
+            Ok(verdict)
+        }
+        Err(_) => {
+            put(writer, b"refused memory\n")?;
+            Ok(Verdict::Refused(Refusal::Memory))
+        }
+    }
+}
+
+/// Reads the trace until the reader is at its end or a fault stands in what it gave, judges it for the
+/// shape, and writes the line of the verdict. Each read is a turn, and there are at most so many turns.
+/// Where there cannot be so many workers, nothing is read.
+///
+/// `RunFault::Read` says that a read failed, and `RunFault::Turns` that the turns were used up before
+/// the trace was read: then the line is `refused read trace`. `RunFault::Write` says that a write
+/// failed: what went out is the beginning of the line.
+pub fn run_shape<T: AllocGlobal, R: Read, W: Write>(
+    rt: &T,
+    reader: &mut Counted<R>,
+    writer: &mut Counted<W>,
+    shape: &Shape,
+    workers: u32,
+    turns: u32,
+) -> Result<Verdict, RunFault>
+    requires calls { calls_of reader.old ≡ 0 }
+    requires failures { failures_of reader.old ≡ 0 }
+    requires writes { failures_of writer.old ≡ 0 }
+    requires shape { IsShape shape.now }
+    requires level1 { IsExplicit shape.now.level1.organisation }
+    requires level2 { IsExplicit shape.now.level2.organisation }
+
+    // No more reads than the caller allows, and none where the workers are refused.
+    ensures reads { calls_of reader.new ≤ turns }
+    ensures unread { ¬ IsWorkerCount workers → reader.new ≡ reader.old }
+
+    // A yes means that the bytes that the reader gave are a legal trace, and so are all that it had.
+    ensures legal { IfOk result (λ v. IfYes v (IsLegalRead R.remaining (inner_of reader.old) (inner_of reader.new) shape.now)) }
+    ensures legal_whole { IfOk result (λ v. IfSome (R.remaining (inner_of reader.old)) (λ bytes. IfYes v (IsLegal shape.now bytes))) }
+
+    // The verdict is that of the bytes that the reader gave, and of all that it had.
+    ensures verdict { IfOk result (λ v. IsJudged v →
+        IsVerdictOfRead R.remaining (inner_of reader.old) (inner_of reader.new) shape.now workers v) }
+    ensures whole { IfOk result (λ v. IsJudged v →
+        IfSome (R.remaining (inner_of reader.old)) (λ bytes. IsVerdictOf shape.now workers bytes v)) }
+    ensures thread { result ≢ Ok (Verdict.Refused Refusal.Thread) }
+
+    // What goes out is the line of the verdict, or that the trace was not read.
+    ensures line { result ≢ Err RunFault.Write →
+        Appends (W.contents (inner_of writer.old)) (W.contents (inner_of writer.new)) (outcome_line result) }
+
+    // When each fault comes.
+    ensures read { IsErrOf result RunFault.Read ↔ ((0 < failures_of reader.new) × (failures_of writer.new ≡ 0)) }
+    ensures turns { IsErrOf result RunFault.Turns → calls_of reader.new ≡ turns }
+    ensures write { IsErrOf result RunFault.Write ↔ (0 < failures_of writer.new) }
+    // Where a read failed or the turns were used up, no fault stood in what was read.
+    ensures sound { IfErr result (λ e. e ≢ RunFault.Write → GaveSound R.remaining (inner_of reader.old) (inner_of reader.new)) }
+    // Where a write failed, what went out is the beginning of a line that was due.
+    ensures prefix { IsErrOf result RunFault.Write → (told : Result Verdict RunFault) ×
+        IsOutcome R.remaining reader.old reader.new shape.now workers turns told × ((n : ℕ) ×
+        Appends (W.contents (inner_of writer.old)) (W.contents (inner_of writer.new)) (take n (outcome_line told))) }
+{
+    exact_reading();
+    fault_so_far();
+    faults_stand();
+    let outcome = decide(rt, reader, shape, workers, turns);
+    tell(rt.alloc(), writer, outcome)
+}
