@@ -11,3 +11,6 @@ pub use logs::split;
 pub use order::{NumberFault, Place, bank_order};
 pub use port::port_replay;
 pub use skeleton::skeletons;
+
+#[cfg(test)]
+mod tests;
