@@ -2,6 +2,7 @@
 #![tactic(auto)]
 
 mod data;
+mod effect;
 mod judge;
 mod memory;
 mod queue;
