@@ -2,3 +2,4 @@ pub mod Logs
 pub mod Legal
 pub mod Parts
 pub mod Verdict
+pub mod Reading

@@ -9,6 +9,7 @@
 
 mod answer;
 mod check;
+mod reading;
 
 pub use answer::{Fault, HeaderField, Refusal, Verdict};
 pub use check::check_shape;
