@@ -1,5 +1,5 @@
-pub mod Logs
 pub mod Legal
 pub mod Parts
 pub mod Verdict
 pub mod Reading
+pub mod Laws

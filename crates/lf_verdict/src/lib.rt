@@ -9,7 +9,9 @@
 
 mod answer;
 mod check;
+mod laws;
 mod reading;
 
 pub use answer::{Fault, HeaderField, Refusal, Verdict};
 pub use check::check_shape;
+pub use laws::yes_is_legal;

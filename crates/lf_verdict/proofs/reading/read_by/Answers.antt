@@ -1,8 +1,9 @@
 use Rattle.std.proofs.Common.{◌≡◌, ℕ, List, [], refl, sym, ◌∙◌, ap, subst, None}
 use Rattle.lf_model.specs.Fits.{Bytes}
 use Rattle.lf_model.specs.declared.event.Record.{Record}
+use Rattle.lf_codec.specs.declared.fault.CodecFault.{CodecFault}
 use Rattle.lf_codec.specs.declared.header.Header.{Header}
-use Rattle.lf_codec.specs.Reading.{Reading}
+use Rattle.lf_codec.specs.Reading.{Reading, fault_so_far}
 use Rattle.lf_codec.specs.Trace.{IsTrace}
 use Rattle.lf_verdict.specs.Legal.{joined}
 use Rattle.lf_verdict.specs.Reading.{fault_in, HasReadAll, IsFaultOrWant, IsReadRefusal}
@@ -23,6 +24,7 @@ returns-in-Ok-take_all-clause-ok c =
 pub returns-in-Err-finish-clause-err : goal.returns-in-Err-finish-clause-err
 returns-in-Err-finish-clause-err c =
     let bytes = joined c.args.pieces.now in
-    let said = finish_failed _ _ _ bytes c.in-Err-finish.told c.in_default.ensures.ok.fine refl
-        (sym (c.in-Err-finish.ensures.ends bytes [] [] c.in_default.ensures.ok.read)) in
-    c.refusal_of-in-Err-finish.ensures bytes (subst (λ (f : Rattle.lf_codec.specs.declared.fault.CodecFault.CodecFault). IsFaultOrWant bytes f) (sym c.fault_in.ensures) said)
+    let read = c.in_default.ensures.ok in
+    let fine : fault_so_far bytes ≡ None = ap (λ (r : Reading). r.fault) read.read.same ∙ read.fine in
+    let said = finish_failed _ _ _ bytes c.in-Err-finish.told fine refl (sym (c.in-Err-finish.ensures.ends bytes [] [] read.read)) in
+    c.refusal_of-in-Err-finish.ensures bytes (subst (λ (f : CodecFault). IsFaultOrWant bytes f) (sym c.fault_in.ensures) said)
