@@ -3,3 +3,4 @@ pub mod Parts
 pub mod Verdict
 pub mod Reading
 pub mod Laws
+pub mod Judging

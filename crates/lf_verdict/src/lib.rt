@@ -9,7 +9,9 @@
 
 mod answer;
 mod check;
+mod halt;
 mod laws;
+mod numbers;
 mod reading;
 
 pub use answer::{Fault, HeaderField, Refusal, Verdict};
