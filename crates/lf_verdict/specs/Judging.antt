@@ -12,6 +12,7 @@ use Rattle.lf_logs.specs.declared.order.NumberFault.{NumberFault}
 use Rattle.lf_logs.specs.declared.order.NumberFault.TheVariants as numbers
 use Rattle.lf_verdict.specs.declared.answer.Fault.{Fault}
 use Rattle.lf_verdict.specs.declared.answer.Fault.TheVariants as faults
+use Rattle.lf_verdict.specs.declared.parts.Broken.{Broken}
 use Rattle.lf_verdict.specs.declared.halt.Halt.{Halt}
 use Rattle.lf_verdict.specs.declared.halt.Halt.TheVariants as halts
 use Rattle.lf_verdict.specs.Parts.{HasWholeNumbers}
@@ -36,3 +37,29 @@ abbrev pub number_halt : ℕ → NumberFault → Halt
 number_halt bank (numbers.Missing k) = halts.Found (faults.Missing bank k)
 number_halt bank (numbers.Double k) = halts.Found (faults.Double bank k)
 number_halt bank numbers.NoMemory = halts.NoMemory
+
+-- ---- outcomes, one for each port or each bank
+
+abbrev pub outcome_at : List Outcome → ℕ → Outcome
+outcome_at all part = slice_index_or all part outcomes.NoMemory
+
+-- so many outcomes, each of its part
+pub record AreOutcomes (IsOutcomeAt : ℕ → Outcome → Type 0) (parts : ℕ) (all : List Outcome) : Type 0 where
+  pub count : length all ≡ parts
+  pub each : (part : ℕ) → part < parts → IsOutcomeAt part (outcome_at all part)
+
+abbrev pub IsBroken : Outcome → Type 0
+IsBroken (outcomes.Broken at rule) = Unit {0}
+IsBroken _ = ⊥
+
+-- no part below this one is broken; none ran out of memory
+abbrev pub NoneBroken : List Outcome → ℕ → Type 0
+NoneBroken all parts = (part : ℕ) → part < parts → ¬ IsBroken (outcome_at all part)
+
+abbrev pub NoneRanOut : List Outcome → ℕ → Type 0
+NoneRanOut all parts = (part : ℕ) → part < parts → ¬ (outcome_at all part ≡ outcomes.NoMemory)
+
+pub record IsFirstBroken (all : List Outcome) (broken : Broken) : Type 0 where
+  pub within : broken.part < length all
+  pub is : outcome_at all broken.part ≡ outcomes.Broken broken.at broken.rule
+  pub before : NoneBroken all broken.part

@@ -12,6 +12,7 @@ mod check;
 mod halt;
 mod laws;
 mod numbers;
+mod parts;
 mod reading;
 
 pub use answer::{Fault, HeaderField, Refusal, Verdict};
