@@ -12,7 +12,7 @@ use Rattle.lf_model.specs.History.{IsOnce, IsFlat}
 use Rattle.lf_model.specs.Order.{Takes}
 use Rattle.lf_codec.specs.declared.header.Header.{Header}
 use Rattle.lf_codec.specs.Trace.{IsTrace}
-use Rattle.lf_verdict.specs.Logs.{logs_of}
+use Rattle.lf_logs.specs.Lists.{logs_of}
 
 -- the bytes of the pieces, one after the other
 abbrev pub joined : List (Bor (List ℕ)) → List ℕ

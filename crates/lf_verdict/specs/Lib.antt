@@ -1,4 +1,6 @@
-pub mod Logs
 pub mod Legal
 pub mod Parts
 pub mod Verdict
+pub mod Reading
+pub mod Laws
+pub mod Judging

@@ -8,7 +8,8 @@ use Rattle.lf_model.specs.Address.{FlatMemory, flat_memory}
 use Rattle.lf_model.specs.Fits.{Bytes}
 use Rattle.lf_model.specs.Numbers.{bank_numbers, IsMissing, IsDouble}
 use Rattle.lf_model.specs.Order.{IsLeastOrder}
-use Rattle.lf_model.specs.Ring.{skeletons_of, IsRing}
+use Rattle.lf_model.specs.Ring.{skeletons_of}
+use Rattle.lf_join.specs.Join.{IsStuckRing}
 use Rattle.lf_codec.specs.declared.header.Header.{Header}
 use Rattle.lf_codec.specs.Trace.{IsTrace}
 use Rattle.lf_codec.specs.Reading.{trace_fault}
@@ -54,7 +55,7 @@ IsFaultOf shape memory logs (Missing bank k) = IsFirstNumber shape logs bank k �
 IsFaultOf shape memory logs (Double bank k) = IsFirstNumber shape logs bank k × IsDouble (bank_numbers logs bank) k
 IsFaultOf shape memory logs (Port port at rule) = IsPortFault shape memory logs port at rule
 IsFaultOf shape memory logs (Bank bank number rule) = IsBankFault shape memory logs bank number rule
-IsFaultOf shape memory logs (Cycle ring) = PartsRun shape memory logs × IsRing (skeletons_of logs) ring.items
+IsFaultOf shape memory logs (Cycle ring) = PartsRun shape memory logs × IsStuckRing (skeletons_of logs) ring.items
 
 pub record IsNo (shape : Shape) (bytes : List ℕ) (fault : Fault) : Type 0 where
   pub memory : List (ℕ × Bytes)

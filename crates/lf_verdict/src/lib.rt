@@ -9,6 +9,12 @@
 
 mod answer;
 mod check;
+mod halt;
+mod laws;
+mod numbers;
+mod parts;
+mod reading;
 
 pub use answer::{Fault, HeaderField, Refusal, Verdict};
 pub use check::check_shape;
+pub use laws::yes_is_legal;

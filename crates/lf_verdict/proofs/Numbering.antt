@@ -1,0 +1,74 @@
+-- The records of each bank, bank by bank.
+use Rattle.std.proofs.Common.{◌≡◌, ℕ, ◌+◌, ◌<◌, ◌≤◌, List, [], ◌∷◌, ◌++◌, map, length, take, get_or, Option, Some, None, refl, sym, ◌∙◌, ap, subst, arith, ◌⊎◌, inl, inr}
+use Rattle.std.specs.List.{filter_map}
+use Rattle.std.specs.Global.{Vec}
+use Rattle.std.proofs.lemmas.Bool.{cases_lt}
+use Rattle.std.proofs.lemmas.List.{take_more, append-nil, length-append, length-map, map-append, get_or_append_left}
+use Rattle.std.proofs.Math.Seq.{get_or-append_seam}
+use Rattle.std.proofs.lemmas.List.Elements.{filter_map-append}
+use Rattle.lf_model.specs.declared.shape.Shape.{Shape}
+use Rattle.lf_model.specs.declared.event.Record.{Record}
+use Rattle.lf_model.specs.Address.{FlatMemory}
+use Rattle.lf_model.specs.Order.{log_at}
+use Rattle.lf_model.specs.Numbers.{IsNumbered, bank_numbers}
+use Rattle.lf_logs.specs.declared.order.NumberFault.{NumberFault}
+use Rattle.lf_logs.specs.declared.order.NumberFault.TheVariants as numbers
+use Rattle.lf_logs.specs.declared.order.Place.{Place}
+use Rattle.lf_logs.specs.Lists.{lists_of}
+use Rattle.lf_logs.specs.Places.{record_at, records_at, IsNumberFault}
+use Rattle.lf_verdict.specs.Parts.{HasWholeNumbers}
+use Rattle.lf_verdict.specs.Judging.{IsHalt, AreWholeBelow, AreNumbered, number_halt}
+
+one_more : {X Y : Type 0} (f : X → Option Y) (xs : List X) (i : ℕ) (d : X) → i < length xs → filter_map f (take (i + 1) xs) ≡ filter_map f (take i xs) ++ filter_map f (get_or xs i d ∷ [])
+one_more f xs i d lt = ap (filter_map f) (take_more xs i d lt) ∙ filter_map-append f (take i xs) (get_or xs i d ∷ [])
+
+-- a place more, of a record or of none
+pub place_of_some : (logs : List (List Record)) (places : List Place) (i : ℕ) (d : Place) (r : Record) → i < length places → record_at logs (get_or places i d) ≡ Some r
+    → records_at logs (take (i + 1) places) ≡ records_at logs (take i places) ++ r ∷ []
+place_of_some logs places i d r lt e = one_more (record_at logs) places i d lt ∙ ap (λ (o : Option Record). records_at logs (take i places) ++ filter_map (λ (x : Option Record). x) (o ∷ [])) e
+
+pub place_of_none : (logs : List (List Record)) (places : List Place) (i : ℕ) (d : Place) → i < length places → record_at logs (get_or places i d) ≡ None
+    → records_at logs (take (i + 1) places) ≡ records_at logs (take i places)
+place_of_none logs places i d lt e = one_more (record_at logs) places i d lt ∙ ap (λ (o : Option Record). records_at logs (take i places) ++ filter_map (λ (x : Option Record). x) (o ∷ [])) e ∙ append-nil (records_at logs (take i places))
+
+last_of : (lists : List (List Record)) (rs : List Record) (n : ℕ) → n ≡ length lists → get_or (lists ++ rs ∷ []) n [] ≡ rs
+last_of lists rs n e = rw e (get_or-append_seam lists rs [] [])
+
+-- a bank more
+pub numbered_more : (logs : List (List Record)) (bank : ℕ) (lists : List (List Record)) (rs : List Record) → AreNumbered logs bank lists → IsNumbered logs bank rs → AreNumbered logs (bank + 1) (lists ++ rs ∷ [])
+numbered_more logs bank lists rs are is = record {
+  count = length-append lists (rs ∷ []) ∙ ap (λ n. n + 1) are.count;
+  each = λ b lt. elim (cases_lt b bank) [
+    | inl below ↦
+      let short : b < length lists = omega (arith, are.count) in
+      subst (IsNumbered logs b) (sym (get_or_append_left lists (rs ∷ []) [] b short)) (are.each b below)
+    | inr above ↦
+      let here : b ≡ bank = omega arith in
+      let last : get_or (lists ++ rs ∷ []) b [] ≡ rs = last_of lists rs b (here ∙ sym are.count) in
+      subst (λ n. IsNumbered logs n (get_or (lists ++ rs ∷ []) b [])) (sym here) (subst (IsNumbered logs bank) (sym last) is)
+  ];
+}
+
+pub whole_more : (logs : List (List Record)) (bank : ℕ) → AreWholeBelow logs bank → HasWholeNumbers logs bank → AreWholeBelow logs (bank + 1)
+whole_more logs bank below here b lt =
+    elim (cases_lt b bank) [
+      | inl less ↦ below b less
+      | inr le ↦ let same : b ≡ bank = omega arith in subst (HasWholeNumbers logs) (sym same) here
+    ]
+
+-- a bank's fault is the first, where the banks below it are whole
+pub first_fault : (shape : Shape) (logs : List (List Record)) (bank : ℕ) (fault : NumberFault) → bank < shape.banks → AreWholeBelow logs bank
+    → IsNumberFault (bank_numbers logs bank) fault → (memory : FlatMemory) → IsHalt shape memory logs (number_halt bank fault)
+first_fault shape logs bank (numbers.Missing k) lt below is memory = (record { is_bank = lt; banks_before = below; numbers_before = is.1 }, is.0)
+first_fault shape logs bank (numbers.Double k) lt below is memory = (record { is_bank = lt; banks_before = below; numbers_before = is.1 }, is.0)
+first_fault shape logs bank numbers.NoMemory lt below is memory = tt
+
+pub item_more : (new old before after : List Record) (copy r : Record) → new ≡ old ++ copy ∷ [] → old ≡ before → copy ≡ r → after ≡ before ++ r ∷ [] → new ≡ after
+item_more new old before after copy r a b c d = cc
+
+pub lists_more : (old new : Vec (Vec Record)) (v : Vec Record) → new.items ≡ old.items ++ v ∷ [] → lists_of new ≡ lists_of old ++ v.items ∷ []
+lists_more old new v e = ap (map (λ (x : Vec Record). x.items)) e ∙ map-append (λ (x : Vec Record). x.items) old.items (v ∷ [])
+
+pub bank_more : (logs : List (List Record)) (bank : ℕ) (old new : Vec (Vec Record)) (v : Vec Record) → new.items ≡ old.items ++ v ∷ []
+    → AreNumbered logs bank (lists_of old) → IsNumbered logs bank v.items → AreNumbered logs (bank + 1) (lists_of new)
+bank_more logs bank old new v e are is = subst (AreNumbered logs (bank + 1)) (sym (lists_more old new v e)) (numbered_more logs bank (lists_of old) v.items are is)

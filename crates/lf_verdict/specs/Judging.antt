@@ -1,0 +1,65 @@
+-- How the check of a trace's logs goes on.
+use Rattle.std.specs.Prelude.{◌≡◌, ℕ, ◌<◌, List, [], length, slice_index_or}
+use Rattle.lf_model.specs.declared.shape.Shape.{Shape}
+use Rattle.lf_model.specs.declared.event.Record.{Record}
+use Rattle.lf_model.specs.declared.outcome.Outcome.{Outcome}
+use Rattle.lf_model.specs.declared.outcome.Outcome.TheVariants as outcomes
+use Rattle.lf_model.specs.Address.{FlatMemory}
+use Rattle.lf_model.specs.Order.{log_at}
+use Rattle.lf_model.specs.Numbers.{bank_numbers, IsMissing, IsDouble, IsFineBelow, IsNumbered}
+use Rattle.lf_model.specs.Outcomes.{IsPortOutcome, IsBankOutcome}
+use Rattle.lf_logs.specs.declared.order.NumberFault.{NumberFault}
+use Rattle.lf_logs.specs.declared.order.NumberFault.TheVariants as numbers
+use Rattle.lf_verdict.specs.declared.answer.Fault.{Fault}
+use Rattle.lf_verdict.specs.declared.answer.Fault.TheVariants as faults
+use Rattle.lf_verdict.specs.declared.parts.Broken.{Broken}
+use Rattle.lf_verdict.specs.declared.halt.Halt.{Halt}
+use Rattle.lf_verdict.specs.declared.halt.Halt.TheVariants as halts
+use Rattle.lf_verdict.specs.Parts.{HasWholeNumbers}
+use Rattle.lf_verdict.specs.Verdict.{IsFaultOf}
+
+-- the fault of the logs, or want of memory
+abbrev pub IsHalt : Shape → FlatMemory → List (List Record) → Halt → Type 0
+IsHalt shape memory logs (halts.Found fault) = IsFaultOf shape memory logs fault
+IsHalt shape memory logs halts.NoMemory = Unit {0}
+
+-- the numbers of the banks below this one are whole
+abbrev pub AreWholeBelow : List (List Record) → ℕ → Type 0
+AreWholeBelow logs banks = (bank : ℕ) → bank < banks → HasWholeNumbers logs bank
+
+-- each bank's records, in the order of their numbers
+pub record AreNumbered (logs : List (List Record)) (banks : ℕ) (lists : List (List Record)) : Type 0 where
+  pub count : length lists ≡ banks
+  pub each : (bank : ℕ) → bank < banks → IsNumbered logs bank (log_at lists bank)
+
+-- what a fault of the bank's numbers says
+abbrev pub number_halt : ℕ → NumberFault → Halt
+number_halt bank (numbers.Missing k) = halts.Found (faults.Missing bank k)
+number_halt bank (numbers.Double k) = halts.Found (faults.Double bank k)
+number_halt bank numbers.NoMemory = halts.NoMemory
+
+-- ---- outcomes, one for each port or each bank
+
+abbrev pub outcome_at : List Outcome → ℕ → Outcome
+outcome_at all part = slice_index_or all part outcomes.NoMemory
+
+-- so many outcomes, each of its part
+pub record AreOutcomes (IsOutcomeAt : ℕ → Outcome → Type 0) (parts : ℕ) (all : List Outcome) : Type 0 where
+  pub count : length all ≡ parts
+  pub each : (part : ℕ) → part < parts → IsOutcomeAt part (outcome_at all part)
+
+abbrev pub IsBroken : Outcome → Type 0
+IsBroken (outcomes.Broken at rule) = Unit {0}
+IsBroken _ = ⊥
+
+-- no part below this one is broken; none ran out of memory
+abbrev pub NoneBroken : List Outcome → ℕ → Type 0
+NoneBroken all parts = (part : ℕ) → part < parts → ¬ IsBroken (outcome_at all part)
+
+abbrev pub NoneRanOut : List Outcome → ℕ → Type 0
+NoneRanOut all parts = (part : ℕ) → part < parts → ¬ (outcome_at all part ≡ outcomes.NoMemory)
+
+pub record IsFirstBroken (all : List Outcome) (broken : Broken) : Type 0 where
+  pub within : broken.part < length all
+  pub is : outcome_at all broken.part ≡ outcomes.Broken broken.at broken.rule
+  pub before : NoneBroken all broken.part

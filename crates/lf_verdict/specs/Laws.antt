@@ -1,0 +1,28 @@
+-- The laws about verdicts.
+use Rattle.std.specs.Prelude.{ℕ, List, length, ◌≡◌}
+use Rattle.lf_model.specs.declared.shape.Shape.{Shape}
+use Rattle.lf_model.specs.declared.event.Record.{Record}
+use Rattle.lf_model.specs.Address.{flat_memory}
+use Rattle.lf_model.specs.Fits.{Bytes}
+use Rattle.lf_model.specs.Run.{Interleaves, KeepsNumbers, IsRun}
+use Rattle.lf_model.specs.Copies.{IsCopyRun}
+use Rattle.lf_verdict.specs.declared.answer.Fault.{Fault}
+use Rattle.lf_verdict.specs.Legal.{IsTraceFor, IsLegal}
+use Rattle.lf_verdict.specs.Verdict.{IsYes, IsNo}
+
+-- Where each part of a trace runs and its logs have an order, the trace is legal by that order.
+abbrev pub YesIsLegal : Type 0
+YesIsLegal = (shape : Shape) (bytes : List ℕ) (events : ℕ) (order : List ℕ) → IsYes shape bytes events order → IsLegal shape bytes order
+
+-- The list holds the trace's logs, each in its own order, and keeps the numbers that the banks gave.
+pub record IsRecordedOrder (logs : List (List Record)) (rs : List Record) : Type 0 where
+  pub own_order : Interleaves logs rs
+  pub numbers : KeepsNumbers rs
+
+-- Where a part of a trace has a fault, or its logs wait for one another, no list of all its events that keeps the
+-- banks' numbers is a run, nor a run whose levels hold copies of the bytes.
+abbrev pub NoAdmitsNone : Type 0
+NoAdmitsNone = (shape : Shape) (bytes : List ℕ) (fault : Fault) → IsNo shape bytes fault
+    → (memory : List (ℕ × Bytes)) (logs : List (List Record)) → IsTraceFor shape bytes memory logs
+    → (rs : List Record) → IsRecordedOrder logs rs
+    → ¬ IsRun shape (flat_memory memory) rs × ¬ IsCopyRun shape (flat_memory memory) rs
