@@ -11,7 +11,7 @@ use Rattle.lf_codec.specs.declared.stage.Kind.TheVariants as kinds
 use Rattle.lf_codec.specs.declared.stage.Stage.{Stage}
 use Rattle.lf_codec.specs.declared.stage.Stage.TheVariants as stages
 use Rattle.lf_codec.specs.declared.header.Header.{Header}
-use Rattle.lf_codec.specs.declared.stage.Progress.{Progress}
+use Rattle.lf_codec.specs.declared.progress.Progress.{Progress}
 use Rattle.lf_codec.specs.Checks.{Checks, judged, byte_at, header_checks, memory_checks, end_checks, head_checks, issue_checks, reply_checks, request_checks, block_checks, second_primary_checks, evict_checks, fixed_checks, stage_checks}
 use Rattle.lf_codec.specs.Steps.{stage_len}
 use Rattle.lf_codec.specs.Reading.{Reading, reading_of, read_on, byte_read, failed, nothing_read, end_of, fault_of, fault_so_far, header_of, header_now}
