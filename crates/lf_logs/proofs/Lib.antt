@@ -4,5 +4,6 @@ mod Judged
 mod Members
 mod Ordered
 mod PortRun
+mod Reading
 mod Splitting
 mod Tallying

@@ -8,7 +8,7 @@ mod port;
 mod skeleton;
 
 pub use logs::split;
-pub use order::{NumberFault, Place, bank_order};
+pub use order::{NumberFault, Place, bank_order, record_at};
 pub use port::port_replay;
 pub use skeleton::skeletons;
 

@@ -1,11 +1,9 @@
 //! Worked examples, and a call of each function that succeeds.
 
-ghost use Rattle.std.specs.Prelude.{◌≡◌, ◌≤◌, ◌^◌, ◌+◌, ◌<◌, length, IfOk};
-ghost use Rattle.std.specs.List.{All};
+ghost use Rattle.std.specs.Prelude.{◌≡◌};
 
-use crate::{NumberFault, Place, bank_order, port_replay, skeletons, split};
-use lf_model::{Block, Event, Level, Logs, Op, OrgShape, Outcome, Record, Rule, Shape};
-use std::alloc::{AllocError, Global};
+use crate::{NumberFault, Place, bank_order, port_replay, record_at, skeletons, split};
+use lf_model::{Block, Event, Level, Op, OrgShape, Outcome, Record, Rule, Shape};
 use std::test::Fail;
 
 /// An event of port 0 at bank 0.
@@ -129,6 +127,9 @@ fn gaps_and_doubles(rt: HostRuntime) -> Result<(), Fail> {
             Ok(order) => {
                 assert_eq!(rt; fault, None);
                 assert_eq!(rt; order.as_slice(), places.as_slice());
+                for place in &order {
+                    assert_eq!(rt; record_at(&logs, *place).number, place.at);
+                }
             }
             Err(found) => assert_eq!(rt; Some(found), fault),
         }
