@@ -12,11 +12,15 @@ mod engine;
 mod examples;
 mod fault;
 mod gathering;
+#[cfg(test)]
+mod hostile;
 mod line;
 #[cfg(test)]
 mod notation;
 mod output;
 mod shape;
+#[cfg(test)]
+mod streams;
 mod trace;
 mod watch;
 
