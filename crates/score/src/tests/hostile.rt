@@ -2,10 +2,10 @@
 
 use crate::counted::Counted;
 use crate::engine::run_shape;
-use crate::examples::{LOAD, LOADED, bytes_of};
 use crate::fault::RunFault;
 use crate::shape::SMALL;
-use crate::streams::{Pieces, Sink};
+use crate::tests::examples::{LOAD, LOADED, bytes_of};
+use crate::tests::streams::{Pieces, Sink};
 use std::process::Abort;
 use std::test::Fail;
 

@@ -6,7 +6,7 @@ ghost use Rattle.lf_verdict.specs.Verdict.{IsExplicit};
 
 use crate::counted::Counted;
 use crate::engine::run_shape;
-use crate::streams::Pieces;
+use crate::tests::streams::Pieces;
 use lf_model::Shape;
 use std::alloc::{AllocError, Global};
 use std::process::Abort;
