@@ -5,18 +5,14 @@
 
 mod command;
 mod counted;
-#[cfg(test)]
-mod damage;
 mod engine;
-#[cfg(test)]
-mod examples;
 mod fault;
 mod gathering;
 mod line;
-#[cfg(test)]
-mod notation;
 mod output;
 mod shape;
+#[cfg(test)]
+mod tests;
 mod trace;
 mod watch;
 

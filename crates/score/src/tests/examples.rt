@@ -1,8 +1,8 @@
 //! Traces whose verdict is known, each with the line that is written.
 
-use crate::notation::E::{E1, E2, F1, F2, H, L, M, P, R, S, SP, SS, X};
-use crate::notation::{E, Trace, ZEROS, assert_line};
 use crate::shape::SMALL;
+use crate::tests::notation::E::{E1, E2, F1, F2, H, L, M, P, R, S, SP, SS, X};
+use crate::tests::notation::{E, Trace, ZEROS, assert_line};
 use lf_model::{Level, OrgShape, Shape};
 use std::alloc::{AllocError, Global};
 use std::process::Abort;

@@ -6,10 +6,9 @@ ghost use Rattle.lf_verdict.specs.Verdict.{IsExplicit};
 
 use crate::counted::Counted;
 use crate::engine::run_shape;
+use crate::tests::streams::Pieces;
 use lf_model::Shape;
 use std::alloc::{AllocError, Global};
-use std::io;
-use std::io::Read;
 use std::process::Abort;
 use std::test::Fail;
 
@@ -201,23 +200,6 @@ fn kind_of(event: E) -> u8 {
     }
 }
 
-/// Gives its bytes, at most so many at a time.
-#[derive(Drop)]
-pub struct Pieces<'a> {
-    pub bytes: &'a [u8],
-    pub size: usize,
-}
-
-impl Read for Pieces<'_> {
-    fn read(&mut self, buf: &mut [u8]) -> io::Result<usize> {
-        let n = self.size.min(buf.len()).min(self.bytes.len());
-        let (now, later) = self.bytes.split_at(n);
-        buf[..n].copy_from_slice(now);
-        self.bytes = later;
-        Ok(n)
-    }
-}
-
 /// Fails where the engine writes another line of these bytes.
 pub fn assert_line<T: Abort + AllocGlobal>(
     rt: &T,
@@ -230,7 +212,7 @@ pub fn assert_line<T: Abort + AllocGlobal>(
     requires level1 { IsExplicit shape.now.level1.organisation }
     requires level2 { IsExplicit shape.now.level2.organisation }
 {
-    let mut reader = Counted::new(Pieces { bytes, size: 50 });
+    let mut reader = Counted::new(Pieces::new(bytes, 50));
     let mut writer = Counted::new(Vec::new(rt.alloc()));
     let answer = run_shape(rt, &mut reader, &mut writer, shape, workers, 1000);
     assert!(rt; answer.is_ok());

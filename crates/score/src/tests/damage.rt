@@ -1,8 +1,8 @@
 //! Files that are cut, continued or changed, and what is told of them.
 
-use crate::examples::{LOAD, LOADED, bytes_of};
-use crate::notation::{E, assert_line};
 use crate::shape::SMALL;
+use crate::tests::examples::{LOAD, LOADED, bytes_of};
+use crate::tests::notation::{E, assert_line};
 use lf_model::Shape;
 use std::process::Abort;
 use std::test::Fail;

@@ -1,0 +1,7 @@
+//! Worked traces, damaged files, and readers and writers that fail.
+
+mod damage;
+mod examples;
+mod hostile;
+mod notation;
+mod streams;
