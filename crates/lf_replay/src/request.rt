@@ -3,6 +3,7 @@
 ghost use Rattle.std.specs.Prelude.{◌≡◌, ℕ, ◌+◌, ◌<◌, ◌≤◌, ◌↔◌, length};
 ghost use Rattle.lf_model.specs.Address.{mask_of};
 ghost use Rattle.lf_model.specs.Table.{position, store_mask};
+ghost use Rattle.lf_model.specs.State as model;
 ghost use Rattle.lf_replay.specs.Bytes.{IsSound};
 
 use arrayvec::ArrayVec;
@@ -77,7 +78,30 @@ impl Missed {
     }
 }
 
+/// The same bytes.
+fn data_of(bytes: &[u8]) -> Data
+    requires { length bytes.now ≤ 8 }
+    ensures { result.items ≡ bytes.now }
+{
+    let mut data = Data::new();
+    for byte in bytes {
+        data.push(*byte);
+    }
+    data
+}
+
 impl Missed {
+    /// What the port gets once the block is there.
+    pub fn reply(&self) -> Ready
+        ensures { let reply : model.Ready = record { port = self.now.port; tag = self.now.request.tag; value = self.now.value } in result ≡ reply }
+    {
+        Ready {
+            port: self.port,
+            tag: self.request.tag(),
+            value: data_of(&self.value),
+        }
+    }
+
     pub fn store_mask(&self) -> u64
         ensures { result ≡ store_mask self.now.request }
     {
