@@ -9,13 +9,14 @@ ghost use Rattle.lf_levels.specs.LineTable.{is_full};
 ghost use Rattle.lf_model.specs.Lines.{has_line, dirty_mask};
 ghost use Rattle.lf_model.specs.Registers.{targets_of};
 ghost use Rattle.lf_model.specs.declared.event.Event.TheVariants as event;
-ghost use Rattle.lf_model.specs.Table.{without_asked, without, without_ready, is_ready_for, reply_of};
-ghost use Rattle.lf_replay.specs.Kept.{local_of, after_event, is_next, IsFramed};
+ghost use Rattle.lf_model.specs.Table.{without_asked, without, without_ready, is_ready_for, reply_of, oldest};
+ghost use Rattle.lf_replay.specs.Kept.{local_of, after_event, is_next, queue_at, IsFramed};
 ghost use Rattle.lf_replay.specs.View.{kept};
 
 use lf_levels::LineFault;
 use lf_model::{Mask, NoMemory};
 
+use crate::queue::{drop_head, head};
 use crate::registers::{Held, release, store_bytes};
 use crate::request::{Missed, Ready};
 use crate::state::BankState;
@@ -43,6 +44,29 @@ fn drop_block(blocks: &mut Vec<u32>, block: u32)
 }
 
 impl BankState {
+    pub fn hit(&mut self, port: u8, tag: u8) -> Result<(), NoMemory>
+        requires framed { IsFramed (kept self.old) }
+        requires next { is_next (kept self.old) port tag ≡ true }
+        requires there { has_line self.old.lines1.lines (oldest (queue_at self.old.queues.items port)).block ≡ true }
+        ensures ok { (log : ℕ) → OnOk result (local_of (kept self.new) ≡ after_event (kept self.old) log (event.Hit port tag)) }
+        ensures err { OnErr result (kept self.new ≡ kept self.old) }
+        ensures framed { IsFramed (kept self.new) }
+        ensures shape { self.new.shape ≡ self.old.shape }
+    {
+        let Some(request) = head(&self.queues, port, tag) else {
+            unreachable!()
+        };
+        let value = self.memory.value_of(request);
+        push(&mut self.ready, Ready { port, tag, value })?;
+        if let Err(refusal) = self.memory.accept(request) {
+            self.ready.pop();
+            return Err(refusal);
+        }
+        self.lines1.mark(request.block(), Mask(request.store_mask()));
+        drop_head(&mut self.queues, port);
+        Ok(())
+    }
+
     pub fn second_hit(&mut self, block: u32) -> Result<(), NoMemory>
         requires { IsFramed (kept self.old) }
         ensures ok { (log : ℕ) → OnOk result (local_of (kept self.new) ≡ after_event (kept self.old) log (event.SecondHit block)) }

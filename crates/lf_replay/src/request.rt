@@ -110,6 +110,20 @@ impl Missed {
 }
 
 impl Request {
+    /// The same request.
+    pub fn copied(&self) -> Request
+        ensures { result ≡ self.now }
+    {
+        Request {
+            tag: self.tag,
+            op: self.op,
+            block: self.block,
+            offset: self.offset,
+            size: self.size,
+            bytes: data_of(&self.bytes),
+        }
+    }
+
     pub fn tag(&self) -> u8
         ensures { result ≡ self.now.tag }
     {
