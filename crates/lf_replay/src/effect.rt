@@ -1,24 +1,25 @@
 //! What the bank holds after an event. Growth comes first, and is undone where a later one is
 //! refused: a refusal leaves the state as it was.
 
-ghost use Rattle.std.specs.Prelude.{◌≡◌, ℕ, Bool, true, false, ◌∷◌, [], ◌++◌, map, OnOk, OnErr};
+ghost use Rattle.std.specs.Prelude.{◌≡◌, ℕ, Bool, true, false, ◌∷◌, [], ◌++◌, ◌<◌, map, OnOk, OnErr};
 ghost use Rattle.std.specs.List.{position};
 ghost use Rattle.arrayvec.specs.ArrayVec.{ArrayVec};
 ghost use Rattle.lf_levels.specs.declared.fault.LineFault.TheVariants as line_fault;
 ghost use Rattle.lf_levels.specs.LineTable.{is_full};
 ghost use Rattle.lf_model.specs.Lines.{has_line, dirty_mask};
 ghost use Rattle.lf_model.specs.Registers.{targets_of};
+ghost use Rattle.lf_model.specs.declared.event.Op.{Op};
 ghost use Rattle.lf_model.specs.declared.event.Event.TheVariants as event;
-ghost use Rattle.lf_model.specs.Table.{without_asked, without, without_ready, is_ready_for, reply_of, oldest};
+ghost use Rattle.lf_model.specs.Table.{without_asked, without, without_ready, is_ready_for, reply_of, oldest, request_of};
 ghost use Rattle.lf_replay.specs.Kept.{local_of, after_event, is_next, queue_at, IsFramed};
 ghost use Rattle.lf_replay.specs.View.{kept};
 
 use lf_levels::LineFault;
 use lf_model::{Mask, NoMemory};
 
-use crate::queue::{drop_head, head};
+use crate::queue::{drop_head, enqueue, head};
 use crate::registers::{Held, release, store_bytes};
-use crate::request::{Missed, Ready};
+use crate::request::{Missed, Ready, Request};
 use crate::state::BankState;
 
 fn push<T: Drop>(items: &mut Vec<T>, item: T) -> Result<(), NoMemory>
@@ -65,6 +66,64 @@ impl BankState {
         self.lines1.mark(request.block(), Mask(request.store_mask()));
         drop_head(&mut self.queues, port);
         Ok(())
+    }
+
+    pub fn merge(&mut self, port: u8, tag: u8, register: u16) -> Result<(), NoMemory>
+        requires framed { IsFramed (kept self.old) }
+        requires next { is_next (kept self.old) port tag ≡ true }
+        ensures ok { (log : ℕ) → OnOk result (local_of (kept self.new) ≡ after_event (kept self.old) log (event.Merge port tag register)) }
+        ensures err { OnErr result (kept self.new ≡ kept self.old) }
+        ensures framed { IsFramed (kept self.new) }
+        ensures shape { self.new.shape ≡ self.old.shape }
+    {
+        let Some(request) = head(&self.queues, port, tag) else {
+            unreachable!()
+        };
+        let held = self.memory.missed(port, register, request);
+        push(&mut self.waiting, held)?;
+        if let Err(refusal) = self.memory.accept(request) {
+            self.waiting.pop();
+            return Err(refusal);
+        }
+        drop_head(&mut self.queues, port);
+        Ok(())
+    }
+
+    pub fn primary(&mut self, port: u8, tag: u8, register: u16) -> Result<(), NoMemory>
+        requires framed { IsFramed (kept self.old) }
+        requires next { is_next (kept self.old) port tag ≡ true }
+        ensures ok { (log : ℕ) → OnOk result (local_of (kept self.new) ≡ after_event (kept self.old) log (event.Primary port tag register)) }
+        ensures err { OnErr result (kept self.new ≡ kept self.old) }
+        ensures framed { IsFramed (kept self.new) }
+        ensures shape { self.new.shape ≡ self.old.shape }
+    {
+        let Some(request) = head(&self.queues, port, tag) else {
+            unreachable!()
+        };
+        let held = self.memory.missed(port, register, request);
+        push(&mut self.asked, (request.block(), register))?;
+        if let Err(refusal) = push(&mut self.waiting, held) {
+            self.asked.pop();
+            return Err(refusal);
+        }
+        if let Err(refusal) = self.memory.accept(request) {
+            self.asked.pop();
+            self.waiting.pop();
+            return Err(refusal);
+        }
+        drop_head(&mut self.queues, port);
+        Ok(())
+    }
+
+    pub fn issue(&mut self, log: u8, request: Request) -> Result<(), NoMemory>
+        requires framed { IsFramed (kept self.old) }
+        requires port { log < self.old.shape.ports }
+        ensures ok { (op : Op) (tag size address : ℕ) (bytes : ArrayVec ℕ) → request ≡ request_of self.old.shape tag op size address bytes.items → OnOk result (local_of (kept self.new) ≡ after_event (kept self.old) log (event.Issue op tag size address bytes)) }
+        ensures err { OnErr result (kept self.new ≡ kept self.old) }
+        ensures framed { IsFramed (kept self.new) }
+        ensures shape { self.new.shape ≡ self.old.shape }
+    {
+        enqueue(&mut self.queues, log, request)
     }
 
     pub fn second_hit(&mut self, block: u32) -> Result<(), NoMemory>
