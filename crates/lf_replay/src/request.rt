@@ -1,13 +1,15 @@
 //! What a bank keeps of a request, from its issue to its reply.
 
-ghost use Rattle.std.specs.Prelude.{◌≡◌, ℕ, ◌+◌, ◌<◌, ◌≤◌, ◌↔◌, length};
+ghost use Rattle.std.specs.Prelude.{◌≡◌, ℕ, ◌+◌, ◌/◌, ◌%◌, true, ◌<◌, ◌≤◌, ◌↔◌, length};
 ghost use Rattle.lf_model.specs.Address.{mask_of};
-ghost use Rattle.lf_model.specs.Table.{position, store_mask};
+ghost use Rattle.lf_model.specs.Fits.{is_size, issue_len};
+ghost use Rattle.lf_model.specs.InRange.{IsShape};
+ghost use Rattle.lf_model.specs.Table.{position, store_mask, request_of};
 ghost use Rattle.lf_model.specs.State as model;
 ghost use Rattle.lf_replay.specs.Bytes.{IsSound};
 
 use arrayvec::ArrayVec;
-use lf_model::Op;
+use lf_model::{Op, Shape};
 use std::marker::Model;
 
 /// The bytes of a request: what a store writes, or a load's value.
@@ -169,6 +171,33 @@ impl Request {
             Op::Load => 0,
             Op::Store => mask_of(self.offset, self.size),
         }
+    }
+}
+
+/// The request that an issue makes.
+pub fn issued(
+    shape: &Shape,
+    op: Op,
+    tag: u8,
+    size: u8,
+    address: u64,
+    bytes: &[u8],
+) -> Request
+    requires in_range { IsShape shape.now }
+    requires size { is_size size ≡ true }
+    requires aligned { address % size ≡ 0 }
+    requires block { address / shape.now.block < 0x1_0000_0000 }
+    requires carried { length bytes.now ≡ issue_len op size }
+    ensures { result ≡ request_of shape.now tag op size address bytes.now }
+{
+    let len = u64::from(shape.block);
+    Request {
+        tag,
+        op,
+        block: (address / len) as u32,
+        offset: (address % len) as u8,
+        size,
+        bytes: data_of(bytes),
     }
 }
 
