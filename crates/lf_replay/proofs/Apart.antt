@@ -2,14 +2,17 @@
 use Rattle.std.proofs.Common.{◌≡◌, ℕ, Bool, true, false, cond, not, ◌||◌, ◌&&◌, ◌==◌, List, [], ◌∷◌, ◌++◌, Option, Some, None, refl, sym, ap, ◌∙◌, eqb-true, subst}
 use Rattle.std.proofs.lemmas.Bool.{both_ways}
 use Rattle.lf_model.specs.declared.shape.Shape.{Shape}
+use Rattle.lf_model.specs.declared.event.Record.{Record}
 use Rattle.lf_model.specs.declared.event.Event.{Event}
 use Rattle.lf_model.specs.declared.event.Event.TheVariants.{Issue, Reply, Hit, Primary, Merge, Stall, Fill1, Evict1, SecondHit, SecondPrimary, SecondStall, Fill2, Evict2}
 use Rattle.lf_model.specs.Registers.{Held, holds}
 use Rattle.lf_model.specs.Lines.{has_line, dirty_mask}
-use Rattle.lf_model.specs.State.{Missed, Ready, Slice, idle}
-use Rattle.lf_model.specs.Table.{Side, OfPort, OfBank, OfBoth, Clause, rules_of, slice_after, is_asked, is_among, oldest, miss}
+use Rattle.lf_model.specs.State.{Missed, Ready, Slice, Local, idle}
+use Rattle.lf_model.specs.Table.{Side, OfPort, OfBank, OfBoth, Clause, rules_of, slice_after, is_asked, is_among, oldest, miss, carries, clauses, bank_effect, value_at, accepts, replies_at}
 use Rattle.lf_model.specs.Run.{judges, first_failing}
 use Rattle.lf_model.proofs.Clauses.{this_holds, others_hold}
+use Rattle.lf_replay.specs.Bytes.{flat_of}
+use Rattle.lf_replay.specs.Kept.{Kept, local_of, slice_of}
 use Rattle.lf_replay.specs.Apart.{stands, stands_at, EachStands}
 use Rattle.lf_replay.proofs.Blocks.{has_put, has_gone, any_push, any_gone}
 
@@ -428,3 +431,9 @@ stands_after shape right value replies slice log bank (Evict2 x mask bytes) each
     let h = facts shape right slice log bank (Evict2 x mask bytes) none in
     stands_by _ _ _ _ _ _ _ _ _ _ _ _ refl refl refl refl refl (has_gone slice.lines2 x y)
       (evict2_step (x == y) _ _ _ _ _ _ (here (holds slice.waiting) false x y (is_not _ (right_true _ _ h.1.0))) (here (has_line slice.lines1) false x y (is_not _ (left_true _ _ h.1.0))) (each y))
+
+pub kept_standing : (shape : Shape) (old new : Kept) (r : Record) → EachStands (slice_of old) → first_failing OfBank (clauses shape (local_of old) r) ≡ None
+    → local_of new ≡ bank_effect shape (local_of old) r → EachStands (slice_of new)
+kept_standing shape old new r each none step block =
+    ap (λ (now : Local). stands_at now.slice block) step
+    ∙ stands_after shape (carries shape (flat_of old.memory) (slice_of old) r.event) (value_at (flat_of old.memory) (accepts (slice_of old) r.event)) (replies_at (slice_of old) r.event) (slice_of old) r.log r.bank r.event each none block
