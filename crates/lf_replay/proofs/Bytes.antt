@@ -121,9 +121,10 @@ filter_same_map f g p a (suc n) same = go (p a) (filter_same_map f g p (a + 1) n
     go false rest = rest
 
 pub agrees_flat : (f : ℕ → ℕ) (xs : List ℕ) (mask n : ℕ) → length xs ≡ n
-    → list_all (λ i. is_under mask i || slice_index xs i == f i) (range_with_len 0 (length xs)) ≡ agree_off xs (map f (range_with_len 0 n)) mask
+    → list_all (λ i. is_under mask i || slice_index xs i == f i) (range_with_len 0 (length xs)) ≡ agree_off n xs (map f (range_with_len 0 n)) mask
 agrees_flat f xs mask n long = all_same _ _ 0 (length xs) (λ i low high.
     ap (λ k. is_under mask i || slice_index xs i == k) (sym (get_or-map-range_with_len f 0 n i i 0 (omega (arith, long)) (omega arith))))
+    ∙ ap (λ k. list_all (λ i. is_under mask i || slice_index xs i == slice_index (map f (range_with_len 0 n)) i) (range_with_len 0 k)) long
 
 pub masked_flat : (f : ℕ → ℕ) (mask n : ℕ) → map f (filter (is_under mask) (range_with_len 0 n)) ≡ masked (map f (range_with_len 0 n)) mask
 masked_flat f mask n =
@@ -131,7 +132,7 @@ masked_flat f mask n =
     ∙ ap (λ k. map (slice_index (map f (range_with_len 0 n))) (filter (is_under mask) (range_with_len 0 k))) (sym (length-map-range_with_len f 0 n))
 
 pub fill_agrees : (f : ℕ → ℕ) (r : Bool) (xs ys : List ℕ) (m mask n : ℕ) → r ≡ list_all (λ i. is_under m i || slice_index xs i == f i) (range_with_len 0 (length xs))
-    → xs ≡ ys → m ≡ mask → length ys ≡ n → r ≡ agree_off ys (map f (range_with_len 0 n)) mask
+    → xs ≡ ys → m ≡ mask → length ys ≡ n → r ≡ agree_off n ys (map f (range_with_len 0 n)) mask
 fill_agrees f r xs ys m mask n is same stores long =
     is ∙ ap₂ (λ (zs : List ℕ) k. list_all (λ i. is_under k i || slice_index zs i == f i) (range_with_len 0 (length zs))) same stores ∙ agrees_flat f ys mask n long
 

@@ -1,8 +1,10 @@
 //! The replay of one bank.
 #![tactic(auto)]
 
+mod change;
 mod data;
 mod effect;
+mod fault;
 mod judge;
 mod memory;
 mod queue;

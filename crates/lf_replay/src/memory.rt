@@ -3,6 +3,8 @@
 ghost use Rattle.std.specs.Prelude.{◌≡◌, ℕ, ◌+◌, ◌-◌, ◌<◌, ◌≤◌, ◌||◌, ◌==◌, map, length, slice_index, OnOk, OnErr, if◌then◌else◌};
 ghost use Rattle.std.specs.List.{range_with_len, list_all, filter};
 ghost use Rattle.lf_model.specs.Address.{is_under};
+ghost use Rattle.lf_model.specs.State as model;
+ghost use Rattle.lf_model.specs.Registers as registers;
 ghost use Rattle.lf_model.specs.State.{update};
 ghost use Rattle.lf_model.specs.Table.{value_of, accepted};
 ghost use Rattle.lf_replay.specs.Bytes.{flat_of, put, IsSound};
@@ -12,7 +14,8 @@ use std::alloc::Global;
 use std::collections::BTreeMap;
 use std::marker::Model;
 
-use crate::request::{Data, Request};
+use crate::registers::Held;
+use crate::request::{Data, Missed, Request};
 
 /// The bytes of a block, and zeros behind them.
 type Bytes = [u8; 64];
@@ -75,6 +78,22 @@ impl FlatMemory {
                 usize::from(request.offset()),
                 usize::from(request.size()),
             ),
+        }
+    }
+
+    /// What a register keeps of a request that misses.
+    pub fn missed(&self, port: u8, register: u16, request: &Request) -> Held<Missed>
+        ensures { let value = value_of (flat_of self.now) request.now in let target : model.Missed = record { port = port; request = request.now; value = value } in let held : registers.Held model.Missed = record { register = register; block = request.now.block; target = target } in result ≡ held }
+    {
+        let target = Missed {
+            port,
+            request: request.copied(),
+            value: self.value_of(request),
+        };
+        Held {
+            register,
+            block: request.block(),
+            target,
         }
     }
 

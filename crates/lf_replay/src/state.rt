@@ -11,7 +11,7 @@ use lf_levels::{Lines, One, Two};
 use lf_model::Shape;
 
 use crate::memory::FlatMemory;
-use crate::queue::Queue;
+use crate::queue::{Queue, head};
 use crate::registers::Held;
 use crate::request::{Missed, Ready, Request};
 
@@ -40,8 +40,7 @@ impl BankState {
         requires { IsFramed (kept self.now) }
         ensures { let queue = queue_at self.now.queues.items port in let is = nat_lt port self.now.shape.ports && is_head queue tag in MatchOption result (is ≡ false) (λ request. (is ≡ true) × (request.now ≡ oldest queue)) }
     {
-        let queue = self.queues.get(port as usize)?;
-        queue.head(tag)
+        head(&self.queues, port, tag)
     }
 
     pub fn has_asked(&self, block: u32) -> bool
