@@ -10,8 +10,10 @@
 mod answer;
 mod check;
 mod halt;
+mod judge;
 mod laws;
 mod numbers;
+mod order;
 mod parts;
 mod reading;
 
