@@ -51,7 +51,7 @@ all_append : (P : Record → Type 0) (xs ys : List Record) → AllByRecursion P 
 all_append P [] ys a b = b
 all_append P (x ∷ xs) ys a b = (a.0, all_append P xs ys a.1 b)
 
-all_of_logs : (P : Record → Type 0) (logs : List (List Record)) → ((log : ℕ) → AllByRecursion P (log_at logs log)) → AllByRecursion P (all_records logs)
+pub all_of_logs : (P : Record → Type 0) (logs : List (List Record)) → ((log : ℕ) → AllByRecursion P (log_at logs log)) → AllByRecursion P (all_records logs)
 all_of_logs P [] each = tt
 all_of_logs P (rs ∷ logs) each =
     subst (AllByRecursion P) (sym (flat_map-cons (λ (xs : List Record). xs) rs logs)) (all_append P rs (all_records logs) (each 0) (all_of_logs P logs (λ log. each (suc log))))
