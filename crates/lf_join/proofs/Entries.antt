@@ -1,10 +1,11 @@
 -- The entries of a log, as the code reads them.
-use Rattle.std.proofs.Common.{◌≡◌, ℕ, zero, suc, ◌+◌, ◌-◌, ◌<◌, ◌≤◌, Bool, true, false, ◌==◌, ◌&&◌, ltb, List, [], ◌∷◌, length, get_or, drop, Option, Some, None, refl, sym, ap, ◌∙◌, subst, eqb-true, eq-eqb, arith}
+use Rattle.std.proofs.Common.{◌≡◌, ℕ, zero, suc, ◌+◌, ◌-◌, ◌<◌, ◌≤◌, Bool, true, ◌==◌, ◌&&◌, ltb, List, [], ◌∷◌, length, get_or, drop, Option, Some, None, refl, sym, ap, ◌∙◌, subst, Bor, eqb-true, eq-eqb, arith}
 use mathlib.Core.Path.{ap₂}
-use Rattle.std.specs.List.{slice_get, list_any, Any}
+use Rattle.std.specs.List.{slice_get, list_any, HoldsAt}
+use Rattle.std.specs.Option.{MatchOption, IfSome, IsSome, option_copied}
 use Rattle.std.specs.Global.{Vec}
 use Rattle.std.proofs.lemmas.Bool.{and_parts, lt-ltb, ltb-true}
-use Rattle.std.proofs.lemmas.List.{get_or-map, get_or_past, get_or-drop, length-drop, length-map, get_or_default}
+use Rattle.std.proofs.lemmas.List.{get_or-map, get_or_past, get_or-drop, length-drop, length-map}
 use Rattle.std.proofs.lemmas.List.Folds.{Any-from_list_any, list_any-from_Any}
 use Rattle.std.proofs.lemmas.Option.{slice_get-get_or, slice_get_within, get_or_from_slice_get, slice_get_past}
 use Rattle.lf_model.specs.Order.{log_at}
@@ -31,6 +32,9 @@ get_or-entry_at xs n x d is = let h : slice_get xs n ≡ Some x = sym (entry_at-
 
 pub entry_at-past : (xs : List (ℕ × ℕ)) (n : ℕ) → length xs ≤ n → entry_at xs n ≡ None
 entry_at-past xs n past = entry_at-is xs n ∙ slice_get_past xs n past
+
+pub entry_at-within : (xs : List (ℕ × ℕ)) (n : ℕ) → n < length xs → entry_at xs n ≡ Some (get_or xs n (0, 0))
+entry_at-within xs n within = entry_at-is xs n ∙ slice_get-get_or xs n (0, 0) within
 
 -- an entry of this bank with a smaller number
 abbrev pub is_smaller : ℕ → ℕ → ℕ × ℕ → Bool
@@ -64,9 +68,13 @@ test_from_smaller xs from bank number s =
     let at = get_or-entry_at xs s.place s.entry s.entry s.there in
     let behind = s.behind in
     let same : from + (s.place - from) ≡ s.place = omega arith in
-    list_any-from_Any (is_smaller bank number) (drop from xs)
-      (s.place - from, s.entry, omega (arith, length-drop from xs, at.0), get_or-drop from xs (s.place - from) s.entry ∙ ap (λ n. get_or xs n s.entry) same ∙ at.1,
-        ap₂ (λ x y. x && y) (eq-eqb s.entry.0 bank s.same_bank) (lt-ltb s.entry.1 number s.smaller))
+    list_any-from_Any (is_smaller bank number) (drop from xs) (
+      s.place - from,
+      s.entry,
+      omega (arith, length-drop from xs, at.0),
+      get_or-drop from xs (s.place - from) s.entry ∙ ap (λ n. get_or xs n s.entry) same ∙ at.1,
+      ap₂ (λ x y. x && y) (eq-eqb s.entry.0 bank s.same_bank) (lt-ltb s.entry.1 number s.smaller),
+    )
 
 -- the test of the code, at the entry that it read
 pub wait_from_smaller : (skeletons : List (List (ℕ × ℕ))) (knot next : Knot) (waiting : ℕ × ℕ) → entry_at (log_at skeletons knot.log) knot.at ≡ Some waiting
@@ -101,3 +109,14 @@ smaller_from_wait skeletons knot next waiting named w =
 pub no_wait : (skeletons : List (List (ℕ × ℕ))) (knot next : Knot) → length (log_at skeletons knot.log) ≤ knot.at → IsWait skeletons knot next → ⊥
 no_wait skeletons knot next past w =
     let none : ◌≡◌ {A = Option (ℕ × ℕ)} None (Some w.waiting) = sym (entry_at-past (log_at skeletons knot.log) knot.at past) ∙ w.named in cc
+
+-- what `get` reads
+pub read_is : (xs : List (ℕ × ℕ)) (n : ℕ) (r : Option (Bor (ℕ × ℕ))) → MatchOption r (length xs ≤ n) (λ x. (n < length xs) × HoldsAt {X = ℕ × ℕ} (λ y. x.now ≡ y) xs n)
+    → IfSome r (λ x. x.now ≡ get_or xs n x.now) → option_copied r ≡ entry_at xs n
+read_is xs n None cases value = sym (entry_at-past xs n cases)
+read_is xs n (Some x) cases value = sym (entry_at-get_or xs n x.now cases.0 value)
+
+pub read_within : (xs : List (ℕ × ℕ)) (n : ℕ) (r : Option (Bor (ℕ × ℕ))) → MatchOption r (length xs ≤ n) (λ x. (n < length xs) × HoldsAt {X = ℕ × ℕ} (λ y. x.now ≡ y) xs n)
+    → IsSome (option_copied r) → n < length xs
+read_within xs n None cases is = cc
+read_within xs n (Some x) cases is = cases.0

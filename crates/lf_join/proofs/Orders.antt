@@ -1,10 +1,10 @@
 -- Orders, step by step: what is left of the logs, and for each bank the number that goes next.
-use Rattle.std.proofs.Common.{◌≡◌, ◌≢◌, ℕ, zero, suc, ◌+◌, ◌<◌, ◌≤◌, Bool, true, false, cond, ◌==◌, ◌⊎◌, inl, inr, List, [], ◌∷◌, map, filter, length, drop, get_or, set, refl, sym, ap, ◌∙◌, subst, eqb-true, eq-eqb, arith}
+use Rattle.std.proofs.Common.{◌≡◌, ◌≢◌, ℕ, suc, ◌+◌, ◌<◌, ◌≤◌, Bool, true, false, cond, ◌==◌, inl, inr, List, [], ◌∷◌, map, length, drop, get_or, set, refl, sym, ap, ◌∙◌, subst, eqb-true, eq-eqb, arith}
 use mathlib.Core.Path.{ap₂}
 use Rattle.std.specs.List.{range_with_len}
 use Rattle.std.proofs.lemmas.Bool.{cases_Bool, cases_eq, cases_lt, cond-true, cond-false}
 use Rattle.std.proofs.lemmas.List.{get_or-set_same, get_or-set_other, set_past, get_or_past, set_comm}
-use Rattle.lf_model.specs.Order.{log_at, after_next, Takes, entries_of, EntriesKeepNumbers, IsOrder, IsNotAbove, IsLeastOrder}
+use Rattle.lf_model.specs.Order.{log_at, after_next, Takes, entries_of, IsOrder, IsNotAbove, IsLeastOrder}
 
 -- ---- what is left of the logs
 
@@ -50,10 +50,10 @@ bump_le next bank n = elim (cases_Bool (bank == n)) [
   | inr e ↦ subst (λ k. next n ≤ k) (sym (cond-false (bank == n) (next n + 1) (next n) e)) (omega arith)
 ]
 
-bump_same : (next : ℕ → ℕ) (bank n : ℕ) → bank ≡ n → bump next bank n ≡ next n + 1
+pub bump_same : (next : ℕ → ℕ) (bank n : ℕ) → bank ≡ n → bump next bank n ≡ next n + 1
 bump_same next bank n e = cond-true (bank == n) (next n + 1) (next n) (eq-eqb bank n e)
 
-bump_other : (next : ℕ → ℕ) (bank n : ℕ) → bank ≢ n → bump next bank n ≡ next n
+pub bump_other : (next : ℕ → ℕ) (bank n : ℕ) → bank ≢ n → bump next bank n ≡ next n
 bump_other next bank n apart = elim (cases_Bool (bank == n)) [
   | inl e ↦ absurd (apart (eqb-true bank n e))
   | inr e ↦ cond-false (bank == n) (next n + 1) (next n) e
@@ -113,7 +113,7 @@ exchange left next (m ∷ order) log goes (goes', runs) =
             let carries' = goes'.carries in
             let carries = goes.carries in
             absurd (stale (after_next left m) (bump next goes'.entry.0) order log goes.entry (still_first left m log goes.entry apart goes.first)
-              (omega (arith, bump_same next goes'.entry.0 goes.entry.0 same_bank, carries)) runs)
+            (omega (arith, bump_same next goes'.entry.0 goes.entry.0 same_bank, carries)) runs)
         | inr other_bank ↦
             let later : Goes (after_next left m) (bump next goes'.entry.0) log = record {
               entry = goes.entry;
@@ -125,9 +125,14 @@ exchange left next (m ∷ order) log goes (goes', runs) =
               entry = goes'.entry;
               first = still_first left log m goes'.entry (λ e. apart (sym e)) goes'.first;
               carries = goes'.carries ∙ sym (bump_other next goes.entry.0 goes'.entry.0 (λ e. other_bank (sym e)));
-            } in
-            (m ∷ rest.0, (sooner, subst (λ ls. Runs ls (bump (bump next goes.entry.0) goes'.entry.0) rest.0) (after_comm left m log (λ e. apart (sym e)))
-              (subst (λ (f : ℕ → ℕ). Runs (after_next (after_next left m) log) f rest.0) (bump_comm next goes'.entry.0 goes.entry.0) rest.1)))
+            } in (
+              m ∷ rest.0,
+              (
+                sooner,
+                subst (λ ls. Runs ls (bump (bump next goes.entry.0) goes'.entry.0) rest.0) (after_comm left m log (λ e. apart (sym e)))
+                    (subst (λ (f : ℕ → ℕ). Runs (after_next (after_next left m) log) f rest.0) (bump_comm next goes'.entry.0 goes.entry.0) rest.1),
+              ),
+            )
       ])
     ]
   where
@@ -210,6 +215,7 @@ keeps_more next x xs first keeps bank = elim (cases_Bool (x.0 == bank)) [
   where
     Goal : Bool → Type 0
     Goal b = map (λ (e : ℕ × ℕ). e.1) (cond b (x ∷ entries_of bank xs) (entries_of bank xs)) ≡ range_with_len (next bank) (length (cond b (x ∷ entries_of bank xs) (entries_of bank xs)))
+
     Rest : Bool → Type 0
     Rest b = map (λ (e : ℕ × ℕ). e.1) (entries_of bank xs) ≡ range_with_len (cond b (next bank + 1) (next bank)) (length (entries_of bank xs))
 

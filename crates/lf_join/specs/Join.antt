@@ -1,10 +1,10 @@
 -- What the join answers: the least order of all logs, or the ring of logs that wait for one another.
-use Rattle.std.specs.Prelude.{◌≡◌, ◌≢◌, ℕ, ◌+◌, ◌%◌, ◌<◌, List, [], ◌∷◌, map, length, drop, Option, Some}
+use Rattle.std.specs.Prelude.{◌≡◌, ◌≢◌, ℕ, ◌+◌, ◌%◌, ◌<◌, List, [], ◌∷◌, map, length, drop, Some}
 use Rattle.std.specs.List.{flat_map}
 use Rattle.std.specs.Global.{Vec}
 use Rattle.lf_model.specs.declared.ring.Knot.{Knot}
 use Rattle.lf_model.specs.Numbers.{IsWhole}
-use Rattle.lf_model.specs.Order.{log_at, after_next, entries_of, EntriesKeepNumbers}
+use Rattle.lf_model.specs.Order.{log_at, after_next, entries_of, EntriesKeepNumbers, IsOrder}
 use Rattle.lf_model.specs.Ring.{entry_at, knot_at}
 
 -- the skeletons as lists of (bank, number)
@@ -14,6 +14,9 @@ lists_of skeletons = map (λ skeleton. skeleton.items) skeletons
 -- Over all skeletons each bank's numbers are 0 to n - 1, each once.
 abbrev pub BanksAreWhole : List (List (ℕ × ℕ)) → Type 0
 BanksAreWhole skeletons = (bank : ℕ) → IsWhole (map (λ entry. entry.1) (entries_of bank (flat_map (λ entries. entries) skeletons)))
+
+abbrev pub HasNoOrder : List (List (ℕ × ℕ)) → Type 0
+HasNoOrder skeletons = (order : List ℕ) → IsOrder skeletons order → ⊥
 
 -- ---- where nothing more can go
 

@@ -3,5 +3,11 @@
 #![tactic(auto)]
 
 mod check;
+mod heads;
+mod order;
 
 pub use check::check_cycle;
+pub use order::{JoinFault, join};
+
+#[cfg(test)]
+mod tests;

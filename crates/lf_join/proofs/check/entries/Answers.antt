@@ -1,4 +1,4 @@
-use Rattle.std.proofs.Common.{◌≡◌, ◌∙◌, ap, sym}
+use Rattle.std.proofs.Common.{◌∙◌, ap, sym}
 use Rattle.lf_join.proofs.Entries.{log_at-lists, log_at-past}
 use Rattle.lf_join.proofs.check.entries.Goals as goal
 

@@ -1,0 +1,10 @@
+use Rattle.std.proofs.Common.{◌-◌, length}
+use Rattle.lf_join.specs.Join.{lists_of}
+use Rattle.lf_join.proofs.Merge.{Ongoing, count, any_entry, joined}
+use Rattle.lf_join.proofs.order.merged.Given as goal
+
+abbrev pub invariant-loop-log : goal.invariant-loop-log
+invariant-loop-log l = Ongoing (lists_of l.skeletons) l.order.items l.heads.places l.heads.next
+
+abbrev pub decreases-loop-log : goal.decreases-loop-log
+decreases-loop-log l = count any_entry (joined (lists_of l.skeletons)) - length l.order.items

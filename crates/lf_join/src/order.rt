@@ -1,0 +1,60 @@
+//! One order of all logs.
+
+ghost use Rattle.std.specs.Prelude.{◌≡◌, ◌<◌, ◌≤◌, ◌^◌, ℕ, length, All, IfOk, IfErr};
+ghost use Rattle.lf_join.specs.Join.{lists_of, BanksAreWhole, HasNoOrder, IsStuckRing};
+ghost use Rattle.lf_join.specs.Fault.{IfCycle};
+ghost use Rattle.lf_join.specs.Heads.{IsMerged};
+ghost use Rattle.lf_model.specs.Order.{IsLeastOrder};
+ghost use Rattle.lf_model.specs.Ring.{IsRing};
+
+use crate::heads::Heads;
+use lf_model::{Ring, Skeleton};
+use std::alloc::{AllocError, Global};
+
+/// Why there is no order.
+#[derive(Debug, Drop)]
+pub enum JoinFault {
+    /// These logs wait for one another.
+    Cycle(Ring),
+    /// A growth was refused.
+    NoMemory,
+}
+
+/// The lowest logs that can go, in turn, as far as any can.
+fn merged(alloc: Global, skeletons: &[Skeleton]) -> Result<(Vec<u8>, Heads), AllocError>
+    requires { length skeletons.now ≤ 32 }
+    ensures { IfOk result (λ m. IsMerged (lists_of skeletons.now) m.0.items m.1.places m.1.next) }
+{
+    let mut heads = Heads::new();
+    let mut order = Vec::new(alloc);
+    while let Some(log) = heads.first_to_go(skeletons) {
+        order.push(log as u8)?;
+        heads.advance(skeletons, log);
+    }
+    Ok((order, heads))
+}
+
+/// One order of all logs: for each place the log whose next entry comes. It keeps each log's order
+/// and each bank's numbers, and of all such orders it is the lexicographically least. Where there is
+/// none, the answer is the ring of logs that wait for one another when nothing more can go.
+pub fn join(alloc: Global, skeletons: &[Skeleton]) -> Result<Vec<u8>, JoinFault>
+    requires few { length skeletons.now ≤ 32 }
+    requires short { All (λ entries. length entries ≤ 2 ^ 20) (lists_of skeletons.now) }
+    requires whole { BanksAreWhole (lists_of skeletons.now) }
+
+    ensures least { IfOk result (λ order. IsLeastOrder (lists_of skeletons.now) order.items) }
+
+    // Where the answer is a ring, it is the one to which the waits lead, it shows that there is no order, and there is none.
+    ensures ring { IfErr result (λ fault. IfCycle fault (λ ring. IsStuckRing (lists_of skeletons.now) ring.items)) }
+    ensures shown { IfErr result (λ fault. IfCycle fault (λ ring. IsRing (lists_of skeletons.now) ring.items)) }
+    ensures none { IfErr result (λ fault. IfCycle fault (λ _. HasNoOrder (lists_of skeletons.now))) }
+{
+    let (order, heads) = match merged(alloc, skeletons) {
+        Ok(merged) => merged,
+        Err(_) => return Err(JoinFault::NoMemory),
+    };
+    match heads.first_left(skeletons) {
+        None => Ok(order),
+        Some(start) => Err(JoinFault::Cycle(heads.ring(skeletons, start))),
+    }
+}
