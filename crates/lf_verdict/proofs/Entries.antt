@@ -110,3 +110,6 @@ order_short vecs order entries count n few short taken =
     let len : length skeletons ≡ length vecs.items = length-map (lists_of vecs) (map entry_of) ∙ length-map vecs.items (λ (v : Vec Record). v.items) in
     let more : length skeletons * n ≤ count * n = mul-le-mul_right n (omega (arith, len, few)) in
     omega (arith, order_len skeletons order entries taken, sum, more)
+
+pub skeletons_short : (vecs : Vec (Vec Record)) (n : ℕ) → All (λ (v : Vec Record). length v.items ≤ n) vecs.items → All (λ (entries : List (ℕ × ℕ)). length entries ≤ n) (skeletons_of (lists_of vecs))
+skeletons_short vecs n short = lists_short n vecs.items short

@@ -8,7 +8,7 @@ use Rattle.lf_model.specs.Address.{FlatMemory}
 use Rattle.std.specs.List.{AllByRecursion, All, range_with_len}
 use Rattle.lf_model.specs.Fits.{Fits}
 use Rattle.lf_model.specs.Order.{log_at, IsLeastOrder}
-use Rattle.lf_model.specs.Ring.{skeletons_of}
+use Rattle.lf_model.specs.Ring.{skeletons_of, IsRing}
 use Rattle.lf_join.specs.Join.{IsStuckRing}
 use Rattle.lf_model.specs.Numbers.{bank_numbers, numbers_of, IsMissing, IsDouble, IsFineBelow, IsNumbered}
 use Rattle.lf_model.specs.Outcomes.{IsPortOutcome, IsBankOutcome}
@@ -84,7 +84,7 @@ pub record IsFirstBroken (all : List Outcome) (broken : Broken) : Type 0 where
 
 -- the logs that wait for one another, or want of memory
 abbrev pub IsOrderHalt : List (List (ℕ × ℕ)) → Halt → Type 0
-IsOrderHalt skeletons (halts.Found (faults.Cycle ring)) = IsStuckRing skeletons ring.items
+IsOrderHalt skeletons (halts.Found (faults.Cycle ring)) = IsStuckRing skeletons ring.items × IsRing skeletons ring.items
 IsOrderHalt skeletons halts.NoMemory = Unit {0}
 IsOrderHalt skeletons _ = ⊥
 
