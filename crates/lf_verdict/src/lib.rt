@@ -19,4 +19,4 @@ mod reading;
 
 pub use answer::{Fault, HeaderField, Refusal, Verdict};
 pub use check::check_shape;
-pub use laws::yes_is_legal;
+pub use laws::{no_has_no_run, yes_is_legal};
