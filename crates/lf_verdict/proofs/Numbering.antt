@@ -1,6 +1,12 @@
 -- The records of each bank, bank by bank.
-use Rattle.std.proofs.Common.{◌≡◌, ℕ, ◌+◌, ◌<◌, ◌≤◌, List, [], ◌∷◌, ◌++◌, map, length, take, get_or, Option, Some, None, refl, sym, ◌∙◌, ap, subst, arith, ◌⊎◌, inl, inr}
-use Rattle.std.specs.List.{filter_map}
+use Rattle.std.proofs.Common.{◌≡◌, ℕ, ◌+◌, ◌<◌, ◌≤◌, Bool, true, false, cond, eqb-true, List, [], ◌∷◌, ◌++◌, map, length, take, get_or, Option, Some, None, refl, sym, ◌∙◌, ap, subst, arith, ◌⊎◌, inl, inr}
+use Rattle.std.specs.List.{filter_map, AllByRecursion, All}
+use Rattle.std.specs.Prelude.{◌==◌}
+use Rattle.std.proofs.lemmas.List.Sorted.{All-permutation, IsPermutation-sym}
+use Rattle.std.proofs.lemmas.List.Elements.{All-from_recursion}
+use Rattle.lf_model.specs.Fits.{Fits}
+use Rattle.lf_model.specs.Run.{of_bank}
+use Rattle.lf_verdict.proofs.Entries.{all_of_logs}
 use Rattle.std.specs.Global.{Vec}
 use Rattle.std.proofs.lemmas.Bool.{cases_lt}
 use Rattle.std.proofs.lemmas.List.{take_more, append-nil, length-append, length-map, map-append, get_or_append_left}
@@ -10,14 +16,14 @@ use Rattle.lf_model.specs.declared.shape.Shape.{Shape}
 use Rattle.lf_model.specs.declared.event.Record.{Record}
 use Rattle.lf_model.specs.Address.{FlatMemory}
 use Rattle.lf_model.specs.Order.{log_at}
-use Rattle.lf_model.specs.Numbers.{IsNumbered, bank_numbers}
+use Rattle.lf_model.specs.Numbers.{IsNumbered, bank_numbers, all_records}
 use Rattle.lf_logs.specs.declared.order.NumberFault.{NumberFault}
 use Rattle.lf_logs.specs.declared.order.NumberFault.TheVariants as numbers
 use Rattle.lf_logs.specs.declared.order.Place.{Place}
 use Rattle.lf_logs.specs.Lists.{lists_of}
 use Rattle.lf_logs.specs.Places.{record_at, records_at, IsNumberFault}
 use Rattle.lf_verdict.specs.Parts.{HasWholeNumbers}
-use Rattle.lf_verdict.specs.Judging.{IsHalt, AreWholeBelow, AreNumbered, number_halt}
+use Rattle.lf_verdict.specs.Judging.{IsHalt, AreWholeBelow, AreNumbered, number_halt, LogsFit, IsBankList, AreBankLists}
 
 one_more : {X Y : Type 0} (f : X → Option Y) (xs : List X) (i : ℕ) (d : X) → i < length xs → filter_map f (take (i + 1) xs) ≡ filter_map f (take i xs) ++ filter_map f (get_or xs i d ∷ [])
 one_more f xs i d lt = ap (filter_map f) (take_more xs i d lt) ∙ filter_map-append f (take i xs) (get_or xs i d ∷ [])
@@ -72,3 +78,27 @@ lists_more old new v e = ap (map (λ (x : Vec Record). x.items)) e ∙ map-appen
 pub bank_more : (logs : List (List Record)) (bank : ℕ) (old new : Vec (Vec Record)) (v : Vec Record) → new.items ≡ old.items ++ v ∷ []
     → AreNumbered logs bank (lists_of old) → IsNumbered logs bank v.items → AreNumbered logs (bank + 1) (lists_of new)
 bank_more logs bank old new v e are is = subst (AreNumbered logs (bank + 1)) (sym (lists_more old new v e)) (numbered_more logs bank (lists_of old) v.items are is)
+
+-- ---- a numbered list is a bank's
+
+fits_and_names : (shape : Shape) (bank : ℕ) (rs : List Record) → AllByRecursion (Fits shape) rs → AllByRecursion (Fits shape) (of_bank bank rs) × AllByRecursion (λ r. r.bank ≡ bank) (of_bank bank rs)
+fits_and_names shape bank [] fits = (tt, tt)
+fits_and_names shape bank (r ∷ rs) fits = go (r.bank == bank) refl (fits_and_names shape bank rs fits.1)
+  where
+    go : (b : Bool) → (r.bank == bank) ≡ b → AllByRecursion (Fits shape) (of_bank bank rs) × AllByRecursion (λ r. r.bank ≡ bank) (of_bank bank rs)
+        → AllByRecursion (Fits shape) (cond b (r ∷ of_bank bank rs) (of_bank bank rs)) × AllByRecursion (λ r. r.bank ≡ bank) (cond b (r ∷ of_bank bank rs) (of_bank bank rs))
+    go true e rest = ((fits.0, rest.0), (eqb-true r.bank bank e, rest.1))
+    go false e rest = rest
+
+bank_list : (shape : Shape) (logs : List (List Record)) (bank : ℕ) (rs : List Record) → LogsFit shape logs → IsNumbered logs bank rs → IsBankList shape bank rs
+bank_list shape logs bank rs fits is =
+    let both = fits_and_names shape bank (all_records logs) (all_of_logs (Fits shape) logs fits) in
+    let back = IsPermutation-sym rs (of_bank bank (all_records logs)) is.same in
+    record {
+      fit = All-permutation (Fits shape) (of_bank bank (all_records logs)) rs back (All-from_recursion (Fits shape) (of_bank bank (all_records logs)) both.0);
+      named = All-permutation (λ r. r.bank ≡ bank) (of_bank bank (all_records logs)) rs back (All-from_recursion (λ r. r.bank ≡ bank) (of_bank bank (all_records logs)) both.1);
+      numbers = is.numbers;
+    }
+
+pub bank_lists : (shape : Shape) (logs lists : List (List Record)) → LogsFit shape logs → AreNumbered logs shape.banks lists → AreBankLists shape lists
+bank_lists shape logs lists fits are bank lt = bank_list shape logs bank (log_at lists bank) fits (are.each bank (omega (arith, are.count)))

@@ -110,3 +110,6 @@ judged shape memory logs vecs ports banks ports' banks' whole numbered of_ports 
   ports_had = subst (λ (all : List Outcome). NoneRanOut all (length all)) same_ports had_ports;
   banks_had = subst (λ (all : List Outcome). NoneRanOut all (length all)) same_banks had_banks;
 }
+
+pub lists_len : (vecs : Vec (Vec Record)) → length (lists_of vecs) ≡ length vecs.items
+lists_len vecs = length-map vecs.items (λ (v : Vec Record). v.items)

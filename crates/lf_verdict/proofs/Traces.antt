@@ -11,7 +11,7 @@ use Rattle.lf_model.specs.Fits.{Bytes, FitsRecord, Fits}
 use Rattle.lf_model.specs.Run.{of_log, NameTheirLogs}
 use Rattle.lf_model.specs.Order.{log_at}
 use Rattle.lf_codec.specs.declared.header.Header.{Header}
-use Rattle.lf_codec.specs.Trace.{IsTrace}
+use Rattle.lf_codec.specs.Trace.{FitsTrace, FitsMemory}
 use Rattle.lf_logs.specs.Lists.{logs_of}
 use Rattle.lf_verdict.specs.Legal.{Agrees, IsTraceFor}
 
@@ -54,9 +54,9 @@ fits_shape shape h r agrees fits =
     (subst (λ n. FitsRecord n h.banks h.block r) agrees.ports fits))
 
 -- the records of a trace for the shape fit the shape
-pub records_fit : (shape : Shape) (bytes : List ℕ) (h : Header) (memory : List (ℕ × Bytes)) (rs : List Record) → IsTrace bytes h memory rs → Agrees shape h → AllByRecursion (Fits shape) rs
-records_fit shape bytes h memory rs trace agrees =
-    all_weaker (FitsRecord h.ports h.banks h.block) (Fits shape) rs (λ r. fits_shape shape h r agrees) trace.fits.each
+pub records_fit : (shape : Shape) (h : Header) (memory : List (ℕ × Bytes)) (rs : List Record) → FitsTrace h memory rs → Agrees shape h → AllByRecursion (Fits shape) rs
+records_fit shape h memory rs fits agrees =
+    all_weaker (FitsRecord h.ports h.banks h.block) (Fits shape) rs (λ r. fits_shape shape h r agrees) fits.each
 
 pub logs_fit : (shape : Shape) (count : ℕ) (rs : List Record) → AllByRecursion (Fits shape) rs → (log : ℕ) → AllByRecursion (Fits shape) (log_at (logs_of count rs) log)
 logs_fit shape count rs all log =
@@ -73,4 +73,7 @@ trace_names shape bytes memory logs t = subst NameTheirLogs (sym t.are_logs) (lo
 pub trace_fits : (shape : Shape) (bytes : List ℕ) (memory : List (ℕ × Bytes)) (logs : List (List Record)) → IsTraceFor shape bytes memory logs → (log : ℕ) → AllByRecursion (Fits shape) (log_at logs log)
 trace_fits shape bytes memory logs t log =
     subst (λ (ls : List (List Record)). AllByRecursion (Fits shape) (log_at ls log)) (sym t.are_logs)
-        (logs_fit shape (shape.ports + shape.banks) t.records (records_fit shape bytes t.header memory t.records t.trace t.agrees) log)
+        (logs_fit shape (shape.ports + shape.banks) t.records (records_fit shape t.header memory t.records t.trace.fits t.agrees) log)
+
+pub memory_fits : {h : Header} {memory : List (ℕ × Bytes)} {rs : List Record} → FitsTrace h memory rs → FitsMemory h.block 0 memory
+memory_fits fits = fits.blocks

@@ -5,8 +5,12 @@ use Rattle.lf_model.specs.declared.event.Record.{Record}
 use Rattle.lf_model.specs.declared.outcome.Outcome.{Outcome}
 use Rattle.lf_model.specs.declared.outcome.Outcome.TheVariants as outcomes
 use Rattle.lf_model.specs.Address.{FlatMemory}
-use Rattle.lf_model.specs.Order.{log_at}
-use Rattle.lf_model.specs.Numbers.{bank_numbers, IsMissing, IsDouble, IsFineBelow, IsNumbered}
+use Rattle.std.specs.List.{AllByRecursion, All, range_with_len}
+use Rattle.lf_model.specs.Fits.{Fits}
+use Rattle.lf_model.specs.Order.{log_at, IsLeastOrder}
+use Rattle.lf_model.specs.Ring.{skeletons_of, IsRing}
+use Rattle.lf_join.specs.Join.{IsStuckRing}
+use Rattle.lf_model.specs.Numbers.{bank_numbers, numbers_of, IsMissing, IsDouble, IsFineBelow, IsNumbered}
 use Rattle.lf_model.specs.Outcomes.{IsPortOutcome, IsBankOutcome}
 use Rattle.lf_logs.specs.declared.order.NumberFault.{NumberFault}
 use Rattle.lf_logs.specs.declared.order.NumberFault.TheVariants as numbers
@@ -15,8 +19,11 @@ use Rattle.lf_verdict.specs.declared.answer.Fault.TheVariants as faults
 use Rattle.lf_verdict.specs.declared.parts.Broken.{Broken}
 use Rattle.lf_verdict.specs.declared.halt.Halt.{Halt}
 use Rattle.lf_verdict.specs.declared.halt.Halt.TheVariants as halts
-use Rattle.lf_verdict.specs.Parts.{HasWholeNumbers}
-use Rattle.lf_verdict.specs.Verdict.{IsFaultOf}
+use Rattle.lf_verdict.specs.declared.answer.Verdict.{Verdict}
+use Rattle.lf_verdict.specs.declared.answer.Verdict.TheVariants.{Yes, No, Refused}
+use Rattle.lf_verdict.specs.declared.answer.Refusal.TheVariants as refusals
+use Rattle.lf_verdict.specs.Parts.{HasWholeNumbers, PartsRun}
+use Rattle.lf_verdict.specs.Verdict.{IsFaultOf, IsTraceVerdict}
 
 -- the fault of the logs, or want of memory
 abbrev pub IsHalt : Shape → FlatMemory → List (List Record) → Halt → Type 0
@@ -37,6 +44,15 @@ abbrev pub number_halt : ℕ → NumberFault → Halt
 number_halt bank (numbers.Missing k) = halts.Found (faults.Missing bank k)
 number_halt bank (numbers.Double k) = halts.Found (faults.Double bank k)
 number_halt bank numbers.NoMemory = halts.NoMemory
+
+-- a bank's records: they fit the shape, name the bank and carry 0, 1, 2, ..
+pub record IsBankList (shape : Shape) (bank : ℕ) (rs : List Record) : Type 0 where
+  pub fit : All (Fits shape) rs
+  pub named : All (λ r. r.bank ≡ bank) rs
+  pub numbers : numbers_of rs ≡ range_with_len 0 (length rs)
+
+abbrev pub AreBankLists : Shape → List (List Record) → Type 0
+AreBankLists shape lists = (bank : ℕ) → bank < length lists → IsBankList shape bank (log_at lists bank)
 
 -- ---- outcomes, one for each port or each bank
 
@@ -63,3 +79,37 @@ pub record IsFirstBroken (all : List Outcome) (broken : Broken) : Type 0 where
   pub within : broken.part < length all
   pub is : outcome_at all broken.part ≡ outcomes.Broken broken.at broken.rule
   pub before : NoneBroken all broken.part
+
+-- ---- the order
+
+-- the logs that wait for one another, or want of memory
+abbrev pub IsOrderHalt : List (List (ℕ × ℕ)) → Halt → Type 0
+IsOrderHalt skeletons (halts.Found (faults.Cycle ring)) = IsStuckRing skeletons ring.items × IsRing skeletons ring.items
+IsOrderHalt skeletons halts.NoMemory = Unit {0}
+IsOrderHalt skeletons _ = ⊥
+
+-- each bank's numbers are whole, however great the bank's number is
+abbrev pub AllAreWhole : List (List Record) → Type 0
+AllAreWhole logs = (bank : ℕ) → HasWholeNumbers logs bank
+
+-- each log's records fit the shape
+abbrev pub LogsFit : Shape → List (List Record) → Type 0
+LogsFit shape logs = (log : ℕ) → AllByRecursion (Fits shape) (log_at logs log)
+
+-- ---- what is said of the logs
+
+pub record IsOrderOf (shape : Shape) (memory : FlatMemory) (logs : List (List Record)) (order : List ℕ) : Type 0 where
+  pub parts : PartsRun shape memory logs
+  pub least : IsLeastOrder (skeletons_of logs) order
+
+-- the verdict of the logs of a trace, or want of memory
+abbrev pub IsLogsVerdict : Shape → FlatMemory → List (List Record) → Verdict → Type 0
+IsLogsVerdict shape memory logs (Yes events order) = IsOrderOf shape memory logs order.items × (events ≡ length order.items)
+IsLogsVerdict shape memory logs (No fault) = IsFaultOf shape memory logs fault
+IsLogsVerdict shape memory logs (Refused refusals.Memory) = Unit {0}
+IsLogsVerdict shape memory logs _ = ⊥
+
+-- the verdict of the bytes, or want of memory
+abbrev pub IsAnswer : Shape → List ℕ → Verdict → Type 0
+IsAnswer shape bytes (Refused refusals.Memory) = Unit {0}
+IsAnswer shape bytes verdict = IsTraceVerdict shape bytes verdict

@@ -1,8 +1,8 @@
 -- The laws about verdicts.
-use Rattle.std.specs.Prelude.{ℕ, List, length, ◌≡◌}
+use Rattle.std.specs.Prelude.{ℕ, List}
 use Rattle.lf_model.specs.declared.shape.Shape.{Shape}
 use Rattle.lf_model.specs.declared.event.Record.{Record}
-use Rattle.lf_model.specs.Address.{flat_memory}
+use Rattle.lf_model.specs.Address.{FlatMemory, flat_memory}
 use Rattle.lf_model.specs.Fits.{Bytes}
 use Rattle.lf_model.specs.Run.{Interleaves, KeepsNumbers, IsRun}
 use Rattle.lf_model.specs.Copies.{IsCopyRun}
@@ -14,15 +14,16 @@ use Rattle.lf_verdict.specs.Verdict.{IsYes, IsNo}
 abbrev pub YesIsLegal : Type 0
 YesIsLegal = (shape : Shape) (bytes : List ℕ) (events : ℕ) (order : List ℕ) → IsYes shape bytes events order → IsLegal shape bytes order
 
--- The list holds the trace's logs, each in its own order, and keeps the numbers that the banks gave.
-pub record IsRecordedOrder (logs : List (List Record)) (rs : List Record) : Type 0 where
+-- The list holds the logs, each in its own order, and no other records, and keeps the numbers that the banks gave.
+pub record IsRecorded (logs : List (List Record)) (rs : List Record) : Type 0 where
   pub own_order : Interleaves logs rs
   pub numbers : KeepsNumbers rs
 
--- Where a part of a trace has a fault, or its logs wait for one another, no list of all its events that keeps the
--- banks' numbers is a run, nor a run whose levels hold copies of the bytes.
-abbrev pub NoAdmitsNone : Type 0
-NoAdmitsNone = (shape : Shape) (bytes : List ℕ) (fault : Fault) → IsNo shape bytes fault
-    → (memory : List (ℕ × Bytes)) (logs : List (List Record)) → IsTraceFor shape bytes memory logs
-    → (rs : List Record) → IsRecordedOrder logs rs
-    → ¬ IsRun shape (flat_memory memory) rs × ¬ IsCopyRun shape (flat_memory memory) rs
+-- No list of all records that keeps the banks' numbers is a run, and none is a run whose levels hold copies of the bytes.
+abbrev pub HasNoRun : Shape → FlatMemory → List (List Record) → Type 0
+HasNoRun shape memory logs = (rs : List Record) → IsRecorded logs rs → ¬ IsRun shape memory rs × ¬ IsCopyRun shape memory rs
+
+-- Where the answer is no, the trace has no run.
+abbrev pub NoHasNoRun : Type 0
+NoHasNoRun = (shape : Shape) (bytes : List ℕ) (fault : Fault) → IsNo shape bytes fault
+    → (memory : List (ℕ × Bytes)) (logs : List (List Record)) → IsTraceFor shape bytes memory logs → HasNoRun shape (flat_memory memory) logs

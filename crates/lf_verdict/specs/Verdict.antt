@@ -8,7 +8,8 @@ use Rattle.lf_model.specs.Address.{FlatMemory, flat_memory}
 use Rattle.lf_model.specs.Fits.{Bytes}
 use Rattle.lf_model.specs.Numbers.{bank_numbers, IsMissing, IsDouble}
 use Rattle.lf_model.specs.Order.{IsLeastOrder}
-use Rattle.lf_model.specs.Ring.{skeletons_of}
+use Rattle.lf_model.specs.declared.ring.Knot.{Knot}
+use Rattle.lf_model.specs.Ring.{skeletons_of, IsRing}
 use Rattle.lf_join.specs.Join.{IsStuckRing}
 use Rattle.lf_codec.specs.declared.header.Header.{Header}
 use Rattle.lf_codec.specs.Trace.{IsTrace}
@@ -49,13 +50,19 @@ pub record IsOfAnother (shape : Shape) (bytes : List ℕ) (field : HeaderField) 
   pub trace : IsTrace bytes header memory records
   pub differs : Differs shape header field
 
+-- The parts run. Where nothing more can go the waits lead to this ring, in which each log waits for the next.
+pub record IsCycle (shape : Shape) (memory : FlatMemory) (logs : List (List Record)) (ring : List Knot) : Type 0 where
+  pub parts : PartsRun shape memory logs
+  pub stuck : IsStuckRing (skeletons_of logs) ring
+  pub waits : IsRing (skeletons_of logs) ring
+
 -- The numbers are judged first, then the ports, then the banks, then whether the logs wait for one another.
 abbrev pub IsFaultOf : Shape → FlatMemory → List (List Record) → Fault → Type 0
 IsFaultOf shape memory logs (Missing bank k) = IsFirstNumber shape logs bank k × IsMissing (bank_numbers logs bank) k
 IsFaultOf shape memory logs (Double bank k) = IsFirstNumber shape logs bank k × IsDouble (bank_numbers logs bank) k
 IsFaultOf shape memory logs (Port port at rule) = IsPortFault shape memory logs port at rule
 IsFaultOf shape memory logs (Bank bank number rule) = IsBankFault shape memory logs bank number rule
-IsFaultOf shape memory logs (Cycle ring) = PartsRun shape memory logs × IsStuckRing (skeletons_of logs) ring.items
+IsFaultOf shape memory logs (Cycle ring) = IsCycle shape memory logs ring.items
 
 pub record IsNo (shape : Shape) (bytes : List ℕ) (fault : Fault) : Type 0 where
   pub memory : List (ℕ × Bytes)

@@ -1,15 +1,75 @@
 //! The verdict of bytes that come in pieces.
 
-ghost use Rattle.std.specs.Prelude.{◌≡◌, ◌↔◌, IfOk};
+ghost use Rattle.std.specs.Prelude.{◌≡◌, ◌↔◌, ℕ, List, IfSome, IfNone};
 ghost use Rattle.lf_model.specs.InRange.{IsShape};
-ghost use Rattle.lf_verdict.specs.Legal.{joined};
-ghost use Rattle.lf_verdict.specs.Verdict.{IsExplicit, IsWorkerCount, IsTraceVerdict, IsVerdictOf, IsLegalYes, IsJudged};
+ghost use Rattle.lf_codec.specs.Trace.{IsTrace, FitsTrace};
+ghost use Rattle.lf_verdict.specs.Legal.{joined, Agrees};
+ghost use Rattle.lf_verdict.specs.Verdict.{IsExplicit, IsWorkerCount, Differs, IsVerdictOf, IsLegalYes, IsJudged};
+ghost use Rattle.lf_verdict.specs.Judging.{IsAnswer};
 
-use crate::answer::{Refusal, Verdict};
+use crate::answer::{HeaderField, Refusal, Verdict};
+use crate::judge::logs_verdict;
+use crate::laws::yes_is_legal;
+use crate::reading::{Trace, read};
+use lf_codec::Header;
+use lf_logs::split;
 use lf_model::{NoMemory, Shape};
 use std::alloc::Global;
 
-/// The verdict of the trace that comes in these pieces. Only 1 worker is taken yet.
+/// The first number of the header that is not that of the shape.
+fn differing(shape: &Shape, header: Header) -> Option<HeaderField>
+    ensures some { IfSome result (Differs shape.now header) }
+    ensures none { IfNone result (Agrees shape.now header) }
+{
+    if u32::from(header.ports) != shape.ports {
+        return Some(HeaderField::Ports);
+    }
+    if u32::from(header.banks) != shape.banks {
+        return Some(HeaderField::Banks);
+    }
+    if u32::from(header.block) != shape.block {
+        return Some(HeaderField::Block);
+    }
+    None
+}
+
+/// The verdict of a trace that was read.
+fn trace_verdict(alloc: Global, shape: &Shape, trace: Trace) -> Verdict
+    requires shape { IsShape shape.now }
+    requires level1 { IsExplicit shape.now.level1.organisation }
+    requires level2 { IsExplicit shape.now.level2.organisation }
+    requires fits { FitsTrace trace.header trace.memory.items trace.records.items }
+    ensures { (bytes : List ℕ) → IsTrace bytes trace.header trace.memory.items trace.records.items → IsAnswer shape.now bytes result }
+{
+    let Trace {
+        header,
+        memory,
+        records,
+    } = trace;
+    if let Some(field) = differing(shape, header) {
+        return Verdict::Refused(Refusal::Header(field));
+    }
+    match split(alloc, shape.ports, shape.banks, records) {
+        Ok(logs) => logs_verdict(alloc, shape, &memory, &logs),
+        Err(NoMemory) => Verdict::Refused(Refusal::Memory),
+    }
+}
+
+/// The verdict of the bytes in these pieces.
+fn bytes_verdict(alloc: Global, shape: &Shape, pieces: &[&[u8]]) -> Verdict
+    requires shape { IsShape shape.now }
+    requires level1 { IsExplicit shape.now.level1.organisation }
+    requires level2 { IsExplicit shape.now.level2.organisation }
+    ensures { IsAnswer shape.now (joined pieces.now) result }
+{
+    match read(alloc, pieces) {
+        Ok(trace) => trace_verdict(alloc, shape, trace),
+        Err(refusal) => Verdict::Refused(refusal),
+    }
+}
+
+/// The verdict of the trace that comes in these pieces. Only 1 worker is taken yet, and explicitly
+/// addressed registers at both levels.
 pub fn check_shape<T: AllocGlobal>(
     rt: &T,
     shape: &Shape,
@@ -30,22 +90,6 @@ pub fn check_shape<T: AllocGlobal>(
     if workers != 1 {
         return Verdict::Refused(Refusal::Workers(workers));
     }
-    match trace_verdict(rt.alloc(), shape, pieces) {
-        Ok(verdict) => verdict,
-        Err(NoMemory) => Verdict::Refused(Refusal::Memory),
-    }
-}
-
-/// A stand-in.
-fn trace_verdict(alloc: Global, shape: &Shape, pieces: &[&[u8]]) -> Result<Verdict, NoMemory>
-    requires shape { IsShape shape.now }
-    requires level1 { IsExplicit shape.now.level1.organisation }
-    requires level2 { IsExplicit shape.now.level2.organisation }
-    ensures legal { IfOk result (IsLegalYes shape.now (joined pieces.now)) }
-    ensures verdict { IfOk result (IsTraceVerdict shape.now (joined pieces.now)) }
-{
-    let _ = alloc;
-    let _ = shape;
-    let _ = pieces;
-    Err(NoMemory)
+    yes_is_legal();
+    bytes_verdict(rt.alloc(), shape, pieces)
 }

@@ -1,8 +1,13 @@
-//! The laws about verdicts. Each function only calls the laws that its own follows from.
+//! The laws about verdicts. Each function only calls the laws from which its own follows.
 
-ghost use Rattle.lf_verdict.specs.Laws.{YesIsLegal};
+ghost use Rattle.lf_verdict.specs.Laws.{YesIsLegal, NoHasNoRun};
 
-use lf_model::{interleavings_are_numbered, numbers_are_whole, orders_interleave, runs_are_right, runs_by_parts, skeletons_follow};
+use lf_codec::one_trace;
+use lf_model::{
+    copies_are_flat, gaps_admit_none, interleavings_are_numbered, numbers_are_whole,
+    orders_interleave, outcomes_are_one, rings_admit_none, runs_are_right, runs_by_parts,
+    skeletons_follow,
+};
 
 /// Where each part of a trace runs and its logs have an order, the trace is legal by that order.
 pub fn yes_is_legal()
@@ -14,4 +19,19 @@ pub fn yes_is_legal()
     numbers_are_whole();
     orders_interleave();
     skeletons_follow();
+}
+
+/// Where a part of a trace has a fault, or its logs wait for one another, no list of all its events
+/// that keeps each log's order and the banks' numbers is a run, with or without copies.
+pub fn no_has_no_run()
+    ensures { NoHasNoRun }
+{
+    runs_by_parts();
+    copies_are_flat();
+    interleavings_are_numbered();
+    numbers_are_whole();
+    outcomes_are_one();
+    gaps_admit_none();
+    rings_admit_none();
+    one_trace();
 }

@@ -10,11 +10,13 @@
 mod answer;
 mod check;
 mod halt;
+mod judge;
 mod laws;
 mod numbers;
+mod order;
 mod parts;
 mod reading;
 
 pub use answer::{Fault, HeaderField, Refusal, Verdict};
 pub use check::check_shape;
-pub use laws::yes_is_legal;
+pub use laws::{no_has_no_run, yes_is_legal};

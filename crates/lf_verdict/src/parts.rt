@@ -7,10 +7,11 @@ ghost use Rattle.lf_model.specs.Address.{flat_memory};
 ghost use Rattle.lf_model.specs.InRange.{IsShape};
 ghost use Rattle.lf_model.specs.Order.{log_at};
 ghost use Rattle.lf_model.specs.Outcomes.{IsPortOutcome, IsBankOutcome};
+ghost use Rattle.lf_codec.specs.Trace.{FitsMemory};
 ghost use Rattle.lf_logs.specs.Lists.{lists_of};
 ghost use Rattle.lf_verdict.specs.Parts.{PartsRun};
 ghost use Rattle.lf_verdict.specs.Verdict.{IsExplicit};
-ghost use Rattle.lf_verdict.specs.Judging.{IsHalt, AreWholeBelow, AreNumbered, AreOutcomes, NoneBroken, NoneRanOut, IsFirstBroken};
+ghost use Rattle.lf_verdict.specs.Judging.{IsHalt, LogsFit, IsBankList, AreBankLists, AreWholeBelow, AreNumbered, AreOutcomes, NoneBroken, NoneRanOut, IsFirstBroken};
 
 use crate::answer::Fault;
 use crate::halt::{Halt, push};
@@ -42,6 +43,12 @@ fn port_outcomes(alloc: Global, shape: &Shape, logs: &Logs) -> Result<Vec<Outcom
 
 /// A stand-in.
 fn bank_outcome(alloc: Global, shape: &Shape, memory: &Memory, bank: u8, records: &[Record]) -> Outcome
+    requires shape { IsShape shape.now }
+    requires level1 { IsExplicit shape.now.level1.organisation }
+    requires level2 { IsExplicit shape.now.level2.organisation }
+    requires bank { bank < shape.now.banks }
+    requires memory { FitsMemory shape.now.block 0 memory.now.items }
+    requires records { IsBankList shape.now bank records.now }
     ensures { IsBankOutcome shape.now (flat_memory memory.now.items) records.now result }
 {
     let _ = alloc;
@@ -59,7 +66,12 @@ fn bank_outcomes(
     memory: &Memory,
     banks: &Vec<Vec<Record>>,
 ) -> Result<Vec<Outcome>, NoMemory>
-    requires few { length banks.now.items ≤ 16 }
+    requires shape { IsShape shape.now }
+    requires level1 { IsExplicit shape.now.level1.organisation }
+    requires level2 { IsExplicit shape.now.level2.organisation }
+    requires memory { FitsMemory shape.now.block 0 memory.now.items }
+    requires count { length banks.now.items ≡ shape.now.banks }
+    requires records { AreBankLists shape.now (lists_of banks.now) }
     ensures { IfOk result (λ all. AreOutcomes (λ bank. IsBankOutcome shape.now (flat_memory memory.now.items) (log_at (lists_of banks.now) bank))
         (length banks.now.items) all.items) }
 {
@@ -113,6 +125,8 @@ pub fn judge_parts(
     requires level2 { IsExplicit shape.now.level2.organisation }
     requires count { length logs.now.items ≡ shape.now.ports + shape.now.banks }
     requires short { All (λ log. length log.items ≤ 2 ^ 20) logs.now.items }
+    requires memory { FitsMemory shape.now.block 0 memory.now.items }
+    requires fit { LogsFit shape.now (lists_of logs.now) }
     requires whole { AreWholeBelow (lists_of logs.now) shape.now.banks }
     requires numbered { AreNumbered (lists_of logs.now) shape.now.banks (lists_of banks.now) }
     ensures run { OnOk result (PartsRun shape.now (flat_memory memory.now.items) (lists_of logs.now)) }

@@ -6,6 +6,7 @@ use Rattle.lf_model.specs.Outcomes.{IsBankOutcome}
 use Rattle.lf_model.specs.Order.{log_at}
 use Rattle.lf_logs.specs.Lists.{lists_of}
 use Rattle.lf_verdict.specs.Judging.{AreOutcomes, NoneBroken, NoneRanOut, IsFirstBroken}
+use Rattle.lf_verdict.proofs.Numbering.{bank_lists}
 use Rattle.lf_verdict.proofs.Outcomes.{Judged, judged, port_fault, bank_fault, parts_run}
 use Rattle.lf_verdict.proofs.parts.judge_parts.Goals as goal
 
@@ -34,3 +35,9 @@ returns-clause-run c =
             c.deref.ensures.value c.deref-else-ran_out.ensures.value c.if-ran_out.ensures c.if-ran_out-2.ensures)
         (subst (λ (all : List Outcome). NoneBroken all (length all)) c.deref-2.ensures.value c.in_default.ensures.none)
         (subst (λ (all : List Outcome). NoneBroken all (length all)) c.deref-3.ensures.value c.in_default-first_broken.ensures.none)
+
+pub bank_outcomes-requires-clause-count : goal.bank_outcomes-requires-clause-count
+bank_outcomes-requires-clause-count c = sym (length-map c.args.banks.now.items _) ∙ c.requires.numbered.count
+
+pub bank_outcomes-requires-clause-records : goal.bank_outcomes-requires-clause-records
+bank_outcomes-requires-clause-records c = bank_lists c.args.shape.now (lists_of c.args.logs.now) (lists_of c.args.banks.now) c.requires.fit c.requires.numbered
