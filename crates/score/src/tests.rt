@@ -4,4 +4,5 @@ mod damage;
 mod examples;
 mod hostile;
 mod notation;
+mod program;
 mod streams;
