@@ -7,7 +7,8 @@ use Rattle.lf_codec.specs.declared.fault.CodecFault.{CodecFault}
 use Rattle.lf_codec.specs.Checks.{judged, stage_checks}
 use Rattle.lf_codec.specs.Steps.{stage_len, advanced}
 use Rattle.lf_codec.specs.Reading.{Reading, byte_read, read_on, stepped, stepped_if, past_step}
-use Rattle.lf_codec.specs.Reader.{HasOneMore, IsRefused, WasRefused, IsUnkept, TakesPart, TakesStep}
+use Rattle.lf_codec.specs.Reader.{HasOneMore}
+use Rattle.lf_codec.specs.Takes.{IsRefused, WasRefused, IsUnkept, TakesPart, TakesStep}
 use Rattle.lf_codec.proofs.Bytes.{byte_waits, byte_ends, read_on-append, read_on-failed, read_on-more, not_at_end, one_more_given}
 
 -- bytes that end no step

@@ -1,11 +1,14 @@
 -- The laws between the bytes of a trace and what they are read as.
-use Rattle.std.specs.Prelude.{◌≡◌, ℕ, ◌<◌, ◌≤◌, List, [], ◌++◌, length, take, slice_index, Some, None, ◌↔◌}
+use Rattle.std.specs.Prelude.{◌≡◌, ℕ, ◌<◌, ◌≤◌, List, [], ◌++◌, length, take, slice_index, Option, Some, None, Result, Ok, Err, ◌↔◌, ◌∷◌}
 use Rattle.lf_model.specs.Fits.{Bytes}
 use Rattle.lf_model.specs.declared.event.Record.{Record}
 use Rattle.lf_codec.specs.declared.header.Header.{Header}
-use Rattle.lf_codec.specs.declared.fault.CodecCause.TheVariants.{Truncated, NoMemory}
+use Rattle.lf_codec.specs.declared.fault.CodecCause.{CodecCause}
+use Rattle.lf_codec.specs.declared.fault.CodecCause.TheVariants.{Truncated, Trailing, NoMemory}
 use Rattle.lf_codec.specs.declared.fault.CodecFault.{CodecFault}
-use Rattle.lf_codec.specs.Reading.{Reading, reading_of, fault_so_far, trace_fault, header_of}
+use Rattle.lf_codec.specs.Checks.{judged, header_checks}
+use Rattle.lf_codec.specs.Steps.{header_at}
+use Rattle.lf_codec.specs.Reading.{Reading, reading_of, truncated_at, fault_so_far, trace_fault, header_of}
 use Rattle.lf_codec.specs.Trace.{IsTrace}
 use Rattle.lf_codec.specs.Reader.{HasRead, Gives}
 
@@ -81,6 +84,33 @@ WhatStandsBeforeIsGiven = (bytes : List ℕ) (f : CodecFault) → AreBytes bytes
 -- want of memory is no fault of bytes
 abbrev pub BytesNeverWantMemory : Type 0
 BytesNeverWantMemory = (bytes : List ℕ) (f : CodecFault) → trace_fault bytes ≡ Some f → f.cause ≡ NoMemory → ⊥
+
+-- a byte after a trace is one too many
+abbrev pub MoreIsTrailing : Type 0
+MoreIsTrailing = (bytes more : List ℕ) (b : ℕ) (h : Header) (memory : List (ℕ × Bytes)) (records : List Record) → AreBytes bytes → IsTrace bytes h memory records
+    → fault_so_far (bytes ++ b ∷ more) ≡ Some (record { cause = Trailing; offset = length bytes })
+
+-- the bytes end within the header or record that begins here, and what stands before it is all that they give
+pub record IsTruncated (bytes : List ℕ) : Type 0 where
+  pub offset : ℕ
+  pub within : offset ≤ length bytes
+  pub fault : trace_fault bytes ≡ truncated_at offset
+  pub same : GivesSame (take offset bytes) bytes
+
+-- a trace that lacks bytes at its end is truncated
+abbrev pub LessIsTruncated : Type 0
+LessIsTruncated = (bytes more : List ℕ) (b : ℕ) (h : Header) (memory : List (ℕ × Bytes)) (records : List Record) → AreBytes bytes → IsTrace (bytes ++ b ∷ more) h memory records → IsTruncated bytes
+
+-- ---- the header
+
+abbrev pub header_if : Result (Unit {0}) CodecCause → List ℕ → Option Header
+header_if (Ok _) bytes = Some (header_at bytes)
+header_if (Err cause) bytes = None
+
+-- the header is there exactly where its 16 bytes are, and pass their checks
+pub record HeaderIsOfItsBytes : Type 0 where
+  pub fewer : (bytes : List ℕ) → length bytes < 16 → header_of bytes ≡ None
+  pub whole : (bytes : List ℕ) → 16 ≤ length bytes → header_of bytes ≡ header_if (judged (header_checks (take 16 bytes))) (take 16 bytes)
 
 -- ---- readers
 
