@@ -1,8 +1,10 @@
+mod BankLists
 mod Counting
 mod Joined
 mod Judged
 mod Members
 mod Ordered
+mod Placing
 mod PortRun
 mod Reading
 mod Splitting

@@ -2,13 +2,16 @@
 
 ghost use Rattle.std.specs.Prelude.{◌≡◌};
 
-use crate::{NumberFault, Place, bank_order, port_replay, record_at, skeletons, split};
+use crate::{
+    NumberFault, Place, bank_order, bank_records, port_replay, record_at, skeletons, split,
+};
 use lf_model::{Block, Event, Level, Op, OrgShape, Outcome, Record, Rule, Shape};
 use std::test::Fail;
 
 /// An event of port 0 at bank 0.
 fn of_port(number: u32, event: Event) -> Record
-    ensures { result.log ≡ 0 }
+    ensures log { result.log ≡ 0 }
+    ensures bank { result.bank ≡ 0 }
 {
     Record {
         log: 0,
@@ -20,7 +23,8 @@ fn of_port(number: u32, event: Event) -> Record
 
 /// An event of bank 0, where there is one port.
 fn of_bank(number: u32, event: Event) -> Record
-    ensures { result.log ≡ 1 }
+    ensures log { result.log ≡ 1 }
+    ensures bank { result.bank ≡ 0 }
 {
     Record {
         log: 1,
@@ -40,7 +44,8 @@ fn zeros() -> Block {
 
 /// A load of block 0.
 fn load(tag: u8, number: u32) -> Record
-    ensures { result.log ≡ 0 }
+    ensures log { result.log ≡ 0 }
+    ensures bank { result.bank ≡ 0 }
 {
     of_port(
         number,
@@ -56,7 +61,8 @@ fn load(tag: u8, number: u32) -> Record
 
 /// Its reply.
 fn reply(tag: u8, number: u32) -> Record
-    ensures { result.log ≡ 0 }
+    ensures log { result.log ≡ 0 }
+    ensures bank { result.bank ≡ 0 }
 {
     of_port(
         number,
@@ -133,6 +139,33 @@ fn gaps_and_doubles(rt: HostRuntime) -> Result<(), Fail> {
             }
             Err(found) => assert_eq!(rt; Some(found), fault),
         }
+    }
+    Ok(())
+}
+
+#[test]
+fn records_of_a_bank_from_two_logs(rt: HostRuntime) -> Result<(), Fail> {
+    let stall = Event::Stall { port: 0, tag: 0 };
+    let port = vec![in rt.alloc(); load(0, 3), load(1, 0)]?;
+    let bank = vec![in rt.alloc(); of_bank(2, stall.clone()?), of_bank(1, stall.clone()?)]?;
+    let logs = vec![in rt.alloc(); port, bank]?;
+    assert!(rt; logs.len() <= 32);
+    assert!(rt; logs.iter().all(|log| log.len() <= 1 << 20));
+    match bank_order(rt.alloc(), &logs, 0) {
+        Ok(order) => {
+            let places = [(0, 1), (1, 1), (1, 0), (0, 0)].map(|(log, at)| Place { log, at });
+            assert_eq!(rt; order.as_slice(), places.as_slice());
+            let banks = bank_records(rt.alloc(), 1, logs).ok().ok_or("no memory")?;
+            assert_eq!(rt; banks.len(), 1);
+            let sorted = [
+                load(1, 0),
+                of_bank(1, stall.clone()?),
+                of_bank(2, stall),
+                load(0, 3),
+            ];
+            assert_eq!(rt; banks[0].as_slice(), sorted.as_slice());
+        }
+        Err(fault) => assert!(rt; false, "{fault:?}"),
     }
     Ok(())
 }
