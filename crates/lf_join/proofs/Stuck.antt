@@ -31,7 +31,7 @@ numbered_is bank k (x ∷ xs) = go (x.0 == bank) (numbered_is bank k xs)
     go true rest = same (x.1 == k) rest
     go false rest = rest
 
-times_is : (bank k : ℕ) (xs : List (ℕ × ℕ)) → times k (map (λ (e : ℕ × ℕ). e.1) (entries_of bank xs)) ≡ count (is_next bank k) xs
+pub times_is : (bank k : ℕ) (xs : List (ℕ × ℕ)) → times k (map (λ (e : ℕ × ℕ). e.1) (entries_of bank xs)) ≡ count (is_next bank k) xs
 times_is bank k xs =
     sym (is_count_by (λ (ns : List ℕ). length (filter (λ n. n == k) ns)) (λ n. n == k) refl (λ n ns. step (n == k) n (filter (λ m. m == k) ns)) (map (λ (e : ℕ × ℕ). e.1) (entries_of bank xs)))
     ∙ numbered_is bank k xs
@@ -59,7 +59,7 @@ some_in_range a (suc n) k from below =
 gone_numbers : (gone : List (ℕ × ℕ)) (bank k : ℕ) → EntriesKeepNumbers gone → count (is_next bank k) gone ≡ length (filter (λ m. m == k) (range_with_len 0 (next_number gone bank)))
 gone_numbers gone bank k kept = sym (numbered_is bank k gone) ∙ ap (λ (ms : List ℕ). length (filter (λ m. m == k) ms)) (kept bank)
 
-one_of : (p : ℕ × ℕ → Bool) (x : ℕ × ℕ) → p x ≡ true → count p (x ∷ []) ≡ 1
+pub one_of : (p : ℕ × ℕ → Bool) (x : ℕ × ℕ) → p x ≡ true → count p (x ∷ []) ≡ 1
 one_of p x passes = ap length (cond-true (p x) (x ∷ []) [] passes)
 
 -- ---- where an entry stands
