@@ -20,3 +20,6 @@ mod reading;
 pub use answer::{Fault, HeaderField, Refusal, Verdict};
 pub use check::check_shape;
 pub use laws::{no_has_no_run, yes_is_legal};
+
+#[cfg(test)]
+mod tests;
