@@ -7,10 +7,12 @@
 
 mod fault;
 mod held;
+mod inverted;
 mod organisation;
 mod target;
 
 pub use fault::RegisterFault;
-pub use held::Held;
+pub use held::{Held, Targets};
+pub use inverted::{Inverted, InvertedFile};
 pub use organisation::Organisation;
 pub use target::{Request1, Request2, Target};
