@@ -1,6 +1,7 @@
 -- The laws between the bytes of a trace and what they are read as.
 use Rattle.std.specs.Prelude.{◌≡◌, ℕ, ◌<◌, ◌≤◌, List, [], ◌++◌, length, take, slice_index, Option, Some, None, Result, Ok, Err, ◌↔◌, ◌∷◌}
-use Rattle.lf_model.specs.Fits.{Bytes}
+use Rattle.std.specs.List.{AllByRecursion}
+use Rattle.lf_model.specs.Fits.{Bytes, FitsRecord}
 use Rattle.lf_model.specs.declared.event.Record.{Record}
 use Rattle.lf_codec.specs.declared.header.Header.{Header}
 use Rattle.lf_codec.specs.declared.fault.CodecCause.{CodecCause}
@@ -9,7 +10,7 @@ use Rattle.lf_codec.specs.declared.fault.CodecFault.{CodecFault}
 use Rattle.lf_codec.specs.Checks.{judged, header_checks}
 use Rattle.lf_codec.specs.Steps.{header_at}
 use Rattle.lf_codec.specs.Reading.{Reading, reading_of, truncated_at, fault_so_far, trace_fault, header_of}
-use Rattle.lf_codec.specs.Trace.{IsTrace}
+use Rattle.lf_codec.specs.Trace.{FitsHeader, FitsMemory, log_len, IsTrace}
 use Rattle.lf_codec.specs.Reader.{HasRead, Gives}
 
 abbrev pub AreBytes : List ℕ → Type 0
@@ -111,6 +112,20 @@ header_if (Err cause) bytes = None
 pub record HeaderIsOfItsBytes : Type 0 where
   pub fewer : (bytes : List ℕ) → length bytes < 16 → header_of bytes ≡ None
   pub whole : (bytes : List ℕ) → 16 ≤ length bytes → header_of bytes ≡ header_if (judged (header_checks (take 16 bytes))) (take 16 bytes)
+
+-- ---- what has been read
+
+-- memory and records that fit this header, with more to come
+pub record FitsSoFar (h : Header) (memory : List (ℕ × Bytes)) (records : List Record) : Type 0 where
+  pub header : FitsHeader h
+  pub few : length memory ≤ h.memory_count
+  pub blocks : FitsMemory h.block 0 memory
+  pub each : AllByRecursion (FitsRecord h.ports h.banks h.block) records
+  pub logs : (log : ℕ) → log_len log records ≤ 1048576
+
+-- what has been read fits, before the end of the trace and before a fault too
+abbrev pub WhatIsReadFits : Type 0
+WhatIsReadFits = (bytes : List ℕ) (h : Header) → AreBytes bytes → header_of bytes ≡ Some h → FitsSoFar h (reading_of bytes).memory (reading_of bytes).records
 
 -- ---- readers
 

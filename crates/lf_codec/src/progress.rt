@@ -10,7 +10,7 @@ use crate::fields::u32_at;
 use crate::header::Header;
 use crate::stage::{Found, Stage};
 use crate::step::{
-    between, block_of, data_len, event_at, head_at, header_at, stage_len, with_bytes,
+    between, block_of, data_len, head_at, header_at, record_at, record_with, stage_len,
 };
 use lf_model::Record;
 use std::mem;
@@ -187,31 +187,8 @@ impl Progress {
                 }
                 Found::Nothing
             }
-            Stage::Fixed(head) => {
-                let item = Record {
-                    log: head.log,
-                    bank: head.bank,
-                    number: head.number,
-                    event: event_at(head.kind, bytes),
-                };
-                self.past_fixed(bytes.len() as u64, item)
-            }
-            Stage::Data(item) => {
-                let n = bytes.len() as u64;
-                let Record {
-                    log,
-                    bank,
-                    number,
-                    event,
-                } = item;
-                let item = Record {
-                    log,
-                    bank,
-                    number,
-                    event: with_bytes(event, block_of(bytes)),
-                };
-                self.past_record(n, item)
-            }
+            Stage::Fixed(head) => self.past_fixed(bytes.len() as u64, record_at(head, bytes)),
+            Stage::Data(item) => self.past_record(bytes.len() as u64, record_with(item, bytes)),
             Stage::Ended => Found::Nothing,
         }
     }
