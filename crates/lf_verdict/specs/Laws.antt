@@ -1,5 +1,5 @@
 -- The laws about verdicts.
-use Rattle.std.specs.Prelude.{ℕ, List}
+use Rattle.std.specs.Prelude.{◌≡◌, ℕ, ◌<◌, List, slice_index}
 use Rattle.lf_model.specs.declared.shape.Shape.{Shape}
 use Rattle.lf_model.specs.declared.event.Record.{Record}
 use Rattle.lf_model.specs.Address.{FlatMemory, flat_memory}
@@ -7,8 +7,11 @@ use Rattle.lf_model.specs.Fits.{Bytes}
 use Rattle.lf_model.specs.Run.{Interleaves, KeepsNumbers, IsRun}
 use Rattle.lf_model.specs.Copies.{IsCopyRun}
 use Rattle.lf_verdict.specs.declared.answer.Fault.{Fault}
+use Rattle.lf_verdict.specs.declared.answer.Fault.TheVariants.{Cycle}
+use Rattle.lf_verdict.specs.declared.answer.Verdict.{Verdict}
+use Rattle.lf_verdict.specs.declared.answer.Verdict.TheVariants.{Yes, No, Refused}
 use Rattle.lf_verdict.specs.Legal.{IsTraceFor, IsLegal}
-use Rattle.lf_verdict.specs.Verdict.{IsYes, IsNo}
+use Rattle.lf_verdict.specs.Verdict.{IsYes, IsNo, IsVerdictOf}
 
 -- Where each part of a trace runs and its logs have an order, the trace is legal by that order.
 abbrev pub YesIsLegal : Type 0
@@ -27,3 +30,20 @@ HasNoRun shape memory logs = (rs : List Record) → IsRecorded logs rs → ¬ Is
 abbrev pub NoHasNoRun : Type 0
 NoHasNoRun = (shape : Shape) (bytes : List ℕ) (fault : Fault) → IsNo shape bytes fault
     → (memory : List (ℕ × Bytes)) (logs : List (List Record)) → IsTraceFor shape bytes memory logs → HasNoRun shape (flat_memory memory) logs
+
+-- the same fault, but for which of the logs that wait a cycle names
+abbrev pub SameFault : Fault → Fault → Type 0
+SameFault (Cycle ring) (Cycle ring') = Unit {0}
+SameFault fault fault' = fault ≡ fault'
+
+-- the same verdict, wherever its order lies in memory
+abbrev pub SameVerdict : Verdict → Verdict → Type 0
+SameVerdict (Yes events order) (Yes events' order') = (events ≡ events') × (order.items ≡ order'.items)
+SameVerdict (No fault) (No fault') = SameFault fault fault'
+SameVerdict (Refused refusal) (Refused refusal') = refusal ≡ refusal'
+SameVerdict _ _ = ⊥
+
+-- Bytes have one verdict.
+abbrev pub VerdictsAreOne : Type 0
+VerdictsAreOne = (shape : Shape) (workers : ℕ) (bytes : List ℕ) (a b : Verdict) → ((i : ℕ) → slice_index bytes i < 256)
+    → IsVerdictOf shape workers bytes a → IsVerdictOf shape workers bytes b → SameVerdict a b

@@ -1,8 +1,8 @@
 //! The laws about verdicts. Each function only calls the laws from which its own follows.
 
-ghost use Rattle.lf_verdict.specs.Laws.{YesIsLegal, NoHasNoRun};
+ghost use Rattle.lf_verdict.specs.Laws.{YesIsLegal, NoHasNoRun, VerdictsAreOne};
 
-use lf_codec::one_trace;
+use lf_codec::{faultless_bytes, one_trace};
 use lf_model::{
     copies_are_flat, gaps_admit_none, interleavings_are_numbered, numbers_are_whole,
     orders_interleave, outcomes_are_one, rings_admit_none, runs_are_right, runs_by_parts,
@@ -34,4 +34,17 @@ pub fn no_has_no_run()
     gaps_admit_none();
     rings_admit_none();
     one_trace();
+}
+
+/// Bytes have one verdict, but for which of the logs that wait for one another a cycle names.
+pub fn verdicts_are_one()
+    ensures { VerdictsAreOne }
+{
+    numbers_are_whole();
+    outcomes_are_one();
+    rings_admit_none();
+    orders_interleave();
+    skeletons_follow();
+    one_trace();
+    faultless_bytes();
 }
