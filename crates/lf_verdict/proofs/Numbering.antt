@@ -3,7 +3,9 @@ use Rattle.std.proofs.Common.{◌≡◌, ℕ, ◌+◌, ◌<◌, ◌≤◌, Bool,
 use Rattle.std.specs.List.{filter_map, AllByRecursion, All}
 use Rattle.std.specs.Prelude.{◌==◌}
 use Rattle.std.proofs.lemmas.List.Sorted.{All-permutation, IsPermutation-sym}
-use Rattle.std.proofs.lemmas.List.Elements.{All-from_recursion}
+use Rattle.std.proofs.lemmas.List.Elements.{All-from_recursion, recursion_from_All}
+use Rattle.std.specs.List.Sorted.{IsPermutation}
+use Rattle.lf_replay.specs.Step.{IsBankOrder}
 use Rattle.lf_model.specs.Fits.{Fits}
 use Rattle.lf_model.specs.Run.{of_bank}
 use Rattle.lf_verdict.proofs.Entries.{all_of_logs}
@@ -23,7 +25,7 @@ use Rattle.lf_logs.specs.declared.order.Place.{Place}
 use Rattle.lf_logs.specs.Lists.{lists_of}
 use Rattle.lf_logs.specs.Places.{record_at, records_at, IsNumberFault}
 use Rattle.lf_verdict.specs.Parts.{HasWholeNumbers}
-use Rattle.lf_verdict.specs.Judging.{IsHalt, AreWholeBelow, AreNumbered, number_halt, LogsFit, IsBankList, AreBankLists}
+use Rattle.lf_verdict.specs.Judging.{IsHalt, AreWholeBelow, AreNumbered, number_halt, LogsFit, AreBankLists}
 
 one_more : {X Y : Type 0} (f : X → Option Y) (xs : List X) (i : ℕ) (d : X) → i < length xs → filter_map f (take (i + 1) xs) ≡ filter_map f (take i xs) ++ filter_map f (get_or xs i d ∷ [])
 one_more f xs i d lt = ap (filter_map f) (take_more xs i d lt) ∙ filter_map-append f (take i xs) (get_or xs i d ∷ [])
@@ -90,14 +92,17 @@ fits_and_names shape bank (r ∷ rs) fits = go (r.bank == bank) refl (fits_and_n
     go true e rest = ((fits.0, rest.0), (eqb-true r.bank bank e, rest.1))
     go false e rest = rest
 
-bank_list : (shape : Shape) (logs : List (List Record)) (bank : ℕ) (rs : List Record) → LogsFit shape logs → IsNumbered logs bank rs → IsBankList shape bank rs
+all_moved : (P : Record → Type 0) (xs ys : List Record) → IsPermutation xs ys → AllByRecursion P xs → AllByRecursion P ys
+all_moved P xs ys moved all = recursion_from_All P ys (All-permutation P xs ys moved (All-from_recursion P xs all))
+
+bank_list : (shape : Shape) (logs : List (List Record)) (bank : ℕ) (rs : List Record) → LogsFit shape logs → IsNumbered logs bank rs → IsBankOrder shape bank rs
 bank_list shape logs bank rs fits is =
     let both = fits_and_names shape bank (all_records logs) (all_of_logs (Fits shape) logs fits) in
     let back = IsPermutation-sym rs (of_bank bank (all_records logs)) is.same in
     record {
-      fit = All-permutation (Fits shape) (of_bank bank (all_records logs)) rs back (All-from_recursion (Fits shape) (of_bank bank (all_records logs)) both.0);
-      named = All-permutation (λ r. r.bank ≡ bank) (of_bank bank (all_records logs)) rs back (All-from_recursion (λ r. r.bank ≡ bank) (of_bank bank (all_records logs)) both.1);
-      numbers = is.numbers;
+      fit = all_moved (Fits shape) (of_bank bank (all_records logs)) rs back both.0;
+      named = all_moved (λ r. r.bank ≡ bank) (of_bank bank (all_records logs)) rs back both.1;
+      numbered = is.numbers;
     }
 
 pub bank_lists : (shape : Shape) (logs lists : List (List Record)) → LogsFit shape logs → AreNumbered logs shape.banks lists → AreBankLists shape lists

@@ -11,7 +11,7 @@ use Rattle.lf_model.specs.Fits.{Bytes, FitsRecord, Fits}
 use Rattle.lf_model.specs.Run.{of_log, NameTheirLogs}
 use Rattle.lf_model.specs.Order.{log_at}
 use Rattle.lf_codec.specs.declared.header.Header.{Header}
-use Rattle.lf_codec.specs.Trace.{FitsTrace, FitsMemory}
+use Rattle.lf_codec.specs.Trace.{FitsTrace}
 use Rattle.lf_logs.specs.Lists.{logs_of}
 use Rattle.lf_verdict.specs.Legal.{Agrees, IsTraceFor}
 
@@ -74,6 +74,3 @@ pub trace_fits : (shape : Shape) (bytes : List ℕ) (memory : List (ℕ × Bytes
 trace_fits shape bytes memory logs t log =
     subst (λ (ls : List (List Record)). AllByRecursion (Fits shape) (log_at ls log)) (sym t.are_logs)
         (logs_fit shape (shape.ports + shape.banks) t.records (records_fit shape t.header memory t.records t.trace.fits t.agrees) log)
-
-pub memory_fits : {h : Header} {memory : List (ℕ × Bytes)} {rs : List Record} → FitsTrace h memory rs → FitsMemory h.block 0 memory
-memory_fits fits = fits.blocks

@@ -5,12 +5,13 @@ use Rattle.lf_model.specs.declared.event.Record.{Record}
 use Rattle.lf_model.specs.declared.outcome.Outcome.{Outcome}
 use Rattle.lf_model.specs.declared.outcome.Outcome.TheVariants as outcomes
 use Rattle.lf_model.specs.Address.{FlatMemory}
-use Rattle.std.specs.List.{AllByRecursion, All, range_with_len}
+use Rattle.std.specs.List.{AllByRecursion}
 use Rattle.lf_model.specs.Fits.{Fits}
 use Rattle.lf_model.specs.Order.{log_at, IsLeastOrder}
 use Rattle.lf_model.specs.Ring.{skeletons_of, IsRing}
 use Rattle.lf_join.specs.Join.{IsStuckRing}
-use Rattle.lf_model.specs.Numbers.{bank_numbers, numbers_of, IsMissing, IsDouble, IsFineBelow, IsNumbered}
+use Rattle.lf_replay.specs.Step.{IsBankOrder}
+use Rattle.lf_model.specs.Numbers.{bank_numbers, IsMissing, IsDouble, IsFineBelow, IsNumbered}
 use Rattle.lf_model.specs.Outcomes.{IsPortOutcome, IsBankOutcome}
 use Rattle.lf_logs.specs.declared.order.NumberFault.{NumberFault}
 use Rattle.lf_logs.specs.declared.order.NumberFault.TheVariants as numbers
@@ -45,14 +46,9 @@ number_halt bank (numbers.Missing k) = halts.Found (faults.Missing bank k)
 number_halt bank (numbers.Double k) = halts.Found (faults.Double bank k)
 number_halt bank numbers.NoMemory = halts.NoMemory
 
--- a bank's records: they fit the shape, name the bank and carry 0, 1, 2, ..
-pub record IsBankList (shape : Shape) (bank : ℕ) (rs : List Record) : Type 0 where
-  pub fit : All (Fits shape) rs
-  pub named : All (λ r. r.bank ≡ bank) rs
-  pub numbers : numbers_of rs ≡ range_with_len 0 (length rs)
-
+-- the lists of the banks, each as a bank's replay takes it
 abbrev pub AreBankLists : Shape → List (List Record) → Type 0
-AreBankLists shape lists = (bank : ℕ) → bank < length lists → IsBankList shape bank (log_at lists bank)
+AreBankLists shape lists = (bank : ℕ) → bank < length lists → IsBankOrder shape bank (log_at lists bank)
 
 -- ---- outcomes, one for each port or each bank
 

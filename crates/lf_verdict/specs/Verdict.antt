@@ -1,8 +1,6 @@
 -- Which verdict a trace has.
 use Rattle.std.specs.Prelude.{◌≡◌, ℕ, List, length, Some}
 use Rattle.lf_model.specs.declared.shape.Shape.{Shape}
-use Rattle.lf_model.specs.declared.shape.OrgShape.{OrgShape}
-use Rattle.lf_model.specs.declared.shape.OrgShape.TheVariants.{Explicit}
 use Rattle.lf_model.specs.declared.event.Record.{Record}
 use Rattle.lf_model.specs.Address.{FlatMemory, flat_memory}
 use Rattle.lf_model.specs.Fits.{Bytes}
@@ -26,10 +24,6 @@ use Rattle.lf_verdict.specs.Legal.{IsTraceFor, IsLegal}
 use Rattle.lf_verdict.specs.Parts.{PartsRun, IsFirstNumber, IsPortFault, IsBankFault}
 
 -- ---- what the call takes so far
-
-abbrev pub IsExplicit : OrgShape → Type 0
-IsExplicit (Explicit registers entries) = Unit {0}
-IsExplicit _ = ⊥
 
 -- how many workers there may be
 abbrev pub IsWorkerCount : ℕ → Type 0

@@ -4,7 +4,7 @@ ghost use Rattle.std.specs.Prelude.{◌≡◌, ◌↔◌, ℕ, List, IfSome, IfN
 ghost use Rattle.lf_model.specs.InRange.{IsShape};
 ghost use Rattle.lf_codec.specs.Trace.{IsTrace, FitsTrace};
 ghost use Rattle.lf_verdict.specs.Legal.{joined, Agrees};
-ghost use Rattle.lf_verdict.specs.Verdict.{IsExplicit, IsWorkerCount, Differs, IsVerdictOf, IsLegalYes, IsJudged};
+ghost use Rattle.lf_verdict.specs.Verdict.{IsWorkerCount, Differs, IsVerdictOf, IsLegalYes, IsJudged};
 ghost use Rattle.lf_verdict.specs.Judging.{IsAnswer};
 
 use crate::answer::{HeaderField, Refusal, Verdict};
@@ -36,8 +36,6 @@ fn differing(shape: &Shape, header: Header) -> Option<HeaderField>
 /// The verdict of a trace that was read.
 fn trace_verdict(alloc: Global, shape: &Shape, trace: Trace) -> Verdict
     requires shape { IsShape shape.now }
-    requires level1 { IsExplicit shape.now.level1.organisation }
-    requires level2 { IsExplicit shape.now.level2.organisation }
     requires fits { FitsTrace trace.header trace.memory.items trace.records.items }
     ensures { (bytes : List ℕ) → IsTrace bytes trace.header trace.memory.items trace.records.items → IsAnswer shape.now bytes result }
 {
@@ -58,8 +56,6 @@ fn trace_verdict(alloc: Global, shape: &Shape, trace: Trace) -> Verdict
 /// The verdict of the bytes in these pieces.
 fn bytes_verdict(alloc: Global, shape: &Shape, pieces: &[&[u8]]) -> Verdict
     requires shape { IsShape shape.now }
-    requires level1 { IsExplicit shape.now.level1.organisation }
-    requires level2 { IsExplicit shape.now.level2.organisation }
     ensures { IsAnswer shape.now (joined pieces.now) result }
 {
     match read(alloc, pieces) {
@@ -68,8 +64,7 @@ fn bytes_verdict(alloc: Global, shape: &Shape, pieces: &[&[u8]]) -> Verdict
     }
 }
 
-/// The verdict of the trace that comes in these pieces. Only 1 worker is taken yet, and explicitly
-/// addressed registers at both levels.
+/// The verdict of the trace that comes in these pieces. Only 1 worker is taken yet.
 pub fn check_shape<T: AllocGlobal>(
     rt: &T,
     shape: &Shape,
@@ -77,8 +72,6 @@ pub fn check_shape<T: AllocGlobal>(
     workers: u32,
 ) -> Verdict
     requires shape { IsShape shape.now }
-    requires level1 { IsExplicit shape.now.level1.organisation }
-    requires level2 { IsExplicit shape.now.level2.organisation }
 
     // A yes means that the trace is legal.
     ensures legal { IsLegalYes shape.now (joined pieces.now) result }

@@ -4,9 +4,7 @@ ghost use Rattle.std.specs.Prelude.{◌≡◌, ◌+◌, ◌≤◌, ◌^◌, leng
 ghost use Rattle.std.specs.List.{All};
 ghost use Rattle.lf_model.specs.Address.{flat_memory};
 ghost use Rattle.lf_model.specs.InRange.{IsShape};
-ghost use Rattle.lf_codec.specs.Trace.{FitsMemory};
 ghost use Rattle.lf_logs.specs.Lists.{lists_of};
-ghost use Rattle.lf_verdict.specs.Verdict.{IsExplicit};
 ghost use Rattle.lf_verdict.specs.Judging.{IsHalt, LogsFit, IsOrderOf, IsLogsVerdict};
 
 use crate::answer::{Refusal, Verdict};
@@ -21,11 +19,8 @@ use std::alloc::Global;
 /// whether the logs wait for one another.
 fn judged_order(alloc: Global, shape: &Shape, memory: &Memory, logs: &Logs) -> Result<Vec<u8>, Halt>
     requires shape { IsShape shape.now }
-    requires level1 { IsExplicit shape.now.level1.organisation }
-    requires level2 { IsExplicit shape.now.level2.organisation }
     requires count { length logs.now.items ≡ shape.now.ports + shape.now.banks }
     requires short { All (λ log. length log.items ≤ 2 ^ 20) logs.now.items }
-    requires memory { FitsMemory shape.now.block 0 memory.now.items }
     requires fit { LogsFit shape.now (lists_of logs.now) }
     ensures order { IfOk result (λ order. IsOrderOf shape.now (flat_memory memory.now.items) (lists_of logs.now) order.items) }
     ensures fault { IfErr result (IsHalt shape.now (flat_memory memory.now.items) (lists_of logs.now)) }
@@ -38,11 +33,8 @@ fn judged_order(alloc: Global, shape: &Shape, memory: &Memory, logs: &Logs) -> R
 /// The verdict of the logs of a trace that agrees with the shape.
 pub fn logs_verdict(alloc: Global, shape: &Shape, memory: &Memory, logs: &Logs) -> Verdict
     requires shape { IsShape shape.now }
-    requires level1 { IsExplicit shape.now.level1.organisation }
-    requires level2 { IsExplicit shape.now.level2.organisation }
     requires count { length logs.now.items ≡ shape.now.ports + shape.now.banks }
     requires short { All (λ log. length log.items ≤ 2 ^ 20) logs.now.items }
-    requires memory { FitsMemory shape.now.block 0 memory.now.items }
     requires fit { LogsFit shape.now (lists_of logs.now) }
     ensures { IsLogsVerdict shape.now (flat_memory memory.now.items) (lists_of logs.now) result }
 {

@@ -7,16 +7,15 @@ ghost use Rattle.lf_model.specs.Address.{flat_memory};
 ghost use Rattle.lf_model.specs.InRange.{IsShape};
 ghost use Rattle.lf_model.specs.Order.{log_at};
 ghost use Rattle.lf_model.specs.Outcomes.{IsPortOutcome, IsBankOutcome};
-ghost use Rattle.lf_codec.specs.Trace.{FitsMemory};
 ghost use Rattle.lf_logs.specs.Lists.{lists_of};
 ghost use Rattle.lf_verdict.specs.Parts.{PartsRun};
-ghost use Rattle.lf_verdict.specs.Verdict.{IsExplicit};
-ghost use Rattle.lf_verdict.specs.Judging.{IsHalt, LogsFit, IsBankList, AreBankLists, AreWholeBelow, AreNumbered, AreOutcomes, NoneBroken, NoneRanOut, IsFirstBroken};
+ghost use Rattle.lf_verdict.specs.Judging.{IsHalt, LogsFit, AreBankLists, AreWholeBelow, AreNumbered, AreOutcomes, NoneBroken, NoneRanOut, IsFirstBroken};
 
 use crate::answer::Fault;
 use crate::halt::{Halt, push};
 use lf_logs::port_replay;
 use lf_model::{Logs, Memory, NoMemory, Outcome, Record, Rule, Shape};
+use lf_replay::replay;
 use std::alloc::Global;
 
 /// A port or a bank that is broken: at a place, by a rule.
@@ -41,24 +40,6 @@ fn port_outcomes(alloc: Global, shape: &Shape, logs: &Logs) -> Result<Vec<Outcom
     Ok(all)
 }
 
-/// A stand-in.
-fn bank_outcome(alloc: Global, shape: &Shape, memory: &Memory, bank: u8, records: &[Record]) -> Outcome
-    requires shape { IsShape shape.now }
-    requires level1 { IsExplicit shape.now.level1.organisation }
-    requires level2 { IsExplicit shape.now.level2.organisation }
-    requires bank { bank < shape.now.banks }
-    requires memory { FitsMemory shape.now.block 0 memory.now.items }
-    requires records { IsBankList shape.now bank records.now }
-    ensures { IsBankOutcome shape.now (flat_memory memory.now.items) records.now result }
-{
-    let _ = alloc;
-    let _ = shape;
-    let _ = memory;
-    let _ = bank;
-    let _ = records;
-    Outcome::NoMemory
-}
-
 /// The outcome of each bank's records, which stand in the order of their numbers.
 fn bank_outcomes(
     alloc: Global,
@@ -67,9 +48,6 @@ fn bank_outcomes(
     banks: &Vec<Vec<Record>>,
 ) -> Result<Vec<Outcome>, NoMemory>
     requires shape { IsShape shape.now }
-    requires level1 { IsExplicit shape.now.level1.organisation }
-    requires level2 { IsExplicit shape.now.level2.organisation }
-    requires memory { FitsMemory shape.now.block 0 memory.now.items }
     requires count { length banks.now.items ≡ shape.now.banks }
     requires records { AreBankLists shape.now (lists_of banks.now) }
     ensures { IfOk result (λ all. AreOutcomes (λ bank. IsBankOutcome shape.now (flat_memory memory.now.items) (log_at (lists_of banks.now) bank))
@@ -77,7 +55,7 @@ fn bank_outcomes(
 {
     let mut all = Vec::new(alloc);
     for (bank, records) in banks.iter().enumerate() {
-        let outcome = bank_outcome(alloc, shape, memory, bank as u8, records);
+        let outcome = replay(alloc, shape, memory, bank as u32, records);
         push(&mut all, outcome)?;
     }
     Ok(all)
@@ -121,11 +99,8 @@ pub fn judge_parts(
     banks: &Vec<Vec<Record>>,
 ) -> Result<(), Halt>
     requires shape { IsShape shape.now }
-    requires level1 { IsExplicit shape.now.level1.organisation }
-    requires level2 { IsExplicit shape.now.level2.organisation }
     requires count { length logs.now.items ≡ shape.now.ports + shape.now.banks }
     requires short { All (λ log. length log.items ≤ 2 ^ 20) logs.now.items }
-    requires memory { FitsMemory shape.now.block 0 memory.now.items }
     requires fit { LogsFit shape.now (lists_of logs.now) }
     requires whole { AreWholeBelow (lists_of logs.now) shape.now.banks }
     requires numbered { AreNumbered (lists_of logs.now) shape.now.banks (lists_of banks.now) }

@@ -1,7 +1,6 @@
 //! The worked examples, whose answers come from the description of the rules.
 
 ghost use Rattle.lf_model.specs.InRange.{IsFrom, IsShape};
-ghost use Rattle.lf_verdict.specs.Verdict.{IsExplicit};
 
 use super::*;
 use lf_codec::{CodecCause, CodecFault};
@@ -26,9 +25,7 @@ const LOAD_MISSES_BOTH_LEVELS: [u8; 132] = [
 fn hierarchy(ports: u32, banks: u32) -> Shape
     requires ports { IsFrom 1 16 ports }
     requires banks { IsFrom 1 16 banks }
-    ensures shape { IsShape result }
-    ensures level1 { IsExplicit result.level1.organisation }
-    ensures level2 { IsExplicit result.level2.organisation }
+    ensures { IsShape result }
 {
     Shape {
         ports,

@@ -1,7 +1,6 @@
-use Rattle.std.proofs.Common.{◌≡◌, ◌+◌, List, ℕ, refl, subst}
-use Rattle.lf_codec.specs.Trace.{FitsMemory}
+use Rattle.std.proofs.Common.{◌≡◌, ◌+◌, List, ℕ, refl}
 use Rattle.lf_logs.specs.Lists.{lists_of}
-use Rattle.lf_verdict.proofs.Traces.{records_fit, memory_fits}
+use Rattle.lf_verdict.proofs.Traces.{records_fit}
 use Rattle.lf_verdict.proofs.Answered.{logs_below, logs_count, logs_short, logs_fit_shape, of_logs, of_header}
 use Rattle.lf_verdict.proofs.check.trace_verdict.Goals as goal
 
@@ -29,6 +28,3 @@ returns-in-Ok c bytes trace =
     of_logs c.args.shape.now bytes c.args.trace.memory.items (lists_of c.in-Ok.logs) c.logs_verdict.result
         (record { header = c.args.trace.header; records = c.args.trace.records.items; trace = trace; agrees = c.in_default.ensures.none; are_logs = c.in-Ok.ensures })
         c.logs_verdict.ensures
-
-pub logs_verdict-requires-clause-memory : goal.logs_verdict-requires-clause-memory
-logs_verdict-requires-clause-memory c = subst (λ n. FitsMemory n 0 c.args.trace.memory.items) c.in_default.ensures.none.block (memory_fits c.requires.fits)
