@@ -3,3 +3,4 @@ pub mod Bounds
 pub mod Once
 pub mod Fields
 pub mod Size
+pub mod Room

@@ -5,14 +5,18 @@
 //! `Implicit`, `Explicit` and `Inverted` are the three ways to organise a file.
 #![tactic(auto)]
 
+mod explicit;
 mod fault;
 mod held;
+mod implicit;
 mod inverted;
 mod organisation;
 mod target;
 
+pub use explicit::{Explicit, ExplicitFile};
 pub use fault::RegisterFault;
-pub use held::{Held, Targets};
+pub use held::Targets;
+pub use implicit::{Implicit, ImplicitFile};
 pub use inverted::{Inverted, InvertedFile};
 pub use organisation::Organisation;
 pub use target::{Request1, Request2, Target};

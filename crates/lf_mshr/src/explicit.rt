@@ -1,0 +1,172 @@
+//! Explicitly addressed files: registers with entries of their own offsets.
+
+ghost use Rattle.std.specs.Prelude.{◌≡◌, ◌⊎◌, ◌*◌, ◌<◌, ◌≤◌, ◌++◌, ◌∷◌, [], vec_capacity, count_by, ◌==◌, ◌&&◌, nat_lt, true, false, if◌then◌else◌};
+ghost use Rattle.std.specs.List.{list_any, range_with_len};
+ghost use Rattle.lf_model.specs.Registers.{holds, holds_in, is_free};
+ghost use Rattle.lf_model.specs.Sharing.{HoldsOnce};
+ghost use Rattle.lf_mshr.specs.Bounds.{IsWithin};
+ghost use Rattle.lf_mshr.specs.RegisterFile.{held_item};
+
+use crate::fault::RegisterFault;
+use crate::held::{Held, Targets, holds, holds_in, is_free, release, some_is_free, targets_in};
+use crate::organisation::Organisation;
+use crate::target::Target;
+use lf_model::{NoMemory, OrgShape};
+use std::alloc::Global;
+use std::marker::PhantomData;
+
+/// The organisation whose registers each hold one block and a number of targets of it, at any
+/// positions. At most one register holds a block.
+pub struct Explicit<T>(PhantomData<T>);
+
+/// The registers of an explicitly addressed file.
+#[derive(Drop)]
+pub struct ExplicitFile<T> {
+    registers: u32,
+    entries: u32,
+    destinations: u16,
+    held: Vec<Held<T>>,
+    ghost within: { IsWithin registers entries held.items },
+    ghost once: { HoldsOnce held.items },
+    ghost some_entry: { 1 ≤ entries },
+    ghost reserved: { registers * entries ≤ vec_capacity held },
+    ghost limit: { registers * entries ≤ 1024 },
+}
+
+impl<T: Target> ExplicitFile<T> {
+    /// Whether the register has an entry left.
+    fn has_entry(&self, register: u32) -> bool
+        ensures { result ≡ nat_lt (count_by (λ h. h.register == register) self.now.held.items) self.now.entries }
+    {
+        targets_in(&self.held, register) < self.entries as usize
+    }
+
+    /// Whether the register that holds the block has an entry left.
+    fn some_takes(&self, block: u32) -> bool
+        ensures { result ≡ list_any (λ r. holds_in self.now.held.items r block && nat_lt (count_by (λ h. h.register == r) self.now.held.items) self.now.entries) (range_with_len 0 self.now.registers) }
+    {
+        (0..self.registers).any(|r| holds_in(&self.held, r, block) && self.has_entry(r))
+    }
+
+    /// Whether a register takes a target of the block.
+    fn has_room(&self, block: u32) -> bool
+        ensures { result ≡ (if holds self.now.held.items block then list_any (λ r. holds_in self.now.held.items r block && nat_lt (count_by (λ h. h.register == r) self.now.held.items) self.now.entries) (range_with_len 0 self.now.registers) else list_any (is_free self.now.held.items) (range_with_len 0 self.now.registers)) }
+    {
+        if holds(&self.held, block) {
+            self.some_takes(block)
+        } else {
+            some_is_free(self.registers, &self.held)
+        }
+    }
+
+    /// Appends a target of a register that has an entry left, and that no other shares the block with.
+    fn place(&mut self, register: u16, block: u32, target: T)
+        requires exists { register < self.old.registers }
+        requires entry { count_by (λ h. h.register == register) self.old.held.items < self.old.entries }
+        requires apart { (holds self.old.held.items block ≡ false) ⊎ (holds_in self.old.held.items register block ≡ true) }
+        ensures items { self.new.held.items ≡ self.old.held.items ++ held_item register block target ∷ [] }
+        ensures registers { self.new.registers ≡ self.old.registers }
+        ensures entries { self.new.entries ≡ self.old.entries }
+        ensures destinations { self.new.destinations ≡ self.old.destinations }
+    {
+        self.held.push_reserved(Held {
+            register,
+            block,
+            target,
+        });
+    }
+}
+
+impl<T: Target> Organisation for Explicit<T> {
+    ghost use Rattle.std.specs.Prelude.{false, refl};
+    ghost use Rattle.lf_mshr.specs.RegisterFile.{explicit_file};
+    ghost use Rattle.lf_mshr.specs.Names.{is_explicit};
+
+    type Target = T;
+
+    type File = ExplicitFile<T>;
+
+    const SHARES: bool = false;
+
+    ghost SHARES = { false };
+
+    ghost names = { is_explicit };
+
+    ghost seen = { λ file. explicit_file file.registers file.entries file.destinations file.held.items };
+
+    ghost shares_as_seen = { λ file. refl };
+
+    ghost holds_once = { λ file e. file.once };
+
+    fn new(
+        alloc: Global,
+        organisation: &OrgShape,
+        destinations: u16,
+    ) -> Result<ExplicitFile<T>, NoMemory> {
+        let OrgShape::Explicit { registers, entries } = *organisation else {
+            unreachable!()
+        };
+        match Vec::with_capacity(alloc, (registers * entries) as usize) {
+            Ok(held) => Ok(ExplicitFile {
+                registers,
+                entries,
+                destinations,
+                held,
+            }),
+            Err(_) => Err(NoMemory),
+        }
+    }
+
+    fn room(file: &ExplicitFile<T>, block: u32, _target: &T) -> bool {
+        file.has_room(block)
+    }
+
+    fn primary(
+        file: &mut ExplicitFile<T>,
+        register: u16,
+        block: u32,
+        target: T,
+    ) -> Result<(), RegisterFault> {
+        if holds(&file.held, block) {
+            return Err(RegisterFault::InFlight);
+        }
+        if u32::from(register) >= file.registers {
+            return Err(RegisterFault::Range);
+        }
+        if !is_free(&file.held, u32::from(register)) {
+            return Err(RegisterFault::Busy);
+        }
+        file.place(register, block, target);
+        Ok(())
+    }
+
+    fn merge(
+        file: &mut ExplicitFile<T>,
+        register: u16,
+        block: u32,
+        target: T,
+    ) -> Result<(), RegisterFault> {
+        if !holds(&file.held, block) {
+            return Err(RegisterFault::NotInFlight);
+        }
+        if u32::from(register) >= file.registers {
+            return Err(RegisterFault::Range);
+        }
+        if !holds_in(&file.held, u32::from(register), block) {
+            return Err(RegisterFault::Wrong);
+        }
+        if !file.has_entry(u32::from(register)) {
+            return Err(RegisterFault::Full);
+        }
+        file.place(register, block, target);
+        Ok(())
+    }
+
+    fn release(file: &mut ExplicitFile<T>, block: u32) -> Targets<T> {
+        release(&mut file.held, block)
+    }
+
+    fn holds(file: &ExplicitFile<T>, block: u32) -> bool {
+        holds(&file.held, block)
+    }
+}

@@ -1,0 +1,166 @@
+//! Implicitly addressed files: registers with a field for each position in a block.
+
+ghost use Rattle.std.specs.Prelude.{◌≡◌, ◌⊎◌, ◌*◌, ◌<◌, ◌≤◌, ◌++◌, ◌∷◌, [], vec_capacity, ◌==◌, ◌&&◌, not, true, false, if◌then◌else◌};
+ghost use Rattle.std.specs.List.{list_any, range_with_len};
+ghost use Rattle.lf_model.specs.Registers.{holds, holds_in, is_free};
+ghost use Rattle.lf_model.specs.Sharing.{HoldsOnce};
+ghost use Rattle.lf_mshr.specs.Bounds.{IsBelow, HasFields};
+ghost use Rattle.lf_mshr.specs.RegisterFile.{held_item};
+
+use crate::fault::RegisterFault;
+use crate::held::{Held, Targets, holds, holds_in, is_field_used, is_free, release, some_is_free};
+use crate::organisation::Organisation;
+use crate::target::Target;
+use lf_model::{NoMemory, OrgShape};
+use std::alloc::Global;
+use std::marker::PhantomData;
+
+/// The organisation whose registers each hold one block and have a field for each position in it. At
+/// most one register holds a block.
+pub struct Implicit<T>(PhantomData<T>);
+
+/// The positions in a block, each with a field of its own in every register.
+const FIELDS: usize = 8;
+
+/// The registers of an implicitly addressed file.
+#[derive(Drop)]
+pub struct ImplicitFile<T: Target> {
+    registers: u32,
+    destinations: u16,
+    held: Vec<Held<T>>,
+    ghost below: { IsBelow registers held.items },
+    ghost fields: { HasFields T.position held.items },
+    ghost once: { HoldsOnce held.items },
+    ghost reserved: { registers * 8 ≤ vec_capacity held },
+    ghost limit: { registers ≤ 64 },
+}
+
+impl<T: Target> ImplicitFile<T> {
+    /// Whether the register that holds the block has its field at this position left.
+    fn some_takes(&self, block: u32, at: u8) -> bool
+        ensures { result ≡ list_any (λ r. holds_in self.now.held.items r block && not (list_any (λ h. h.register == r && T.position h.target == at) self.now.held.items)) (range_with_len 0 self.now.registers) }
+    {
+        (0..self.registers).any(|r| holds_in(&self.held, r, block)
+            && !is_field_used(&self.held, r, at))
+    }
+
+    /// Whether a register takes a target of the block at this position.
+    fn has_room(&self, block: u32, at: u8) -> bool
+        ensures { result ≡ (if holds self.now.held.items block then list_any (λ r. holds_in self.now.held.items r block && not (list_any (λ h. h.register == r && T.position h.target == at) self.now.held.items)) (range_with_len 0 self.now.registers) else list_any (is_free self.now.held.items) (range_with_len 0 self.now.registers)) }
+    {
+        if holds(&self.held, block) {
+            self.some_takes(block, at)
+        } else {
+            some_is_free(self.registers, &self.held)
+        }
+    }
+
+    /// Appends a target of a register that has its field left, and that no other shares the block with.
+    fn place(&mut self, register: u16, block: u32, target: T)
+        requires exists { register < self.old.registers }
+        requires field { list_any (λ h. h.register == register && T.position h.target == T.position target) self.old.held.items ≡ false }
+        requires apart { (holds self.old.held.items block ≡ false) ⊎ (holds_in self.old.held.items register block ≡ true) }
+        ensures items { self.new.held.items ≡ self.old.held.items ++ held_item register block target ∷ [] }
+        ensures registers { self.new.registers ≡ self.old.registers }
+        ensures destinations { self.new.destinations ≡ self.old.destinations }
+    {
+        self.held.push_reserved(Held {
+            register,
+            block,
+            target,
+        });
+    }
+}
+
+impl<T: Target> Organisation for Implicit<T> {
+    ghost use Rattle.std.specs.Prelude.{false, refl};
+    ghost use Rattle.lf_mshr.specs.RegisterFile.{implicit_file};
+    ghost use Rattle.lf_mshr.specs.Names.{is_implicit};
+
+    type Target = T;
+
+    type File = ImplicitFile<T>;
+
+    const SHARES: bool = false;
+
+    ghost SHARES = { false };
+
+    ghost names = { is_implicit };
+
+    ghost seen = { λ file. implicit_file file.registers file.destinations file.held.items };
+
+    ghost shares_as_seen = { λ file. refl };
+
+    ghost holds_once = { λ file e. file.once };
+
+    fn new(
+        alloc: Global,
+        organisation: &OrgShape,
+        destinations: u16,
+    ) -> Result<ImplicitFile<T>, NoMemory> {
+        let OrgShape::Implicit { registers } = *organisation else {
+            unreachable!()
+        };
+        match Vec::with_capacity(alloc, registers as usize * FIELDS) {
+            Ok(held) => Ok(ImplicitFile {
+                registers,
+                destinations,
+                held,
+            }),
+            Err(_) => Err(NoMemory),
+        }
+    }
+
+    fn room(file: &ImplicitFile<T>, block: u32, target: &T) -> bool {
+        file.has_room(block, target.position())
+    }
+
+    fn primary(
+        file: &mut ImplicitFile<T>,
+        register: u16,
+        block: u32,
+        target: T,
+    ) -> Result<(), RegisterFault> {
+        if holds(&file.held, block) {
+            return Err(RegisterFault::InFlight);
+        }
+        if u32::from(register) >= file.registers {
+            return Err(RegisterFault::Range);
+        }
+        if !is_free(&file.held, u32::from(register)) {
+            return Err(RegisterFault::Busy);
+        }
+        file.place(register, block, target);
+        Ok(())
+    }
+
+    fn merge(
+        file: &mut ImplicitFile<T>,
+        register: u16,
+        block: u32,
+        target: T,
+    ) -> Result<(), RegisterFault> {
+        if !holds(&file.held, block) {
+            return Err(RegisterFault::NotInFlight);
+        }
+        if u32::from(register) >= file.registers {
+            return Err(RegisterFault::Range);
+        }
+        if !holds_in(&file.held, u32::from(register), block) {
+            return Err(RegisterFault::Wrong);
+        }
+        if is_field_used(&file.held, u32::from(register), target.position()) {
+            return Err(RegisterFault::Full);
+        }
+        file.place(register, block, target);
+        Ok(())
+    }
+
+    fn release(file: &mut ImplicitFile<T>, block: u32) -> Targets<T> {
+        release(&mut file.held, block)
+    }
+
+    fn holds(file: &ImplicitFile<T>, block: u32) -> bool {
+        holds(&file.held, block)
+    }
+}
