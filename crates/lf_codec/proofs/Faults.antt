@@ -11,14 +11,14 @@ use Rattle.lf_codec.specs.declared.stage.Kind.TheVariants as kinds
 use Rattle.lf_codec.specs.declared.stage.Stage.{Stage}
 use Rattle.lf_codec.specs.declared.stage.Stage.TheVariants as stages
 use Rattle.lf_codec.specs.declared.header.Header.{Header}
-use Rattle.lf_codec.specs.declared.stage.Progress.{Progress}
+use Rattle.lf_codec.specs.declared.progress.Progress.{Progress}
 use Rattle.lf_codec.specs.Checks.{Checks, judged, byte_at, header_checks, memory_checks, end_checks, head_checks, issue_checks, reply_checks, request_checks, block_checks, second_primary_checks, evict_checks, fixed_checks, stage_checks}
 use Rattle.lf_codec.specs.Steps.{stage_len}
 use Rattle.lf_codec.specs.Reading.{Reading, reading_of, read_on, byte_read, failed, nothing_read, end_of, fault_of, fault_so_far, header_of, header_now}
-use Rattle.lf_codec.specs.Laws.{FaultsSoFarAreNotTruncated, FaultsStand, WhatStandsBeforeIsGiven, BytesNeverWantMemory, WhatIsReadIsGiven}
+use Rattle.lf_codec.specs.Laws.{FaultsSoFarAreNotTruncated, FaultsStand, WhatStandsBeforeIsGiven, BytesNeverWantMemory, WhatIsReadFits, WhatIsReadIsGiven}
 use Rattle.lf_codec.proofs.Bytes.{byte_waits, byte_steps, byte_fails, read_on-append, read_on-failed}
 use Rattle.lf_codec.proofs.Numbers.{IsBytes}
-use Rattle.lf_codec.proofs.Backward.{judged_cases, fault_cases, fine_before, IsBytes-front}
+use Rattle.lf_codec.proofs.Backward.{judged_cases, fault_cases, fine_before, fits_so_far, IsBytes-front}
 use Rattle.lf_codec.proofs.Pieces.{marked_of, gives_of_read}
 
 -- ---- the causes that bytes give
@@ -193,3 +193,14 @@ what_stands_before_is_given bytes f fits some =
 
 pub what_is_read_is_given : WhatIsReadIsGiven
 what_is_read_is_given = gives_of_read
+
+pub what_is_read_fits : WhatIsReadFits
+what_is_read_fits bytes h fits e =
+    elim (fault_cases (fault_so_far bytes)) [
+      | inl none ↦ fits_so_far bytes h fits none e
+      | inr bad ↦
+          let at = fails_within bytes nothing_read bad.0 refl bad.1 in
+          let front_fits : IsBytes at.front = IsBytes-front at.front (at.b ∷ at.back) (λ i. let there = fits i in rw (← at.split) there) in
+          let own : header_now (reading_of at.front) ≡ Some h = sym (ap header_now at.is) ∙ e in
+          rw at.is (fits_so_far at.front h front_fits at.fine own)
+    ]

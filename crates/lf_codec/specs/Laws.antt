@@ -1,12 +1,16 @@
 -- The laws between the bytes of a trace and what they are read as.
-use Rattle.std.specs.Prelude.{◌≡◌, ℕ, ◌<◌, ◌≤◌, List, [], ◌++◌, length, take, slice_index, Some, None, ◌↔◌}
-use Rattle.lf_model.specs.Fits.{Bytes}
+use Rattle.std.specs.Prelude.{◌≡◌, ℕ, ◌<◌, ◌≤◌, List, [], ◌++◌, length, take, slice_index, Option, Some, None, Result, Ok, Err, ◌↔◌, ◌∷◌}
+use Rattle.std.specs.List.{AllByRecursion}
+use Rattle.lf_model.specs.Fits.{Bytes, FitsRecord}
 use Rattle.lf_model.specs.declared.event.Record.{Record}
 use Rattle.lf_codec.specs.declared.header.Header.{Header}
-use Rattle.lf_codec.specs.declared.fault.CodecCause.TheVariants.{Truncated, NoMemory}
+use Rattle.lf_codec.specs.declared.fault.CodecCause.{CodecCause}
+use Rattle.lf_codec.specs.declared.fault.CodecCause.TheVariants.{Truncated, Trailing, NoMemory}
 use Rattle.lf_codec.specs.declared.fault.CodecFault.{CodecFault}
-use Rattle.lf_codec.specs.Reading.{Reading, reading_of, fault_so_far, trace_fault, header_of}
-use Rattle.lf_codec.specs.Trace.{IsTrace}
+use Rattle.lf_codec.specs.Checks.{judged, header_checks}
+use Rattle.lf_codec.specs.Steps.{header_at}
+use Rattle.lf_codec.specs.Reading.{Reading, reading_of, truncated_at, fault_so_far, trace_fault, header_of}
+use Rattle.lf_codec.specs.Trace.{FitsHeader, FitsMemory, log_len, IsTrace}
 use Rattle.lf_codec.specs.Reader.{HasRead, Gives}
 
 abbrev pub AreBytes : List ℕ → Type 0
@@ -81,6 +85,47 @@ WhatStandsBeforeIsGiven = (bytes : List ℕ) (f : CodecFault) → AreBytes bytes
 -- want of memory is no fault of bytes
 abbrev pub BytesNeverWantMemory : Type 0
 BytesNeverWantMemory = (bytes : List ℕ) (f : CodecFault) → trace_fault bytes ≡ Some f → f.cause ≡ NoMemory → ⊥
+
+-- a byte after a trace is one too many
+abbrev pub MoreIsTrailing : Type 0
+MoreIsTrailing = (bytes more : List ℕ) (b : ℕ) (h : Header) (memory : List (ℕ × Bytes)) (records : List Record) → AreBytes bytes → IsTrace bytes h memory records
+    → fault_so_far (bytes ++ b ∷ more) ≡ Some (record { cause = Trailing; offset = length bytes })
+
+-- the bytes end within the header or record that begins here, and what stands before it is all that they give
+pub record IsTruncated (bytes : List ℕ) : Type 0 where
+  pub offset : ℕ
+  pub within : offset ≤ length bytes
+  pub fault : trace_fault bytes ≡ truncated_at offset
+  pub same : GivesSame (take offset bytes) bytes
+
+-- a trace that lacks bytes at its end is truncated
+abbrev pub LessIsTruncated : Type 0
+LessIsTruncated = (bytes more : List ℕ) (b : ℕ) (h : Header) (memory : List (ℕ × Bytes)) (records : List Record) → AreBytes bytes → IsTrace (bytes ++ b ∷ more) h memory records → IsTruncated bytes
+
+-- ---- the header
+
+abbrev pub header_if : Result (Unit {0}) CodecCause → List ℕ → Option Header
+header_if (Ok _) bytes = Some (header_at bytes)
+header_if (Err cause) bytes = None
+
+-- the header is there exactly where its 16 bytes are, and pass their checks
+pub record HeaderIsOfItsBytes : Type 0 where
+  pub fewer : (bytes : List ℕ) → length bytes < 16 → header_of bytes ≡ None
+  pub whole : (bytes : List ℕ) → 16 ≤ length bytes → header_of bytes ≡ header_if (judged (header_checks (take 16 bytes))) (take 16 bytes)
+
+-- ---- what has been read
+
+-- memory and records that fit this header, with more to come
+pub record FitsSoFar (h : Header) (memory : List (ℕ × Bytes)) (records : List Record) : Type 0 where
+  pub header : FitsHeader h
+  pub few : length memory ≤ h.memory_count
+  pub blocks : FitsMemory h.block 0 memory
+  pub each : AllByRecursion (FitsRecord h.ports h.banks h.block) records
+  pub logs : (log : ℕ) → log_len log records ≤ 1048576
+
+-- what has been read fits, before the end of the trace and before a fault too
+abbrev pub WhatIsReadFits : Type 0
+WhatIsReadFits = (bytes : List ℕ) (h : Header) → AreBytes bytes → header_of bytes ≡ Some h → FitsSoFar h (reading_of bytes).memory (reading_of bytes).records
 
 -- ---- readers
 

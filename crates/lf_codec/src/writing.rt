@@ -1,6 +1,6 @@
 //! The one spelling of a trace.
 
-ghost use Rattle.std.specs.Prelude.{◌≡◌, ◌++◌, ◌<◌, ◌^◌, length, take, OnOk, IfOk, vec_len};
+ghost use Rattle.std.specs.Prelude.{◌≡◌, ◌∷◌, ◌++◌, ◌<◌, ◌^◌, length, take, OnOk, IfOk, vec_len};
 ghost use Rattle.std.specs.List.{flat_map};
 ghost use Rattle.lf_codec.specs.Trace.{FitsTrace, IsTrace};
 ghost use Rattle.lf_codec.specs.Layout.{u16_bytes, u32_bytes, u64_bytes, header_bytes, memory_bytes, fixed_bytes, data_of, head_bytes, record_bytes, end_bytes, code_of, kind_of, op_code, spelling};
@@ -84,6 +84,14 @@ fn op_code(op: Op) -> u8
     }
 }
 
+/// The fixed part of an event that names a request, with the number behind it.
+fn put_request(out: &mut Vec<u8>, port: u8, tag: u8, n: u16) -> Result<(), AllocError>
+    ensures { OnOk result (out.new.items ≡ out.old.items ++ (port ∷ tag ∷ u16_bytes n)) }
+{
+    out.extend_from_slice(&[port, tag])?;
+    put_u16(out, n)
+}
+
 fn put_fixed(out: &mut Vec<u8>, event: &Event) -> Result<(), AllocError>
     ensures { OnOk result (out.new.items ≡ out.old.items ++ fixed_bytes event.now) }
 {
@@ -98,41 +106,29 @@ fn put_fixed(out: &mut Vec<u8>, event: &Event) -> Result<(), AllocError>
             out.extend_from_slice(&[op_code(*op), *tag, *size, 0])?;
             put_u64(out, *address)
         }
-        Event::Reply { tag, size, .. } => {
-            out.extend_from_slice(&[*tag, *size])?;
-            put_u16(out, 0)
-        }
-        Event::Hit { port, tag } | Event::Stall { port, tag } => {
-            out.extend_from_slice(&[*port, *tag])?;
-            put_u16(out, 0)
-        }
+        Event::Reply { tag, size, .. } => put_request(out, *tag, *size, 0),
+        Event::Hit { port, tag } => put_request(out, *port, *tag, 0),
         Event::Primary {
             port,
             tag,
             register,
-        }
-        | Event::Merge {
+        } => put_request(out, *port, *tag, *register),
+        Event::Merge {
             port,
             tag,
             register,
-        } => {
-            out.extend_from_slice(&[*port, *tag])?;
-            put_u16(out, *register)
-        }
-        Event::Fill1 { block, .. }
-        | Event::Fill2 { block, .. }
-        | Event::SecondHit { block }
-        | Event::SecondStall { block } => put_u32(out, *block),
+        } => put_request(out, *port, *tag, *register),
+        Event::Stall { port, tag } => put_request(out, *port, *tag, 0),
+        Event::Fill1 { block, .. } => put_u32(out, *block),
+        Event::Fill2 { block, .. } => put_u32(out, *block),
+        Event::SecondHit { block } => put_u32(out, *block),
+        Event::SecondStall { block } => put_u32(out, *block),
         Event::SecondPrimary { block, register } => {
             put_u32(out, *block)?;
             put_u16(out, *register)?;
             put_u16(out, 0)
         }
-        Event::Evict1 { block, mask, .. } => {
-            put_u32(out, *block)?;
-            put_u64(out, mask.0)
-        }
-        Event::Evict2 { block, mask, .. } => {
+        Event::Evict1 { block, mask, .. } | Event::Evict2 { block, mask, .. } => {
             put_u32(out, *block)?;
             put_u64(out, mask.0)
         }

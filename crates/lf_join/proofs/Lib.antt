@@ -5,3 +5,5 @@ pub mod Waits
 pub mod Rounds
 pub mod Stuck
 pub mod RingLemmas
+pub mod Confluence
+pub mod OneRing

@@ -82,7 +82,7 @@ pub same_entry : (left : List (List (ℕ × ℕ))) (next next' : ℕ → ℕ) (l
 same_entry left next next' log a b = same_first (sym a.first ∙ b.first)
 
 -- another log's next entry stays next
-still_first : (left : List (List (ℕ × ℕ))) (log other : ℕ) (x : ℕ × ℕ) → other ≢ log → log_at left other ≡ x ∷ drop 1 (log_at left other)
+pub still_first : (left : List (List (ℕ × ℕ))) (log other : ℕ) (x : ℕ × ℕ) → other ≢ log → log_at left other ≡ x ∷ drop 1 (log_at left other)
     → log_at (after_next left log) other ≡ x ∷ drop 1 (log_at (after_next left log) other)
 still_first left log other x apart first = subst (λ xs. xs ≡ x ∷ drop 1 xs) (sym (after_other left log other apart)) first
 

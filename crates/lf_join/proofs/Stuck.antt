@@ -9,7 +9,7 @@ use Rattle.lf_model.specs.Order.{log_at, entries_of, EntriesKeepNumbers}
 use Rattle.lf_model.specs.Ring.{entry_at}
 use Rattle.lf_model.specs.Numbers.{times}
 use Rattle.lf_join.specs.Join.{BanksAreWhole, next_number}
-use Rattle.lf_join.specs.Heads.{next_entry, can_go, is_next, IsAt, AllWait}
+use Rattle.lf_join.specs.Heads.{next_entry, can_go, is_next, IsAt, AllWait, HeadsWait}
 use Rattle.lf_join.proofs.Merge.{count, count-append, count-after, count-taken, joined, left_first, carries_can_go}
 
 -- ---- counts
@@ -31,7 +31,7 @@ numbered_is bank k (x ∷ xs) = go (x.0 == bank) (numbered_is bank k xs)
     go true rest = same (x.1 == k) rest
     go false rest = rest
 
-times_is : (bank k : ℕ) (xs : List (ℕ × ℕ)) → times k (map (λ (e : ℕ × ℕ). e.1) (entries_of bank xs)) ≡ count (is_next bank k) xs
+pub times_is : (bank k : ℕ) (xs : List (ℕ × ℕ)) → times k (map (λ (e : ℕ × ℕ). e.1) (entries_of bank xs)) ≡ count (is_next bank k) xs
 times_is bank k xs =
     sym (is_count_by (λ (ns : List ℕ). length (filter (λ n. n == k) ns)) (λ n. n == k) refl (λ n ns. step (n == k) n (filter (λ m. m == k) ns)) (map (λ (e : ℕ × ℕ). e.1) (entries_of bank xs)))
     ∙ numbered_is bank k xs
@@ -59,7 +59,7 @@ some_in_range a (suc n) k from below =
 gone_numbers : (gone : List (ℕ × ℕ)) (bank k : ℕ) → EntriesKeepNumbers gone → count (is_next bank k) gone ≡ length (filter (λ m. m == k) (range_with_len 0 (next_number gone bank)))
 gone_numbers gone bank k kept = sym (numbered_is bank k gone) ∙ ap (λ (ms : List ℕ). length (filter (λ m. m == k) ms)) (kept bank)
 
-one_of : (p : ℕ × ℕ → Bool) (x : ℕ × ℕ) → p x ≡ true → count p (x ∷ []) ≡ 1
+pub one_of : (p : ℕ × ℕ → Bool) (x : ℕ × ℕ) → p x ≡ true → count p (x ∷ []) ≡ 1
 one_of p x passes = ap length (cond-true (p x) (x ∷ []) [] passes)
 
 -- ---- where an entry stands
@@ -107,25 +107,31 @@ module _ (skeletons : List (List (ℕ × ℕ))) (order places next : List ℕ) (
       let all = count-taken of_bank skeletons order at.gone at.left at.taken in
       omega (arith, here, left, all, length-map (entries_of x.0 (joined skeletons)) (λ (e : ℕ × ℕ). e.1))
 
-  pub all_wait : AllWait skeletons places next
-  all_wait log x is =
+  -- the bank's next number is still left
+  still_left : (log : ℕ) (x : ℕ × ℕ) → next_entry skeletons places log ≡ Some x → Found (is_next x.0 (next_number at.gone x.0)) at.left
+  still_left log x is =
       let n = next_number at.gone x.0 in
       let test = is_next x.0 n in
       let once : count test (joined skeletons) ≡ 1 = sym (times_is x.0 n (joined skeletons)) ∙ whole x.0 n (more_of_bank log x is) in
       let none_gone : count test at.gone ≡ 0 = gone_numbers at.gone x.0 n at.kept ∙ none_in_range 0 n n (omega arith) in
       let all = count-taken test skeletons order at.gone at.left at.taken in
-      let f = found test at.left (omega (arith, once, none_gone, all)) in
-      let parts = and_parts (f.entry.0 == x.0) (f.entry.1 == n) f.passes in
-      let same : f.entry ≡ (x.0, slice_index next x.0) = ap₂ (λ a b. (a, b)) (eqb-true f.entry.0 x.0 parts.0) (eqb-true f.entry.1 n parts.1 ∙ sym (at.counted x.0)) in (
-        f.log,
-        record {
-          waiting = x;
-          first = is;
-          place = slice_index places f.log + f.place;
-          not_gone = omega arith;
-          holds = sym (entry_at-drop (slice_index places f.log) (log_at skeletons f.log) f.place) ∙ ap (λ (xs : List (ℕ × ℕ)). entry_at xs f.place) (sym (at.placed f.log)) ∙ f.there ∙ ap Some same;
-        },
-      )
+      found test at.left (omega (arith, once, none_gone, all))
+
+  -- the log that holds it is the one that is waited for
+  waits_there : (log : ℕ) (x : ℕ × ℕ) → next_entry skeletons places log ≡ Some x → (f : Found (is_next x.0 (next_number at.gone x.0)) at.left) → HeadsWait skeletons places next log f.log
+  waits_there log x is f =
+      let parts = and_parts (f.entry.0 == x.0) (f.entry.1 == next_number at.gone x.0) f.passes in
+      let same : f.entry ≡ (x.0, slice_index next x.0) = ap₂ (λ a b. (a, b)) (eqb-true f.entry.0 x.0 parts.0) (eqb-true f.entry.1 (next_number at.gone x.0) parts.1 ∙ sym (at.counted x.0)) in
+      record {
+        waiting = x;
+        first = is;
+        place = slice_index places f.log + f.place;
+        not_gone = omega arith;
+        holds = sym (entry_at-drop (slice_index places f.log) (log_at skeletons f.log) f.place) ∙ ap (λ (xs : List (ℕ × ℕ)). entry_at xs f.place) (sym (at.placed f.log)) ∙ f.there ∙ ap Some same;
+      }
+
+  pub all_wait : AllWait skeletons places next
+  all_wait log x is = let f = still_left log x is in (f.log, waits_there log x is f)
 
   -- A next entry that cannot go carries a number above its bank's next one.
   pub above : ((log : ℕ) → can_go skeletons places next log ≡ false) → (log : ℕ) (x : ℕ × ℕ) → next_entry skeletons places log ≡ Some x → slice_index next x.0 < x.1

@@ -1,3 +1,4 @@
 pub mod Join
 pub mod Heads
 pub mod Fault
+pub mod Laws

@@ -4,9 +4,11 @@
 
 mod check;
 mod heads;
+mod laws;
 mod order;
 
 pub use check::check_cycle;
+pub use laws::joins_are_one;
 pub use order::{JoinFault, join};
 
 #[cfg(test)]

@@ -1,6 +1,6 @@
 //! Orders and rings worked out by hand.
 
-use crate::{JoinFault, check_cycle, join};
+use crate::{JoinFault, check_cycle, join, joins_are_one};
 use lf_model::{Knot, Ring};
 use std::test::Fail;
 
@@ -69,4 +69,9 @@ fn no_logs(rt: HostRuntime) -> Result<(), Fail> {
     let order = join(rt.alloc(), &[])?;
     assert!(rt; order.is_empty());
     Ok(())
+}
+
+#[test]
+fn laws() {
+    joins_are_one();
 }

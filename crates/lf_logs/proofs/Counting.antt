@@ -16,10 +16,10 @@ sum_by-plus f g h each (x ∷ xs) =
 abbrev pub counts : Bool → ℕ
 counts b = cond b 1 0
 
-one_if : (b : Bool) → b ≡ true → counts b ≡ 1
+pub one_if : (b : Bool) → b ≡ true → counts b ≡ 1
 one_if b e = cond-true {A = ℕ} b 1 0 e
 
-none_if : (b : Bool) → b ≡ false → counts b ≡ 0
+pub none_if : (b : Bool) → b ≡ false → counts b ≡ 0
 none_if b e = cond-false {A = ℕ} b 1 0 e
 
 pub count_by-cons : {X : Type 0} (p : X → Bool) (x : X) (xs : List X) → count_by p (x ∷ xs) ≡ counts (p x) + count_by p xs

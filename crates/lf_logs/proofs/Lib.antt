@@ -1,8 +1,11 @@
+mod BankLists
 mod Counting
 mod Joined
 mod Judged
 mod Members
 mod Ordered
+mod Placing
 mod PortRun
+mod Reading
 mod Splitting
 mod Tallying

@@ -1,69 +1,77 @@
--- A record joins its log.
+-- A record joins its log, or its bank.
 use Rattle.std.proofs.Common.{◌≡◌, ℕ, ◌+◌, ◌<◌, cond, eqb, List, [], ◌∷◌, ◌++◌, map, length, get_or, set, refl, sym, ap, ◌∙◌, subst, ⊎_elim, arith, add-one}
-use Rattle.std.specs.List.{All}
+use Rattle.std.specs.List.{All, filter, range_with_len}
 use Rattle.std.specs.Global.{Vec}
 use Rattle.std.proofs.lemmas.List.{same_lists, length-set, get_or-set_same, get_or-set_other, append-nil, map-set, length-map, get_or-map, get_or_at, length-append}
 use Rattle.std.proofs.lemmas.List.Elements.{filter-append}
 use Rattle.std.proofs.lemmas.List.FromFn.{length-map-range_with_len, get_or-map-range_with_len}
 use Rattle.std.proofs.lemmas.Bool.{cases_eq, eq-eqb, ne_eqb, cond-true, cond-false}
 use Rattle.lf_model.specs.declared.event.Record.{Record}
-use Rattle.lf_model.specs.Run.{of_log}
-use Rattle.lf_logs.specs.Lists.{logs_of}
 
--- one more record at the end of the list is one more at the end of its log alone
-of_log-push : (log : ℕ) (rs : List Record) (r : Record) → of_log log (rs ++ r ∷ []) ≡ of_log log rs ++ cond (eqb r.log log) (r ∷ []) []
-of_log-push log rs r = filter-append (λ r. eqb r.log log) rs (r ∷ [])
+-- the records of one key, and the lists of the keys 0 to count - 1
+abbrev pub of_key : (Record → ℕ) → ℕ → List Record → List Record
+of_key key k rs = filter (λ r. eqb (key r) k) rs
 
-pub of_log-push_own : (log : ℕ) (rs : List Record) (r : Record) → r.log ≡ log → of_log log (rs ++ r ∷ []) ≡ of_log log rs ++ r ∷ []
-of_log-push_own log rs r e = of_log-push log rs r ∙ ap (λ xs. of_log log rs ++ xs) (cond-true (eqb r.log log) (r ∷ []) [] (eq-eqb r.log log e))
+abbrev pub parts_of : (Record → ℕ) → ℕ → List Record → List (List Record)
+parts_of key count rs = map (λ k. of_key key k rs) (range_with_len 0 count)
 
-pub of_log-push_other : (log : ℕ) (rs : List Record) (r : Record) → (r.log ≡ log → ⊥) → of_log log (rs ++ r ∷ []) ≡ of_log log rs
-of_log-push_other log rs r n = of_log-push log rs r ∙ ap (λ xs. of_log log rs ++ xs) (cond-false (eqb r.log log) (r ∷ []) [] (ne_eqb r.log log n)) ∙ append-nil (of_log log rs)
+module _ (key : Record → ℕ) where
+  -- one more record at the end of the list is one more at the end of its part alone
+  of_key-push : (k : ℕ) (rs : List Record) (r : Record) → of_key key k (rs ++ r ∷ []) ≡ of_key key k rs ++ cond (eqb (key r) k) (r ∷ []) []
+  of_key-push k rs r = filter-append (λ r. eqb (key r) k) rs (r ∷ [])
 
-pub length-logs_of : (count : ℕ) (rs : List Record) → length (logs_of count rs) ≡ count
-length-logs_of count rs = length-map-range_with_len (λ log. of_log log rs) 0 count
+  of_key-push_own : (k : ℕ) (rs : List Record) (r : Record) → key r ≡ k → of_key key k (rs ++ r ∷ []) ≡ of_key key k rs ++ r ∷ []
+  of_key-push_own k rs r e = of_key-push k rs r ∙ ap (λ xs. of_key key k rs ++ xs) (cond-true (eqb (key r) k) (r ∷ []) [] (eq-eqb (key r) k e))
 
-pub get_or-logs_of : (count : ℕ) (rs : List Record) (log : ℕ) (d : List Record) → log < count → get_or (logs_of count rs) log d ≡ of_log log rs
-get_or-logs_of count rs log d h = get_or-map-range_with_len (λ log. of_log log rs) 0 count log log d h (omega arith)
+  of_key-push_other : (k : ℕ) (rs : List Record) (r : Record) → (key r ≡ k → ⊥) → of_key key k (rs ++ r ∷ []) ≡ of_key key k rs
+  of_key-push_other k rs r n = of_key-push k rs r ∙ ap (λ xs. of_key key k rs ++ xs) (cond-false (eqb (key r) k) (r ∷ []) [] (ne_eqb (key r) k n)) ∙ append-nil (of_key key k rs)
 
-pub logs_of-push : (count : ℕ) (rs : List Record) (r : Record) → r.log < count →
-    set (logs_of count rs) r.log (of_log r.log rs ++ r ∷ []) ≡ logs_of count (rs ++ r ∷ [])
-logs_of-push count rs r h = same_lists _ _
-    (length-set (logs_of count rs) r.log (of_log r.log rs ++ r ∷ []) ∙ length-logs_of count rs ∙ sym (length-logs_of count (rs ++ r ∷ [])))
-    (λ k d below.
-    let inside : k < count = omega (arith, length-logs_of count rs, length-set (logs_of count rs) r.log (of_log r.log rs ++ r ∷ [])) in
-    ⊎_elim
-    (λ (own : r.log ≡ k).
-    let at : r.log < length (logs_of count rs) = omega (arith, length-logs_of count rs) in
-    ap (λ i. get_or (set (logs_of count rs) r.log (of_log r.log rs ++ r ∷ [])) i d) (sym own)
-    ∙ get_or-set_same (logs_of count rs) r.log (of_log r.log rs ++ r ∷ []) d at
-    ∙ sym (of_log-push_own r.log rs r refl)
-    ∙ ap (λ i. of_log i (rs ++ r ∷ [])) own
-    ∙ sym (get_or-logs_of count (rs ++ r ∷ []) k d inside))
-    (λ (other : r.log ≡ k → ⊥).
-    get_or-set_other (logs_of count rs) r.log k (of_log r.log rs ++ r ∷ []) d (λ e. other (sym e))
-    ∙ get_or-logs_of count rs k d inside
-    ∙ sym (of_log-push_other k rs r other)
-    ∙ sym (get_or-logs_of count (rs ++ r ∷ []) k d inside))
-    (cases_eq r.log k))
+  pub length-parts_of : (count : ℕ) (rs : List Record) → length (parts_of key count rs) ≡ count
+  length-parts_of count rs = length-map-range_with_len (λ k. of_key key k rs) 0 count
 
--- the same at the vectors that hold the logs
-pub placed : (xs : List (Vec Record)) (count : ℕ) (rs : List Record) (r : Record) (i : ℕ) (v w : Vec Record) → i ≡ r.log → r.log < count →
-    map (λ v. v.items) xs ≡ logs_of count rs → v ≡ get_or xs i v → w.items ≡ v.items ++ r ∷ [] →
-    map (λ v. v.items) (set xs i w) ≡ logs_of count (rs ++ r ∷ [])
-placed xs count rs r i v w at inside before read pushed =
-    let long : length xs ≡ count = sym (length-map xs (λ (v : Vec Record). v.items)) ∙ ap length before ∙ length-logs_of count rs in
-    let was : v.items ≡ of_log r.log rs =
-    ap (λ (v : Vec Record). v.items) read
-    ∙ sym (get_or-map (λ (v : Vec Record). v.items) xs i v [] (omega arith))
-    ∙ ap (λ ys. get_or ys i []) before
-    ∙ ap (λ n. get_or (logs_of count rs) n []) at
-    ∙ get_or-logs_of count rs r.log [] inside in
-    map-set (λ (v : Vec Record). v.items) xs i w
-    ∙ ap (λ ys. set ys i w.items) before
-    ∙ ap (λ n. set (logs_of count rs) n w.items) at
-    ∙ ap (λ ys. set (logs_of count rs) r.log ys) (pushed ∙ ap (λ ys. ys ++ r ∷ []) was)
-    ∙ logs_of-push count rs r inside
+  pub get_or-parts_of : (count : ℕ) (rs : List Record) (k : ℕ) (d : List Record) → k < count → get_or (parts_of key count rs) k d ≡ of_key key k rs
+  get_or-parts_of count rs k d h = get_or-map-range_with_len (λ k. of_key key k rs) 0 count k k d h (omega arith)
+
+  parts_of-push : (count : ℕ) (rs : List Record) (r : Record) → key r < count →
+      set (parts_of key count rs) (key r) (of_key key (key r) rs ++ r ∷ []) ≡ parts_of key count (rs ++ r ∷ [])
+  parts_of-push count rs r h =
+      let part = of_key key (key r) rs ++ r ∷ [] in
+      same_lists _ _
+      (length-set (parts_of key count rs) (key r) part ∙ length-parts_of count rs ∙ sym (length-parts_of count (rs ++ r ∷ [])))
+      (λ k d below.
+      let inside : k < count = omega (arith, length-parts_of count rs, length-set (parts_of key count rs) (key r) part) in
+      ⊎_elim
+      (λ (own : key r ≡ k).
+      let at : key r < length (parts_of key count rs) = omega (arith, length-parts_of count rs) in
+      ap (λ i. get_or (set (parts_of key count rs) (key r) part) i d) (sym own)
+      ∙ get_or-set_same (parts_of key count rs) (key r) part d at
+      ∙ sym (of_key-push_own (key r) rs r refl)
+      ∙ ap (λ i. of_key key i (rs ++ r ∷ [])) own
+      ∙ sym (get_or-parts_of count (rs ++ r ∷ []) k d inside))
+      (λ (other : key r ≡ k → ⊥).
+      get_or-set_other (parts_of key count rs) (key r) k part d (λ e. other (sym e))
+      ∙ get_or-parts_of count rs k d inside
+      ∙ sym (of_key-push_other k rs r other)
+      ∙ sym (get_or-parts_of count (rs ++ r ∷ []) k d inside))
+      (cases_eq (key r) k))
+
+  -- the same at the vectors that hold the parts
+  pub placed : (xs : List (Vec Record)) (count : ℕ) (rs : List Record) (r : Record) (i : ℕ) (v w : Vec Record) → i ≡ key r → key r < count →
+      map (λ v. v.items) xs ≡ parts_of key count rs → v ≡ get_or xs i v → w.items ≡ v.items ++ r ∷ [] →
+      map (λ v. v.items) (set xs i w) ≡ parts_of key count (rs ++ r ∷ [])
+  placed xs count rs r i v w at inside before read pushed =
+      let long : length xs ≡ count = sym (length-map xs (λ (v : Vec Record). v.items)) ∙ ap length before ∙ length-parts_of count rs in
+      let was : v.items ≡ of_key key (key r) rs =
+      ap (λ (v : Vec Record). v.items) read
+      ∙ sym (get_or-map (λ (v : Vec Record). v.items) xs i v [] (omega arith))
+      ∙ ap (λ ys. get_or ys i []) before
+      ∙ ap (λ n. get_or (parts_of key count rs) n []) at
+      ∙ get_or-parts_of count rs (key r) [] inside in
+      map-set (λ (v : Vec Record). v.items) xs i w
+      ∙ ap (λ ys. set ys i w.items) before
+      ∙ ap (λ n. set (parts_of key count rs) n w.items) at
+      ∙ ap (λ ys. set (parts_of key count rs) (key r) ys) (pushed ∙ ap (λ ys. ys ++ r ∷ []) was)
+      ∙ parts_of-push count rs r inside
 
 -- what holds of each element holds of the one between two parts
 pub All-between : {X : Type 0} (P : X → Type 0) (xs : List X) (x : X) (ys zs : List X) → xs ++ x ∷ ys ≡ zs → All P zs → P x

@@ -2,12 +2,17 @@
 //! numbers that give each bank's order.
 #![tactic(auto)]
 
+mod banks;
 mod logs;
 mod order;
 mod port;
 mod skeleton;
 
+pub use banks::bank_records;
 pub use logs::split;
-pub use order::{NumberFault, Place, bank_order};
+pub use order::{NumberFault, Place, bank_order, record_at};
 pub use port::port_replay;
 pub use skeleton::skeletons;
+
+#[cfg(test)]
+mod tests;

@@ -8,7 +8,7 @@ use lf_model::{Logs, NoMemory, Record};
 use std::alloc::Global;
 
 /// So many logs with no record.
-fn empty_logs(alloc: Global, count: u32) -> Result<Logs, NoMemory>
+pub(crate) fn empty_logs(alloc: Global, count: u32) -> Result<Logs, NoMemory>
     ensures { IfOk result (λ logs. lists_of logs ≡ logs_of count []) }
 {
     let mut logs = Vec::new(alloc);

@@ -1,12 +1,12 @@
 //! The order of a bank's records, by their numbers.
 
-ghost use Rattle.std.specs.Prelude.{◌≡◌, ℕ, ◌+◌, ◌*◌, ◌<◌, ◌≤◌, ◌^◌, length, List, map, ◌++◌, [], IfOk, IfErr, IsOk, OnOk, slice_index_or};
+ghost use Rattle.std.specs.Prelude.{◌≡◌, ℕ, ◌+◌, ◌*◌, ◌<◌, ◌≤◌, ◌^◌, length, List, map, ◌++◌, [], IfOk, IfErr, OnOk, IsSome, Some, slice_index_or};
 ghost use Rattle.std.specs.List.{All};
 ghost use Rattle.lf_model.specs.declared.event.Record.{Record};
 ghost use Rattle.lf_model.specs.Run.{of_bank};
 ghost use Rattle.lf_model.specs.Numbers.{all_records, bank_numbers, IsWhole};
 ghost use Rattle.lf_logs.specs.Lists.{lists_of};
-ghost use Rattle.lf_logs.specs.Places.{IsOrder, IsNumberFault};
+ghost use Rattle.lf_logs.specs.Places.{record_at, IsOrder, IsNumberFault};
 ghost use Rattle.lf_logs.specs.Tallies.{AreTallies, AreOnceBelow, IsFirstFault};
 
 use lf_model::{Logs, Record};
@@ -137,4 +137,12 @@ pub fn bank_order(alloc: Global, logs: &Logs, bank: u8) -> Result<Vec<Place>, Nu
     let tallies = tallies_of(alloc, logs, bank)?;
     judge(&tallies)?;
     last_places(alloc, &tallies)
+}
+
+/// The record at the place.
+pub fn record_at(logs: &Logs, place: Place) -> &Record
+    requires { IsSome (record_at (lists_of logs.now) place) }
+    ensures { record_at (lists_of logs.now) place ≡ Some result.now }
+{
+    &logs[usize::from(place.log)][place.at as usize]
 }

@@ -431,7 +431,7 @@ times_step : (shape : Shape) (history : List Record) (state : State) (r : Record
     → times_accepted shape port t (r ∷ history) ≡ held_count (update state.slice r.bank new bank) port t
 times_step shape history state r new bank port t may counts times moves =
     elim (r.bank == bank) as (λ b. (r.bank == bank) ≡ b → owed (next_busy (act shape port t r) r.bank (state.busy port t)) bank ≡ 1
-        → times_after (act shape port t r) (times_accepted shape port t history) ≡ held_count (cond b new (state.slice bank)) port t) [
+    → times_after (act shape port t r) (times_accepted shape port t history) ≡ held_count (cond b new (state.slice bank)) port t) [
       | true ↦ λ e now. times_here (act shape port t r) r.bank (state.busy port t) _ _ _ _ may moves counts (times r.bank)
           (subst (λ k. owed (next_busy (act shape port t r) r.bank (state.busy port t)) k ≡ 1) (sym (eqb-true r.bank bank e)) now)
       | false ↦ λ e now. times_apart (act shape port t r) r.bank bank (state.busy port t) _ _ _ _ e may counts (times bank) now

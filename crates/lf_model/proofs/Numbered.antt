@@ -105,9 +105,9 @@ numbered_is_one logs bank a b first second =
     let both : IsPermutation a b = IsPermutation-trans a (of_bank bank (all_records logs)) b first.same (IsPermutation-sym b (of_bank bank (all_records logs)) second.same) in
     let lengths : length b ≡ length a = length_permutation a b both in
     same_lists a b (sym lengths) (λ i d lt.
-      let x = get_or a i d in
-      let there = Contains-permutation a b x both (Contains-get_or a i d lt) in
-      let at_a : x.number ≡ i = number_at a first.numbers i d lt in
-      let at_b : (get_or b there.0 x).number ≡ there.0 = number_at b second.numbers there.0 x there.1 in
-      let place : there.0 ≡ i = sym at_b ∙ ap (λ (r : Record). r.number) there.2 ∙ at_a in
-      sym (subst (λ j. get_or b j x ≡ x) place there.2) ∙ get_or_default b i x d (omega arith))
+    let x = get_or a i d in
+    let there = Contains-permutation a b x both (Contains-get_or a i d lt) in
+    let at_a : x.number ≡ i = number_at a first.numbers i d lt in
+    let at_b : (get_or b there.0 x).number ≡ there.0 = number_at b second.numbers there.0 x there.1 in
+    let place : there.0 ≡ i = sym at_b ∙ ap (λ (r : Record). r.number) there.2 ∙ at_a in
+    sym (subst (λ j. get_or b j x ≡ x) place there.2) ∙ get_or_default b i x d (omega arith))

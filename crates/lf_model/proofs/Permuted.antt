@@ -77,7 +77,7 @@ permuted_from (l ∷ logs) rs o each from =
     filters_within (λ r. r.log == o + 1 + i) (others o) (apart_passes o i) rs ∙ subst (λ k. of_log k rs ≡ get_or logs i []) (omega arith) (each (suc i)) in
     let split : IsPermutation rs (l ++ rest) = subst (λ xs. IsPermutation rs (xs ++ rest)) first (IsPermutation-filter_both (λ r. r.log == o) (others o) (λ r. refl) rs) in
     IsPermutation-trans rs (l ++ rest) (l ++ flat_map (λ xs. xs) logs) split
-        (IsPermutation-append_right l rest (flat_map (λ xs. xs) logs) (permuted_from logs rest (o + 1) next (others_from o rs from)))
+    (IsPermutation-append_right l rest (flat_map (λ xs. xs) logs) (permuted_from logs rest (o + 1) next (others_from o rs from)))
 
 all_from_zero : (rs : List Record) → AllByRecursion (λ r. 0 ≤ r.log) rs
 all_from_zero [] = tt

@@ -30,29 +30,68 @@ pub enum Event {
         bytes: Block,
     },
     /// A port gets its reply. That of a store has size 0 and no bytes.
-    Reply { tag: u8, size: u8, bytes: Block },
+    Reply {
+        tag: u8,
+        size: u8,
+        bytes: Block,
+    },
     /// A request finds its block in level one.
-    Hit { port: u8, tag: u8 },
+    Hit {
+        port: u8,
+        tag: u8,
+    },
     /// A miss to a block that no register holds takes a register.
-    Primary { port: u8, tag: u8, register: u16 },
+    Primary {
+        port: u8,
+        tag: u8,
+        register: u16,
+    },
     /// A miss to a block that a register holds is recorded beside the first.
-    Merge { port: u8, tag: u8, register: u16 },
+    Merge {
+        port: u8,
+        tag: u8,
+        register: u16,
+    },
     /// A miss finds no room in the registers and waits.
-    Stall { port: u8, tag: u8 },
+    Stall {
+        port: u8,
+        tag: u8,
+    },
     /// Level one gets a block.
-    Fill1 { block: u32, bytes: Block },
+    Fill1 {
+        block: u32,
+        bytes: Block,
+    },
     /// Level one gives up a line. `bytes` are those under the mask.
-    Evict1 { block: u32, mask: Mask, bytes: Block },
+    Evict1 {
+        block: u32,
+        mask: Mask,
+        bytes: Block,
+    },
     /// Level two has a block that level one asked for.
-    SecondHit { block: u32 },
+    SecondHit {
+        block: u32,
+    },
     /// A level-two miss takes a register.
-    SecondPrimary { block: u32, register: u16 },
+    SecondPrimary {
+        block: u32,
+        register: u16,
+    },
     /// A level-two miss finds no room.
-    SecondStall { block: u32 },
+    SecondStall {
+        block: u32,
+    },
     /// Level two gets a block.
-    Fill2 { block: u32, bytes: Block },
+    Fill2 {
+        block: u32,
+        bytes: Block,
+    },
     /// Level two gives up a line. `bytes` are those under the mask.
-    Evict2 { block: u32, mask: Mask, bytes: Block },
+    Evict2 {
+        block: u32,
+        mask: Mask,
+        bytes: Block,
+    },
 }
 
 /// One event, with the log that it stands in and its place in the order of its bank.

@@ -13,6 +13,8 @@ mod outcome;
 mod ring;
 mod rule;
 mod shape;
+#[cfg(test)]
+mod tests;
 
 pub use event::{Block, Event, Logs, Memory, Op, Record};
 pub use fitting::fits;

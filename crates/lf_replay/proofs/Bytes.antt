@@ -1,5 +1,5 @@
 -- Bytes of a block, and blocks of a memory.
-use Rattle.std.proofs.Common.{◌≡◌, ℕ, ◌+◌, ◌-◌, ◌*◌, ◌^◌, ◌%◌, ◌<◌, ◌≤◌, Bool, true, false, cond, ◌&&◌, ◌||◌, ◌==◌, List, [], ◌∷◌, ◌++◌, Option, Some, None, replicate, get_or, take, drop, refl, ap, sym, ◌∙◌, ⊎_elim, length, arith, slice_index, nat_le, nat_lt, map, leb, ltb, subst, zero, suc, append-nil, add-one}
+use Rattle.std.proofs.Common.{◌≡◌, ℕ, ◌+◌, ◌-◌, ◌*◌, ◌^◌, ◌%◌, ◌<◌, ◌≤◌, Bool, true, false, cond, ◌&&◌, ◌||◌, ◌==◌, List, [], ◌∷◌, ◌++◌, Option, Some, None, replicate, get_or, take, drop, refl, ap, sym, ◌∙◌, ⊎_elim, length, arith, slice_index, nat_le, nat_lt, map, leb, ltb, drop-cons, subst, zero, suc, append-nil, add-one}
 use mathlib.Core.Path.{fun_ext, ap₂}
 use Rattle.std.specs.Prelude.{unwrap_or, bytes_eq}
 use Rattle.std.specs.Map.{lookup}
@@ -14,9 +14,10 @@ use Rattle.std.proofs.lemmas.Nat.{pow-add}
 use Rattle.std.proofs.Math.Nat.{mod-eq_of_lt, one-le-pow, pow-le-pow_right}
 use Rattle.std.specs.List.{range_with_len, filter, list_all}
 use borrow.Rule.Slice.PartMut.{put_mid, mid_of}
+use Rattle.arrayvec.specs.ArrayVec.{ArrayVec}
 use Rattle.lf_model.specs.declared.event.Op.{Op}
 use Rattle.lf_model.specs.declared.event.Op.TheVariants.{Load, Store}
-use Rattle.lf_model.specs.Address.{FlatMemory, is_under, agree_off, masked}
+use Rattle.lf_model.specs.Address.{FlatMemory, flat_memory, is_under, agree_off, masked}
 use Rattle.lf_model.specs.State.{update, Request}
 use Rattle.lf_model.specs.Table.{value_of}
 use Rattle.lf_replay.specs.Bytes.{flat_of, put}
@@ -121,9 +122,10 @@ filter_same_map f g p a (suc n) same = go (p a) (filter_same_map f g p (a + 1) n
     go false rest = rest
 
 pub agrees_flat : (f : ℕ → ℕ) (xs : List ℕ) (mask n : ℕ) → length xs ≡ n
-    → list_all (λ i. is_under mask i || slice_index xs i == f i) (range_with_len 0 (length xs)) ≡ agree_off xs (map f (range_with_len 0 n)) mask
+    → list_all (λ i. is_under mask i || slice_index xs i == f i) (range_with_len 0 (length xs)) ≡ agree_off n xs (map f (range_with_len 0 n)) mask
 agrees_flat f xs mask n long = all_same _ _ 0 (length xs) (λ i low high.
     ap (λ k. is_under mask i || slice_index xs i == k) (sym (get_or-map-range_with_len f 0 n i i 0 (omega (arith, long)) (omega arith))))
+    ∙ ap (λ k. list_all (λ i. is_under mask i || slice_index xs i == slice_index (map f (range_with_len 0 n)) i) (range_with_len 0 k)) long
 
 pub masked_flat : (f : ℕ → ℕ) (mask n : ℕ) → map f (filter (is_under mask) (range_with_len 0 n)) ≡ masked (map f (range_with_len 0 n)) mask
 masked_flat f mask n =
@@ -131,10 +133,31 @@ masked_flat f mask n =
     ∙ ap (λ k. map (slice_index (map f (range_with_len 0 n))) (filter (is_under mask) (range_with_len 0 k))) (sym (length-map-range_with_len f 0 n))
 
 pub fill_agrees : (f : ℕ → ℕ) (r : Bool) (xs ys : List ℕ) (m mask n : ℕ) → r ≡ list_all (λ i. is_under m i || slice_index xs i == f i) (range_with_len 0 (length xs))
-    → xs ≡ ys → m ≡ mask → length ys ≡ n → r ≡ agree_off ys (map f (range_with_len 0 n)) mask
+    → xs ≡ ys → m ≡ mask → length ys ≡ n → r ≡ agree_off n ys (map f (range_with_len 0 n)) mask
 fill_agrees f r xs ys m mask n is same stores long =
     is ∙ ap₂ (λ (zs : List ℕ) k. list_all (λ i. is_under k i || slice_index zs i == f i) (range_with_len 0 (length zs))) same stores ∙ agrees_flat f ys mask n long
 
 pub evict_agrees : (f : ℕ → ℕ) (r : Bool) (xs ys zs ws : List ℕ) (mask n : ℕ) → r ≡ bytes_eq xs ys → xs ≡ zs → ys ≡ ws → ws ≡ map f (filter (is_under mask) (range_with_len 0 n))
     → r ≡ bytes_eq zs (masked (map f (range_with_len 0 n)) mask)
 evict_agrees f r xs ys zs ws mask n is same told taken = is ∙ ap₂ bytes_eq same (told ∙ taken ∙ masked_flat f mask n)
+
+-- ---- the memory that a trace names
+
+-- bytes written over zeros
+pub padded_is : (blank : ℕ → ℕ) (bytes : List ℕ) → ((place : ℕ) → blank place ≡ 0) → put blank 0 bytes ≡ slice_index bytes
+padded_is blank bytes zero_there = fun_ext (λ place. go place (leb 0 place) (ltb place (0 + length bytes)) refl refl)
+  where
+    go : (place : ℕ) (p q : Bool) → leb 0 place ≡ p → ltb place (0 + length bytes) ≡ q → cond (p && q) (get_or bytes (place - 0) 0) (blank place) ≡ get_or bytes place 0
+    go place false q low high = absurd (omega (arith, leb-false 0 place low))
+    go place true true low high = let same : place - 0 ≡ place = omega arith in ap (λ n. get_or bytes n 0) same
+    go place true false low high = zero_there place ∙ sym (get_or_past bytes place 0 (omega (arith, ltb-false place (0 + length bytes) high)))
+
+pub memory_more : (m : ℕ × ArrayVec ℕ) (memory : List (ℕ × ArrayVec ℕ)) → update (flat_memory memory) m.0 (slice_index m.1.items) ≡ flat_memory (m ∷ memory)
+memory_more m memory = fun_ext (λ block. fun_ext (λ place. elim (m.0 == block) as (λ b. cond b (slice_index m.1.items) (flat_memory memory block) place ≡ cond b (slice_index m.1.items place) (flat_memory memory block place)) [ true ↦ refl | false ↦ refl ]))
+
+pub memory_step : (memory : List (ℕ × ArrayVec ℕ)) (left : ℕ) (m : ℕ × ArrayVec ℕ) (flat new : FlatMemory) (bytes : ℕ → ℕ) → 0 < left → left ≤ length memory
+    → m ≡ get_or memory (left - 1) m → flat ≡ flat_memory (drop left memory) → bytes ≡ slice_index m.1.items → new ≡ update flat m.0 bytes → new ≡ flat_memory (drop (left - 1) memory)
+memory_step memory left m flat new bytes some within here before same step =
+    let next : suc (left - 1) ≡ left = omega arith in
+    step ∙ ap₂ (λ (f : FlatMemory) (g : ℕ → ℕ). update f m.0 g) before same ∙ memory_more m (drop left memory)
+    ∙ sym (ap flat_memory (drop-cons memory (left - 1) m (omega arith) ∙ ap₂ (λ (a : ℕ × ArrayVec ℕ) k. a ∷ drop k memory) (sym here) next))

@@ -4,14 +4,15 @@ ghost use Rattle.std.specs.Prelude.{◌≡◌, ℕ, true, Bool, Option, length};
 ghost use Rattle.lf_model.specs.declared.event.Event.TheVariants as event;
 ghost use Rattle.lf_model.specs.declared.event.Op.{Op};
 ghost use Rattle.arrayvec.specs.ArrayVec.{ArrayVec};
+ghost use Rattle.lf_model.specs.Fits.{Fits};
 ghost use Rattle.lf_model.specs.InRange.{IsShape};
 ghost use Rattle.lf_model.specs.State.{idle};
-ghost use Rattle.lf_model.specs.Table.{OfBank, rules_of, destination, destinations, destinations2, asked_register};
+ghost use Rattle.lf_model.specs.Table.{OfBank, rules_of, clauses, destination, destinations, destinations2, asked_register};
 ghost use Rattle.lf_model.specs.Run.{first_failing};
-ghost use Rattle.lf_replay.specs.Kept.{slice_of, IsFramed};
+ghost use Rattle.lf_replay.specs.Kept.{slice_of, local_of, IsFramed};
 ghost use Rattle.lf_replay.specs.View.{kept};
 
-use lf_model::{Block, Mask, Rule, Shape};
+use lf_model::{Block, Event, Mask, Record, Rule, Shape};
 
 use crate::registers::{
     has_room, holds, is_free, registers_of, right_for_merge, right_for_primary, takes,
@@ -274,5 +275,44 @@ impl BankState {
             return Some(Rule::EvictMask);
         }
         if agrees { None } else { Some(Rule::EvictData) }
+    }
+
+    /// The first rule of the bank that the record breaks.
+    pub fn judge(&self, item: &Record) -> Option<Rule>
+        requires framed { IsFramed (kept self.now) }
+        requires fits { Fits self.now.shape item.now }
+        ensures { result ≡ first_failing OfBank (clauses self.now.shape (local_of (kept self.now)) item.now) }
+    {
+        match &item.event {
+            Event::Issue { tag, .. } => self.judge_issue(*tag),
+            Event::Reply { tag, size, bytes } => self.judge_reply(item.log, *tag, *size, bytes),
+            Event::Hit { port, tag } => self.judge_hit(*port, *tag),
+            Event::Primary {
+                port,
+                tag,
+                register,
+            } => self.judge_primary(*port, *tag, *register),
+            Event::Merge {
+                port,
+                tag,
+                register,
+            } => self.judge_merge(*port, *tag, *register),
+            Event::Stall { port, tag } => self.judge_stall(*port, *tag),
+            Event::Fill1 { block, bytes } => {
+                self.judge_fill1(self.fill_agrees(*block, bytes), *block)
+            }
+            Event::Evict1 { block, mask, bytes } => {
+                self.judge_evict1(self.evict_agrees(*block, *mask, bytes), *block, *mask)
+            }
+            Event::SecondHit { block } => self.judge_second_hit(*block),
+            Event::SecondPrimary { block, register } => self.judge_second_primary(*block, *register),
+            Event::SecondStall { block } => self.judge_second_stall(*block),
+            Event::Fill2 { block, bytes } => {
+                self.judge_fill2(self.fill_agrees(*block, bytes), *block)
+            }
+            Event::Evict2 { block, mask, bytes } => {
+                self.judge_evict2(self.evict_agrees(*block, *mask, bytes), *block, *mask)
+            }
+        }
     }
 }

@@ -1,8 +1,10 @@
 //! Flat memory, as far as a trace names it and stores wrote it. All other bytes are zero.
 
-ghost use Rattle.std.specs.Prelude.{◌≡◌, ℕ, ◌+◌, ◌-◌, ◌<◌, ◌≤◌, ◌||◌, ◌==◌, map, length, slice_index, OnOk, OnErr, if◌then◌else◌};
+ghost use Rattle.std.specs.Prelude.{◌≡◌, ℕ, ◌+◌, ◌-◌, ◌<◌, ◌≤◌, ◌||◌, ◌==◌, map, length, slice_index, IfOk, OnOk, OnErr, if◌then◌else◌};
 ghost use Rattle.std.specs.List.{range_with_len, list_all, filter};
-ghost use Rattle.lf_model.specs.Address.{is_under};
+ghost use Rattle.lf_model.specs.Address.{flat_memory, is_under};
+ghost use Rattle.lf_model.specs.State as model;
+ghost use Rattle.lf_model.specs.Registers as registers;
 ghost use Rattle.lf_model.specs.State.{update};
 ghost use Rattle.lf_model.specs.Table.{value_of, accepted};
 ghost use Rattle.lf_replay.specs.Bytes.{flat_of, put, IsSound};
@@ -12,7 +14,8 @@ use std::alloc::Global;
 use std::collections::BTreeMap;
 use std::marker::Model;
 
-use crate::request::{Data, Request};
+use crate::registers::Held;
+use crate::request::{Data, Missed, Request};
 
 /// The bytes of a block, and zeros behind them.
 type Bytes = [u8; 64];
@@ -40,6 +43,16 @@ fn put(bytes: &mut Bytes, offset: usize, new: &[u8])
     bytes[offset..offset + new.len()].copy_from_slice(new);
 }
 
+/// The bytes, and zeros behind them.
+fn padded(bytes: &[u8]) -> Bytes
+    requires { length bytes.now ≤ 64 }
+    ensures { slice_index result ≡ slice_index bytes.now }
+{
+    let mut all = ZEROS;
+    put(&mut all, 0, bytes);
+    all
+}
+
 /// So many bytes from a place on.
 fn part(bytes: &Bytes, offset: usize, size: usize) -> Data
     requires within { offset + size ≤ 64 }
@@ -54,6 +67,22 @@ fn part(bytes: &Bytes, offset: usize, size: usize) -> Data
 }
 
 impl FlatMemory {
+    /// The memory that a trace names.
+    pub fn new(alloc: Global, memory: &[(u32, Block)]) -> Result<FlatMemory, NoMemory>
+        ensures { IfOk result (λ flat. flat_of flat ≡ flat_memory memory.now) }
+    {
+        let mut flat = FlatMemory {
+            blocks: BTreeMap::new(alloc),
+        };
+        let mut left = memory.len();
+        while left > 0 {
+            left -= 1;
+            let (block, bytes) = &memory[left];
+            flat.set(*block, padded(bytes))?;
+        }
+        Ok(flat)
+    }
+
     /// The bytes of a block.
     pub fn bytes_of(&self, block: u32) -> &Bytes
         ensures { slice_index result.now ≡ flat_of self.now block }
@@ -75,6 +104,22 @@ impl FlatMemory {
                 usize::from(request.offset()),
                 usize::from(request.size()),
             ),
+        }
+    }
+
+    /// What a register keeps of a request that misses.
+    pub fn missed(&self, port: u8, register: u16, request: &Request) -> Held<Missed>
+        ensures { let value = value_of (flat_of self.now) request.now in let target : model.Missed = record { port = port; request = request.now; value = value } in let held : registers.Held model.Missed = record { register = register; block = request.now.block; target = target } in result ≡ held }
+    {
+        let target = Missed {
+            port,
+            request: request.copied(),
+            value: self.value_of(request),
+        };
+        Held {
+            register,
+            block: request.block(),
+            target,
         }
     }
 
@@ -101,6 +146,13 @@ impl FlatMemory {
     {
         let mut bytes = *self.bytes_of(block);
         put(&mut bytes, offset, new);
+        self.set(block, bytes)
+    }
+
+    fn set(&mut self, block: u32, bytes: Bytes) -> Result<(), NoMemory>
+        ensures ok { OnOk result (flat_of self.new ≡ update (flat_of self.old) block (slice_index bytes)) }
+        ensures err { OnErr result (self.new ≡ self.old) }
+    {
         match self.blocks.insert(block, bytes) {
             Ok(_) => Ok(()),
             Err(_) => Err(NoMemory),

@@ -1,7 +1,9 @@
 //! The requests of one port to one bank that are not accepted yet, the oldest first.
 
-ghost use Rattle.std.specs.Prelude.{◌≡◌, ℕ, Bool, true, false, [], ◌∷◌, ◌++◌, drop, OnOk, OnErr, MatchOption};
+ghost use Rattle.std.specs.Prelude.{◌≡◌, ℕ, Bool, true, false, [], ◌∷◌, ◌++◌, ◌<◌, drop, length, OnOk, OnErr, MatchOption};
+ghost use Rattle.lf_model.specs.State.{update};
 ghost use Rattle.lf_model.specs.Table.{is_head, oldest};
+ghost use Rattle.lf_replay.specs.Kept.{queue_at};
 
 use lf_model::NoMemory;
 use std::alloc::Global;
@@ -58,4 +60,29 @@ impl Queue {
     {
         self.requests.pop_front()
     }
+}
+
+/// The oldest request of the port, where it has the tag.
+pub fn head(queues: &[Queue], port: u8, tag: u8) -> Option<&Request>
+    ensures { let queue = queue_at queues.now port in MatchOption result (is_head queue tag ≡ false) (λ request. (is_head queue tag ≡ true) × (request.now ≡ oldest queue)) }
+{
+    let queue = queues.get(usize::from(port))?;
+    queue.head(tag)
+}
+
+/// The port's oldest request leaves.
+pub fn drop_head(queues: &mut [Queue], port: u8)
+    requires { port < length queues.old }
+    ensures { queue_at queues.new ≡ update (queue_at queues.old) port (drop 1 (queue_at queues.old port)) }
+{
+    let _ = queues[usize::from(port)].pop();
+}
+
+/// The request joins the port's queue.
+pub fn enqueue(queues: &mut [Queue], port: u8, request: Request) -> Result<(), NoMemory>
+    requires { port < length queues.old }
+    ensures ok { OnOk result (queue_at queues.new ≡ update (queue_at queues.old) port (queue_at queues.old port ++ request ∷ [])) }
+    ensures err { OnErr result (queues.new ≡ queues.old) }
+{
+    queues[usize::from(port)].push(request)
 }

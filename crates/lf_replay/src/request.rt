@@ -1,12 +1,15 @@
 //! What a bank keeps of a request, from its issue to its reply.
 
-ghost use Rattle.std.specs.Prelude.{◌≡◌, ℕ, ◌+◌, ◌<◌, ◌≤◌, ◌↔◌, length};
+ghost use Rattle.std.specs.Prelude.{◌≡◌, ℕ, ◌+◌, ◌/◌, ◌%◌, true, ◌<◌, ◌≤◌, ◌↔◌, length};
 ghost use Rattle.lf_model.specs.Address.{mask_of};
-ghost use Rattle.lf_model.specs.Table.{position, store_mask};
+ghost use Rattle.lf_model.specs.Fits.{is_size, issue_len};
+ghost use Rattle.lf_model.specs.InRange.{IsShape};
+ghost use Rattle.lf_model.specs.Table.{position, store_mask, request_of};
+ghost use Rattle.lf_model.specs.State as model;
 ghost use Rattle.lf_replay.specs.Bytes.{IsSound};
 
 use arrayvec::ArrayVec;
-use lf_model::Op;
+use lf_model::{Op, Shape};
 use std::marker::Model;
 
 /// The bytes of a request: what a store writes, or a load's value.
@@ -77,7 +80,30 @@ impl Missed {
     }
 }
 
+/// The same bytes.
+fn data_of(bytes: &[u8]) -> Data
+    requires { length bytes.now ≤ 8 }
+    ensures { result.items ≡ bytes.now }
+{
+    let mut data = Data::new();
+    for byte in bytes {
+        data.push(*byte);
+    }
+    data
+}
+
 impl Missed {
+    /// What the port gets once the block is there.
+    pub fn reply(&self) -> Ready
+        ensures { let reply : model.Ready = record { port = self.now.port; tag = self.now.request.tag; value = self.now.value } in result ≡ reply }
+    {
+        Ready {
+            port: self.port,
+            tag: self.request.tag(),
+            value: data_of(&self.value),
+        }
+    }
+
     pub fn store_mask(&self) -> u64
         ensures { result ≡ store_mask self.now.request }
     {
@@ -86,6 +112,20 @@ impl Missed {
 }
 
 impl Request {
+    /// The same request.
+    pub fn copied(&self) -> Request
+        ensures { result ≡ self.now }
+    {
+        Request {
+            tag: self.tag,
+            op: self.op,
+            block: self.block,
+            offset: self.offset,
+            size: self.size,
+            bytes: data_of(&self.bytes),
+        }
+    }
+
     pub fn tag(&self) -> u8
         ensures { result ≡ self.now.tag }
     {
@@ -131,6 +171,33 @@ impl Request {
             Op::Load => 0,
             Op::Store => mask_of(self.offset, self.size),
         }
+    }
+}
+
+/// The request that an issue makes.
+pub fn issued(
+    shape: &Shape,
+    op: Op,
+    tag: u8,
+    size: u8,
+    address: u64,
+    bytes: &[u8],
+) -> Request
+    requires in_range { IsShape shape.now }
+    requires size { is_size size ≡ true }
+    requires aligned { address % size ≡ 0 }
+    requires block { address / shape.now.block < 0x1_0000_0000 }
+    requires carried { length bytes.now ≡ issue_len op size }
+    ensures { result ≡ request_of shape.now tag op size address bytes.now }
+{
+    let len = u64::from(shape.block);
+    Request {
+        tag,
+        op,
+        block: (address / len) as u32,
+        offset: (address % len) as u8,
+        size,
+        bytes: data_of(bytes),
     }
 }
 

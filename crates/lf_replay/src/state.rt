@@ -1,17 +1,22 @@
 //! The state of one bank.
 
-ghost use Rattle.std.specs.Prelude.{◌≡◌, ℕ, ◌&&◌, nat_lt, Bool, true, false, length, MatchOption, option_copied, ◌==◌};
+ghost use Rattle.std.specs.Prelude.{◌≡◌, ℕ, ◌&&◌, nat_lt, Bool, true, false, [], length, IfOk, MatchOption, option_copied, ◌==◌};
 ghost use Rattle.std.specs.List.{find, list_any};
 ghost use Rattle.lf_model.specs.Table.{is_head, oldest, is_asked, is_among, asked_register, is_ready_for, first_ready};
+ghost use Rattle.lf_model.specs.Address.{flat_memory};
+ghost use Rattle.lf_model.specs.InRange.{IsShape};
+ghost use Rattle.lf_model.specs.Outcomes.{first_local};
 ghost use Rattle.lf_model.specs.Lines.{dirty_mask};
-ghost use Rattle.lf_replay.specs.Kept.{queue_at, IsFramed};
+ghost use Rattle.lf_replay.specs.Apart.{EachStands};
+ghost use Rattle.lf_replay.specs.Kept.{queue_at, local_of, slice_of, IsFramed};
 ghost use Rattle.lf_replay.specs.View.{kept};
 
 use lf_levels::{Lines, One, Two};
-use lf_model::Shape;
+use lf_model::{Block, NoMemory, Shape};
+use std::alloc::Global;
 
 use crate::memory::FlatMemory;
-use crate::queue::Queue;
+use crate::queue::{Queue, head};
 use crate::registers::Held;
 use crate::request::{Missed, Ready, Request};
 
@@ -34,14 +39,55 @@ pub struct BankState {
     pub ready: Vec<Ready>,
 }
 
+/// An empty queue for each port.
+fn empty_queues(alloc: Global, ports: u32) -> Result<Vec<Queue>, NoMemory>
+    ensures ports { IfOk result (λ queues. length queues.items ≡ ports) }
+    ensures empty { IfOk result (λ queues. (port : ℕ) → queue_at queues.items port ≡ []) }
+{
+    let mut queues = Vec::new(alloc);
+    for _ in 0..ports {
+        if queues.push(Queue::new(alloc)).is_err() {
+            return Err(NoMemory);
+        }
+    }
+    Ok(queues)
+}
+
 impl BankState {
+    /// The opening state, with the memory that a trace names.
+    pub fn new(
+        alloc: Global,
+        shape: &Shape,
+        memory: &[(u32, Block)],
+    ) -> Result<BankState, NoMemory>
+        requires { IsShape shape.now }
+        ensures opening { IfOk result (λ state. local_of (kept state) ≡ first_local (flat_memory memory.now)) }
+        ensures framed { IfOk result (λ state. IsFramed (kept state)) }
+        ensures stands { IfOk result (λ state. EachStands (slice_of (kept state))) }
+        ensures shape { IfOk result (λ state. state.shape ≡ shape.now) }
+    {
+        let level1 = shape.level1;
+        let level2 = shape.level2;
+        Ok(BankState {
+            shape: *shape,
+            memory: FlatMemory::new(alloc, memory)?,
+            queues: empty_queues(alloc, shape.ports)?,
+            lines1: Lines::new(alloc, level1.sets, level1.ways, shape.banks)?,
+            lines2: Lines::new(alloc, level2.sets, level2.ways, shape.banks)?,
+            waiting: Vec::new(alloc),
+            regs2: Vec::new(alloc),
+            asked: Vec::new(alloc),
+            supplied: Vec::new(alloc),
+            ready: Vec::new(alloc),
+        })
+    }
+
     /// The oldest request of the port, where the port exists and that request has the tag.
     pub fn head(&self, port: u8, tag: u8) -> Option<&Request>
         requires { IsFramed (kept self.now) }
         ensures { let queue = queue_at self.now.queues.items port in let is = nat_lt port self.now.shape.ports && is_head queue tag in MatchOption result (is ≡ false) (λ request. (is ≡ true) × (request.now ≡ oldest queue)) }
     {
-        let queue = self.queues.get(port as usize)?;
-        queue.head(tag)
+        head(&self.queues, port, tag)
     }
 
     pub fn has_asked(&self, block: u32) -> bool

@@ -64,6 +64,7 @@ impl<T> Counted<T> {
     }
 }
 
+/// One more, up to the last number.
 fn next(count: u64) -> u64
     ensures { result ≡ one_more count }
 {

@@ -99,6 +99,7 @@ impl fmt::Display for RingLogs<'_> {
     }
 }
 
+/// What a no says.
 #[derive(Clone, Copy)]
 struct FaultText<'a>(&'a Fault);
 
@@ -125,6 +126,7 @@ impl fmt::Display for FaultText<'_> {
     }
 }
 
+/// What a refusal says.
 #[derive(Clone, Copy)]
 struct RefusalText<'a>(&'a Refusal);
 

@@ -11,6 +11,8 @@ mod gathering;
 mod line;
 mod output;
 mod shape;
+#[cfg(test)]
+mod tests;
 mod trace;
 mod watch;
 

@@ -8,10 +8,12 @@ use std::rt::Files;
 #[derive(Drop)]
 pub enum Trace<F> {
     Open(F),
+    /// What each read answers.
     Failed(ErrorKind),
 }
 
 impl<F> Trace<F> {
+    /// The file at this path.
     pub fn open<R: Files<File = F>>(files: &R, path: &str) -> Trace<F> {
         match std::fs::open(files, path) {
             Ok(file) => Trace::Open(file),

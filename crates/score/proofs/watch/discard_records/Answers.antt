@@ -7,6 +7,7 @@ loop-preserved c = record {
       let (memory, records, fed) = c.loop.invariant.fed bytes was in
       (memory, _, c.take.ensures.taken bytes memory records fed);
   fault = search rules;
+  memory = search rules;
 }
 
 pub returns-clause-fed : goal.returns-clause-fed

@@ -1,14 +1,4 @@
-use Rattle.std.proofs.Common.{◌≡◌, ℕ, List, Option, slice_index, ap, sym, ◌∙◌, refl, Ok, Err}
-use Rattle.std.specs.Prelude.{OnOk}
-use Rattle.lf_model.specs.State.{update}
-use Rattle.lf_replay.specs.Bytes.{flat_of, put}
-use Rattle.lf_replay.proofs.Bytes.{flat_put}
 use Rattle.lf_replay.proofs.memory.FlatMemory.store.Goals as goal
-use Rattle.lf_replay.proofs.memory.FlatMemory.store.Goals.{in-Ok, in-Err}
 
 pub returns-clause-ok : goal.returns-clause-ok
-returns-clause-ok c = elim c.match-insert.branch [
-  | in-Ok w ↦ rw w.result-is (rw (← c.self.view_is) (flat_put c.self.inside.blocks.entries c.insert.new.self.entries c.args.block c.put.new.bytes (w.in-Ok.ensures.updates.0)
-      ∙ ap (update (flat_of c.self.inside.blocks.entries) c.args.block) (c.put.ensures ∙ ap (λ f. put f c.args.offset c.args.new.now) (rw (← c.self.view_is) at c.bytes_of.ensures))))
-  | in-Err w ↦ rw w.result-is tt
-]
+returns-clause-ok c = rw (c.put.ensures, c.bytes_of.ensures) at c.set.ensures.ok

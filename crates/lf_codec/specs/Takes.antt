@@ -1,0 +1,60 @@
+-- What the reader's own steps do with the bytes of a piece.
+use Rattle.std.specs.Prelude.{◌≡◌, ◌⊎◌, ℕ, List, ◌<◌, ◌≤◌, length, take, slice_index, Some, None, Result, Ok, Err}
+use Rattle.lf_codec.specs.declared.fault.CodecCause.{CodecCause}
+use Rattle.lf_codec.specs.declared.fault.CodecCause.TheVariants.{NoMemory}
+use Rattle.lf_codec.specs.declared.fault.CodecFault.{CodecFault}
+use Rattle.lf_codec.specs.declared.stage.Found.{Found}
+use Rattle.lf_codec.specs.declared.stage.Found.TheVariants as found
+use Rattle.lf_codec.specs.Checks.{judged, stage_checks}
+use Rattle.lf_codec.specs.Steps.{advanced}
+use Rattle.lf_codec.specs.Reading.{Reading, stepped, end_of, truncated_at, byte_read, read_on, header_now}
+use Rattle.lf_codec.specs.Reader.{HasOneMore}
+
+-- a step gives a memory record or a record
+abbrev pub GivesSome : Found → Type 0
+GivesSome found.Nothing = ⊥
+GivesSome _ = Unit {0}
+
+-- the judgement of bytes without a fault
+abbrev pub all_passed : Result (Unit {0}) CodecCause
+all_passed = Ok tt
+
+-- a growth was refused where the record that ends with this byte was to be kept
+pub record IsRefused (old : Reading) (b : ℕ) (new : Reading) (fault : CodecFault) : Type 0 where
+  pub cause : fault.cause ≡ NoMemory
+  pub offset : fault.offset ≡ old.progress.offset
+  pub in_hand : end_of old.progress.stage old.progress.offset ≡ truncated_at old.progress.offset
+  pub passes : (byte_read old b).fault ≡ None
+  pub one_more : HasOneMore old (byte_read old b)
+  pub memory : new.memory ≡ old.memory
+  pub records : new.records ≡ old.records
+  pub header : header_now new ≡ header_now old
+
+-- after some of the bytes a growth was refused
+pub record WasRefused (old : Reading) (bytes : List ℕ) (new : Reading) : Type 0 where
+  pub count : ℕ
+  pub fault : CodecFault
+  pub within : count < length bytes
+  pub failed : new.fault ≡ Some fault
+  pub refused : IsRefused (read_on old (take count bytes)) (slice_index bytes count) new fault
+  pub fine : (read_on old (take count bytes)).fault ≡ None
+
+-- what the first bytes do, up to the end of a step or to the end of the piece
+abbrev pub TakesPart : Reading → List ℕ → Result ℕ CodecFault → Reading → Type 0
+TakesPart old bytes (Ok n) new = (0 < n) × (n ≤ length bytes) × (new ≡ read_on old (take n bytes)) × (new.fault ≡ None)
+TakesPart old bytes (Err fault) new = (new.fault ≡ Some fault) × ((new ≡ read_on old bytes) ⊎ WasRefused old bytes new)
+
+-- a growth was refused where what these bytes give was to be kept
+pub record IsUnkept (old : Reading) (bytes : List ℕ) (new : Reading) (fault : CodecFault) : Type 0 where
+  pub cause : fault.cause ≡ NoMemory
+  pub offset : fault.offset ≡ old.progress.offset
+  pub passes : judged (stage_checks old.progress.stage old.progress bytes) ≡ all_passed
+  pub gives_some : GivesSome (advanced old.progress.stage old.progress bytes).1
+  pub memory : new.memory ≡ old.memory
+  pub records : new.records ≡ old.records
+  pub header : header_now new ≡ header_now old
+
+-- what the bytes of a whole step do
+abbrev pub TakesStep : Reading → List ℕ → Result (Unit {0}) CodecFault → Reading → Type 0
+TakesStep old bytes (Ok _) new = (new ≡ stepped old bytes) × (new.fault ≡ None)
+TakesStep old bytes (Err fault) new = (new.fault ≡ Some fault) × ((new ≡ stepped old bytes) ⊎ IsUnkept old bytes new fault)

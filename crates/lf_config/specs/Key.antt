@@ -1,0 +1,67 @@
+-- The keys of a configuration in their order, and what is asked of each.
+use Rattle.std.specs.Prelude.{List, [], ◌∷◌, ℕ, codes}
+use Rattle.lf_config.specs.declared.key.Which.{Which}
+use Rattle.lf_config.specs.declared.key.Which.TheVariants.{One, Two}
+use Rattle.lf_config.specs.declared.key.Part.{Part}
+use Rattle.lf_config.specs.declared.key.Part.TheVariants.{Sets, Ways, Organisation, Registers, Entries}
+use Rattle.lf_config.specs.declared.key.Key.{Key}
+use Rattle.lf_config.specs.declared.key.Key.TheVariants.{Ports, Banks, Block, Tags, Table, Of}
+use Rattle.lf_config.specs.declared.key.Sort.{Sort}
+use Rattle.lf_config.specs.declared.key.Sort.TheVariants as sorts
+use Rattle.lf_config.specs.declared.key.Limits.{Limits}
+use Rattle.lf_config.specs.declared.key.Limits.TheVariants as limits
+use Rattle.lf_config.specs.declared.key.Need.{Need}
+use Rattle.lf_config.specs.declared.key.Need.TheVariants.{Always, UnlessInverted, IfExplicit}
+
+-- the keys of a level, and others after them
+abbrev pub level_keys : Which → List Key → List Key
+level_keys level others = Table level ∷ Of level Sets ∷ Of level Ways ∷ Of level Organisation ∷ Of level Registers ∷ Of level Entries ∷ others
+
+-- all keys, in the order that decides between faults of one sort
+abbrev pub all_keys : List Key
+all_keys = Ports ∷ Banks ∷ Block ∷ Tags ∷ level_keys One (level_keys Two [])
+
+abbrev pub level_name : Which → List ℕ
+level_name One = codes "level1"
+level_name Two = codes "level2"
+
+abbrev pub part_name : Part → List ℕ
+part_name Sets = codes "sets"
+part_name Ways = codes "ways"
+part_name Organisation = codes "organisation"
+part_name Registers = codes "registers"
+part_name Entries = codes "entries"
+
+-- the name in its own table
+abbrev pub name_of : Key → List ℕ
+name_of Ports = codes "ports"
+name_of Banks = codes "banks"
+name_of Block = codes "block"
+name_of Tags = codes "tags"
+name_of (Table level) = level_name level
+name_of (Of level part) = part_name part
+
+-- what the value has to be
+abbrev pub sort_of : Key → Sort
+sort_of (Table level) = sorts.Table
+sort_of (Of level Organisation) = sorts.Text
+sort_of _ = sorts.Integer
+
+-- which values are allowed
+abbrev pub limits_of : Key → Limits
+limits_of Ports = limits.Between 1 16
+limits_of Banks = limits.Between 1 16
+limits_of Block = limits.BlockSize
+limits_of Tags = limits.Between 1 64
+limits_of (Table level) = limits.Any
+limits_of (Of level Sets) = limits.Between 1 4096
+limits_of (Of level Ways) = limits.Between 1 16
+limits_of (Of level Organisation) = limits.Organisation
+limits_of (Of level Registers) = limits.Between 1 64
+limits_of (Of level Entries) = limits.Between 1 8
+
+-- when the key has to be there
+abbrev pub need_of : Key → Need
+need_of (Of level Registers) = UnlessInverted
+need_of (Of level Entries) = IfExplicit
+need_of _ = Always

@@ -1,0 +1,7 @@
+pub mod Key
+pub mod Lookup
+pub mod Rules
+pub mod Unknown
+pub mod Told
+pub mod Configuration
+pub mod Text

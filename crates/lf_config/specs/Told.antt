@@ -1,0 +1,48 @@
+-- The shape that a document tells, where it breaks no rule.
+use Rattle.std.specs.Prelude.{ℕ, ℤ, pos, negsuc, ◌^◌, nat_lt, if◌then◌else◌, List, codes, Option, Some, None, option_and_then}
+use Rattle.std.specs.Option.{option_map_or}
+use Rattle.std.specs.Str.{bytes_eq}
+use Rattle.toml.specs.Data.{Members, as_integer}
+use Rattle.lf_config.specs.declared.key.Which.{Which}
+use Rattle.lf_config.specs.declared.key.Which.TheVariants.{One, Two}
+use Rattle.lf_config.specs.declared.key.Part.TheVariants.{Sets, Ways, Registers, Entries}
+use Rattle.lf_config.specs.declared.key.Key.{Key}
+use Rattle.lf_config.specs.declared.key.Key.TheVariants.{Ports, Banks, Block, Tags, Of}
+use Rattle.lf_model.specs.declared.shape.OrgShape.{OrgShape}
+use Rattle.lf_model.specs.declared.shape.OrgShape.TheVariants.{Implicit, Explicit, Inverted}
+use Rattle.lf_model.specs.declared.shape.Level.{Level}
+use Rattle.lf_model.specs.declared.shape.Shape.{Shape}
+use Rattle.lf_config.specs.Lookup.{value_at}
+use Rattle.lf_config.specs.Rules.{organisation_at}
+
+-- 0 where the number is none of 32 bits
+abbrev pub number_of : ℤ → ℕ
+number_of (pos n) = if nat_lt n (2 ^ 32) then n else 0
+number_of (negsuc n) = 0
+
+abbrev pub number_at : Members → Key → ℕ
+number_at document key = option_map_or number_of (option_and_then as_integer (value_at document key)) 0
+
+abbrev pub organisation_named : Members → Which → Option (List ℕ) → OrgShape
+organisation_named document level None = Inverted
+organisation_named document level (Some text) =
+    if bytes_eq text (codes "implicit") then Implicit (number_at document (Of level Registers))
+    else if bytes_eq text (codes "explicit") then Explicit (number_at document (Of level Registers)) (number_at document (Of level Entries))
+    else Inverted
+
+abbrev pub level_of : Members → Which → Level
+level_of document level = record {
+  sets = number_at document (Of level Sets);
+  ways = number_at document (Of level Ways);
+  organisation = organisation_named document level (organisation_at document level);
+}
+
+unfoldable pub shape_of : Members → Shape
+shape_of document = record {
+  ports = number_at document Ports;
+  banks = number_at document Banks;
+  block = number_at document Block;
+  tags = number_at document Tags;
+  level1 = level_of document One;
+  level2 = level_of document Two;
+}

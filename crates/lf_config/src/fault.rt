@@ -1,0 +1,22 @@
+//! Why a text is no configuration.
+
+use crate::key::Key;
+
+/// The first fault of a text. Faults of one sort are told in the order of the keys, and the sorts in
+/// this order, with want of memory where it was met.
+#[derive(Debug, PartialEq, Eq, Drop)]
+pub enum ConfigFault {
+    /// The text is no TOML document.
+    NotToml,
+    /// A key of this name is none of the configuration's. A key of a level has `level1.` or `level2.`
+    /// before its name.
+    Unknown(String),
+    /// The key has to be there and is not.
+    Missing(Key),
+    /// The value is of another type.
+    Kind(Key),
+    /// The value is none of those that the key may have.
+    Range(Key),
+    /// A growth was refused.
+    NoMemory,
+}

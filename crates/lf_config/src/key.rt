@@ -1,0 +1,166 @@
+//! The keys of a configuration, and what is asked of each.
+
+ghost use Rattle.std.specs.Prelude.{◌≡◌};
+ghost use Rattle.lf_config.specs.Key.{name_of, level_name, part_name, sort_of, limits_of, need_of};
+
+/// A level of the hierarchy.
+#[derive(Clone, Copy, Debug, PartialEq, Eq)]
+pub enum Which {
+    One,
+    Two,
+}
+
+/// What is said of a level.
+#[derive(Clone, Copy, Debug, PartialEq, Eq)]
+pub enum Part {
+    Sets,
+    Ways,
+    Organisation,
+    Registers,
+    Entries,
+}
+
+/// A key of a configuration.
+#[derive(Clone, Copy, Debug, PartialEq, Eq)]
+pub enum Key {
+    Ports,
+    Banks,
+    Block,
+    Tags,
+    /// The table of a level.
+    Table(Which),
+    /// A key of a level's table.
+    Of(Which, Part),
+}
+
+/// What a value has to be.
+#[derive(Clone, Copy, Debug, PartialEq, Eq)]
+pub(crate) enum Sort {
+    Integer,
+    Text,
+    Table,
+}
+
+/// Which values are allowed.
+#[derive(Clone, Copy, Debug, PartialEq, Eq)]
+pub(crate) enum Limits {
+    /// The whole numbers from the first to the second.
+    Between(u32, u32),
+    /// 8, 16, 32 and 64.
+    BlockSize,
+    /// The three names of an organisation.
+    Organisation,
+    Any,
+}
+
+/// When a key has to be there.
+#[derive(Clone, Copy, Debug, PartialEq, Eq)]
+pub(crate) enum Need {
+    Always,
+    /// Unless the organisation is inverted.
+    UnlessInverted,
+    /// If the organisation is explicit.
+    IfExplicit,
+}
+
+/// The keys, in the order in which their faults are told.
+pub(crate) const KEYS: [Key; 16] = [
+    Key::Ports,
+    Key::Banks,
+    Key::Block,
+    Key::Tags,
+    Key::Table(Which::One),
+    Key::Of(Which::One, Part::Sets),
+    Key::Of(Which::One, Part::Ways),
+    Key::Of(Which::One, Part::Organisation),
+    Key::Of(Which::One, Part::Registers),
+    Key::Of(Which::One, Part::Entries),
+    Key::Table(Which::Two),
+    Key::Of(Which::Two, Part::Sets),
+    Key::Of(Which::Two, Part::Ways),
+    Key::Of(Which::Two, Part::Organisation),
+    Key::Of(Which::Two, Part::Registers),
+    Key::Of(Which::Two, Part::Entries),
+];
+
+impl Which {
+    /// The name of the level's table.
+    pub(crate) fn name(self) -> &'static str
+        ensures { result.now ≡ level_name self }
+    {
+        match self {
+            Which::One => "level1",
+            Which::Two => "level2",
+        }
+    }
+}
+
+impl Part {
+    /// The name in the level's table.
+    pub(crate) fn name(self) -> &'static str
+        ensures { result.now ≡ part_name self }
+    {
+        match self {
+            Part::Sets => "sets",
+            Part::Ways => "ways",
+            Part::Organisation => "organisation",
+            Part::Registers => "registers",
+            Part::Entries => "entries",
+        }
+    }
+}
+
+impl Key {
+    /// The name in its own table.
+    pub(crate) fn name(self) -> &'static str
+        ensures { result.now ≡ name_of self }
+    {
+        match self {
+            Key::Ports => "ports",
+            Key::Banks => "banks",
+            Key::Block => "block",
+            Key::Tags => "tags",
+            Key::Table(which) => which.name(),
+            Key::Of(_, part) => part.name(),
+        }
+    }
+
+    /// What the value has to be.
+    pub(crate) fn sort(self) -> Sort
+        ensures { result ≡ sort_of self }
+    {
+        match self {
+            Key::Table(_) => Sort::Table,
+            Key::Of(_, Part::Organisation) => Sort::Text,
+            _ => Sort::Integer,
+        }
+    }
+
+    /// Which values are allowed.
+    pub(crate) fn limits(self) -> Limits
+        ensures { result ≡ limits_of self }
+    {
+        match self {
+            Key::Ports | Key::Banks => Limits::Between(1, 16),
+            Key::Block => Limits::BlockSize,
+            Key::Tags => Limits::Between(1, 64),
+            Key::Table(_) => Limits::Any,
+            Key::Of(_, Part::Sets) => Limits::Between(1, 4096),
+            Key::Of(_, Part::Ways) => Limits::Between(1, 16),
+            Key::Of(_, Part::Organisation) => Limits::Organisation,
+            Key::Of(_, Part::Registers) => Limits::Between(1, 64),
+            Key::Of(_, Part::Entries) => Limits::Between(1, 8),
+        }
+    }
+
+    /// When the key has to be there.
+    pub(crate) fn need(self) -> Need
+        ensures { result ≡ need_of self }
+    {
+        match self {
+            Key::Of(_, Part::Registers) => Need::UnlessInverted,
+            Key::Of(_, Part::Entries) => Need::IfExplicit,
+            _ => Need::Always,
+        }
+    }
+}

@@ -1,0 +1,20 @@
+//! Reads the configuration of a hierarchy from a TOML document.
+//!
+//! What a text says is `configuration_of` of `specs/Configuration.antt`: a shape, or the first fault.
+//! No key has a default, and none that is not known is passed over.
+#![tactic(auto)]
+
+mod fault;
+mod key;
+mod lookup;
+mod reading;
+mod rules;
+#[cfg(test)]
+mod tests;
+mod text;
+mod told;
+mod unknown;
+
+pub use fault::ConfigFault;
+pub use key::{Key, Part, Which};
+pub use reading::read;

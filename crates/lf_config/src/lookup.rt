@@ -1,0 +1,38 @@
+//! What a table has at a key.
+
+ghost use Rattle.std.specs.Prelude.{◌≡◌, option_map};
+ghost use Rattle.toml.specs.Data.{get_member};
+ghost use Rattle.toml.specs.View.{view, table_view};
+ghost use Rattle.lf_config.specs.Lookup.{level_at, value_at};
+
+use crate::key::{Key, Which};
+use toml::{Table, Value};
+
+fn entry<'a>(table: &'a Table, name: &str) -> Option<&'a Value>
+    ensures { option_map (λ v. view v.now) result ≡ get_member name.now (table_view table.now) }
+{
+    table.get(name)
+}
+
+/// The table of a level, where there is one.
+pub(crate) fn level<'a>(table: &'a Table, which: Which) -> Option<&'a Table>
+    ensures { option_map (λ t. table_view t.now) result ≡ level_at (table_view table.now) which }
+{
+    match entry(table, which.name()) {
+        Some(value) => value.as_table(),
+        None => None,
+    }
+}
+
+/// The value of a key, where there is one.
+pub(crate) fn value<'a>(table: &'a Table, key: Key) -> Option<&'a Value>
+    ensures { option_map (λ v. view v.now) result ≡ value_at (table_view table.now) key }
+{
+    match key {
+        Key::Of(which, part) => match level(table, which) {
+            Some(inner) => entry(inner, part.name()),
+            None => None,
+        },
+        _ => entry(table, key.name()),
+    }
+}

@@ -1,0 +1,60 @@
+//! The shape that a document tells, where it breaks no rule.
+
+ghost use Rattle.std.specs.Prelude.{◌≡◌};
+ghost use Rattle.toml.specs.View.{table_view};
+ghost use Rattle.lf_config.specs.Rules.{organisation_at};
+ghost use Rattle.lf_config.specs.Told.{number_at, organisation_named, level_of, shape_of};
+
+use crate::key::{Key, Part, Which};
+use crate::lookup::value;
+use crate::rules::organisation;
+use lf_model::{Level, OrgShape, Shape};
+use toml::Table;
+
+fn number(table: &Table, key: Key) -> u32
+    ensures { result ≡ number_at (table_view table.now) key }
+{
+    match value(table, key) {
+        Some(value) => match value.as_integer() {
+            Some(number) => u32::try_from(number).unwrap_or(0),
+            None => 0,
+        },
+        None => 0,
+    }
+}
+
+fn organisation_shape(table: &Table, which: Which) -> OrgShape
+    ensures { result ≡ organisation_named (table_view table.now) which (organisation_at (table_view table.now) which) }
+{
+    let registers = number(table, Key::Of(which, Part::Registers));
+    let entries = number(table, Key::Of(which, Part::Entries));
+    match organisation(table, which) {
+        Some("implicit") => OrgShape::Implicit { registers },
+        Some("explicit") => OrgShape::Explicit { registers, entries },
+        _ => OrgShape::Inverted,
+    }
+}
+
+fn level_shape(table: &Table, which: Which) -> Level
+    ensures { result ≡ level_of (table_view table.now) which }
+{
+    Level {
+        sets: number(table, Key::Of(which, Part::Sets)),
+        ways: number(table, Key::Of(which, Part::Ways)),
+        organisation: organisation_shape(table, which),
+    }
+}
+
+#[tactic(auto, unfolding(crate::specs::Told::shape_of))]
+pub(crate) fn shape(table: &Table) -> Shape
+    ensures { result ≡ shape_of (table_view table.now) }
+{
+    Shape {
+        ports: number(table, Key::Ports),
+        banks: number(table, Key::Banks),
+        block: number(table, Key::Block),
+        tags: number(table, Key::Tags),
+        level1: level_shape(table, Which::One),
+        level2: level_shape(table, Which::Two),
+    }
+}

@@ -1,0 +1,237 @@
+//! Worked examples, and a call of each function that succeeds.
+
+ghost use Rattle.std.specs.Prelude.{◌≡◌};
+
+use crate::{
+    NumberFault, Place, bank_order, bank_records, port_replay, record_at, skeletons, split,
+};
+use lf_model::{Block, Event, Level, Op, OrgShape, Outcome, Record, Rule, Shape};
+use std::test::Fail;
+
+/// An event of port 0 at bank 0.
+fn of_port(number: u32, event: Event) -> Record
+    ensures log { result.log ≡ 0 }
+    ensures bank { result.bank ≡ 0 }
+{
+    Record {
+        log: 0,
+        bank: 0,
+        number,
+        event,
+    }
+}
+
+/// An event of bank 0, where there is one port.
+fn of_bank(number: u32, event: Event) -> Record
+    ensures log { result.log ≡ 1 }
+    ensures bank { result.bank ≡ 0 }
+{
+    Record {
+        log: 1,
+        bank: 0,
+        number,
+        event,
+    }
+}
+
+fn zeros() -> Block {
+    let mut bytes = Block::new();
+    for _ in 0..8 {
+        let _ = bytes.try_push(0);
+    }
+    bytes
+}
+
+/// A load of block 0.
+fn load(tag: u8, number: u32) -> Record
+    ensures log { result.log ≡ 0 }
+    ensures bank { result.bank ≡ 0 }
+{
+    of_port(
+        number,
+        Event::Issue {
+            op: Op::Load,
+            tag,
+            size: 8,
+            address: 0,
+            bytes: Block::new(),
+        },
+    )
+}
+
+/// Its reply.
+fn reply(tag: u8, number: u32) -> Record
+    ensures log { result.log ≡ 0 }
+    ensures bank { result.bank ≡ 0 }
+{
+    of_port(
+        number,
+        Event::Reply {
+            tag,
+            size: 8,
+            bytes: zeros(),
+        },
+    )
+}
+
+fn shape() -> Shape {
+    let organisation = OrgShape::Explicit {
+        registers: 1,
+        entries: 2,
+    };
+    let level = Level {
+        sets: 1,
+        ways: 1,
+        organisation,
+    };
+    Shape {
+        ports: 1,
+        banks: 1,
+        block: 8,
+        tags: 4,
+        level1: level,
+        level2: level,
+    }
+}
+
+#[test]
+fn records_go_to_their_logs(rt: HostRuntime) -> Result<(), Fail> {
+    let records = vec![in rt.alloc();
+        load(0, 0),
+        of_bank(1, Event::Stall { port: 0, tag: 0 }),
+        load(1, 2),
+    ]?;
+    let logs = split(rt.alloc(), 1, 1, records).ok().ok_or("no memory")?;
+    assert_eq!(rt; logs.len(), 2);
+    assert_eq!(rt; logs[0].as_slice(), [load(0, 0), load(1, 2)].as_slice());
+    assert_eq!(rt;
+        logs[1].as_slice(),
+        [of_bank(1, Event::Stall { port: 0, tag: 0 })].as_slice()
+    );
+    Ok(())
+}
+
+#[test]
+fn gaps_and_doubles(rt: HostRuntime) -> Result<(), Fail> {
+    let places = [
+        Place { log: 0, at: 0 },
+        Place { log: 0, at: 1 },
+        Place { log: 0, at: 2 },
+    ];
+    for (numbers, fault) in [
+        ([0, 1, 2], None),
+        ([0, 1, 3], Some(NumberFault::Missing(2))),
+        ([0, 1, 1], Some(NumberFault::Double(1))),
+        ([0, 2, 2], Some(NumberFault::Missing(1))),
+    ] {
+        let [a, b, c] = numbers;
+        let records = vec![in rt.alloc(); load(0, a), load(1, b), load(2, c)]?;
+        let logs = split(rt.alloc(), 1, 1, records).ok().ok_or("no memory")?;
+        assert!(rt; logs.len() <= 32);
+        assert!(rt; logs.iter().all(|log| log.len() <= 1 << 20));
+        match bank_order(rt.alloc(), &logs, 0) {
+            Ok(order) => {
+                assert_eq!(rt; fault, None);
+                assert_eq!(rt; order.as_slice(), places.as_slice());
+                for place in &order {
+                    assert_eq!(rt; record_at(&logs, *place).number, place.at);
+                }
+            }
+            Err(found) => assert_eq!(rt; Some(found), fault),
+        }
+    }
+    Ok(())
+}
+
+#[test]
+fn records_of_a_bank_from_two_logs(rt: HostRuntime) -> Result<(), Fail> {
+    let stall = Event::Stall { port: 0, tag: 0 };
+    let port = vec![in rt.alloc(); load(0, 3), load(1, 0)]?;
+    let bank = vec![in rt.alloc(); of_bank(2, stall.clone()?), of_bank(1, stall.clone()?)]?;
+    let logs = vec![in rt.alloc(); port, bank]?;
+    assert!(rt; logs.len() <= 32);
+    assert!(rt; logs.iter().all(|log| log.len() <= 1 << 20));
+    match bank_order(rt.alloc(), &logs, 0) {
+        Ok(order) => {
+            let places = [(0, 1), (1, 1), (1, 0), (0, 0)].map(|(log, at)| Place { log, at });
+            assert_eq!(rt; order.as_slice(), places.as_slice());
+            let banks = bank_records(rt.alloc(), 1, logs).ok().ok_or("no memory")?;
+            assert_eq!(rt; banks.len(), 1);
+            let sorted = [
+                load(1, 0),
+                of_bank(1, stall.clone()?),
+                of_bank(2, stall),
+                load(0, 3),
+            ];
+            assert_eq!(rt; banks[0].as_slice(), sorted.as_slice());
+        }
+        Err(fault) => assert!(rt; false, "{fault:?}"),
+    }
+    Ok(())
+}
+
+#[test]
+fn tags_of_a_port(rt: HostRuntime) {
+    let shape = shape();
+    let twice = [load(0, 0), load(0, 1)];
+    assert_eq!(rt;
+        port_replay(&shape, &twice),
+        Outcome::Broken(1, Rule::TagBusy)
+    );
+    let again = [load(0, 0), reply(0, 5), load(0, 6)];
+    assert_eq!(rt; port_replay(&shape, &again), Outcome::Passed);
+    let two_replies = [load(0, 0), reply(0, 5), reply(0, 6)];
+    assert_eq!(rt;
+        port_replay(&shape, &two_replies),
+        Outcome::Broken(2, Rule::NotOutstanding)
+    );
+    let out_of_range = [load(4, 0)];
+    assert_eq!(rt;
+        port_replay(&shape, &out_of_range),
+        Outcome::Broken(0, Rule::TagRange)
+    );
+}
+
+#[test]
+fn encode_and_skeletons(rt: HostRuntime) -> Result<(), Fail> {
+    let port = vec![in rt.alloc(); load(0, 0), reply(0, 5)]?;
+    let primary = of_bank(
+        1,
+        Event::Primary {
+            port: 0,
+            tag: 0,
+            register: 0,
+        },
+    );
+    let second_primary = of_bank(
+        2,
+        Event::SecondPrimary {
+            block: 0,
+            register: 0,
+        },
+    );
+    let fill2 = of_bank(
+        3,
+        Event::Fill2 {
+            block: 0,
+            bytes: zeros(),
+        },
+    );
+    let fill1 = of_bank(
+        4,
+        Event::Fill1 {
+            block: 0,
+            bytes: zeros(),
+        },
+    );
+    let bank = vec![in rt.alloc(); primary, second_primary, fill2, fill1]?;
+    let logs = vec![in rt.alloc(); port, bank]?;
+    let found = skeletons(rt.alloc(), &logs).ok().ok_or("no memory")?;
+    assert_eq!(rt; found.len(), 2);
+    assert_eq!(rt; found[0].as_slice(), [(0, 0), (0, 5)].as_slice());
+    assert_eq!(rt;
+        found[1].as_slice(),
+        [(0, 1), (0, 2), (0, 3), (0, 4)].as_slice()
+    );
+    Ok(())
+}

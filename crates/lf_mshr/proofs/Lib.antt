@@ -1,0 +1,5 @@
+pub mod Counts
+pub mod Bounds
+pub mod Once
+pub mod Fields
+pub mod Size

@@ -1,0 +1,12 @@
+-- How much a register file may hold.
+use Rattle.std.specs.Prelude.{◌≡◌, ℕ, ◌≤◌, ◌==◌, ◌&&◌, List, count_by}
+use Rattle.lf_model.specs.Registers.{Held}
+
+-- all registers are below the number, and each holds at most so many targets
+pub record IsWithin {T : Type 0} (registers most : ℕ) (held : List (Held T)) : Type 0 where
+  pub few : (register : ℕ) → count_by (λ h. h.register == register) held ≤ most
+  pub none : (register : ℕ) → registers ≤ register → count_by (λ h. h.register == register) held ≡ 0
+
+-- each register has at most one target at each position
+abbrev pub HasFields : {T : Type 0} → (T → ℕ) → List (Held T) → Type 0
+HasFields position held = (register at : ℕ) → count_by (λ h. h.register == register && position h.target == at) held ≤ 1

@@ -1,0 +1,5 @@
+pub mod RegisterFile
+pub mod Bounds
+pub mod Faults
+pub mod Names
+pub mod Size

@@ -1,0 +1,123 @@
+//! What the registers of a file hold, in the order of acceptance.
+
+ghost use Rattle.std.specs.Prelude.{◌≡◌, ℕ, ◌≤◌, ◌==◌, ◌&&◌, length, map, count_by, vec_capacity};
+ghost use Rattle.std.specs.List.{list_any, range_with_len};
+ghost use Rattle.lf_model.specs.Registers.{holds, is_free, holds_in, targets_of, released};
+ghost use Rattle.lf_mshr.specs.RegisterFile.{released_pair};
+
+use crate::target::Target;
+use arrayvec::ArrayVec;
+use std::marker::Model;
+
+/// The targets of a block, each with the register that held it, in the order of acceptance.
+pub type Targets<T> = ArrayVec<(u16, T), 1024>;
+
+/// A register's block, and one target of it.
+#[derive(Drop)]
+pub struct Held<T> {
+    pub register: u16,
+    pub block: u32,
+    pub target: T,
+}
+
+impl<T> Model for Held<T> {
+    ghost use Rattle.lf_model.specs.Registers as model;
+
+    ghost Value = { model.Held T };
+
+    ghost view = { λ h. record { register = h.register; block = h.block; target = h.target } };
+}
+
+impl<T> Held<T> {
+    fn register(&self) -> u16
+        ensures { result ≡ self.now.register }
+    {
+        self.register
+    }
+
+    fn block(&self) -> u32
+        ensures { result ≡ self.now.block }
+    {
+        self.block
+    }
+
+    fn target(&self) -> &T
+        ensures { result.now ≡ self.now.target }
+    {
+        &self.target
+    }
+}
+
+/// Whether a register holds the block.
+pub fn holds<T>(held: &[Held<T>], block: u32) -> bool
+    ensures { result ≡ holds held.now block }
+{
+    held.iter().any(|h| h.block() == block)
+}
+
+fn is_used<T>(held: &[Held<T>], register: u32) -> bool
+    ensures { result ≡ list_any (λ h. h.register == register) held.now }
+{
+    held.iter().any(|h| u32::from(h.register()) == register)
+}
+
+pub fn is_free<T>(held: &[Held<T>], register: u32) -> bool
+    ensures { result ≡ is_free held.now register }
+{
+    !is_used(held, register)
+}
+
+/// Whether the register holds the block.
+pub fn holds_in<T>(held: &[Held<T>], register: u32, block: u32) -> bool
+    ensures { result ≡ holds_in held.now register block }
+{
+    held.iter().any(|h| u32::from(h.register()) == register && h.block() == block)
+}
+
+/// Whether one of so many registers is free.
+pub fn some_is_free<T>(registers: u32, held: &[Held<T>]) -> bool
+    ensures { result ≡ list_any (is_free held.now) (range_with_len 0 registers) }
+{
+    (0..registers).any(|r| is_free(held, r))
+}
+
+/// How many targets the register holds.
+pub fn targets_in<T>(held: &[Held<T>], register: u32) -> usize
+    ensures { result ≡ count_by (λ h. h.register == register) held.now }
+{
+    held.iter()
+        .filter(|h| u32::from(h.register()) == register)
+        .count()
+}
+
+/// Whether the register's field at this position is in use.
+pub fn is_field_used<T: Target>(held: &[Held<T>], register: u32, at: u8) -> bool
+    ensures { result ≡ list_any (λ h. h.register == register && T.position h.target == at) held.now }
+{
+    held.iter().any(|h| u32::from(h.register()) == register && h.target().position() == at)
+}
+
+fn targets_of<T: Target>(held: &[Held<T>], block: u32) -> Targets<T>
+    requires { length held.now ≤ 1024 }
+    ensures { result.items ≡ map released_pair (targets_of held.now block) }
+{
+    let mut targets = Targets::new();
+    for h in held {
+        if h.block() == block {
+            targets.push((h.register(), *h.target()));
+        }
+    }
+    targets
+}
+
+/// Takes the targets of the block out. The others keep their order.
+pub fn release<T: Target>(held: &mut Vec<Held<T>>, block: u32) -> Targets<T>
+    requires { length held.old.items ≤ 1024 }
+    ensures targets { result.items ≡ map released_pair (targets_of held.old.items block) }
+    ensures others { held.new.items ≡ released held.old.items block }
+    ensures capacity { vec_capacity held.new ≡ vec_capacity held.old }
+{
+    let targets = targets_of(held, block);
+    held.retain(|h| h.block() != block);
+    targets
+}

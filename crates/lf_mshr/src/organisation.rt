@@ -1,0 +1,96 @@
+//! How the registers of a file name what they hold.
+
+ghost use Rattle.std.specs.Prelude.{◌≡◌, Bool, true, false, ◌≤◌, ◌↔◌, IsTrue, IfOk, OnOk, OnErr, map};
+ghost use Rattle.lf_model.specs.Clauses.{OfBank};
+ghost use Rattle.lf_model.specs.InRange.{IsOrganisation};
+ghost use Rattle.lf_model.specs.Registers.{holds, shares, targets_of};
+ghost use Rattle.lf_model.specs.Run.{first_failing};
+ghost use Rattle.lf_model.specs.Sharing.{HoldsOnce};
+ghost use Rattle.lf_model.specs.declared.shape.OrgShape.{OrgShape};
+ghost use Rattle.lf_mshr.specs.Faults.{refusal_of};
+ghost use Rattle.lf_mshr.specs.RegisterFile.{RegisterFile, empty_file, with_target, without_block, released_pair, primary_wants, merge_wants, has_room_for, SomeTakes};
+
+use crate::fault::RegisterFault;
+use crate::held::Targets;
+use crate::target::Target;
+use lf_model::{NoMemory, OrgShape};
+use std::alloc::Global;
+
+/// A way to organise the registers of one level of one bank.
+///
+/// A file is seen as its organisation, its number of destinations and the list of what its registers
+/// hold, in the order of acceptance. The first two never change. Only `new` takes memory.
+pub trait Organisation {
+    type Target: Target;
+
+    type File: Drop;
+
+    /// Whether several registers may hold one block.
+    const SHARES: bool;
+
+    ghost SHARES: { Bool };
+
+    ghost names: { OrgShape → Bool };
+
+    ghost seen: { Self.File → RegisterFile Self.Target };
+
+    /// A file whose registers are all free.
+    ///
+    /// The shape is one of this organisation. An inverted file has as many registers as there are
+    /// destinations; the others ignore that number.
+    fn new(
+        alloc: Global,
+        organisation: &OrgShape,
+        destinations: u16,
+    ) -> Result<Self::File, NoMemory>
+        requires names { names organisation.now ≡ true }
+        requires in_range { IsOrganisation organisation.now }
+        requires destinations { destinations ≤ 1024 }
+        ensures { IfOk result (λ file. seen file ≡ empty_file organisation.now destinations) };
+
+    /// Whether some register takes the target, as a primary miss or as a further one.
+    fn room(file: &Self::File, block: u32, target: &Self::Target) -> bool
+        ensures value { result ≡ has_room_for Self.Target.position Self.Target.destination (seen file.now) block target.now }
+        ensures exact { IsTrue result ↔ SomeTakes Self.Target.position Self.Target.destination (seen file.now) block target.now };
+
+    /// Places the target of a primary miss to the block in the register.
+    ///
+    /// Refuses, with nothing changed and in this order, `InFlight`, `Range`, `Wrong` and `Busy`.
+    fn primary(
+        file: &mut Self::File,
+        register: u16,
+        block: u32,
+        target: Self::Target,
+    ) -> Result<(), RegisterFault>
+        ensures answer { refusal_of result ≡ first_failing OfBank (primary_wants Self.Target.position Self.Target.destination (seen file.old) register block target) }
+        ensures placed { OnOk result (seen file.new ≡ with_target (seen file.old) register block target) }
+        ensures unchanged { OnErr result (seen file.new ≡ seen file.old) };
+
+    /// Places the target of a further miss to the block in the register.
+    ///
+    /// Refuses, with nothing changed and in this order, `NotInFlight`, `Range`, `Wrong` and `Full`.
+    fn merge(
+        file: &mut Self::File,
+        register: u16,
+        block: u32,
+        target: Self::Target,
+    ) -> Result<(), RegisterFault>
+        ensures answer { refusal_of result ≡ first_failing OfBank (merge_wants Self.Target.position Self.Target.destination (seen file.old) register block target) }
+        ensures placed { OnOk result (seen file.new ≡ with_target (seen file.old) register block target) }
+        ensures unchanged { OnErr result (seen file.new ≡ seen file.old) };
+
+    /// Takes out every target of the block, each once, in the order of acceptance. The others stay.
+    fn release(file: &mut Self::File, block: u32) -> Targets<Self::Target>
+        ensures targets { result.items ≡ map released_pair (targets_of (seen file.old).held block) }
+        ensures others { seen file.new ≡ without_block (seen file.old) block };
+
+    /// Whether a register holds the block.
+    fn holds(file: &Self::File, block: u32) -> bool
+        ensures { result ≡ holds (seen file.now).held block };
+
+    // whether registers share is that of the file's organisation
+    ghost shares_as_seen: { (file : Self.File) → shares (seen file).organisation ≡ SHARES };
+
+    // no two registers hold one block where they may not
+    ghost holds_once: { (file : Self.File) → SHARES ≡ false → HoldsOnce (seen file).held };
+}

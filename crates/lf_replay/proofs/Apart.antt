@@ -1,0 +1,439 @@
+-- Each event keeps where the blocks of a bank stand.
+use Rattle.std.proofs.Common.{◌≡◌, ℕ, Bool, true, false, cond, not, ◌||◌, ◌&&◌, ◌==◌, List, [], ◌∷◌, ◌++◌, Option, Some, None, refl, sym, ap, ◌∙◌, eqb-true, subst}
+use Rattle.std.proofs.lemmas.Bool.{both_ways}
+use Rattle.lf_model.specs.declared.shape.Shape.{Shape}
+use Rattle.lf_model.specs.declared.event.Record.{Record}
+use Rattle.lf_model.specs.declared.event.Event.{Event}
+use Rattle.lf_model.specs.declared.event.Event.TheVariants.{Issue, Reply, Hit, Primary, Merge, Stall, Fill1, Evict1, SecondHit, SecondPrimary, SecondStall, Fill2, Evict2}
+use Rattle.lf_model.specs.Registers.{Held, holds}
+use Rattle.lf_model.specs.Lines.{has_line, dirty_mask}
+use Rattle.lf_model.specs.State.{Missed, Ready, Slice, Local, idle}
+use Rattle.lf_model.specs.Table.{Side, OfPort, OfBank, OfBoth, Clause, rules_of, slice_after, is_asked, is_among, oldest, miss, carries, clauses, bank_effect, value_at, accepts, replies_at}
+use Rattle.lf_model.specs.Run.{judges, first_failing}
+use Rattle.lf_model.proofs.Clauses.{this_holds, others_hold}
+use Rattle.lf_replay.specs.Bytes.{flat_of}
+use Rattle.lf_replay.specs.Kept.{Kept, local_of, slice_of}
+use Rattle.lf_replay.specs.Apart.{stands, stands_at, EachStands}
+use Rattle.lf_replay.proofs.Blocks.{has_put, has_gone, any_push, any_gone}
+
+-- ---- the clauses of a bank, all of which hold
+
+abbrev pub HoldsIf : Bool → Bool → Type 0
+HoldsIf true h = h ≡ true
+HoldsIf false h = Unit {0}
+
+abbrev pub BankHolds : List Clause → Type 0
+BankHolds [] = Unit {0}
+BankHolds (c ∷ cs) = HoldsIf (judges OfBank c.side) c.holds × BankHolds cs
+
+pub bank_holds : (cs : List Clause) → first_failing OfBank cs ≡ None → BankHolds cs
+bank_holds [] e = tt
+bank_holds (c ∷ cs) e = go (judges OfBank c.side) (bank_holds cs) e
+  where
+    go : (j : Bool) → (first_failing OfBank cs ≡ None → BankHolds cs) → cond j (cond c.holds (first_failing OfBank cs) (Some c.rule)) (first_failing OfBank cs) ≡ None → HoldsIf j c.holds × BankHolds cs
+    go true rest e = (this_holds c.holds c.rule (first_failing OfBank cs) e, rest (others_hold c.holds c.rule (first_failing OfBank cs) e))
+    go false rest e = (tt, rest e)
+
+-- ---- one block
+
+no_way : {A : Type 0} → ◌≡◌ {A = Bool} false true → A
+no_way e = absurd (both_ways true (sym e) refl)
+
+primary_here : (a f s l2 : Bool) → stands a f s false false l2 ≡ true → stands true f s true false l2 ≡ true
+primary_here false false false false e = refl
+primary_here false false false true e = refl
+primary_here false false true false e = no_way e
+primary_here false false true true e = no_way e
+primary_here false true false false e = no_way e
+primary_here false true false true e = no_way e
+primary_here false true true false e = no_way e
+primary_here false true true true e = no_way e
+primary_here true false false false e = no_way e
+primary_here true false false true e = no_way e
+primary_here true false true false e = no_way e
+primary_here true false true true e = no_way e
+primary_here true true false false e = no_way e
+primary_here true true false true e = no_way e
+primary_here true true true false e = no_way e
+primary_here true true true true e = no_way e
+
+fill1_here : (a f w l1 l2 : Bool) → stands a f true w l1 l2 ≡ true → stands a f false false true l2 ≡ true
+fill1_here false false false false false e = no_way e
+fill1_here false false false false true e = no_way e
+fill1_here false false false true false e = no_way e
+fill1_here false false false true true e = no_way e
+fill1_here false false true false false e = no_way e
+fill1_here false false true false true e = refl
+fill1_here false false true true false e = no_way e
+fill1_here false false true true true e = no_way e
+fill1_here false true false false false e = no_way e
+fill1_here false true false false true e = no_way e
+fill1_here false true false true false e = no_way e
+fill1_here false true false true true e = no_way e
+fill1_here false true true false false e = no_way e
+fill1_here false true true false true e = no_way e
+fill1_here false true true true false e = no_way e
+fill1_here false true true true true e = no_way e
+fill1_here true false false false false e = no_way e
+fill1_here true false false false true e = no_way e
+fill1_here true false false true false e = no_way e
+fill1_here true false false true true e = no_way e
+fill1_here true false true false false e = no_way e
+fill1_here true false true false true e = no_way e
+fill1_here true false true true false e = no_way e
+fill1_here true false true true true e = no_way e
+fill1_here true true false false false e = no_way e
+fill1_here true true false false true e = no_way e
+fill1_here true true false true false e = no_way e
+fill1_here true true false true true e = no_way e
+fill1_here true true true false false e = no_way e
+fill1_here true true true false true e = no_way e
+fill1_here true true true true false e = no_way e
+fill1_here true true true true true e = no_way e
+
+evict1_here : (a f s w l2 : Bool) → stands a f s w true l2 ≡ true → stands a f s w false true ≡ true
+evict1_here false false false false false e = no_way e
+evict1_here false false false false true e = refl
+evict1_here false false false true false e = no_way e
+evict1_here false false false true true e = no_way e
+evict1_here false false true false false e = no_way e
+evict1_here false false true false true e = no_way e
+evict1_here false false true true false e = no_way e
+evict1_here false false true true true e = no_way e
+evict1_here false true false false false e = no_way e
+evict1_here false true false false true e = no_way e
+evict1_here false true false true false e = no_way e
+evict1_here false true false true true e = no_way e
+evict1_here false true true false false e = no_way e
+evict1_here false true true false true e = no_way e
+evict1_here false true true true false e = no_way e
+evict1_here false true true true true e = no_way e
+evict1_here true false false false false e = no_way e
+evict1_here true false false false true e = no_way e
+evict1_here true false false true false e = no_way e
+evict1_here true false false true true e = no_way e
+evict1_here true false true false false e = no_way e
+evict1_here true false true false true e = no_way e
+evict1_here true false true true false e = no_way e
+evict1_here true false true true true e = no_way e
+evict1_here true true false false false e = no_way e
+evict1_here true true false false true e = no_way e
+evict1_here true true false true false e = no_way e
+evict1_here true true false true true e = no_way e
+evict1_here true true true false false e = no_way e
+evict1_here true true true false true e = no_way e
+evict1_here true true true true false e = no_way e
+evict1_here true true true true true e = no_way e
+
+second_hit_here : (f s w l1 : Bool) → stands true f s w l1 true ≡ true → stands false f true w l1 true ≡ true
+second_hit_here false false false false e = no_way e
+second_hit_here false false false true e = no_way e
+second_hit_here false false true false e = refl
+second_hit_here false false true true e = no_way e
+second_hit_here false true false false e = no_way e
+second_hit_here false true false true e = no_way e
+second_hit_here false true true false e = no_way e
+second_hit_here false true true true e = no_way e
+second_hit_here true false false false e = no_way e
+second_hit_here true false false true e = no_way e
+second_hit_here true false true false e = no_way e
+second_hit_here true false true true e = no_way e
+second_hit_here true true false false e = no_way e
+second_hit_here true true false true e = no_way e
+second_hit_here true true true false e = no_way e
+second_hit_here true true true true e = no_way e
+
+second_primary_here : (f s w l1 : Bool) → stands true f s w l1 false ≡ true → stands false true s w l1 false ≡ true
+second_primary_here false false false false e = no_way e
+second_primary_here false false false true e = no_way e
+second_primary_here false false true false e = refl
+second_primary_here false false true true e = no_way e
+second_primary_here false true false false e = no_way e
+second_primary_here false true false true e = no_way e
+second_primary_here false true true false e = no_way e
+second_primary_here false true true true e = no_way e
+second_primary_here true false false false e = no_way e
+second_primary_here true false false true e = no_way e
+second_primary_here true false true false e = no_way e
+second_primary_here true false true true e = no_way e
+second_primary_here true true false false e = no_way e
+second_primary_here true true false true e = no_way e
+second_primary_here true true true false e = no_way e
+second_primary_here true true true true e = no_way e
+
+fill2_here : (a s w l1 l2 : Bool) → stands a true s w l1 l2 ≡ true → stands a false true w l1 true ≡ true
+fill2_here false false false false false e = no_way e
+fill2_here false false false false true e = no_way e
+fill2_here false false false true false e = no_way e
+fill2_here false false false true true e = no_way e
+fill2_here false false true false false e = refl
+fill2_here false false true false true e = no_way e
+fill2_here false false true true false e = no_way e
+fill2_here false false true true true e = no_way e
+fill2_here false true false false false e = no_way e
+fill2_here false true false false true e = no_way e
+fill2_here false true false true false e = no_way e
+fill2_here false true false true true e = no_way e
+fill2_here false true true false false e = no_way e
+fill2_here false true true false true e = no_way e
+fill2_here false true true true false e = no_way e
+fill2_here false true true true true e = no_way e
+fill2_here true false false false false e = no_way e
+fill2_here true false false false true e = no_way e
+fill2_here true false false true false e = no_way e
+fill2_here true false false true true e = no_way e
+fill2_here true false true false false e = no_way e
+fill2_here true false true false true e = no_way e
+fill2_here true false true true false e = no_way e
+fill2_here true false true true true e = no_way e
+fill2_here true true false false false e = no_way e
+fill2_here true true false false true e = no_way e
+fill2_here true true false true false e = no_way e
+fill2_here true true false true true e = no_way e
+fill2_here true true true false false e = no_way e
+fill2_here true true true false true e = no_way e
+fill2_here true true true true false e = no_way e
+fill2_here true true true true true e = no_way e
+
+evict2_here : (a f s l2 : Bool) → stands a f s false false l2 ≡ true → stands a f s false false false ≡ true
+evict2_here false false false false e = refl
+evict2_here false false false true e = refl
+evict2_here false false true false e = no_way e
+evict2_here false false true true e = no_way e
+evict2_here false true false false e = no_way e
+evict2_here false true false true e = no_way e
+evict2_here false true true false e = no_way e
+evict2_here false true true true e = no_way e
+evict2_here true false false false e = no_way e
+evict2_here true false false true e = no_way e
+evict2_here true false true false e = no_way e
+evict2_here true false true true e = no_way e
+evict2_here true true false false e = no_way e
+evict2_here true true false true e = no_way e
+evict2_here true true true false e = no_way e
+evict2_here true true true true e = no_way e
+
+-- ---- what the events on lines need
+
+pub supplied_absent : (a f w l1 l2 : Bool) → stands a f true w l1 l2 ≡ true → l1 ≡ false
+supplied_absent false false false false false e = no_way e
+supplied_absent false false false false true e = no_way e
+supplied_absent false false false true false e = no_way e
+supplied_absent false false false true true e = no_way e
+supplied_absent false false true false false e = no_way e
+supplied_absent false false true false true e = refl
+supplied_absent false false true true false e = no_way e
+supplied_absent false false true true true e = no_way e
+supplied_absent false true false false false e = no_way e
+supplied_absent false true false false true e = no_way e
+supplied_absent false true false true false e = no_way e
+supplied_absent false true false true true e = no_way e
+supplied_absent false true true false false e = no_way e
+supplied_absent false true true false true e = no_way e
+supplied_absent false true true true false e = no_way e
+supplied_absent false true true true true e = no_way e
+supplied_absent true false false false false e = no_way e
+supplied_absent true false false false true e = no_way e
+supplied_absent true false false true false e = no_way e
+supplied_absent true false false true true e = no_way e
+supplied_absent true false true false false e = no_way e
+supplied_absent true false true false true e = no_way e
+supplied_absent true false true true false e = no_way e
+supplied_absent true false true true true e = no_way e
+supplied_absent true true false false false e = no_way e
+supplied_absent true true false false true e = no_way e
+supplied_absent true true false true false e = no_way e
+supplied_absent true true false true true e = no_way e
+supplied_absent true true true false false e = no_way e
+supplied_absent true true true false true e = no_way e
+supplied_absent true true true true false e = no_way e
+supplied_absent true true true true true e = no_way e
+
+pub fetched_absent : (a s w l1 l2 : Bool) → stands a true s w l1 l2 ≡ true → l2 ≡ false
+fetched_absent false false false false false e = no_way e
+fetched_absent false false false false true e = no_way e
+fetched_absent false false false true false e = no_way e
+fetched_absent false false false true true e = no_way e
+fetched_absent false false true false false e = refl
+fetched_absent false false true false true e = no_way e
+fetched_absent false false true true false e = no_way e
+fetched_absent false false true true true e = no_way e
+fetched_absent false true false false false e = no_way e
+fetched_absent false true false false true e = no_way e
+fetched_absent false true false true false e = no_way e
+fetched_absent false true false true true e = no_way e
+fetched_absent false true true false false e = no_way e
+fetched_absent false true true false true e = no_way e
+fetched_absent false true true true false e = no_way e
+fetched_absent false true true true true e = no_way e
+fetched_absent true false false false false e = no_way e
+fetched_absent true false false false true e = no_way e
+fetched_absent true false false true false e = no_way e
+fetched_absent true false false true true e = no_way e
+fetched_absent true false true false false e = no_way e
+fetched_absent true false true false true e = no_way e
+fetched_absent true false true true false e = no_way e
+fetched_absent true false true true true e = no_way e
+fetched_absent true true false false false e = no_way e
+fetched_absent true true false false true e = no_way e
+fetched_absent true true false true false e = no_way e
+fetched_absent true true false true true e = no_way e
+fetched_absent true true true false false e = no_way e
+fetched_absent true true true false true e = no_way e
+fetched_absent true true true true false e = no_way e
+fetched_absent true true true true true e = no_way e
+
+pub inner_there : (a f s w l2 : Bool) → stands a f s w true l2 ≡ true → l2 ≡ true
+inner_there false false false false false e = no_way e
+inner_there false false false false true e = refl
+inner_there false false false true false e = no_way e
+inner_there false false false true true e = no_way e
+inner_there false false true false false e = no_way e
+inner_there false false true false true e = no_way e
+inner_there false false true true false e = no_way e
+inner_there false false true true true e = no_way e
+inner_there false true false false false e = no_way e
+inner_there false true false false true e = no_way e
+inner_there false true false true false e = no_way e
+inner_there false true false true true e = no_way e
+inner_there false true true false false e = no_way e
+inner_there false true true false true e = no_way e
+inner_there false true true true false e = no_way e
+inner_there false true true true true e = no_way e
+inner_there true false false false false e = no_way e
+inner_there true false false false true e = no_way e
+inner_there true false false true false e = no_way e
+inner_there true false false true true e = no_way e
+inner_there true false true false false e = no_way e
+inner_there true false true false true e = no_way e
+inner_there true false true true false e = no_way e
+inner_there true false true true true e = no_way e
+inner_there true true false false false e = no_way e
+inner_there true true false false true e = no_way e
+inner_there true true false true false e = no_way e
+inner_there true true false true true e = no_way e
+inner_there true true true false false e = no_way e
+inner_there true true true false true e = no_way e
+inner_there true true true true false e = no_way e
+inner_there true true true true true e = no_way e
+
+-- ---- a block, where the event's own is it or another
+
+primary_step : (b a f s w l1 l2 : Bool) → (b ≡ true → w ≡ false) → (b ≡ true → l1 ≡ false) → stands a f s w l1 l2 ≡ true → stands (cond b true a) f s (cond b true w) l1 l2 ≡ true
+primary_step false a f s w l1 l2 p q e = e
+primary_step true a f s false false l2 p q e = primary_here a f s l2 e
+primary_step true a f s true l1 l2 p q e = no_way (sym (p refl))
+primary_step true a f s false true l2 p q e = no_way (sym (q refl))
+
+still : (b w : Bool) → (b ≡ true → w ≡ true) → cond b true w ≡ w
+still false w p = refl
+still true w p = sym (p refl)
+
+fill1_step : (b a f s w l1 l2 : Bool) → (b ≡ true → s ≡ true) → stands a f s w l1 l2 ≡ true → stands a f (cond b false s) (cond b false w) (cond b true l1) l2 ≡ true
+fill1_step false a f s w l1 l2 p e = e
+fill1_step true a f true w l1 l2 p e = fill1_here a f w l1 l2 e
+fill1_step true a f false w l1 l2 p e = no_way (p refl)
+
+evict1_step : (b a f s w l1 l2 : Bool) → (b ≡ true → l1 ≡ true) → stands a f s w l1 l2 ≡ true → stands a f s w (cond b false l1) (cond b true l2) ≡ true
+evict1_step false a f s w l1 l2 p e = e
+evict1_step true a f s w true l2 p e = evict1_here a f s w l2 e
+evict1_step true a f s w false l2 p e = no_way (p refl)
+
+second_hit_step : (b a f s w l1 l2 : Bool) → (b ≡ true → a ≡ true) → (b ≡ true → l2 ≡ true) → stands a f s w l1 l2 ≡ true → stands (cond b false a) f (cond b true s) w l1 l2 ≡ true
+second_hit_step false a f s w l1 l2 p q e = e
+second_hit_step true true f s w l1 true p q e = second_hit_here f s w l1 e
+second_hit_step true false f s w l1 l2 p q e = no_way (p refl)
+second_hit_step true true f s w l1 false p q e = no_way (q refl)
+
+second_primary_step : (b a f s w l1 l2 : Bool) → (b ≡ true → a ≡ true) → (b ≡ true → l2 ≡ false) → stands a f s w l1 l2 ≡ true → stands (cond b false a) (cond b true f) s w l1 l2 ≡ true
+second_primary_step false a f s w l1 l2 p q e = e
+second_primary_step true true f s w l1 false p q e = second_primary_here f s w l1 e
+second_primary_step true false f s w l1 l2 p q e = no_way (p refl)
+second_primary_step true true f s w l1 true p q e = no_way (sym (q refl))
+
+fill2_step : (b a f s w l1 l2 : Bool) → (b ≡ true → f ≡ true) → stands a f s w l1 l2 ≡ true → stands a (cond b false f) (cond b true s) w l1 (cond b true l2) ≡ true
+fill2_step false a f s w l1 l2 p e = e
+fill2_step true a true s w l1 l2 p e = fill2_here a s w l1 l2 e
+fill2_step true a false s w l1 l2 p e = no_way (p refl)
+
+evict2_step : (b a f s w l1 l2 : Bool) → (b ≡ true → w ≡ false) → (b ≡ true → l1 ≡ false) → stands a f s w l1 l2 ≡ true → stands a f s w l1 (cond b false l2) ≡ true
+evict2_step false a f s w l1 l2 p q e = e
+evict2_step true a f s false false l2 p q e = evict2_here a f s l2 e
+evict2_step true a f s true l1 l2 p q e = no_way (sym (p refl))
+evict2_step true a f s false true l2 p q e = no_way (sym (q refl))
+
+-- ---- the events
+
+stands_by : (a a' f f' s s' w w' l1 l1' l2 l2' : Bool) → a' ≡ a → f' ≡ f → s' ≡ s → w' ≡ w → l1' ≡ l1 → l2' ≡ l2 → stands a f s w l1 l2 ≡ true → stands a' f' s' w' l1' l2' ≡ true
+stands_by a a' f f' s s' w w' l1 l1' l2 l2' pa pf ps pw p1 p2 e =
+    let same : stands a' f' s' w' l1' l2' ≡ stands a f s w l1 l2 = λ i. stands (pa i) (pf i) (ps i) (pw i) (p1 i) (p2 i) in same ∙ e
+
+here : (P : ℕ → Bool) (v : Bool) (x y : ℕ) → P x ≡ v → (x == y) ≡ true → P y ≡ v
+here P v x y h e = ap P (sym (eqb-true x y e)) ∙ h
+
+is_not : (b : Bool) → not b ≡ true → b ≡ false
+is_not true e = no_way e
+is_not false e = refl
+
+left_true : (a b : Bool) → (a && b) ≡ true → a ≡ true
+left_true true b e = refl
+left_true false b e = no_way e
+
+right_true : (a b : Bool) → (a && b) ≡ true → b ≡ true
+right_true true b e = e
+right_true false b e = no_way e
+
+pub facts : (shape : Shape) (right : Bool) (slice : Slice) (log bank : ℕ) (e : Event) → first_failing OfBank (rules_of shape right idle slice log bank e) ≡ None → BankHolds (rules_of shape right idle slice log bank e)
+facts shape right slice log bank e none = bank_holds (rules_of shape right idle slice log bank e) none
+
+pub stands_after : (shape : Shape) (right : Bool) (value : List ℕ) (replies : List Ready) (slice : Slice) (log bank : ℕ) (e : Event) → EachStands slice
+    → first_failing OfBank (rules_of shape right idle slice log bank e) ≡ None → EachStands (slice_after shape value replies slice log e)
+stands_after shape right value replies slice log bank (Issue op tag size address bytes) each none = each
+stands_after shape right value replies slice log bank (Reply tag size bytes) each none = each
+stands_after shape right value replies slice log bank (Stall port tag) each none = each
+stands_after shape right value replies slice log bank (SecondStall block) each none = each
+stands_after shape right value replies slice log bank (Hit port tag) each none = λ y.
+    let h = facts shape right slice log bank (Hit port tag) none in
+    let x : ℕ = (oldest (slice.queue port)).block in
+    stands_by _ _ _ _ _ _ _ _ _ _ _ _ refl refl refl refl
+      (has_put slice.lines1 x _ y ∙ still (x == y) _ (here (has_line slice.lines1) true x y h.1.0)) refl (each y)
+stands_after shape right value replies slice log bank (Primary port tag register) each none = λ y.
+    let h = facts shape right slice log bank (Primary port tag register) none in
+    let x : ℕ = (oldest (slice.queue port)).block in
+    stands_by _ _ _ _ _ _ _ _ _ _ _ _ (any_push (λ (a : ℕ × ℕ). a.0) slice.asked (x, register) y) refl refl (any_push (λ (h : Held Missed). h.block) slice.waiting (miss slice port register value) y) refl refl
+      (primary_step (x == y) _ _ _ _ _ _ (here (holds slice.waiting) false x y (is_not _ h.1.1.0)) (here (has_line slice.lines1) false x y (is_not _ h.1.0)) (each y))
+stands_after shape right value replies slice log bank (Merge port tag register) each none = λ y.
+    let h = facts shape right slice log bank (Merge port tag register) none in
+    let x : ℕ = (oldest (slice.queue port)).block in
+    stands_by _ _ _ _ _ _ _ _ _ _ _ _ refl refl refl
+      (any_push (λ (h : Held Missed). h.block) slice.waiting (miss slice port register value) y ∙ still (x == y) _ (here (holds slice.waiting) true x y h.1.0)) refl refl (each y)
+stands_after shape right value replies slice log bank (Fill1 x bytes) each none = λ y.
+    let h = facts shape right slice log bank (Fill1 x bytes) none in
+    stands_by _ _ _ _ _ _ _ _ _ _ _ _ refl refl (any_gone (λ (b : ℕ). b) slice.supplied x y) (any_gone (λ (h : Held Missed). h.block) slice.waiting x y) (has_put slice.lines1 x _ y) refl
+      (fill1_step (x == y) _ _ _ _ _ _ (here (is_among slice.supplied) true x y h.0) (each y))
+stands_after shape right value replies slice log bank (Evict1 x mask bytes) each none = λ y.
+    let h = facts shape right slice log bank (Evict1 x mask bytes) none in
+    stands_by _ _ _ _ _ _ _ _ _ _ _ _ refl refl refl refl (has_gone slice.lines1 x y) (has_put slice.lines2 x _ y)
+      (evict1_step (x == y) _ _ _ _ _ _ (here (has_line slice.lines1) true x y h.0) (each y))
+stands_after shape right value replies slice log bank (SecondHit x) each none = λ y.
+    let h = facts shape right slice log bank (SecondHit x) none in
+    stands_by _ _ _ _ _ _ _ _ _ _ _ _ (any_gone (λ (a : ℕ × ℕ). a.0) slice.asked x y) refl (any_push (λ (b : ℕ). b) slice.supplied x y) refl refl refl
+      (second_hit_step (x == y) _ _ _ _ _ _ (here (is_asked slice.asked) true x y h.0) (here (has_line slice.lines2) true x y h.1.0) (each y))
+stands_after shape right value replies slice log bank (SecondPrimary x register) each none = λ y.
+    let h = facts shape right slice log bank (SecondPrimary x register) none in
+    stands_by _ _ _ _ _ _ _ _ _ _ _ _ (any_gone (λ (a : ℕ × ℕ). a.0) slice.asked x y) (any_push (λ (h : Held ℕ). h.block) slice.regs2 _ y) refl refl refl refl
+      (second_primary_step (x == y) _ _ _ _ _ _ (here (is_asked slice.asked) true x y h.0) (here (has_line slice.lines2) false x y (is_not _ h.1.0)) (each y))
+stands_after shape right value replies slice log bank (Fill2 x bytes) each none = λ y.
+    let h = facts shape right slice log bank (Fill2 x bytes) none in
+    stands_by _ _ _ _ _ _ _ _ _ _ _ _ refl (any_gone (λ (h : Held ℕ). h.block) slice.regs2 x y) (any_push (λ (b : ℕ). b) slice.supplied x y) refl refl (has_put slice.lines2 x _ y)
+      (fill2_step (x == y) _ _ _ _ _ _ (here (holds slice.regs2) true x y h.0) (each y))
+stands_after shape right value replies slice log bank (Evict2 x mask bytes) each none = λ y.
+    let h = facts shape right slice log bank (Evict2 x mask bytes) none in
+    stands_by _ _ _ _ _ _ _ _ _ _ _ _ refl refl refl refl refl (has_gone slice.lines2 x y)
+      (evict2_step (x == y) _ _ _ _ _ _ (here (holds slice.waiting) false x y (is_not _ (right_true _ _ h.1.0))) (here (has_line slice.lines1) false x y (is_not _ (left_true _ _ h.1.0))) (each y))
+
+pub kept_standing : (shape : Shape) (old new : Kept) (r : Record) → EachStands (slice_of old) → first_failing OfBank (clauses shape (local_of old) r) ≡ None
+    → local_of new ≡ bank_effect shape (local_of old) r → EachStands (slice_of new)
+kept_standing shape old new r each none step block =
+    ap (λ (now : Local). stands_at now.slice block) step
+    ∙ stands_after shape (carries shape (flat_of old.memory) (slice_of old) r.event) (value_at (flat_of old.memory) (accepts (slice_of old) r.event)) (replies_at (slice_of old) r.event) (slice_of old) r.log r.bank r.event each none block

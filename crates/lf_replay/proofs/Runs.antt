@@ -1,0 +1,99 @@
+-- Runs of a bank, one record longer.
+use Rattle.std.proofs.Common.{◌≡◌, ℕ, zero, suc, ◌<◌, List, [], ◌∷◌, ◌++◌, length, get_or, map, take, drop, drop-cons, ◌+◌, ◌≤◌, Option, Some, None, Result, Ok, Err, refl, sym, ap, ◌∙◌, subst, arith}
+use mathlib.Core.Path.{ap₂}
+use Rattle.std.specs.List.{AllByRecursion, range_with_len}
+use Rattle.std.proofs.lemmas.List.{get_or-map, take_more, take-append-drop, length-take-le}
+use Rattle.std.proofs.lemmas.List.FromFn.{get_or-range_with_len}
+use Rattle.lf_model.specs.declared.shape.Shape.{Shape}
+use Rattle.lf_model.specs.declared.event.Record.{Record}
+use Rattle.lf_model.specs.declared.rule.Rule as model
+use Rattle.lf_model.specs.Address.{FlatMemory}
+use Rattle.lf_model.specs.Numbers.{numbers_of}
+use Rattle.lf_model.specs.Outcomes.{first_local}
+use Rattle.lf_model.specs.State.{Request, Local}
+use Rattle.lf_model.specs.Table.{OfBank, clauses, bank_effect}
+use Rattle.lf_model.specs.Run.{first_failing, IsRunOf, BreaksAt}
+use Rattle.lf_replay.specs.declared.fault.BankFault.{BankFault}
+use Rattle.lf_replay.specs.declared.fault.BankFault.TheVariants.{Rule, NoMemory}
+use Rattle.lf_replay.specs.Faults.{IsBankFault}
+use Rattle.std.specs.Prelude.{OnOk, IfErr}
+use Rattle.lf_replay.specs.Kept.{Kept, local_of}
+use Rattle.lf_replay.specs.Step.{BankKept, broken_rule, Takes, bank_after, StandsAfter, IsFaultAfter}
+
+pub empty_more : (queues : List (List Request)) → ((port : ℕ) → get_or queues port [] ≡ []) → (port : ℕ) → get_or (queues ++ [] ∷ []) port [] ≡ []
+empty_more [] empty zero = refl
+empty_more [] empty (suc port) = refl
+empty_more (q ∷ queues) empty zero = empty zero
+empty_more (q ∷ queues) empty (suc port) = empty_more queues (λ k. empty (suc k)) port
+
+module _ (shape : Shape) where
+  pub run_more : (now : Local) (rs : List Record) (r : Record) → IsRunOf OfBank shape now rs → first_failing OfBank (clauses shape (bank_after shape now rs) r) ≡ None → IsRunOf OfBank shape now (rs ++ r ∷ [])
+  run_more now [] r run none = (none, tt)
+  run_more now (x ∷ rs) r run none = (run.0, run_more (bank_effect shape now x) rs r run.1 none)
+
+  pub after_more : (now : Local) (rs : List Record) (r : Record) → bank_after shape now (rs ++ r ∷ []) ≡ bank_effect shape (bank_after shape now rs) r
+  after_more now [] r = refl
+  after_more now (x ∷ rs) r = after_more (bank_effect shape now x) rs r
+
+  pub breaks_more : (now : Local) (rs : List Record) (r : Record) (rest : List Record) (rule : model.Rule) → IsRunOf OfBank shape now rs → first_failing OfBank (clauses shape (bank_after shape now rs) r) ≡ Some rule
+      → BreaksAt OfBank shape now (rs ++ r ∷ rest) (length rs) rule
+  breaks_more now [] r rest rule run some = some
+  breaks_more now (x ∷ rs) r rest rule run some = (run.0, breaks_more (bank_effect shape now x) rs r rest rule run.1 some)
+
+-- the rule that a step names is that of the bank after its records
+module _ (step : BankKept) (shape : Shape) (memory : FlatMemory) (bank : ℕ) (rs : List Record) (stands : StandsAfter step shape memory bank rs) (r : Record) where
+  pub same_rule : broken_rule step r ≡ first_failing OfBank (clauses shape (bank_after shape (first_local memory) rs) r)
+  same_rule = ap₂ (λ s l. first_failing OfBank (clauses s l r)) stands.of_shape stands.state
+
+  pub stands_more : (new : BankKept) → Takes step new r → StandsAfter new shape memory bank (rs ++ r ∷ [])
+  stands_more new takes = record {
+    of_shape = takes.same_shape ∙ stands.of_shape;
+    of_bank = takes.same_bank ∙ stands.of_bank;
+    is_run = run_more shape (first_local memory) rs r stands.is_run (sym same_rule ∙ takes.unbroken);
+    state = takes.moved ∙ ap₂ (λ s l. bank_effect s l r) stands.of_shape stands.state ∙ sym (after_more shape (first_local memory) rs r);
+  }
+
+  pub fault_after : (fault : BankFault) → IsBankFault (broken_rule step r) fault → IsFaultAfter shape memory rs r fault
+  fault_after (Rule rule) some = breaks_more shape (first_local memory) rs r [] rule stands.is_run (sym same_rule ∙ some)
+  fault_after NoMemory none = run_more shape (first_local memory) rs r stands.is_run (sym same_rule ∙ none)
+
+  pub breaks_after : (rest : List Record) (rule : model.Rule) → broken_rule step r ≡ Some rule → BreaksAt OfBank shape (first_local memory) (rs ++ r ∷ rest) (length rs) rule
+  breaks_after rest rule some = breaks_more shape (first_local memory) rs r rest rule stands.is_run (sym same_rule ∙ some)
+
+pub all_at : {X : Type 0} (P : X → Type 0) (xs : List X) (k : ℕ) (x : X) → AllByRecursion P xs → k < length xs → x ≡ get_or xs k x → P x
+all_at P [] k x all lt is = absurd (omega arith)
+all_at P (y ∷ xs) zero x all lt is = subst P (sym is) all.0
+all_at P (y ∷ xs) (suc k) x all lt is = all_at P xs k x all.1 (omega arith) is
+
+pub number_at : (rs : List Record) (k : ℕ) (r : Record) → numbers_of rs ≡ range_with_len 0 (length rs) → k < length rs → r ≡ get_or rs k r → r.number ≡ k
+number_at rs k r numbered lt is =
+    ap (λ (x : Record). x.number) is ∙ sym (get_or-map (λ (x : Record). x.number) rs k r 0 lt) ∙ ap (λ (ns : List ℕ). get_or ns k 0) numbered ∙ get_or-range_with_len 0 (length rs) k 0 lt ∙ omega arith
+
+-- ---- what a result says
+
+pub on_ok : {T E : Type 0} {P Q : Type 0} (r : Result T E) → (P → Q) → OnOk r P → OnOk r Q
+on_ok (Ok t) f p = f p
+on_ok (Err e) f p = tt
+
+pub if_err : {T E : Type 0} {P Q : E → Type 0} (r : Result T E) → ((e : E) → P e → Q e) → IfErr r P → IfErr r Q
+if_err (Ok t) f p = tt
+if_err (Err e) f p = f e p
+
+pub takes_of : {T E : Type 0} (result : Result T E) (bank : ℕ) (old new : Kept) (r : Record) → OnOk result (first_failing OfBank (clauses old.shape (local_of old) r) ≡ None)
+    → OnOk result (local_of new ≡ bank_effect old.shape (local_of old) r) → new.shape ≡ old.shape → OnOk result (Takes (record { bank = bank; kept = old }) (record { bank = bank; kept = new }) r)
+takes_of (Ok t) bank old new r none moved shape = record { unbroken = none; same_bank = refl; same_shape = shape; moved = moved }
+takes_of (Err e) bank old new r none moved shape = tt
+
+-- ---- a loop over the records
+
+pub stands_next : (step : BankKept) (shape : Shape) (memory : FlatMemory) (bank : ℕ) (rs : List Record) (k : ℕ) (r : Record) → k < length rs → r ≡ get_or rs k r
+    → StandsAfter step shape memory bank (take k rs ++ r ∷ []) → StandsAfter step shape memory bank (take (k + 1) rs)
+stands_next step shape memory bank rs k r lt is stands = subst (StandsAfter step shape memory bank) (ap (λ x. take k rs ++ x ∷ []) is ∙ sym (take_more rs k r lt)) stands
+
+pub breaks_at : (step : BankKept) (shape : Shape) (memory : FlatMemory) (bank : ℕ) (rs : List Record) (k : ℕ) (r : Record) (rule : model.Rule) → k < length rs → r ≡ get_or rs k r
+    → StandsAfter step shape memory bank (take k rs) → numbers_of rs ≡ range_with_len 0 (length rs) → broken_rule step r ≡ Some rule → BreaksAt OfBank shape (first_local memory) rs r.number rule
+breaks_at step shape memory bank rs k r rule lt is stands numbered some =
+    let whole : take k rs ++ r ∷ drop (suc k) rs ≡ rs = ap (λ x. take k rs ++ x ∷ drop (suc k) rs) is ∙ ap (λ (xs : List Record). take k rs ++ xs) (sym (drop-cons rs k r lt)) ∙ take-append-drop k rs in
+    let place : length (take k rs) ≡ r.number = length-take-le k rs (omega arith) ∙ sym (number_at rs k r numbered lt is) in
+    subst (λ (n : ℕ). BreaksAt OfBank shape (first_local memory) rs n rule) place
+      (subst (λ (xs : List Record). BreaksAt OfBank shape (first_local memory) xs (length (take k rs)) rule) whole (breaks_after step shape memory bank (take k rs) stands r (drop (suc k) rs) rule some))

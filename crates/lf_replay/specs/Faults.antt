@@ -1,0 +1,10 @@
+-- What a bank's fault says of a record.
+use Rattle.std.specs.Prelude.{◌≡◌, Option, Some, None}
+use Rattle.lf_model.specs.declared.rule.Rule as model
+use Rattle.lf_replay.specs.declared.fault.BankFault.{BankFault}
+use Rattle.lf_replay.specs.declared.fault.BankFault.TheVariants.{Rule, NoMemory}
+
+-- the first rule that the record breaks; want of memory is told only of one that breaks none
+abbrev pub IsBankFault : Option model.Rule → BankFault → Type 0
+IsBankFault broken (Rule rule) = broken ≡ Some rule
+IsBankFault broken NoMemory = broken ≡ None

@@ -1,0 +1,12 @@
+//! Why a bank does not take a record.
+
+use lf_model::Rule;
+
+/// The bank's state is then as it was.
+#[derive(Clone, Copy, Debug, PartialEq, Eq)]
+pub enum BankFault {
+    /// The first rule of the bank that the record breaks.
+    Rule(Rule),
+    /// The record breaks no rule, and a growth was refused.
+    NoMemory,
+}

@@ -1,0 +1,8 @@
+//! Worked traces, damaged files, and readers and writers that fail.
+
+mod damage;
+mod examples;
+mod hostile;
+mod notation;
+mod program;
+mod streams;

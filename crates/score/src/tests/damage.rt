@@ -1,0 +1,100 @@
+//! Files that are cut, continued or changed, and what is told of them.
+
+use crate::shape::SMALL;
+use crate::tests::examples::{LOAD, LOADED, bytes_of};
+use crate::tests::notation::{E, assert_line};
+use lf_model::Shape;
+use std::process::Abort;
+use std::test::Fail;
+
+const BLOCKS_OF_16: Shape = Shape { block: 16, ..SMALL };
+
+const TWO_PORTS_BLOCKS_OF_16: Shape = Shape {
+    ports: 2,
+    block: 16,
+    ..SMALL
+};
+
+/// The trace of these events with another byte at one place.
+fn assert_changed<T: Abort + AllocGlobal>(
+    rt: &T,
+    parts: &[&[E]],
+    at: usize,
+    byte: u8,
+    line: &str,
+) -> Result<(), Fail> {
+    let mut bytes = bytes_of(rt.alloc(), parts)?;
+    if let Some(place) = bytes.get_mut(at) {
+        *place = byte;
+    }
+    assert_line(rt, &SMALL, bytes.as_slice(), 1, line)
+}
+
+#[test]
+fn changed_inputs(rt: HostRuntime) -> Result<(), Fail> {
+    for (at, byte, line) in [
+        (0, 0x4d, "refused format Magic at=0\n"),
+        (4, 2, "refused format Version at=0\n"),
+        (20, 1, "refused format Count at=16\n"),
+    ] {
+        assert_changed(&rt, &[], at, byte, line)?;
+    }
+    for (at, byte, line) in [
+        (16, 0x0e, "refused format Kind at=16\n"),
+        (17, 1, "refused format LogKind at=16\n"),
+        (26, 3, "refused format Size at=16\n"),
+        (28, 4, "refused format Alignment at=16\n"),
+    ] {
+        assert_changed(&rt, &[&LOAD, &[LOADED]], at, byte, line)?;
+    }
+    let bytes = bytes_of(rt.alloc(), &[&LOAD, &[LOADED]])?;
+    assert_line(
+        &rt,
+        &BLOCKS_OF_16,
+        bytes.as_slice(),
+        1,
+        "refused header Block\n",
+    )?;
+    assert_line(
+        &rt,
+        &TWO_PORTS_BLOCKS_OF_16,
+        bytes.as_slice(),
+        1,
+        "refused header Ports\n",
+    )
+}
+
+/// Where the header or the record begins that a file ends in, which is cut to so many bytes.
+fn begun_at(n: usize) -> usize {
+    [16, 36, 48, 64, 84, 104, 124]
+        .into_iter()
+        .filter(|start| *start <= n)
+        .last()
+        .unwrap_or(0)
+}
+
+#[test]
+fn truncated_and_trailing(rt: HostRuntime) -> Result<(), Fail> {
+    let mut bytes = bytes_of(rt.alloc(), &[&LOAD, &[LOADED]])?;
+    for n in 0..132 {
+        let offset = begun_at(n);
+        let line = format!(in rt.alloc(); "refused format Truncated at={offset}\n")?;
+        let (front, _) = bytes.split_at(n.min(bytes.len()));
+        assert_line(&rt, &SMALL, front, 1, line.as_str())?;
+    }
+    bytes.push(0)?;
+    assert_line(
+        &rt,
+        &SMALL,
+        bytes.as_slice(),
+        1,
+        "refused format Trailing at=132\n",
+    )?;
+    assert_changed(
+        &rt,
+        &[&LOAD, &[LOADED]],
+        27,
+        1,
+        "refused format Reserved at=16\n",
+    )
+}

@@ -1,0 +1,99 @@
+//! Readers that are interrupted, run on or fail, and writers that fail.
+
+use crate::counted::Counted;
+use crate::engine::run_shape;
+use crate::fault::RunFault;
+use crate::shape::SMALL;
+use crate::tests::examples::{LOAD, LOADED, bytes_of};
+use crate::tests::streams::{Pieces, Sink};
+use std::process::Abort;
+use std::test::Fail;
+
+const YES: &str = "yes events=6\n";
+
+const NOT_READ: &str = "refused read trace\n";
+
+/// Fails where the engine, with so many turns, comes to another fault or writes another line.
+fn assert_run<T: Abort + AllocGlobal>(
+    rt: &T,
+    reader: Pieces<'_>,
+    turns: u32,
+    fault: Option<RunFault>,
+    line: &str,
+) -> Result<(), Fail> {
+    let mut reader = Counted::new(reader);
+    let mut writer = Counted::new(Vec::new(rt.alloc()));
+    let answer = run_shape(rt, &mut reader, &mut writer, &SMALL, 1, turns);
+    assert_eq!(rt; answer.err(), fault);
+    assert_eq!(rt; writer.inner().as_slice(), line.as_bytes());
+    Ok(())
+}
+
+#[test]
+fn interrupted_reads(rt: HostRuntime) -> Result<(), Fail> {
+    let bytes = bytes_of(rt.alloc(), &[&LOAD, &[LOADED]])?;
+    let turns_run_out = Some(RunFault::Turns);
+    for (turns, fault, line) in [(2000, None, YES), (1000, turns_run_out, NOT_READ)] {
+        let mut reader = Pieces::new(bytes.as_slice(), 132);
+        reader.interruptions = 1000;
+        assert_run(&rt, reader, turns, fault, line)?;
+    }
+    Ok(())
+}
+
+#[test]
+fn turns_run_out(rt: HostRuntime) -> Result<(), Fail> {
+    let bytes = bytes_of(rt.alloc(), &[&LOAD, &[LOADED]])?;
+    assert_run(&rt, Pieces::new(bytes.as_slice(), 132), 2, None, YES)?;
+    for turns in 0..2 {
+        let reader = Pieces::new(bytes.as_slice(), 132);
+        assert_run(&rt, reader, turns, Some(RunFault::Turns), NOT_READ)?;
+    }
+    Ok(())
+}
+
+#[test]
+fn read_fails_midway(rt: HostRuntime) -> Result<(), Fail> {
+    let bytes = bytes_of(rt.alloc(), &[&LOAD, &[LOADED]])?;
+    for reads_before_failure in 0..133 {
+        let mut reader = Pieces::new(bytes.as_slice(), 1);
+        reader.reads_before_failure = reads_before_failure;
+        assert_run(&rt, reader, 1000, Some(RunFault::Read), NOT_READ)?;
+    }
+    Ok(())
+}
+
+#[test]
+fn write_fails(rt: HostRuntime) -> Result<(), Fail> {
+    let bytes = bytes_of(rt.alloc(), &[&LOAD, &[LOADED]])?;
+    for (room, written) in [(3, "yes"), (0, "")] {
+        let mut reader = Counted::new(Pieces::new(bytes.as_slice(), 132));
+        let mut writer = Counted::new(Sink {
+            taken: Vec::new(rt.alloc()),
+            room,
+            takes_nothing: room == 0,
+        });
+        let answer = run_shape(&rt, &mut reader, &mut writer, &SMALL, 1, 1000);
+        assert_eq!(rt; answer.err(), Some(RunFault::Write));
+        assert_eq!(rt; writer.inner().taken.as_slice(), written.as_bytes());
+        assert_eq!(rt; writer.failures(), 1);
+    }
+    Ok(())
+}
+
+#[test]
+fn refused_before_reading(rt: HostRuntime) -> Result<(), Fail> {
+    let mut failing = Pieces::new(&[], 1);
+    failing.reads_before_failure = 0;
+    let mut reader = Counted::new(failing);
+    let mut writer = Counted::new(Vec::new(rt.alloc()));
+    let answer = run_shape(&rt, &mut reader, &mut writer, &SMALL, 17, 1000);
+    assert!(rt; answer.is_ok());
+    assert_eq!(rt;
+        writer.inner().as_slice(),
+        b"refused workers 17\n".as_slice()
+    );
+    assert_eq!(rt; reader.calls(), 0);
+    assert_eq!(rt; writer.calls(), 1);
+    Ok(())
+}
