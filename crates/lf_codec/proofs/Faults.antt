@@ -23,7 +23,7 @@ use Rattle.lf_codec.proofs.Pieces.{marked_of, gives_of_read}
 
 -- ---- the causes that bytes give
 
-is_of_bytes : CodecCause → Bool
+pub is_of_bytes : CodecCause → Bool
 is_of_bytes Truncated = false
 is_of_bytes NoMemory = false
 is_of_bytes _ = true
@@ -91,17 +91,17 @@ byte_cases r b fine =
     ]
 
 -- the byte that fails, and those around it
-record FailsWithin (r : Reading) (bytes : List ℕ) : Type 0 where
-  front : List ℕ
-  b : ℕ
-  back : List ℕ
-  split : bytes ≡ front ++ b ∷ back
-  fine : (read_on r front).fault ≡ None
-  cause : CodecCause
-  of_bytes : is_of_bytes cause ≡ true
-  is : read_on r bytes ≡ failed (read_on r front) cause
+pub record FailsWithin (r : Reading) (bytes : List ℕ) : Type 0 where
+  pub front : List ℕ
+  pub b : ℕ
+  pub back : List ℕ
+  pub split : bytes ≡ front ++ b ∷ back
+  pub fine : (read_on r front).fault ≡ None
+  pub cause : CodecCause
+  pub of_bytes : is_of_bytes cause ≡ true
+  pub is : read_on r bytes ≡ failed (read_on r front) cause
 
-fails_within : (bytes : List ℕ) (r : Reading) (f : CodecFault) → r.fault ≡ None → (read_on r bytes).fault ≡ Some f → FailsWithin r bytes
+pub fails_within : (bytes : List ℕ) (r : Reading) (f : CodecFault) → r.fault ≡ None → (read_on r bytes).fault ≡ Some f → FailsWithin r bytes
 fails_within [] r f fine some = absurd cc
 fails_within (b ∷ bytes) r f fine some =
     elim (byte_cases r b fine) [

@@ -1,12 +1,13 @@
 -- The laws between the bytes of a trace and what they are read as.
-use Rattle.std.specs.Prelude.{◌≡◌, ℕ, ◌<◌, ◌≤◌, List, [], ◌++◌, length, take, slice_index, Option, Some, None, Result, Ok, Err, ◌↔◌, ◌∷◌}
-use Rattle.std.specs.List.{AllByRecursion}
+use Rattle.std.specs.Prelude.{◌≡◌, ◌⊎◌, ℕ, ◌<◌, ◌≤◌, List, [], ◌++◌, length, take, slice_index, Option, Some, None, Result, Ok, Err, ◌↔◌, ◌∷◌}
+use Rattle.std.specs.List.{flat_map, AllByRecursion}
 use Rattle.lf_model.specs.Fits.{Bytes, FitsRecord}
 use Rattle.lf_model.specs.declared.event.Record.{Record}
 use Rattle.lf_codec.specs.declared.header.Header.{Header}
 use Rattle.lf_codec.specs.declared.fault.CodecCause.{CodecCause}
 use Rattle.lf_codec.specs.declared.fault.CodecCause.TheVariants.{Truncated, Trailing, NoMemory}
 use Rattle.lf_codec.specs.declared.fault.CodecFault.{CodecFault}
+use Rattle.lf_codec.specs.Layout.{header_bytes, memory_bytes, record_bytes}
 use Rattle.lf_codec.specs.Checks.{judged, header_checks}
 use Rattle.lf_codec.specs.Steps.{header_at}
 use Rattle.lf_codec.specs.Reading.{Reading, reading_of, truncated_at, fault_so_far, trace_fault, header_of}
@@ -85,6 +86,18 @@ WhatStandsBeforeIsGiven = (bytes : List ℕ) (f : CodecFault) → AreBytes bytes
 -- want of memory is no fault of bytes
 abbrev pub BytesNeverWantMemory : Type 0
 BytesNeverWantMemory = (bytes : List ℕ) (f : CodecFault) → trace_fault bytes ≡ Some f → f.cause ≡ NoMemory → ⊥
+
+-- the bytes of a header, a memory and records, with no end record
+abbrev pub beginning : Header → List (ℕ × Bytes) → List Record → List ℕ
+beginning h memory records = header_bytes h ++ flat_map memory_bytes memory ++ flat_map record_bytes records
+
+-- the bytes before the header or record in which a fault stands: nothing before a header, a whole trace before trailing bytes, and what has been read before a record
+abbrev pub IsSpelledBefore : Option Header → List (ℕ × Bytes) → List Record → List ℕ → Type 0
+IsSpelledBefore None memory records before = before ≡ []
+IsSpelledBefore (Some h) memory records before = (before ≡ beginning h memory records) ⊎ IsTrace before h memory records
+
+abbrev pub WhatStandsBeforeIsSpelled : Type 0
+WhatStandsBeforeIsSpelled = (bytes : List ℕ) (f : CodecFault) → AreBytes bytes → trace_fault bytes ≡ Some f → IsSpelledBefore (header_of bytes) (reading_of bytes).memory (reading_of bytes).records (take f.offset bytes)
 
 -- a byte after a trace is one too many
 abbrev pub MoreIsTrailing : Type 0
