@@ -1,14 +1,14 @@
 -- Each event keeps where the blocks of a bank stand.
-use Rattle.std.proofs.Common.{◌≡◌, ℕ, Bool, true, false, cond, not, ◌||◌, ◌&&◌, ◌==◌, List, [], ◌∷◌, ◌++◌, Option, Some, None, refl, sym, ap, ◌∙◌, eqb-true, subst}
+use Rattle.std.proofs.Common.{◌≡◌, ℕ, Bool, true, false, cond, not, ◌&&◌, ◌==◌, List, [], ◌∷◌, Some, None, refl, sym, ap, ◌∙◌, eqb-true}
 use Rattle.std.proofs.lemmas.Bool.{both_ways}
 use Rattle.lf_model.specs.declared.shape.Shape.{Shape}
 use Rattle.lf_model.specs.declared.event.Record.{Record}
 use Rattle.lf_model.specs.declared.event.Event.{Event}
 use Rattle.lf_model.specs.declared.event.Event.TheVariants.{Issue, Reply, Hit, Primary, Merge, Stall, Fill1, Evict1, SecondHit, SecondPrimary, SecondStall, Fill2, Evict2}
 use Rattle.lf_model.specs.Registers.{Held, holds}
-use Rattle.lf_model.specs.Lines.{has_line, dirty_mask}
+use Rattle.lf_model.specs.Lines.{has_line}
 use Rattle.lf_model.specs.State.{Missed, Ready, Slice, Local, idle}
-use Rattle.lf_model.specs.Table.{Side, OfPort, OfBank, OfBoth, Clause, rules_of, slice_after, is_asked, is_among, oldest, miss, carries, clauses, bank_effect, value_at, accepts, replies_at}
+use Rattle.lf_model.specs.Table.{OfBank, Clause, rules_of, slice_after, is_asked, is_among, oldest, miss, carries, clauses, bank_effect, value_at, accepts, replies_at}
 use Rattle.lf_model.specs.Run.{judges, first_failing}
 use Rattle.lf_model.proofs.Clauses.{this_holds, others_hold}
 use Rattle.lf_replay.specs.Bytes.{flat_of}
@@ -396,41 +396,41 @@ stands_after shape right value replies slice log bank (Hit port tag) each none =
     let h = facts shape right slice log bank (Hit port tag) none in
     let x : ℕ = (oldest (slice.queue port)).block in
     stands_by _ _ _ _ _ _ _ _ _ _ _ _ refl refl refl refl
-      (has_put slice.lines1 x _ y ∙ still (x == y) _ (here (has_line slice.lines1) true x y h.1.0)) refl (each y)
+    (has_put slice.lines1 x _ y ∙ still (x == y) _ (here (has_line slice.lines1) true x y h.1.0)) refl (each y)
 stands_after shape right value replies slice log bank (Primary port tag register) each none = λ y.
     let h = facts shape right slice log bank (Primary port tag register) none in
     let x : ℕ = (oldest (slice.queue port)).block in
     stands_by _ _ _ _ _ _ _ _ _ _ _ _ (any_push (λ (a : ℕ × ℕ). a.0) slice.asked (x, register) y) refl refl (any_push (λ (h : Held Missed). h.block) slice.waiting (miss slice port register value) y) refl refl
-      (primary_step (x == y) _ _ _ _ _ _ (here (holds slice.waiting) false x y (is_not _ h.1.1.0)) (here (has_line slice.lines1) false x y (is_not _ h.1.0)) (each y))
+    (primary_step (x == y) _ _ _ _ _ _ (here (holds slice.waiting) false x y (is_not _ h.1.1.0)) (here (has_line slice.lines1) false x y (is_not _ h.1.0)) (each y))
 stands_after shape right value replies slice log bank (Merge port tag register) each none = λ y.
     let h = facts shape right slice log bank (Merge port tag register) none in
     let x : ℕ = (oldest (slice.queue port)).block in
     stands_by _ _ _ _ _ _ _ _ _ _ _ _ refl refl refl
-      (any_push (λ (h : Held Missed). h.block) slice.waiting (miss slice port register value) y ∙ still (x == y) _ (here (holds slice.waiting) true x y h.1.0)) refl refl (each y)
+    (any_push (λ (h : Held Missed). h.block) slice.waiting (miss slice port register value) y ∙ still (x == y) _ (here (holds slice.waiting) true x y h.1.0)) refl refl (each y)
 stands_after shape right value replies slice log bank (Fill1 x bytes) each none = λ y.
     let h = facts shape right slice log bank (Fill1 x bytes) none in
     stands_by _ _ _ _ _ _ _ _ _ _ _ _ refl refl (any_gone (λ (b : ℕ). b) slice.supplied x y) (any_gone (λ (h : Held Missed). h.block) slice.waiting x y) (has_put slice.lines1 x _ y) refl
-      (fill1_step (x == y) _ _ _ _ _ _ (here (is_among slice.supplied) true x y h.0) (each y))
+    (fill1_step (x == y) _ _ _ _ _ _ (here (is_among slice.supplied) true x y h.0) (each y))
 stands_after shape right value replies slice log bank (Evict1 x mask bytes) each none = λ y.
     let h = facts shape right slice log bank (Evict1 x mask bytes) none in
     stands_by _ _ _ _ _ _ _ _ _ _ _ _ refl refl refl refl (has_gone slice.lines1 x y) (has_put slice.lines2 x _ y)
-      (evict1_step (x == y) _ _ _ _ _ _ (here (has_line slice.lines1) true x y h.0) (each y))
+    (evict1_step (x == y) _ _ _ _ _ _ (here (has_line slice.lines1) true x y h.0) (each y))
 stands_after shape right value replies slice log bank (SecondHit x) each none = λ y.
     let h = facts shape right slice log bank (SecondHit x) none in
     stands_by _ _ _ _ _ _ _ _ _ _ _ _ (any_gone (λ (a : ℕ × ℕ). a.0) slice.asked x y) refl (any_push (λ (b : ℕ). b) slice.supplied x y) refl refl refl
-      (second_hit_step (x == y) _ _ _ _ _ _ (here (is_asked slice.asked) true x y h.0) (here (has_line slice.lines2) true x y h.1.0) (each y))
+    (second_hit_step (x == y) _ _ _ _ _ _ (here (is_asked slice.asked) true x y h.0) (here (has_line slice.lines2) true x y h.1.0) (each y))
 stands_after shape right value replies slice log bank (SecondPrimary x register) each none = λ y.
     let h = facts shape right slice log bank (SecondPrimary x register) none in
     stands_by _ _ _ _ _ _ _ _ _ _ _ _ (any_gone (λ (a : ℕ × ℕ). a.0) slice.asked x y) (any_push (λ (h : Held ℕ). h.block) slice.regs2 _ y) refl refl refl refl
-      (second_primary_step (x == y) _ _ _ _ _ _ (here (is_asked slice.asked) true x y h.0) (here (has_line slice.lines2) false x y (is_not _ h.1.0)) (each y))
+    (second_primary_step (x == y) _ _ _ _ _ _ (here (is_asked slice.asked) true x y h.0) (here (has_line slice.lines2) false x y (is_not _ h.1.0)) (each y))
 stands_after shape right value replies slice log bank (Fill2 x bytes) each none = λ y.
     let h = facts shape right slice log bank (Fill2 x bytes) none in
     stands_by _ _ _ _ _ _ _ _ _ _ _ _ refl (any_gone (λ (h : Held ℕ). h.block) slice.regs2 x y) (any_push (λ (b : ℕ). b) slice.supplied x y) refl refl (has_put slice.lines2 x _ y)
-      (fill2_step (x == y) _ _ _ _ _ _ (here (holds slice.regs2) true x y h.0) (each y))
+    (fill2_step (x == y) _ _ _ _ _ _ (here (holds slice.regs2) true x y h.0) (each y))
 stands_after shape right value replies slice log bank (Evict2 x mask bytes) each none = λ y.
     let h = facts shape right slice log bank (Evict2 x mask bytes) none in
     stands_by _ _ _ _ _ _ _ _ _ _ _ _ refl refl refl refl refl (has_gone slice.lines2 x y)
-      (evict2_step (x == y) _ _ _ _ _ _ (here (holds slice.waiting) false x y (is_not _ (right_true _ _ h.1.0))) (here (has_line slice.lines1) false x y (is_not _ (left_true _ _ h.1.0))) (each y))
+    (evict2_step (x == y) _ _ _ _ _ _ (here (holds slice.waiting) false x y (is_not _ (right_true _ _ h.1.0))) (here (has_line slice.lines1) false x y (is_not _ (left_true _ _ h.1.0))) (each y))
 
 pub kept_standing : (shape : Shape) (old new : Kept) (r : Record) → EachStands (slice_of old) → first_failing OfBank (clauses shape (local_of old) r) ≡ None
     → local_of new ≡ bank_effect shape (local_of old) r → EachStands (slice_of new)

@@ -1,5 +1,5 @@
 -- Bytes of a block, and blocks of a memory.
-use Rattle.std.proofs.Common.{◌≡◌, ℕ, ◌+◌, ◌-◌, ◌*◌, ◌^◌, ◌%◌, ◌<◌, ◌≤◌, Bool, true, false, cond, ◌&&◌, ◌||◌, ◌==◌, List, [], ◌∷◌, ◌++◌, Option, Some, None, replicate, get_or, take, drop, refl, ap, sym, ◌∙◌, ⊎_elim, length, arith, slice_index, nat_le, nat_lt, map, leb, ltb, drop-cons, subst, zero, suc, append-nil, add-one}
+use Rattle.std.proofs.Common.{◌≡◌, ℕ, ◌+◌, ◌-◌, ◌*◌, ◌^◌, ◌%◌, ◌<◌, ◌≤◌, Bool, true, false, cond, ◌&&◌, ◌||◌, ◌==◌, List, [], ◌∷◌, ◌++◌, Option, Some, replicate, get_or, take, drop, refl, ap, sym, ◌∙◌, ⊎_elim, length, arith, slice_index, map, leb, ltb, drop-cons, subst, zero, suc, append-nil}
 use mathlib.Core.Path.{fun_ext, ap₂}
 use Rattle.std.specs.Prelude.{unwrap_or, bytes_eq}
 use Rattle.std.specs.Map.{lookup}
@@ -13,9 +13,8 @@ use Rattle.std.proofs.lemmas.List.Elements.{filter-append}
 use Rattle.std.proofs.lemmas.Nat.{pow-add}
 use Rattle.std.proofs.Math.Nat.{mod-eq_of_lt, one-le-pow, pow-le-pow_right}
 use Rattle.std.specs.List.{range_with_len, filter, list_all}
-use borrow.Rule.Slice.PartMut.{put_mid, mid_of}
+use borrow.Rule.Slice.PartMut.{put_mid}
 use Rattle.arrayvec.specs.ArrayVec.{ArrayVec}
-use Rattle.lf_model.specs.declared.event.Op.{Op}
 use Rattle.lf_model.specs.declared.event.Op.TheVariants.{Load, Store}
 use Rattle.lf_model.specs.Address.{FlatMemory, flat_memory, is_under, agree_off, masked}
 use Rattle.lf_model.specs.State.{update, Request}
@@ -42,6 +41,7 @@ put_mid_is xs new offset k e fits = fun_ext (λ place. go place (leb offset plac
   where
     front : length (take offset xs) ≡ offset
     front = omega (arith, length-take offset xs)
+
     go : (place : ℕ) (p q : Bool) → leb offset place ≡ p → ltb place (offset + length new) ≡ q
         → get_or (take offset xs ++ (new ++ drop k (drop offset xs))) place 0 ≡ cond (p && q) (get_or new (place - offset) 0) (get_or xs place 0)
     go place false q low high =
@@ -99,12 +99,12 @@ pub taken_more : (f : ℕ → ℕ) (p : ℕ → Bool) (i : ℕ) (xs ys : List �
 taken_more f p i xs ys y under pushed is taken =
     pushed ∙ ap (λ (zs : List ℕ). zs ++ y ∷ []) taken ∙ ap (λ z. map f (filter p (range_with_len 0 i)) ++ z ∷ []) is
     ∙ sym (ap (λ zs. map f (filter p zs)) (range_more 0 i i (omega arith)) ∙ ap (map f) (filter-append p (range_with_len 0 i) (i ∷ [])) ∙ map-append f (filter p (range_with_len 0 i)) (filter p (i ∷ []))
-      ∙ ap (λ b. map f (filter p (range_with_len 0 i)) ++ map f (cond b (i ∷ []) [])) under)
+    ∙ ap (λ b. map f (filter p (range_with_len 0 i)) ++ map f (cond b (i ∷ []) [])) under)
 
 pub passed_over : (f : ℕ → ℕ) (p : ℕ → Bool) (i : ℕ) (xs : List ℕ) → p i ≡ false → xs ≡ map f (filter p (range_with_len 0 i)) → xs ≡ map f (filter p (range_with_len 0 (i + 1)))
 passed_over f p i xs off taken =
     taken ∙ sym (ap (λ zs. map f (filter p zs)) (range_more 0 i i (omega arith)) ∙ ap (map f) (filter-append p (range_with_len 0 i) (i ∷ [])) ∙ map-append f (filter p (range_with_len 0 i)) (filter p (i ∷ []))
-      ∙ ap (λ b. map f (filter p (range_with_len 0 i)) ++ map f (cond b (i ∷ []) [])) off ∙ append-nil (map f (filter p (range_with_len 0 i))))
+    ∙ ap (λ b. map f (filter p (range_with_len 0 i)) ++ map f (cond b (i ∷ []) [])) off ∙ append-nil (map f (filter p (range_with_len 0 i))))
 
 -- ---- a block's bytes
 

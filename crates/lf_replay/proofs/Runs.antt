@@ -1,8 +1,10 @@
 -- Runs of a bank, one record longer.
-use Rattle.std.proofs.Common.{◌≡◌, ℕ, zero, suc, ◌<◌, List, [], ◌∷◌, ◌++◌, length, get_or, map, take, drop, drop-cons, ◌+◌, ◌≤◌, Option, Some, None, Result, Ok, Err, refl, sym, ap, ◌∙◌, subst, arith}
+use Rattle.std.proofs.Common.{◌≡◌, ℕ, zero, suc, ◌<◌, List, [], ◌∷◌, ◌++◌, length, get_or, take, drop, drop-cons, ◌+◌, Some, None, Result, Ok, Err, refl, sym, ap, ◌∙◌, subst, arith}
 use mathlib.Core.Path.{ap₂}
 use Rattle.std.specs.List.{AllByRecursion, range_with_len}
-use Rattle.std.proofs.lemmas.List.{get_or-map, take_more, take-append-drop, length-take-le}
+use Rattle.std.proofs.lemmas.List.{get_or-map, take_more, take-append-drop, length-take-le, length-append, map-append}
+use Rattle.lf_replay.proofs.Bytes.{range_more}
+use Rattle.lf_model.specs.Fits.{Fits}
 use Rattle.std.proofs.lemmas.List.FromFn.{get_or-range_with_len}
 use Rattle.lf_model.specs.declared.shape.Shape.{Shape}
 use Rattle.lf_model.specs.declared.event.Record.{Record}
@@ -18,7 +20,7 @@ use Rattle.lf_replay.specs.declared.fault.BankFault.TheVariants.{Rule, NoMemory}
 use Rattle.lf_replay.specs.Faults.{IsBankFault}
 use Rattle.std.specs.Prelude.{OnOk, IfErr}
 use Rattle.lf_replay.specs.Kept.{Kept, local_of}
-use Rattle.lf_replay.specs.Step.{BankKept, broken_rule, Takes, bank_after, StandsAfter, IsFaultAfter}
+use Rattle.lf_replay.specs.Step.{BankKept, broken_rule, Takes, bank_after, StandsAfter, IsFaultAfter, IsBankOrder}
 
 pub empty_more : (queues : List (List Request)) → ((port : ℕ) → get_or queues port [] ≡ []) → (port : ℕ) → get_or (queues ++ [] ∷ []) port [] ≡ []
 empty_more [] empty zero = refl
@@ -96,4 +98,24 @@ breaks_at step shape memory bank rs k r rule lt is stands numbered some =
     let whole : take k rs ++ r ∷ drop (suc k) rs ≡ rs = ap (λ x. take k rs ++ x ∷ drop (suc k) rs) is ∙ ap (λ (xs : List Record). take k rs ++ xs) (sym (drop-cons rs k r lt)) ∙ take-append-drop k rs in
     let place : length (take k rs) ≡ r.number = length-take-le k rs (omega arith) ∙ sym (number_at rs k r numbered lt is) in
     subst (λ (n : ℕ). BreaksAt OfBank shape (first_local memory) rs n rule) place
-      (subst (λ (xs : List Record). BreaksAt OfBank shape (first_local memory) xs (length (take k rs)) rule) whole (breaks_after step shape memory bank (take k rs) stands r (drop (suc k) rs) rule some))
+    (subst (λ (xs : List Record). BreaksAt OfBank shape (first_local memory) xs (length (take k rs)) rule) whole (breaks_after step shape memory bank (take k rs) stands r (drop (suc k) rs) rule some))
+
+-- ---- a bank's records, one more
+
+all_push : {X : Type 0} (P : X → Type 0) (xs : List X) (x : X) → AllByRecursion P xs → P x → AllByRecursion P (xs ++ x ∷ [])
+all_push P [] x all p = (p, tt)
+all_push P (y ∷ xs) x all p = (all.0, all_push P xs x all.1 p)
+
+pub order_next : (shape : Shape) (bank : ℕ) (rs : List Record) (k : ℕ) (r : Record) → k < length rs → r ≡ get_or rs k r → Fits shape r → r.bank ≡ bank → r.number ≡ k
+    → IsBankOrder shape bank (take k rs) → IsBankOrder shape bank (take (k + 1) rs)
+order_next shape bank rs k r lt is fits named numbered order =
+    let more : take k rs ++ r ∷ [] ≡ take (k + 1) rs = ap (λ x. take k rs ++ x ∷ []) is ∙ sym (take_more rs k r lt) in
+    let long : length (take k rs) ≡ k = length-take-le k rs (omega arith) in
+    let longer : length (take k rs ++ r ∷ []) ≡ k + 1 = omega (arith, length-append (take k rs) (r ∷ []), long) in
+    subst (IsBankOrder shape bank) more (record {
+      fit = all_push (Fits shape) (take k rs) r order.fit fits;
+      named = all_push (λ (x : Record). x.bank ≡ bank) (take k rs) r order.named named;
+      numbered = map-append (λ (x : Record). x.number) (take k rs) (r ∷ [])
+          ∙ ap₂ (λ (ns : List ℕ) n. ns ++ n ∷ []) (order.numbered ∙ ap (range_with_len 0) long) numbered
+          ∙ sym (range_more 0 k k (omega arith)) ∙ ap (range_with_len 0) (sym longer);
+    })

@@ -6,11 +6,10 @@ ghost use Rattle.lf_model.specs.InRange.{IsShape};
 ghost use Rattle.lf_model.specs.Outcomes.{IsBankOutcome};
 ghost use Rattle.lf_replay.specs.Step.{IsBankOrder};
 
+use crate::bank_step::Step;
+use crate::fault::BankFault;
 use lf_model::{Memory, Outcome, Record, Shape};
 use std::alloc::Global;
-
-use crate::fault::BankFault;
-use crate::bank_step::Step;
 
 /// Judges a bank's records, in the order of their numbers, by the rules of banks: `Passed` where they
 /// are a run from the opening state with this memory, `Broken` with the number of the first that does

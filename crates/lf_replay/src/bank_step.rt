@@ -8,12 +8,11 @@ ghost use Rattle.lf_model.specs.InRange.{IsShape};
 ghost use Rattle.lf_replay.specs.Faults.{IsBankFault};
 ghost use Rattle.lf_replay.specs.Step.{StandsAfter, Takes, IsForStep, IsFaultAfter, broken_rule};
 
+use crate::fault::BankFault;
+use crate::state::BankState;
 use lf_model::{Memory, NoMemory, Record, Shape};
 use std::alloc::Global;
 use std::marker::Model;
-
-use crate::fault::BankFault;
-use crate::state::BankState;
 
 /// The state of one bank's replay.
 #[derive(Drop)]
@@ -38,12 +37,7 @@ impl Model for Step {
 
 impl Step {
     /// The bank before its first record, with the memory that the trace names.
-    pub fn new(
-        alloc: Global,
-        shape: &Shape,
-        memory: &Memory,
-        bank: u32,
-    ) -> Result<Step, NoMemory>
+    pub fn new(alloc: Global, shape: &Shape, memory: &Memory, bank: u32) -> Result<Step, NoMemory>
         requires in_range { IsShape shape.now }
         requires bank { bank < shape.now.banks }
         ensures { IfOk result (λ step. StandsAfter step shape.now (flat_memory memory.now.items) bank []) }

@@ -9,11 +9,10 @@ ghost use Rattle.lf_replay.specs.Kept.{local_of, slice_of, IsFramed};
 ghost use Rattle.lf_replay.specs.Faults.{IsBankFault};
 ghost use Rattle.lf_replay.specs.View.{kept};
 
-use lf_model::{Event, NoMemory, Record};
-
 use crate::fault::BankFault;
 use crate::request::issued;
 use crate::state::BankState;
+use lf_model::{Event, NoMemory, Record};
 
 impl BankState {
     /// The record's effect, where it breaks no rule of the bank.

@@ -7,10 +7,9 @@ ghost use Rattle.lf_replay.specs.Bytes.{flat_of};
 ghost use Rattle.lf_replay.specs.Kept.{slice_of, IsFramed};
 ghost use Rattle.lf_replay.specs.View.{kept};
 
-use lf_model::{Block, Mask};
-
 use crate::registers::store_bytes;
 use crate::state::BankState;
+use lf_model::{Block, Mask};
 
 impl BankState {
     /// Whether a fill carries memory's bytes, off those that waiting stores of the block write.

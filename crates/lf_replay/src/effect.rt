@@ -14,13 +14,12 @@ ghost use Rattle.lf_model.specs.Table.{without_asked, without, without_ready, is
 ghost use Rattle.lf_replay.specs.Kept.{local_of, after_event, is_next, queue_at, IsFramed};
 ghost use Rattle.lf_replay.specs.View.{kept};
 
-use lf_levels::LineFault;
-use lf_model::{Mask, NoMemory};
-
 use crate::queue::{drop_head, enqueue, head};
 use crate::registers::{Held, release, store_bytes};
 use crate::request::{Missed, Ready, Request};
 use crate::state::BankState;
+use lf_levels::LineFault;
+use lf_model::{Mask, NoMemory};
 
 fn push<T: Drop>(items: &mut Vec<T>, item: T) -> Result<(), NoMemory>
     ensures ok { OnOk result (items.new.items ≡ items.old.items ++ item ∷ []) }
@@ -63,7 +62,8 @@ impl BankState {
             self.ready.pop();
             return Err(refusal);
         }
-        self.lines1.mark(request.block(), Mask(request.store_mask()));
+        self.lines1
+            .mark(request.block(), Mask(request.store_mask()));
         drop_head(&mut self.queues, port);
         Ok(())
     }
@@ -255,15 +255,13 @@ fn drop_ready(ready: &mut Vec<Ready>, port: u8, tag: u8)
 fn ready_at(ready: &[Ready], port: u8, tag: u8) -> Option<usize>
     ensures { result ≡ position (is_ready_for port tag) ready.now }
 {
-    ready.iter().position(|r| r.port() == port && r.tag() == tag)
+    ready
+        .iter()
+        .position(|r| r.port() == port && r.tag() == tag)
 }
 
 /// The block's targets may have their replies, in the order of acceptance.
-fn add_replies(
-    ready: &mut Vec<Ready>,
-    waiting: &[Held<Missed>],
-    block: u32,
-) -> Result<(), NoMemory>
+fn add_replies(ready: &mut Vec<Ready>, waiting: &[Held<Missed>], block: u32) -> Result<(), NoMemory>
     ensures ok { OnOk result (ready.new.items ≡ ready.old.items ++ map reply_of (targets_of waiting.now block)) }
     ensures err { OnErr result (ready.new.items ≡ ready.old.items) }
 {

@@ -12,12 +12,11 @@ ghost use Rattle.lf_model.specs.Run.{first_failing};
 ghost use Rattle.lf_replay.specs.Kept.{slice_of, local_of, IsFramed};
 ghost use Rattle.lf_replay.specs.View.{kept};
 
-use lf_model::{Block, Event, Mask, Record, Rule, Shape};
-
 use crate::registers::{
     has_room, holds, is_free, registers_of, right_for_merge, right_for_primary, takes,
 };
 use crate::state::BankState;
+use lf_model::{Block, Event, Mask, Record, Rule, Shape};
 
 /// The number by which a register is inverted: one for each port and tag.
 fn destination(shape: &Shape, port: u8, tag: u8) -> u32
@@ -125,7 +124,13 @@ impl BankState {
         if register >= registers_of(organisation, destinations(&self.shape)) {
             return Some(Rule::RegisterRange);
         }
-        if !right_for_merge(organisation, &self.waiting, request.block(), destination, register) {
+        if !right_for_merge(
+            organisation,
+            &self.waiting,
+            request.block(),
+            destination,
+            register,
+        ) {
             return Some(Rule::WrongRegister);
         }
         if !takes(organisation, &self.waiting, register, word) {
@@ -214,7 +219,11 @@ impl BankState {
         if register >= registers_of(organisation, destinations2(&self.shape)) {
             return Some(Rule::RegisterRange);
         }
-        if !right_for_primary(organisation, u32::from(self.asked_register(block)), register) {
+        if !right_for_primary(
+            organisation,
+            u32::from(self.asked_register(block)),
+            register,
+        ) {
             return Some(Rule::WrongRegister);
         }
         if !is_free(&self.regs2, register) {
@@ -305,7 +314,9 @@ impl BankState {
                 self.judge_evict1(self.evict_agrees(*block, *mask, bytes), *block, *mask)
             }
             Event::SecondHit { block } => self.judge_second_hit(*block),
-            Event::SecondPrimary { block, register } => self.judge_second_primary(*block, *register),
+            Event::SecondPrimary { block, register } => self.judge_second_primary(
+                *block, *register,
+            ),
             Event::SecondStall { block } => self.judge_second_stall(*block),
             Event::Fill2 { block, bytes } => {
                 self.judge_fill2(self.fill_agrees(*block, bytes), *block)

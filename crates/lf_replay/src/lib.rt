@@ -16,10 +16,12 @@ mod judge;
 mod memory;
 mod queue;
 mod registers;
-
 mod request;
 mod state;
 
-pub use fault::BankFault;
 pub use bank_replay::replay;
 pub use bank_step::Step;
+pub use fault::BankFault;
+
+#[cfg(test)]
+mod tests;

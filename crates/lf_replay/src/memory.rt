@@ -9,13 +9,12 @@ ghost use Rattle.lf_model.specs.State.{update};
 ghost use Rattle.lf_model.specs.Table.{value_of, accepted};
 ghost use Rattle.lf_replay.specs.Bytes.{flat_of, put, IsSound};
 
+use crate::registers::Held;
+use crate::request::{Data, Missed, Request};
 use lf_model::{Block, NoMemory, Op};
 use std::alloc::Global;
 use std::collections::BTreeMap;
 use std::marker::Model;
-
-use crate::registers::Held;
-use crate::request::{Data, Missed, Request};
 
 /// The bytes of a block, and zeros behind them.
 type Bytes = [u8; 64];

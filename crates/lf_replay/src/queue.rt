@@ -5,12 +5,11 @@ ghost use Rattle.lf_model.specs.State.{update};
 ghost use Rattle.lf_model.specs.Table.{is_head, oldest};
 ghost use Rattle.lf_replay.specs.Kept.{queue_at};
 
+use crate::request::Request;
 use lf_model::NoMemory;
 use std::alloc::Global;
 use std::collections::VecDeque;
 use std::marker::Model;
-
-use crate::request::Request;
 
 #[derive(Drop)]
 pub struct Queue {
@@ -40,7 +39,11 @@ impl Queue {
         ensures { MatchOption result (is_head self.now tag ≡ false) (λ request. (is_head self.now tag ≡ true) × (request.now ≡ oldest self.now)) }
     {
         let request = self.requests.front()?;
-        if request.tag() == tag { Some(request) } else { None }
+        if request.tag() == tag {
+            Some(request)
+        } else {
+            None
+        }
     }
 
     pub fn push(&mut self, request: Request) -> Result<(), NoMemory>

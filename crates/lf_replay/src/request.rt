@@ -29,7 +29,6 @@ pub struct Request {
 
 impl Model for Request {
     ghost use Rattle.lf_model.specs.State as model;
-
     ghost use Rattle.lf_replay.specs.Bytes.{IsSound};
 
     ghost Value = { model.Request };
@@ -175,14 +174,7 @@ impl Request {
 }
 
 /// The request that an issue makes.
-pub fn issued(
-    shape: &Shape,
-    op: Op,
-    tag: u8,
-    size: u8,
-    address: u64,
-    bytes: &[u8],
-) -> Request
+pub fn issued(shape: &Shape, op: Op, tag: u8, size: u8, address: u64, bytes: &[u8]) -> Request
     requires in_range { IsShape shape.now }
     requires size { is_size size ≡ true }
     requires aligned { address % size ≡ 0 }

@@ -11,14 +11,13 @@ ghost use Rattle.lf_replay.specs.Apart.{EachStands};
 ghost use Rattle.lf_replay.specs.Kept.{queue_at, local_of, slice_of, IsFramed};
 ghost use Rattle.lf_replay.specs.View.{kept};
 
-use lf_levels::{Lines, One, Two};
-use lf_model::{Block, NoMemory, Shape};
-use std::alloc::Global;
-
 use crate::memory::FlatMemory;
 use crate::queue::{Queue, head};
 use crate::registers::Held;
 use crate::request::{Missed, Ready, Request};
+use lf_levels::{Lines, One, Two};
+use lf_model::{Block, NoMemory, Shape};
+use std::alloc::Global;
 
 /// What bank b of both levels holds, and its part of flat memory.
 #[derive(Drop)]
@@ -55,11 +54,7 @@ fn empty_queues(alloc: Global, ports: u32) -> Result<Vec<Queue>, NoMemory>
 
 impl BankState {
     /// The opening state, with the memory that a trace names.
-    pub fn new(
-        alloc: Global,
-        shape: &Shape,
-        memory: &[(u32, Block)],
-    ) -> Result<BankState, NoMemory>
+    pub fn new(alloc: Global, shape: &Shape, memory: &[(u32, Block)]) -> Result<BankState, NoMemory>
         requires { IsShape shape.now }
         ensures opening { IfOk result (λ state. local_of (kept state) ≡ first_local (flat_memory memory.now)) }
         ensures framed { IfOk result (λ state. IsFramed (kept state)) }

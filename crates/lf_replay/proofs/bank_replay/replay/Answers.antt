@@ -1,4 +1,4 @@
-use Rattle.std.proofs.Common.{◌≡◌, ℕ, List, [], ◌∷◌, ◌++◌, take, drop, sym, ap, ◌∙◌, arith}
+use Rattle.std.proofs.Common.{take}
 use Rattle.lf_model.specs.Address.{flat_memory}
 use Rattle.lf_replay.proofs.Runs.{stands_next, breaks_at}
 use Rattle.lf_replay.proofs.bank_replay.replay.Goals as goal

@@ -1,4 +1,4 @@
-use Rattle.std.proofs.Common.{◌≡◌, ◌++◌, ◌≤◌, take, map, length}
+use Rattle.std.proofs.Common.{◌≡◌, ◌++◌, take, map}
 use Rattle.lf_model.specs.Registers.{targets_of}
 use Rattle.lf_model.specs.Table.{reply_of}
 use Rattle.lf_replay.proofs.effect.add_replies.Given as goal

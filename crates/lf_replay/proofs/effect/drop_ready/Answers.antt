@@ -1,4 +1,4 @@
-use Rattle.std.proofs.Common.{◌≡◌, ◌∙◌}
+use Rattle.std.proofs.Common.{◌∙◌}
 use Rattle.lf_replay.proofs.Finds.{removed_at, none_removed}
 use Rattle.lf_replay.proofs.effect.drop_ready.Goals as goal
 

@@ -1,4 +1,4 @@
-use Rattle.std.proofs.Common.{◌≡◌, ◌∙◌}
+use Rattle.std.proofs.Common.{◌∙◌}
 use Rattle.lf_replay.proofs.Bytes.{padded_is, zeros}
 use Rattle.lf_replay.proofs.memory.padded.Goals as goal
 

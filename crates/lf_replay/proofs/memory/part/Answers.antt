@@ -1,4 +1,4 @@
-use Rattle.std.proofs.Common.{◌≡◌, ℕ, refl, arith}
+use Rattle.std.proofs.Common.{refl, arith}
 use Rattle.lf_replay.proofs.Bytes.{more_read}
 use Rattle.lf_replay.proofs.memory.part.Goals as goal
 

@@ -1,6 +1,5 @@
-use Rattle.std.proofs.Common.{◌≡◌, ℕ, ◌+◌, ◌-◌, length, List, slice_index, ap, sym, ◌∙◌, refl, arith}
-use Rattle.lf_replay.specs.Bytes.{put}
-use borrow.Rule.Slice.PartMut.{put_mid, mid_of}
+use Rattle.std.proofs.Common.{ℕ, ◌+◌, ◌-◌, length, List, slice_index, ap, ◌∙◌, arith}
+use borrow.Rule.Slice.PartMut.{put_mid}
 use Rattle.lf_replay.proofs.Bytes.{put_mid_is}
 use Rattle.lf_replay.proofs.memory.put.Goals as goal
 

@@ -1,5 +1,3 @@
-use Rattle.std.proofs.Common.{◌≡◌, ℕ, ◌*◌, ◌-◌, ◌^◌, ◌%◌, sym, ap, ◌∙◌, arith}
-use Rattle.lf_model.specs.Address.{mask_of}
 use Rattle.lf_replay.proofs.Bytes.{mask_whole}
 use Rattle.lf_replay.proofs.request.mask_of.Goals as goal
 

@@ -1,7 +1,4 @@
-use Rattle.std.proofs.Common.{◌≡◌, ℕ, List, ap, refl}
-use Rattle.lf_replay.specs.Kept.{local_of}
 use Rattle.lf_replay.specs.View.{kept}
-use Rattle.lf_replay.specs.Step.{BankKept, Takes}
 use Rattle.lf_replay.proofs.Runs.{takes_of, on_ok, if_err, stands_more, fault_after}
 use Rattle.lf_replay.proofs.bank_step.Step.apply.Goals as goal
 

@@ -1,10 +1,9 @@
-use Rattle.std.proofs.Common.{◌≡◌, ℕ, List, [], Option, None, slice_index, ap, sym, ◌∙◌}
+use Rattle.std.proofs.Common.{ℕ, List, [], Option, slice_index, ap, ◌∙◌}
 use mathlib.Core.Path.{fun_ext}
 use Rattle.std.specs.Prelude.{unwrap_or}
 use Rattle.std.specs.Map.{lookup}
 use Rattle.std.specs.BTreeMap.{is_at}
 use Rattle.std.specs.Ordering.{nat_cmp}
-use Rattle.lf_replay.specs.Bytes.{flat_of}
 use Rattle.lf_replay.proofs.Bytes.{zeros}
 use Rattle.lf_replay.proofs.memory.FlatMemory.bytes_of.Goals as goal
 

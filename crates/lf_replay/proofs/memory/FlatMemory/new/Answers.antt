@@ -1,4 +1,4 @@
-use Rattle.std.proofs.Common.{◌≡◌, arith, ◌∙◌, ap, slice_index, List}
+use Rattle.std.proofs.Common.{arith, ◌∙◌, ap, slice_index}
 use Rattle.lf_replay.proofs.Bytes.{memory_step}
 use Rattle.lf_replay.proofs.memory.FlatMemory.new.Goals as goal
 

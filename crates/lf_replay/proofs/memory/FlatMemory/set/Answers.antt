@@ -1,4 +1,3 @@
-use Rattle.std.proofs.Common.{◌≡◌}
 use Rattle.lf_replay.proofs.Bytes.{flat_put}
 use Rattle.lf_replay.proofs.memory.FlatMemory.set.Goals as goal
 use Rattle.lf_replay.proofs.memory.FlatMemory.set.Goals.{in-Ok, in-Err}

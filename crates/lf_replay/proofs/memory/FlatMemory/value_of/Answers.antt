@@ -1,4 +1,4 @@
-use Rattle.std.proofs.Common.{◌≡◌, sym, ◌∙◌}
+use Rattle.std.proofs.Common.{◌∙◌}
 use Rattle.lf_replay.specs.Bytes.{flat_of}
 use Rattle.lf_replay.proofs.Bytes.{value_read}
 use Rattle.lf_replay.proofs.memory.FlatMemory.value_of.Goals as goal

@@ -1,7 +1,4 @@
-use Rattle.std.proofs.Common.{◌≡◌, ap, sym}
-use Rattle.lf_model.specs.State.{Local}
-use Rattle.lf_replay.specs.Apart.{stands_at, EachStands}
-use Rattle.lf_replay.specs.Kept.{local_of, slice_of}
+use Rattle.std.proofs.Common.{sym}
 use Rattle.lf_replay.specs.View.{kept}
 use Rattle.lf_replay.proofs.Apart.{kept_standing}
 use Rattle.lf_replay.proofs.state.BankState.apply.Goals as goal

@@ -1,4 +1,4 @@
-use Rattle.std.proofs.Common.{◌≡◌, sym, ap, ◌∙◌}
+use Rattle.std.proofs.Common.{sym, ap, ◌∙◌}
 use Rattle.lf_replay.proofs.Finds.{asked_found, register_in}
 use Rattle.lf_replay.proofs.state.BankState.asked_register.Goals as goal
 

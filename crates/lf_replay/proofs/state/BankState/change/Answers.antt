@@ -1,4 +1,3 @@
-use Rattle.std.proofs.Common.{◌≡◌}
 use Rattle.lf_replay.proofs.state.BankState.change.Goals as goal
 
 pub returns-in-Reply-clause-ok : goal.returns-in-Reply-clause-ok
@@ -30,4 +29,3 @@ returns-in-Fill2-clause-ok c = rw c.in-Fill2.is (c.fill2.ensures.ok c.args.item.
 
 pub returns-in-Evict2-clause-ok : goal.returns-in-Evict2-clause-ok
 returns-in-Evict2-clause-ok c = rw c.in-Evict2.is (c.evict2.ensures.value c.args.item.now.log c.in-Evict2.bytes)
-

@@ -1,4 +1,3 @@
-use Rattle.std.proofs.Common.{◌≡◌}
 use Rattle.lf_replay.proofs.state.BankState.judge.Goals as goal
 
 pub returns-in-Issue : goal.returns-in-Issue

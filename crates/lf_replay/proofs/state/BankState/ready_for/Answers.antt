@@ -1,5 +1,4 @@
-use Rattle.std.proofs.Common.{◌≡◌, sym, ap, ◌∙◌, subst}
-use Rattle.lf_replay.proofs.Finds.{ready_found, ready_lent}
+use Rattle.lf_replay.proofs.Finds.{ready_lent}
 use Rattle.lf_replay.proofs.state.BankState.ready_for.Goals as goal
 
 pub returns : goal.returns
