@@ -14,17 +14,17 @@ use Rattle.lf_logs.proofs.Splitting.{length-parts_of, get_or-parts_of}
 abbrev list_at : List (Vec Record) → ℕ → List Record
 list_at vecs bank = get_or (map (λ v. v.items) vecs) bank []
 
--- the lists before `bank` are in order, the others as they were dealt
+-- the lists before `bank` are in order, the others as they came
 pub record OrderedBelow (logs : List (List Record)) (banks : ℕ) (vecs : List (Vec Record)) (bank : ℕ) : Type 0 where
   pub each_bank : length vecs ≡ banks
   pub ordered : (b : ℕ) → b < bank → IsNumbered logs b (get_or (map (λ v. v.items) vecs) b [])
-  pub dealt : (b : ℕ) → bank ≤ b → b < banks → get_or (map (λ v. v.items) vecs) b [] ≡ of_bank b (all_records logs)
+  pub rest : (b : ℕ) → bank ≤ b → b < banks → get_or (map (λ v. v.items) vecs) b [] ≡ of_bank b (all_records logs)
 
 pub OrderedBelow-start : (logs : List (List Record)) (banks : ℕ) (vecs : List (Vec Record)) → map (λ v. v.items) vecs ≡ banks_of banks (all_records logs) → OrderedBelow logs banks vecs 0
 OrderedBelow-start logs banks vecs is = record {
   each_bank = sym (length-map vecs (λ (v : Vec Record). v.items)) ∙ ap length is ∙ length-parts_of (λ r. r.bank) banks (all_records logs);
   ordered = λ b h. absurd (omega arith);
-  dealt = λ b _ h. ap (λ xs. get_or xs b []) is ∙ get_or-parts_of (λ r. r.bank) banks (all_records logs) b [] h;
+  rest = λ b _ h. ap (λ xs. get_or xs b []) is ∙ get_or-parts_of (λ r. r.bank) banks (all_records logs) b [] h;
 }
 
 module _ (logs : List (List Record)) (banks : ℕ) (vecs : List (Vec Record)) (bank : ℕ) (before : OrderedBelow logs banks vecs bank) (vec : Vec Record) (inside : bank < length vecs) (read : vec ≡ get_or vecs bank vec) where
@@ -32,7 +32,7 @@ module _ (logs : List (List Record)) (banks : ℕ) (vecs : List (Vec Record)) (b
   list_is =
       ap (λ (v : Vec Record). v.items) read
       ∙ sym (get_or-map (λ (v : Vec Record). v.items) vecs bank vec [] inside)
-      ∙ before.dealt bank (omega arith) (omega (arith, before.each_bank, inside))
+      ∙ before.rest bank (omega arith) (omega (arith, before.each_bank, inside))
 
   pub whole_list : ((b : ℕ) → b < banks → IsWhole (bank_numbers logs b)) → IsWhole (numbers_of vec.items)
   whole_list whole = subst (λ rs. IsWhole (numbers_of rs)) (sym list_is) (whole bank (omega (arith, before.each_bank, inside)))
@@ -54,5 +54,5 @@ module _ (logs : List (List Record)) (banks : ℕ) (vecs : List (Vec Record)) (b
             (λ (this : b ≡ bank). subst (λ n. IsNumbered logs n (list_at (set vecs bank next) n)) (sym this) (subst (λ rs. IsNumbered logs bank rs) (sym here) done))
             (λ (other : b ≡ bank → ⊥). subst (λ rs. IsNumbered logs b rs) (sym (kept b other)) (before.ordered b (omega arith)))
             (cases_eq b bank);
-        dealt = λ b from within. kept b (omega arith) ∙ before.dealt b (omega arith) within;
+        rest = λ b from within. kept b (omega arith) ∙ before.rest b (omega arith) within;
       }

@@ -11,7 +11,7 @@ use lf_model::{Logs, NoMemory, Record};
 use std::alloc::Global;
 
 /// Moves each record of a log to the end of its bank's list.
-fn deal_log(banks: &mut Vec<Vec<Record>>, log: Vec<Record>) -> Result<(), NoMemory>
+fn add_log(banks: &mut Vec<Vec<Record>>, log: Vec<Record>) -> Result<(), NoMemory>
     requires { All (λ r. r.bank < length banks.old.items) log.items }
     ensures { OnOk result ((count : ℕ) (seen : List Record) → lists_of banks.old ≡ banks_of count seen
         → lists_of banks.new ≡ banks_of count (seen ++ log.items)) }
@@ -26,13 +26,13 @@ fn deal_log(banks: &mut Vec<Vec<Record>>, log: Vec<Record>) -> Result<(), NoMemo
 }
 
 /// The records of each bank, log after log.
-fn deal(alloc: Global, count: u32, logs: Logs) -> Result<Vec<Vec<Record>>, NoMemory>
+fn split_by_bank(alloc: Global, count: u32, logs: Logs) -> Result<Vec<Vec<Record>>, NoMemory>
     requires { All (λ log. All (λ r. r.bank < count) log.items) logs.items }
     ensures { IfOk result (λ banks. lists_of banks ≡ banks_of count (all_records (lists_of logs))) }
 {
     let mut banks = empty_logs(alloc, count)?;
     for log in logs {
-        deal_log(&mut banks, log)?;
+        add_log(&mut banks, log)?;
     }
     Ok(banks)
 }
@@ -60,7 +60,7 @@ pub fn bank_records(alloc: Global, banks: u32, logs: Logs) -> Result<Vec<Vec<Rec
     requires whole { (bank : ℕ) → bank < banks → IsWhole (bank_numbers (lists_of logs) bank) }
     ensures { IfOk result (λ lists. AreNumbered (lists_of logs) banks (lists_of lists)) }
 {
-    let mut lists = deal(alloc, banks, logs)?;
+    let mut lists = split_by_bank(alloc, banks, logs)?;
     for bank in 0..lists.len() {
         order_by_number(&mut lists[bank]);
     }

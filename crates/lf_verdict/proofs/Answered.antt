@@ -1,6 +1,6 @@
 -- From the logs of a trace to the verdict of its bytes.
-use Rattle.std.proofs.Common.{◌≡◌, ℕ, ◌+◌, ◌<◌, ◌≤◌, ◌^◌, List, [], ◌∷◌, map, length, get_or, Option, Some, None, refl, sym, ◌∙◌, ap, subst, arith, ◌⊎◌, inl, inr}
-use Rattle.std.specs.List.{AllByRecursion, All, range_with_len}
+use Rattle.std.proofs.Common.{◌≡◌, ℕ, ◌+◌, ◌<◌, ◌≤◌, ◌^◌, List, [], ◌∷◌, length, get_or, sym, ◌∙◌, ap, subst, arith}
+use Rattle.std.specs.List.{AllByRecursion, All}
 use Rattle.std.specs.Global.{Vec}
 use Rattle.std.proofs.lemmas.List.{length-map}
 use Rattle.std.proofs.lemmas.List.Elements.{All-from_recursion}
@@ -10,23 +10,23 @@ use Rattle.lf_model.specs.declared.event.Record.{Record}
 use Rattle.lf_model.specs.declared.event.Event.{Event}
 use Rattle.lf_model.specs.declared.event.Event.TheVariants.{Issue, Reply}
 use Rattle.lf_model.specs.Address.{flat_memory}
-use Rattle.lf_model.specs.Fits.{Bytes, FitsLog, FitsRecord, Fits}
+use Rattle.lf_model.specs.Fits.{Bytes, FitsLog, Fits}
 use Rattle.lf_model.specs.Order.{log_at}
 use Rattle.lf_model.specs.Run.{of_log}
 use Rattle.lf_codec.specs.declared.header.Header.{Header}
-use Rattle.lf_codec.specs.Trace.{IsTrace, FitsTrace}
+use Rattle.lf_codec.specs.Trace.{IsTrace}
 use Rattle.lf_logs.specs.Lists.{lists_of, logs_of}
 use Rattle.lf_verdict.specs.declared.answer.Verdict.{Verdict}
 use Rattle.lf_verdict.specs.declared.answer.Verdict.TheVariants.{Yes, No, Refused}
 use Rattle.lf_verdict.specs.declared.answer.HeaderField.{HeaderField}
 use Rattle.lf_verdict.specs.declared.answer.Refusal.{Refusal}
 use Rattle.lf_verdict.specs.declared.answer.Refusal.TheVariants as refusals
-use Rattle.lf_verdict.specs.Legal.{Agrees, IsTraceFor}
+use Rattle.lf_verdict.specs.Legal.{IsTraceFor}
 use Rattle.lf_verdict.specs.Laws.{YesIsLegal}
 use Rattle.lf_verdict.specs.Reading.{IsReadRefusal}
-use Rattle.lf_verdict.specs.Verdict.{Differs, IsVerdictOf, IsLegalYes, IsJudged, IsWorkerCount, IsTraceVerdict}
+use Rattle.lf_verdict.specs.Verdict.{Differs, IsVerdictOf, IsLegalYes, IsJudged, IsWorkerCount}
 use Rattle.lf_verdict.specs.Judging.{LogsFit, IsLogsVerdict, IsAnswer}
-use Rattle.lf_verdict.proofs.Traces.{records_fit, logs_fit, log_of_logs}
+use Rattle.lf_verdict.proofs.Traces.{logs_fit, log_of_logs}
 use Rattle.lf_verdict.proofs.Outcomes.{list_of}
 
 -- ---- the logs of a trace that agrees with the shape
@@ -52,7 +52,7 @@ pub logs_short : (vecs : Vec (Vec Record)) (count : ℕ) (rs : List Record) → 
 logs_short vecs count rs e short log d lt =
     let within : log < count = omega (arith, logs_count vecs count rs e) in
     let here : (get_or vecs.items log d).items ≡ of_log log rs =
-        sym (list_of vecs log d lt) ∙ ap (λ (logs : List (List Record)). log_at logs log) e ∙ log_of_logs count log rs within in
+    sym (list_of vecs log d lt) ∙ ap (λ (logs : List (List Record)). log_at logs log) e ∙ log_of_logs count log rs within in
     omega (arith, ap length here, short log)
 
 pub logs_fit_shape : (shape : Shape) (vecs : Vec (Vec Record)) (count : ℕ) (rs : List Record) → lists_of vecs ≡ logs_of count rs → AllByRecursion (Fits shape) rs → LogsFit shape (lists_of vecs)

@@ -1,18 +1,16 @@
 -- A yes by its parts is legal.
-use Rattle.std.proofs.Common.{◌≡◌, ℕ, ◌<◌, List, sym, subst}
+use Rattle.std.proofs.Common.{ℕ, ◌<◌, List, sym, subst}
 use Rattle.std.specs.List.{AllByRecursion}
 use Rattle.lf_model.specs.declared.shape.Shape.{Shape}
 use Rattle.lf_model.specs.declared.event.Record.{Record}
 use Rattle.lf_model.specs.Address.{FlatMemory, flat_memory}
 use Rattle.lf_model.specs.Fits.{Fits}
 use Rattle.lf_model.specs.Laws.{RunsAnswerOnce, RunsAreFlat, RunsShare}
-use Rattle.lf_model.specs.Numbers.{IsNumbered, InterleavingsAreNumbered, InterleavingsFit, NumberedIsOne}
+use Rattle.lf_model.specs.Numbers.{InterleavingsAreNumbered, InterleavingsFit, NumberedIsOne}
 use Rattle.lf_model.specs.Order.{EntriesKeepNumbers, EntriesKeepAlike, LogsFollow, OrdersInterleave}
-use Rattle.lf_model.specs.Run.{RunsByParts, of_bank, of_log, Interleaves, KeepsNumbers, IsSliceRun, IsPortRun, IsRun}
-use Rattle.lf_verdict.specs.Legal.{IsLegal}
+use Rattle.lf_model.specs.Run.{RunsByParts, of_bank, Interleaves, KeepsNumbers, IsSliceRun, IsPortRun, IsRun}
 use Rattle.lf_verdict.specs.Laws.{YesIsLegal}
 use Rattle.lf_verdict.specs.Parts.{PartsRun}
-use Rattle.lf_verdict.specs.Verdict.{IsYes}
 use Rattle.lf_verdict.proofs.Traces.{trace_names, trace_fits}
 
 -- the laws that a yes rests on
@@ -40,7 +38,7 @@ pub runs : (laws : Laws) (shape : Shape) (memory : FlatMemory) (logs : List (Lis
 runs laws shape memory logs rs parts interleaves keeps fits =
     (laws.parts shape memory rs fits).1 (
       bank_runs laws shape memory logs rs parts interleaves keeps,
-      λ port lt. subst (IsPortRun shape memory) (sym (interleaves.each port)) (parts.ports port lt)
+      λ port lt. subst (IsPortRun shape memory) (sym (interleaves.each port)) (parts.ports port lt),
     )
 
 pub legal_by_parts : Laws → YesIsLegal

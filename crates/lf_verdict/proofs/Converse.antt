@@ -1,5 +1,5 @@
 -- A no admits no run.
-use Rattle.std.proofs.Common.{◌≡◌, ℕ, ◌+◌, List, sym, ◌∙◌, ap, subst, refl, ◌⊎◌, inl, inr}
+use Rattle.std.proofs.Common.{◌≡◌, ℕ, ◌+◌, List, sym, ◌∙◌, ap, subst, inl, inr}
 use Rattle.std.specs.List.{AllByRecursion}
 use Rattle.lf_model.specs.declared.shape.Shape.{Shape}
 use Rattle.lf_model.specs.declared.event.Record.{Record}
@@ -12,15 +12,15 @@ use Rattle.lf_model.specs.Numbers.{InterleavingsAreNumbered, InterleavingsFit, N
 use Rattle.lf_model.specs.Order.{log_at}
 use Rattle.lf_model.specs.Outcomes.{OutcomesAreOne, first_local}
 use Rattle.lf_model.specs.Ring.{RingsAdmitNone}
-use Rattle.lf_model.specs.Run.{RunsByParts, of_bank, of_log, IsRun, IsRunOf, BreaksAt}
+use Rattle.lf_model.specs.Run.{RunsByParts, of_bank, IsRun, IsRunOf, BreaksAt}
 use Rattle.lf_model.specs.Table.{Side, OfPort, OfBank}
 use Rattle.lf_codec.specs.Laws.{BytesAreOfOneTrace}
 use Rattle.lf_logs.specs.Lists.{logs_of}
 use Rattle.lf_verdict.specs.declared.answer.Fault.{Fault}
 use Rattle.lf_verdict.specs.declared.answer.Fault.TheVariants.{Missing, Double, Port, Bank, Cycle}
 use Rattle.lf_verdict.specs.Legal.{IsTraceFor}
-use Rattle.lf_verdict.specs.Laws.{IsRecorded, HasNoRun, NoHasNoRun}
-use Rattle.lf_verdict.specs.Verdict.{IsFaultOf, IsNo}
+use Rattle.lf_verdict.specs.Laws.{IsRecorded, NoHasNoRun}
+use Rattle.lf_verdict.specs.Verdict.{IsFaultOf}
 use Rattle.lf_verdict.proofs.Traces.{trace_fits}
 
 -- the laws that a no rests on
@@ -47,11 +47,11 @@ no_run laws shape memory logs (Missing bank k) is rs recorded fits run = laws.ga
 no_run laws shape memory logs (Double bank k) is rs recorded fits run = laws.gaps logs bank k (inr is.1) rs recorded.own_order recorded.numbers
 no_run laws shape memory logs (Port port at rule) is rs recorded fits run =
     breaks_or_runs laws.one_outcome OfPort shape memory (log_at logs port) at rule is.breaks
-        (subst (IsRunOf OfPort shape (first_local memory)) (recorded.own_order.each port) (((laws.parts shape memory rs fits).0 run).1 port is.is_port))
+    (subst (IsRunOf OfPort shape (first_local memory)) (recorded.own_order.each port) (((laws.parts shape memory rs fits).0 run).1 port is.is_port))
 no_run laws shape memory logs (Bank bank number rule) is rs recorded fits run =
     let same = laws.one_list logs bank (of_bank bank rs) is.records (laws.numbered logs rs recorded.own_order recorded.numbers bank) is.numbered in
     breaks_or_runs laws.one_outcome OfBank shape memory is.records number rule is.breaks
-        (subst (IsRunOf OfBank shape (first_local memory)) same (((laws.parts shape memory rs fits).0 run).0 bank is.is_bank))
+    (subst (IsRunOf OfBank shape (first_local memory)) same (((laws.parts shape memory rs fits).0 run).0 bank is.is_bank))
 no_run laws shape memory logs (Cycle ring) is rs recorded fits run = laws.rings logs ring.items is.waits rs recorded.own_order recorded.numbers
 
 -- the bytes have one memory and one list of logs
@@ -65,7 +65,7 @@ pub no_runs : Laws → NoHasNoRun
 no_runs laws shape bytes fault no_ memory logs trace rs recorded =
     let same = same_memory laws shape bytes no_.memory memory no_.logs logs no_.trace trace in
     let is : IsFaultOf shape (flat_memory memory) logs fault =
-        subst (λ (m : List (ℕ × Bytes)). IsFaultOf shape (flat_memory m) logs fault) same.0 (subst (λ (ls : List (List Record)). IsFaultOf shape (flat_memory no_.memory) ls fault) same.1 no_.fault_of) in
+    subst (λ (m : List (ℕ × Bytes)). IsFaultOf shape (flat_memory m) logs fault) same.0 (subst (λ (ls : List (List Record)). IsFaultOf shape (flat_memory no_.memory) ls fault) same.1 no_.fault_of) in
     let fits = laws.fit shape logs rs recorded.own_order (trace_fits shape bytes memory logs trace) in
     let none = no_run laws shape (flat_memory memory) logs fault is rs recorded fits in
     (none, λ run. none (laws.copies shape (flat_memory memory) rs fits run))

@@ -1,6 +1,6 @@
 -- The skeletons of the logs: whole numbers, and how long an order is.
-use Rattle.std.proofs.Common.{◌≡◌, ℕ, zero, suc, ◌+◌, ◌*◌, ◌<◌, ◌≤◌, Bool, true, false, cond, List, [], ◌∷◌, ◌++◌, map, length, drop, get_or, set, refl, sym, ◌∙◌, ap, subst, arith, ◌⊎◌, inl, inr, eqb-true, sum_by}
-use Rattle.std.specs.Prelude.{◌==◌, filter}
+use Rattle.std.proofs.Common.{◌≡◌, ℕ, suc, ◌+◌, ◌*◌, ◌≤◌, Bool, true, false, cond, List, [], ◌∷◌, ◌++◌, map, length, drop, refl, sym, ◌∙◌, ap, subst, arith, inl, inr, eqb-true, sum_by}
+use Rattle.std.specs.Prelude.{◌==◌}
 use Rattle.std.specs.List.{flat_map, AllByRecursion, All}
 use Rattle.std.proofs.lemmas.Bool.{cases_lt}
 use Rattle.std.proofs.lemmas.List.{length-map, map-append, get_or_past}
@@ -13,12 +13,11 @@ use Rattle.lf_logs.specs.Lists.{lists_of}
 use Rattle.lf_model.specs.declared.shape.Shape.{Shape}
 use Rattle.lf_model.specs.declared.event.Record.{Record}
 use Rattle.lf_model.specs.Fits.{Fits}
-use Rattle.lf_model.specs.Run.{of_bank, names}
+use Rattle.lf_model.specs.Run.{of_bank}
 use Rattle.lf_model.specs.Order.{log_at, after_next, Takes, entries_of}
 use Rattle.lf_model.specs.Numbers.{all_records, numbers_of, bank_numbers, IsWhole}
 use Rattle.lf_model.specs.Ring.{entry_of, skeletons_of}
 use Rattle.lf_join.specs.Join.{BanksAreWhole}
-use Rattle.lf_verdict.specs.Parts.{HasWholeNumbers}
 use Rattle.lf_verdict.specs.Judging.{AllAreWhole, AreWholeBelow, LogsFit}
 
 -- ---- the entries of a bank carry the numbers of its records
@@ -69,8 +68,8 @@ all_whole shape logs fits below bank =
     elim (cases_lt bank shape.banks) [
       | inl lt ↦ below bank lt
       | inr le ↦
-        let none : bank_numbers logs bank ≡ [] = ap numbers_of (none_of_bank shape bank (all_records logs) le (all_of_logs (Fits shape) logs fits)) in
-        subst IsWhole (sym none) (λ k lt. absurd (omega arith))
+          let none : bank_numbers logs bank ≡ [] = ap numbers_of (none_of_bank shape bank (all_records logs) le (all_of_logs (Fits shape) logs fits)) in
+          subst IsWhole (sym none) (λ k lt. absurd (omega arith))
     ]
 
 -- ---- an order is as long as all logs together
@@ -79,11 +78,11 @@ one_less : {T : Type 0} (logs : List (List T)) (log : ℕ) (x : T) → log_at lo
 one_less logs log x e =
     elim (cases_lt log (length logs)) [
       | inl lt ↦
-        let here : length (log_at logs log) ≡ length (drop 1 (log_at logs log)) + 1 = ap length e ∙ omega arith in
-        omega (arith, sum_by-set length logs log (drop 1 (log_at logs log)) [] lt, here)
+          let here : length (log_at logs log) ≡ length (drop 1 (log_at logs log)) + 1 = ap length e ∙ omega arith in
+          omega (arith, sum_by-set length logs log (drop 1 (log_at logs log)) [] lt, here)
       | inr le ↦
-        let past : log_at logs log ≡ [] = get_or_past logs log [] le in
-        absurd (cc)
+          let past : log_at logs log ≡ [] = get_or_past logs log [] le in
+          absurd (cc)
     ]
 
 pub order_len : {T : Type 0} (logs : List (List T)) (order : List ℕ) (xs : List T) → Takes logs order xs → length order ≤ sum_by length logs
@@ -98,8 +97,8 @@ lists_short n vecs short =
     let IsShort : List (ℕ × ℕ) → Type 0 = λ entries. length entries ≤ n in
     let IsShortLog : List Record → Type 0 = λ rs. length (map entry_of rs) ≤ n in
     All-map IsShort (map entry_of) (map (λ (v : Vec Record). v.items) vecs)
-        (All-map IsShortLog (λ (v : Vec Record). v.items) vecs
-            (All-weaker (λ (v : Vec Record). length v.items ≤ n) (λ (v : Vec Record). IsShortLog v.items) (λ v le. omega (arith, length-map v.items entry_of)) vecs short))
+    (All-map IsShortLog (λ (v : Vec Record). v.items) vecs
+    (All-weaker (λ (v : Vec Record). length v.items ≤ n) (λ (v : Vec Record). IsShortLog v.items) (λ v le. omega (arith, length-map v.items entry_of)) vecs short))
 
 -- an order of few short logs is short
 pub order_short : (vecs : Vec (Vec Record)) (order : List ℕ) (entries : List (ℕ × ℕ)) (count n : ℕ) → length vecs.items ≤ count → All (λ (v : Vec Record). length v.items ≤ n) vecs.items

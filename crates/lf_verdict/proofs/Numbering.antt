@@ -1,6 +1,6 @@
 -- The records of each bank, bank by bank.
-use Rattle.std.proofs.Common.{◌≡◌, ℕ, ◌+◌, ◌<◌, ◌≤◌, Bool, true, false, cond, eqb-true, List, [], ◌∷◌, ◌++◌, map, length, take, get_or, Option, Some, None, refl, sym, ◌∙◌, ap, subst, arith, ◌⊎◌, inl, inr}
-use Rattle.std.specs.List.{filter_map, AllByRecursion, All}
+use Rattle.std.proofs.Common.{◌≡◌, ℕ, ◌+◌, ◌<◌, Bool, true, false, cond, eqb-true, List, [], ◌∷◌, ◌++◌, map, length, take, get_or, Option, Some, None, refl, sym, ◌∙◌, ap, subst, arith, inl, inr}
+use Rattle.std.specs.List.{filter_map, AllByRecursion}
 use Rattle.std.specs.Prelude.{◌==◌}
 use Rattle.std.proofs.lemmas.List.Sorted.{All-permutation, IsPermutation-sym}
 use Rattle.std.proofs.lemmas.List.Elements.{All-from_recursion, recursion_from_All}
@@ -11,7 +11,7 @@ use Rattle.lf_model.specs.Run.{of_bank}
 use Rattle.lf_verdict.proofs.Entries.{all_of_logs}
 use Rattle.std.specs.Global.{Vec}
 use Rattle.std.proofs.lemmas.Bool.{cases_lt}
-use Rattle.std.proofs.lemmas.List.{take_more, append-nil, length-append, length-map, map-append, get_or_append_left}
+use Rattle.std.proofs.lemmas.List.{take_more, append-nil, length-append, map-append, get_or_append_left}
 use Rattle.std.proofs.Math.Seq.{get_or-append_seam}
 use Rattle.std.proofs.lemmas.List.Elements.{filter_map-append}
 use Rattle.lf_model.specs.declared.shape.Shape.{Shape}
@@ -48,12 +48,12 @@ numbered_more logs bank lists rs are is = record {
   count = length-append lists (rs ∷ []) ∙ ap (λ n. n + 1) are.count;
   each = λ b lt. elim (cases_lt b bank) [
     | inl below ↦
-      let short : b < length lists = omega (arith, are.count) in
-      subst (IsNumbered logs b) (sym (get_or_append_left lists (rs ∷ []) [] b short)) (are.each b below)
+        let short : b < length lists = omega (arith, are.count) in
+        subst (IsNumbered logs b) (sym (get_or_append_left lists (rs ∷ []) [] b short)) (are.each b below)
     | inr above ↦
-      let here : b ≡ bank = omega arith in
-      let last : get_or (lists ++ rs ∷ []) b [] ≡ rs = last_of lists rs b (here ∙ sym are.count) in
-      subst (λ n. IsNumbered logs n (get_or (lists ++ rs ∷ []) b [])) (sym here) (subst (IsNumbered logs bank) (sym last) is)
+        let here : b ≡ bank = omega arith in
+        let last : get_or (lists ++ rs ∷ []) b [] ≡ rs = last_of lists rs b (here ∙ sym are.count) in
+        subst (λ n. IsNumbered logs n (get_or (lists ++ rs ∷ []) b [])) (sym here) (subst (IsNumbered logs bank) (sym last) is)
   ];
 }
 

@@ -1,8 +1,7 @@
 -- Bytes have one verdict.
-use Rattle.std.proofs.Common.{◌≡◌, ℕ, ◌+◌, ◌<◌, ◌≤◌, List, [], ◌∷◌, length, Option, Some, None, refl, sym, ◌∙◌, ap, subst, arith, ◌⊎◌, inl, inr}
+use Rattle.std.proofs.Common.{◌≡◌, ℕ, ◌+◌, ◌<◌, ◌≤◌, List, [], ◌∷◌, length, Some, refl, sym, ◌∙◌, ap, subst, arith, ◌⊎◌, inl, inr}
 use Rattle.std.specs.Prelude.{slice_index}
 use Rattle.std.proofs.lemmas.Bool.{cases_lt}
-use Rattle.arrayvec.specs.ArrayVec.{ArrayVec}
 use Rattle.lf_model.specs.declared.shape.Shape.{Shape}
 use Rattle.lf_model.specs.declared.event.Record.{Record}
 use Rattle.lf_model.specs.declared.rule.Rule.{Rule}
@@ -32,7 +31,7 @@ use Rattle.lf_verdict.specs.declared.answer.Verdict.{Verdict}
 use Rattle.lf_verdict.specs.declared.answer.Verdict.TheVariants.{Yes, No, Refused}
 use Rattle.lf_verdict.specs.declared.answer.Refusal.TheVariants as refusals
 use Rattle.lf_verdict.specs.Laws.{SameFault, SameVerdict, VerdictsAreOne}
-use Rattle.lf_verdict.specs.Verdict.{Differs, IsFaultOf, IsCycle, IsNo, IsYes, IsOfAnother, IsTraceVerdict, IsVerdictOf, IsWorkerCount}
+use Rattle.lf_verdict.specs.Verdict.{Differs, IsFaultOf, IsNo, IsYes, IsOfAnother, IsTraceVerdict, IsVerdictOf, IsWorkerCount}
 use Rattle.lf_verdict.proofs.Traces.{trace_names}
 use Rattle.lf_verdict.proofs.Counts.{no_gap, no_double}
 
@@ -277,11 +276,13 @@ verdicts_are_one laws shape workers bytes a b fit x y = go a b x y
     split (Refused (refusals.Header field)) is = inr is
     split (Refused refusals.Memory) is = inr is
     split (Refused refusals.Thread) is = inr is
+
     both : (a b : Verdict) → ((a ≡ Refused (refusals.Workers workers)) × ¬ IsWorkerCount workers) ⊎ (IsWorkerCount workers × IsTraceVerdict shape bytes a)
         → ((b ≡ Refused (refusals.Workers workers)) × ¬ IsWorkerCount workers) ⊎ (IsWorkerCount workers × IsTraceVerdict shape bytes b) → SameVerdict a b
     both a b (inl m) (inl n) = subst (λ v. SameVerdict v b) (sym m.0) (subst (λ v. SameVerdict (Refused (refusals.Workers workers)) v) (sym n.0) refl)
     both a b (inl m) (inr n) = absurd (m.1 n.0)
     both a b (inr m) (inl n) = absurd (n.1 m.0)
     both a b (inr m) (inr n) = one_verdict laws shape bytes fit a b m.1 n.1
+
     go : (a b : Verdict) → IsVerdictOf shape workers bytes a → IsVerdictOf shape workers bytes b → SameVerdict a b
     go a b x y = both a b (split a x) (split b y)

@@ -1,5 +1,5 @@
 -- Outcomes, one for each port or each bank.
-use Rattle.std.proofs.Common.{◌≡◌, ℕ, ◌+◌, ◌<◌, ◌≤◌, List, [], ◌∷◌, ◌++◌, map, length, take, get_or, refl, sym, ◌∙◌, ap, subst, arith, ◌⊎◌, inl, inr}
+use Rattle.std.proofs.Common.{◌≡◌, ℕ, ◌+◌, ◌<◌, List, [], ◌∷◌, ◌++◌, length, get_or, refl, sym, ◌∙◌, ap, subst, arith, inl, inr}
 use Rattle.std.specs.Global.{Vec}
 use Rattle.std.proofs.Math.Seq.{get_or-append_seam}
 use Rattle.std.proofs.lemmas.Bool.{cases_lt}
@@ -11,12 +11,10 @@ use Rattle.lf_model.specs.declared.outcome.Outcome.TheVariants as outcomes
 use Rattle.lf_model.specs.Address.{FlatMemory}
 use Rattle.lf_model.specs.Order.{log_at}
 use Rattle.lf_model.specs.Outcomes.{IsPortOutcome, IsBankOutcome, IsOutcomeOf, first_local}
-use Rattle.lf_model.specs.Run.{IsRunOf, BreaksAt}
+use Rattle.lf_model.specs.Run.{IsRunOf}
 use Rattle.lf_model.specs.Table.{Side, OfPort, OfBank}
 use Rattle.lf_logs.specs.Lists.{lists_of}
 use Rattle.lf_verdict.specs.declared.parts.Broken.{Broken}
-use Rattle.lf_verdict.specs.declared.halt.Halt.TheVariants as halts
-use Rattle.lf_verdict.specs.declared.answer.Fault.TheVariants as faults
 use Rattle.lf_verdict.specs.Parts.{PartsRun, PortRuns, BankRuns, IsPortFault, IsBankFault}
 use Rattle.lf_verdict.specs.Judging.{AreWholeBelow, AreNumbered, AreOutcomes, NoneBroken, NoneRanOut, IsFirstBroken, IsBroken, outcome_at}
 
@@ -28,12 +26,12 @@ outcomes_more Is n all new x e are is = subst (AreOutcomes Is (n + 1)) (sym e) (
   count = length-append all (x ∷ []) ∙ ap (λ m. m + 1) are.count;
   each = λ part lt. elim (cases_lt part n) [
     | inl below ↦
-      let short : part < length all = omega (arith, are.count) in
-      subst (Is part) (sym (get_or_append_left all (x ∷ []) outcomes.NoMemory part short)) (are.each part below)
+        let short : part < length all = omega (arith, are.count) in
+        subst (Is part) (sym (get_or_append_left all (x ∷ []) outcomes.NoMemory part short)) (are.each part below)
     | inr above ↦
-      let here : part ≡ n = omega arith in
-      let last : outcome_at (all ++ x ∷ []) part ≡ x = last_of all x part (here ∙ sym are.count) in
-      subst (λ m. Is m (outcome_at (all ++ x ∷ []) part)) (sym here) (subst (Is n) (sym last) is)
+        let here : part ≡ n = omega arith in
+        let last : outcome_at (all ++ x ∷ []) part ≡ x = last_of all x part (here ∙ sym are.count) in
+        subst (λ m. Is m (outcome_at (all ++ x ∷ []) part)) (sym here) (subst (Is n) (sym last) is)
   ];
 })
 

@@ -1,26 +1,25 @@
 -- Pieces joined, and a fault that stands in some of them.
-use Rattle.std.proofs.Common.{◌≡◌, ◌+◌, ◌<◌, ℕ, List, [], ◌∷◌, ◌++◌, length, take, drop, get_or, Option, Some, None, Result, Ok, Err, sym, ◌∙◌, ap, refl, subst, ◌⊎◌, inl, inr}
+use Rattle.std.proofs.Common.{◌≡◌, ◌+◌, ◌<◌, ℕ, List, [], ◌∷◌, ◌++◌, length, take, drop, get_or, Option, Some, None, Ok, Err, sym, ◌∙◌, ap, refl, subst, ◌⊎◌, inl, inr}
 use Rattle.std.specs.Borrow.{Bor}
-use Rattle.std.specs.List.{flat_map}
 use Rattle.std.proofs.lemmas.List.{take_more, append-nil, take-append-drop}
 use Rattle.std.proofs.lemmas.List.Concat.{flat_map-append, flat_map-cons}
 use Rattle.lf_codec.specs.declared.fault.CodecCause.TheVariants.{NoMemory}
 use Rattle.lf_codec.specs.declared.fault.CodecFault.{CodecFault}
 use Rattle.lf_codec.specs.declared.fault.Told.{Told}
-use Rattle.lf_codec.specs.Reading.{Reading, nothing_read, byte_read, byte_unless, read_on, reading_of, trace_fault, fault_of, with_front}
+use Rattle.lf_codec.specs.Reading.{Reading, nothing_read, byte_read, byte_unless, read_on, reading_of, trace_fault, fault_of}
 use Rattle.lf_model.specs.Fits.{Bytes}
 use Rattle.lf_model.specs.declared.event.Record.{Record}
 use Rattle.lf_codec.specs.Trace.{IsTrace}
 use Rattle.lf_codec.specs.Reader.{told, finish_gives, HasRead, RanOut}
 use Rattle.lf_codec.specs.declared.header.Header.{Header}
 use Rattle.lf_verdict.specs.Legal.{joined}
-use Rattle.lf_verdict.specs.Reading.{fault_in, HasReadAll, IsFaultOrWant}
+use Rattle.lf_verdict.specs.Reading.{fault_in, IsFaultOrWant}
 
 pub joined_more : (pieces : List (Bor (List ℕ))) (i : ℕ) (none : Bor (List ℕ)) → i < length pieces → joined (take i pieces) ++ (get_or pieces i none).now ≡ joined (take (i + 1) pieces)
 joined_more pieces i none lt =
     let piece = get_or pieces i none in
     sym (ap joined (take_more pieces i none lt) ∙ flat_map-append (λ p. p.now) (take i pieces) (piece ∷ [])
-        ∙ ap (λ (t : List ℕ). joined (take i pieces) ++ t) (flat_map-cons (λ p. p.now) piece [] ∙ append-nil piece.now))
+    ∙ ap (λ (t : List ℕ). joined (take i pieces) ++ t) (flat_map-cons (λ p. p.now) piece [] ∙ append-nil piece.now))
 
 pub joined_in_two : (pieces : List (Bor (List ℕ))) (n : ℕ) → joined (take n pieces) ++ joined (drop n pieces) ≡ joined pieces
 joined_in_two pieces n = sym (flat_map-append (λ p. p.now) (take n pieces) (drop n pieces)) ∙ ap joined (take-append-drop n pieces)

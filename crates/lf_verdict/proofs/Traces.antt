@@ -1,8 +1,8 @@
 -- The logs of a trace: which records they have, and that those fit the shape.
-use Rattle.std.proofs.Common.{◌≡◌, ℕ, ◌+◌, ◌<◌, ◌≤◌, Bool, true, false, List, [], ◌∷◌, map, length, get_or, sym, ◌∙◌, ap, subst, refl, ◌⊎◌, inl, inr, eqb-true, arith}
-use Rattle.std.specs.Prelude.{◌==◌, filter, cond}
-use Rattle.std.specs.List.{range_with_len, AllByRecursion}
-use Rattle.std.proofs.lemmas.Bool.{cases_lt, cases_Bool, cond-true, cond-false}
+use Rattle.std.proofs.Common.{◌≡◌, ℕ, ◌+◌, ◌<◌, ◌≤◌, Bool, true, false, List, [], ◌∷◌, length, sym, subst, refl, inl, inr, eqb-true, arith}
+use Rattle.std.specs.Prelude.{◌==◌, cond}
+use Rattle.std.specs.List.{AllByRecursion}
+use Rattle.std.proofs.lemmas.Bool.{cases_lt}
 use Rattle.std.proofs.lemmas.List.FromFn.{get_or-map-range_with_len, length-map-range_with_len}
 use Rattle.std.proofs.lemmas.List.{get_or_past}
 use Rattle.lf_model.specs.declared.shape.Shape.{Shape}
@@ -73,4 +73,4 @@ trace_names shape bytes memory logs t = subst NameTheirLogs (sym t.are_logs) (lo
 pub trace_fits : (shape : Shape) (bytes : List ℕ) (memory : List (ℕ × Bytes)) (logs : List (List Record)) → IsTraceFor shape bytes memory logs → (log : ℕ) → AllByRecursion (Fits shape) (log_at logs log)
 trace_fits shape bytes memory logs t log =
     subst (λ (ls : List (List Record)). AllByRecursion (Fits shape) (log_at ls log)) (sym t.are_logs)
-        (logs_fit shape (shape.ports + shape.banks) t.records (records_fit shape t.header memory t.records t.trace.fits t.agrees) log)
+    (logs_fit shape (shape.ports + shape.banks) t.records (records_fit shape t.header memory t.records t.trace.fits t.agrees) log)

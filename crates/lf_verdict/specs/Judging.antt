@@ -1,5 +1,5 @@
 -- How the check of a trace's logs goes on.
-use Rattle.std.specs.Prelude.{◌≡◌, ℕ, ◌<◌, List, [], length, slice_index_or}
+use Rattle.std.specs.Prelude.{◌≡◌, ℕ, ◌<◌, List, length, slice_index_or}
 use Rattle.lf_model.specs.declared.shape.Shape.{Shape}
 use Rattle.lf_model.specs.declared.event.Record.{Record}
 use Rattle.lf_model.specs.declared.outcome.Outcome.{Outcome}
@@ -11,11 +11,9 @@ use Rattle.lf_model.specs.Order.{log_at, IsLeastOrder}
 use Rattle.lf_model.specs.Ring.{skeletons_of, IsRing}
 use Rattle.lf_join.specs.Join.{IsStuckRing}
 use Rattle.lf_replay.specs.Step.{IsBankOrder}
-use Rattle.lf_model.specs.Numbers.{bank_numbers, IsMissing, IsDouble, IsFineBelow, IsNumbered}
-use Rattle.lf_model.specs.Outcomes.{IsPortOutcome, IsBankOutcome}
+use Rattle.lf_model.specs.Numbers.{IsNumbered}
 use Rattle.lf_logs.specs.declared.order.NumberFault.{NumberFault}
 use Rattle.lf_logs.specs.declared.order.NumberFault.TheVariants as numbers
-use Rattle.lf_verdict.specs.declared.answer.Fault.{Fault}
 use Rattle.lf_verdict.specs.declared.answer.Fault.TheVariants as faults
 use Rattle.lf_verdict.specs.declared.parts.Broken.{Broken}
 use Rattle.lf_verdict.specs.declared.halt.Halt.{Halt}

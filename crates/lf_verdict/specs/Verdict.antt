@@ -16,7 +16,6 @@ use Rattle.lf_verdict.specs.declared.answer.Verdict.{Verdict}
 use Rattle.lf_verdict.specs.declared.answer.Verdict.TheVariants.{Yes, No, Refused}
 use Rattle.lf_verdict.specs.declared.answer.Fault.{Fault}
 use Rattle.lf_verdict.specs.declared.answer.Fault.TheVariants.{Missing, Double, Port, Bank, Cycle}
-use Rattle.lf_verdict.specs.declared.answer.Refusal.{Refusal}
 use Rattle.lf_verdict.specs.declared.answer.Refusal.TheVariants as refusals
 use Rattle.lf_verdict.specs.declared.answer.HeaderField.{HeaderField}
 use Rattle.lf_verdict.specs.declared.answer.HeaderField.TheVariants as fields

@@ -8,10 +8,7 @@ use lf_model::{Ring, Rule};
 pub enum Verdict {
     /// The trace is legal. `order` names at each place the log whose next event comes, and is the
     /// least such list in the order of words. `events` is its length.
-    Yes {
-        events: u32,
-        order: Vec<u8>,
-    },
+    Yes { events: u32, order: Vec<u8> },
     No(Fault),
     Refused(Refusal),
 }

@@ -65,12 +65,7 @@ fn bytes_verdict(alloc: Global, shape: &Shape, pieces: &[&[u8]]) -> Verdict
 }
 
 /// The verdict of the trace that comes in these pieces. Only 1 worker is taken yet.
-pub fn check_shape<T: AllocGlobal>(
-    rt: &T,
-    shape: &Shape,
-    pieces: &[&[u8]],
-    workers: u32,
-) -> Verdict
+pub fn check_shape<T: AllocGlobal>(rt: &T, shape: &Shape, pieces: &[&[u8]], workers: u32) -> Verdict
     requires shape { IsShape shape.now }
 
     // A yes means that the trace is legal.

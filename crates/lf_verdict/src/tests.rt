@@ -74,7 +74,14 @@ impl Draft {
     }
 
     /// A load of the port of this log, of eight bytes.
-    fn load(&mut self, log: u8, bank: u8, number: u32, tag: u8, address: u64) -> Result<(), AllocError> {
+    fn load(
+        &mut self,
+        log: u8,
+        bank: u8,
+        number: u32,
+        tag: u8,
+        address: u64,
+    ) -> Result<(), AllocError> {
         self.head(1, log, bank, number)?;
         self.bytes.extend_from_slice(&[0, tag, 8, 0])?;
         self.bytes.extend_from_slice(&address.to_le_bytes())
@@ -191,7 +198,10 @@ fn logs_that_wait_are_named(rt: HostRuntime) -> Result<(), Fail> {
     draft.load(1, 0, 0, 1, 0)?;
     let bytes = draft.end()?;
     let verdict = check_shape(&rt, &hierarchy(2, 2), &[&bytes], 1);
-    assert_eq!(rt; logs_of(&verdict), [Knot { log: 0, at: 0 }, Knot { log: 1, at: 0 }].as_slice());
+    assert_eq!(rt;
+        logs_of(&verdict),
+        [Knot { log: 0, at: 0 }, Knot { log: 1, at: 0 }].as_slice()
+    );
     Ok(())
 }
 
@@ -226,6 +236,9 @@ fn refusals(rt: HostRuntime) -> Result<(), Fail> {
     let verdict = check_shape(&rt, &hierarchy(1, 1), &[&bytes[..131]], 1);
     assert_eq!(rt; verdict, Verdict::Refused(Refusal::Format(fault)));
     let verdict = check_shape(&rt, &hierarchy(2, 2), &[bytes], 1);
-    assert_eq!(rt; verdict, Verdict::Refused(Refusal::Header(HeaderField::Ports)));
+    assert_eq!(rt;
+        verdict,
+        Verdict::Refused(Refusal::Header(HeaderField::Ports))
+    );
     Ok(())
 }

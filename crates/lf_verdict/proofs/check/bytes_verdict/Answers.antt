@@ -1,6 +1,4 @@
-use Rattle.std.proofs.Common.{◌≡◌, List, ℕ}
 use Rattle.lf_verdict.specs.Legal.{joined}
-use Rattle.lf_verdict.proofs.Answered.{of_reading}
 use Rattle.lf_verdict.proofs.check.bytes_verdict.Goals as goal
 
 pub returns-in-Ok : goal.returns-in-Ok

@@ -1,4 +1,4 @@
-use Rattle.std.proofs.Common.{◌≡◌, List, ℕ, sym, ◌∙◌, ap, subst, rules}
+use Rattle.std.proofs.Common.{rules}
 use Rattle.lf_model.specs.Address.{flat_memory}
 use Rattle.lf_logs.specs.Lists.{lists_of}
 use Rattle.lf_verdict.proofs.Entries.{all_whole}

@@ -1,6 +1,4 @@
-use Rattle.std.proofs.Common.{◌≡◌, ◌+◌, ◌*◌, ◌≤◌, ◌<◌, ◌^◌, List, ℕ, length, sym, ◌∙◌, ap, subst, arith}
-use Rattle.lf_logs.specs.Lists.{lists_of}
-use Rattle.lf_model.specs.Ring.{skeletons_of}
+use Rattle.std.proofs.Common.{◌*◌, ◌≤◌, ◌^◌, length, arith}
 use Rattle.lf_verdict.proofs.Entries.{order_short}
 use Rattle.lf_verdict.proofs.judge.logs_verdict.Goals as goal
 
@@ -9,5 +7,5 @@ overflow_cast-result c =
     let least = c.in-Ok.ensures.order.least in
     let few : length c.args.logs.now.items ≤ 32 = omega (arith, c.requires.count, c.requires.shape.ports.1, c.requires.shape.banks.1) in
     let short : length c.in-Ok.order.items ≤ 32 * 2 ^ 20 =
-        order_short c.args.logs.now c.in-Ok.order.items least.is_order.entries 32 (2 ^ 20) few c.requires.short least.is_order.taken in
+    order_short c.args.logs.now c.in-Ok.order.items least.is_order.entries 32 (2 ^ 20) few c.requires.short least.is_order.taken in
     omega (arith, c.len.ensures)

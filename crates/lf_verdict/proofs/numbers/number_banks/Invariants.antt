@@ -1,4 +1,3 @@
-use Rattle.std.proofs.Common.{◌≡◌}
 use Rattle.lf_logs.specs.Lists.{lists_of}
 use Rattle.lf_verdict.specs.Judging.{AreWholeBelow, AreNumbered}
 use Rattle.lf_verdict.proofs.numbers.number_banks.Given as goal

@@ -1,4 +1,4 @@
-use Rattle.std.proofs.Common.{◌≡◌, ◌≤◌, ◌^◌, List, length, ℕ, sym, ◌∙◌, ap, subst}
+use Rattle.std.proofs.Common.{◌≤◌, ◌^◌, List, length, ℕ, sym, ◌∙◌, ap, subst}
 use Rattle.lf_join.specs.Join.{BanksAreWhole}
 use Rattle.lf_join.specs.Join as joins
 use Rattle.lf_logs.specs.Lists.{lists_of}

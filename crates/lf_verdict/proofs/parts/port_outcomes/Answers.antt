@@ -1,4 +1,4 @@
-use Rattle.std.proofs.Common.{◌≡◌, ◌<◌, ℕ, List, length, sym, ◌∙◌, ap, subst, arith, get_or}
+use Rattle.std.proofs.Common.{◌≡◌, ◌<◌, length, sym, ◌∙◌, ap, subst, arith}
 use Rattle.std.specs.Global.{Vec}
 use Rattle.lf_model.specs.declared.event.Record.{Record}
 use Rattle.lf_model.specs.Order.{log_at}
@@ -15,9 +15,9 @@ loop-port-preserved c =
     let port = c.loop-port.port in
     let there : port < length logs.items = omega arith in
     let log : c.deref.result.now ≡ log_at (lists_of logs) port =
-        c.deref.ensures.value ∙ ap (λ (v : Vec Record). v.items) c.index.ensures ∙ sym (list_of logs port c.index.result.now there) in
+    c.deref.ensures.value ∙ ap (λ (v : Vec Record). v.items) c.index.ensures ∙ sym (list_of logs port c.index.result.now there) in
     outcomes_more (λ p. IsPortOutcome shape (log_at (lists_of logs) p)) port c.loop-port.all.items c.push.new.list.items c.port_replay-outcome.result
-        c.in_ok-push.ensures c.loop-port.invariant (subst (λ rs. IsPortOutcome shape rs c.port_replay-outcome.result) log c.port_replay-outcome.ensures.outcome)
+    c.in_ok-push.ensures c.loop-port.invariant (subst (λ rs. IsPortOutcome shape rs c.port_replay-outcome.result) log c.port_replay-outcome.ensures.outcome)
 
 pub returns : goal.returns
 returns c =

@@ -1,9 +1,9 @@
-use Rattle.std.proofs.Common.{◌≡◌, ◌+◌, List, ℕ, [], ◌++◌, take, drop, get_or, subst, sym, ◌∙◌, ap, Ok, None, Option}
+use Rattle.std.proofs.Common.{◌≡◌, ◌+◌, List, ℕ, [], ◌++◌, take, drop, get_or, subst, sym, ◌∙◌, ap}
 use Rattle.std.specs.Borrow.{Bor}
 use Rattle.lf_codec.specs.declared.fault.CodecFault.{CodecFault}
-use Rattle.lf_codec.specs.Reader.{told, HasRead}
+use Rattle.lf_codec.specs.Reader.{HasRead}
 use Rattle.lf_verdict.specs.Legal.{joined}
-use Rattle.lf_verdict.specs.Reading.{HasReadAll, IsFaultOrWant}
+use Rattle.lf_verdict.specs.Reading.{IsFaultOrWant}
 use Rattle.lf_verdict.proofs.Pieces.{joined_more, joined_in_two, feed_failed, told_fine}
 use Rattle.lf_verdict.proofs.reading.feed_all.Goals as goal
 
@@ -17,7 +17,7 @@ returns-in-Err-clause-err c =
     let so_far = joined_more pieces i none c.loop-piece-test.true in
     let whole : (before ++ (get_or pieces i none).now) ++ rest ≡ joined pieces = ap (λ (t : List ℕ). t ++ rest) so_far ∙ joined_in_two pieces (i + 1) in
     let said = feed_failed c.loop-piece.reader.fault c.feed.new.self (before ++ (get_or pieces i none).now) rest c.in-Err.told c.loop-piece.invariant.fine
-        (sym c.in-Err.ensures.told) (c.in-Err.ensures.pieces before [] [] c.loop-piece.invariant.read) in
+    (sym c.in-Err.ensures.told) (c.in-Err.ensures.pieces before [] [] c.loop-piece.invariant.read) in
     subst (λ (bytes : List ℕ). IsFaultOrWant bytes c.fault_in.result) whole (subst (λ (f : CodecFault). IsFaultOrWant ((before ++ (get_or pieces i none).now) ++ rest) f) (sym c.fault_in.ensures) said)
 
 pub loop-piece-preserved : goal.loop-piece-preserved

@@ -1,12 +1,8 @@
-use Rattle.std.proofs.Common.{◌≡◌, ℕ, List, [], refl, sym, ◌∙◌, ap, subst, None}
-use Rattle.lf_model.specs.Fits.{Bytes}
-use Rattle.lf_model.specs.declared.event.Record.{Record}
+use Rattle.std.proofs.Common.{◌≡◌, [], refl, sym, ◌∙◌, ap, subst, None}
 use Rattle.lf_codec.specs.declared.fault.CodecFault.{CodecFault}
-use Rattle.lf_codec.specs.declared.header.Header.{Header}
 use Rattle.lf_codec.specs.Reading.{Reading, fault_so_far}
-use Rattle.lf_codec.specs.Trace.{IsTrace}
 use Rattle.lf_verdict.specs.Legal.{joined}
-use Rattle.lf_verdict.specs.Reading.{fault_in, HasReadAll, IsFaultOrWant, IsReadRefusal}
+use Rattle.lf_verdict.specs.Reading.{IsFaultOrWant}
 use Rattle.lf_verdict.proofs.Pieces.{finish_failed, same_trace}
 use Rattle.lf_verdict.proofs.reading.read_by.Goals as goal
 
@@ -16,10 +12,10 @@ returns-in-Ok-take_all-clause-ok c =
     let trace = (c.in-Ok.ensures.trace bytes [] [] c.in_default.ensures.ok.read c.in-Ok.header).0 refl in
     let unchanged = c.in-Ok.ensures.unchanged in
     same_trace bytes c.in-Ok.header c.in-Ok-take_all.trace.header _ c.in-Ok-take_all.trace.memory.items _ c.in-Ok-take_all.trace.records.items
-        c.in-Ok-take_all.ensures.header
-        (c.in-Ok-take_all.ensures.memory ∙ ap (λ (r : Reading). r.memory) unchanged)
-        (c.in-Ok-take_all.ensures.records ∙ ap (λ (r : Reading). r.records) unchanged)
-        trace
+    c.in-Ok-take_all.ensures.header
+    (c.in-Ok-take_all.ensures.memory ∙ ap (λ (r : Reading). r.memory) unchanged)
+    (c.in-Ok-take_all.ensures.records ∙ ap (λ (r : Reading). r.records) unchanged)
+    trace
 
 pub returns-in-Err-finish-clause-err : goal.returns-in-Err-finish-clause-err
 returns-in-Err-finish-clause-err c =

@@ -5,7 +5,7 @@ use Rattle.std.proofs.lemmas.List.{append_assoc, length-map, length-set}
 use Rattle.lf_model.specs.declared.event.Record.{Record}
 use Rattle.lf_logs.specs.Lists.{banks_of}
 use Rattle.lf_logs.proofs.Splitting.{length-parts_of, placed, All-between}
-use Rattle.lf_logs.proofs.banks.deal_log.Goals as goal
+use Rattle.lf_logs.proofs.banks.add_log.Goals as goal
 
 pub loop-item-preserved : goal.loop-item-preserved
 loop-item-preserved c =
