@@ -4,7 +4,7 @@ ghost use Rattle.std.specs.Prelude.{◌≡◌, ◌≢◌, ◌≤◌, ◌<◌, �
 ghost use Rattle.std.specs.Io.KnownBytes.{Appends};
 ghost use Rattle.lf_model.specs.InRange.{IsShape};
 ghost use Rattle.lf_verdict.specs.declared.answer.Verdict.{Verdict};
-ghost use Rattle.lf_verdict.specs.Verdict.{IsExplicit, IsWorkerCount, IsJudged, IsVerdictOf};
+ghost use Rattle.lf_verdict.specs.Verdict.{IsWorkerCount, IsJudged, IsVerdictOf};
 ghost use Rattle.lf_verdict.specs.Legal.{IsLegal};
 ghost use Rattle.lf_verdict.specs.declared.answer.Refusal.{Refusal};
 ghost use Rattle.score.specs.Counted.{calls_of, failures_of, inner_of};
@@ -44,8 +44,6 @@ fn judge<T: AllocGlobal, R: Read>(
     requires calls { calls_of reader.old ≡ 0 }
     requires failures { failures_of reader.old ≡ 0 }
     requires shape { IsShape shape.now }
-    requires level1 { IsExplicit shape.now.level1.organisation }
-    requires level2 { IsExplicit shape.now.level2.organisation }
     requires workers { IsWorkerCount workers }
     ensures { IsOutcome R.remaining reader.old reader.new shape.now workers turns result }
 {
@@ -74,8 +72,6 @@ fn decide<T: AllocGlobal, R: Read>(
     requires calls { calls_of reader.old ≡ 0 }
     requires failures { failures_of reader.old ≡ 0 }
     requires shape { IsShape shape.now }
-    requires level1 { IsExplicit shape.now.level1.organisation }
-    requires level2 { IsExplicit shape.now.level2.organisation }
     ensures { IsOutcome R.remaining reader.old reader.new shape.now workers turns result }
 {
     if !are_workers(workers) {
@@ -145,8 +141,6 @@ pub fn run_shape<T: AllocGlobal, R: Read, W: Write>(
     requires failures { failures_of reader.old ≡ 0 }
     requires writes { failures_of writer.old ≡ 0 }
     requires shape { IsShape shape.now }
-    requires level1 { IsExplicit shape.now.level1.organisation }
-    requires level2 { IsExplicit shape.now.level2.organisation }
 
     // No more reads than the caller allows, and none where the workers are refused.
     ensures reads { calls_of reader.new ≤ turns }

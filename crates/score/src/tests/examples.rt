@@ -1,5 +1,7 @@
 //! Traces whose verdict is known, each with the line that is written.
 
+ghost use Rattle.lf_model.specs.InRange.{IsShape};
+
 use crate::shape::SMALL;
 use crate::tests::notation::E::{E1, E2, F1, F2, H, L, M, P, R, S, SP, SS, X};
 use crate::tests::notation::{E, Trace, ZEROS, assert_line};
@@ -36,6 +38,36 @@ const TWO_REGISTERS: Shape = Shape {
     ..SMALL
 };
 
+/// `SMALL` with one register at level one that has a field for each word.
+const IMPLICIT: Shape = Shape {
+    level1: Level {
+        sets: 1,
+        ways: 1,
+        organisation: OrgShape::Implicit { registers: 1 },
+    },
+    ..SMALL
+};
+
+/// `SMALL` with a register for each tag at level one.
+const INVERTED: Shape = Shape {
+    level1: Level {
+        sets: 1,
+        ways: 1,
+        organisation: OrgShape::Inverted,
+    },
+    ..SMALL
+};
+
+/// `TWO_REGISTERS` with a register for each of them at level two.
+const INVERTED_BELOW: Shape = Shape {
+    level2: Level {
+        sets: 1,
+        ways: 2,
+        organisation: OrgShape::Inverted,
+    },
+    ..TWO_REGISTERS
+};
+
 const TWO_PORTS_TWO_BANKS: Shape = Shape {
     ports: 2,
     banks: 2,
@@ -53,9 +85,20 @@ pub fn bytes_of(alloc: Global, parts: &[&[E]]) -> Result<Vec<u8>, AllocError> {
     trace.end()
 }
 
-fn assert_told<T: Abort + AllocGlobal>(rt: &T, parts: &[&[E]], line: &str) -> Result<(), Fail> {
+fn assert_told_of<T: Abort + AllocGlobal>(
+    rt: &T,
+    shape: &Shape,
+    parts: &[&[E]],
+    line: &str,
+) -> Result<(), Fail>
+    requires { IsShape shape.now }
+{
     let bytes = bytes_of(rt.alloc(), parts)?;
-    assert_line(rt, &SMALL, bytes.as_slice(), 1, line)
+    assert_line(rt, shape, bytes.as_slice(), 1, line)
+}
+
+fn assert_told<T: Abort + AllocGlobal>(rt: &T, parts: &[&[E]], line: &str) -> Result<(), Fail> {
+    assert_told_of(rt, &SMALL, parts, line)
 }
 
 #[test]
@@ -126,11 +169,36 @@ fn explicit_entries_full(rt: HostRuntime) -> Result<(), Fail> {
 }
 
 #[test]
-fn inverted_two_registers_explicit_part(rt: HostRuntime) -> Result<(), Fail> {
-    let events = [L(0, 8, 0), P(0, 0), L(1, 8, 0), P(1, 1)];
-    let bytes = bytes_of(rt.alloc(), &[&events])?;
-    let line = "no bank=0 number=3 rule=PrimaryInFlight\n";
-    assert_line(&rt, &TWO_REGISTERS, bytes.as_slice(), 1, line)
+fn implicit_field_in_use(rt: HostRuntime) -> Result<(), Fail> {
+    let words = [L(0, 4, 0), P(0, 0), L(1, 4, 4)];
+    let line = "no bank=0 number=3 rule=MergeFull\n";
+    assert_told_of(&rt, &IMPLICIT, &[&words, &[M(1, 0)]], line)?;
+    assert_told_of(&rt, &IMPLICIT, &[&words, &[X(1)]], "yes events=4\n")
+}
+
+#[test]
+fn inverted_two_registers(rt: HostRuntime) -> Result<(), Fail> {
+    let loads = [L(0, 8, 0), P(0, 0), L(1, 8, 0)];
+    assert_told_of(&rt, &INVERTED, &[&loads, &[M(1, 1)]], "yes events=4\n")?;
+    let needless = "no bank=0 number=3 rule=NeedlessStall\n";
+    assert_told_of(&rt, &INVERTED, &[&loads, &[X(1)]], needless)?;
+    let wrong = "no bank=0 number=3 rule=WrongRegister\n";
+    assert_told_of(&rt, &INVERTED, &[&loads, &[M(1, 0)]], wrong)?;
+    let in_flight = "no bank=0 number=3 rule=PrimaryInFlight\n";
+    assert_told_of(&rt, &TWO_REGISTERS, &[&loads, &[P(1, 1)]], in_flight)
+}
+
+#[test]
+fn second_level_inverted(rt: HostRuntime) -> Result<(), Fail> {
+    let load = [L(0, 8, 0), P(0, 1)];
+    assert_told_of(
+        &rt,
+        &INVERTED_BELOW,
+        &[&load, &[SP(0, 1)]],
+        "yes events=3\n",
+    )?;
+    let line = "no bank=0 number=2 rule=WrongRegister\n";
+    assert_told_of(&rt, &INVERTED_BELOW, &[&load, &[SP(0, 0)]], line)
 }
 
 #[test]
@@ -256,11 +324,10 @@ fn set_full(rt: HostRuntime) -> Result<(), Fail> {
 #[test]
 fn second_level_stall(rt: HostRuntime) -> Result<(), Fail> {
     let misses = [L(0, 8, 0), P(0, 0), L(1, 8, 8), P(1, 1)];
-    let stalled = bytes_of(rt.alloc(), &[&misses, &[SP(0, 0), SS(1)]])?;
-    assert_line(&rt, &TWO_REGISTERS, stalled.as_slice(), 1, "yes events=6\n")?;
-    let needless = bytes_of(rt.alloc(), &[&misses, &[SS(1)]])?;
+    let stalled = [SP(0, 0), SS(1)];
+    assert_told_of(&rt, &TWO_REGISTERS, &[&misses, &stalled], "yes events=6\n")?;
     let line = "no bank=0 number=4 rule=NeedlessStall\n";
-    assert_line(&rt, &TWO_REGISTERS, needless.as_slice(), 1, line)
+    assert_told_of(&rt, &TWO_REGISTERS, &[&misses, &[SS(1)]], line)
 }
 
 #[test]

@@ -2,7 +2,6 @@
 
 ghost use Rattle.std.specs.Prelude.{◌<◌};
 ghost use Rattle.lf_model.specs.InRange.{IsShape};
-ghost use Rattle.lf_verdict.specs.Verdict.{IsExplicit};
 
 use crate::counted::Counted;
 use crate::engine::run_shape;
@@ -209,8 +208,6 @@ pub fn assert_line<T: Abort + AllocGlobal>(
     line: &str,
 ) -> Result<(), Fail>
     requires shape { IsShape shape.now }
-    requires level1 { IsExplicit shape.now.level1.organisation }
-    requires level2 { IsExplicit shape.now.level2.organisation }
 {
     let mut reader = Counted::new(Pieces::new(bytes, 50));
     let mut writer = Counted::new(Vec::new(rt.alloc()));
