@@ -12,6 +12,8 @@ mod implicit;
 mod inverted;
 mod organisation;
 mod target;
+#[cfg(test)]
+mod tests;
 
 pub use explicit::{Explicit, ExplicitFile};
 pub use fault::RegisterFault;
