@@ -10,13 +10,19 @@ mod fault;
 mod held;
 mod implicit;
 mod inverted;
+mod level_one;
+mod level_two;
 mod organisation;
 mod target;
+#[cfg(test)]
+mod tests;
 
 pub use explicit::{Explicit, ExplicitFile};
 pub use fault::RegisterFault;
 pub use held::Targets;
 pub use implicit::{Implicit, ImplicitFile};
 pub use inverted::{Inverted, InvertedFile};
+pub use level_one::Request1;
+pub use level_two::Request2;
 pub use organisation::Organisation;
-pub use target::{Request1, Request2, Target};
+pub use target::Target;

@@ -8,4 +8,4 @@ push-requires g c =
     let small = g.met.T.Target.small in
     let few = targets-le c.args.held.now c.loop-h.h-index c.args.block in
     let same = ap length c.loop-h.invariant in
-    (targets_fit _ _ _ small.align small.align small.size, omega (arith, few, same, c.loop-h-test.true, c.requires))
+    (targets_fit _ _ _ small.1 small.1 small.0, omega (arith, few, same, c.loop-h-test.true, c.requires))
