@@ -64,7 +64,7 @@ pub record GivesSame (a b : List ℕ) : Type 0 where
   pub memory : (reading_of a).memory ≡ (reading_of b).memory
   pub records : (reading_of a).records ≡ (reading_of b).records
 
--- bytes with more behind them are the same trace's bytes in the one fault and in what stands before it
+-- with more bytes behind them the fault is the same, and so is what stands before it
 pub record IsDecided (bytes more : List ℕ) (f : CodecFault) : Type 0 where
   pub so_far : fault_so_far (bytes ++ more) ≡ Some f
   pub whole : trace_fault (bytes ++ more) ≡ Some f
@@ -91,7 +91,7 @@ BytesNeverWantMemory = (bytes : List ℕ) (f : CodecFault) → trace_fault bytes
 abbrev pub beginning : Header → List (ℕ × Bytes) → List Record → List ℕ
 beginning h memory records = header_bytes h ++ flat_map memory_bytes memory ++ flat_map record_bytes records
 
--- the bytes before the header or record in which a fault stands: nothing before a header, a whole trace before trailing bytes, and what has been read before a record
+-- the bytes before the header or record in which a fault stands: none before the header, what has been read before a record, and a whole trace before trailing bytes
 abbrev pub IsSpelledBefore : Option Header → List (ℕ × Bytes) → List Record → List ℕ → Type 0
 IsSpelledBefore None memory records before = before ≡ []
 IsSpelledBefore (Some h) memory records before = (before ≡ beginning h memory records) ⊎ IsTrace before h memory records
