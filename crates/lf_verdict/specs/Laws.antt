@@ -7,7 +7,6 @@ use Rattle.lf_model.specs.Fits.{Bytes}
 use Rattle.lf_model.specs.Run.{Interleaves, KeepsNumbers, IsRun}
 use Rattle.lf_model.specs.Copies.{IsCopyRun}
 use Rattle.lf_verdict.specs.declared.answer.Fault.{Fault}
-use Rattle.lf_verdict.specs.declared.answer.Fault.TheVariants.{Cycle}
 use Rattle.lf_verdict.specs.declared.answer.Verdict.{Verdict}
 use Rattle.lf_verdict.specs.declared.answer.Verdict.TheVariants.{Yes, No, Refused}
 use Rattle.lf_verdict.specs.Legal.{IsTraceFor, IsLegal}
@@ -31,15 +30,10 @@ abbrev pub NoHasNoRun : Type 0
 NoHasNoRun = (shape : Shape) (bytes : List ℕ) (fault : Fault) → IsNo shape bytes fault
     → (memory : List (ℕ × Bytes)) (logs : List (List Record)) → IsTraceFor shape bytes memory logs → HasNoRun shape (flat_memory memory) logs
 
--- the same fault, but for which of the logs that wait a cycle names
-abbrev pub SameFault : Fault → Fault → Type 0
-SameFault (Cycle ring) (Cycle ring') = Unit {0}
-SameFault fault fault' = fault ≡ fault'
-
 -- the same verdict, wherever its order lies in memory
 abbrev pub SameVerdict : Verdict → Verdict → Type 0
 SameVerdict (Yes events order) (Yes events' order') = (events ≡ events') × (order.items ≡ order'.items)
-SameVerdict (No fault) (No fault') = SameFault fault fault'
+SameVerdict (No fault) (No fault') = fault ≡ fault'
 SameVerdict (Refused refusal) (Refused refusal') = refusal ≡ refusal'
 SameVerdict _ _ = ⊥
 
