@@ -1,5 +1,5 @@
 -- Bytes have one verdict.
-use Rattle.std.proofs.Common.{◌≡◌, ℕ, ◌+◌, ◌<◌, ◌≤◌, List, [], ◌∷◌, length, Some, refl, sym, ◌∙◌, ap, subst, arith, ◌⊎◌, inl, inr}
+use Rattle.std.proofs.Common.{◌≡◌, ℕ, ◌+◌, ◌<◌, ◌≤◌, List, length, Some, refl, sym, ◌∙◌, ap, subst, arith, ◌⊎◌, inl, inr}
 use Rattle.std.specs.Prelude.{slice_index}
 use Rattle.std.proofs.lemmas.Bool.{cases_lt}
 use Rattle.lf_model.specs.declared.shape.Shape.{Shape}
@@ -9,7 +9,7 @@ use Rattle.lf_model.specs.declared.outcome.Outcome.TheVariants as outcomes
 use Rattle.lf_model.specs.Address.{FlatMemory, flat_memory}
 use Rattle.lf_model.specs.Fits.{Bytes}
 use Rattle.lf_model.specs.Numbers.{bank_numbers, NumberedIsOne, IsMissing, IsDouble}
-use Rattle.lf_model.specs.Order.{log_at, IsLeastOrder, IsNotAbove, OrdersInterleave, LogsFollow, EntriesKeepAlike, EntriesKeepNumbers}
+use Rattle.lf_model.specs.Order.{log_at, IsLeastOrder, OrdersInterleave, LogsFollow, EntriesKeepAlike, EntriesKeepNumbers}
 use Rattle.lf_model.specs.Outcomes.{OutcomesAreOne, first_local}
 use Rattle.lf_model.specs.declared.ring.Knot.{Knot}
 use Rattle.lf_model.specs.Ring.{RingsAdmitNone, skeletons_of, IsRing}

@@ -1,6 +1,6 @@
 //! The laws about verdicts. Each function only calls the laws from which its own follows.
 
-ghost use Rattle.lf_verdict.specs.Laws.{YesIsLegal, NoHasNoRun, VerdictsAreOne};
+ghost use Rattle.lf_verdict.specs.Laws.{YesIsLegal, NoHasNoRun, VerdictsAreOne, MixturesAreAlike};
 
 use lf_codec::{faultless_bytes, one_trace};
 use lf_join::joins_are_one;
@@ -47,6 +47,14 @@ pub fn verdicts_are_one()
     orders_interleave();
     skeletons_follow();
     joins_are_one();
+    one_trace();
+    faultless_bytes();
+}
+
+/// How the logs are mixed in the bytes does not matter.
+pub fn mixtures_are_alike()
+    ensures { MixturesAreAlike }
+{
     one_trace();
     faultless_bytes();
 }
