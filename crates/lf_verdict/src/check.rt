@@ -37,7 +37,8 @@ fn differing(shape: &Shape, header: Header) -> Option<HeaderField>
 fn trace_verdict(alloc: Global, shape: &Shape, trace: Trace) -> Verdict
     requires shape { IsShape shape.now }
     requires fits { FitsTrace trace.header trace.memory.items trace.records.items }
-    ensures { (bytes : List ℕ) → IsTrace bytes trace.header trace.memory.items trace.records.items → IsAnswer shape.now bytes result }
+    ensures { (bytes : List ℕ) → IsTrace bytes trace.header trace.memory.items trace.records.items
+        → IsAnswer shape.now bytes result }
 {
     let Trace {
         header,

@@ -22,7 +22,8 @@ fn judged_order(alloc: Global, shape: &Shape, memory: &Memory, logs: &Logs) -> R
     requires count { length logs.now.items ≡ shape.now.ports + shape.now.banks }
     requires short { All (λ log. length log.items ≤ 2 ^ 20) logs.now.items }
     requires fit { LogsFit shape.now (lists_of logs.now) }
-    ensures order { IfOk result (λ order. IsOrderOf shape.now (flat_memory memory.now.items) (lists_of logs.now) order.items) }
+    ensures order { IfOk result (λ order.
+        IsOrderOf shape.now (flat_memory memory.now.items) (lists_of logs.now) order.items) }
     ensures fault { IfErr result (IsHalt shape.now (flat_memory memory.now.items) (lists_of logs.now)) }
 {
     let banks = number_banks(alloc, shape, logs)?;

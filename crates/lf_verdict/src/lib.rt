@@ -19,7 +19,7 @@ mod reading;
 
 pub use answer::{Fault, HeaderField, Refusal, Verdict};
 pub use check::check_shape;
-pub use laws::{no_has_no_run, verdicts_are_one, yes_is_legal};
+pub use laws::{mixtures_are_alike, no_has_no_run, verdicts_are_one, yes_is_legal};
 
 #[cfg(test)]
 mod tests;

@@ -1,8 +1,7 @@
 //! The records of each bank, in the order of their numbers.
 
-ghost use Rattle.std.specs.Prelude.{◌≡◌, ◌≤◌, ◌<◌, ◌^◌, ℕ, length, IfOk, IfErr, OnOk, IfSome, IfNone, None, Some};
+ghost use Rattle.std.specs.Prelude.{◌≡◌, ◌≤◌, ◌<◌, ◌^◌, length, IfOk, IfErr, OnOk, IfSome, IfNone, None, Some};
 ghost use Rattle.std.specs.List.{All};
-ghost use Rattle.std.specs.Option.{option_copied};
 ghost use Rattle.lf_model.specs.Address.{FlatMemory};
 ghost use Rattle.lf_model.specs.Numbers.{IsNumbered, bank_numbers};
 ghost use Rattle.lf_logs.specs.Lists.{lists_of};
@@ -80,7 +79,8 @@ pub fn number_banks(alloc: Global, shape: &Shape, logs: &Logs) -> Result<Vec<Vec
     requires banks { shape.now.banks ≤ 16 }
     requires few { length logs.now.items ≤ 32 }
     requires short { All (λ log. length log.items ≤ 2 ^ 20) logs.now.items }
-    ensures numbered { IfOk result (λ all. AreNumbered (lists_of logs.now) shape.now.banks (lists_of all)) }
+    ensures numbered { IfOk result (λ all.
+        AreNumbered (lists_of logs.now) shape.now.banks (lists_of all)) }
     ensures whole { OnOk result (AreWholeBelow (lists_of logs.now) shape.now.banks) }
     ensures fault { (memory : FlatMemory) → IfErr result (IsHalt shape.now memory (lists_of logs.now)) }
 {

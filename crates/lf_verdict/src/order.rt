@@ -1,6 +1,6 @@
 //! The order of all logs.
 
-ghost use Rattle.std.specs.Prelude.{◌≡◌, ◌≤◌, ◌^◌, length, IfOk, IfErr};
+ghost use Rattle.std.specs.Prelude.{◌≤◌, ◌^◌, length, IfOk, IfErr};
 ghost use Rattle.std.specs.List.{All};
 ghost use Rattle.lf_model.specs.Order.{IsLeastOrder};
 ghost use Rattle.lf_model.specs.Ring.{skeletons_of};

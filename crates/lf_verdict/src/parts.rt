@@ -1,6 +1,6 @@
 //! Each port and each bank, judged by itself.
 
-ghost use Rattle.std.specs.Prelude.{◌≡◌, ◌+◌, ◌≤◌, ◌<◌, ◌^◌, ℕ, length, IfOk, IfErr, OnOk, IfSome, IfNone};
+ghost use Rattle.std.specs.Prelude.{◌≡◌, ◌+◌, ◌≤◌, ◌<◌, ◌^◌, length, IfOk, IfErr, OnOk, IfSome, IfNone};
 ghost use Rattle.std.specs.Bool.{OnFalse};
 ghost use Rattle.std.specs.List.{All};
 ghost use Rattle.lf_model.specs.Address.{flat_memory};
@@ -30,7 +30,9 @@ struct Broken {
 fn port_outcomes(alloc: Global, shape: &Shape, logs: &Logs) -> Result<Vec<Outcome>, NoMemory>
     requires few { shape.now.ports ≤ length logs.now.items }
     requires short { All (λ log. length log.items ≤ 2 ^ 20) logs.now.items }
-    ensures { IfOk result (λ all. AreOutcomes (λ port. IsPortOutcome shape.now (log_at (lists_of logs.now) port)) shape.now.ports all.items) }
+    ensures { IfOk result (λ all.
+        AreOutcomes (λ port. IsPortOutcome shape.now (log_at (lists_of logs.now) port))
+        shape.now.ports all.items) }
 {
     let mut all = Vec::new(alloc);
     for port in 0..shape.ports {
@@ -50,7 +52,8 @@ fn bank_outcomes(
     requires shape { IsShape shape.now }
     requires count { length banks.now.items ≡ shape.now.banks }
     requires records { AreBankLists shape.now (lists_of banks.now) }
-    ensures { IfOk result (λ all. AreOutcomes (λ bank. IsBankOutcome shape.now (flat_memory memory.now.items) (log_at (lists_of banks.now) bank))
+    ensures { IfOk result (λ all.
+        AreOutcomes (λ bank. IsBankOutcome shape.now (flat_memory memory.now.items) (log_at (lists_of banks.now) bank))
         (length banks.now.items) all.items) }
 {
     let mut all = Vec::new(alloc);

@@ -1,8 +1,7 @@
 //! The trace that comes in pieces.
 
-ghost use Rattle.std.specs.Prelude.{◌≡◌, ℕ, List, [], None, Some, OnOk, IfOk, IfErr};
+ghost use Rattle.std.specs.Prelude.{◌≡◌, ℕ, List, [], Some, OnOk, IfOk, IfErr};
 ghost use Rattle.lf_codec.specs.Trace.{IsTrace};
-ghost use Rattle.lf_codec.specs.Reading.{trace_fault};
 ghost use Rattle.lf_verdict.specs.Legal.{joined};
 ghost use Rattle.lf_verdict.specs.Reading.{fault_in, HasReadAll, IsFaultOrWant, IsReadRefusal};
 

@@ -103,7 +103,7 @@ impl Draft {
 
 fn yes(alloc: Global, order: &[u8]) -> Result<Verdict, AllocError> {
     Ok(Verdict::Yes {
-        events: order.len().min(100) as u32,
+        events: order.len().min(1000) as u32,
         order: Vec::from_slice(alloc, order)?,
     })
 }
