@@ -1,5 +1,5 @@
 -- A register file holds no more targets than it has places.
-use Rattle.std.proofs.Common.{◌≡◌, ◌≢◌, ℕ, zero, suc, ◌+◌, ◌*◌, ◌<◌, ◌≤◌, Bool, true, false, cond, not, ◌==◌, List, [], ◌∷◌, ◌++◌, length, refl, sym, ap, ◌∙◌, subst, arith, eq-eqb, ne_eqb, eqb-true, suc-mul, inl, inr}
+use Rattle.std.proofs.Common.{◌≡◌, ◌≢◌, ℕ, zero, suc, ◌+◌, ◌*◌, ◌<◌, ◌≤◌, Bool, true, false, cond, not, ◌==◌, List, [], ◌∷◌, ◌++◌, length, refl, ap, subst, arith, eq-eqb, ne_eqb, suc-mul, inl, inr}
 use Rattle.std.specs.Prelude.{count_by, filter}
 use Rattle.std.proofs.lemmas.Bool.{cases_eq, not-true}
 use Rattle.std.proofs.lemmas.List.{length_push}
@@ -8,7 +8,7 @@ use Rattle.std.proofs.lemmas.List.Sums.{length-filter}
 use Rattle.std.proofs.lemmas.List.Filters.{length-filter_both}
 use Rattle.lf_model.specs.Registers.{Held, is_free}
 use Rattle.lf_mshr.specs.Bounds.{IsWithin}
-use Rattle.lf_mshr.proofs.Counts.{count_cons, count_push, count_push_yes, count_push_no, count_filter_le, none_passes}
+use Rattle.lf_mshr.proofs.Counts.{count_cons, count_push_yes, count_push_no, count_filter_le, none_passes}
 
 -- a list is no longer than there are keys, times how often each key occurs
 module _ {A : Type 0} (key : A → ℕ) where

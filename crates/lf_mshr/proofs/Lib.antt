@@ -4,3 +4,4 @@ pub mod Once
 pub mod Fields
 pub mod Size
 pub mod Room
+pub mod Alike

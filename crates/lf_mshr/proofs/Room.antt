@@ -1,5 +1,5 @@
 -- There is room exactly where some register takes the target.
-use Rattle.std.proofs.Common.{◌≡◌, ℕ, ◌<◌, [], ◌∷◌, Bool, true, false, cond, not, ◌↔◌, ◌⊎◌, inl, inr, List, nat_lt, Option, None, Some, refl, sym, ap, ◌∙◌, subst, lt-ltb, ltb-true}
+use Rattle.std.proofs.Common.{◌≡◌, ℕ, [], ◌∷◌, Bool, true, false, not, ◌↔◌, inl, inr, nat_lt, None, refl, sym, ap, ◌∙◌, lt-ltb, ltb-true}
 use Rattle.std.proofs.lemmas.Bool.{not-true}
 use Rattle.std.specs.Bool.{IsTrue}
 use Rattle.lf_model.specs.declared.rule.Rule.{Rule}
@@ -8,7 +8,7 @@ use Rattle.lf_model.specs.Clauses.{OfBank, bank_wants}
 use Rattle.lf_model.specs.Registers.{registers_of, holds, is_free, right_for_primary, right_for_merge, takes}
 use Rattle.lf_model.specs.Run.{first_failing}
 use Rattle.lf_model.proofs.Room.{room_is}
-use Rattle.lf_mshr.specs.RegisterFile.{RegisterFile, primary_wants, merge_wants, has_room_for, SomeTakes}
+use Rattle.lf_mshr.specs.RegisterFile.{RegisterFile, has_room_for, SomeTakes}
 
 -- four clauses hold
 module _ (first second third fourth : Rule) where

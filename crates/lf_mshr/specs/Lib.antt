@@ -3,3 +3,4 @@ pub mod Bounds
 pub mod Faults
 pub mod Names
 pub mod Size
+pub mod Alike

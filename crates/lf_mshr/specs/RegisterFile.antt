@@ -4,7 +4,7 @@ use Rattle.std.specs.Prelude.{◌≡◌, ℕ, Bool, List, [], ◌∷◌, ◌++�
 use Rattle.lf_model.specs.declared.shape.OrgShape.{OrgShape}
 use Rattle.lf_model.specs.declared.shape.OrgShape.TheVariants.{Implicit, Explicit, Inverted}
 use Rattle.lf_model.specs.Clauses.{Clause, OfBank}
-use Rattle.lf_model.specs.Registers.{Held, has_room, primary_clauses, merge_clauses, targets_of, released}
+use Rattle.lf_model.specs.Registers.{Held, has_room, primary_clauses, merge_clauses, released}
 use Rattle.lf_model.specs.Run.{first_failing}
 
 pub record RegisterFile (T : Type 0) : Type 0 where

@@ -21,8 +21,10 @@ use std::alloc::Global;
 /// A file is seen as its organisation, its number of destinations and the list of what its registers
 /// hold, in the order of acceptance. The first two never change. Only `new` takes memory.
 pub trait Organisation {
+    /// What a register holds of a request.
     type Target: Target;
 
+    /// The registers of one level of one bank.
     type File: Drop;
 
     /// Whether several registers may hold one block.
@@ -30,8 +32,10 @@ pub trait Organisation {
 
     ghost SHARES: { Bool };
 
+    // whether a shape names this organisation
     ghost names: { OrgShape → Bool };
 
+    // a file as the contracts see it
     ghost seen: { Self.File → RegisterFile Self.Target };
 
     /// A file whose registers are all free.

@@ -1,4 +1,4 @@
-use Rattle.std.proofs.Common.{◌≡◌, rules, ◌==◌, not}
+use Rattle.std.proofs.Common.{rules, ◌==◌, not}
 use Rattle.std.proofs.lemmas.Fn.{filter_same}
 use Rattle.lf_mshr.proofs.held.release.Goals as goal
 

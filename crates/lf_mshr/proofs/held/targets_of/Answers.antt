@@ -1,4 +1,4 @@
-use Rattle.std.proofs.Common.{◌≡◌, ℕ, ◌≤◌, ◌<◌, ◌+◌, length, map, ap, arith}
+use Rattle.std.proofs.Common.{length, ap, arith}
 use Rattle.lf_mshr.proofs.Size.{targets_fit}
 use Rattle.lf_mshr.proofs.Counts.{targets-le}
 use Rattle.lf_mshr.proofs.held.targets_of.Goals as goal

@@ -1,5 +1,4 @@
-use Rattle.std.proofs.Common.{◌≡◌, ◌+◌, ◌*◌, ◌<◌, ◌≤◌, ◌++◌, ◌∷◌, [], arith}
-use Rattle.lf_mshr.specs.Bounds.{IsWithin}
+use Rattle.std.proofs.Common.{arith}
 use Rattle.lf_mshr.specs.RegisterFile.{held_item}
 use Rattle.lf_mshr.proofs.Bounds.{IsWithin-push, length-lt}
 use Rattle.lf_mshr.proofs.Once.{HoldsOnce-push}

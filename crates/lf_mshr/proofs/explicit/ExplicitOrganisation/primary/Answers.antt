@@ -1,4 +1,4 @@
-use Rattle.std.proofs.Common.{◌≡◌, ◌+◌, ◌*◌, ◌<◌, ◌≤◌, true, sym, ◌∙◌, arith}
+use Rattle.std.proofs.Common.{◌≡◌, true, sym, ◌∙◌, arith}
 use Rattle.lf_model.specs.Registers.{is_free}
 use Rattle.lf_mshr.proofs.Bounds.{free-count}
 use Rattle.lf_mshr.proofs.explicit.ExplicitOrganisation.primary.Goals as goal

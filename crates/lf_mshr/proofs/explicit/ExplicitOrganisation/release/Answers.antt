@@ -1,4 +1,4 @@
-use Rattle.std.proofs.Common.{◌≡◌, ◌+◌, ◌*◌, ◌<◌, ◌≤◌, not, ◌==◌, arith}
+use Rattle.std.proofs.Common.{not, ◌==◌, arith}
 use Rattle.lf_mshr.proofs.Bounds.{IsWithin-filter, length-le}
 use Rattle.lf_mshr.proofs.Once.{HoldsOnce-released}
 use Rattle.lf_mshr.proofs.explicit.ExplicitOrganisation.release.Goals as goal

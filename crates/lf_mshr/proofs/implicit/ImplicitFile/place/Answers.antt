@@ -1,4 +1,4 @@
-use Rattle.std.proofs.Common.{◌≡◌, ◌+◌, ◌*◌, ◌<◌, ◌≤◌, ◌++◌, ◌∷◌, [], arith}
+use Rattle.std.proofs.Common.{◌++◌, ◌∷◌, [], arith}
 use Rattle.lf_mshr.specs.RegisterFile.{held_item}
 use Rattle.lf_mshr.proofs.Bounds.{length-lt}
 use Rattle.lf_mshr.proofs.Fields.{IsBelow-push, HasFields-push, IsWithin-from_fields}

@@ -1,4 +1,4 @@
-use Rattle.std.proofs.Common.{◌≡◌, ◌+◌, ◌*◌, ◌<◌, ◌≤◌, true, sym, ◌∙◌, arith}
+use Rattle.std.proofs.Common.{◌≡◌, true, sym, ◌∙◌}
 use Rattle.lf_model.specs.Registers.{is_free}
 use Rattle.lf_mshr.proofs.Fields.{free_fields}
 use Rattle.lf_mshr.proofs.implicit.ImplicitOrganisation.primary.Goals as goal

@@ -1,4 +1,4 @@
-use Rattle.std.proofs.Common.{◌≡◌, ◌+◌, ◌*◌, ◌<◌, ◌≤◌, not, ◌==◌, arith}
+use Rattle.std.proofs.Common.{not, ◌==◌, arith}
 use Rattle.lf_mshr.proofs.Bounds.{length-le}
 use Rattle.lf_mshr.proofs.Fields.{IsBelow-filter, HasFields-filter, IsWithin-from_fields}
 use Rattle.lf_mshr.proofs.Once.{HoldsOnce-released}
