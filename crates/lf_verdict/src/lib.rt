@@ -8,7 +8,7 @@
 #![tactic(auto)]
 
 mod answer;
-mod check;
+mod configured;
 mod halt;
 mod judge;
 mod laws;
@@ -16,9 +16,11 @@ mod numbers;
 mod order;
 mod parts;
 mod reading;
+mod shape_check;
 
 pub use answer::{Fault, HeaderField, Refusal, Verdict};
-pub use check::check_shape;
+pub use shape_check::check_shape;
+pub use configured::check;
 pub use laws::{no_has_no_run, verdicts_are_one, yes_is_legal};
 
 #[cfg(test)]
