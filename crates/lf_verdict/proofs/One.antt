@@ -1,5 +1,5 @@
 -- Bytes have one verdict.
-use Rattle.std.proofs.Common.{◌≡◌, ℕ, ◌+◌, ◌<◌, ◌≤◌, List, [], ◌∷◌, length, Some, refl, sym, ◌∙◌, ap, subst, arith, ◌⊎◌, inl, inr}
+use Rattle.std.proofs.Common.{◌≡◌, ℕ, ◌+◌, ◌<◌, ◌≤◌, List, length, Some, refl, sym, ◌∙◌, ap, subst, arith, ◌⊎◌, inl, inr}
 use Rattle.std.specs.Prelude.{slice_index}
 use Rattle.std.proofs.lemmas.Bool.{cases_lt}
 use Rattle.lf_model.specs.declared.shape.Shape.{Shape}
@@ -9,7 +9,7 @@ use Rattle.lf_model.specs.declared.outcome.Outcome.TheVariants as outcomes
 use Rattle.lf_model.specs.Address.{FlatMemory, flat_memory}
 use Rattle.lf_model.specs.Fits.{Bytes}
 use Rattle.lf_model.specs.Numbers.{bank_numbers, NumberedIsOne, IsMissing, IsDouble}
-use Rattle.lf_model.specs.Order.{log_at, IsLeastOrder, IsNotAbove, OrdersInterleave, LogsFollow, EntriesKeepAlike, EntriesKeepNumbers}
+use Rattle.lf_model.specs.Order.{log_at, IsLeastOrder, OrdersInterleave, LogsFollow, EntriesKeepAlike, EntriesKeepNumbers}
 use Rattle.lf_model.specs.Outcomes.{OutcomesAreOne, first_local}
 use Rattle.lf_model.specs.declared.ring.Knot.{Knot}
 use Rattle.lf_model.specs.Ring.{RingsAdmitNone, skeletons_of, IsRing}
@@ -30,9 +30,12 @@ use Rattle.lf_verdict.specs.Parts.{HasWholeNumbers, PortRuns, BankRuns, PartsRun
 use Rattle.lf_verdict.specs.declared.answer.Verdict.{Verdict}
 use Rattle.lf_verdict.specs.declared.answer.Verdict.TheVariants.{Yes, No, Refused}
 use Rattle.lf_verdict.specs.declared.answer.Refusal.TheVariants as refusals
-use Rattle.lf_verdict.specs.Laws.{SameFault, SameVerdict, VerdictsAreOne}
+use Rattle.lf_verdict.specs.Laws.{SameVerdict, VerdictsAreOne}
 use Rattle.lf_verdict.specs.Verdict.{Differs, IsFaultOf, IsNo, IsYes, IsOfAnother, IsTraceVerdict, IsVerdictOf, IsWorkerCount}
-use Rattle.lf_verdict.proofs.Traces.{trace_names}
+use Rattle.lf_verdict.proofs.Traces.{trace_names, trace_fits}
+use Rattle.lf_verdict.proofs.Entries.{banks_whole, all_whole}
+use Rattle.lf_verdict.specs.Judging.{LogsFit}
+use Rattle.lf_join.specs.Laws.{LeastOrdersAreOne, StuckRingsAreOne}
 use Rattle.lf_verdict.proofs.Counts.{no_gap, no_double}
 
 -- the laws that this one rests on
@@ -43,6 +46,8 @@ pub record Laws : Type 0 where
   pub interleave : OrdersInterleave
   pub follow : LogsFollow
   pub keep : EntriesKeepAlike
+  pub one_order : LeastOrdersAreOne
+  pub one_ring : StuckRingsAreOne
   pub one_trace : BytesAreOfOneTrace
   pub faultless : FaultlessBytesAreTraces
 
@@ -58,7 +63,7 @@ lowest a b x y = go (cases_lt a b) (cases_lt b a)
 
 -- ---- parts that run do not break
 
-module _ (laws : Laws) (shape : Shape) (memory : FlatMemory) (logs : List (List Record)) where
+module _ (laws : Laws) (shape : Shape) (memory : FlatMemory) (logs : List (List Record)) (fits : LogsFit shape logs) where
   no_break : (side : Side) (rs : List Record) (n : ℕ) (rule : Rule) → BreaksAt side shape (first_local memory) rs n rule → IsRunOf side shape (first_local memory) rs → ⊥
   no_break side rs n rule breaks runs =
       let same = laws.one_outcome side shape memory rs outcomes.Passed (outcomes.Broken n rule) runs breaks (λ e. cc) (λ e. cc) in cc
@@ -129,7 +134,7 @@ module _ (laws : Laws) (shape : Shape) (memory : FlatMemory) (logs : List (List 
   bank_or_runs : (bank number : ℕ) (rule : Rule) → IsBankFault shape memory logs bank number rule → ((b : ℕ) → b < shape.banks → BankRuns shape memory logs b) → ⊥
   bank_or_runs bank number rule a runs = bank_breaks bank number rule a (runs bank a.is_bank)
 
-  one_fault : (a b : Fault) → IsFaultOf shape memory logs a → IsFaultOf shape memory logs b → SameFault a b
+  one_fault : (a b : Fault) → IsFaultOf shape memory logs a → IsFaultOf shape memory logs b → a ≡ b
   one_fault (Missing bank k) (Missing bank' k') a b =
       let bank_is = same_bank bank k bank' k' a.0 (inl a.1) b.0 (inl b.1) in
       let k_is = same_number bank k bank' k' bank_is a.0 (inl a.1) b.0 (inl b.1) in cc
@@ -158,7 +163,9 @@ module _ (laws : Laws) (shape : Shape) (memory : FlatMemory) (logs : List (List 
   one_fault (Cycle ring) (Double bank k) a b = absurd (gap_or_whole bank k b.0 (inr b.1) a.parts.numbers)
   one_fault (Cycle ring) (Port port at rule) a b = absurd (port_or_runs port at rule b a.parts.ports)
   one_fault (Cycle ring) (Bank bank number rule) a b = absurd (bank_or_runs bank number rule b a.parts.banks)
-  one_fault (Cycle ring) (Cycle ring') a b = tt
+  one_fault (Cycle ring) (Cycle ring') a b =
+      let whole = banks_whole logs (all_whole shape logs fits a.parts.numbers) in
+      ap (λ (items : List Knot). Cycle (record { items = items })) (laws.one_ring (skeletons_of logs) ring.items ring'.items whole a.stuck b.stuck)
 
   -- a ring admits no order
   ring_or_order : NameTheirLogs logs → (ring : List Knot) → IsRing (skeletons_of logs) ring → (order : List ℕ) → IsLeastOrder (skeletons_of logs) order → ⊥
@@ -173,17 +180,6 @@ module _ (laws : Laws) (shape : Shape) (memory : FlatMemory) (logs : List (List 
   no_or_yes named (Port port at rule) order a parts least = port_or_runs port at rule a parts.ports
   no_or_yes named (Bank bank number rule) order a parts least = bank_or_runs bank number rule a parts.banks
   no_or_yes named (Cycle ring) order a parts least = ring_or_order named ring.items a.waits order least
-
--- ---- one least order
-
-not_above_both : (a b : List ℕ) → IsNotAbove a b → IsNotAbove b a → a ≡ b
-not_above_both [] [] x y = refl
-not_above_both [] (n ∷ b) x y = absurd y
-not_above_both (n ∷ a) [] x y = absurd x
-not_above_both (n ∷ a) (m ∷ b) (inl lt) (inl gt) = absurd (omega arith)
-not_above_both (n ∷ a) (m ∷ b) (inl lt) (inr same) = let e = same.0 in absurd (omega (arith, e))
-not_above_both (n ∷ a) (m ∷ b) (inr same) (inl gt) = let e = same.0 in absurd (omega (arith, e))
-not_above_both (n ∷ a) (m ∷ b) (inr same) (inr same') = let e = same.0 in let rest = not_above_both a b same.1 same'.1 in cc
 
 -- ---- the same header, the same trace
 
@@ -228,18 +224,18 @@ module _ (laws : Laws) (shape : Shape) (bytes : List ℕ) (fit : (i : ℕ) → s
       let same = same_logs n.memory memory n.logs logs n.trace trace in
       subst (λ (m : List (ℕ × Bytes)). IsFaultOf shape (flat_memory m) logs fault) same.0 (subst (λ (ls : List (List Record)). IsFaultOf shape (flat_memory n.memory) ls fault) same.1 n.fault_of)
 
-  same_no : (a b : Fault) → IsNo shape bytes a → IsNo shape bytes b → SameFault a b
-  same_no a b x y = one_fault laws shape (flat_memory y.memory) y.logs a b (moved_fault a x y.memory y.logs y.trace) y.fault_of
+  same_no : (a b : Fault) → IsNo shape bytes a → IsNo shape bytes b → a ≡ b
+  same_no a b x y = one_fault laws shape (flat_memory y.memory) y.logs (trace_fits shape bytes y.memory y.logs y.trace) a b (moved_fault a x y.memory y.logs y.trace) y.fault_of
 
   yes_or_no : (fault : Fault) (events : ℕ) (order : List ℕ) → IsNo shape bytes fault → IsYes shape bytes events order → ⊥
   yes_or_no fault events order n y =
-      no_or_yes laws shape (flat_memory y.memory) y.logs (trace_names shape bytes y.memory y.logs y.trace) fault order (moved_fault fault n y.memory y.logs y.trace) y.parts y.least
+      no_or_yes laws shape (flat_memory y.memory) y.logs (trace_fits shape bytes y.memory y.logs y.trace) (trace_names shape bytes y.memory y.logs y.trace) fault order (moved_fault fault n y.memory y.logs y.trace) y.parts y.least
 
   same_yes : (events events' : ℕ) (order order' : List ℕ) → IsYes shape bytes events order → IsYes shape bytes events' order' → (events ≡ events') × (order ≡ order')
   same_yes events events' order order' a b =
       let same = same_logs a.memory b.memory a.logs b.logs a.trace b.trace in
       let least = subst (λ (ls : List (List Record)). IsLeastOrder (skeletons_of ls) order) same.1 a.least in
-      let orders = not_above_both order order' (least.least order' b.least.is_order) (b.least.least order least.is_order) in
+      let orders = laws.one_order (skeletons_of b.logs) order order' least b.least in
       (a.count ∙ ap length orders ∙ sym b.count, orders)
 
   one_verdict : (a b : Verdict) → IsTraceVerdict shape bytes a → IsTraceVerdict shape bytes b → SameVerdict a b
@@ -272,6 +268,7 @@ verdicts_are_one laws shape workers bytes a b fit x y = go a b x y
     split (Yes events order) is = inr is
     split (No fault) is = inr is
     split (Refused (refusals.Workers n)) is = inl (ap (λ m. Refused (refusals.Workers m)) is.0, is.1)
+    split (Refused (refusals.Config fault)) is = inr is
     split (Refused (refusals.Format fault)) is = inr is
     split (Refused (refusals.Header field)) is = inr is
     split (Refused refusals.Memory) is = inr is

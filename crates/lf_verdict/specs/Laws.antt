@@ -4,10 +4,11 @@ use Rattle.lf_model.specs.declared.shape.Shape.{Shape}
 use Rattle.lf_model.specs.declared.event.Record.{Record}
 use Rattle.lf_model.specs.Address.{FlatMemory, flat_memory}
 use Rattle.lf_model.specs.Fits.{Bytes}
-use Rattle.lf_model.specs.Run.{Interleaves, KeepsNumbers, IsRun}
+use Rattle.lf_model.specs.Run.{of_log, Interleaves, KeepsNumbers, IsRun}
 use Rattle.lf_model.specs.Copies.{IsCopyRun}
+use Rattle.lf_codec.specs.declared.header.Header.{Header}
+use Rattle.lf_codec.specs.Trace.{IsTrace}
 use Rattle.lf_verdict.specs.declared.answer.Fault.{Fault}
-use Rattle.lf_verdict.specs.declared.answer.Fault.TheVariants.{Cycle}
 use Rattle.lf_verdict.specs.declared.answer.Verdict.{Verdict}
 use Rattle.lf_verdict.specs.declared.answer.Verdict.TheVariants.{Yes, No, Refused}
 use Rattle.lf_verdict.specs.Legal.{IsTraceFor, IsLegal}
@@ -31,15 +32,10 @@ abbrev pub NoHasNoRun : Type 0
 NoHasNoRun = (shape : Shape) (bytes : List ℕ) (fault : Fault) → IsNo shape bytes fault
     → (memory : List (ℕ × Bytes)) (logs : List (List Record)) → IsTraceFor shape bytes memory logs → HasNoRun shape (flat_memory memory) logs
 
--- the same fault, but for which of the logs that wait a cycle names
-abbrev pub SameFault : Fault → Fault → Type 0
-SameFault (Cycle ring) (Cycle ring') = Unit {0}
-SameFault fault fault' = fault ≡ fault'
-
 -- the same verdict, wherever its order lies in memory
 abbrev pub SameVerdict : Verdict → Verdict → Type 0
 SameVerdict (Yes events order) (Yes events' order') = (events ≡ events') × (order.items ≡ order'.items)
-SameVerdict (No fault) (No fault') = SameFault fault fault'
+SameVerdict (No fault) (No fault') = fault ≡ fault'
 SameVerdict (Refused refusal) (Refused refusal') = refusal ≡ refusal'
 SameVerdict _ _ = ⊥
 
@@ -47,3 +43,18 @@ SameVerdict _ _ = ⊥
 abbrev pub VerdictsAreOne : Type 0
 VerdictsAreOne = (shape : Shape) (workers : ℕ) (bytes : List ℕ) (a b : Verdict) → ((i : ℕ) → slice_index bytes i < 256)
     → IsVerdictOf shape workers bytes a → IsVerdictOf shape workers bytes b → SameVerdict a b
+
+-- The bytes are traces of one header, one memory and the same logs, however these are mixed.
+pub record AreMixtures (bytes other : List ℕ) : Type 0 where
+  pub header : Header
+  pub memory : List (ℕ × Bytes)
+  pub records : List Record
+  pub others : List Record
+  pub trace : IsTrace bytes header memory records
+  pub other_trace : IsTrace other header memory others
+  pub same_logs : (log : ℕ) → of_log log records ≡ of_log log others
+
+-- They have the same verdicts.
+abbrev pub MixturesAreAlike : Type 0
+MixturesAreAlike = (shape : Shape) (workers : ℕ) (bytes other : List ℕ) (verdict : Verdict) → ((i : ℕ) → slice_index bytes i < 256)
+    → AreMixtures bytes other → IsVerdictOf shape workers bytes verdict → IsVerdictOf shape workers other verdict

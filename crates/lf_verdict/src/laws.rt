@@ -1,8 +1,9 @@
 //! The laws about verdicts. Each function only calls the laws from which its own follows.
 
-ghost use Rattle.lf_verdict.specs.Laws.{YesIsLegal, NoHasNoRun, VerdictsAreOne};
+ghost use Rattle.lf_verdict.specs.Laws.{YesIsLegal, NoHasNoRun, VerdictsAreOne, MixturesAreAlike};
 
 use lf_codec::{faultless_bytes, one_trace};
+use lf_join::joins_are_one;
 use lf_model::{
     copies_are_flat, gaps_admit_none, interleavings_are_numbered, numbers_are_whole,
     orders_interleave, outcomes_are_one, rings_admit_none, runs_are_right, runs_by_parts,
@@ -36,7 +37,7 @@ pub fn no_has_no_run()
     one_trace();
 }
 
-/// Bytes have one verdict, but for which of the logs that wait for one another a cycle names.
+/// Bytes have one verdict.
 pub fn verdicts_are_one()
     ensures { VerdictsAreOne }
 {
@@ -45,6 +46,15 @@ pub fn verdicts_are_one()
     rings_admit_none();
     orders_interleave();
     skeletons_follow();
+    joins_are_one();
+    one_trace();
+    faultless_bytes();
+}
+
+/// How the logs are mixed in the bytes does not matter.
+pub fn mixtures_are_alike()
+    ensures { MixturesAreAlike }
+{
     one_trace();
     faultless_bytes();
 }

@@ -19,9 +19,9 @@ mod reading;
 mod shape_check;
 
 pub use answer::{Fault, HeaderField, Refusal, Verdict};
-pub use shape_check::check_shape;
 pub use configured::check;
-pub use laws::{no_has_no_run, verdicts_are_one, yes_is_legal};
+pub use laws::{mixtures_are_alike, no_has_no_run, verdicts_are_one, yes_is_legal};
+pub use shape_check::check_shape;
 
 #[cfg(test)]
 mod tests;

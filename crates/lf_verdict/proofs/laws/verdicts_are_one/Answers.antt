@@ -10,6 +10,8 @@ returns c =
       interleave = c.orders_interleave.ensures.interleave;
       follow = c.skeletons_follow.ensures.logs;
       keep = c.skeletons_follow.ensures.numbers;
+      one_order = c.joins_are_one.ensures.order;
+      one_ring = c.joins_are_one.ensures.ring;
       one_trace = c.one_trace.ensures;
       faultless = c.faultless_bytes.ensures;
     } in verdicts_are_one laws
