@@ -88,6 +88,7 @@ verdict_of shape workers bytes (No fault) one is judged = (one, is)
 verdict_of shape workers bytes (Refused (refusals.Format fault)) one is judged = (one, is)
 verdict_of shape workers bytes (Refused (refusals.Header field)) one is judged = (one, is)
 verdict_of shape workers bytes (Refused (refusals.Workers n)) one is judged = absurd is
+verdict_of shape workers bytes (Refused (refusals.Config fault)) one is judged = absurd is
 verdict_of shape workers bytes (Refused refusals.Memory) one is judged = absurd judged
 verdict_of shape workers bytes (Refused refusals.Thread) one is judged = absurd judged
 

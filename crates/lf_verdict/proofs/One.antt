@@ -268,6 +268,7 @@ verdicts_are_one laws shape workers bytes a b fit x y = go a b x y
     split (Yes events order) is = inr is
     split (No fault) is = inr is
     split (Refused (refusals.Workers n)) is = inl (ap (λ m. Refused (refusals.Workers m)) is.0, is.1)
+    split (Refused (refusals.Config fault)) is = inr is
     split (Refused (refusals.Format fault)) is = inr is
     split (Refused (refusals.Header field)) is = inr is
     split (Refused refusals.Memory) is = inr is

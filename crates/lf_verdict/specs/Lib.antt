@@ -4,3 +4,4 @@ pub mod Verdict
 pub mod Reading
 pub mod Laws
 pub mod Judging
+pub mod Configured

@@ -1,6 +1,7 @@
 //! What is said of a trace.
 
 use lf_codec::CodecFault;
+use lf_config::ConfigFault;
 use lf_model::{Ring, Rule};
 
 /// What is said of a trace.
@@ -36,6 +37,8 @@ pub enum Fault {
 pub enum Refusal {
     /// There cannot be so many workers.
     Workers(u32),
+    /// The text is no configuration. Want of memory is never told here.
+    Config(ConfigFault),
     /// The bytes are no trace.
     Format(CodecFault),
     /// The trace is one of another hierarchy.

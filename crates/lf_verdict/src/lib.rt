@@ -8,7 +8,7 @@
 #![tactic(auto)]
 
 mod answer;
-mod check;
+mod configured;
 mod halt;
 mod judge;
 mod laws;
@@ -16,10 +16,12 @@ mod numbers;
 mod order;
 mod parts;
 mod reading;
+mod shape_check;
 
 pub use answer::{Fault, HeaderField, Refusal, Verdict};
-pub use check::check_shape;
+pub use configured::check;
 pub use laws::{mixtures_are_alike, no_has_no_run, verdicts_are_one, yes_is_legal};
+pub use shape_check::check_shape;
 
 #[cfg(test)]
 mod tests;

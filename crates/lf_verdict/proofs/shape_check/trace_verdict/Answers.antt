@@ -1,7 +1,7 @@
 use Rattle.lf_logs.specs.Lists.{lists_of}
 use Rattle.lf_verdict.proofs.Traces.{records_fit}
 use Rattle.lf_verdict.proofs.Answered.{logs_below, logs_count, logs_short, logs_fit_shape, of_logs, of_header}
-use Rattle.lf_verdict.proofs.check.trace_verdict.Goals as goal
+use Rattle.lf_verdict.proofs.shape_check.trace_verdict.Goals as goal
 
 pub split-requires-clause-logs : goal.split-requires-clause-logs
 split-requires-clause-logs c =

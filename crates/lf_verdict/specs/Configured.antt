@@ -1,0 +1,38 @@
+-- Which verdict a trace has for the hierarchy that a text says.
+use Rattle.std.specs.Prelude.{◌≡◌, ℕ, List, length, Ok}
+use Rattle.lf_model.specs.declared.shape.Shape.{Shape}
+use Rattle.lf_config.specs.declared.fault.ConfigFault.{ConfigFault}
+use Rattle.lf_config.specs.declared.fault.ConfigFault.TheVariants as told
+use Rattle.lf_config.specs.Configuration.{configuration_of, Tells}
+use Rattle.lf_verdict.specs.declared.answer.Verdict.{Verdict}
+use Rattle.lf_verdict.specs.declared.answer.Verdict.TheVariants.{Yes, Refused}
+use Rattle.lf_verdict.specs.declared.answer.Refusal.TheVariants as refusals
+use Rattle.lf_verdict.specs.Legal.{IsLegal}
+use Rattle.lf_verdict.specs.Verdict.{IsWorkerCount, IsTraceVerdict}
+
+-- the fault is the first of the text
+abbrev pub IsConfigFault : List ℕ → ConfigFault → Type 0
+IsConfigFault text told.NoMemory = ⊥
+IsConfigFault text fault = Tells fault (configuration_of text)
+
+-- The bytes have this verdict for the shape that the text says.
+pub record IsConfiguredVerdict (text bytes : List ℕ) (answer : Verdict) : Type 0 where
+  pub shape : Shape
+  pub configured : configuration_of text ≡ Ok shape
+  pub verdict : IsTraceVerdict shape bytes answer
+
+-- The workers are judged first, then the text, then the trace.
+abbrev pub IsVerdictFor : List ℕ → ℕ → List ℕ → Verdict → Type 0
+IsVerdictFor text workers bytes (Refused (refusals.Workers n)) = (n ≡ workers) × ¬ IsWorkerCount workers
+IsVerdictFor text workers bytes (Refused (refusals.Config fault)) = IsWorkerCount workers × IsConfigFault text fault
+IsVerdictFor text workers bytes verdict = IsWorkerCount workers × IsConfiguredVerdict text bytes verdict
+
+-- The text says a shape for which the trace is legal, by this order.
+pub record IsLegalFor (text bytes order : List ℕ) : Type 0 where
+  pub shape : Shape
+  pub configured : configuration_of text ≡ Ok shape
+  pub legal : IsLegal shape bytes order
+
+abbrev pub IsLegalYesFor : List ℕ → List ℕ → Verdict → Type 0
+IsLegalYesFor text bytes (Yes events order) = IsLegalFor text bytes order.items × (events ≡ length order.items)
+IsLegalYesFor text bytes _ = Unit {0}
