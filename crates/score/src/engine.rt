@@ -30,7 +30,7 @@ use std::io::{Read, Write};
 const PIECE: usize = 65536;
 
 /// Whether there can be so many workers.
-fn are_workers(workers: u32) -> bool
+pub fn are_workers(workers: u32) -> bool
     ensures { IsTrue result ↔ IsWorkerCount workers }
 {
     workers == 1
