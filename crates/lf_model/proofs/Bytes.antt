@@ -40,6 +40,7 @@ put_mid_is xs new offset k e fits = fun_ext (λ place. go place (leb offset plac
   where
     front : length (take offset xs) ≡ offset
     front = omega (arith, length-take offset xs)
+
     go : (place : ℕ) (p q : Bool) → leb offset place ≡ p → ltb place (offset + length new) ≡ q
         → get_or (take offset xs ++ (new ++ drop k (drop offset xs))) place 0 ≡ cond (p && q) (get_or new (place - offset) 0) (get_or xs place 0)
     go place false q low high =
@@ -97,12 +98,12 @@ pub taken_more : (f : ℕ → ℕ) (p : ℕ → Bool) (i : ℕ) (xs ys : List �
 taken_more f p i xs ys y under pushed is taken =
     pushed ∙ ap (λ (zs : List ℕ). zs ++ y ∷ []) taken ∙ ap (λ z. map f (filter p (range_with_len 0 i)) ++ z ∷ []) is
     ∙ sym (ap (λ zs. map f (filter p zs)) (range_more 0 i i (omega arith)) ∙ ap (map f) (filter-append p (range_with_len 0 i) (i ∷ [])) ∙ map-append f (filter p (range_with_len 0 i)) (filter p (i ∷ []))
-      ∙ ap (λ b. map f (filter p (range_with_len 0 i)) ++ map f (cond b (i ∷ []) [])) under)
+    ∙ ap (λ b. map f (filter p (range_with_len 0 i)) ++ map f (cond b (i ∷ []) [])) under)
 
 pub passed_over : (f : ℕ → ℕ) (p : ℕ → Bool) (i : ℕ) (xs : List ℕ) → p i ≡ false → xs ≡ map f (filter p (range_with_len 0 i)) → xs ≡ map f (filter p (range_with_len 0 (i + 1)))
 passed_over f p i xs off taken =
     taken ∙ sym (ap (λ zs. map f (filter p zs)) (range_more 0 i i (omega arith)) ∙ ap (map f) (filter-append p (range_with_len 0 i) (i ∷ [])) ∙ map-append f (filter p (range_with_len 0 i)) (filter p (i ∷ []))
-      ∙ ap (λ b. map f (filter p (range_with_len 0 i)) ++ map f (cond b (i ∷ []) [])) off ∙ append-nil (map f (filter p (range_with_len 0 i))))
+    ∙ ap (λ b. map f (filter p (range_with_len 0 i)) ++ map f (cond b (i ∷ []) [])) off ∙ append-nil (map f (filter p (range_with_len 0 i))))
 
 -- ---- a block's bytes
 

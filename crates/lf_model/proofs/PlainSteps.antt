@@ -44,7 +44,7 @@ stepped shape blocks new_blocks busy new_busy xs at old new item same inside is 
     let here = ap (slices_of xs) (sym same) ∙ slices_read xs at old (omega (arith, same, inside)) is in
     let memory_is = now ∙ ap (λ (s : Slice). memory_after (flat_of blocks) s item.event) (sym here) in
     let slices_are = slices_set xs at new (omega (arith, same, inside)) ∙ ap (λ k. update (slices_of xs) k (slice_of new)) same
-        ∙ ap (update (slices_of xs) item.bank) (next ∙ ap (λ (s : Slice). slice_next shape (flat_of blocks) s item.log item.event) (sym here)) in
+    ∙ ap (update (slices_of xs) item.bank) (next ∙ ap (λ (s : Slice). slice_next shape (flat_of blocks) s item.log item.event) (sym here)) in
     λ i. record { memory = memory_is i; busy = tags i; slice = slices_are i }
 
 pub if_ok_more : {X E : Type 0} (P Q : X → Type 0) (r : Result X E) → ((x : X) → P x → Q x) → IfOk r P → IfOk r Q

@@ -202,10 +202,10 @@ tells shape (log ∷ order) state logs next place a e =
         → Tells shape state logs next place (log ∷ order) a
     judge r false o first number rule e rest =
         subst (Tells shape state logs next place (log ∷ order)) e (stop (λ q is.
-          let same : r ≡ q = heads_same (sym first ∙ is.0) in
-          let told = is.1 in
-          let right : q.number ≡ next q.bank = omega (arith, told) in
-          eqb-false r.number (next r.bank) number (subst (λ (s : Record). s.number ≡ next s.bank) (sym same) right)))
+        let same : r ≡ q = heads_same (sym first ∙ is.0) in
+        let told = is.1 in
+        let right : q.number ≡ next q.bank = omega (arith, told) in
+        eqb-false r.number (next r.bank) number (subst (λ (s : Record). s.number ≡ next s.bank) (sym same) right)))
     judge r true (Some rule) first number fails e rest =
         subst (Tells shape state logs next place (log ∷ order)) e (fail r rule (first, let n = eqb-true r.number (next r.bank) number in omega (arith, n)) fails)
     judge r true None first number holds e rest = tells_front shape state logs next log r first (eqb-true r.number (next r.bank) number) holds place order a (rest e)
@@ -325,10 +325,10 @@ stopped_is shape (suc n) (log ∷ order) (r ∷ rs) left state logs next place i
     let number = first_number next r rs numbers in
     right_number shape state logs next place log order r None taken.0 number run.0
     ∙ stopped_is shape n order rs left (state_after shape state r) (after_next logs log) (update next r.bank (next r.bank + 1)) (place + 1) (omega arith) taken.1 (numbers_behind next r rs numbers) run.1
-        (elim stops [
-          | inl s ↦ inl (let e = s.0 in omega (arith, e), s.1)
-          | inr s ↦ inr (let lt = s.0 in omega (arith, lt), λ q is. s.1 q (is.0, is.1 ∙ count_front shape state logs next log r taken.0 number run.0 rs q.bank))
-        ])
+    (elim stops [
+      | inl s ↦ inl (let e = s.0 in omega (arith, e), s.1)
+      | inr s ↦ inr (let lt = s.0 in omega (arith, lt), λ q is. s.1 q (is.0, is.1 ∙ count_front shape state logs next log r taken.0 number run.0 rs q.bank))
+    ])
     ∙ ap NotAnOrder (omega arith)
 
 failed_is : (shape : Shape) (n : ℕ) (order : List ℕ) (rs : List Record) (left : List (List Record)) (state : State) (logs : List (List Record)) (next : ℕ → ℕ) (place : ℕ) (q : Record) (rule : Rule)
@@ -346,7 +346,7 @@ failed_is shape (suc n) (log ∷ order) (r ∷ rs) left state logs next place q 
     let number = first_number next r rs numbers in
     right_number shape state logs next place log order r None taken.0 number run.0
     ∙ failed_is shape n order rs left (state_after shape state r) (after_next logs log) (update next r.bank (next r.bank + 1)) (place + 1) q rule (omega arith) taken.1 (numbers_behind next r rs numbers) run.1
-        (is.0, is.1 ∙ sym (count_front shape state logs next log r taken.0 number run.0 rs q.bank)) fails
+    (is.0, is.1 ∙ sym (count_front shape state logs next log r taken.0 number run.0 rs q.bank)) fails
     ∙ ap (λ k. Broken k rule) (omega arith)
 
 one_of : (shape : Shape) (memory : FlatMemory) (logs : List (List Record)) (order : List ℕ) (a : Recheck) → NameTheirLogs logs → IsRecheck shape memory logs order a → recheck_of shape memory logs order ≡ a
@@ -354,10 +354,10 @@ one_of shape memory logs order Accepted named h =
     accepted_is shape order h.records (opening memory) logs (λ _. 0) 0 ((orders_interleave logs order h.records named).1 (h.interleaves, h.named)) h.numbers h.run
 one_of shape memory logs order (NotAnOrder place) named h =
     stopped_is shape place order h.records h.left (opening memory) logs (λ _. 0) 0 h.so_far.inside h.so_far.taken h.so_far.numbers h.so_far.run
-        (elim h.stops [
-          | inl s ↦ inl s
-          | inr s ↦ inr (s.0, λ r is. s.1 r (is.0, let e = is.1 in omega (arith, e)))
-        ])
+    (elim h.stops [
+      | inl s ↦ inl s
+      | inr s ↦ inr (s.0, λ r is. s.1 r (is.0, let e = is.1 in omega (arith, e)))
+    ])
     ∙ ap NotAnOrder (omega arith)
 one_of shape memory logs order (Broken place rule) named h =
     failed_is shape place order h.records h.left (opening memory) logs (λ _. 0) 0 h.next rule h.inside h.so_far.taken h.so_far.numbers h.so_far.run (h.is_next.0, let e = h.is_next.1 in omega (arith, e)) h.fails

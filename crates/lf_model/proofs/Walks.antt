@@ -110,7 +110,7 @@ later shape state left next place log order r = recheck_from shape (state_after 
 
 at_next : (shape : Shape) (state : State) (left : List (List Record)) (next : ℕ → ℕ) (place log : ℕ) (order : List ℕ) (r : Record) → log_at left log ≡ r ∷ drop 1 (log_at left log)
     → recheck_from shape state left next place (log ∷ order) ≡ judged (r.number == next r.bank) (first_failing OfBoth (clauses shape (seen_by r.log r.bank state) r)) place
-        (recheck_from shape (state_after shape state r) (after_next left log) (update next r.bank (next r.bank + 1)) (place + 1) order)
+    (recheck_from shape (state_after shape state r) (after_next left log) (update next r.bank (next r.bank + 1)) (place + 1) order)
 at_next shape state left next place log order r e =
     ap (λ (xs : List Record). elim xs as (λ _. Recheck) [
       | [] ↦ NotAnOrder place
@@ -126,7 +126,7 @@ wrong_number shape state left next place log order r e apart =
 pub right_number : (shape : Shape) (state : State) (left : List (List Record)) (next : ℕ → ℕ) (place log : ℕ) (order : List ℕ) (r : Record) (o : Option Rule) → log_at left log ≡ r ∷ drop 1 (log_at left log)
     → r.number ≡ next r.bank → first_failing OfBoth (clauses shape (seen_by r.log r.bank state) r) ≡ o
     → recheck_from shape state left next place (log ∷ order) ≡ judged true o place
-        (recheck_from shape (state_after shape state r) (after_next left log) (update next r.bank (next r.bank + 1)) (place + 1) order)
+    (recheck_from shape (state_after shape state r) (after_next left log) (update next r.bank (next r.bank + 1)) (place + 1) order)
 right_number shape state left next place log order r o e number rule =
     at_next shape state left next place log order r e ∙ ap₂ (λ b p. judged b p place (later shape state left next place log order r)) (eq-eqb r.number (next r.bank) number) rule
 
@@ -156,7 +156,7 @@ walked_on shape state new places vs numbers place log bank order r e first same 
     ∙ ap (λ (s : State). recheck_from shape s (after_next (left_of places (items_of vs)) log) (update (slice_index numbers) r.bank (slice_index numbers r.bank + 1)) (place + 1) order) (sym is)
     ∙ ap (λ (left : List (List Record)). recheck_from shape new left (update (slice_index numbers) r.bank (slice_index numbers r.bank + 1)) (place + 1) order) (sym (left_next places (items_of vs) log (e ∙ sym long)))
     ∙ ap (λ (next : ℕ → ℕ). recheck_from shape new (left_of (set places log (slice_index places log + 1)) (items_of vs)) next (place + 1) order)
-        (ap (λ k. update (slice_index numbers) k (slice_index numbers k + 1)) (sym same) ∙ sym (index_set numbers bank (slice_index numbers bank + 1) inside))
+    (ap (λ k. update (slice_index numbers) k (slice_index numbers k + 1)) (sym same) ∙ sym (index_set numbers bank (slice_index numbers bank + 1) inside))
 
 -- ---- how many are left
 

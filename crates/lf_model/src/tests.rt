@@ -143,8 +143,22 @@ fn load_misses_both_levels(alloc: Global, first: u8) -> Result<Logs, AllocError>
     let mut bank = Vec::new(alloc);
     bank.push(event_of(1, 1, primary))?;
     bank.push(event_of(1, 2, second))?;
-    bank.push(event_of(1, 3, Event::Fill2 { block: 0, bytes: eight(0) }))?;
-    bank.push(event_of(1, 4, Event::Fill1 { block: 0, bytes: eight(0) }))?;
+    bank.push(event_of(
+        1,
+        3,
+        Event::Fill2 {
+            block: 0,
+            bytes: eight(0),
+        },
+    ))?;
+    bank.push(event_of(
+        1,
+        4,
+        Event::Fill1 {
+            block: 0,
+            bytes: eight(0),
+        },
+    ))?;
     let mut logs = Vec::new(alloc);
     logs.push(port)?;
     logs.push(bank)?;

@@ -8,7 +8,8 @@ use std::alloc::{AllocError, Global};
 const ABOUT: &str = "Judges recorded traces of a two-level lockup-free (non-blocking) cache.";
 
 /// What the help says of `check`.
-const ABOUT_CHECK: &str = "Judges a trace for the hierarchy that a configuration says, and prints one line.";
+const ABOUT_CHECK: &str =
+    "Judges a trace for the hierarchy that a configuration says, and prints one line.";
 
 /// What the help says after the arguments.
 const ANSWERS: &str = "\

@@ -77,7 +77,12 @@ impl PlainSlice {
         drop_ready(&mut self.ready, log, tag);
     }
 
-    pub(crate) fn hit(&mut self, memory: &mut PlainMemory, port: u8, tag: u8) -> Result<(), NoMemory>
+    pub(crate) fn hit(
+        &mut self,
+        memory: &mut PlainMemory,
+        port: u8,
+        tag: u8,
+    ) -> Result<(), NoMemory>
         requires inside { port < length self.old.queues.items }
         requires next { is_head (queue_at self.old.queues.items port) tag ≡ true }
         ensures slice { (shape : Shape) (log : ℕ) → OnOk result (slice_of self.new ≡ slice_next shape (flat_of memory.old) (slice_of self.old) log (event.Hit port tag)) }
@@ -213,15 +218,13 @@ fn drop_ready(ready: &mut Vec<Ready>, port: u8, tag: u8)
 fn ready_at(ready: &[Ready], port: u8, tag: u8) -> Option<usize>
     ensures { result ≡ position (is_ready_for port tag) ready.now }
 {
-    ready.iter().position(|r| r.port() == port && r.tag() == tag)
+    ready
+        .iter()
+        .position(|r| r.port() == port && r.tag() == tag)
 }
 
 /// The block's targets may have their replies, in the order of acceptance.
-fn add_replies(
-    ready: &mut Vec<Ready>,
-    waiting: &[Held<Missed>],
-    block: u32,
-) -> Result<(), NoMemory>
+fn add_replies(ready: &mut Vec<Ready>, waiting: &[Held<Missed>], block: u32) -> Result<(), NoMemory>
     ensures { OnOk result (ready.new.items ≡ ready.old.items ++ map reply_of (targets_of waiting.now block)) }
 {
     for held in waiting {

@@ -98,7 +98,13 @@ impl PlainSlice {
         None
     }
 
-    pub(crate) fn judge_primary(&self, shape: &Shape, port: u8, tag: u8, register: u16) -> Option<Rule>
+    pub(crate) fn judge_primary(
+        &self,
+        shape: &Shape,
+        port: u8,
+        tag: u8,
+        register: u16,
+    ) -> Option<Rule>
         requires { IsFramed shape.now self.now }
         ensures { (busy : ℕ → Option ℕ) (log bank : ℕ) → result ≡ first_failing OfBoth (rules_of shape.now true busy (slice_of self.now) log bank (event.Primary port tag register)) }
     {
@@ -125,7 +131,13 @@ impl PlainSlice {
         None
     }
 
-    pub(crate) fn judge_merge(&self, shape: &Shape, port: u8, tag: u8, register: u16) -> Option<Rule>
+    pub(crate) fn judge_merge(
+        &self,
+        shape: &Shape,
+        port: u8,
+        tag: u8,
+        register: u16,
+    ) -> Option<Rule>
         requires { IsFramed shape.now self.now }
         ensures { (busy : ℕ → Option ℕ) (log bank : ℕ) → result ≡ first_failing OfBoth (rules_of shape.now true busy (slice_of self.now) log bank (event.Merge port tag register)) }
     {
@@ -142,7 +154,13 @@ impl PlainSlice {
         if register >= registers_of(organisation, destinations(shape)) {
             return Some(Rule::RegisterRange);
         }
-        if !right_for_merge(organisation, &self.waiting, request.block(), destination, register) {
+        if !right_for_merge(
+            organisation,
+            &self.waiting,
+            request.block(),
+            destination,
+            register,
+        ) {
             return Some(Rule::WrongRegister);
         }
         if !takes(organisation, &self.waiting, register, word) {
@@ -189,7 +207,13 @@ impl PlainSlice {
     }
 
     /// `agrees` says whether the bytes are those of memory under the mask.
-    pub(crate) fn judge_evict1(&self, shape: &Shape, agrees: bool, block: u32, mask: Mask) -> Option<Rule>
+    pub(crate) fn judge_evict1(
+        &self,
+        shape: &Shape,
+        agrees: bool,
+        block: u32,
+        mask: Mask,
+    ) -> Option<Rule>
         requires { IsFramed shape.now self.now }
         ensures { (busy : ℕ → Option ℕ) (log bank : ℕ) (bytes : ArrayVec ℕ) → result ≡ first_failing OfBoth (rules_of shape.now agrees busy (slice_of self.now) log bank (event.Evict1 block mask bytes)) }
     {
@@ -215,7 +239,12 @@ impl PlainSlice {
         None
     }
 
-    pub(crate) fn judge_second_primary(&self, shape: &Shape, block: u32, register: u16) -> Option<Rule>
+    pub(crate) fn judge_second_primary(
+        &self,
+        shape: &Shape,
+        block: u32,
+        register: u16,
+    ) -> Option<Rule>
         requires { IsFramed shape.now self.now }
         ensures { (busy : ℕ → Option ℕ) (log bank : ℕ) → result ≡ first_failing OfBoth (rules_of shape.now true busy (slice_of self.now) log bank (event.SecondPrimary block register)) }
     {
@@ -233,7 +262,11 @@ impl PlainSlice {
         if register >= registers_of(organisation, destinations2(shape)) {
             return Some(Rule::RegisterRange);
         }
-        if !right_for_primary(organisation, u32::from(self.asked_register(block)), register) {
+        if !right_for_primary(
+            organisation,
+            u32::from(self.asked_register(block)),
+            register,
+        ) {
             return Some(Rule::WrongRegister);
         }
         if !is_free(&self.regs2, register) {
@@ -280,7 +313,13 @@ impl PlainSlice {
     }
 
     /// `agrees` as for an eviction of level one.
-    pub(crate) fn judge_evict2(&self, shape: &Shape, agrees: bool, block: u32, mask: Mask) -> Option<Rule>
+    pub(crate) fn judge_evict2(
+        &self,
+        shape: &Shape,
+        agrees: bool,
+        block: u32,
+        mask: Mask,
+    ) -> Option<Rule>
         requires { IsFramed shape.now self.now }
         ensures { (busy : ℕ → Option ℕ) (log bank : ℕ) (bytes : ArrayVec ℕ) → result ≡ first_failing OfBoth (rules_of shape.now agrees busy (slice_of self.now) log bank (event.Evict2 block mask bytes)) }
     {

@@ -4,9 +4,8 @@ ghost use Rattle.std.specs.Prelude.{◌≡◌, ◌<◌};
 ghost use Rattle.lf_model.specs.Address.{set_of};
 ghost use Rattle.lf_model.specs.Lines.{dirty_mask, has_line, has_way, without_line};
 
-use std::collections::BTreeMap;
-
 use crate::shape::{Level, Shape};
+use std::collections::BTreeMap;
 
 pub(crate) type LineMap = BTreeMap<u32, u64>;
 

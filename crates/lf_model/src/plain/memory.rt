@@ -11,12 +11,11 @@ ghost use Rattle.lf_model.specs.Plain.{flat_of, put, IsSound};
 
 use crate::event::{Block, Memory, Op};
 use crate::outcome::NoMemory;
+use crate::plain::registers::Held;
+use crate::plain::request::{Data, Missed, Request};
 use std::alloc::Global;
 use std::collections::BTreeMap;
 use std::marker::Model;
-
-use crate::plain::registers::Held;
-use crate::plain::request::{Data, Missed, Request};
 
 /// The bytes of a block, and zeros behind them.
 type Bytes = [u8; 64];

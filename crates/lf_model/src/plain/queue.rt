@@ -6,11 +6,10 @@ ghost use Rattle.lf_model.specs.Table.{is_head, oldest};
 ghost use Rattle.lf_model.specs.Plain.{queue_at};
 
 use crate::outcome::NoMemory;
+use crate::plain::request::Request;
 use std::alloc::Global;
 use std::collections::VecDeque;
 use std::marker::Model;
-
-use crate::plain::request::Request;
 
 #[derive(Drop)]
 pub(crate) struct Queue {
@@ -40,7 +39,11 @@ impl Queue {
         ensures { MatchOption result (is_head self.now tag ≡ false) (λ request. (is_head self.now tag ≡ true) × (request.now ≡ oldest self.now)) }
     {
         let request = self.requests.front()?;
-        if request.tag() == tag { Some(request) } else { None }
+        if request.tag() == tag {
+            Some(request)
+        } else {
+            None
+        }
     }
 
     pub(crate) fn push(&mut self, request: Request) -> Result<(), NoMemory>

@@ -6,10 +6,9 @@ ghost use Rattle.lf_model.specs.Registers as model;
 ghost use Rattle.lf_model.specs.Table.{position, only_position, store_bytes, store_mask};
 ghost use Rattle.lf_model.specs.Registers.{holds, is_free, holds_in, registers_of, right_for_primary, right_for_merge, takes, has_room, released};
 
+use crate::plain::request::Missed;
 use crate::shape::OrgShape;
 use std::marker::Model;
-
-use crate::plain::request::Missed;
 
 /// A register's block, and one target of it.
 #[derive(Drop)]
@@ -109,12 +108,16 @@ fn targets_in<T>(held: &[Held<T>], register: u32) -> usize
 fn is_field_used<T: Target>(held: &[Held<T>], register: u32, at: u32) -> bool
     ensures { result ≡ list_any (λ h. h.register == register && T.position h.target == at) held.now }
 {
-    held.iter()
-        .any(|h| h.register() == register && h.target().position() == at)
+    held.iter().any(|h| h.register() == register && h.target().position() == at)
 }
 
 /// Whether a further target at this position has a place in the register.
-pub(crate) fn takes<T: Target>(organisation: OrgShape, held: &[Held<T>], register: u32, at: u32) -> bool
+pub(crate) fn takes<T: Target>(
+    organisation: OrgShape,
+    held: &[Held<T>],
+    register: u32,
+    at: u32,
+) -> bool
     ensures { result ≡ takes organisation T.position held.now register at }
 {
     match organisation {

@@ -8,9 +8,9 @@ ghost use Rattle.lf_model.specs.Table.{position, request_of, store_mask};
 ghost use Rattle.lf_model.specs.State as model;
 ghost use Rattle.lf_model.specs.Plain.{IsSound};
 
-use arrayvec::ArrayVec;
 use crate::event::{Block, Op};
 use crate::shape::Shape;
+use arrayvec::ArrayVec;
 use std::marker::Model;
 
 /// The bytes of a request: what a store writes, or a load's value.
@@ -30,7 +30,6 @@ pub(crate) struct Request {
 
 impl Model for Request {
     ghost use Rattle.lf_model.specs.State as model;
-
     ghost use Rattle.lf_model.specs.Plain.{IsSound};
 
     ghost Value = { model.Request };

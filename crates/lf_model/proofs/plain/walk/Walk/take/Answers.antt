@@ -61,9 +61,9 @@ returns-clause-answer c = λ place order.
     (c.if-item-index.false ∙ c.index.ensures ∙ get_or_default c.args.self.now.next.items c.from-bank.result c.index.result.now 0 inside)
     (sym c.in_ok-rule.ensures.rule ∙ c.in_default-2.is) (c.in_ok-rule.ensures.state c.in_default-2.is)
     ∙ ap (λ (shape : Shape). recheck_from shape (state_of c.step.new.self) (left_of (set c.args.self.now.places.items c.args.log (slice_index c.args.self.now.places.items c.args.log + 1)) (items_of vs))
-        (slice_index (set c.args.self.now.next.items c.from-bank.result (slice_index c.args.self.now.next.items c.from-bank.result + 1))) (place + 1) order) (sym c.in_ok-rule.ensures.shape)
+    (slice_index (set c.args.self.now.next.items c.from-bank.result (slice_index c.args.self.now.next.items c.from-bank.result + 1))) (place + 1) order) (sym c.in_ok-rule.ensures.shape)
     ∙ ap₂ (λ p n. recheck_from c.step.new.self.shape (state_of c.step.new.self) (left_of (set c.args.self.now.places.items c.args.log (p + 1)) (items_of vs))
-        (slice_index (set c.args.self.now.next.items c.from-bank.result (n + 1))) (place + 1) order) (sym at) (sym number)
+    (slice_index (set c.args.self.now.next.items c.from-bank.result (n + 1))) (place + 1) order) (sym at) (sym number)
 
 pub returns-clause-count : goal.returns-clause-count
 returns-clause-count c = λ e.
