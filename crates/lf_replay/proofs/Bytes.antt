@@ -1,5 +1,5 @@
 -- Bytes of a block, and blocks of a memory.
-use Rattle.std.proofs.Common.{◌≡◌, ℕ, ◌+◌, ◌-◌, ◌*◌, ◌^◌, ◌%◌, ◌<◌, ◌≤◌, Bool, true, false, cond, ◌&&◌, ◌||◌, ◌==◌, List, [], ◌∷◌, ◌++◌, Option, Some, replicate, get_or, take, drop, refl, ap, sym, ◌∙◌, ⊎_elim, length, arith, slice_index, map, leb, ltb, drop-cons, subst, zero, suc, append-nil}
+use Rattle.std.proofs.Common.{◌≡◌, ℕ, ◌+◌, ◌-◌, ◌*◌, ◌^◌, ◌%◌, ◌<◌, ◌≤◌, Bool, true, false, cond, ◌&&◌, ◌||◌, ◌==◌, List, [], ◌∷◌, ◌++◌, Option, Some, replicate, get_or, take, drop, refl, ap, sym, ◌∙◌, ⊎_elim, length, arith, slice_index, map, leb, ltb, drop-cons, eqb-true, eq-eqb, ne_eqb, subst, zero, suc, append-nil}
 use mathlib.Core.Path.{fun_ext, ap₂}
 use Rattle.std.specs.Prelude.{unwrap_or, bytes_eq}
 use Rattle.std.specs.Map.{lookup}
@@ -19,7 +19,7 @@ use Rattle.lf_model.specs.declared.event.Op.TheVariants.{Load, Store}
 use Rattle.lf_model.specs.Address.{FlatMemory, flat_memory, is_under, agree_off, masked}
 use Rattle.lf_model.specs.State.{update, Request}
 use Rattle.lf_model.specs.Table.{value_of}
-use Rattle.lf_replay.specs.Bytes.{flat_of, put}
+use Rattle.lf_replay.specs.Bytes.{flat_of, bank_part, put}
 
 pub zeros : (n place : ℕ) → get_or (replicate {A = ℕ} n 0) place 0 ≡ 0
 zeros n place = ⊎_elim (λ lt. get_or-replicate n place 0 0 lt) (λ le. get_or_past (replicate n 0) place 0 (omega (arith, length-replicate {A = ℕ} n 0))) (cases_lt place n)
@@ -152,12 +152,41 @@ padded_is blank bytes zero_there = fun_ext (λ place. go place (leb 0 place) (lt
     go place true true low high = let same : place - 0 ≡ place = omega arith in ap (λ n. get_or bytes n 0) same
     go place true false low high = zero_there place ∙ sym (get_or_past bytes place 0 (omega (arith, ltb-false place (0 + length bytes) high)))
 
-pub memory_more : (m : ℕ × ArrayVec ℕ) (memory : List (ℕ × ArrayVec ℕ)) → update (flat_memory memory) m.0 (slice_index m.1.items) ≡ flat_memory (m ∷ memory)
-memory_more m memory = fun_ext (λ block. fun_ext (λ place. elim (m.0 == block) as (λ b. cond b (slice_index m.1.items) (flat_memory memory block) place ≡ cond b (slice_index m.1.items place) (flat_memory memory block place)) [ true ↦ refl | false ↦ refl ]))
+module _ (banks bank : ℕ) where
+  -- a block of the bank, and one of another
+  part_more : (m : ℕ × ArrayVec ℕ) (memory : List (ℕ × ArrayVec ℕ)) → (m.0 % banks == bank) ≡ true
+      → update (bank_part banks bank (flat_memory memory)) m.0 (slice_index m.1.items) ≡ bank_part banks bank (flat_memory (m ∷ memory))
+  part_more m memory ours = fun_ext (λ block. fun_ext (λ place. go block place (m.0 == block) refl))
+    where
+      go : (block place : ℕ) (b : Bool) → (m.0 == block) ≡ b
+          → cond b (slice_index m.1.items) (bank_part banks bank (flat_memory memory) block) place ≡ cond (block % banks == bank) (cond b (slice_index m.1.items place) (flat_memory memory block place)) 0
+      go block place true e = sym (ap (λ c. cond c (slice_index m.1.items place) 0) (ap (λ k. k % banks == bank) (sym (eqb-true m.0 block e)) ∙ ours))
+      go block place false e = refl
 
-pub memory_step : (memory : List (ℕ × ArrayVec ℕ)) (left : ℕ) (m : ℕ × ArrayVec ℕ) (flat new : FlatMemory) (bytes : ℕ → ℕ) → 0 < left → left ≤ length memory
-    → m ≡ get_or memory (left - 1) m → flat ≡ flat_memory (drop left memory) → bytes ≡ slice_index m.1.items → new ≡ update flat m.0 bytes → new ≡ flat_memory (drop (left - 1) memory)
-memory_step memory left m flat new bytes some within here before same step =
-    let next : suc (left - 1) ≡ left = omega arith in
-    step ∙ ap₂ (λ (f : FlatMemory) (g : ℕ → ℕ). update f m.0 g) before same ∙ memory_more m (drop left memory)
-    ∙ sym (ap flat_memory (drop-cons memory (left - 1) m (omega arith) ∙ ap₂ (λ (a : ℕ × ArrayVec ℕ) k. a ∷ drop k memory) (sym here) next))
+  part_same : (m : ℕ × ArrayVec ℕ) (memory : List (ℕ × ArrayVec ℕ)) → (m.0 % banks == bank) ≡ false → bank_part banks bank (flat_memory memory) ≡ bank_part banks bank (flat_memory (m ∷ memory))
+  part_same m memory other = fun_ext (λ block. fun_ext (λ place. go block place (m.0 == block) refl))
+    where
+      go : (block place : ℕ) (b : Bool) → (m.0 == block) ≡ b
+          → cond (block % banks == bank) (flat_memory memory block place) 0 ≡ cond (block % banks == bank) (cond b (slice_index m.1.items place) (flat_memory memory block place)) 0
+      go block place true e =
+          let none : (block % banks == bank) ≡ false = ap (λ k. k % banks == bank) (sym (eqb-true m.0 block e)) ∙ other in
+          ap (λ c. cond c (flat_memory memory block place) 0) none ∙ sym (ap (λ c. cond c (slice_index m.1.items place) 0) none)
+      go block place false e = refl
+
+  taken_next : (memory : List (ℕ × ArrayVec ℕ)) (left : ℕ) (m : ℕ × ArrayVec ℕ) → 0 < left → left ≤ length memory → m ≡ get_or memory (left - 1) m → m ∷ drop left memory ≡ drop (left - 1) memory
+  taken_next memory left m some within here =
+      let next : suc (left - 1) ≡ left = omega arith in
+      sym (drop-cons memory (left - 1) m (omega arith) ∙ ap₂ (λ (a : ℕ × ArrayVec ℕ) k. a ∷ drop k memory) (sym here) next)
+
+  pub memory_step : (memory : List (ℕ × ArrayVec ℕ)) (left : ℕ) (m : ℕ × ArrayVec ℕ) (flat new : FlatMemory) (bytes : ℕ → ℕ) → 0 < left → left ≤ length memory
+      → m ≡ get_or memory (left - 1) m → flat ≡ bank_part banks bank (flat_memory (drop left memory)) → m.0 % banks ≡ bank → bytes ≡ slice_index m.1.items → new ≡ update flat m.0 bytes
+      → new ≡ bank_part banks bank (flat_memory (drop (left - 1) memory))
+  memory_step memory left m flat new bytes some within here before ours same step =
+      step ∙ ap₂ (λ (f : FlatMemory) (g : ℕ → ℕ). update f m.0 g) before same ∙ part_more m (drop left memory) (eq-eqb (m.0 % banks) bank ours)
+      ∙ ap (λ (ms : List (ℕ × ArrayVec ℕ)). bank_part banks bank (flat_memory ms)) (taken_next memory left m some within here)
+
+  pub memory_passed : (memory : List (ℕ × ArrayVec ℕ)) (left : ℕ) (m : ℕ × ArrayVec ℕ) (flat : FlatMemory) → 0 < left → left ≤ length memory
+      → m ≡ get_or memory (left - 1) m → flat ≡ bank_part banks bank (flat_memory (drop left memory)) → (m.0 % banks ≡ bank → ⊥) → flat ≡ bank_part banks bank (flat_memory (drop (left - 1) memory))
+  memory_passed memory left m flat some within here before other =
+      before ∙ part_same m (drop left memory) (ne_eqb (m.0 % banks) bank other)
+      ∙ ap (λ (ms : List (ℕ × ArrayVec ℕ)). bank_part banks bank (flat_memory ms)) (taken_next memory left m some within here)

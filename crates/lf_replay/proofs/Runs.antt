@@ -1,6 +1,6 @@
 -- Runs of a bank, one record longer.
-use Rattle.std.proofs.Common.{◌≡◌, ℕ, zero, suc, ◌<◌, List, [], ◌∷◌, ◌++◌, length, get_or, take, drop, drop-cons, ◌+◌, Some, None, Result, Ok, Err, refl, sym, ap, ◌∙◌, subst, arith}
-use mathlib.Core.Path.{ap₂}
+use Rattle.std.proofs.Common.{◌≡◌, ℕ, zero, suc, ◌<◌, List, [], ◌∷◌, ◌++◌, length, get_or, take, drop, drop-cons, ◌+◌, Some, None, Result, Ok, Err, refl, sym, ap, ◌∙◌, subst, arith, cond, eq-eqb, ◌%◌}
+use mathlib.Core.Path.{ap₂, fun_ext}
 use Rattle.std.specs.List.{AllByRecursion, range_with_len}
 use Rattle.std.proofs.lemmas.List.{get_or-map, take_more, take-append-drop, length-take-le, length-append, map-append}
 use Rattle.lf_replay.proofs.Bytes.{range_more}
@@ -11,12 +11,17 @@ use Rattle.lf_model.specs.declared.event.Record.{Record}
 use Rattle.lf_model.specs.declared.rule.Rule as model
 use Rattle.lf_model.specs.Address.{FlatMemory}
 use Rattle.lf_model.specs.Numbers.{numbers_of}
-use Rattle.lf_model.specs.Outcomes.{first_local}
+use Rattle.lf_model.specs.Outcomes.{first_local, IsBankOutcome}
 use Rattle.lf_model.specs.State.{Request, Local}
-use Rattle.lf_model.specs.Table.{OfBank, clauses, bank_effect}
+use Rattle.lf_model.specs.Table.{OfBank, clauses, bank_effect, value_at, accepts, replies_at}
 use Rattle.lf_model.specs.Run.{first_failing, IsRunOf, BreaksAt}
 use Rattle.lf_replay.specs.declared.fault.BankFault.{BankFault}
 use Rattle.lf_replay.specs.declared.fault.BankFault.TheVariants.{Rule, NoMemory}
+use Rattle.lf_model.specs.declared.outcome.Outcome.{Outcome}
+use Rattle.lf_model.specs.declared.outcome.Outcome.TheVariants as outcome
+use Rattle.lf_model.proofs.FitFacts.{names_home}
+use Rattle.lf_model.proofs.Locality.{SameBank, IsHome, bank_clauses_same, bank_effect_same, home_after}
+use Rattle.lf_replay.specs.Bytes.{bank_part}
 use Rattle.lf_replay.specs.Faults.{IsBankFault}
 use Rattle.std.specs.Prelude.{OnOk, IfErr}
 use Rattle.lf_replay.specs.Kept.{Kept, local_of}
@@ -119,3 +124,47 @@ order_next shape bank rs k r lt is fits named numbered order =
           ∙ ap₂ (λ (ns : List ℕ) n. ns ++ n ∷ []) (order.numbered ∙ ap (range_with_len 0) long) numbered
           ∙ sym (range_more 0 k k (omega arith)) ∙ ap (range_with_len 0) (sym longer);
     })
+
+-- ---- the bank's part of memory does for its records
+
+module _ (shape : Shape) (bank : ℕ) where
+  home_next : (a : Local) (r : Record) → Fits shape r → IsHome shape r.bank a.slice → IsHome shape r.bank (bank_effect shape a r).slice
+  home_next a r fits home = home_after shape r.bank (value_at a.memory (accepts a.slice r.event)) (replies_at a.slice r.event) a.slice r.log r.event (names_home shape r fits) home
+
+  run_same : (a b : Local) (rs : List Record) → AllByRecursion (Fits shape) rs → AllByRecursion (λ r. r.bank ≡ bank) rs → IsHome shape bank a.slice → SameBank shape bank a b
+      → IsRunOf OfBank shape a rs → IsRunOf OfBank shape b rs
+  run_same a b [] fit named home same run = tt
+  run_same a b (r ∷ rs) fit named home same run =
+      let here : IsHome shape r.bank a.slice = subst (λ (k : ℕ). IsHome shape k a.slice) (sym named.0) home in
+      let alike : SameBank shape r.bank a b = subst (λ (k : ℕ). SameBank shape k a b) (sym named.0) same in (
+        sym (bank_clauses_same shape a b r fit.0 alike) ∙ run.0,
+        run_same (bank_effect shape a r) (bank_effect shape b r) rs fit.1 named.1
+            (subst (λ (k : ℕ). IsHome shape k (bank_effect shape a r).slice) named.0 (home_next a r fit.0 here))
+            (subst (λ (k : ℕ). SameBank shape k (bank_effect shape a r) (bank_effect shape b r)) named.0 (bank_effect_same shape a b r here alike)) run.1,
+      )
+
+  breaks_same : (a b : Local) (rs : List Record) (n : ℕ) (rule : model.Rule) → AllByRecursion (Fits shape) rs → AllByRecursion (λ r. r.bank ≡ bank) rs → IsHome shape bank a.slice → SameBank shape bank a b
+      → BreaksAt OfBank shape a rs n rule → BreaksAt OfBank shape b rs n rule
+  breaks_same a b [] n rule fit named home same breaks = breaks
+  breaks_same a b (r ∷ rs) zero rule fit named home same breaks =
+      let alike : SameBank shape r.bank a b = subst (λ (k : ℕ). SameBank shape k a b) (sym named.0) same in
+      sym (bank_clauses_same shape a b r fit.0 alike) ∙ breaks
+  breaks_same a b (r ∷ rs) (suc n) rule fit named home same breaks =
+      let here : IsHome shape r.bank a.slice = subst (λ (k : ℕ). IsHome shape k a.slice) (sym named.0) home in
+      let alike : SameBank shape r.bank a b = subst (λ (k : ℕ). SameBank shape k a b) (sym named.0) same in (
+        sym (bank_clauses_same shape a b r fit.0 alike) ∙ breaks.0,
+        breaks_same (bank_effect shape a r) (bank_effect shape b r) rs n rule fit.1 named.1
+            (subst (λ (k : ℕ). IsHome shape k (bank_effect shape a r).slice) named.0 (home_next a r fit.0 here))
+            (subst (λ (k : ℕ). SameBank shape k (bank_effect shape a r) (bank_effect shape b r)) named.0 (bank_effect_same shape a b r here alike)) breaks.1,
+      )
+
+  part_does : (memory : FlatMemory) → SameBank shape bank (first_local (bank_part shape.banks bank memory)) (first_local memory)
+  part_does memory = record {
+    slice = refl;
+    memory = λ x ours. fun_ext (λ place. ap (λ b. cond b (memory x place) 0) (eq-eqb (x % shape.banks) bank ours));
+  }
+
+  pub outcome_same : (memory : FlatMemory) (rs : List Record) → IsBankOrder shape bank rs → (told : Outcome) → IsBankOutcome shape (bank_part shape.banks bank memory) rs told → IsBankOutcome shape memory rs told
+  outcome_same memory rs order outcome.Passed run = run_same (first_local (bank_part shape.banks bank memory)) (first_local memory) rs order.fit order.named (λ port. tt) (part_does memory) run
+  outcome_same memory rs order (outcome.Broken n rule) breaks = breaks_same (first_local (bank_part shape.banks bank memory)) (first_local memory) rs n rule order.fit order.named (λ port. tt) (part_does memory) breaks
+  outcome_same memory rs order outcome.NoMemory none = tt

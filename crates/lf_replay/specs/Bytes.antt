@@ -1,5 +1,5 @@
 -- The bytes of a bank's memory.
-use Rattle.std.specs.Prelude.{◌≡◌, ℕ, ◌+◌, ◌-◌, ◌<◌, ◌≤◌, true, ◌&&◌, nat_le, nat_lt, List, [], length, slice_index, unwrap_or, if◌then◌else◌}
+use Rattle.std.specs.Prelude.{◌≡◌, ℕ, ◌+◌, ◌-◌, ◌%◌, ◌==◌, ◌<◌, ◌≤◌, true, ◌&&◌, nat_le, nat_lt, List, [], length, slice_index, unwrap_or, if◌then◌else◌}
 use Rattle.std.specs.Map.{lookup}
 use Rattle.std.specs.BTreeMap.{is_at}
 use Rattle.std.specs.Ordering.{nat_cmp}
@@ -10,6 +10,10 @@ use Rattle.lf_model.specs.Table.{is_store}
 -- the memory that has these bytes at these blocks, and zeros elsewhere
 abbrev pub flat_of : List (ℕ × List ℕ) → FlatMemory
 flat_of blocks block place = slice_index (unwrap_or (lookup (is_at (nat_cmp block)) blocks) []) place
+
+-- the memory on the blocks of one bank, and zeros elsewhere
+abbrev pub bank_part : ℕ → ℕ → FlatMemory → FlatMemory
+bank_part banks bank memory block place = if block % banks == bank then memory block place else 0
 
 -- the bytes with new ones from a place on
 abbrev pub put : (ℕ → ℕ) → ℕ → List ℕ → ℕ → ℕ

@@ -4,6 +4,7 @@ ghost use Rattle.std.specs.Prelude.{◌<◌};
 ghost use Rattle.lf_model.specs.Address.{flat_memory};
 ghost use Rattle.lf_model.specs.InRange.{IsShape};
 ghost use Rattle.lf_model.specs.Outcomes.{IsBankOutcome};
+ghost use Rattle.lf_replay.specs.Bytes.{bank_part};
 ghost use Rattle.lf_replay.specs.Step.{IsBankOrder};
 
 use crate::bank_step::Step;
@@ -25,6 +26,22 @@ pub fn replay(
     requires bank { bank < shape.now.banks }
     requires records { IsBankOrder shape.now bank records.now }
     ensures { IsBankOutcome shape.now (flat_memory memory.now.items) records.now result }
+{
+    replay_part(alloc, shape, memory, bank, records)
+}
+
+/// The same against the bank's blocks of that memory, which are all that its records look at.
+fn replay_part(
+    alloc: Global,
+    shape: &Shape,
+    memory: &Memory,
+    bank: u32,
+    records: &[Record],
+) -> Outcome
+    requires in_range { IsShape shape.now }
+    requires bank { bank < shape.now.banks }
+    requires records { IsBankOrder shape.now bank records.now }
+    ensures { IsBankOutcome shape.now (bank_part shape.now.banks bank (flat_memory memory.now.items)) records.now result }
 {
     let Ok(mut step) = Step::new(alloc, shape, memory, bank) else {
         return Outcome::NoMemory;

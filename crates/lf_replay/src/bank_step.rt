@@ -5,6 +5,7 @@ ghost use Rattle.lf_model.specs.declared.shape.Shape.{Shape};
 ghost use Rattle.lf_model.specs.declared.event.Record.{Record};
 ghost use Rattle.lf_model.specs.Address.{FlatMemory, flat_memory};
 ghost use Rattle.lf_model.specs.InRange.{IsShape};
+ghost use Rattle.lf_replay.specs.Bytes.{bank_part};
 ghost use Rattle.lf_replay.specs.Faults.{IsBankFault};
 ghost use Rattle.lf_replay.specs.Step.{StandsAfter, Takes, IsForStep, IsFaultAfter, broken_rule};
 
@@ -37,14 +38,15 @@ impl Model for Step {
 }
 
 impl Step {
-    /// The bank before its first record, with the memory that the trace names: `shape` is the
+    /// The bank before its first record, with its blocks of the memory that the trace names: no
+    /// record of the bank looks at others. `shape` is the
     /// hierarchy, `bank` a number of its banks. `NoMemory` where a growth was refused.
     pub fn new(alloc: Global, shape: &Shape, memory: &Memory, bank: u32) -> Result<Step, NoMemory>
         requires in_range { IsShape shape.now }
         requires bank { bank < shape.now.banks }
-        ensures { IfOk result (λ step. StandsAfter step shape.now (flat_memory memory.now.items) bank []) }
+        ensures { IfOk result (λ step. StandsAfter step shape.now (bank_part shape.now.banks bank (flat_memory memory.now.items)) bank []) }
     {
-        let state = BankState::new(alloc, shape, memory)?;
+        let state = BankState::new(alloc, shape, memory, bank)?;
         Ok(Step { bank, state })
     }
 

@@ -7,7 +7,7 @@ ghost use Rattle.lf_model.specs.State as model;
 ghost use Rattle.lf_model.specs.Registers as registers;
 ghost use Rattle.lf_model.specs.State.{update};
 ghost use Rattle.lf_model.specs.Table.{value_of, accepted};
-ghost use Rattle.lf_replay.specs.Bytes.{flat_of, put, IsSound};
+ghost use Rattle.lf_replay.specs.Bytes.{flat_of, bank_part, put, IsSound};
 
 use crate::registers::Held;
 use crate::request::{Data, Missed, Request};
@@ -66,9 +66,15 @@ fn part(bytes: &Bytes, offset: usize, size: usize) -> Data
 }
 
 impl FlatMemory {
-    /// The memory that a trace names.
-    pub fn new(alloc: Global, memory: &[(u32, Block)]) -> Result<FlatMemory, NoMemory>
-        ensures { IfOk result (λ flat. flat_of flat ≡ flat_memory memory.now) }
+    /// The bank's blocks of the memory that a trace names.
+    pub fn new(
+        alloc: Global,
+        memory: &[(u32, Block)],
+        banks: u32,
+        bank: u32,
+    ) -> Result<FlatMemory, NoMemory>
+        requires { 0 < banks }
+        ensures { IfOk result (λ flat. flat_of flat ≡ bank_part banks bank (flat_memory memory.now)) }
     {
         let mut flat = FlatMemory {
             blocks: BTreeMap::new(alloc),
@@ -77,7 +83,9 @@ impl FlatMemory {
         while left > 0 {
             left -= 1;
             let (block, bytes) = &memory[left];
-            flat.set(*block, padded(bytes))?;
+            if *block % banks == bank {
+                flat.set(*block, padded(bytes))?;
+            }
         }
         Ok(flat)
     }

@@ -8,6 +8,7 @@ ghost use Rattle.lf_model.specs.InRange.{IsShape};
 ghost use Rattle.lf_model.specs.Outcomes.{first_local};
 ghost use Rattle.lf_model.specs.Lines.{dirty_mask};
 ghost use Rattle.lf_replay.specs.Apart.{EachStands};
+ghost use Rattle.lf_replay.specs.Bytes.{bank_part};
 ghost use Rattle.lf_replay.specs.Kept.{queue_at, local_of, slice_of, IsFramed};
 ghost use Rattle.lf_replay.specs.View.{kept};
 
@@ -53,10 +54,15 @@ fn empty_queues(alloc: Global, ports: u32) -> Result<Vec<Queue>, NoMemory>
 }
 
 impl BankState {
-    /// The opening state, with the memory that a trace names.
-    pub fn new(alloc: Global, shape: &Shape, memory: &[(u32, Block)]) -> Result<BankState, NoMemory>
+    /// The opening state, with the bank's blocks of the memory that a trace names.
+    pub fn new(
+        alloc: Global,
+        shape: &Shape,
+        memory: &[(u32, Block)],
+        bank: u32,
+    ) -> Result<BankState, NoMemory>
         requires { IsShape shape.now }
-        ensures opening { IfOk result (λ state. local_of (kept state) ≡ first_local (flat_memory memory.now)) }
+        ensures opening { IfOk result (λ state. local_of (kept state) ≡ first_local (bank_part shape.now.banks bank (flat_memory memory.now))) }
         ensures framed { IfOk result (λ state. IsFramed (kept state)) }
         ensures stands { IfOk result (λ state. EachStands (slice_of (kept state))) }
         ensures shape { IfOk result (λ state. state.shape ≡ shape.now) }
@@ -65,7 +71,7 @@ impl BankState {
         let level2 = shape.level2;
         Ok(BankState {
             shape: *shape,
-            memory: FlatMemory::new(alloc, memory)?,
+            memory: FlatMemory::new(alloc, memory, shape.banks, bank)?,
             queues: empty_queues(alloc, shape.ports)?,
             lines1: Lines::new(alloc, level1.sets, level1.ways, shape.banks)?,
             lines2: Lines::new(alloc, level2.sets, level2.ways, shape.banks)?,
