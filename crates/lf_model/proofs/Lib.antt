@@ -21,3 +21,10 @@ pub mod Numbered
 pub mod Orders
 pub mod MaskBits
 pub mod RingExamples
+pub mod Bytes
+pub mod Finds
+pub mod BusyTags
+pub mod PlainSteps
+pub mod Walks
+pub mod PlainStart
+pub mod Rechecks

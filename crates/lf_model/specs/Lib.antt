@@ -7,6 +7,8 @@ pub mod Table
 pub mod Run
 pub mod Order
 pub mod Examples
+pub mod Plain
+pub mod Recheck
 pub mod History
 pub mod Sharing
 pub mod Copies

@@ -5,6 +5,7 @@ ghost use Rattle.lf_model.specs.Laws.{CopyRunsAreRuns, RunsAnswerOnce, RunsAreFl
 ghost use Rattle.lf_model.specs.Numbers.{GapsAdmitNone, InterleavingsAreNumbered, InterleavingsFit, NumberedIsOne, NumberedIsWhole};
 ghost use Rattle.lf_model.specs.Order.{EntriesKeepAlike, LogsFollow, OrdersInterleave, OrdersTakeOne, SkeletonsFollow};
 ghost use Rattle.lf_model.specs.Outcomes.{OutcomesAreOne, RunsOrBreaks};
+ghost use Rattle.lf_model.specs.Recheck.{RechecksAreOne};
 ghost use Rattle.lf_model.specs.Ring.{RingsAdmitNone};
 ghost use Rattle.lf_model.specs.Run.{RunsByParts};
 
@@ -72,4 +73,9 @@ pub fn skeletons_follow()
     ensures skeletons { SkeletonsFollow }
     ensures logs { LogsFollow }
     ensures numbers { EntriesKeepAlike }
+{}
+
+/// To an order of the logs there is one answer of `recheck`.
+pub fn rechecks_are_one()
+    ensures { RechecksAreOne }
 {}

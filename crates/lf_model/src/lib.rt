@@ -10,6 +10,7 @@ mod fitting;
 mod laws;
 mod mask;
 mod outcome;
+mod plain;
 mod ring;
 mod rule;
 mod shape;
@@ -20,11 +21,12 @@ pub use event::{Block, Event, Logs, Memory, Op, Record};
 pub use fitting::fits;
 pub use laws::{
     collected_logs_are_free, copies_are_flat, gaps_admit_none, interleavings_are_numbered,
-    numbers_are_whole, orders_interleave, outcomes_are_one, rings_admit_none, runs_are_right,
-    runs_by_parts, skeletons_follow,
+    numbers_are_whole, orders_interleave, outcomes_are_one, rechecks_are_one, rings_admit_none,
+    runs_are_right, runs_by_parts, skeletons_follow,
 };
 pub use mask::{Mask, agree_off, overlay};
-pub use outcome::{NoMemory, Outcome};
+pub use outcome::{NoMemory, Outcome, Recheck};
+pub use plain::recheck;
 pub use ring::{Knot, Ring, Skeleton};
 pub use rule::Rule;
 pub use shape::{Level, OrgShape, Shape};

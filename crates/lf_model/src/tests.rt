@@ -1,8 +1,17 @@
-//! Calls of masks and of `fits`, with answers worked out by hand.
+//! Calls of masks, of `fits` and of `recheck`, with answers worked out by hand.
 
-ghost use Rattle.std.specs.Prelude.{◌≡◌, ◌≤◌, length};
+ghost use Rattle.std.specs.Prelude.{◌≡◌, ◌≤◌, ◌^◌, IsTrue, length};
+ghost use Rattle.std.specs.List.{All};
+ghost use Rattle.lf_model.specs.Fits.{Fits};
+ghost use Rattle.lf_model.specs.InRange.{IsShape};
+ghost use Rattle.lf_model.specs.Recheck.{lists_of};
+ghost use Rattle.lf_model.specs.Run.{NameTheirLogs};
 
-use crate::{Block, Event, Mask, Op, Record, agree_off, fits, overlay};
+use crate::{
+    Block, Event, Level, Logs, Mask, Memory, Op, OrgShape, Recheck, Record, Rule, Shape, agree_off,
+    fits, overlay, recheck,
+};
+use std::alloc::{AllocError, Global};
 
 fn block_of(first: u8, second: u8, third: u8) -> Block
     ensures { length result.items ≡ 3 }
@@ -57,4 +66,149 @@ fn records_that_fit(rt: HostRuntime) {
     assert!(rt; fits(1, 1, 8, &item));
     assert!(rt; !fits(1, 2, 8, &item));
     assert!(rt; fits(1, 2, 16, &item));
+}
+
+/// One port, one bank, blocks of eight bytes, one explicit register per level.
+fn c1() -> Shape
+    ensures { IsShape result }
+{
+    Shape {
+        ports: 1,
+        banks: 1,
+        block: 8,
+        tags: 4,
+        level1: Level {
+            sets: 1,
+            ways: 1,
+            organisation: OrgShape::Explicit {
+                registers: 1,
+                entries: 2,
+            },
+        },
+        level2: Level {
+            sets: 1,
+            ways: 2,
+            organisation: OrgShape::Explicit {
+                registers: 1,
+                entries: 1,
+            },
+        },
+    }
+}
+
+fn eight(first: u8) -> Block {
+    let mut block = Block::new();
+    block.push(first);
+    for _ in 0..7 {
+        let _ = block.try_push(0);
+    }
+    block
+}
+
+fn event_of(log: u8, number: u32, event: Event) -> Record {
+    Record {
+        log,
+        bank: 0,
+        number,
+        event,
+    }
+}
+
+/// A load that misses both levels; its reply begins with this byte.
+fn load_misses_both_levels(alloc: Global, first: u8) -> Result<Logs, AllocError> {
+    let issue = Event::Issue {
+        op: Op::Load,
+        tag: 0,
+        size: 8,
+        address: 0,
+        bytes: Block::new(),
+    };
+    let primary = Event::Primary {
+        port: 0,
+        tag: 0,
+        register: 0,
+    };
+    let second = Event::SecondPrimary {
+        block: 0,
+        register: 0,
+    };
+    let reply = Event::Reply {
+        tag: 0,
+        size: 8,
+        bytes: eight(first),
+    };
+    let mut port = Vec::new(alloc);
+    port.push(event_of(0, 0, issue))?;
+    port.push(event_of(0, 5, reply))?;
+    let mut bank = Vec::new(alloc);
+    bank.push(event_of(1, 1, primary))?;
+    bank.push(event_of(1, 2, second))?;
+    bank.push(event_of(
+        1,
+        3,
+        Event::Fill2 {
+            block: 0,
+            bytes: eight(0),
+        },
+    ))?;
+    bank.push(event_of(
+        1,
+        4,
+        Event::Fill1 {
+            block: 0,
+            bytes: eight(0),
+        },
+    ))?;
+    let mut logs = Vec::new(alloc);
+    logs.push(port)?;
+    logs.push(bank)?;
+    Ok(logs)
+}
+
+fn log_is_sound(shape: &Shape, log: usize, records: &[Record]) -> bool
+    requires { IsShape shape.now }
+    ensures fits { IsTrue result → All (Fits shape.now) records.now }
+    ensures named { IsTrue result → All (λ r. r.log ≡ log) records.now }
+{
+    for item in records {
+        if usize::from(item.log) != log || !fits(shape.ports, shape.banks, shape.block, item) {
+            return false;
+        }
+    }
+    true
+}
+
+fn are_sound(shape: &Shape, logs: &Logs) -> bool
+    requires { IsShape shape.now }
+    ensures few { IsTrue result → length logs.now.items ≤ 32 }
+    ensures short { IsTrue result → All (λ log. length log.items ≤ 2 ^ 20) logs.now.items }
+    ensures named { IsTrue result → NameTheirLogs (lists_of logs.now) }
+    ensures fits { IsTrue result → All (λ log. All (Fits shape.now) log.items) logs.now.items }
+{
+    for (number, log) in logs.iter().enumerate() {
+        if log.len() > 1 << 20 || !log_is_sound(shape, number, log) {
+            return false;
+        }
+    }
+    logs.len() <= 32
+}
+
+#[test]
+fn recheck_orders(rt: HostRuntime) -> Result<(), AllocError> {
+    let alloc = rt.alloc();
+    let shape = c1();
+    let memory: Memory = Vec::new(alloc);
+    let logs = load_misses_both_levels(alloc, 0)?;
+    let wrong = load_misses_both_levels(alloc, 1)?;
+    assert!(rt; are_sound(&shape, &logs));
+    assert!(rt; are_sound(&shape, &wrong));
+    let answer = recheck(alloc, &shape, &memory, &logs, &[0, 1, 1, 1, 1, 0]);
+    assert!(rt; answer == Ok(Recheck::Accepted));
+    let answer = recheck(alloc, &shape, &memory, &logs, &[1, 0, 1, 1, 1, 0]);
+    assert!(rt; answer == Ok(Recheck::NotAnOrder(0)));
+    let answer = recheck(alloc, &shape, &memory, &logs, &[0, 1]);
+    assert!(rt; answer == Ok(Recheck::NotAnOrder(2)));
+    let answer = recheck(alloc, &shape, &memory, &wrong, &[0, 1, 1, 1, 1, 0]);
+    assert!(rt; answer == Ok(Recheck::Broken(5, Rule::ReplyData)));
+    Ok(())
 }

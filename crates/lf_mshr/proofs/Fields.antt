@@ -1,10 +1,11 @@
 -- Each register has at most one target at each position.
-use Rattle.std.proofs.Common.{◌≡◌, ◌≢◌, ℕ, ◌*◌, ◌<◌, ◌≤◌, Bool, true, false, ◌&&◌, ◌==◌, List, [], ◌∷◌, ◌++◌, length, subst, arith, ne_eqb, eqb-true, inl, inr}
+use Rattle.std.proofs.Common.{◌≡◌, ◌≢◌, ℕ, ◌*◌, ◌<◌, ◌≤◌, Bool, true, false, not, ap, ◌&&◌, ◌==◌, List, [], ◌∷◌, ◌++◌, length, subst, arith, ne_eqb, eqb-true, inl, inr}
 use Rattle.std.specs.Prelude.{count_by, filter}
 use Rattle.std.specs.List.{list_any}
 use Rattle.std.proofs.lemmas.Bool.{cases_Bool, and_parts, not-true}
 use Rattle.std.proofs.lemmas.List.Sums.{length-filter}
-use Rattle.lf_model.specs.Registers.{Held, is_free}
+use Rattle.lf_model.specs.Registers.{Held, is_free, takes}
+use Rattle.lf_model.specs.declared.shape.OrgShape.TheVariants.{Implicit}
 use Rattle.lf_mshr.specs.Bounds.{IsBelow, IsWithin, HasFields}
 use Rattle.lf_mshr.proofs.Counts.{count_push_yes, count_push_no, count_filter_le, count-filter, none_passes, none_both, none-counted}
 use Rattle.lf_mshr.proofs.Bounds.{length_by_keys}
@@ -21,14 +22,16 @@ module _ {T : Type 0} (registers : ℕ) (held : List (Held T)) (below : IsBelow 
   IsBelow-filter q r above = let less = count_filter_le (λ h. h.register == r) q held in let was = below r above in omega (arith, less, was)
 
 module _ {T : Type 0} (position : T → ℕ) (held : List (Held T)) where
-  pub free_fields : (register at : ℕ) → is_free held register ≡ true → list_any (λ h. h.register == register && position h.target == at) held ≡ false
-  free_fields register at free =
-      none_both (λ h. h.register == register) (λ h. position h.target == at) held (not-true (list_any (λ h. h.register == register) held) free)
+  -- a free register has each of its fields
+  pub takes-from_is_free : (registers register at : ℕ) → is_free held register ≡ true → takes (Implicit registers) position held register at ≡ true
+  takes-from_is_free registers register at free =
+      ap not (none_both (λ h. h.register == register) (λ h. position h.target == at) held (not-true (list_any (λ h. h.register == register) held) free))
 
-  pub HasFields-push : HasFields position held → (h : Held T) → list_any (λ g. g.register == h.register && position g.target == position h.target) held ≡ false → HasFields position (held ++ h ∷ [])
-  HasFields-push fields h free register at =
+  pub HasFields-push : (registers : ℕ) → HasFields position held → (h : Held T) → takes (Implicit registers) position held h.register (position h.target) ≡ true → HasFields position (held ++ h ∷ [])
+  HasFields-push registers fields h room register at =
       (elim (cases_Bool (h.register == register && position h.target == at)) [
         | inl e ↦
+            let free = not-true (list_any (λ g. g.register == h.register && position g.target == position h.target) held) room in
             let parts = and_parts (h.register == register) (position h.target == at) e in
             let was : count_by (λ g. g.register == register && position g.target == at) held ≡ 0 =
             none_passes (λ g. g.register == register && position g.target == at) held

@@ -1,8 +1,9 @@
 //! Explicitly addressed files: registers with entries of their own offsets.
 
-ghost use Rattle.std.specs.Prelude.{◌≡◌, ◌⊎◌, ◌*◌, ◌<◌, ◌≤◌, ◌++◌, ◌∷◌, [], vec_capacity, count_by, ◌==◌, ◌&&◌, nat_lt, true, false, if◌then◌else◌};
+ghost use Rattle.std.specs.Prelude.{◌≡◌, ◌⊎◌, ◌*◌, ◌<◌, ◌≤◌, ◌++◌, ◌∷◌, [], vec_capacity, count_by, ◌==◌, ◌&&◌, nat_lt, true, false, ℕ};
 ghost use Rattle.std.specs.List.{list_any, range_with_len};
-ghost use Rattle.lf_model.specs.Registers.{holds, holds_in, is_free};
+ghost use Rattle.lf_model.specs.Registers.{holds, holds_in, has_room};
+ghost use Rattle.lf_model.specs.declared.shape.OrgShape.TheVariants as shape;
 ghost use Rattle.lf_model.specs.Sharing.{HoldsOnce};
 ghost use Rattle.lf_mshr.specs.Bounds.{IsWithin};
 ghost use Rattle.lf_mshr.specs.RegisterFile.{held_item};
@@ -50,7 +51,7 @@ impl<T: Target> ExplicitFile<T> {
 
     /// Whether a register takes a target of the block.
     fn has_room(&self, block: u32) -> bool
-        ensures { result ≡ (if holds self.now.held.items block then list_any (λ r. holds_in self.now.held.items r block && nat_lt (count_by (λ h. h.register == r) self.now.held.items) self.now.entries) (range_with_len 0 self.now.registers) else list_any (is_free self.now.held.items) (range_with_len 0 self.now.registers)) }
+        ensures { (destination at : ℕ) → result ≡ has_room (shape.Explicit self.now.registers self.now.entries) self.now.destinations T.position self.now.held.items block destination at }
     {
         if holds(&self.held, block) {
             self.some_takes(block)

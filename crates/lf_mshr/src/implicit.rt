@@ -1,8 +1,9 @@
 //! Implicitly addressed files: registers with a field for each position in a block.
 
-ghost use Rattle.std.specs.Prelude.{◌≡◌, ◌⊎◌, ◌*◌, ◌<◌, ◌≤◌, ◌++◌, ◌∷◌, [], vec_capacity, ◌==◌, ◌&&◌, not, true, false, if◌then◌else◌};
+ghost use Rattle.std.specs.Prelude.{◌≡◌, ◌⊎◌, ◌*◌, ◌<◌, ◌≤◌, ◌++◌, ◌∷◌, [], vec_capacity, ◌==◌, ◌&&◌, true, false, ℕ};
 ghost use Rattle.std.specs.List.{list_any, range_with_len};
-ghost use Rattle.lf_model.specs.Registers.{holds, holds_in, is_free};
+ghost use Rattle.lf_model.specs.Registers.{holds, holds_in, takes, has_room};
+ghost use Rattle.lf_model.specs.declared.shape.OrgShape.TheVariants as shape;
 ghost use Rattle.lf_model.specs.Sharing.{HoldsOnce};
 ghost use Rattle.lf_mshr.specs.Bounds.{IsBelow, HasFields};
 ghost use Rattle.lf_mshr.specs.RegisterFile.{held_item};
@@ -36,17 +37,23 @@ pub struct ImplicitFile<T: Target> {
 }
 
 impl<T: Target> ImplicitFile<T> {
+    /// Whether the register's field at this position is not in use.
+    fn has_field(&self, register: u32, at: u8) -> bool
+        ensures { result ≡ takes (shape.Implicit self.now.registers) T.position self.now.held.items register at }
+    {
+        !is_field_used(&self.held, register, at)
+    }
+
     /// Whether the register that holds the block has its field at this position left.
     fn some_takes(&self, block: u32, at: u8) -> bool
-        ensures { result ≡ list_any (λ r. holds_in self.now.held.items r block && not (list_any (λ h. h.register == r && T.position h.target == at) self.now.held.items)) (range_with_len 0 self.now.registers) }
+        ensures { result ≡ list_any (λ r. holds_in self.now.held.items r block && takes (shape.Implicit self.now.registers) T.position self.now.held.items r at) (range_with_len 0 self.now.registers) }
     {
-        (0..self.registers).any(|r| holds_in(&self.held, r, block)
-            && !is_field_used(&self.held, r, at))
+        (0..self.registers).any(|r| holds_in(&self.held, r, block) && self.has_field(r, at))
     }
 
     /// Whether a register takes a target of the block at this position.
     fn has_room(&self, block: u32, at: u8) -> bool
-        ensures { result ≡ (if holds self.now.held.items block then list_any (λ r. holds_in self.now.held.items r block && not (list_any (λ h. h.register == r && T.position h.target == at) self.now.held.items)) (range_with_len 0 self.now.registers) else list_any (is_free self.now.held.items) (range_with_len 0 self.now.registers)) }
+        ensures { (destination : ℕ) → result ≡ has_room (shape.Implicit self.now.registers) self.now.destinations T.position self.now.held.items block destination at }
     {
         if holds(&self.held, block) {
             self.some_takes(block, at)
@@ -58,7 +65,7 @@ impl<T: Target> ImplicitFile<T> {
     /// Appends a target of a register that has its field left, and that no other shares the block with.
     fn place(&mut self, register: u16, block: u32, target: T)
         requires exists { register < self.old.registers }
-        requires field { list_any (λ h. h.register == register && T.position h.target == T.position target) self.old.held.items ≡ false }
+        requires field { takes (shape.Implicit self.old.registers) T.position self.old.held.items register (T.position target) ≡ true }
         requires apart { (holds self.old.held.items block ≡ false) ⊎ (holds_in self.old.held.items register block ≡ true) }
         ensures items { self.new.held.items ≡ self.old.held.items ++ held_item register block target ∷ [] }
         ensures registers { self.new.registers ≡ self.old.registers }
@@ -149,7 +156,7 @@ impl<T: Target> Organisation for Implicit<T> {
         if !holds_in(&file.held, u32::from(register), block) {
             return Err(RegisterFault::Wrong);
         }
-        if is_field_used(&file.held, u32::from(register), target.position()) {
+        if !file.has_field(u32::from(register), target.position()) {
             return Err(RegisterFault::Full);
         }
         file.place(register, block, target);

@@ -1,5 +1,5 @@
 -- Each event keeps where the blocks of a bank stand.
-use Rattle.std.proofs.Common.{◌≡◌, ℕ, Bool, true, false, cond, not, ◌&&◌, ◌==◌, List, [], ◌∷◌, Some, None, refl, sym, ap, ◌∙◌, eqb-true}
+use Rattle.std.proofs.Common.{◌≡◌, ℕ, Bool, true, false, cond, not, ◌&&◌, ◌||◌, ◌==◌, List, [], ◌∷◌, Some, None, refl, sym, ap, ◌∙◌, eqb-true}
 use Rattle.std.proofs.lemmas.Bool.{both_ways}
 use Rattle.lf_model.specs.declared.shape.Shape.{Shape}
 use Rattle.lf_model.specs.declared.event.Record.{Record}
@@ -39,283 +39,66 @@ bank_holds (c ∷ cs) e = go (judges OfBank c.side) (bank_holds cs) e
 no_way : {A : Type 0} → ◌≡◌ {A = Bool} false true → A
 no_way e = absurd (both_ways true (sym e) refl)
 
+is_not : (b : Bool) → not b ≡ true → b ≡ false
+is_not true e = no_way e
+is_not false e = refl
+
+left_true : (a b : Bool) → (a && b) ≡ true → a ≡ true
+left_true true b e = refl
+left_true false b e = no_way e
+
+right_true : (a b : Bool) → (a && b) ≡ true → b ≡ true
+right_true true b e = e
+right_true false b e = no_way e
+
+implied : (b c : Bool) → (not b || c) ≡ true → b ≡ true → c ≡ true
+implied true c e p = e
+implied false c e p = no_way p
+
+-- what computes to true at each of so many Booleans
+every : (p : Bool → Bool) → (p true && p false) ≡ true → (b : Bool) → p b ≡ true
+every p e true = left_true (p true) (p false) e
+every p e false = right_true (p true) (p false) e
+
+every2 : (p : Bool → Bool → Bool) → ((p true true && p true false) && (p false true && p false false)) ≡ true → (a b : Bool) → p a b ≡ true
+every2 p e a b = every (p a) (every (λ a. p a true && p a false) e a) b
+
+abbrev pub all2 : (Bool → Bool → Bool) → Bool
+all2 p = (p true true && p true false) && (p false true && p false false)
+
+every4 : (p : Bool → Bool → Bool → Bool → Bool) → all2 (λ a b. all2 (p a b)) ≡ true → (a b c d : Bool) → p a b c d ≡ true
+every4 p e a b c d = every2 (p a b) (every2 (λ a b. all2 (p a b)) e a b) c d
+
+every5 : (p : Bool → Bool → Bool → Bool → Bool → Bool) → (all2 (λ a b. all2 (p true a b)) && all2 (λ a b. all2 (p false a b))) ≡ true → (a b c d f : Bool) → p a b c d f ≡ true
+every5 p e a b c d f = every4 (p a) (every (λ a. all2 (λ b c. all2 (p a b c))) e a) b c d f
+
 primary_here : (a f s l2 : Bool) → stands a f s false false l2 ≡ true → stands true f s true false l2 ≡ true
-primary_here false false false false e = refl
-primary_here false false false true e = refl
-primary_here false false true false e = no_way e
-primary_here false false true true e = no_way e
-primary_here false true false false e = no_way e
-primary_here false true false true e = no_way e
-primary_here false true true false e = no_way e
-primary_here false true true true e = no_way e
-primary_here true false false false e = no_way e
-primary_here true false false true e = no_way e
-primary_here true false true false e = no_way e
-primary_here true false true true e = no_way e
-primary_here true true false false e = no_way e
-primary_here true true false true e = no_way e
-primary_here true true true false e = no_way e
-primary_here true true true true e = no_way e
+primary_here a f s l2 e =
+    implied _ _ (every4 (λ a f s l2. not (stands a f s false false l2) || stands true f s true false l2) refl a f s l2) e
 
 fill1_here : (a f w l1 l2 : Bool) → stands a f true w l1 l2 ≡ true → stands a f false false true l2 ≡ true
-fill1_here false false false false false e = no_way e
-fill1_here false false false false true e = no_way e
-fill1_here false false false true false e = no_way e
-fill1_here false false false true true e = no_way e
-fill1_here false false true false false e = no_way e
-fill1_here false false true false true e = refl
-fill1_here false false true true false e = no_way e
-fill1_here false false true true true e = no_way e
-fill1_here false true false false false e = no_way e
-fill1_here false true false false true e = no_way e
-fill1_here false true false true false e = no_way e
-fill1_here false true false true true e = no_way e
-fill1_here false true true false false e = no_way e
-fill1_here false true true false true e = no_way e
-fill1_here false true true true false e = no_way e
-fill1_here false true true true true e = no_way e
-fill1_here true false false false false e = no_way e
-fill1_here true false false false true e = no_way e
-fill1_here true false false true false e = no_way e
-fill1_here true false false true true e = no_way e
-fill1_here true false true false false e = no_way e
-fill1_here true false true false true e = no_way e
-fill1_here true false true true false e = no_way e
-fill1_here true false true true true e = no_way e
-fill1_here true true false false false e = no_way e
-fill1_here true true false false true e = no_way e
-fill1_here true true false true false e = no_way e
-fill1_here true true false true true e = no_way e
-fill1_here true true true false false e = no_way e
-fill1_here true true true false true e = no_way e
-fill1_here true true true true false e = no_way e
-fill1_here true true true true true e = no_way e
+fill1_here a f w l1 l2 e =
+    implied _ _ (every5 (λ a f w l1 l2. not (stands a f true w l1 l2) || stands a f false false true l2) refl a f w l1 l2) e
 
 evict1_here : (a f s w l2 : Bool) → stands a f s w true l2 ≡ true → stands a f s w false true ≡ true
-evict1_here false false false false false e = no_way e
-evict1_here false false false false true e = refl
-evict1_here false false false true false e = no_way e
-evict1_here false false false true true e = no_way e
-evict1_here false false true false false e = no_way e
-evict1_here false false true false true e = no_way e
-evict1_here false false true true false e = no_way e
-evict1_here false false true true true e = no_way e
-evict1_here false true false false false e = no_way e
-evict1_here false true false false true e = no_way e
-evict1_here false true false true false e = no_way e
-evict1_here false true false true true e = no_way e
-evict1_here false true true false false e = no_way e
-evict1_here false true true false true e = no_way e
-evict1_here false true true true false e = no_way e
-evict1_here false true true true true e = no_way e
-evict1_here true false false false false e = no_way e
-evict1_here true false false false true e = no_way e
-evict1_here true false false true false e = no_way e
-evict1_here true false false true true e = no_way e
-evict1_here true false true false false e = no_way e
-evict1_here true false true false true e = no_way e
-evict1_here true false true true false e = no_way e
-evict1_here true false true true true e = no_way e
-evict1_here true true false false false e = no_way e
-evict1_here true true false false true e = no_way e
-evict1_here true true false true false e = no_way e
-evict1_here true true false true true e = no_way e
-evict1_here true true true false false e = no_way e
-evict1_here true true true false true e = no_way e
-evict1_here true true true true false e = no_way e
-evict1_here true true true true true e = no_way e
+evict1_here a f s w l2 e =
+    implied _ _ (every5 (λ a f s w l2. not (stands a f s w true l2) || stands a f s w false true) refl a f s w l2) e
 
 second_hit_here : (f s w l1 : Bool) → stands true f s w l1 true ≡ true → stands false f true w l1 true ≡ true
-second_hit_here false false false false e = no_way e
-second_hit_here false false false true e = no_way e
-second_hit_here false false true false e = refl
-second_hit_here false false true true e = no_way e
-second_hit_here false true false false e = no_way e
-second_hit_here false true false true e = no_way e
-second_hit_here false true true false e = no_way e
-second_hit_here false true true true e = no_way e
-second_hit_here true false false false e = no_way e
-second_hit_here true false false true e = no_way e
-second_hit_here true false true false e = no_way e
-second_hit_here true false true true e = no_way e
-second_hit_here true true false false e = no_way e
-second_hit_here true true false true e = no_way e
-second_hit_here true true true false e = no_way e
-second_hit_here true true true true e = no_way e
+second_hit_here f s w l1 e =
+    implied _ _ (every4 (λ f s w l1. not (stands true f s w l1 true) || stands false f true w l1 true) refl f s w l1) e
 
 second_primary_here : (f s w l1 : Bool) → stands true f s w l1 false ≡ true → stands false true s w l1 false ≡ true
-second_primary_here false false false false e = no_way e
-second_primary_here false false false true e = no_way e
-second_primary_here false false true false e = refl
-second_primary_here false false true true e = no_way e
-second_primary_here false true false false e = no_way e
-second_primary_here false true false true e = no_way e
-second_primary_here false true true false e = no_way e
-second_primary_here false true true true e = no_way e
-second_primary_here true false false false e = no_way e
-second_primary_here true false false true e = no_way e
-second_primary_here true false true false e = no_way e
-second_primary_here true false true true e = no_way e
-second_primary_here true true false false e = no_way e
-second_primary_here true true false true e = no_way e
-second_primary_here true true true false e = no_way e
-second_primary_here true true true true e = no_way e
+second_primary_here f s w l1 e =
+    implied _ _ (every4 (λ f s w l1. not (stands true f s w l1 false) || stands false true s w l1 false) refl f s w l1) e
 
 fill2_here : (a s w l1 l2 : Bool) → stands a true s w l1 l2 ≡ true → stands a false true w l1 true ≡ true
-fill2_here false false false false false e = no_way e
-fill2_here false false false false true e = no_way e
-fill2_here false false false true false e = no_way e
-fill2_here false false false true true e = no_way e
-fill2_here false false true false false e = refl
-fill2_here false false true false true e = no_way e
-fill2_here false false true true false e = no_way e
-fill2_here false false true true true e = no_way e
-fill2_here false true false false false e = no_way e
-fill2_here false true false false true e = no_way e
-fill2_here false true false true false e = no_way e
-fill2_here false true false true true e = no_way e
-fill2_here false true true false false e = no_way e
-fill2_here false true true false true e = no_way e
-fill2_here false true true true false e = no_way e
-fill2_here false true true true true e = no_way e
-fill2_here true false false false false e = no_way e
-fill2_here true false false false true e = no_way e
-fill2_here true false false true false e = no_way e
-fill2_here true false false true true e = no_way e
-fill2_here true false true false false e = no_way e
-fill2_here true false true false true e = no_way e
-fill2_here true false true true false e = no_way e
-fill2_here true false true true true e = no_way e
-fill2_here true true false false false e = no_way e
-fill2_here true true false false true e = no_way e
-fill2_here true true false true false e = no_way e
-fill2_here true true false true true e = no_way e
-fill2_here true true true false false e = no_way e
-fill2_here true true true false true e = no_way e
-fill2_here true true true true false e = no_way e
-fill2_here true true true true true e = no_way e
+fill2_here a s w l1 l2 e =
+    implied _ _ (every5 (λ a s w l1 l2. not (stands a true s w l1 l2) || stands a false true w l1 true) refl a s w l1 l2) e
 
 evict2_here : (a f s l2 : Bool) → stands a f s false false l2 ≡ true → stands a f s false false false ≡ true
-evict2_here false false false false e = refl
-evict2_here false false false true e = refl
-evict2_here false false true false e = no_way e
-evict2_here false false true true e = no_way e
-evict2_here false true false false e = no_way e
-evict2_here false true false true e = no_way e
-evict2_here false true true false e = no_way e
-evict2_here false true true true e = no_way e
-evict2_here true false false false e = no_way e
-evict2_here true false false true e = no_way e
-evict2_here true false true false e = no_way e
-evict2_here true false true true e = no_way e
-evict2_here true true false false e = no_way e
-evict2_here true true false true e = no_way e
-evict2_here true true true false e = no_way e
-evict2_here true true true true e = no_way e
-
--- ---- what the events on lines need
-
-pub supplied_absent : (a f w l1 l2 : Bool) → stands a f true w l1 l2 ≡ true → l1 ≡ false
-supplied_absent false false false false false e = no_way e
-supplied_absent false false false false true e = no_way e
-supplied_absent false false false true false e = no_way e
-supplied_absent false false false true true e = no_way e
-supplied_absent false false true false false e = no_way e
-supplied_absent false false true false true e = refl
-supplied_absent false false true true false e = no_way e
-supplied_absent false false true true true e = no_way e
-supplied_absent false true false false false e = no_way e
-supplied_absent false true false false true e = no_way e
-supplied_absent false true false true false e = no_way e
-supplied_absent false true false true true e = no_way e
-supplied_absent false true true false false e = no_way e
-supplied_absent false true true false true e = no_way e
-supplied_absent false true true true false e = no_way e
-supplied_absent false true true true true e = no_way e
-supplied_absent true false false false false e = no_way e
-supplied_absent true false false false true e = no_way e
-supplied_absent true false false true false e = no_way e
-supplied_absent true false false true true e = no_way e
-supplied_absent true false true false false e = no_way e
-supplied_absent true false true false true e = no_way e
-supplied_absent true false true true false e = no_way e
-supplied_absent true false true true true e = no_way e
-supplied_absent true true false false false e = no_way e
-supplied_absent true true false false true e = no_way e
-supplied_absent true true false true false e = no_way e
-supplied_absent true true false true true e = no_way e
-supplied_absent true true true false false e = no_way e
-supplied_absent true true true false true e = no_way e
-supplied_absent true true true true false e = no_way e
-supplied_absent true true true true true e = no_way e
-
-pub fetched_absent : (a s w l1 l2 : Bool) → stands a true s w l1 l2 ≡ true → l2 ≡ false
-fetched_absent false false false false false e = no_way e
-fetched_absent false false false false true e = no_way e
-fetched_absent false false false true false e = no_way e
-fetched_absent false false false true true e = no_way e
-fetched_absent false false true false false e = refl
-fetched_absent false false true false true e = no_way e
-fetched_absent false false true true false e = no_way e
-fetched_absent false false true true true e = no_way e
-fetched_absent false true false false false e = no_way e
-fetched_absent false true false false true e = no_way e
-fetched_absent false true false true false e = no_way e
-fetched_absent false true false true true e = no_way e
-fetched_absent false true true false false e = no_way e
-fetched_absent false true true false true e = no_way e
-fetched_absent false true true true false e = no_way e
-fetched_absent false true true true true e = no_way e
-fetched_absent true false false false false e = no_way e
-fetched_absent true false false false true e = no_way e
-fetched_absent true false false true false e = no_way e
-fetched_absent true false false true true e = no_way e
-fetched_absent true false true false false e = no_way e
-fetched_absent true false true false true e = no_way e
-fetched_absent true false true true false e = no_way e
-fetched_absent true false true true true e = no_way e
-fetched_absent true true false false false e = no_way e
-fetched_absent true true false false true e = no_way e
-fetched_absent true true false true false e = no_way e
-fetched_absent true true false true true e = no_way e
-fetched_absent true true true false false e = no_way e
-fetched_absent true true true false true e = no_way e
-fetched_absent true true true true false e = no_way e
-fetched_absent true true true true true e = no_way e
-
-pub inner_there : (a f s w l2 : Bool) → stands a f s w true l2 ≡ true → l2 ≡ true
-inner_there false false false false false e = no_way e
-inner_there false false false false true e = refl
-inner_there false false false true false e = no_way e
-inner_there false false false true true e = no_way e
-inner_there false false true false false e = no_way e
-inner_there false false true false true e = no_way e
-inner_there false false true true false e = no_way e
-inner_there false false true true true e = no_way e
-inner_there false true false false false e = no_way e
-inner_there false true false false true e = no_way e
-inner_there false true false true false e = no_way e
-inner_there false true false true true e = no_way e
-inner_there false true true false false e = no_way e
-inner_there false true true false true e = no_way e
-inner_there false true true true false e = no_way e
-inner_there false true true true true e = no_way e
-inner_there true false false false false e = no_way e
-inner_there true false false false true e = no_way e
-inner_there true false false true false e = no_way e
-inner_there true false false true true e = no_way e
-inner_there true false true false false e = no_way e
-inner_there true false true false true e = no_way e
-inner_there true false true true false e = no_way e
-inner_there true false true true true e = no_way e
-inner_there true true false false false e = no_way e
-inner_there true true false false true e = no_way e
-inner_there true true false true false e = no_way e
-inner_there true true false true true e = no_way e
-inner_there true true true false false e = no_way e
-inner_there true true true false true e = no_way e
-inner_there true true true true false e = no_way e
-inner_there true true true true true e = no_way e
+evict2_here a f s l2 e =
+    implied _ _ (every4 (λ a f s l2. not (stands a f s false false l2) || stands a f s false false false) refl a f s l2) e
 
 -- ---- a block, where the event's own is it or another
 
@@ -370,18 +153,6 @@ stands_by a a' f f' s s' w w' l1 l1' l2 l2' pa pf ps pw p1 p2 e =
 
 here : (P : ℕ → Bool) (v : Bool) (x y : ℕ) → P x ≡ v → (x == y) ≡ true → P y ≡ v
 here P v x y h e = ap P (sym (eqb-true x y e)) ∙ h
-
-is_not : (b : Bool) → not b ≡ true → b ≡ false
-is_not true e = no_way e
-is_not false e = refl
-
-left_true : (a b : Bool) → (a && b) ≡ true → a ≡ true
-left_true true b e = refl
-left_true false b e = no_way e
-
-right_true : (a b : Bool) → (a && b) ≡ true → b ≡ true
-right_true true b e = e
-right_true false b e = no_way e
 
 pub facts : (shape : Shape) (right : Bool) (slice : Slice) (log bank : ℕ) (e : Event) → first_failing OfBank (rules_of shape right idle slice log bank e) ≡ None → BankHolds (rules_of shape right idle slice log bank e)
 facts shape right slice log bank e none = bank_holds (rules_of shape right idle slice log bank e) none

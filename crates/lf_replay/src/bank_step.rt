@@ -14,7 +14,8 @@ use lf_model::{Memory, NoMemory, Record, Shape};
 use std::alloc::Global;
 use std::marker::Model;
 
-/// The state of one bank's replay.
+/// The state of one bank's replay: what the bank of both levels holds after the records that it took,
+/// and flat memory.
 #[derive(Drop)]
 pub struct Step {
     bank: u32,
@@ -36,7 +37,8 @@ impl Model for Step {
 }
 
 impl Step {
-    /// The bank before its first record, with the memory that the trace names.
+    /// The bank before its first record, with the memory that the trace names: `shape` is the
+    /// hierarchy, `bank` a number of its banks. `NoMemory` where a growth was refused.
     pub fn new(alloc: Global, shape: &Shape, memory: &Memory, bank: u32) -> Result<Step, NoMemory>
         requires in_range { IsShape shape.now }
         requires bank { bank < shape.now.banks }
@@ -46,7 +48,8 @@ impl Step {
         Ok(Step { bank, state })
     }
 
-    /// Judges the record by the bank's rules and carries it out. On a fault the state is as before.
+    /// Judges the record by the bank's rules and carries it out. `Rule` is the first that it breaks;
+    /// `NoMemory` tells that it breaks none and a growth was refused. Both leave the state as it was.
     pub fn apply(&mut self, item: &Record) -> Result<(), BankFault>
         requires { IsForStep self.old item.now }
         ensures taken { OnOk result (Takes self.old self.new item.now) }

@@ -1,8 +1,8 @@
-//! Why a bank does not take a record.
+//! The faults of a bank.
 
 use lf_model::Rule;
 
-/// The bank's state is then as it was.
+/// Why a bank does not take a record. Its state is then as it was.
 #[derive(Clone, Copy, Debug, PartialEq, Eq)]
 pub enum BankFault {
     /// The first rule of the bank that the record breaks.

@@ -5,7 +5,7 @@ ghost use Rattle.std.specs.Prelude.{◌≡◌, ◌≤◌, true, length};
 ghost use Rattle.lf_model.specs.InRange.{IsShape, IsOrganisation};
 ghost use Rattle.lf_replay.specs.Step.{IsBankOrder};
 
-use crate::replay;
+use crate::{Step, replay};
 use lf_model::{
     Block, Event, Level, Mask, Memory, Op, OrgShape, Outcome, Record, Rule, Shape, fits,
 };
@@ -225,6 +225,27 @@ fn judged(alloc: Global, shape: &Shape, events: Vec<Event>) -> Result<Outcome, F
 {
     let memory = Vec::new(alloc);
     judged_on(alloc, shape, &memory, events)
+}
+
+/// How many of the events a step refuses, where it goes on after each fault.
+fn refused_by_step(alloc: Global, shape: &Shape, events: Vec<Event>) -> Result<u32, Fail>
+    requires { IsShape shape.now }
+{
+    let memory = Vec::new(alloc);
+    let records = records_of(alloc, events)?;
+    let mut refused = 0u32;
+    let Ok(mut step) = Step::new(alloc, shape, &memory, 0) else {
+        return Err(Fail::from("no memory"));
+    };
+    for item in &records {
+        if !fits(shape.ports, shape.banks, shape.block, item) || item.bank != 0 {
+            return Err(Fail::from("this is no record of the bank"));
+        }
+        if step.apply(item).is_err() {
+            refused = refused.saturating_add(1);
+        }
+    }
+    Ok(refused)
 }
 
 /// A load that misses both levels, up to the fill of level one.
@@ -538,5 +559,30 @@ fn faults_of_one_record(rt: HostRuntime) -> Result<(), Fail> {
 fn two_requests_of_one_tag(rt: HostRuntime) -> Result<(), Fail> {
     let events = vec![in rt.alloc(); load(0, 8, 0), load(0, 8, 0), primary(0, 0), merge(0, 0)]?;
     assert_eq!(rt; judged(rt.alloc(), &plain(), events)?, Outcome::Passed);
+    Ok(())
+}
+
+/// A fault leaves the state as it was: with the events that break a rule between them, those of a
+/// load that misses both levels are taken as before.
+#[test]
+fn a_step_goes_on_after_a_fault(rt: HostRuntime) -> Result<(), Fail> {
+    let mut events = vec![in rt.alloc();
+        hit(0),
+        load(0, 8, 0),
+        hit(0),
+        primary(0, 1),
+        primary(0, 0),
+        fill1(0, &ZEROS),
+    ]?;
+    events.push(second_hit(0))?;
+    events.push(second_primary(0, 0))?;
+    events.push(fill2(0, &[1; 8]))?;
+    events.push(fill2(0, &ZEROS))?;
+    events.push(evict2(0, 0, &[]))?;
+    events.push(fill1(0, &ZEROS))?;
+    events.push(reply(0, 8, &[1; 8]))?;
+    events.push(reply(0, 8, &ZEROS))?;
+    events.push(reply(0, 8, &ZEROS))?;
+    assert_eq!(rt; refused_by_step(rt.alloc(), &plain(), events)?, 9);
     Ok(())
 }

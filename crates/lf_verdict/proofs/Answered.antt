@@ -22,7 +22,7 @@ use Rattle.lf_verdict.specs.declared.answer.HeaderField.{HeaderField}
 use Rattle.lf_verdict.specs.declared.answer.Refusal.{Refusal}
 use Rattle.lf_verdict.specs.declared.answer.Refusal.TheVariants as refusals
 use Rattle.lf_verdict.specs.Legal.{IsTraceFor}
-use Rattle.lf_verdict.specs.Laws.{YesIsLegal}
+use Rattle.lf_verdict.specs.Laws.{YesIsLegal, NoHasNoRun, IsRunlessNo}
 use Rattle.lf_verdict.specs.Reading.{IsReadRefusal}
 use Rattle.lf_verdict.specs.Verdict.{Differs, IsVerdictOf, IsLegalYes, IsJudged, IsWorkerCount}
 use Rattle.lf_verdict.specs.Judging.{LogsFit, IsLogsVerdict, IsAnswer}
@@ -81,6 +81,10 @@ of_reading shape bytes _ is = absurd is
 pub legal_yes : YesIsLegal → (shape : Shape) (bytes : List ℕ) (verdict : Verdict) → IsAnswer shape bytes verdict → IsLegalYes shape bytes verdict
 legal_yes law shape bytes (Yes events order) is = (law shape bytes events order.items is, is.count)
 legal_yes law shape bytes _ is = tt
+
+pub runless_no : NoHasNoRun → (shape : Shape) (bytes : List ℕ) (verdict : Verdict) → IsAnswer shape bytes verdict → IsRunlessNo shape bytes verdict
+runless_no law shape bytes (No fault) is = law shape bytes fault is
+runless_no law shape bytes _ is = tt
 
 pub verdict_of : (shape : Shape) (workers : ℕ) (bytes : List ℕ) (verdict : Verdict) → IsWorkerCount workers → IsAnswer shape bytes verdict → IsJudged verdict → IsVerdictOf shape workers bytes verdict
 verdict_of shape workers bytes (Yes events order) one is judged = (one, is)

@@ -8,6 +8,7 @@ use Rattle.lf_verdict.specs.declared.answer.Verdict.{Verdict}
 use Rattle.lf_verdict.specs.declared.answer.Verdict.TheVariants.{Yes, Refused}
 use Rattle.lf_verdict.specs.declared.answer.Refusal.TheVariants as refusals
 use Rattle.lf_verdict.specs.Legal.{IsLegal}
+use Rattle.lf_verdict.specs.Laws.{IsRunlessNo}
 use Rattle.lf_verdict.specs.Verdict.{IsWorkerCount, IsTraceVerdict}
 
 -- the fault is the first of the text
@@ -32,6 +33,10 @@ pub record IsLegalFor (text bytes order : List ℕ) : Type 0 where
   pub shape : Shape
   pub configured : configuration_of text ≡ Ok shape
   pub legal : IsLegal shape bytes order
+
+-- a no means that the trace has no run, for the shape that the text says
+abbrev pub IsRunlessNoFor : List ℕ → List ℕ → Verdict → Type 0
+IsRunlessNoFor text bytes verdict = (shape : Shape) → configuration_of text ≡ Ok shape → IsRunlessNo shape bytes verdict
 
 abbrev pub IsLegalYesFor : List ℕ → List ℕ → Verdict → Type 0
 IsLegalYesFor text bytes (Yes events order) = IsLegalFor text bytes order.items × (events ≡ length order.items)

@@ -32,6 +32,12 @@ abbrev pub NoHasNoRun : Type 0
 NoHasNoRun = (shape : Shape) (bytes : List ℕ) (fault : Fault) → IsNo shape bytes fault
     → (memory : List (ℕ × Bytes)) (logs : List (List Record)) → IsTraceFor shape bytes memory logs → HasNoRun shape (flat_memory memory) logs
 
+-- A no means that the trace has no run: no list of its records that keeps each log's order and the banks' numbers is one.
+abbrev pub IsRunlessNo : Shape → List ℕ → Verdict → Type 0
+IsRunlessNo shape bytes (No fault) =
+    (memory : List (ℕ × Bytes)) (logs : List (List Record)) → IsTraceFor shape bytes memory logs → HasNoRun shape (flat_memory memory) logs
+IsRunlessNo shape bytes _ = Unit {0}
+
 -- the same verdict, wherever its order lies in memory
 abbrev pub SameVerdict : Verdict → Verdict → Type 0
 SameVerdict (Yes events order) (Yes events' order') = (events ≡ events') × (order.items ≡ order'.items)

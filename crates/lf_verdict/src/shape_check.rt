@@ -5,11 +5,12 @@ ghost use Rattle.lf_model.specs.InRange.{IsShape};
 ghost use Rattle.lf_codec.specs.Trace.{IsTrace, FitsTrace};
 ghost use Rattle.lf_verdict.specs.Legal.{joined, Agrees};
 ghost use Rattle.lf_verdict.specs.Verdict.{IsWorkerCount, Differs, IsVerdictOf, IsLegalYes, IsJudged};
+ghost use Rattle.lf_verdict.specs.Laws.{IsRunlessNo};
 ghost use Rattle.lf_verdict.specs.Judging.{IsAnswer};
 
 use crate::answer::{HeaderField, Refusal, Verdict};
 use crate::judge::logs_verdict;
-use crate::laws::yes_is_legal;
+use crate::laws::{no_has_no_run, yes_is_legal};
 use crate::reading::{Trace, read};
 use lf_codec::Header;
 use lf_logs::split;
@@ -69,8 +70,9 @@ fn bytes_verdict(alloc: Global, shape: &Shape, pieces: &[&[u8]]) -> Verdict
 pub fn check_shape<T: AllocGlobal>(rt: &T, shape: &Shape, pieces: &[&[u8]], workers: u32) -> Verdict
     requires shape { IsShape shape.now }
 
-    // A yes means that the trace is legal.
+    // A yes means that the trace is legal, a no that it has no run.
     ensures legal { IsLegalYes shape.now (joined pieces.now) result }
+    ensures runless { IsRunlessNo shape.now (joined pieces.now) result }
 
     ensures verdict { IsJudged result → IsVerdictOf shape.now workers (joined pieces.now) result }
     ensures workers { (result ≡ Verdict.Refused (Refusal.Workers workers)) ↔ ¬ IsWorkerCount workers }
@@ -80,5 +82,6 @@ pub fn check_shape<T: AllocGlobal>(rt: &T, shape: &Shape, pieces: &[&[u8]], work
         return Verdict::Refused(Refusal::Workers(workers));
     }
     yes_is_legal();
+    no_has_no_run();
     bytes_verdict(rt.alloc(), shape, pieces)
 }

@@ -7,6 +7,7 @@ use Rattle.lf_model.specs.declared.rule.Rule.{Rule}
 use Rattle.lf_model.specs.declared.rule.Rule.TheVariants as rules
 use Rattle.lf_codec.specs.declared.fault.CodecCause.{CodecCause}
 use Rattle.lf_codec.specs.declared.fault.CodecCause.TheVariants as causes
+use Rattle.lf_config.specs.Text as config
 use Rattle.lf_verdict.specs.declared.answer.HeaderField.{HeaderField}
 use Rattle.lf_verdict.specs.declared.answer.HeaderField.TheVariants as fields
 use Rattle.lf_verdict.specs.declared.answer.Fault.{Fault}
@@ -89,6 +90,7 @@ fault_text (faults.Cycle ring) = codes "cycle logs=" ++ logs_text ring.items
 
 abbrev pub refusal_text : Refusal → List ℕ
 refusal_text (refusals.Workers n) = codes "workers " ++ decimal n
+refusal_text (refusals.Config fault) = codes "config " ++ config.fault_text fault
 refusal_text (refusals.Format fault) = codes "format " ++ cause_name fault.cause ++ codes " at=" ++ decimal fault.offset
 refusal_text (refusals.Header field) = codes "header " ++ field_name field
 refusal_text refusals.Memory = codes "memory"

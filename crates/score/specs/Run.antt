@@ -5,9 +5,11 @@ use Rattle.lf_model.specs.declared.shape.Shape.{Shape}
 use Rattle.lf_codec.specs.Laws.{AreBytes}
 use Rattle.lf_verdict.specs.declared.answer.Verdict.{Verdict}
 use Rattle.lf_verdict.specs.declared.answer.Verdict.TheVariants.{Yes, Refused}
-use Rattle.lf_verdict.specs.declared.answer.Refusal.TheVariants.{Memory, Thread}
-use Rattle.lf_verdict.specs.Legal.{IsLegal}
-use Rattle.lf_verdict.specs.Verdict.{IsWorkerCount, IsJudged, IsVerdictOf}
+use Rattle.lf_verdict.specs.declared.answer.Refusal.{Refusal}
+use Rattle.lf_verdict.specs.declared.answer.Refusal.TheVariants.{Workers, Config, Memory, Thread}
+use Rattle.lf_config.specs.Configuration.{configuration_of}
+use Rattle.lf_verdict.specs.Verdict.{IsWorkerCount, IsJudged}
+use Rattle.lf_verdict.specs.Configured.{IsConfigFault}
 use Rattle.score.specs.declared.counted.Counted.{Counted}
 use Rattle.score.specs.declared.fault.RunFault.{RunFault}
 use Rattle.score.specs.declared.fault.RunFault.TheVariants.{Read, Turns, Write}
@@ -35,28 +37,40 @@ GaveSound remaining old new = (bytes : List ℕ) × Consumes (remaining old) (re
 
 -- ---- what is answered
 
--- The verdict is that of the bytes that the reader gave. Where there cannot be so many workers, nothing was read.
-pub record IsVerdictOfRead {R : Type 0} (remaining : R → Option (List ℕ)) (old new : R) (shape : Shape) (workers : ℕ) (v : Verdict) : Type 0 where
+-- There can be so many workers and the text says a shape, so the trace is asked for.
+abbrev pub IsAsked : List ℕ → ℕ → Type 0
+IsAsked text workers = IsWorkerCount workers × ((shape : Shape) × (configuration_of text ≡ Ok shape))
+
+-- The refusal comes before the trace is asked for.
+abbrev pub IsRefusedFirst : List ℕ → ℕ → Refusal → Type 0
+IsRefusedFirst text workers (Workers n) = (n ≡ workers) × ¬ IsWorkerCount workers
+IsRefusedFirst text workers (Config fault) = IsWorkerCount workers × IsConfigFault text fault
+IsRefusedFirst text workers Memory = Unit {0}
+IsRefusedFirst text workers _ = ⊥
+
+-- The verdict is that of the bytes that the reader gave. Where the trace was not asked for, nothing was read.
+pub record IsVerdictOfRead {R : Type 0} (remaining : R → Option (List ℕ)) (old new : R) (asked : Type 0) (IsVerdict : List ℕ → Verdict → Type 0) (v : Verdict) : Type 0 where
   pub bytes : List ℕ
-  pub reads : IsWorkerCount workers → Reads remaining old new bytes
-  pub verdict : IsVerdictOf shape workers bytes v
+  pub reads : asked → Reads remaining old new bytes
+  pub verdict : IsVerdict bytes v
 
 -- The bytes that the reader gave are a legal trace, by this order.
-pub record IsLegalRead {R : Type 0} (remaining : R → Option (List ℕ)) (old new : R) (shape : Shape) (order : List ℕ) : Type 0 where
+pub record IsLegalRead {R : Type 0} (remaining : R → Option (List ℕ)) (old new : R) (IsLegal : List ℕ → List ℕ → Type 0) (order : List ℕ) : Type 0 where
   pub bytes : List ℕ
   pub reads : Reads remaining old new bytes
-  pub legal : IsLegal shape bytes order
+  pub legal : IsLegal bytes order
 
 abbrev pub IfYes : Verdict → (List ℕ → Type 0) → Type 0
 IfYes (Yes events order) P = P order.items
 IfYes _ P = Unit {0}
 
--- What a run came to before it wrote.
-pub record IsOutcome {R : Type 0} (remaining : R → Option (List ℕ)) (old new : Counted R) (shape : Shape) (workers turns : ℕ) (outcome : Result Verdict RunFault) : Type 0 where
+-- What a run came to before it wrote: when the trace is asked for, which orders make it legal and which verdict is
+-- that of some bytes is as it was said.
+pub record IsOutcome {R : Type 0} (remaining : R → Option (List ℕ)) (old new : Counted R) (asked : Type 0) (IsLegal : List ℕ → List ℕ → Type 0) (IsVerdict : List ℕ → Verdict → Type 0) (turns : ℕ) (outcome : Result Verdict RunFault) : Type 0 where
   pub reads : calls_of new ≤ turns
-  pub unread : ¬ IsWorkerCount workers → new ≡ old
-  pub verdict : IfOk outcome (λ v. IsJudged v → IsVerdictOfRead remaining (inner_of old) (inner_of new) shape workers v)
-  pub legal : IfOk outcome (λ v. IfYes v (IsLegalRead remaining (inner_of old) (inner_of new) shape))
+  pub unread : ¬ asked → new ≡ old
+  pub verdict : IfOk outcome (λ v. IsJudged v → IsVerdictOfRead remaining (inner_of old) (inner_of new) asked IsVerdict v)
+  pub legal : IfOk outcome (λ v. IfYes v (IsLegalRead remaining (inner_of old) (inner_of new) IsLegal))
   pub no_thread : outcome ≢ Ok (Refused Thread)
   pub read : (outcome ≡ Err Read) ↔ (0 < failures_of new)
   pub turned : outcome ≡ Err Turns → calls_of new ≡ turns

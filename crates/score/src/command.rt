@@ -1,21 +1,117 @@
 //! What the command line asks for.
 
+use clap::error::ErrorKind;
+use clap::{Arg, ArgMatches, Command, Error, value_parser};
+use std::alloc::{AllocError, Global};
+
+/// What the help says of the whole program.
+const ABOUT: &str = "Judges recorded traces of a two-level lockup-free (non-blocking) cache.";
+
+/// What the help says of `check`.
+const ABOUT_CHECK: &str =
+    "Judges a trace for the hierarchy that a configuration says, and prints one line.";
+
+/// What the help says after the arguments.
+const ANSWERS: &str = "\
+The answer is one line on standard output:
+  yes events=6                        some order of all events is a legal run
+  no port=0 event=1 rule=TagBusy      the port's event of this place breaks the rule
+  no bank=0 number=5 rule=ReplyData   the bank's event of this number breaks the rule
+  no numbering bank=0 missing=2       no event of the bank has this number (or: double=2)
+  no cycle logs=0,1                   the logs wait for one another
+  refused format Truncated at=16      the bytes are no trace from this one on
+  refused header Ports                the trace is one of another hierarchy
+  refused config Missing tags         the configuration says no hierarchy
+  refused read trace                  the file cannot be read (or: read config)
+  refused usage, refused workers 17, refused memory, refused thread
+
+The status is 0 for yes, 1 for no and 2 for refused. Ports, banks, places and numbers count from 0.
+
+CONFIG is a TOML document with the keys ports, banks, block (bytes) and tags (of each port), and the
+tables level1 and level2 with the keys sets, ways, organisation (\"implicit\", \"explicit\" or
+\"inverted\"), registers (not for inverted) and entries (only for explicit).";
+
 /// A command, with the words that it was given.
 #[derive(Clone, Copy, Debug, PartialEq, Eq)]
 pub enum Request<'a> {
-    /// Judge the trace in this file.
-    Check { trace: &'a str },
+    /// Judge the trace in a file for the configuration in a file, with so many workers.
+    Check {
+        config: &'a str,
+        trace: &'a str,
+        workers: u16,
+    },
+}
+
+/// Why there is no command.
+#[derive(Drop)]
+pub enum CommandFault {
+    /// The words are none of a command.
+    Usage,
+    /// A growth was refused.
+    Memory,
+    /// The help was asked for, which this prints.
+    Help(Error),
+}
+
+fn check_command<'a>(alloc: Global) -> Result<Command<'a>, AllocError> {
+    let config = Arg::new(alloc, "CONFIG")
+        .required(true)
+        .help("The configuration of the hierarchy");
+    let trace = Arg::new(alloc, "TRACE")
+        .required(true)
+        .help("The recorded trace");
+    let workers = Arg::new(alloc, "workers")
+        .long("workers")
+        .value_name("N")
+        .value_parser(value_parser!(u16))
+        .default_value("1")
+        .help("How many workers judge the trace");
+    Command::new(alloc, "check")
+        .about(ABOUT_CHECK)
+        .after_help(ANSWERS)
+        .arg(config)?
+        .arg(trace)?
+        .arg(workers)
+}
+
+fn program<'a>(alloc: Global) -> Result<Command<'a>, AllocError> {
+    Command::new(alloc, "score")
+        .bin_name("score")?
+        .disable_help_subcommand(true)
+        .about(ABOUT)
+        .after_help(ANSWERS)
+        .subcommand_required(true)
+        .subcommand(check_command(alloc)?)
+}
+
+fn fault_of(error: Error) -> CommandFault {
+    match error.kind() {
+        ErrorKind::OutOfMemory => CommandFault::Memory,
+        ErrorKind::DisplayHelp => CommandFault::Help(error),
+        _ => CommandFault::Usage,
+    }
+}
+
+fn check_request<'a>(matches: &ArgMatches<'a>) -> Option<Request<'a>> {
+    Some(Request::Check {
+        config: matches.get_str("CONFIG")?,
+        trace: matches.get_str("TRACE")?,
+        workers: matches.get_one::<u16>("workers")?,
+    })
 }
 
 /// What the words ask for, the program's own name first.
-pub fn asked<'a>(words: &'a [String]) -> Option<Request<'a>> {
-    let [_program, command, trace] = words else {
-        return None;
+pub fn asked<'a>(alloc: Global, words: &'a [String]) -> Result<Request<'a>, CommandFault> {
+    let Ok(command) = program(alloc) else {
+        return Err(CommandFault::Memory);
     };
-    match command.as_str() {
-        "check" => Some(Request::Check {
-            trace: trace.as_str(),
-        }),
+    let matches = match command.try_get_matches_from(words) {
+        Ok(matches) => matches,
+        Err(error) => return Err(fault_of(error)),
+    };
+    let found = match matches.subcommand() {
+        Some(("check", inner)) => check_request(inner),
         _ => None,
-    }
+    };
+    found.ok_or(CommandFault::Usage)
 }

@@ -1,16 +1,18 @@
 //! Reads the bytes of a trace, judges them and writes the line of the verdict.
 
-ghost use Rattle.std.specs.Prelude.{◌≡◌, ◌≢◌, ◌≤◌, ◌<◌, ◌↔◌, ℕ, take, Ok, Err, IfOk, IfErr, IfSome, IsErrOf, IsTrue, Result, string_bytes};
+ghost use Rattle.std.specs.Prelude.{◌≡◌, ◌≢◌, ◌≤◌, ◌<◌, ◌↔◌, ℕ, List, take, Ok, Err, IfOk, IfErr, IfSome, IsErrOf, IsTrue, Result, string_bytes};
 ghost use Rattle.std.specs.Io.KnownBytes.{Appends};
 ghost use Rattle.lf_model.specs.InRange.{IsShape};
+ghost use Rattle.lf_config.specs.Configuration.{Tells, configuration_of};
 ghost use Rattle.lf_verdict.specs.declared.answer.Verdict.{Verdict};
 ghost use Rattle.lf_verdict.specs.Verdict.{IsWorkerCount, IsJudged, IsVerdictOf};
 ghost use Rattle.lf_verdict.specs.Legal.{IsLegal};
+ghost use Rattle.lf_verdict.specs.Configured.{IsVerdictFor, IsLegalFor};
 ghost use Rattle.lf_verdict.specs.declared.answer.Refusal.{Refusal};
 ghost use Rattle.score.specs.Counted.{calls_of, failures_of, inner_of};
 ghost use Rattle.score.specs.declared.fault.RunFault.{RunFault};
 ghost use Rattle.score.specs.Line.{line_of};
-ghost use Rattle.score.specs.Run.{outcome_line, GaveSound, IfYes, IsVerdictOfRead, IsLegalRead, IsOutcome, Follows};
+ghost use Rattle.score.specs.Run.{outcome_line, GaveSound, IfYes, IsAsked, IsRefusedFirst, IsVerdictOfRead, IsLegalRead, IsOutcome, Follows};
 
 use crate::counted::Counted;
 use crate::fault::RunFault;
@@ -18,6 +20,7 @@ use crate::gathering::{Stop, gather, zeros};
 use crate::line::Line;
 use crate::output::put;
 use lf_codec::{exact_reading, fault_so_far, faults_stand};
+use lf_config::{ConfigFault, read};
 use lf_model::Shape;
 use lf_verdict::{Refusal, Verdict, check_shape};
 use std::alloc::{AllocError, Global};
@@ -27,7 +30,7 @@ use std::io::{Read, Write};
 const PIECE: usize = 65536;
 
 /// Whether there can be so many workers.
-fn are_workers(workers: u32) -> bool
+pub fn are_workers(workers: u32) -> bool
     ensures { IsTrue result ↔ IsWorkerCount workers }
 {
     workers == 1
@@ -45,7 +48,7 @@ fn judge<T: AllocGlobal, R: Read>(
     requires failures { failures_of reader.old ≡ 0 }
     requires shape { IsShape shape.now }
     requires workers { IsWorkerCount workers }
-    ensures { IsOutcome R.remaining reader.old reader.new shape.now workers turns result }
+    ensures { IsOutcome R.remaining reader.old reader.new (IsWorkerCount workers) (IsLegal shape.now) (IsVerdictOf shape.now workers) turns result }
 {
     let Ok(mut buffer) = zeros(rt.alloc(), PIECE) else {
         return Ok(Verdict::Refused(Refusal::Memory));
@@ -72,12 +75,56 @@ fn decide<T: AllocGlobal, R: Read>(
     requires calls { calls_of reader.old ≡ 0 }
     requires failures { failures_of reader.old ≡ 0 }
     requires shape { IsShape shape.now }
-    ensures { IsOutcome R.remaining reader.old reader.new shape.now workers turns result }
+    ensures { IsOutcome R.remaining reader.old reader.new (IsWorkerCount workers) (IsLegal shape.now) (IsVerdictOf shape.now workers) turns result }
 {
     if !are_workers(workers) {
         return Ok(Verdict::Refused(Refusal::Workers(workers)));
     }
     judge(rt, reader, shape, workers, turns)
+}
+
+/// The refusal for a text that is no configuration.
+fn refusal_of(fault: ConfigFault) -> Refusal
+    ensures { (text : List ℕ) → (workers : ℕ) → IsWorkerCount workers → Tells fault (configuration_of text) → IsRefusedFirst text workers result }
+{
+    match fault {
+        ConfigFault::NoMemory => Refusal::Memory,
+        fault => Refusal::Config(fault),
+    }
+}
+
+/// The shape that the configuration says, where there can be so many workers.
+fn shape_for(alloc: Global, config: &str, workers: u32) -> Result<Shape, Refusal>
+    ensures workers { IfOk result (λ _. IsWorkerCount workers) }
+    ensures configured { IfOk result (λ shape. configuration_of config.now ≡ Ok shape) }
+    ensures in_range { IfOk result IsShape }
+    ensures refused { IfErr result (IsRefusedFirst config.now workers) }
+{
+    if !are_workers(workers) {
+        return Err(Refusal::Workers(workers));
+    }
+    match read(alloc, config) {
+        Ok(shape) => Ok(shape),
+        Err(fault) => Err(refusal_of(fault)),
+    }
+}
+
+/// Judges the workers and the configuration, and only then reads.
+fn decide_configured<T: AllocGlobal, R: Read>(
+    rt: &T,
+    reader: &mut Counted<R>,
+    config: &str,
+    workers: u32,
+    turns: u32,
+) -> Result<Verdict, RunFault>
+    requires calls { calls_of reader.old ≡ 0 }
+    requires failures { failures_of reader.old ≡ 0 }
+    ensures { IsOutcome R.remaining reader.old reader.new (IsAsked config.now workers) (IsLegalFor config.now) (IsVerdictFor config.now workers) turns result }
+{
+    match shape_for(rt.alloc(), config, workers) {
+        Ok(shape) => judge(rt, reader, &shape, workers, turns),
+        Err(refusal) => Ok(Verdict::Refused(refusal)),
+    }
 }
 
 /// The line of a verdict.
@@ -147,12 +194,12 @@ pub fn run_shape<T: AllocGlobal, R: Read, W: Write>(
     ensures unread { ¬ IsWorkerCount workers → reader.new ≡ reader.old }
 
     // A yes means that the bytes that the reader gave are a legal trace, and so are all that it had.
-    ensures legal { IfOk result (λ v. IfYes v (IsLegalRead R.remaining (inner_of reader.old) (inner_of reader.new) shape.now)) }
+    ensures legal { IfOk result (λ v. IfYes v (IsLegalRead R.remaining (inner_of reader.old) (inner_of reader.new) (IsLegal shape.now))) }
     ensures legal_whole { IfOk result (λ v. IfSome (R.remaining (inner_of reader.old)) (λ bytes. IfYes v (IsLegal shape.now bytes))) }
 
     // The verdict is that of the bytes that the reader gave, and of all that it had.
     ensures verdict { IfOk result (λ v. IsJudged v →
-        IsVerdictOfRead R.remaining (inner_of reader.old) (inner_of reader.new) shape.now workers v) }
+        IsVerdictOfRead R.remaining (inner_of reader.old) (inner_of reader.new) (IsWorkerCount workers) (IsVerdictOf shape.now workers) v) }
     ensures whole { IfOk result (λ v. IsJudged v →
         IfSome (R.remaining (inner_of reader.old)) (λ bytes. IsVerdictOf shape.now workers bytes v)) }
     ensures thread { result ≢ Ok (Verdict.Refused Refusal.Thread) }
@@ -169,12 +216,70 @@ pub fn run_shape<T: AllocGlobal, R: Read, W: Write>(
     ensures sound { IfErr result (λ e. e ≢ RunFault.Write → GaveSound R.remaining (inner_of reader.old) (inner_of reader.new)) }
     // Where a write failed, what went out is the beginning of a line that was due.
     ensures prefix { IsErrOf result RunFault.Write → (told : Result Verdict RunFault) ×
-        IsOutcome R.remaining reader.old reader.new shape.now workers turns told × ((n : ℕ) ×
+        IsOutcome R.remaining reader.old reader.new (IsWorkerCount workers) (IsLegal shape.now) (IsVerdictOf shape.now workers) turns told × ((n : ℕ) ×
         Appends (W.contents (inner_of writer.old)) (W.contents (inner_of writer.new)) (take n (outcome_line told))) }
 {
     exact_reading();
     fault_so_far();
     faults_stand();
     let outcome = decide(rt, reader, shape, workers, turns);
+    tell(rt.alloc(), writer, outcome)
+}
+
+/// Reads the trace until the reader is at its end or a fault stands in what it gave, judges it for the
+/// shape that the configuration says, and writes the line of the verdict. Each read is a turn, and there
+/// are at most so many turns. Where there cannot be so many workers, or the text is no configuration,
+/// nothing is read.
+///
+/// `RunFault::Read` says that a read failed, and `RunFault::Turns` that the turns were used up before
+/// the trace was read: then the line is `refused read trace`. `RunFault::Write` says that a write
+/// failed: what went out is the beginning of the line.
+pub fn run<T: AllocGlobal, R: Read, W: Write>(
+    rt: &T,
+    reader: &mut Counted<R>,
+    writer: &mut Counted<W>,
+    config: &str,
+    workers: u32,
+    turns: u32,
+) -> Result<Verdict, RunFault>
+    requires calls { calls_of reader.old ≡ 0 }
+    requires failures { failures_of reader.old ≡ 0 }
+    requires writes { failures_of writer.old ≡ 0 }
+
+    // No more reads than the caller allows, and none where the workers or the configuration are refused.
+    ensures reads { calls_of reader.new ≤ turns }
+    ensures unread { ¬ IsAsked config.now workers → reader.new ≡ reader.old }
+
+    // A yes means that the configuration says a shape for which the bytes that the reader gave are a legal trace, and so
+    // are all that it had.
+    ensures legal { IfOk result (λ v. IfYes v (IsLegalRead R.remaining (inner_of reader.old) (inner_of reader.new) (IsLegalFor config.now))) }
+    ensures legal_whole { IfOk result (λ v. IfSome (R.remaining (inner_of reader.old)) (λ bytes. IfYes v (IsLegalFor config.now bytes))) }
+
+    // The verdict is that of the bytes that the reader gave, and of all that it had.
+    ensures verdict { IfOk result (λ v. IsJudged v →
+        IsVerdictOfRead R.remaining (inner_of reader.old) (inner_of reader.new) (IsAsked config.now workers) (IsVerdictFor config.now workers) v) }
+    ensures whole { IfOk result (λ v. IsJudged v →
+        IfSome (R.remaining (inner_of reader.old)) (λ bytes. IsVerdictFor config.now workers bytes v)) }
+    ensures thread { result ≢ Ok (Verdict.Refused Refusal.Thread) }
+
+    // What goes out is the line of the verdict, or that the trace was not read.
+    ensures line { result ≢ Err RunFault.Write →
+        Appends (W.contents (inner_of writer.old)) (W.contents (inner_of writer.new)) (outcome_line result) }
+
+    // When each fault comes.
+    ensures read { IsErrOf result RunFault.Read ↔ ((0 < failures_of reader.new) × (failures_of writer.new ≡ 0)) }
+    ensures turns { IsErrOf result RunFault.Turns → calls_of reader.new ≡ turns }
+    ensures write { IsErrOf result RunFault.Write ↔ (0 < failures_of writer.new) }
+    // Where a read failed or the turns were used up, no fault stood in what was read.
+    ensures sound { IfErr result (λ e. e ≢ RunFault.Write → GaveSound R.remaining (inner_of reader.old) (inner_of reader.new)) }
+    // Where a write failed, what went out is the beginning of a line that was due.
+    ensures prefix { IsErrOf result RunFault.Write → (told : Result Verdict RunFault) ×
+        IsOutcome R.remaining reader.old reader.new (IsAsked config.now workers) (IsLegalFor config.now) (IsVerdictFor config.now workers) turns told × ((n : ℕ) ×
+        Appends (W.contents (inner_of writer.old)) (W.contents (inner_of writer.new)) (take n (outcome_line told))) }
+{
+    exact_reading();
+    fault_so_far();
+    faults_stand();
+    let outcome = decide_configured(rt, reader, config, workers, turns);
     tell(rt.alloc(), writer, outcome)
 }

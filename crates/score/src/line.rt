@@ -136,6 +136,7 @@ impl fmt::Display for RefusalText<'_> {
     fn fmt<W: fmt::Write>(&self, f: &mut fmt::Formatter<W>) -> fmt::Result {
         match self.0 {
             Refusal::Workers(n) => write!(f, "workers {n}"),
+            Refusal::Config(fault) => write!(f, "config {fault}"),
             Refusal::Format(fault) => {
                 let name = name_of_cause(fault.cause);
                 let offset = fault.offset;

@@ -1,26 +1,29 @@
-//! `score check TRACE` judges a recorded trace of a two-level lockup-free cache, and prints one line:
-//! a yes with the number of events, a no with the fault and its place, or why the trace is not judged.
-//! The status is 0 for a yes, 1 for a no and 2 for a refusal.
+//! `score check CONFIG TRACE` judges a recorded trace of a two-level lockup-free cache for the hierarchy
+//! that a configuration says, and prints one line: a yes with the number of events, a no with the fault
+//! and its place, or why the trace is not judged. The status is 0 for a yes, 1 for a no and 2 for a
+//! refusal.
 #![tactic(auto)]
 
 mod command;
+mod configuration;
 mod counted;
 mod engine;
 mod fault;
 mod gathering;
 mod line;
 mod output;
+#[cfg(test)]
 mod shape;
 #[cfg(test)]
 mod tests;
 mod trace;
 mod watch;
 
-use command::{Request, asked};
+use command::{CommandFault, Request, asked};
+use configuration::text_in;
 use counted::Counted;
-use engine::run_shape;
+use engine::{are_workers, run};
 use lf_verdict::Verdict;
-use shape::SMALL;
 use std::io;
 use std::io::{ErrorKind, Read};
 use std::process::ExitCode;
@@ -36,13 +39,38 @@ fn refused<T: Print>(rt: &T, why: &str) -> io::Result<ExitCode> {
     Ok(ExitCode::from(REFUSED))
 }
 
-fn judge<T: Print + AllocGlobal, R: Read + Drop>(rt: &T, trace: R) -> ExitCode {
+fn judge<T: Print + AllocGlobal, R: Read + Drop>(
+    rt: &T,
+    config: &str,
+    trace: R,
+    workers: u32,
+) -> ExitCode {
     let mut reader = Counted::new(trace);
     let mut writer = Counted::new(io::writer(rt));
-    match run_shape(rt, &mut reader, &mut writer, &SMALL, 1, u32::MAX) {
+    match run(rt, &mut reader, &mut writer, config, workers, u32::MAX) {
         Ok(Verdict::Yes { .. }) => ExitCode::SUCCESS,
         Ok(Verdict::No(_)) => ExitCode::from(NO),
         _ => ExitCode::from(REFUSED),
+    }
+}
+
+/// Judges the workers before it opens a file, and the configuration before the trace is read.
+fn check<T: Print + Files + AllocGlobal>(
+    rt: &T,
+    config: &str,
+    trace: &str,
+    workers: u32,
+) -> io::Result<ExitCode>
+where
+    T::File: Drop,
+{
+    if !are_workers(workers) {
+        return Ok(judge(rt, "", io::empty(), workers));
+    }
+    let read = std::fs::read(rt, config);
+    match text_in(&read) {
+        Ok(text) => Ok(judge(rt, text, Trace::open(rt, trace), workers)),
+        Err(why) => refused(rt, why),
     }
 }
 
@@ -62,9 +90,20 @@ where
         Err(e) if e.kind() == ErrorKind::OutOfMemory => return refused(rt, "memory"),
         Err(_) => return refused(rt, "usage"),
     }
-    match asked(words.as_slice()) {
-        Some(Request::Check { trace }) => Ok(judge(rt, Trace::open(rt, trace))),
-        None => refused(rt, "usage"),
+    match asked(rt.alloc(), words.as_slice()) {
+        Ok(
+            Request::Check {
+                config,
+                trace,
+                workers,
+            },
+        ) => check(rt, config, trace, u32::from(workers)),
+        Err(CommandFault::Help(help)) => {
+            print!(rt; "{help}")?;
+            Ok(ExitCode::SUCCESS)
+        }
+        Err(CommandFault::Usage) => refused(rt, "usage"),
+        Err(CommandFault::Memory) => refused(rt, "memory"),
     }
 }
 

@@ -1,5 +1,6 @@
 //! Worked traces, damaged files, and readers and writers that fail.
 
+mod configured;
 mod damage;
 mod examples;
 mod hostile;

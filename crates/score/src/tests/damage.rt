@@ -1,6 +1,7 @@
 //! Files that are cut, continued or changed, and what is told of them.
 
 use crate::shape::SMALL;
+use crate::tests::configured::{SMALL_TEXT, assert_configured};
 use crate::tests::examples::{LOAD, LOADED, bytes_of};
 use crate::tests::notation::{E, assert_line};
 use lf_model::Shape;
@@ -27,7 +28,8 @@ fn assert_changed<T: Abort + AllocGlobal>(
     if let Some(place) = bytes.get_mut(at) {
         *place = byte;
     }
-    assert_line(rt, &SMALL, bytes.as_slice(), 1, line)
+    assert_line(rt, &SMALL, bytes.as_slice(), 1, line)?;
+    assert_configured(rt, &SMALL_TEXT, bytes.as_slice(), 1, line)
 }
 
 #[test]

@@ -1,13 +1,16 @@
 use Rattle.score.proofs.RunLemmas.{told_whole, told_legal, outcome_told}
+use Rattle.score.proofs.JudgingLemmas.{shape_no_fault, shape_kept, shape_free}
 use Rattle.score.proofs.engine.run_shape.Goals as goal
 
 pub returns-clause-legal_whole : goal.returns-clause-legal_whole
-returns-clause-legal_whole g c = told_legal c.exact_reading.ensures _ _ _ _ _ _ _ _ c.decide-outcome.ensures c.tell.ensures.follows
+returns-clause-legal_whole g c = told_legal _ _ _ _ _ _ (shape_no_fault c.exact_reading.ensures _) _ _ _ c.decide-outcome.ensures c.tell.ensures.follows
 
 pub returns-clause-whole : goal.returns-clause-whole
-returns-clause-whole g c = told_whole c.exact_reading.ensures c.fault_so_far.ensures.other c.faults_stand.ensures _ _ _ _ _ _ _ _ c.decide-outcome.ensures c.tell.ensures.follows
+returns-clause-whole g c =
+    told_whole c.fault_so_far.ensures.other _ _ _ _ _ _ (shape_kept c.exact_reading.ensures c.fault_so_far.ensures.other c.faults_stand.ensures _ _) (shape_free _ _) _ _ _
+    c.decide-outcome.ensures c.tell.ensures.follows
 
 pub returns-clause-prefix : goal.returns-clause-prefix
 returns-clause-prefix g c = λ failed.
     let (told, follows, out) = c.tell.ensures.prefix failed in
-    (told, outcome_told _ _ _ _ _ _ _ told c.decide-outcome.ensures follows, out)
+    (told, outcome_told _ _ _ _ _ _ _ _ told c.decide-outcome.ensures follows, out)

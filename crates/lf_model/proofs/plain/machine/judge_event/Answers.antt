@@ -1,0 +1,38 @@
+use Rattle.lf_model.specs.Plain.{busy_of, slice_of}
+use Rattle.lf_model.proofs.plain.machine.judge_event.Goals as goal
+
+pub returns-in-Issue : goal.returns-in-Issue
+returns-in-Issue c = rw c.in-Issue.is (c.judge_issue.ensures (slice_of c.args.slice.now) (busy_of c.args.busy.now c.args.item.now.log) c.args.item.now.log c.args.item.now.bank c.in-Issue.size c.in-Issue.address c.in-Issue.op c.in-Issue.bytes c.is_free.ensures)
+
+pub returns-in-Hit : goal.returns-in-Hit
+returns-in-Hit c = rw c.in-Hit.is (c.judge_hit.ensures (busy_of c.args.busy.now c.args.item.now.log) c.args.item.now.log c.args.item.now.bank)
+
+pub returns-in-Primary : goal.returns-in-Primary
+returns-in-Primary c = rw c.in-Primary.is (c.judge_primary.ensures (busy_of c.args.busy.now c.args.item.now.log) c.args.item.now.log c.args.item.now.bank)
+
+pub returns-in-Merge : goal.returns-in-Merge
+returns-in-Merge c = rw c.in-Merge.is (c.judge_merge.ensures (busy_of c.args.busy.now c.args.item.now.log) c.args.item.now.log c.args.item.now.bank)
+
+pub returns-in-Stall : goal.returns-in-Stall
+returns-in-Stall c = rw c.in-Stall.is (c.judge_stall.ensures (busy_of c.args.busy.now c.args.item.now.log) c.args.item.now.log c.args.item.now.bank)
+
+pub returns-in-SecondHit : goal.returns-in-SecondHit
+returns-in-SecondHit c = rw c.in-SecondHit.is (c.judge_second_hit.ensures (busy_of c.args.busy.now c.args.item.now.log) c.args.item.now.log c.args.item.now.bank)
+
+pub returns-in-SecondPrimary : goal.returns-in-SecondPrimary
+returns-in-SecondPrimary c = rw c.in-SecondPrimary.is (c.judge_second_primary.ensures (busy_of c.args.busy.now c.args.item.now.log) c.args.item.now.log c.args.item.now.bank)
+
+pub returns-in-SecondStall : goal.returns-in-SecondStall
+returns-in-SecondStall c = rw c.in-SecondStall.is (c.judge_second_stall.ensures (busy_of c.args.busy.now c.args.item.now.log) c.args.item.now.log c.args.item.now.bank)
+
+pub returns-in-Fill1 : goal.returns-in-Fill1
+returns-in-Fill1 c = rw c.in-Fill1.is (rw (← c.fill_agrees-agrees.ensures.first) (c.judge_fill1.ensures (busy_of c.args.busy.now c.args.item.now.log) c.args.item.now.log c.args.item.now.bank c.in-Fill1.bytes))
+
+pub returns-in-Fill2 : goal.returns-in-Fill2
+returns-in-Fill2 c = rw c.in-Fill2.is (rw (← c.fill_agrees-agrees-in-Fill2.ensures.second) (c.judge_fill2.ensures (busy_of c.args.busy.now c.args.item.now.log) c.args.item.now.log c.args.item.now.bank c.in-Fill2.bytes))
+
+pub returns-in-Evict1 : goal.returns-in-Evict1
+returns-in-Evict1 c = rw c.in-Evict1.is (rw (← c.evict_agrees-agrees.ensures.first (slice_of c.args.slice.now)) (c.judge_evict1.ensures (busy_of c.args.busy.now c.args.item.now.log) c.args.item.now.log c.args.item.now.bank c.in-Evict1.bytes))
+
+pub returns-in-Evict2 : goal.returns-in-Evict2
+returns-in-Evict2 c = rw c.in-Evict2.is (rw (← c.evict_agrees-agrees-in-Evict2.ensures.second (slice_of c.args.slice.now)) (c.judge_evict2.ensures (busy_of c.args.busy.now c.args.item.now.log) c.args.item.now.log c.args.item.now.bank c.in-Evict2.bytes))

@@ -1,0 +1,236 @@
+//! What a bank holds after an event. Where a growth is refused, it may be left half changed.
+
+ghost use Rattle.std.specs.Prelude.{◌≡◌, ℕ, true, ◌∷◌, [], ◌++◌, ◌<◌, map, length, bit_or, OnOk};
+ghost use Rattle.std.specs.List.{position};
+ghost use Rattle.arrayvec.specs.ArrayVec.{ArrayVec};
+ghost use Rattle.lf_model.specs.Address.{FlatMemory};
+ghost use Rattle.lf_model.specs.Lines.{with_line, mark};
+ghost use Rattle.lf_model.specs.Registers.{targets_of};
+ghost use Rattle.lf_model.specs.declared.shape.Shape.{Shape};
+ghost use Rattle.lf_model.specs.declared.event.Op.{Op};
+ghost use Rattle.lf_model.specs.declared.mask.Mask.{Mask as MaskBits};
+ghost use Rattle.lf_model.specs.declared.event.Event.TheVariants as event;
+ghost use Rattle.lf_model.specs.Table.{without_asked, without, without_ready, is_head, is_ready_for, reply_of, request_of, memory_after};
+ghost use Rattle.lf_model.specs.Plain.{flat_of, queue_at, slice_of, slice_next};
+
+use crate::mask::Mask;
+use crate::outcome::NoMemory;
+use crate::plain::lines::{LineMap, dirty_mask, drop_line};
+use crate::plain::memory::PlainMemory;
+use crate::plain::queue::{drop_head, enqueue, head};
+use crate::plain::registers::{Held, release, store_bytes};
+use crate::plain::request::{Missed, Ready, Request};
+use crate::plain::slice::PlainSlice;
+
+fn push<T: Drop>(items: &mut Vec<T>, item: T) -> Result<(), NoMemory>
+    ensures { OnOk result (items.new.items ≡ items.old.items ++ item ∷ []) }
+{
+    match items.push(item) {
+        Ok(()) => Ok(()),
+        Err(_) => Err(NoMemory),
+    }
+}
+
+fn drop_asked(asked: &mut Vec<(u32, u16)>, block: u32)
+    ensures { asked.new.items ≡ without_asked asked.old.items block }
+{
+    asked.retain(|a| a.0 != block);
+}
+
+fn drop_block(blocks: &mut Vec<u32>, block: u32)
+    ensures { blocks.new.items ≡ without blocks.old.items block }
+{
+    blocks.retain(|b| *b != block);
+}
+
+/// The block's line has this mask.
+fn put_line(lines: &mut LineMap, block: u32, mask: u64) -> Result<(), NoMemory>
+    ensures { OnOk result (lines.new.entries ≡ with_line lines.old.entries block mask) }
+{
+    match lines.insert(block, mask) {
+        Ok(_) => Ok(()),
+        Err(_) => Err(NoMemory),
+    }
+}
+
+/// The line's mask gains these bytes.
+fn mark(lines: &mut LineMap, block: u32, mask: u64) -> Result<(), NoMemory>
+    ensures { OnOk result (lines.new.entries ≡ mark lines.old.entries block mask) }
+{
+    put_line(lines, block, dirty_mask(lines, block) | mask)
+}
+
+impl PlainSlice {
+    pub(crate) fn issue(&mut self, log: u8, request: Request) -> Result<(), NoMemory>
+        requires { log < length self.old.queues.items }
+        ensures slice { (shape : Shape) (memory : FlatMemory) (op : Op) (tag size address : ℕ) (bytes : ArrayVec ℕ) → request ≡ request_of shape tag op size address bytes.items →
+            OnOk result (slice_of self.new ≡ slice_next shape memory (slice_of self.old) log (event.Issue op tag size address bytes)) }
+        ensures ports { OnOk result (length self.new.queues.items ≡ length self.old.queues.items) }
+    {
+        enqueue(&mut self.queues, log, request)
+    }
+
+    pub(crate) fn reply(&mut self, log: u8, tag: u8)
+        ensures slice { (shape : Shape) (memory : FlatMemory) (size : ℕ) (bytes : ArrayVec ℕ) → slice_of self.new ≡ slice_next shape memory (slice_of self.old) log (event.Reply tag size bytes) }
+        ensures ports { self.new.queues ≡ self.old.queues }
+    {
+        drop_ready(&mut self.ready, log, tag);
+    }
+
+    pub(crate) fn hit(
+        &mut self,
+        memory: &mut PlainMemory,
+        port: u8,
+        tag: u8,
+    ) -> Result<(), NoMemory>
+        requires inside { port < length self.old.queues.items }
+        requires next { is_head (queue_at self.old.queues.items port) tag ≡ true }
+        ensures slice { (shape : Shape) (log : ℕ) → OnOk result (slice_of self.new ≡ slice_next shape (flat_of memory.old) (slice_of self.old) log (event.Hit port tag)) }
+        ensures memory { OnOk result (flat_of memory.new ≡ memory_after (flat_of memory.old) (slice_of self.old) (event.Hit port tag)) }
+        ensures ports { OnOk result (length self.new.queues.items ≡ length self.old.queues.items) }
+    {
+        let Some(request) = head(&self.queues, port, tag) else {
+            unreachable!()
+        };
+        let value = memory.value_of(request);
+        push(&mut self.ready, Ready { port, tag, value })?;
+        mark(&mut self.lines1, request.block(), request.store_mask())?;
+        memory.accept(request)?;
+        drop_head(&mut self.queues, port);
+        Ok(())
+    }
+
+    pub(crate) fn merge(
+        &mut self,
+        memory: &mut PlainMemory,
+        port: u8,
+        tag: u8,
+        register: u16,
+    ) -> Result<(), NoMemory>
+        requires inside { port < length self.old.queues.items }
+        requires next { is_head (queue_at self.old.queues.items port) tag ≡ true }
+        ensures slice { (shape : Shape) (log : ℕ) → OnOk result (slice_of self.new ≡ slice_next shape (flat_of memory.old) (slice_of self.old) log (event.Merge port tag register)) }
+        ensures memory { OnOk result (flat_of memory.new ≡ memory_after (flat_of memory.old) (slice_of self.old) (event.Merge port tag register)) }
+        ensures ports { OnOk result (length self.new.queues.items ≡ length self.old.queues.items) }
+    {
+        let Some(request) = head(&self.queues, port, tag) else {
+            unreachable!()
+        };
+        push(&mut self.waiting, memory.missed(port, register, request))?;
+        memory.accept(request)?;
+        drop_head(&mut self.queues, port);
+        Ok(())
+    }
+
+    pub(crate) fn primary(
+        &mut self,
+        memory: &mut PlainMemory,
+        port: u8,
+        tag: u8,
+        register: u16,
+    ) -> Result<(), NoMemory>
+        requires inside { port < length self.old.queues.items }
+        requires next { is_head (queue_at self.old.queues.items port) tag ≡ true }
+        ensures slice { (shape : Shape) (log : ℕ) → OnOk result (slice_of self.new ≡ slice_next shape (flat_of memory.old) (slice_of self.old) log (event.Primary port tag register)) }
+        ensures memory { OnOk result (flat_of memory.new ≡ memory_after (flat_of memory.old) (slice_of self.old) (event.Primary port tag register)) }
+        ensures ports { OnOk result (length self.new.queues.items ≡ length self.old.queues.items) }
+    {
+        let Some(request) = head(&self.queues, port, tag) else {
+            unreachable!()
+        };
+        push(&mut self.waiting, memory.missed(port, register, request))?;
+        push(&mut self.asked, (request.block(), register))?;
+        memory.accept(request)?;
+        drop_head(&mut self.queues, port);
+        Ok(())
+    }
+
+    pub(crate) fn fill1(&mut self, block: u32) -> Result<(), NoMemory>
+        ensures slice { (shape : Shape) (memory : FlatMemory) (log : ℕ) (bytes : ArrayVec ℕ) → OnOk result (slice_of self.new ≡ slice_next shape memory (slice_of self.old) log (event.Fill1 block bytes)) }
+        ensures ports { OnOk result (self.new.queues ≡ self.old.queues) }
+    {
+        add_replies(&mut self.ready, &self.waiting, block)?;
+        put_line(&mut self.lines1, block, store_bytes(&self.waiting, block))?;
+        release(&mut self.waiting, block);
+        drop_block(&mut self.supplied, block);
+        Ok(())
+    }
+
+    pub(crate) fn evict1(&mut self, block: u32, mask: Mask) -> Result<(), NoMemory>
+        ensures slice { (shape : Shape) (memory : FlatMemory) (log : ℕ) (bytes : ArrayVec ℕ) → OnOk result (slice_of self.new ≡ slice_next shape memory (slice_of self.old) log (event.Evict1 block mask bytes)) }
+        ensures ports { OnOk result (self.new.queues ≡ self.old.queues) }
+    {
+        drop_line(&mut self.lines1, block);
+        mark(&mut self.lines2, block, mask.0)
+    }
+
+    pub(crate) fn second_hit(&mut self, block: u32) -> Result<(), NoMemory>
+        ensures slice { (shape : Shape) (memory : FlatMemory) (log : ℕ) → OnOk result (slice_of self.new ≡ slice_next shape memory (slice_of self.old) log (event.SecondHit block)) }
+        ensures ports { OnOk result (self.new.queues ≡ self.old.queues) }
+    {
+        push(&mut self.supplied, block)?;
+        drop_asked(&mut self.asked, block);
+        Ok(())
+    }
+
+    pub(crate) fn second_primary(&mut self, block: u32, register: u16) -> Result<(), NoMemory>
+        ensures slice { (shape : Shape) (memory : FlatMemory) (log : ℕ) → OnOk result (slice_of self.new ≡ slice_next shape memory (slice_of self.old) log (event.SecondPrimary block register)) }
+        ensures ports { OnOk result (self.new.queues ≡ self.old.queues) }
+    {
+        let target = self.asked_register(block);
+        let held = Held {
+            register,
+            block,
+            target,
+        };
+        push(&mut self.regs2, held)?;
+        drop_asked(&mut self.asked, block);
+        Ok(())
+    }
+
+    pub(crate) fn fill2(&mut self, block: u32) -> Result<(), NoMemory>
+        ensures slice { (shape : Shape) (memory : FlatMemory) (log : ℕ) (bytes : ArrayVec ℕ) → OnOk result (slice_of self.new ≡ slice_next shape memory (slice_of self.old) log (event.Fill2 block bytes)) }
+        ensures ports { OnOk result (self.new.queues ≡ self.old.queues) }
+    {
+        push(&mut self.supplied, block)?;
+        put_line(&mut self.lines2, block, 0)?;
+        release(&mut self.regs2, block);
+        Ok(())
+    }
+
+    pub(crate) fn evict2(&mut self, block: u32)
+        ensures slice { (shape : Shape) (memory : FlatMemory) (log : ℕ) (mask : MaskBits) (bytes : ArrayVec ℕ) → slice_of self.new ≡ slice_next shape memory (slice_of self.old) log (event.Evict2 block mask bytes) }
+        ensures ports { self.new.queues ≡ self.old.queues }
+    {
+        drop_line(&mut self.lines2, block);
+    }
+}
+
+/// The first reply that is ready for the port and tag leaves.
+fn drop_ready(ready: &mut Vec<Ready>, port: u8, tag: u8)
+    ensures { ready.new.items ≡ without_ready ready.old.items port tag }
+{
+    if let Some(at) = ready_at(ready, port, tag) {
+        ready.remove(at);
+    }
+}
+
+fn ready_at(ready: &[Ready], port: u8, tag: u8) -> Option<usize>
+    ensures { result ≡ position (is_ready_for port tag) ready.now }
+{
+    ready
+        .iter()
+        .position(|r| r.port() == port && r.tag() == tag)
+}
+
+/// The block's targets may have their replies, in the order of acceptance.
+fn add_replies(ready: &mut Vec<Ready>, waiting: &[Held<Missed>], block: u32) -> Result<(), NoMemory>
+    ensures { OnOk result (ready.new.items ≡ ready.old.items ++ map reply_of (targets_of waiting.now block)) }
+{
+    for held in waiting {
+        if held.block() == block {
+            push(ready, held.target().reply())?;
+        }
+    }
+    Ok(())
+}

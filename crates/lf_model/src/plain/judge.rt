@@ -1,0 +1,337 @@
+//! Which rule a record breaks first. Nothing changes here.
+
+ghost use Rattle.std.specs.Prelude.{◌≡◌, ℕ, ◌<◌, true, Bool, Option, length, is_none};
+ghost use Rattle.lf_model.specs.declared.event.Event.TheVariants as event;
+ghost use Rattle.lf_model.specs.declared.event.Op.{Op};
+ghost use Rattle.arrayvec.specs.ArrayVec.{ArrayVec};
+ghost use Rattle.lf_model.specs.Address.{block_bytes, agree_off, masked};
+ghost use Rattle.lf_model.specs.InRange.{IsShape};
+ghost use Rattle.lf_model.specs.Plain.{slice_of, IsFramed};
+ghost use Rattle.lf_model.specs.State.{Slice};
+ghost use Rattle.lf_model.specs.Table.{OfBoth, rules_of, destination, destinations, destinations2, is_at};
+ghost use Rattle.lf_model.specs.Run.{first_failing};
+
+use crate::event::Block;
+use crate::mask::Mask;
+use crate::plain::lines::{dirty_mask, has_line, has_way};
+use crate::plain::registers::{
+    has_room, holds, is_free, registers_of, right_for_merge, right_for_primary, takes,
+};
+use crate::plain::slice::PlainSlice;
+use crate::rule::Rule;
+use crate::shape::Shape;
+
+/// The number by which a register is inverted: one for each port and tag.
+fn destination(shape: &Shape, port: u8, tag: u8) -> u32
+    requires { IsShape shape.now }
+    ensures { result ≡ destination shape.now port tag }
+{
+    u32::from(port) * shape.tags + u32::from(tag)
+}
+
+fn destinations(shape: &Shape) -> u32
+    requires { IsShape shape.now }
+    ensures { result ≡ destinations shape.now }
+{
+    shape.ports * shape.tags
+}
+
+/// At level two there is one for each register of level one.
+fn destinations2(shape: &Shape) -> u32
+    requires { IsShape shape.now }
+    ensures { result ≡ destinations2 shape.now }
+{
+    registers_of(shape.level1.organisation, destinations(shape))
+}
+
+impl PlainSlice {
+    /// `is_free` says whether the tag is not busy.
+    pub(crate) fn judge_issue(shape: &Shape, is_free: bool, tag: u8) -> Option<Rule>
+        ensures { (slice : Slice) (busy : ℕ → Option ℕ) (log bank size address : ℕ) (op : Op) (bytes : ArrayVec ℕ) → is_free ≡ is_none (busy tag) → result ≡ first_failing OfBoth (rules_of shape.now true busy slice log bank (event.Issue op tag size address bytes)) }
+    {
+        if u32::from(tag) >= shape.tags {
+            return Some(Rule::TagRange);
+        }
+        if is_free { None } else { Some(Rule::TagBusy) }
+    }
+
+    /// `is_owed` says whether the tag is busy with this bank.
+    pub(crate) fn judge_reply(
+        &self,
+        shape: &Shape,
+        is_owed: bool,
+        log: u8,
+        tag: u8,
+        size: u8,
+        bytes: &Block,
+    ) -> Option<Rule>
+        ensures { (busy : ℕ → Option ℕ) (bank : ℕ) → is_owed ≡ is_at (busy tag) bank → result ≡ first_failing OfBoth (rules_of shape.now true busy (slice_of self.now) log bank (event.Reply tag size bytes.now)) }
+    {
+        if u32::from(tag) >= shape.tags {
+            return Some(Rule::TagRange);
+        }
+        if !is_owed {
+            return Some(Rule::NotOutstanding);
+        }
+        let Some(ready) = self.ready_for(log, tag) else {
+            return Some(Rule::NotReady);
+        };
+        if usize::from(size) != ready.value().len() {
+            return Some(Rule::ReplySize);
+        }
+        if bytes.as_slice() != ready.value() {
+            return Some(Rule::ReplyData);
+        }
+        None
+    }
+
+    pub(crate) fn judge_hit(&self, shape: &Shape, port: u8, tag: u8) -> Option<Rule>
+        requires { IsFramed shape.now self.now }
+        ensures { (busy : ℕ → Option ℕ) (log bank : ℕ) → result ≡ first_failing OfBoth (rules_of shape.now true busy (slice_of self.now) log bank (event.Hit port tag)) }
+    {
+        let Some(request) = self.head(port, tag) else {
+            return Some(Rule::NotHead);
+        };
+        if !has_line(&self.lines1, request.block()) {
+            return Some(Rule::NotPresent);
+        }
+        None
+    }
+
+    pub(crate) fn judge_primary(
+        &self,
+        shape: &Shape,
+        port: u8,
+        tag: u8,
+        register: u16,
+    ) -> Option<Rule>
+        requires { IsFramed shape.now self.now }
+        ensures { (busy : ℕ → Option ℕ) (log bank : ℕ) → result ≡ first_failing OfBoth (rules_of shape.now true busy (slice_of self.now) log bank (event.Primary port tag register)) }
+    {
+        let Some(request) = self.head(port, tag) else {
+            return Some(Rule::NotHead);
+        };
+        let organisation = shape.level1.organisation;
+        let register = u32::from(register);
+        if has_line(&self.lines1, request.block()) {
+            return Some(Rule::Present);
+        }
+        if holds(&self.waiting, request.block()) {
+            return Some(Rule::PrimaryInFlight);
+        }
+        if register >= registers_of(organisation, destinations(shape)) {
+            return Some(Rule::RegisterRange);
+        }
+        if !right_for_primary(organisation, destination(shape, port, tag), register) {
+            return Some(Rule::WrongRegister);
+        }
+        if !is_free(&self.waiting, register) {
+            return Some(Rule::RegisterBusy);
+        }
+        None
+    }
+
+    pub(crate) fn judge_merge(
+        &self,
+        shape: &Shape,
+        port: u8,
+        tag: u8,
+        register: u16,
+    ) -> Option<Rule>
+        requires { IsFramed shape.now self.now }
+        ensures { (busy : ℕ → Option ℕ) (log bank : ℕ) → result ≡ first_failing OfBoth (rules_of shape.now true busy (slice_of self.now) log bank (event.Merge port tag register)) }
+    {
+        let Some(request) = self.head(port, tag) else {
+            return Some(Rule::NotHead);
+        };
+        let organisation = shape.level1.organisation;
+        let register = u32::from(register);
+        let destination = destination(shape, port, tag);
+        let word = u32::from(request.offset()) / 8;
+        if !holds(&self.waiting, request.block()) {
+            return Some(Rule::NotInFlight);
+        }
+        if register >= registers_of(organisation, destinations(shape)) {
+            return Some(Rule::RegisterRange);
+        }
+        if !right_for_merge(
+            organisation,
+            &self.waiting,
+            request.block(),
+            destination,
+            register,
+        ) {
+            return Some(Rule::WrongRegister);
+        }
+        if !takes(organisation, &self.waiting, register, word) {
+            return Some(Rule::MergeFull);
+        }
+        None
+    }
+
+    pub(crate) fn judge_stall(&self, shape: &Shape, port: u8, tag: u8) -> Option<Rule>
+        requires { IsFramed shape.now self.now }
+        ensures { (busy : ℕ → Option ℕ) (log bank : ℕ) → result ≡ first_failing OfBoth (rules_of shape.now true busy (slice_of self.now) log bank (event.Stall port tag)) }
+    {
+        let Some(request) = self.head(port, tag) else {
+            return Some(Rule::NotHead);
+        };
+        if has_line(&self.lines1, request.block()) {
+            return Some(Rule::Present);
+        }
+        if has_room(
+            shape.level1.organisation,
+            destinations(shape),
+            &self.waiting,
+            request.block(),
+            destination(shape, port, tag),
+            u32::from(request.offset()) / 8,
+        ) {
+            return Some(Rule::NeedlessStall);
+        }
+        None
+    }
+
+    /// `agrees` says whether the fill's bytes are those of memory off the bytes of waiting stores.
+    pub(crate) fn judge_fill1(&self, shape: &Shape, agrees: bool, block: u32) -> Option<Rule>
+        requires { IsFramed shape.now self.now }
+        ensures { (busy : ℕ → Option ℕ) (log bank : ℕ) (bytes : ArrayVec ℕ) → result ≡ first_failing OfBoth (rules_of shape.now agrees busy (slice_of self.now) log bank (event.Fill1 block bytes)) }
+    {
+        if !self.has_supplied(block) {
+            return Some(Rule::NotSupplied);
+        }
+        if !has_way(shape, &shape.level1, &self.lines1, block) {
+            return Some(Rule::SetFull);
+        }
+        if agrees { None } else { Some(Rule::FillData) }
+    }
+
+    /// `agrees` says whether the bytes are those of memory under the mask.
+    pub(crate) fn judge_evict1(
+        &self,
+        shape: &Shape,
+        agrees: bool,
+        block: u32,
+        mask: Mask,
+    ) -> Option<Rule>
+        requires { IsFramed shape.now self.now }
+        ensures { (busy : ℕ → Option ℕ) (log bank : ℕ) (bytes : ArrayVec ℕ) → result ≡ first_failing OfBoth (rules_of shape.now agrees busy (slice_of self.now) log bank (event.Evict1 block mask bytes)) }
+    {
+        if !has_line(&self.lines1, block) {
+            return Some(Rule::EvictAbsent);
+        }
+        if mask.0 != dirty_mask(&self.lines1, block) {
+            return Some(Rule::EvictMask);
+        }
+        if agrees { None } else { Some(Rule::EvictData) }
+    }
+
+    pub(crate) fn judge_second_hit(&self, shape: &Shape, block: u32) -> Option<Rule>
+        requires { IsFramed shape.now self.now }
+        ensures { (busy : ℕ → Option ℕ) (log bank : ℕ) → result ≡ first_failing OfBoth (rules_of shape.now true busy (slice_of self.now) log bank (event.SecondHit block)) }
+    {
+        if !self.has_asked(block) {
+            return Some(Rule::NotAsked);
+        }
+        if !has_line(&self.lines2, block) {
+            return Some(Rule::SecondAbsent);
+        }
+        None
+    }
+
+    pub(crate) fn judge_second_primary(
+        &self,
+        shape: &Shape,
+        block: u32,
+        register: u16,
+    ) -> Option<Rule>
+        requires { IsFramed shape.now self.now }
+        ensures { (busy : ℕ → Option ℕ) (log bank : ℕ) → result ≡ first_failing OfBoth (rules_of shape.now true busy (slice_of self.now) log bank (event.SecondPrimary block register)) }
+    {
+        let organisation = shape.level2.organisation;
+        let register = u32::from(register);
+        if !self.has_asked(block) {
+            return Some(Rule::NotAsked);
+        }
+        if has_line(&self.lines2, block) {
+            return Some(Rule::SecondPresent);
+        }
+        if holds(&self.regs2, block) {
+            return Some(Rule::PrimaryInFlight);
+        }
+        if register >= registers_of(organisation, destinations2(shape)) {
+            return Some(Rule::RegisterRange);
+        }
+        if !right_for_primary(
+            organisation,
+            u32::from(self.asked_register(block)),
+            register,
+        ) {
+            return Some(Rule::WrongRegister);
+        }
+        if !is_free(&self.regs2, register) {
+            return Some(Rule::RegisterBusy);
+        }
+        None
+    }
+
+    pub(crate) fn judge_second_stall(&self, shape: &Shape, block: u32) -> Option<Rule>
+        requires { IsFramed shape.now self.now }
+        ensures { (busy : ℕ → Option ℕ) (log bank : ℕ) → result ≡ first_failing OfBoth (rules_of shape.now true busy (slice_of self.now) log bank (event.SecondStall block)) }
+    {
+        if !self.has_asked(block) {
+            return Some(Rule::NotAsked);
+        }
+        if has_line(&self.lines2, block) {
+            return Some(Rule::SecondPresent);
+        }
+        if has_room(
+            shape.level2.organisation,
+            destinations2(shape),
+            &self.regs2,
+            block,
+            u32::from(self.asked_register(block)),
+            0,
+        ) {
+            return Some(Rule::NeedlessStall);
+        }
+        None
+    }
+
+    /// `agrees` as for a fill of level one.
+    pub(crate) fn judge_fill2(&self, shape: &Shape, agrees: bool, block: u32) -> Option<Rule>
+        requires { IsFramed shape.now self.now }
+        ensures { (busy : ℕ → Option ℕ) (log bank : ℕ) (bytes : ArrayVec ℕ) → result ≡ first_failing OfBoth (rules_of shape.now agrees busy (slice_of self.now) log bank (event.Fill2 block bytes)) }
+    {
+        if !holds(&self.regs2, block) {
+            return Some(Rule::NotFetched);
+        }
+        if !has_way(shape, &shape.level2, &self.lines2, block) {
+            return Some(Rule::SetFull);
+        }
+        if agrees { None } else { Some(Rule::FillData) }
+    }
+
+    /// `agrees` as for an eviction of level one.
+    pub(crate) fn judge_evict2(
+        &self,
+        shape: &Shape,
+        agrees: bool,
+        block: u32,
+        mask: Mask,
+    ) -> Option<Rule>
+        requires { IsFramed shape.now self.now }
+        ensures { (busy : ℕ → Option ℕ) (log bank : ℕ) (bytes : ArrayVec ℕ) → result ≡ first_failing OfBoth (rules_of shape.now agrees busy (slice_of self.now) log bank (event.Evict2 block mask bytes)) }
+    {
+        if !has_line(&self.lines2, block) {
+            return Some(Rule::EvictAbsent);
+        }
+        if has_line(&self.lines1, block) || holds(&self.waiting, block) {
+            return Some(Rule::Inclusion);
+        }
+        if mask.0 != dirty_mask(&self.lines2, block) {
+            return Some(Rule::EvictMask);
+        }
+        if agrees { None } else { Some(Rule::EvictData) }
+    }
+}

@@ -1,0 +1,222 @@
+//! The registers of one level: what they hold, in the order of acceptance.
+
+ghost use Rattle.std.specs.Prelude.{◌≡◌, ℕ, ◌+◌, ◌<◌, ◌≤◌, ◌↔◌, ◌==◌, ◌&&◌, length, count_by};
+ghost use Rattle.std.specs.List.{list_any, range_with_len};
+ghost use Rattle.lf_model.specs.Registers as model;
+ghost use Rattle.lf_model.specs.Table.{position, only_position, store_bytes, store_mask};
+ghost use Rattle.lf_model.specs.Registers.{holds, is_free, holds_in, registers_of, right_for_primary, right_for_merge, takes, has_room, released};
+
+use crate::plain::request::Missed;
+use crate::shape::OrgShape;
+use std::marker::Model;
+
+/// A register's block, and one target of it.
+#[derive(Drop)]
+pub(crate) struct Held<T> {
+    pub(crate) register: u16,
+    pub(crate) block: u32,
+    pub(crate) target: T,
+}
+
+impl<T> Model for Held<T> {
+    ghost use Rattle.lf_model.specs.Registers as model;
+
+    ghost Value = { model.Held T };
+
+    ghost view = { λ h. record { register = h.register; block = h.block; target = h.target } };
+}
+
+impl<T> Held<T> {
+    pub(crate) fn register(&self) -> u32
+        ensures { result ≡ self.now.register }
+    {
+        u32::from(self.register)
+    }
+
+    pub(crate) fn block(&self) -> u32
+        ensures { result ≡ self.now.block }
+    {
+        self.block
+    }
+
+    pub(crate) fn target(&self) -> &T
+        ensures { result.now ≡ self.now.target }
+    {
+        &self.target
+    }
+}
+
+/// What a register holds for a request.
+pub(crate) trait Target: Drop {
+    ghost position: { Self → ℕ };
+
+    /// The field of an implicitly addressed register that the target takes.
+    fn position(&self) -> u32
+        ensures { result ≡ position self.now };
+}
+
+impl Target for Missed {
+    ghost position = { position };
+
+    fn position(&self) -> u32 {
+        self.word()
+    }
+}
+
+/// A level-two register's target is the level-one register that asked.
+impl Target for u16 {
+    ghost position = { only_position };
+
+    fn position(&self) -> u32 {
+        0
+    }
+}
+
+pub(crate) fn holds<T>(held: &[Held<T>], block: u32) -> bool
+    ensures { result ≡ holds held.now block }
+{
+    held.iter().any(|h| h.block() == block)
+}
+
+fn is_used<T>(held: &[Held<T>], register: u32) -> bool
+    ensures { result ≡ list_any (λ h. h.register == register) held.now }
+{
+    held.iter().any(|h| h.register() == register)
+}
+
+pub(crate) fn is_free<T>(held: &[Held<T>], register: u32) -> bool
+    ensures { result ≡ is_free held.now register }
+{
+    !is_used(held, register)
+}
+
+pub(crate) fn holds_in<T>(held: &[Held<T>], register: u32, block: u32) -> bool
+    ensures { result ≡ holds_in held.now register block }
+{
+    held.iter()
+        .any(|h| h.register() == register && h.block() == block)
+}
+
+/// How many targets the register holds.
+fn targets_in<T>(held: &[Held<T>], register: u32) -> usize
+    ensures { result ≡ count_by (λ h. h.register == register) held.now }
+{
+    held.iter().filter(|h| h.register() == register).count()
+}
+
+/// Whether the register's field at this position is in use.
+fn is_field_used<T: Target>(held: &[Held<T>], register: u32, at: u32) -> bool
+    ensures { result ≡ list_any (λ h. h.register == register && T.position h.target == at) held.now }
+{
+    held.iter().any(|h| h.register() == register && h.target().position() == at)
+}
+
+/// Whether a further target at this position has a place in the register.
+pub(crate) fn takes<T: Target>(
+    organisation: OrgShape,
+    held: &[Held<T>],
+    register: u32,
+    at: u32,
+) -> bool
+    ensures { result ≡ takes organisation T.position held.now register at }
+{
+    match organisation {
+        OrgShape::Implicit { .. } => !is_field_used(held, register, at),
+        OrgShape::Explicit { entries, .. } => targets_in(held, register) < entries as usize,
+        OrgShape::Inverted => is_free(held, register),
+    }
+}
+
+/// How many registers there are.
+pub(crate) fn registers_of(organisation: OrgShape, destinations: u32) -> u32
+    ensures { result ≡ registers_of organisation destinations }
+{
+    match organisation {
+        OrgShape::Implicit { registers } | OrgShape::Explicit { registers, .. } => registers,
+        OrgShape::Inverted => destinations,
+    }
+}
+
+/// Whether a primary miss of this destination may take the register.
+pub(crate) fn right_for_primary(organisation: OrgShape, destination: u32, register: u32) -> bool
+    ensures { result ≡ right_for_primary organisation destination register }
+{
+    match organisation {
+        OrgShape::Inverted => register == destination,
+        _ => true,
+    }
+}
+
+/// Whether it is the register that a further miss of this destination to the block joins.
+pub(crate) fn right_for_merge<T>(
+    organisation: OrgShape,
+    held: &[Held<T>],
+    block: u32,
+    destination: u32,
+    register: u32,
+) -> bool
+    ensures { result ≡ right_for_merge organisation held.now block destination register }
+{
+    match organisation {
+        OrgShape::Inverted => register == destination,
+        _ => holds_in(held, register, block),
+    }
+}
+
+fn some_takes<T: Target>(
+    organisation: OrgShape,
+    registers: u32,
+    held: &[Held<T>],
+    block: u32,
+    at: u32,
+) -> bool
+    ensures { result ≡ list_any (λ r. holds_in held.now r block && takes organisation T.position held.now r at) (range_with_len 0 registers) }
+{
+    (0..registers).any(|r| holds_in(held, r, block) && takes(organisation, held, r, at))
+}
+
+fn some_is_free<T>(registers: u32, held: &[Held<T>]) -> bool
+    ensures { result ≡ list_any (is_free held.now) (range_with_len 0 registers) }
+{
+    (0..registers).any(|r| is_free(held, r))
+}
+
+/// Whether some register takes a target of this block, destination and position.
+pub(crate) fn has_room<T: Target>(
+    organisation: OrgShape,
+    destinations: u32,
+    held: &[Held<T>],
+    block: u32,
+    destination: u32,
+    at: u32,
+) -> bool
+    ensures { result ≡ has_room organisation destinations T.position held.now block destination at }
+{
+    match organisation {
+        OrgShape::Implicit { registers } | OrgShape::Explicit { registers, .. } => {
+            if holds(held, block) {
+                some_takes(organisation, registers, held, block, at)
+            } else {
+                some_is_free(registers, held)
+            }
+        }
+        OrgShape::Inverted => destination < destinations && is_free(held, destination),
+    }
+}
+
+/// The targets of the block leave; the others keep their order.
+pub(crate) fn release<T: Drop>(held: &mut Vec<Held<T>>, block: u32)
+    ensures { held.new.items ≡ released held.old.items block }
+{
+    held.retain(|h| h.block() != block);
+}
+
+/// The bytes that waiting stores of the block write.
+pub(crate) fn store_bytes(waiting: &[Held<Missed>], block: u32) -> u64
+    ensures { result ≡ store_bytes waiting.now block }
+{
+    waiting
+        .iter()
+        .filter(|h| h.block() == block)
+        .fold(0, |mask, h| mask | h.target().store_mask())
+}

@@ -1,0 +1,156 @@
+//! A walk of the plain machine along an order of the logs.
+
+ghost use Rattle.std.specs.Prelude.{◌≡◌, ℕ, ◌+◌, ◌<◌, ◌≤◌, ◌^◌, [], ◌∷◌, List, IfOk, OnOk, MatchOption, drop, replicate, length, slice_index};
+ghost use Rattle.std.specs.List.{All, Contains, list_all};
+ghost use Rattle.lf_model.specs.Fits.{Fits};
+ghost use Rattle.lf_model.specs.Order.{log_at};
+ghost use Rattle.lf_model.specs.declared.plain.walk.Taken.TheVariants.{Next};
+ghost use Rattle.lf_model.specs.Plain.{count_left, is_empty, left_of, IsWalk, decided, recheck_of, walked};
+ghost use Rattle.lf_model.specs.Address.{flat_memory};
+ghost use Rattle.lf_model.specs.InRange.{IsShape};
+ghost use Rattle.lf_model.specs.Recheck.{lists_of};
+
+use crate::event::{Logs, Memory, Record};
+use crate::outcome::{NoMemory, Recheck};
+use crate::plain::machine::Machine;
+use crate::rule::Rule;
+use crate::shape::Shape;
+use std::alloc::Global;
+
+/// What came of one place of an order.
+#[derive(Clone, Copy, Debug, PartialEq, Eq)]
+pub(crate) enum Taken {
+    /// The record took effect.
+    Next,
+    /// The log has no next record, or not with its bank's next number.
+    NotNext,
+    /// The next record breaks a rule.
+    Breaks(Rule),
+}
+
+/// Where a walk along an order stands.
+#[derive(Drop)]
+pub(crate) struct Walk {
+    pub(crate) machine: Machine,
+    /// The place of the next record of each log.
+    pub(crate) places: Vec<usize>,
+    /// The next number of each bank.
+    pub(crate) next: Vec<u32>,
+}
+
+fn first_places(alloc: Global, count: usize) -> Result<Vec<usize>, NoMemory>
+    ensures { IfOk result (λ places. places.items ≡ replicate count 0) }
+{
+    match vec![in alloc; 0; count] {
+        Ok(places) => Ok(places),
+        Err(_) => Err(NoMemory),
+    }
+}
+
+fn first_numbers(alloc: Global, count: u32) -> Result<Vec<u32>, NoMemory>
+    ensures { IfOk result (λ numbers. numbers.items ≡ replicate count 0) }
+{
+    match vec![in alloc; 0; count as usize] {
+        Ok(numbers) => Ok(numbers),
+        Err(_) => Err(NoMemory),
+    }
+}
+
+impl Walk {
+    /// A walk before its first place.
+    pub(crate) fn new(
+        alloc: Global,
+        shape: &Shape,
+        memory: &Memory,
+        logs: &Logs,
+    ) -> Result<Walk, NoMemory>
+        requires { IsShape shape.now }
+        ensures walk { IfOk result (λ walk. IsWalk walk (lists_of logs.now)) }
+        ensures shape { IfOk result (λ walk. walk.machine.shape ≡ shape.now) }
+        ensures answer { IfOk result (λ walk. (order : List ℕ) → walked walk (lists_of logs.now) 0 order ≡ recheck_of shape.now (flat_memory memory.now.items) (lists_of logs.now) order) }
+        ensures left { IfOk result (λ walk. left_of walk.places.items (lists_of logs.now) ≡ lists_of logs.now) }
+        ensures next { IfOk result (λ walk. (bank : ℕ) → slice_index walk.next.items bank ≡ 0) }
+    {
+        Ok(Walk {
+            machine: Machine::new(alloc, shape, memory)?,
+            places: first_places(alloc, logs.len())?,
+            next: first_numbers(alloc, shape.banks)?,
+        })
+    }
+
+    /// The answer to the rest of an order, from its first place on.
+    pub(crate) fn follow(mut self, logs: &Logs, order: &[u8]) -> Result<Recheck, NoMemory>
+        requires walk { IsWalk self (lists_of logs.now) }
+        requires fits { All (λ log. All (Fits self.machine.shape) log.items) logs.now.items }
+        requires short { (log : ℕ) → length (log_at (lists_of logs.now) log) < 2 ^ 32 }
+        requires few { count_left (left_of self.places.items (lists_of logs.now)) ≤ 2 ^ 25 }
+        requires next { (bank : ℕ) → slice_index self.next.items bank ≡ 0 }
+        ensures { IfOk result (λ answer. answer ≡ walked self (lists_of logs.now) 0 order.now) }
+    {
+        let mut place: u32 = 0;
+        for log in order {
+            match self.take(logs, usize::from(*log))? {
+                Taken::Next => place += 1,
+                Taken::NotNext => return Ok(Recheck::NotAnOrder(place)),
+                Taken::Breaks(rule) => return Ok(Recheck::Broken(place, rule)),
+            }
+        }
+        if self.is_done(logs) {
+            Ok(Recheck::Accepted)
+        } else {
+            Ok(Recheck::NotAnOrder(place))
+        }
+    }
+
+    /// The next record of the log.
+    fn record<'a>(&self, logs: &'a Logs, log: usize) -> Option<&'a Record>
+        requires { length self.now.places.items ≡ length logs.now.items }
+        ensures { let left = log_at (left_of self.now.places.items (lists_of logs.now)) log in MatchOption result (left ≡ []) (λ item. (left ≡ item.now ∷ drop 1 left) × (log < length logs.now.items)
+            × (slice_index self.now.places.items log < length (log_at (lists_of logs.now) log)) × Contains (log_at (lists_of logs.now) log) item.now) }
+    {
+        if log >= logs.len() {
+            return None;
+        }
+        logs[log].get(self.places[log])
+    }
+
+    /// Whether no log has records left.
+    pub(crate) fn is_done(&self, logs: &Logs) -> bool
+        requires { length self.now.places.items ≡ length logs.now.items }
+        ensures { result ≡ list_all is_empty (left_of self.now.places.items (lists_of logs.now)) }
+    {
+        for log in 0..logs.len() {
+            if self.record(logs, log).is_some() {
+                return false;
+            }
+        }
+        true
+    }
+
+    /// Takes the next record of the named log.
+    pub(crate) fn take(&mut self, logs: &Logs, log: usize) -> Result<Taken, NoMemory>
+        requires walk { IsWalk self.old (lists_of logs.now) }
+        requires fits { All (λ log. All (Fits self.old.machine.shape) log.items) logs.now.items }
+        requires short { (log : ℕ) → length (log_at (lists_of logs.now) log) < 2 ^ 32 }
+        requires few { (bank : ℕ) → slice_index self.old.next.items bank + 1 < 2 ^ 32 }
+        ensures answer { IfOk result (λ taken. (place : ℕ) (order : List ℕ) → walked self.old (lists_of logs.now) place (log ∷ order) ≡ decided taken place (walked self.new (lists_of logs.now) (place + 1) order)) }
+        ensures count { IfOk result (λ taken. taken ≡ Next → count_left (left_of self.new.places.items (lists_of logs.now)) + 1 ≡ count_left (left_of self.old.places.items (lists_of logs.now))) }
+        ensures next { OnOk result ((bank : ℕ) → slice_index self.new.next.items bank ≤ slice_index self.old.next.items bank + 1) }
+        ensures walk { OnOk result (IsWalk self.new (lists_of logs.now)) }
+        ensures shape { OnOk result (self.new.machine.shape ≡ self.old.machine.shape) }
+    {
+        let Some(item) = self.record(logs, log) else {
+            return Ok(Taken::NotNext);
+        };
+        let bank = usize::from(item.bank);
+        if item.number != self.next[bank] {
+            return Ok(Taken::NotNext);
+        }
+        if let Some(rule) = self.machine.step(item)? {
+            return Ok(Taken::Breaks(rule));
+        }
+        self.next[bank] += 1;
+        self.places[log] += 1;
+        Ok(Taken::Next)
+    }
+}
