@@ -22,6 +22,24 @@ const LOAD_MISSES_BOTH_LEVELS: [u8; 132] = [
     0x06, 0x00, 0x00, 0x00,
 ];
 
+const CONFIGURATION: &str = "ports = 1
+banks = 1
+block = 8
+tags = 4
+[level1]
+sets = 1
+ways = 1
+organisation = \"explicit\"
+registers = 1
+entries = 2
+[level2]
+sets = 1
+ways = 2
+organisation = \"explicit\"
+registers = 1
+entries = 1
+";
+
 /// Explicitly addressed registers: one with two entries at level one, one with one at level two.
 fn hierarchy(ports: u32, banks: u32) -> Shape
     requires ports { IsFrom 1 16 ports }
@@ -127,6 +145,19 @@ fn one_load_is_legal(rt: HostRuntime) -> Result<(), Fail> {
     let empty = Draft::new(rt.alloc(), 1, 1)?.end()?;
     let none = check_shape(&rt, &hierarchy(1, 1), &[&empty], 1);
     assert_eq!(rt; none, yes(rt.alloc(), &[])?);
+    Ok(())
+}
+
+#[test]
+fn the_configuration_is_read(rt: HostRuntime) -> Result<(), Fail> {
+    let bytes: &[u8] = &LOAD_MISSES_BOTH_LEVELS;
+    let verdict = check(&rt, CONFIGURATION, &[bytes], 1);
+    assert_eq!(rt; verdict, yes(rt.alloc(), &[0, 1, 1, 1, 1, 0])?);
+    let verdict = check(&rt, "", &[bytes], 1);
+    let fault = ConfigFault::Missing(Key::Ports);
+    assert_eq!(rt; verdict, Verdict::Refused(Refusal::Config(fault)));
+    let verdict = check(&rt, "", &[bytes], 0);
+    assert_eq!(rt; verdict, Verdict::Refused(Refusal::Workers(0)));
     Ok(())
 }
 
