@@ -1,5 +1,5 @@
 -- Laws of the verdicts for a shape and for a configuration.
-use Rattle.std.proofs.Common.{◌≡◌, ◌≢◌, ℕ, ◌≤◌, List, ◌++◌, Option, None, Some, Result, Ok, Err, IfOk, sym, ap, ◌∙◌, refl, inl, inr, ◌⊎◌, [], arith}
+use Rattle.std.proofs.Common.{◌≡◌, ◌≢◌, ℕ, List, Option, None, Some, Result, Ok, Err, sym, ◌∙◌, refl, inl, inr, [], arith}
 use Rattle.lf_model.specs.declared.shape.Shape.{Shape}
 use Rattle.lf_model.specs.Fits.{Bytes}
 use Rattle.lf_model.specs.declared.event.Record.{Record}
@@ -20,7 +20,7 @@ use Rattle.score.specs.declared.counted.Counted.{Counted}
 use Rattle.score.specs.declared.fault.RunFault.{RunFault}
 use Rattle.score.specs.Counted.{calls_of, failures_of, inner_of}
 use Rattle.score.specs.Watch.{HasFault}
-use Rattle.score.specs.Run.{Reads, IsAsked, IsRefusedFirst, IsVerdictOfRead, IsLegalRead, IfYes, IsOutcome}
+use Rattle.score.specs.Run.{IsAsked, IsRefusedFirst, IsVerdictOfRead, IsLegalRead, IfYes, IsOutcome}
 use Rattle.score.proofs.RunLemmas.{IsKept, IsFreeUnless, HasNoFault}
 
 -- A trace has no fault.
@@ -103,19 +103,19 @@ text_free text workers bytes all (Yes events order) h = inl (h.0, (h.1.shape, h.
 verdict_for : (text : List ℕ) (shape : Shape) (workers : ℕ) (bytes : List ℕ) (v : Verdict) → configuration_of text ≡ Ok shape → IsVerdictOf shape workers bytes v → IsVerdictFor text workers bytes v
 verdict_for text shape workers bytes (Refused (Workers n)) e h = h
 verdict_for text shape workers bytes (Refused (Config f)) e h = absurd h.1
-verdict_for text shape workers bytes (Refused (Format f)) e h = (h.0, record { shape = shape; configured = e; verdict = h.1; })
-verdict_for text shape workers bytes (Refused (OtherHeader f)) e h = (h.0, record { shape = shape; configured = e; verdict = h.1; })
+verdict_for text shape workers bytes (Refused (Format f)) e h = (h.0, record { shape = shape; configured = e; verdict = h.1 })
+verdict_for text shape workers bytes (Refused (OtherHeader f)) e h = (h.0, record { shape = shape; configured = e; verdict = h.1 })
 verdict_for text shape workers bytes (Refused Memory) e h = absurd h.1
 verdict_for text shape workers bytes (Refused Thread) e h = absurd h.1
-verdict_for text shape workers bytes (No f) e h = (h.0, record { shape = shape; configured = e; verdict = h.1; })
-verdict_for text shape workers bytes (Yes events order) e h = (h.0, record { shape = shape; configured = e; verdict = h.1; })
+verdict_for text shape workers bytes (No f) e h = (h.0, record { shape = shape; configured = e; verdict = h.1 })
+verdict_for text shape workers bytes (Yes events order) e h = (h.0, record { shape = shape; configured = e; verdict = h.1 })
 
 legal_for : {R : Type 0} (remaining : R → Option (List ℕ)) (old new : R) (text : List ℕ) (shape : Shape) (v : Verdict) → configuration_of text ≡ Ok shape
     → IfYes v (IsLegalRead remaining old new (IsLegal shape)) → IfYes v (IsLegalRead remaining old new (IsLegalFor text))
 legal_for remaining old new text shape (Yes events order) e h = record {
   bytes = h.bytes;
   reads = h.reads;
-  legal = record { shape = shape; configured = e; legal = h.legal; };
+  legal = record { shape = shape; configured = e; legal = h.legal };
 }
 legal_for remaining old new text shape (No f) e h = tt
 legal_for remaining old new text shape (Refused f) e h = tt
@@ -164,8 +164,8 @@ fault_is_none text shape told.NoMemory h e = h
 -- a refusal that comes before the trace is asked for is the verdict of any bytes
 refused_verdict : {R : Type 0} (remaining : R → Option (List ℕ)) (old new : R) (text : List ℕ) (workers : ℕ) (r : Refusal) → IsRefusedFirst text workers r → IsJudged (Refused r)
     → IsVerdictOfRead remaining old new (IsAsked text workers) (IsVerdictFor text workers) (Refused r)
-refused_verdict remaining old new text workers (Workers n) h judged = record { bytes = []; reads = λ yes_asked. absurd (h.1 yes_asked.0); verdict = h; }
-refused_verdict remaining old new text workers (Config f) h judged = record { bytes = []; reads = λ yes_asked. absurd (fault_is_none text yes_asked.1.0 f h.1 yes_asked.1.1); verdict = h; }
+refused_verdict remaining old new text workers (Workers n) h judged = record { bytes = []; reads = λ yes_asked. absurd (h.1 yes_asked.0); verdict = h }
+refused_verdict remaining old new text workers (Config f) h judged = record { bytes = []; reads = λ yes_asked. absurd (fault_is_none text yes_asked.1.0 f h.1 yes_asked.1.1); verdict = h }
 refused_verdict remaining old new text workers (Format f) h judged = absurd h
 refused_verdict remaining old new text workers (OtherHeader f) h judged = absurd h
 refused_verdict remaining old new text workers Memory h judged = absurd judged

@@ -8,7 +8,8 @@ use std::alloc::{AllocError, Global};
 const ABOUT: &str = "Judges recorded traces of a two-level lockup-free (non-blocking) cache.";
 
 /// What the help says of `check`.
-const ABOUT_CHECK: &str = "Judges a trace for the hierarchy that a configuration says, and prints one line.";
+const ABOUT_CHECK: &str =
+    "Judges a trace for the hierarchy that a configuration says, and prints one line.";
 
 /// What the help says after the arguments.
 const ANSWERS: &str = "\
@@ -64,7 +65,7 @@ fn check_command<'a>(alloc: Global) -> Result<Command<'a>, AllocError> {
         .value_name("N")
         .value_parser(value_parser!(u16))
         .default_value("1")
-        .help("How many workers judge the trace");
+        .help("How many workers judge the trace; only 1 is taken yet");
     Command::new(alloc, "check")
         .about(ABOUT_CHECK)
         .after_help(ANSWERS)

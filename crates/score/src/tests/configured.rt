@@ -22,9 +22,11 @@ const BLOCK: &str = "block = 8\n";
 
 const TAGS: &str = "tags = 4\n";
 
-const LEVEL1: &str = "[level1]\nsets = 1\nways = 1\norganisation = \"explicit\"\nregisters = 1\nentries = 2\n";
+const LEVEL1: &str =
+    "[level1]\nsets = 1\nways = 1\norganisation = \"explicit\"\nregisters = 1\nentries = 2\n";
 
-const LEVEL2: &str = "[level2]\nsets = 1\nways = 2\norganisation = \"explicit\"\nregisters = 1\nentries = 1\n";
+const LEVEL2: &str =
+    "[level2]\nsets = 1\nways = 2\norganisation = \"explicit\"\nregisters = 1\nentries = 1\n";
 
 /// The configuration of `SMALL`, in its parts.
 pub const SMALL_TEXT: [&str; 6] = [PORTS, BANKS, BLOCK, TAGS, LEVEL1, LEVEL2];
@@ -49,14 +51,7 @@ pub fn assert_configured<T: Abort + AllocGlobal>(
     let config = joined(rt.alloc(), parts)?;
     let mut reader = Counted::new(Pieces::new(bytes, 50));
     let mut writer = Counted::new(Vec::new(rt.alloc()));
-    let answer = run(
-        rt,
-        &mut reader,
-        &mut writer,
-        config.as_str(),
-        workers,
-        1000,
-    );
+    let answer = run(rt, &mut reader, &mut writer, config.as_str(), workers, 1000);
     assert!(rt; answer.is_ok());
     let text = std::str::from_utf8(writer.inner().as_slice());
     assert_eq!(rt; text, Ok(line));
@@ -75,14 +70,7 @@ fn assert_unread<T: Abort + AllocGlobal>(
     failing.reads_before_failure = 0;
     let mut reader = Counted::new(failing);
     let mut writer = Counted::new(Vec::new(rt.alloc()));
-    let answer = run(
-        rt,
-        &mut reader,
-        &mut writer,
-        config.as_str(),
-        workers,
-        1000,
-    );
+    let answer = run(rt, &mut reader, &mut writer, config.as_str(), workers, 1000);
     assert!(rt; answer.is_ok());
     let text = std::str::from_utf8(writer.inner().as_slice());
     assert_eq!(rt; text, Ok(line));

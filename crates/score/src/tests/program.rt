@@ -34,7 +34,11 @@ fn is_check<T: Abort + AllocGlobal>(
         trace,
         workers,
     };
-    assert_eq!(rt; asked(rt.alloc(), words.as_slice()).ok(), Some(check), "{line}");
+    assert_eq!(rt;
+        asked(rt.alloc(), words.as_slice()).ok(),
+        Some(check),
+        "{line}"
+    );
     Ok(())
 }
 
@@ -60,7 +64,12 @@ fn words_of_the_command_line(rt: HostRuntime) -> Result<(), Fail> {
         is_check(&rt, line, files, 16)?;
     }
     is_check(&rt, "score check c.toml a.lfts --workers 0", files, 0)?;
-    is_check(&rt, "score check c.toml a.lfts --workers 65535", files, 65535)
+    is_check(
+        &rt,
+        "score check c.toml a.lfts --workers 65535",
+        files,
+        65535,
+    )
 }
 
 #[test]
@@ -95,7 +104,10 @@ fn help_is_asked_for(rt: HostRuntime) -> Result<(), Fail> {
         assert_eq!(rt; help.exit_code(), 0);
         let text = format!(in rt.alloc(); "{help}")?;
         assert!(rt; text.contains("refused format Truncated at=16"), "{line}");
-        assert!(rt; text.contains("The status is 0 for yes, 1 for no and 2 for refused."), "{line}");
+        assert!(rt;
+            text.contains("The status is 0 for yes, 1 for no and 2 for refused."),
+            "{line}"
+        );
     }
     Ok(())
 }
