@@ -1,5 +1,5 @@
 -- Laws of the verdicts for a shape and for a configuration.
-use Rattle.std.proofs.Common.{◌≡◌, ◌≢◌, ℕ, ◌≤◌, List, ◌++◌, Option, None, Some, Result, Ok, Err, IfOk, sym, ap, ◌∙◌, refl, inl, inr, ◌⊎◌, [], arith}
+use Rattle.std.proofs.Common.{◌≡◌, ◌≢◌, ℕ, List, Option, None, Some, Result, Ok, Err, sym, ◌∙◌, refl, inl, inr, [], arith}
 use Rattle.lf_model.specs.declared.shape.Shape.{Shape}
 use Rattle.lf_model.specs.Fits.{Bytes}
 use Rattle.lf_model.specs.declared.event.Record.{Record}
@@ -20,7 +20,7 @@ use Rattle.score.specs.declared.counted.Counted.{Counted}
 use Rattle.score.specs.declared.fault.RunFault.{RunFault}
 use Rattle.score.specs.Counted.{calls_of, failures_of, inner_of}
 use Rattle.score.specs.Watch.{HasFault}
-use Rattle.score.specs.Run.{Reads, IsAsked, IsRefusedFirst, IsVerdictOfRead, IsLegalRead, IfYes, IsOutcome}
+use Rattle.score.specs.Run.{IsAsked, IsRefusedFirst, IsVerdictOfRead, IsLegalRead, IfYes, IsOutcome}
 use Rattle.score.proofs.RunLemmas.{IsKept, IsFreeUnless, HasNoFault}
 
 -- A trace has no fault.

@@ -1,19 +1,18 @@
 -- Laws of what a run comes to and tells.
-use Rattle.std.proofs.Common.{◌≡◌, ◌≢◌, ℕ, ◌≤◌, List, ◌++◌, Option, None, Some, IfSome, Result, Ok, Err, IfOk, sym, ap, ◌∙◌, subst, append-nil, refl, inl, inr, ◌⊎◌}
+use Rattle.std.proofs.Common.{◌≡◌, ◌≢◌, ℕ, List, ◌++◌, Option, None, Some, IfSome, Result, Ok, Err, IfOk, sym, ap, ◌∙◌, subst, append-nil, refl, inl, inr, ◌⊎◌}
 use Rattle.std.specs.Io.KnownBytes.{Consumes, IsAtEnd}
 use Rattle.lf_codec.specs.declared.fault.CodecFault.{CodecFault}
 use Rattle.lf_codec.specs.Reading.{fault_so_far}
 use Rattle.lf_codec.specs.Laws.{AreBytes, FaultsSoFarAreNotTruncated}
 use Rattle.lf_verdict.specs.declared.answer.Verdict.{Verdict}
 use Rattle.lf_verdict.specs.declared.answer.Verdict.TheVariants.{Yes, No, Refused}
-use Rattle.lf_verdict.specs.declared.answer.Refusal.TheVariants.{Memory}
 use Rattle.lf_verdict.specs.Verdict.{IsJudged}
 use Rattle.score.specs.declared.counted.Counted.{Counted}
 use Rattle.score.specs.declared.fault.RunFault.{RunFault}
 use Rattle.score.specs.declared.fault.RunFault.TheVariants.{Write}
 use Rattle.score.specs.Counted.{inner_of}
 use Rattle.score.specs.Watch.{HasFault}
-use Rattle.score.specs.Run.{Reads, IsVerdictOfRead, IsLegalRead, IfYes, IsOutcome, Follows}
+use Rattle.score.specs.Run.{IsVerdictOfRead, IsLegalRead, IfYes, IsOutcome, Follows}
 
 -- What is told of an outcome is an outcome.
 pub outcome_told : {R : Type 0} (remaining : R → Option (List ℕ)) (old new : Counted R) (asked : Type 0) (L : List ℕ → List ℕ → Type 0) (V : List ℕ → Verdict → Type 0) (turns : ℕ) (outcome said : Result Verdict RunFault)

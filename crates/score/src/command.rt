@@ -65,7 +65,7 @@ fn check_command<'a>(alloc: Global) -> Result<Command<'a>, AllocError> {
         .value_name("N")
         .value_parser(value_parser!(u16))
         .default_value("1")
-        .help("How many workers judge the trace");
+        .help("How many workers judge the trace; only 1 is taken yet");
     Command::new(alloc, "check")
         .about(ABOUT_CHECK)
         .after_help(ANSWERS)
