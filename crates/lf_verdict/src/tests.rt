@@ -274,22 +274,3 @@ fn refusals(rt: HostRuntime) -> Result<(), Fail> {
     );
     Ok(())
 }
-
-/// The text of the hierarchy with one port and one bank.
-const CONFIGURATION: &str = "ports = 1\nbanks = 1\nblock = 8\ntags = 4\n\
-    [level1]\nsets = 1\nways = 1\norganisation = \"explicit\"\nregisters = 1\nentries = 2\n\
-    [level2]\nsets = 1\nways = 2\norganisation = \"explicit\"\nregisters = 1\nentries = 1\n";
-
-#[test]
-fn load_misses_both_levels_for_a_configuration(rt: HostRuntime) -> Result<(), Fail> {
-    let (first, second) = LOAD_MISSES_BOTH_LEVELS.split_at(50);
-    let order = [0, 1, 1, 1, 1, 0].to_vec(rt.alloc())?;
-    let verdict = check(&rt, CONFIGURATION, &[first, second], 1);
-    assert_eq!(rt; verdict, Verdict::Yes { events: 6, order });
-    let verdict = check(&rt, "ports = 1", &[first, second], 1);
-    let missing = ConfigFault::Missing(Key::Banks);
-    assert_eq!(rt; verdict, Verdict::Refused(Refusal::Config(missing)));
-    let verdict = check(&rt, "ports = 1", &[first, second], 2);
-    assert_eq!(rt; verdict, Verdict::Refused(Refusal::Workers(2)));
-    Ok(())
-}
