@@ -1,5 +1,6 @@
 //! The worked examples, whose answers come from the description of the rules.
 
+ghost use Rattle.std.specs.Prelude.{◌<◌};
 ghost use Rattle.lf_model.specs.InRange.{IsFrom, IsShape};
 
 use super::*;
@@ -250,6 +251,58 @@ fn mixed_logs_have_one_verdict(rt: HostRuntime) -> Result<(), Fail> {
     for bytes in [mixed, sorted] {
         let verdict = check_shape(&rt, &hierarchy(2, 1), &[&bytes], 1);
         assert_eq!(rt; verdict, yes(rt.alloc(), &[0, 1])?);
+    }
+    Ok(())
+}
+
+/// How the loads of four ports stand in a file. Each port sends one to each of four banks, in the order
+/// of the banks, and each bank has numbered them in the order of the ports.
+#[derive(Clone, Copy)]
+enum Mixture {
+    PortByPort,
+    LastPortFirst,
+    BankByBank,
+}
+
+impl Mixture {
+    /// The port and the bank of the load at this place of the file.
+    fn load_at(self, place: u8) -> (u8, u8)
+        requires { place < 16 }
+        ensures port { result.0 < 4 }
+        ensures bank { result.1 < 4 }
+    {
+        match self {
+            Mixture::PortByPort => (place / 4, place % 4),
+            Mixture::LastPortFirst => (3 - place / 4, place % 4),
+            Mixture::BankByBank => (place % 4, place / 4),
+        }
+    }
+
+    fn bytes(self, alloc: Global) -> Result<Vec<u8>, AllocError> {
+        let mut draft = Draft::new(alloc, 4, 4)?;
+        for place in 0..16u8 {
+            let (port, bank) = self.load_at(place);
+            let address = 8 * u64::from(bank);
+            draft.load(port, bank, u32::from(port), bank, address)?;
+        }
+        draft.end()
+    }
+}
+
+#[test]
+fn mixed_logs_of_four_ports_and_banks_in_any_pieces(rt: HostRuntime) -> Result<(), Fail> {
+    let order = [0, 0, 0, 0, 1, 1, 1, 1, 2, 2, 2, 2, 3, 3, 3, 3];
+    for mixture in [
+        Mixture::PortByPort,
+        Mixture::LastPortFirst,
+        Mixture::BankByBank,
+    ] {
+        let bytes = mixture.bytes(rt.alloc())?;
+        for size in [1usize, 7, 64, 1000] {
+            let pieces: Vec<&[u8]> = bytes.chunks(size).collect(rt.alloc())?;
+            let verdict = check_shape(&rt, &hierarchy(4, 4), &pieces, 1);
+            assert_eq!(rt; verdict, yes(rt.alloc(), &order)?);
+        }
     }
     Ok(())
 }

@@ -1,6 +1,7 @@
 //! What the words of the command line ask for, and files that cannot be read.
 
 use crate::command::{CommandFault, Request, asked};
+use crate::configuration::text_in;
 use crate::counted::Counted;
 use crate::engine::run_shape;
 use crate::fault::RunFault;
@@ -124,5 +125,23 @@ fn file_that_cannot_be_opened(rt: HostRuntime) -> Result<(), Fail> {
         writer.inner().as_slice(),
         b"refused read trace\n".as_slice()
     );
+    Ok(())
+}
+
+/// No file of this name is there, and a directory has no bytes to read.
+#[test]
+fn missing_files_and_directories(rt: HostRuntime) -> Result<(), Fail> {
+    for path in ["no such file", "."] {
+        let config = std::fs::read(&rt, path);
+        assert_eq!(rt; text_in(&config), Err("read config"), "{path}");
+        let mut reader = Counted::new(Trace::open(&rt, path));
+        let mut writer = Counted::new(Vec::new(rt.alloc()));
+        let answer = run_shape(&rt, &mut reader, &mut writer, &SMALL, 1, 1000);
+        assert_eq!(rt; answer.err(), Some(RunFault::Read), "{path}");
+        assert_eq!(rt;
+            writer.inner().as_slice(),
+            b"refused read trace\n".as_slice()
+        );
+    }
     Ok(())
 }
