@@ -1,3 +1,5 @@
+pub mod LogSetLemmas
+pub mod RosterLemmas
 pub mod Entries
 pub mod Orders
 pub mod Merge
@@ -7,3 +9,4 @@ pub mod Stuck
 pub mod RingLemmas
 pub mod Confluence
 pub mod OneRing
+pub mod OwnEntries

@@ -98,7 +98,7 @@ entry_at-drop (suc n) (x ∷ xs) k = let e : suc (n + k) ≡ suc n + k = omega a
 
 module _ (skeletons : List (List (ℕ × ℕ))) (order places next : List ℕ) (at : IsAt skeletons order places next) (whole : BanksAreWhole skeletons) where
   -- how many entries of the bank of a next entry there are
-  more_of_bank : (log : ℕ) (x : ℕ × ℕ) → next_entry skeletons places log ≡ Some x
+  pub more_of_bank : (log : ℕ) (x : ℕ × ℕ) → next_entry skeletons places log ≡ Some x
       → next_number at.gone x.0 < length (map (λ (e : ℕ × ℕ). e.1) (entries_of x.0 (joined skeletons)))
   more_of_bank log x is =
       let of_bank : ℕ × ℕ → Bool = λ e. e.0 == x.0 in

@@ -11,7 +11,7 @@ use lf_model::{Knot, Ring, Skeleton};
 /// The most logs that there are.
 pub(crate) const LOGS: usize = 32;
 
-const BANKS: usize = 256;
+pub(crate) const BANKS: usize = 256;
 
 /// Where each log and each bank stands.
 #[derive(Drop)]
@@ -45,43 +45,19 @@ impl Heads {
         entries(skeletons, log).get(self.places[log]).copied()
     }
 
-    /// Whether the log's next entry carries its bank's next number.
-    pub fn can_go(&self, skeletons: &[Skeleton], log: usize) -> bool
-        requires { log < 32 }
-        ensures { result ≡ can_go (lists_of skeletons.now) self.now.places self.now.next log }
-    {
-        match self.next_entry(skeletons, log) {
-            Some((bank, number)) => u64::from(number) == self.next[bank as usize],
-            None => false,
-        }
-    }
-
-    /// The lowest log that can go.
-    pub fn first_to_go(&self, skeletons: &[Skeleton]) -> Option<usize>
-        requires { length skeletons.now ≤ 32 }
-        ensures { MatchOption result
-            ((log : ℕ) → log < length skeletons.now → can_go (lists_of skeletons.now) self.now.places self.now.next log ≡ false)
-            (λ first. (first < length skeletons.now) × (can_go (lists_of skeletons.now) self.now.places self.now.next first ≡ true)
-            × ((log : ℕ) → log < first → can_go (lists_of skeletons.now) self.now.places self.now.next log ≡ false)) }
-    {
-        for log in 0..skeletons.len() {
-            if self.can_go(skeletons, log) {
-                return Some(log);
-            }
-        }
-        None
-    }
-
-    /// Lets the log's next entry go.
-    pub fn advance(&mut self, skeletons: &[Skeleton], log: usize)
+    /// Lets the log's next entry go, which is the answer.
+    pub fn advance(&mut self, skeletons: &[Skeleton], log: usize) -> (u8, u32)
         requires log { log < 32 }
         requires goes { can_go (lists_of skeletons.now) self.old.places self.old.next log ≡ true }
-        ensures { Advances (lists_of skeletons.now) self.old.places self.old.next log self.new.places self.new.next }
+        ensures entry { next_entry (lists_of skeletons.now) self.old.places log ≡ Some result }
+        ensures gone { Advances (lists_of skeletons.now) self.old.places self.old.next log self.new.places self.new.next }
     {
-        if let Some((bank, _)) = self.next_entry(skeletons, log) {
-            self.places[log] += 1;
-            self.next[bank as usize] += 1;
-        }
+        let Some((bank, number)) = self.next_entry(skeletons, log) else {
+            unreachable!();
+        };
+        self.places[log] += 1;
+        self.next[bank as usize] += 1;
+        (bank, number)
     }
 
     /// The lowest log with entries left.

@@ -5,7 +5,9 @@
 mod check;
 mod heads;
 mod laws;
+mod log_set;
 mod order;
+mod roster;
 
 pub use check::check_cycle;
 pub use laws::joins_are_one;

@@ -8,6 +8,7 @@ ghost use Rattle.lf_model.specs.Order.{IsLeastOrder};
 ghost use Rattle.lf_model.specs.Ring.{IsRing};
 
 use crate::heads::Heads;
+use crate::roster::Roster;
 use lf_model::{Ring, Skeleton};
 use std::alloc::{AllocError, Global};
 
@@ -22,14 +23,16 @@ pub enum JoinFault {
 
 /// The lowest logs that can go, in turn, as far as any can.
 fn merged(alloc: Global, skeletons: &[Skeleton]) -> Result<(Vec<u8>, Heads), AllocError>
-    requires { length skeletons.now ≤ 32 }
+    requires few { length skeletons.now ≤ 32 }
+    requires whole { BanksAreWhole (lists_of skeletons.now) }
     ensures { IfOk result (λ m. IsMerged (lists_of skeletons.now) m.0.items m.1.places m.1.next) }
 {
     let mut heads = Heads::new();
+    let mut roster = Roster::new(skeletons, &heads);
     let mut order = Vec::new(alloc);
-    while let Some(log) = heads.first_to_go(skeletons) {
-        order.push(log as u8)?;
-        heads.advance(skeletons, log);
+    while let Some(log) = roster.first() {
+        order.push(log)?;
+        roster.let_go(skeletons, &mut heads, log);
     }
     Ok((order, heads))
 }

@@ -1,0 +1,143 @@
+//! Which logs can go, and which wait for a number of a bank.
+
+ghost use Rattle.std.specs.Prelude.{◌≡◌, ◌<◌, ◌%◌, ℕ, true, length, MatchOption};
+ghost use Rattle.lf_join.specs.Join.{lists_of};
+ghost use Rattle.lf_join.specs.Heads.{next_entry, can_go, Advances};
+ghost use Rattle.lf_join.specs.LogSets.{IsEmpty, IsLowest};
+
+use crate::heads::{BANKS, Heads, LOGS};
+use crate::log_set::LogSet;
+use lf_model::Skeleton;
+
+/// How many sets of waiting logs a bank has. There are as many as logs, so that a log which waits is
+/// looked at but once while 32 numbers of its bank go by.
+const SETS: usize = 32;
+
+/// Where each log stands.
+#[derive(Drop)]
+pub(crate) struct Roster {
+    /// The logs that can go.
+    ready: LogSet,
+    /// Per bank, by the remainder of the number that a log waits for, the logs that wait.
+    waiting: [[LogSet; SETS]; BANKS],
+}
+
+/// The set of the logs that wait for this number.
+fn set_of(number: u64) -> usize
+    ensures { result ≡ number % 32 }
+{
+    (number % SETS as u64) as usize
+}
+
+impl Roster {
+    ghost use Rattle.lf_join.specs.Standings.{Nowhere, Goes, Waits, Stands, OthersStay, AllStand, IsItsOwn, AreCalled, standing_of};
+
+    /// No log stands anywhere.
+    fn empty() -> Self
+        ensures { (log : ℕ) → log < 32 → Stands result log Nowhere }
+    {
+        Roster {
+            ready: LogSet::new(),
+            waiting: [[LogSet::new(); SETS]; BANKS],
+        }
+    }
+
+    /// Adds a log to those that wait for this number.
+    fn wait(&mut self, log: u8, bank: u8, number: u64)
+        requires log { log < 32 }
+        requires nowhere { Stands self.old log Nowhere }
+        ensures waits { Stands self.new log (Waits bank number) }
+        ensures others { OthersStay self.old self.new log }
+    {
+        let set = set_of(number);
+        let mut waiting = self.waiting[bank as usize][set];
+        waiting.insert(log);
+        self.waiting[bank as usize][set] = waiting;
+    }
+
+    /// Takes out the set of the logs that wait for this number; some may wait for another number of
+    /// the set.
+    fn call(&mut self, bank: u8, number: u64) -> LogSet
+        ensures { AreCalled self.old self.new bank (number % 32) result }
+    {
+        let set = set_of(number);
+        let called = self.waiting[bank as usize][set];
+        self.waiting[bank as usize][set] = LogSet::new();
+        called
+    }
+
+    /// Adds a log to those that can go.
+    fn ready(&mut self, log: u8)
+        requires log { log < 32 }
+        requires nowhere { Stands self.old log Nowhere }
+        ensures goes { Stands self.new log Goes }
+        ensures others { OthersStay self.old self.new log }
+    {
+        self.ready.insert(log);
+    }
+
+    /// Takes a log out of those that can go.
+    fn leave(&mut self, log: u8)
+        requires log { log < 32 }
+        requires goes { Stands self.old log Goes }
+        ensures nowhere { Stands self.new log Nowhere }
+        ensures others { OthersStay self.old self.new log }
+    {
+        self.ready.remove(log);
+    }
+
+    /// Adds a log where its next entry says.
+    fn settle(&mut self, skeletons: &[Skeleton], heads: &Heads, log: u8)
+        requires log { log < 32 }
+        requires nowhere { Stands self.old log Nowhere }
+        ensures settled { Stands self.new log (standing_of heads.now.next (next_entry (lists_of skeletons.now) heads.now.places log)) }
+        ensures others { OthersStay self.old self.new log }
+    {
+        if let Some((bank, number)) = heads.next_entry(skeletons, log as usize) {
+            let number = u64::from(number);
+            if number == heads.next[bank as usize] {
+                self.ready(log);
+            } else {
+                self.wait(log, bank, number);
+            }
+        }
+    }
+
+    /// Each log where its next entry says.
+    pub fn new(skeletons: &[Skeleton], heads: &Heads) -> Self
+        ensures { AllStand (lists_of skeletons.now) heads.now.places heads.now.next result }
+    {
+        let mut roster = Roster::empty();
+        for log in 0..LOGS as u8 {
+            roster.settle(skeletons, heads, log);
+        }
+        roster
+    }
+
+    /// The lowest log that can go.
+    pub fn first(&self) -> Option<u8>
+        ensures { MatchOption result (IsEmpty self.now.ready) (IsLowest self.now.ready) }
+    {
+        self.ready.lowest()
+    }
+
+    /// Lets the log's next entry go. Then the log stands elsewhere, and so do the logs that waited for
+    /// the number that goes next at the bank.
+    pub fn let_go(&mut self, skeletons: &[Skeleton], heads: &mut Heads, log: u8)
+        requires log { log < 32 }
+        requires sized { length heads.old.next ≡ 256 }
+        requires stand { AllStand (lists_of skeletons.now) heads.old.places heads.old.next self.old }
+        requires goes { can_go (lists_of skeletons.now) heads.old.places heads.old.next log ≡ true }
+        requires own { IsItsOwn (lists_of skeletons.now) heads.old.places log }
+        ensures gone { Advances (lists_of skeletons.now) heads.old.places heads.old.next log heads.new.places heads.new.next }
+        ensures stand { AllStand (lists_of skeletons.now) heads.new.places heads.new.next self.new }
+    {
+        let (bank, number) = heads.advance(skeletons, log as usize);
+        self.leave(log);
+        let mut called = self.call(bank, u64::from(number) + 1);
+        self.settle(skeletons, heads, log);
+        while let Some(other) = called.pop() {
+            self.settle(skeletons, heads, other);
+        }
+    }
+}
