@@ -1,14 +1,11 @@
 -- Where the numbers are whole, a log that can go has its next entry for itself.
-use Rattle.std.proofs.Common.{◌≡◌, ◌≢◌, ℕ, ◌<◌, true, false, ◌==◌, List, length, Option, Some, slice_index, refl, sym, ap, ◌∙◌, eq-eqb, arith}
-use Rattle.std.specs.Global.{Vec}
-use Rattle.std.proofs.lemmas.Bool.{cases_lt, and_from}
-use Rattle.lf_model.specs.Order.{log_at}
-use Rattle.lf_model.specs.Ring.{entry_at}
-use Rattle.lf_join.specs.Join.{lists_of, BanksAreWhole, next_number}
+use Rattle.std.proofs.Common.{◌≡◌, ℕ, ◌<◌, true, false, ◌==◌, List, slice_index, refl, sym, ◌∙◌, eq-eqb, arith}
+use Rattle.std.proofs.lemmas.Bool.{and_from}
+use Rattle.lf_join.specs.Join.{BanksAreWhole, next_number}
 use Rattle.lf_join.specs.declared.roster.Roster.{Roster}
 use Rattle.lf_join.specs.LogSets.{has, IsEmpty, IsLowest}
 use Rattle.lf_join.specs.Heads.{next_entry, can_go, is_next, IsAt}
-use Rattle.lf_join.specs.Standings.{standing_of, AllStand, IsItsOwn}
+use Rattle.lf_join.specs.Standings.{AllStand, IsItsOwn}
 use Rattle.lf_join.proofs.Merge.{count, joined, can_go_carries}
 use Rattle.lf_join.proofs.Stuck.{times_is, more_of_bank}
 use Rattle.lf_join.proofs.Confluence.{two_apart}

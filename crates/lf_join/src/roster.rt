@@ -9,8 +9,8 @@ use crate::heads::{BANKS, Heads, LOGS};
 use crate::log_set::LogSet;
 use lf_model::Skeleton;
 
-/// How many sets of waiting logs a bank has. There are as many as logs, so that a log which waits is
-/// looked at but once while 32 numbers of its bank go by.
+/// How many sets of waiting logs a bank has. A log waits in the set of its number's remainder, so
+/// that it is looked at once at most while so many numbers of its bank go by.
 const SETS: usize = 32;
 
 /// Where each log stands.
@@ -18,7 +18,7 @@ const SETS: usize = 32;
 pub(crate) struct Roster {
     /// The logs that can go.
     ready: LogSet,
-    /// Per bank, by the remainder of the number that a log waits for, the logs that wait.
+    /// Per bank, by the remainder of the number that they wait for, the logs that wait.
     waiting: [[LogSet; SETS]; BANKS],
 }
 
@@ -67,7 +67,7 @@ impl Roster {
     }
 
     /// Adds a log to those that can go.
-    fn ready(&mut self, log: u8)
+    fn admit(&mut self, log: u8)
         requires log { log < 32 }
         requires nowhere { Stands self.old log Nowhere }
         ensures goes { Stands self.new log Goes }
@@ -96,7 +96,7 @@ impl Roster {
         if let Some((bank, number)) = heads.next_entry(skeletons, log as usize) {
             let number = u64::from(number);
             if number == heads.next[bank as usize] {
-                self.ready(log);
+                self.admit(log);
             } else {
                 self.wait(log, bank, number);
             }

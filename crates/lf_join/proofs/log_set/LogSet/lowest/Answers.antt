@@ -1,5 +1,4 @@
 use Rattle.std.proofs.Common.{sym, subst, arith}
-use Rattle.lf_join.specs.declared.log_set.LogSet.{LogSet}
 use Rattle.lf_join.specs.LogSets.{IsEmpty}
 use Rattle.lf_join.proofs.LogSetLemmas.{empty_set, lowest_is}
 use Rattle.lf_join.proofs.log_set.LogSet.lowest.Goals as goal
