@@ -6,7 +6,7 @@ use Rattle.lf_model.specs.Order.{log_at}
 use Rattle.lf_model.specs.Ring.{entry_at}
 use Rattle.lf_join.specs.declared.log_set.LogSet.{LogSet}
 use Rattle.lf_join.specs.declared.roster.Roster.{Roster}
-use Rattle.lf_join.specs.LogSets.{has, IsEmpty, Changes}
+use Rattle.lf_join.specs.LogSets.{has, IsEmpty, IsLowest, Changes}
 use Rattle.lf_join.specs.Heads.{next_entry, carries_next, can_go, Advances}
 use Rattle.lf_join.specs.Standings.{Standing, Nowhere, Goes, Waits, standing_of, is_going, is_waiting, waiting_at, IsSized, Stands, OthersStay, AreCalled, AllStand, IsItsOwn}
 
@@ -251,6 +251,12 @@ pub stands_after : (L : List (List (ℕ × ℕ))) (places next : List ℕ) (log 
     → (other : ℕ) → other < 32 → other ≢ log → Stands after other (standing_of next (next_entry L places other))
 stands_after L places next log before after stay all other lt apart = stay other (standing_of next (next_entry L places other)) lt apart (all other lt)
 
+-- The log and those that are called stand nowhere, and each other one where it belongs.
+pub record SettledBut (target : ℕ → Standing) (roster : Roster) (called : LogSet) (log : ℕ) : Type 0 where
+  pub not_called : has called log ≡ false
+  pub nowhere : Stands roster log Nowhere
+  pub others : (k : ℕ) → k < 32 → k ≢ log → Stands roster k (cond (has called k) Nowhere (target k))
+
 module _ (L : List (List (ℕ × ℕ))) (places next new_places new_next : List ℕ) (log bank number : ℕ) (goes : can_go L places next log ≡ true)
     (is : next_entry L places log ≡ Some (bank, number)) (gone : Advances L places next log new_places new_next) (sized : length next ≡ 256) (own : IsItsOwn L places log) where
   same_pair : {x y : ℕ × ℕ} → ◌≡◌ {A = Option (ℕ × ℕ)} (Some x) (Some y) → x ≡ y
@@ -271,55 +277,74 @@ module _ (L : List (List (ℕ × ℕ))) (places next new_places new_next : List 
   other_entry : (other : ℕ) → other ≢ log → next_entry L new_places other ≡ next_entry L places other
   other_entry other apart = ap (λ (k : ℕ). entry_at (log_at L other) k) (ap (λ (ps : List ℕ). slice_index ps other) gone.moved ∙ get_or-set_other places log other (slice_index places log + 1) 0 apart)
 
-  -- The logs that are called stand nowhere, and each other one where its next entry says.
-  pub settled_or_called : (left called_from settled : Roster) (called : LogSet) → Stands left log Nowhere
+  pub called_left : (left called_from : Roster) (called : LogSet) → log < 32 → Stands left log Nowhere
       → ((other : ℕ) → other < 32 → other ≢ log → Stands left other (standing_of next (next_entry L places other)))
-      → AreCalled left called_from bank ((number + 1) % 32) called → Stands settled log (standing_of new_next (next_entry L new_places log)) → OthersStay called_from settled log
-      → (k : ℕ) → k < 32 → Stands settled k (cond (has called k) Nowhere (standing_of new_next (next_entry L new_places k)))
-  settled_or_called left called_from settled called nowhere others called_are here stay k lt = elim (cases_eq k log) [
-    | inl same ↦
-        subst (λ m. Stands settled m (cond (has called m) Nowhere (standing_of new_next (next_entry L new_places m)))) (sym same)
-        (subst (λ (st : Standing). Stands settled log st)
-        (sym (cond-false (has called log) Nowhere (standing_of new_next (next_entry L new_places log)) (called_are.waited log Nowhere (subst (λ m. m < 32) same lt) nowhere))) here)
-    | inr apart ↦
-        let was = standing_of next (next_entry L places k) in
-        let now = standing_of new_next (next_entry L new_places k) in
-        let stood = others k lt apart in
-        let waited = called_are.waited k was lt stood in
-        let later = stay k (cond (is_waiting was bank ((number + 1) % 32)) Nowhere was) lt apart (called_are.left k was lt stood) in (
-        elim (cases_Bool (is_waiting was bank ((number + 1) % 32))) [
-          | inl called_now ↦
-              subst (λ (st : Standing). Stands settled k st) (cond-true (is_waiting was bank ((number + 1) % 32)) Nowhere was called_now ∙ sym (cond-true (has called k) Nowhere now (waited ∙ called_now))) later
-          | inr not_called ↦
-              let same : was ≡ now =
-              same_standing next bank (next_entry L places k) (let within = bank_within in omega arith) (λ e. own k (bank, number) apart is (e ∙ ap (λ n. Some (bank, n)) (sym number_is)))
-              (ap (λ n. is_waiting was bank ((n + 1) % 32)) (sym number_is) ∙ not_called)
-              ∙ ap (λ (o : Option (ℕ × ℕ)). standing_of (set next bank (slice_index next bank + 1)) o) (sym (other_entry k apart))
-              ∙ ap (λ (ns : List ℕ). standing_of ns (next_entry L new_places k)) (sym next_is) in
-              subst (λ (st : Standing). Stands settled k st)
-              (cond-false (is_waiting was bank ((number + 1) % 32)) Nowhere was not_called ∙ same ∙ sym (cond-false (has called k) Nowhere now (waited ∙ not_called))) later
-        ]
-        )
-  ]
+      → AreCalled left called_from bank ((number + 1) % 32) called → SettledBut (λ (k : ℕ). standing_of new_next (next_entry L new_places k)) called_from called log
+  called_left left called_from called within nowhere others called_are = record {
+    not_called = called_are.waited log Nowhere within nowhere;
+    nowhere = called_are.left log Nowhere within nowhere;
+    others = λ k lt apart. other_left k lt apart;
+  }
+    where
+      other_left : (k : ℕ) → k < 32 → k ≢ log → Stands called_from k (cond (has called k) Nowhere (standing_of new_next (next_entry L new_places k)))
+      other_left k lt apart =
+          let was = standing_of next (next_entry L places k) in
+          let now = standing_of new_next (next_entry L new_places k) in
+          let stood = others k lt apart in
+          let waited = called_are.waited k was lt stood in
+          let later = called_are.left k was lt stood in (
+          elim (cases_Bool (is_waiting was bank ((number + 1) % 32))) [
+            | inl called_now ↦
+                subst (λ (st : Standing). Stands called_from k st) (cond-true (is_waiting was bank ((number + 1) % 32)) Nowhere was called_now ∙ sym (cond-true (has called k) Nowhere now (waited ∙ called_now))) later
+            | inr not_called ↦
+                let same : was ≡ now =
+                same_standing next bank (next_entry L places k) (let within = bank_within in omega arith) (λ e. own k (bank, number) apart is (e ∙ ap (λ n. Some (bank, n)) (sym number_is)))
+                (ap (λ n. is_waiting was bank ((n + 1) % 32)) (sym number_is) ∙ not_called)
+                ∙ ap (λ (o : Option (ℕ × ℕ)). standing_of (set next bank (slice_index next bank + 1)) o) (sym (other_entry k apart))
+                ∙ ap (λ (ns : List ℕ). standing_of ns (next_entry L new_places k)) (sym next_is) in
+                subst (λ (st : Standing). Stands called_from k st)
+                (cond-false (is_waiting was bank ((number + 1) % 32)) Nowhere was not_called ∙ same ∙ sym (cond-false (has called k) Nowhere now (waited ∙ not_called))) later
+          ]
+          )
 
 -- ---- the logs that were called settle one by one
 
--- One more of them has settled.
-pub one_settled : (old new : Roster) (called rest : LogSet) (log : ℕ) (target : ℕ → Standing) → log < 32 → Changes called rest log false
-    → ((k : ℕ) → k < 32 → Stands old k (cond (has called k) Nowhere (target k))) → Stands new log (target log) → OthersStay old new log
-    → (k : ℕ) → k < 32 → Stands new k (cond (has rest k) Nowhere (target k))
-one_settled old new called rest log target within change before here stay k lt = elim (cases_eq k log) [
-  | inl same ↦
-      subst (λ m. Stands new m (cond (has rest m) Nowhere (target m))) (sym same)
-      (subst (λ (st : Standing). Stands new log st) (sym (cond-false (has rest log) Nowhere (target log) change.this)) here)
-  | inr apart ↦ subst (λ b. Stands new k (cond b Nowhere (target k))) (sym (change.others k lt apart)) (stay k (cond (has called k) Nowhere (target k)) lt apart (before k lt))
-]
+module _ (target : ℕ → Standing) (old : Roster) (called : LogSet) (log : ℕ) (before : SettledBut target old called log) where
+  not_the_log : (other : ℕ) → has called other ≡ true → other ≢ log
+  not_the_log other member same = true_false (has called log) (subst (λ k. has called k ≡ true) same member) before.not_called
+    where
+      true_false : (b : Bool) → b ≡ true → b ≡ false → ⊥
+      true_false b t f = cc
 
-pub is_nowhere : (roster : Roster) (called : LogSet) (log : ℕ) (target : Standing) → has called log ≡ true → Stands roster log (cond (has called log) Nowhere target) → Stands roster log Nowhere
-is_nowhere roster called log target in_it stands = subst (λ (st : Standing). Stands roster log st) (cond-true (has called log) Nowhere target in_it) stands
+  pub called_is_nowhere : (other : ℕ) → IsLowest called other → Stands old other Nowhere
+  called_is_nowhere other lowest =
+      subst (λ (st : Standing). Stands old other st) (cond-true (has called other) Nowhere (target other) lowest.member) (before.others other lowest.is_log (not_the_log other lowest.member))
 
-pub is_settled : (roster : Roster) (called : LogSet) (log : ℕ) (target : Standing) → has called log ≡ false → Stands roster log (cond (has called log) Nowhere target) → Stands roster log target
-is_settled roster called log target out stands = subst (λ (st : Standing). Stands roster log st) (cond-false (has called log) Nowhere target out) stands
+  -- One more of them has settled.
+  pub one_settled : (new : Roster) (rest : LogSet) (other : ℕ) → log < 32 → IsLowest called other → Changes called rest other false → Stands new other (target other) → OthersStay old new other
+      → SettledBut target new rest log
+  one_settled new rest other within lowest change here stay = record {
+    not_called = change.others log within away ∙ before.not_called;
+    nowhere = stay log Nowhere within away before.nowhere;
+    others = λ k lt apart. elim (cases_eq k other) [
+      | inl same ↦
+          subst (λ m. Stands new m (cond (has rest m) Nowhere (target m))) (sym same)
+          (subst (λ (st : Standing). Stands new other st) (sym (cond-false (has rest other) Nowhere (target other) change.this)) here)
+      | inr not_this ↦
+          subst (λ b. Stands new k (cond b Nowhere (target k))) (sym (change.others k lt not_this))
+          (stay k (cond (has called k) Nowhere (target k)) lt not_this (before.others k lt apart))
+    ];
+  }
+    where
+      away : log ≢ other
+      away same = not_the_log other lowest.member (sym same)
+
+  -- None is left, and the log itself has settled.
+  pub all_settled : (new : Roster) → IsEmpty called → Stands new log (target log) → OthersStay old new log → (k : ℕ) → k < 32 → Stands new k (target k)
+  all_settled new empty here stay k lt = elim (cases_eq k log) [
+    | inl same ↦ subst (λ m. Stands new m (target m)) (sym same) here
+    | inr apart ↦ stay k (target k) lt apart (subst (λ (st : Standing). Stands old k st) (cond-false (has called k) Nowhere (target k) (empty k lt)) (before.others k lt apart))
+  ]
 
 -- Before anything has gone, one more log has settled.
 pub one_placed : (old new : Roster) (log : ℕ) (target : ℕ → Standing) → log < 32 → ((k : ℕ) → k < log → Stands old k (target k)) × ((k : ℕ) → k < 32 → log ≤ k → Stands old k Nowhere)

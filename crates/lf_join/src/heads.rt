@@ -56,7 +56,7 @@ impl Heads {
             unreachable!();
         };
         self.places[log] += 1;
-        self.next[bank as usize] += 1;
+        self.next[bank as usize] = u64::from(number) + 1;
         (bank, number)
     }
 

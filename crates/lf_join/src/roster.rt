@@ -135,9 +135,9 @@ impl Roster {
         let (bank, number) = heads.advance(skeletons, log as usize);
         self.leave(log);
         let mut called = self.call(bank, u64::from(number) + 1);
-        self.settle(skeletons, heads, log);
         while let Some(other) = called.pop() {
             self.settle(skeletons, heads, other);
         }
+        self.settle(skeletons, heads, log);
     }
 }
