@@ -102,7 +102,11 @@ pub fn is_field_used<T: Target>(held: &[Held<T>], register: u32, at: u8) -> bool
 fn store_mask<T: Target>(target: &T) -> u64
     ensures { result ≡ store_mask T.is_store T.bytes target.now }
 {
-    if target.is_store() { target.bytes().0 } else { 0 }
+    if target.is_store() {
+        target.bytes().0
+    } else {
+        0
+    }
 }
 
 /// The bytes that the block's targets write.

@@ -9,7 +9,9 @@ ghost use Rattle.lf_mshr.specs.Bounds.{IsBelow, HasFields};
 ghost use Rattle.lf_mshr.specs.RegisterFile.{held_item};
 
 use crate::fault::RegisterFault;
-use crate::held::{Held, Targets, holds, holds_in, is_field_used, is_free, release, some_is_free, store_bytes};
+use crate::held::{
+    Held, Targets, holds, holds_in, is_field_used, is_free, release, some_is_free, store_bytes,
+};
 use crate::organisation::Organisation;
 use crate::target::Target;
 use lf_model::{Mask, NoMemory, OrgShape};

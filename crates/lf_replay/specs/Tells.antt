@@ -2,9 +2,10 @@
 use Rattle.std.specs.Prelude.{◌≡◌, ℕ, ◌<◌, List, take, length, if◌then◌else◌}
 use Rattle.std.specs.Int.{to_le_bytes, w64}
 use Rattle.lf_model.specs.declared.shape.Shape.{Shape}
-use Rattle.lf_model.specs.Address.{mask_of}
-use Rattle.lf_model.specs.State.{Missed}
-use Rattle.lf_model.specs.Table.{destination, is_store, position}
+use Rattle.lf_model.specs.Address.{FlatMemory, mask_of}
+use Rattle.lf_model.specs.Registers.{Held}
+use Rattle.lf_model.specs.State.{Request, Missed, Ready}
+use Rattle.lf_model.specs.Table.{destination, is_store, position, value_of}
 use Rattle.lf_mshr.specs.declared.level_one.Request1.{Request1}
 use Rattle.lf_mshr.specs.declared.level_two.Request2.{Request2}
 
@@ -15,6 +16,7 @@ IsNumberOf bytes number = take (length bytes) (to_le_bytes w64 number) ≡ bytes
 -- A level-one target tells all of a request that its reply and its fill need: not what a store writes.
 pub record Tells (shape : Shape) (target : Request1) (missed : Missed) : Type 0 where
   pub position : target.position ≡ position missed
+  pub port : missed.port < shape.ports
   pub tag : missed.request.tag < shape.tags
   pub destination : target.destination ≡ destination shape missed.port missed.request.tag
   pub store : target.is_store ≡ is_store missed.request
@@ -22,7 +24,21 @@ pub record Tells (shape : Shape) (target : Request1) (missed : Missed) : Type 0 
   pub size : length missed.value ≡ (if is_store missed.request then 0 else missed.request.size)
   pub value : IsNumberOf missed.value target.value
 
+-- the target tells of some request
+abbrev pub IsTold : Shape → Request1 → Type 0
+IsTold shape target = (missed : Missed) × Tells shape target missed
+
+-- the reply to a request that missed
+abbrev pub reply_to : Missed → Ready
+reply_to missed = record { port = missed.port; tag = missed.request.tag; value = missed.value }
+
 -- A level-two target tells which level-one register asked; it has the only position that there is.
 pub record TellsRegister (target : Request2) (register : ℕ) : Type 0 where
   pub position : target.position ≡ 0
   pub destination : target.destination ≡ register
+
+-- what a level-one register holds of a port's request that misses now
+abbrev pub miss_of : ℕ → ℕ → FlatMemory → Request → Held Missed
+miss_of port register memory request =
+    let missed : Missed = record { port = port; request = request; value = value_of memory request } in
+    record { register = register; block = request.block; target = missed }
