@@ -8,7 +8,7 @@ use Rattle.lf_model.specs.Clauses.{OfBank, bank_wants}
 use Rattle.lf_model.specs.Registers.{registers_of, holds, is_free, right_for_primary, right_for_merge, takes}
 use Rattle.lf_model.specs.Run.{first_failing}
 use Rattle.lf_model.proofs.Room.{room_is}
-use Rattle.lf_mshr.specs.RegisterFile.{RegisterFile, has_room_for, SomeTakes}
+use Rattle.lf_mshr.specs.RegisterFile.{RegisterFile, primary_wants, has_room_for, SomeTakes}
 
 -- four clauses hold
 module _ (first second third fourth : Rule) where
@@ -61,3 +61,9 @@ module _ {T : Type 0} (position destination : T → ℕ) (file : RegisterFile T)
 
   pub has_room_is : (answer : Bool) → answer ≡ has_room_for position destination file block target → IsTrue answer ↔ SomeTakes position destination file block target
   has_room_is answer e = (λ is. room_to (sym e ∙ is), λ some. e ∙ room_from some)
+
+  -- a register that takes a primary miss is free
+  pub free_for_primary : (register : ℕ) → first_failing OfBank (primary_wants position destination file register block target) ≡ None → is_free file.held register ≡ true
+  free_for_primary register e =
+      (all_of PrimaryInFlight RegisterRange WrongRegister RegisterBusy
+      (not (holds file.held block)) (nat_lt register (registers_of file.organisation file.destinations)) (right_for_primary file.organisation (destination target) register) (is_free file.held register) e).3

@@ -17,3 +17,8 @@ rule_of Full = MergeFull
 abbrev pub refusal_of : {A : Type 0} → Result A RegisterFault → Option Rule
 refusal_of (Ok x) = None
 refusal_of (Err fault) = Some (rule_of fault)
+
+-- the rule of the fault, where there is one
+abbrev pub broken_rule : Option RegisterFault → Option Rule
+broken_rule None = None
+broken_rule (Some fault) = Some (rule_of fault)

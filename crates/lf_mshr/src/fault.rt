@@ -1,3 +1,10 @@
+//! Why a register does not take a target.
+
+ghost use Rattle.std.specs.Prelude.{◌≡◌};
+ghost use Rattle.lf_mshr.specs.Faults.{rule_of};
+
+use lf_model::Rule;
+
 /// Why a register does not take a target, in the order in which the causes are looked at.
 #[derive(Clone, Copy, Debug, PartialEq, Eq)]
 pub enum RegisterFault {
@@ -13,4 +20,20 @@ pub enum RegisterFault {
     Busy,
     /// The register of a merge has no place left.
     Full,
+}
+
+impl RegisterFault {
+    /// The rule of a cache that the fault stands for.
+    pub fn rule(self) -> Rule
+        ensures { result ≡ rule_of self }
+    {
+        match self {
+            RegisterFault::InFlight => Rule::PrimaryInFlight,
+            RegisterFault::NotInFlight => Rule::NotInFlight,
+            RegisterFault::Range => Rule::RegisterRange,
+            RegisterFault::Wrong => Rule::WrongRegister,
+            RegisterFault::Busy => Rule::RegisterBusy,
+            RegisterFault::Full => Rule::MergeFull,
+        }
+    }
 }

@@ -1,12 +1,13 @@
 //! What the registers of a file hold, in the order of acceptance.
 
-ghost use Rattle.std.specs.Prelude.{◌≡◌, ℕ, ◌≤◌, ◌==◌, ◌&&◌, length, map, count_by, vec_capacity};
-ghost use Rattle.std.specs.List.{list_any, range_with_len};
+ghost use Rattle.std.specs.Prelude.{◌≡◌, ℕ, ◌≤◌, ◌==◌, ◌&&◌, length, map, count_by, vec_capacity, bit_or};
+ghost use Rattle.std.specs.List.{list_any, range_with_len, fold};
 ghost use Rattle.lf_model.specs.Registers.{holds, is_free, holds_in, targets_of, released};
-ghost use Rattle.lf_mshr.specs.RegisterFile.{released_pair};
+ghost use Rattle.lf_mshr.specs.RegisterFile.{released_pair, store_mask};
 
 use crate::target::Target;
 use arrayvec::ArrayVec;
+use lf_model::Mask;
 use std::marker::Model;
 
 /// The targets of a block, each with the register that held it, in the order of acceptance.
@@ -95,6 +96,28 @@ pub fn is_field_used<T: Target>(held: &[Held<T>], register: u32, at: u8) -> bool
     ensures { result ≡ list_any (λ h. h.register == register && T.position h.target == at) held.now }
 {
     held.iter().any(|h| u32::from(h.register()) == register && h.target().position() == at)
+}
+
+/// The bytes that a target writes.
+fn store_mask<T: Target>(target: &T) -> u64
+    ensures { result ≡ store_mask T.is_store T.bytes target.now }
+{
+    if target.is_store() {
+        target.bytes().0
+    } else {
+        0
+    }
+}
+
+/// The bytes that the block's targets write.
+pub fn store_bytes<T: Target>(held: &[Held<T>], block: u32) -> Mask
+    ensures { result.0 ≡ fold (λ mask h. bit_or mask (store_mask T.is_store T.bytes h.target)) 0 (targets_of held.now block) }
+{
+    let bytes = held
+        .iter()
+        .filter(|h| h.block() == block)
+        .fold(0, |mask, h| mask | store_mask(h.target()));
+    Mask(bytes)
 }
 
 fn targets_of<T: Target>(held: &[Held<T>], block: u32) -> Targets<T>

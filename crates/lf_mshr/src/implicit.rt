@@ -9,10 +9,12 @@ ghost use Rattle.lf_mshr.specs.Bounds.{IsBelow, HasFields};
 ghost use Rattle.lf_mshr.specs.RegisterFile.{held_item};
 
 use crate::fault::RegisterFault;
-use crate::held::{Held, Targets, holds, holds_in, is_field_used, is_free, release, some_is_free};
+use crate::held::{
+    Held, Targets, holds, holds_in, is_field_used, is_free, release, some_is_free, store_bytes,
+};
 use crate::organisation::Organisation;
 use crate::target::Target;
-use lf_model::{NoMemory, OrgShape};
+use lf_model::{Mask, NoMemory, OrgShape};
 use std::alloc::Global;
 use std::marker::PhantomData;
 
@@ -122,20 +124,53 @@ impl<T: Target> Organisation for Implicit<T> {
         file.has_room(block, target.position())
     }
 
+    fn primary_fault(
+        file: &ImplicitFile<T>,
+        register: u16,
+        block: u32,
+        _target: &T,
+    ) -> Option<RegisterFault> {
+        if holds(&file.held, block) {
+            return Some(RegisterFault::InFlight);
+        }
+        if u32::from(register) >= file.registers {
+            return Some(RegisterFault::Range);
+        }
+        if !is_free(&file.held, u32::from(register)) {
+            return Some(RegisterFault::Busy);
+        }
+        None
+    }
+
+    fn merge_fault(
+        file: &ImplicitFile<T>,
+        register: u16,
+        block: u32,
+        target: &T,
+    ) -> Option<RegisterFault> {
+        if !holds(&file.held, block) {
+            return Some(RegisterFault::NotInFlight);
+        }
+        if u32::from(register) >= file.registers {
+            return Some(RegisterFault::Range);
+        }
+        if !holds_in(&file.held, u32::from(register), block) {
+            return Some(RegisterFault::Wrong);
+        }
+        if !file.has_field(u32::from(register), target.position()) {
+            return Some(RegisterFault::Full);
+        }
+        None
+    }
+
     fn primary(
         file: &mut ImplicitFile<T>,
         register: u16,
         block: u32,
         target: T,
     ) -> Result<(), RegisterFault> {
-        if holds(&file.held, block) {
-            return Err(RegisterFault::InFlight);
-        }
-        if u32::from(register) >= file.registers {
-            return Err(RegisterFault::Range);
-        }
-        if !is_free(&file.held, u32::from(register)) {
-            return Err(RegisterFault::Busy);
+        if let Some(fault) = Self::primary_fault(file, register, block, &target) {
+            return Err(fault);
         }
         file.place(register, block, target);
         Ok(())
@@ -147,17 +182,8 @@ impl<T: Target> Organisation for Implicit<T> {
         block: u32,
         target: T,
     ) -> Result<(), RegisterFault> {
-        if !holds(&file.held, block) {
-            return Err(RegisterFault::NotInFlight);
-        }
-        if u32::from(register) >= file.registers {
-            return Err(RegisterFault::Range);
-        }
-        if !holds_in(&file.held, u32::from(register), block) {
-            return Err(RegisterFault::Wrong);
-        }
-        if !file.has_field(u32::from(register), target.position()) {
-            return Err(RegisterFault::Full);
+        if let Some(fault) = Self::merge_fault(file, register, block, &target) {
+            return Err(fault);
         }
         file.place(register, block, target);
         Ok(())
@@ -165,6 +191,10 @@ impl<T: Target> Organisation for Implicit<T> {
 
     fn release(file: &mut ImplicitFile<T>, block: u32) -> Targets<T> {
         release(&mut file.held, block)
+    }
+
+    fn store_bytes(file: &ImplicitFile<T>, block: u32) -> Mask {
+        store_bytes(&file.held, block)
     }
 
     fn holds(file: &ImplicitFile<T>, block: u32) -> bool {

@@ -6,10 +6,10 @@ ghost use Rattle.lf_mshr.specs.RegisterFile.{held_item};
 ghost use Rattle.lf_mshr.specs.Bounds.{IsWithin};
 
 use crate::fault::RegisterFault;
-use crate::held::{Held, Targets, holds, is_free, release};
+use crate::held::{Held, Targets, holds, is_free, release, store_bytes};
 use crate::organisation::Organisation;
 use crate::target::Target;
-use lf_model::{NoMemory, OrgShape};
+use lf_model::{Mask, NoMemory, OrgShape};
 use std::alloc::Global;
 use std::marker::PhantomData;
 
@@ -79,23 +79,56 @@ impl<T: Target> Organisation for Inverted<T> {
         destination < file.destinations && is_free(&file.held, u32::from(destination))
     }
 
+    fn primary_fault(
+        file: &InvertedFile<T>,
+        register: u16,
+        block: u32,
+        target: &T,
+    ) -> Option<RegisterFault> {
+        if holds(&file.held, block) {
+            return Some(RegisterFault::InFlight);
+        }
+        if register >= file.destinations {
+            return Some(RegisterFault::Range);
+        }
+        if register != target.destination() {
+            return Some(RegisterFault::Wrong);
+        }
+        if !is_free(&file.held, u32::from(register)) {
+            return Some(RegisterFault::Busy);
+        }
+        None
+    }
+
+    fn merge_fault(
+        file: &InvertedFile<T>,
+        register: u16,
+        block: u32,
+        target: &T,
+    ) -> Option<RegisterFault> {
+        if !holds(&file.held, block) {
+            return Some(RegisterFault::NotInFlight);
+        }
+        if register >= file.destinations {
+            return Some(RegisterFault::Range);
+        }
+        if register != target.destination() {
+            return Some(RegisterFault::Wrong);
+        }
+        if !is_free(&file.held, u32::from(register)) {
+            return Some(RegisterFault::Full);
+        }
+        None
+    }
+
     fn primary(
         file: &mut InvertedFile<T>,
         register: u16,
         block: u32,
         target: T,
     ) -> Result<(), RegisterFault> {
-        if holds(&file.held, block) {
-            return Err(RegisterFault::InFlight);
-        }
-        if register >= file.destinations {
-            return Err(RegisterFault::Range);
-        }
-        if register != target.destination() {
-            return Err(RegisterFault::Wrong);
-        }
-        if !is_free(&file.held, u32::from(register)) {
-            return Err(RegisterFault::Busy);
+        if let Some(fault) = Self::primary_fault(file, register, block, &target) {
+            return Err(fault);
         }
         file.place(register, block, target);
         Ok(())
@@ -107,17 +140,8 @@ impl<T: Target> Organisation for Inverted<T> {
         block: u32,
         target: T,
     ) -> Result<(), RegisterFault> {
-        if !holds(&file.held, block) {
-            return Err(RegisterFault::NotInFlight);
-        }
-        if register >= file.destinations {
-            return Err(RegisterFault::Range);
-        }
-        if register != target.destination() {
-            return Err(RegisterFault::Wrong);
-        }
-        if !is_free(&file.held, u32::from(register)) {
-            return Err(RegisterFault::Full);
+        if let Some(fault) = Self::merge_fault(file, register, block, &target) {
+            return Err(fault);
         }
         file.place(register, block, target);
         Ok(())
@@ -125,6 +149,10 @@ impl<T: Target> Organisation for Inverted<T> {
 
     fn release(file: &mut InvertedFile<T>, block: u32) -> Targets<T> {
         release(&mut file.held, block)
+    }
+
+    fn store_bytes(file: &InvertedFile<T>, block: u32) -> Mask {
+        store_bytes(&file.held, block)
     }
 
     fn holds(file: &InvertedFile<T>, block: u32) -> bool {

@@ -7,13 +7,13 @@ ghost use Rattle.lf_model.specs.Registers.{holds, shares, targets_of};
 ghost use Rattle.lf_model.specs.Run.{first_failing};
 ghost use Rattle.lf_model.specs.Sharing.{HoldsOnce};
 ghost use Rattle.lf_model.specs.declared.shape.OrgShape.{OrgShape};
-ghost use Rattle.lf_mshr.specs.Faults.{refusal_of};
-ghost use Rattle.lf_mshr.specs.RegisterFile.{RegisterFile, empty_file, with_target, without_block, released_pair, primary_wants, merge_wants, has_room_for, SomeTakes};
+ghost use Rattle.lf_mshr.specs.Faults.{refusal_of, broken_rule};
+ghost use Rattle.lf_mshr.specs.RegisterFile.{RegisterFile, empty_file, with_target, without_block, released_pair, primary_wants, merge_wants, has_room_for, store_bytes, SomeTakes};
 
 use crate::fault::RegisterFault;
 use crate::held::Targets;
 use crate::target::Target;
-use lf_model::{NoMemory, OrgShape};
+use lf_model::{Mask, NoMemory, OrgShape};
 use std::alloc::Global;
 
 /// A way to organise the registers of one level of one bank.
@@ -57,6 +57,26 @@ pub trait Organisation {
         ensures value { result ≡ has_room_for Self.Target.position Self.Target.destination (seen file.now) block target.now }
         ensures exact { IsTrue result ↔ SomeTakes Self.Target.position Self.Target.destination (seen file.now) block target.now };
 
+    /// Why the register does not take the target of a primary miss to the block, if it does not: the
+    /// first cause of `InFlight`, `Range`, `Wrong` and `Busy`.
+    fn primary_fault(
+        file: &Self::File,
+        register: u16,
+        block: u32,
+        target: &Self::Target,
+    ) -> Option<RegisterFault>
+        ensures { broken_rule result ≡ first_failing OfBank (primary_wants Self.Target.position Self.Target.destination (seen file.now) register block target.now) };
+
+    /// Why the register does not take the target of a further miss to the block, if it does not: the
+    /// first cause of `NotInFlight`, `Range`, `Wrong` and `Full`.
+    fn merge_fault(
+        file: &Self::File,
+        register: u16,
+        block: u32,
+        target: &Self::Target,
+    ) -> Option<RegisterFault>
+        ensures { broken_rule result ≡ first_failing OfBank (merge_wants Self.Target.position Self.Target.destination (seen file.now) register block target.now) };
+
     /// Places the target of a primary miss to the block in the register.
     ///
     /// Refuses, with nothing changed and in this order, `InFlight`, `Range`, `Wrong` and `Busy`.
@@ -87,6 +107,10 @@ pub trait Organisation {
     fn release(file: &mut Self::File, block: u32) -> Targets<Self::Target>
         ensures targets { result.items ≡ map released_pair (targets_of (seen file.old).held block) }
         ensures others { seen file.new ≡ without_block (seen file.old) block };
+
+    /// The bytes that the block's waiting stores write.
+    fn store_bytes(file: &Self::File, block: u32) -> Mask
+        ensures { result.0 ≡ store_bytes Self.Target.is_store Self.Target.bytes (seen file.now) block };
 
     /// Whether a register holds the block.
     fn holds(file: &Self::File, block: u32) -> bool

@@ -11,8 +11,6 @@ use Rattle.lf_model.specs.State.{Missed, Ready, Slice, Local, idle}
 use Rattle.lf_model.specs.Table.{OfBank, Clause, rules_of, slice_after, is_asked, is_among, oldest, miss, carries, clauses, bank_effect, value_at, accepts, replies_at}
 use Rattle.lf_model.specs.Run.{judges, first_failing}
 use Rattle.lf_model.proofs.Clauses.{this_holds, others_hold}
-use Rattle.lf_replay.specs.Bytes.{flat_of}
-use Rattle.lf_replay.specs.Kept.{Kept, local_of, slice_of}
 use Rattle.lf_replay.specs.Apart.{stands, stands_at, EachStands}
 use Rattle.lf_replay.proofs.Blocks.{has_put, has_gone, any_push, any_gone}
 
@@ -39,7 +37,7 @@ bank_holds (c ∷ cs) e = go (judges OfBank c.side) (bank_holds cs) e
 no_way : {A : Type 0} → ◌≡◌ {A = Bool} false true → A
 no_way e = absurd (both_ways true (sym e) refl)
 
-is_not : (b : Bool) → not b ≡ true → b ≡ false
+pub is_not : (b : Bool) → not b ≡ true → b ≡ false
 is_not true e = no_way e
 is_not false e = refl
 
@@ -51,7 +49,7 @@ right_true : (a b : Bool) → (a && b) ≡ true → b ≡ true
 right_true true b e = e
 right_true false b e = no_way e
 
-implied : (b c : Bool) → (not b || c) ≡ true → b ≡ true → c ≡ true
+pub implied : (b c : Bool) → (not b || c) ≡ true → b ≡ true → c ≡ true
 implied true c e p = e
 implied false c e p = no_way p
 
@@ -66,10 +64,10 @@ every2 p e a b = every (p a) (every (λ a. p a true && p a false) e a) b
 abbrev pub all2 : (Bool → Bool → Bool) → Bool
 all2 p = (p true true && p true false) && (p false true && p false false)
 
-every4 : (p : Bool → Bool → Bool → Bool → Bool) → all2 (λ a b. all2 (p a b)) ≡ true → (a b c d : Bool) → p a b c d ≡ true
+pub every4 : (p : Bool → Bool → Bool → Bool → Bool) → all2 (λ a b. all2 (p a b)) ≡ true → (a b c d : Bool) → p a b c d ≡ true
 every4 p e a b c d = every2 (p a b) (every2 (λ a b. all2 (p a b)) e a b) c d
 
-every5 : (p : Bool → Bool → Bool → Bool → Bool → Bool) → (all2 (λ a b. all2 (p true a b)) && all2 (λ a b. all2 (p false a b))) ≡ true → (a b c d f : Bool) → p a b c d f ≡ true
+pub every5 : (p : Bool → Bool → Bool → Bool → Bool → Bool) → (all2 (λ a b. all2 (p true a b)) && all2 (λ a b. all2 (p false a b))) ≡ true → (a b c d f : Bool) → p a b c d f ≡ true
 every5 p e a b c d f = every4 (p a) (every (λ a. all2 (λ b c. all2 (p a b c))) e a) b c d f
 
 primary_here : (a f s l2 : Bool) → stands a f s false false l2 ≡ true → stands true f s true false l2 ≡ true
@@ -202,9 +200,3 @@ stands_after shape right value replies slice log bank (Evict2 x mask bytes) each
     let h = facts shape right slice log bank (Evict2 x mask bytes) none in
     stands_by _ _ _ _ _ _ _ _ _ _ _ _ refl refl refl refl refl (has_gone slice.lines2 x y)
     (evict2_step (x == y) _ _ _ _ _ _ (here (holds slice.waiting) false x y (is_not _ (right_true _ _ h.1.0))) (here (has_line slice.lines1) false x y (is_not _ (left_true _ _ h.1.0))) (each y))
-
-pub kept_standing : (shape : Shape) (old new : Kept) (r : Record) → EachStands (slice_of old) → first_failing OfBank (clauses shape (local_of old) r) ≡ None
-    → local_of new ≡ bank_effect shape (local_of old) r → EachStands (slice_of new)
-kept_standing shape old new r each none step block =
-    ap (λ (now : Local). stands_at now.slice block) step
-    ∙ stands_after shape (carries shape (flat_of old.memory) (slice_of old) r.event) (value_at (flat_of old.memory) (accepts (slice_of old) r.event)) (replies_at (slice_of old) r.event) (slice_of old) r.log r.bank r.event each none block

@@ -22,10 +22,10 @@ use Rattle.lf_model.specs.declared.outcome.Outcome.TheVariants as outcome
 use Rattle.lf_model.proofs.FitFacts.{names_home}
 use Rattle.lf_model.proofs.Locality.{SameBank, IsHome, bank_clauses_same, bank_effect_same, home_after}
 use Rattle.lf_replay.specs.Bytes.{bank_part}
-use Rattle.lf_replay.specs.Faults.{IsBankFault}
 use Rattle.std.specs.Prelude.{OnOk, IfErr}
-use Rattle.lf_replay.specs.Kept.{Kept, local_of}
-use Rattle.lf_replay.specs.Step.{BankKept, broken_rule, Takes, bank_after, StandsAfter, IsFaultAfter, IsBankOrder}
+use Rattle.lf_replay.specs.Kept.{Kept, after_event}
+use Rattle.lf_replay.specs.Shows.{Shows, broken_rule, AnswerOf, IsAnswer}
+use Rattle.lf_replay.specs.Step.{bank_after, KeptAfter, IsFaultAfter, IsBankOrder}
 
 pub empty_more : (queues : List (List Request)) → ((port : ℕ) → get_or queues port [] ≡ []) → (port : ℕ) → get_or (queues ++ [] ∷ []) port [] ≡ []
 empty_more [] empty zero = refl
@@ -47,25 +47,32 @@ module _ (shape : Shape) where
   breaks_more now [] r rest rule run some = some
   breaks_more now (x ∷ rs) r rest rule run some = (run.0, breaks_more (bank_effect shape now x) rs r rest rule run.1 some)
 
--- the rule that a step names is that of the bank after its records
-module _ (step : BankKept) (shape : Shape) (memory : FlatMemory) (bank : ℕ) (rs : List Record) (stands : StandsAfter step shape memory bank rs) (r : Record) where
-  pub same_rule : broken_rule step r ≡ first_failing OfBank (clauses shape (bank_after shape (first_local memory) rs) r)
-  same_rule = ap₂ (λ s l. first_failing OfBank (clauses s l r)) stands.of_shape stands.state
+-- what a bank answers to a record is what the table says of the state that it keeps
+module _ {A : Type 0} (old new : Kept) (r : Record) (result : Result A BankFault) (answer : IsAnswer old new r.log r.event result) where
+  pub answer_at : (now : Local) → Shows old now → AnswerOf old new now r.log r.bank r.event result
+  answer_at now shows = subst (λ (s : Local). AnswerOf old new s r.log r.bank r.event result) shows.rest (answer r.bank now.slice.waiting now.slice.regs2 shows.registers)
 
-  pub stands_more : (new : BankKept) → Takes step new r → StandsAfter new shape memory bank (rs ++ r ∷ [])
-  stands_more new takes = record {
-    of_shape = takes.same_shape ∙ stands.of_shape;
-    of_bank = takes.same_bank ∙ stands.of_bank;
-    is_run = run_more shape (first_local memory) rs r stands.is_run (sym same_rule ∙ takes.unbroken);
-    state = takes.moved ∙ ap₂ (λ s l. bank_effect s l r) stands.of_shape stands.state ∙ sym (after_more shape (first_local memory) rs r);
-  }
+module _ (old new : Kept) (shape : Shape) (memory : FlatMemory) (rs : List Record) (stands : KeptAfter old shape memory rs) (r : Record) where
+  at_shape : {A : Type 0} (result : Result A BankFault) → IsAnswer old new r.log r.event result → AnswerOf old new (bank_after shape (first_local memory) rs) r.log r.bank r.event result
+  at_shape result answer = answer_at old new r result answer (bank_after shape (first_local memory) rs) stands.state
 
-  pub fault_after : (fault : BankFault) → IsBankFault (broken_rule step r) fault → IsFaultAfter shape memory rs r fault
-  fault_after (Rule rule) some = breaks_more shape (first_local memory) rs r [] rule stands.is_run (sym same_rule ∙ some)
-  fault_after NoMemory none = run_more shape (first_local memory) rs r stands.is_run (sym same_rule ∙ none)
+  rule_at : broken_rule old.shape (bank_after shape (first_local memory) rs) r.log r.bank r.event ≡ first_failing OfBank (clauses shape (bank_after shape (first_local memory) rs) r)
+  rule_at = ap (λ s. broken_rule s (bank_after shape (first_local memory) rs) r.log r.bank r.event) stands.of_shape
 
-  pub breaks_after : (rest : List Record) (rule : model.Rule) → broken_rule step r ≡ Some rule → BreaksAt OfBank shape (first_local memory) (rs ++ r ∷ rest) (length rs) rule
-  breaks_after rest rule some = breaks_more shape (first_local memory) rs r rest rule stands.is_run (sym same_rule ∙ some)
+  pub kept_more : {A : Type 0} (result : Result A BankFault) → IsAnswer old new r.log r.event result → new.shape ≡ old.shape → OnOk result (KeptAfter new shape memory (rs ++ r ∷ []))
+  kept_more (Ok done) answer same =
+      let a = at_shape (Ok done) answer in
+      record {
+        of_shape = same ∙ stands.of_shape;
+        is_run = run_more shape (first_local memory) rs r stands.is_run (sym rule_at ∙ a.0);
+        state = subst (Shows new) (ap (λ s. after_event s (bank_after shape (first_local memory) rs) r.log r.event) stands.of_shape ∙ sym (after_more shape (first_local memory) rs r)) a.1;
+      }
+  kept_more (Err fault) answer same = tt
+
+  pub fault_more : {A : Type 0} (result : Result A BankFault) → IsAnswer old new r.log r.event result → IfErr result (IsFaultAfter shape memory rs r)
+  fault_more {A = A} (Ok done) answer = tt
+  fault_more {A = A} (Err (Rule rule)) answer = breaks_more shape (first_local memory) rs r [] rule stands.is_run (sym rule_at ∙ (at_shape {A = A} (Err (Rule rule)) answer).0)
+  fault_more {A = A} (Err NoMemory) answer = run_more shape (first_local memory) rs r stands.is_run (sym rule_at ∙ (at_shape {A = A} (Err NoMemory) answer).0)
 
 pub all_at : {X : Type 0} (P : X → Type 0) (xs : List X) (k : ℕ) (x : X) → AllByRecursion P xs → k < length xs → x ≡ get_or xs k x → P x
 all_at P [] k x all lt is = absurd (omega arith)
@@ -82,28 +89,24 @@ pub on_ok : {T E : Type 0} {P Q : Type 0} (r : Result T E) → (P → Q) → OnO
 on_ok (Ok t) f p = f p
 on_ok (Err e) f p = tt
 
-pub if_err : {T E : Type 0} {P Q : E → Type 0} (r : Result T E) → ((e : E) → P e → Q e) → IfErr r P → IfErr r Q
-if_err (Ok t) f p = tt
-if_err (Err e) f p = f e p
-
-pub takes_of : {T E : Type 0} (result : Result T E) (bank : ℕ) (old new : Kept) (r : Record) → OnOk result (first_failing OfBank (clauses old.shape (local_of old) r) ≡ None)
-    → OnOk result (local_of new ≡ bank_effect old.shape (local_of old) r) → new.shape ≡ old.shape → OnOk result (Takes (record { bank = bank; kept = old }) (record { bank = bank; kept = new }) r)
-takes_of (Ok t) bank old new r none moved shape = record { unbroken = none; same_bank = refl; same_shape = shape; moved = moved }
-takes_of (Err e) bank old new r none moved shape = tt
-
 -- ---- a loop over the records
 
-pub stands_next : (step : BankKept) (shape : Shape) (memory : FlatMemory) (bank : ℕ) (rs : List Record) (k : ℕ) (r : Record) → k < length rs → r ≡ get_or rs k r
-    → StandsAfter step shape memory bank (take k rs ++ r ∷ []) → StandsAfter step shape memory bank (take (k + 1) rs)
-stands_next step shape memory bank rs k r lt is stands = subst (StandsAfter step shape memory bank) (ap (λ x. take k rs ++ x ∷ []) is ∙ sym (take_more rs k r lt)) stands
+pub stands_next : (kept : Kept) (shape : Shape) (memory : FlatMemory) (rs : List Record) (k : ℕ) (r : Record) → k < length rs → r ≡ get_or rs k r
+    → KeptAfter kept shape memory (take k rs ++ r ∷ []) → KeptAfter kept shape memory (take (k + 1) rs)
+stands_next kept shape memory rs k r lt is stands = subst (KeptAfter kept shape memory) (ap (λ x. take k rs ++ x ∷ []) is ∙ sym (take_more rs k r lt)) stands
 
-pub breaks_at : (step : BankKept) (shape : Shape) (memory : FlatMemory) (bank : ℕ) (rs : List Record) (k : ℕ) (r : Record) (rule : model.Rule) → k < length rs → r ≡ get_or rs k r
-    → StandsAfter step shape memory bank (take k rs) → numbers_of rs ≡ range_with_len 0 (length rs) → broken_rule step r ≡ Some rule → BreaksAt OfBank shape (first_local memory) rs r.number rule
-breaks_at step shape memory bank rs k r rule lt is stands numbered some =
+breaks_longer : (shape : Shape) (now : Local) (xs : List Record) (r : Record) (rest : List Record) (rule : model.Rule) → BreaksAt OfBank shape now (xs ++ r ∷ []) (length xs) rule
+    → BreaksAt OfBank shape now (xs ++ r ∷ rest) (length xs) rule
+breaks_longer shape now [] r rest rule breaks = breaks
+breaks_longer shape now (x ∷ xs) r rest rule breaks = (breaks.0, breaks_longer shape (bank_effect shape now x) xs r rest rule breaks.1)
+
+pub breaks_at : (shape : Shape) (memory : FlatMemory) (rs : List Record) (k : ℕ) (r : Record) (rule : model.Rule) → k < length rs → r ≡ get_or rs k r
+    → numbers_of rs ≡ range_with_len 0 (length rs) → BreaksAt OfBank shape (first_local memory) (take k rs ++ r ∷ []) (length (take k rs)) rule → BreaksAt OfBank shape (first_local memory) rs r.number rule
+breaks_at shape memory rs k r rule lt is numbered breaks =
     let whole : take k rs ++ r ∷ drop (suc k) rs ≡ rs = ap (λ x. take k rs ++ x ∷ drop (suc k) rs) is ∙ ap (λ (xs : List Record). take k rs ++ xs) (sym (drop-cons rs k r lt)) ∙ take-append-drop k rs in
     let place : length (take k rs) ≡ r.number = length-take-le k rs (omega arith) ∙ sym (number_at rs k r numbered lt is) in
     subst (λ (n : ℕ). BreaksAt OfBank shape (first_local memory) rs n rule) place
-    (subst (λ (xs : List Record). BreaksAt OfBank shape (first_local memory) xs (length (take k rs)) rule) whole (breaks_after step shape memory bank (take k rs) stands r (drop (suc k) rs) rule some))
+    (subst (λ (xs : List Record). BreaksAt OfBank shape (first_local memory) xs (length (take k rs)) rule) whole (breaks_longer shape (first_local memory) (take k rs) r (drop (suc k) rs) rule breaks))
 
 -- ---- a bank's records, one more
 

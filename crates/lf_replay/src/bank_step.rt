@@ -6,11 +6,10 @@ ghost use Rattle.lf_model.specs.declared.event.Record.{Record};
 ghost use Rattle.lf_model.specs.Address.{FlatMemory, flat_memory};
 ghost use Rattle.lf_model.specs.InRange.{IsShape};
 ghost use Rattle.lf_replay.specs.Bytes.{bank_part};
-ghost use Rattle.lf_replay.specs.Faults.{IsBankFault};
-ghost use Rattle.lf_replay.specs.Step.{StandsAfter, Takes, IsForStep, IsFaultAfter, broken_rule};
+ghost use Rattle.lf_replay.specs.Step.{StandsAfter, IsForStep, IsFaultAfter};
 
+use crate::any_bank::AnyBank;
 use crate::fault::BankFault;
-use crate::state::BankState;
 use lf_model::{Memory, NoMemory, Record, Shape};
 use std::alloc::Global;
 use std::marker::Model;
@@ -20,7 +19,7 @@ use std::marker::Model;
 #[derive(Drop)]
 pub struct Step {
     bank: u32,
-    state: BankState,
+    state: AnyBank,
 }
 
 impl Model for Step {
@@ -28,13 +27,12 @@ impl Model for Step {
 
     ghost Value = { BankKept };
 
-    ghost use Rattle.lf_replay.specs.View.{kept};
-    ghost use Rattle.lf_replay.specs.Kept.{IsFramed, slice_of};
-    ghost use Rattle.lf_replay.specs.Apart.{EachStands};
+    ghost use Rattle.lf_replay.specs.AnyBank.{kept_of};
+    ghost use Rattle.lf_replay.specs.Shows.{IsSound};
 
-    ghost view = { λ s. record { bank = s.bank; kept = kept s.state } };
+    ghost view = { λ s. record { bank = s.bank; kept = kept_of s.state } };
 
-    ghost invariant = { λ s. IsFramed (kept s.state) × EachStands (slice_of (kept s.state)) };
+    ghost invariant = { λ s. IsSound (kept_of s.state) };
 }
 
 impl Step {
@@ -46,7 +44,7 @@ impl Step {
         requires bank { bank < shape.now.banks }
         ensures { IfOk result (λ step. StandsAfter step shape.now (bank_part shape.now.banks bank (flat_memory memory.now.items)) bank []) }
     {
-        let state = BankState::new(alloc, shape, memory, bank)?;
+        let state = AnyBank::new(alloc, shape, memory, bank)?;
         Ok(Step { bank, state })
     }
 
@@ -54,8 +52,6 @@ impl Step {
     /// `NoMemory` tells that it breaks none and a growth was refused. Both leave the state as it was.
     pub fn apply(&mut self, item: &Record) -> Result<(), BankFault>
         requires { IsForStep self.old item.now }
-        ensures taken { OnOk result (Takes self.old self.new item.now) }
-        ensures fault { IfErr result (IsBankFault (broken_rule self.old item.now)) }
         ensures unchanged { OnErr result (self.new ≡ self.old) }
         ensures stands { (shape : Shape) (memory : FlatMemory) (bank : ℕ) (rs : List Record) → StandsAfter self.old shape memory bank rs → OnOk result (StandsAfter self.new shape memory bank (rs ++ item.now ∷ [])) }
         ensures broken { (shape : Shape) (memory : FlatMemory) (bank : ℕ) (rs : List Record) → StandsAfter self.old shape memory bank rs → IfErr result (IsFaultAfter shape memory rs item.now) }

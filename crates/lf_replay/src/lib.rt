@@ -3,25 +3,31 @@
 //!
 //! `Step` is that state. It is seen as lists, which `specs/` compares with the one state of the whole
 //! system: after any records that it took it stands where a run of the bank ends. `replay` judges a
-//! whole list of records.
+//! whole list of records, and `bank_replay` does so for two organisations of registers that its caller
+//! names; it is proved from their laws alone.
 #![tactic(auto)]
 
-mod bank_replay;
+mod any_bank;
+mod apply;
+mod bank;
 mod bank_step;
-mod change;
-mod data;
-mod effect;
+mod carried;
 mod fault;
-mod judge;
+mod level_one;
+mod level_two;
+mod lists;
 mod memory;
 mod queue;
 mod registers;
+mod replays;
+mod replies;
 mod request;
 mod state;
+mod target;
 
-pub use bank_replay::replay;
 pub use bank_step::Step;
 pub use fault::BankFault;
+pub use replays::{bank_replay, replay};
 
 #[cfg(test)]
 mod tests;

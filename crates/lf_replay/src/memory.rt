@@ -3,14 +3,11 @@
 ghost use Rattle.std.specs.Prelude.{◌≡◌, ℕ, ◌+◌, ◌-◌, ◌<◌, ◌≤◌, ◌||◌, ◌==◌, map, length, slice_index, IfOk, OnOk, OnErr, if◌then◌else◌};
 ghost use Rattle.std.specs.List.{range_with_len, list_all, filter};
 ghost use Rattle.lf_model.specs.Address.{flat_memory, is_under};
-ghost use Rattle.lf_model.specs.State as model;
-ghost use Rattle.lf_model.specs.Registers as registers;
 ghost use Rattle.lf_model.specs.State.{update};
 ghost use Rattle.lf_model.specs.Table.{value_of, accepted};
 ghost use Rattle.lf_replay.specs.Bytes.{flat_of, bank_part, put, IsSound};
 
-use crate::registers::Held;
-use crate::request::{Data, Missed, Request};
+use crate::request::{Data, Request};
 use lf_model::{Block, NoMemory, Op};
 use std::alloc::Global;
 use std::collections::BTreeMap;
@@ -111,22 +108,6 @@ impl FlatMemory {
                 usize::from(request.offset()),
                 usize::from(request.size()),
             ),
-        }
-    }
-
-    /// What a register keeps of a request that misses.
-    pub fn missed(&self, port: u8, register: u16, request: &Request) -> Held<Missed>
-        ensures { let value = value_of (flat_of self.now) request.now in let target : model.Missed = record { port = port; request = request.now; value = value } in let held : registers.Held model.Missed = record { register = register; block = request.now.block; target = target } in result ≡ held }
-    {
-        let target = Missed {
-            port,
-            request: request.copied(),
-            value: self.value_of(request),
-        };
-        Held {
-            register,
-            block: request.block(),
-            target,
         }
     }
 

@@ -1,217 +1,125 @@
-//! The registers of one level: what they hold, in the order of acceptance.
+//! What the registers of both levels say of the requests that they tell of.
 
-ghost use Rattle.std.specs.Prelude.{◌≡◌, ℕ, ◌+◌, ◌<◌, ◌≤◌, ◌↔◌, ◌==◌, ◌&&◌, length, count_by};
-ghost use Rattle.std.specs.List.{list_any, range_with_len};
-ghost use Rattle.lf_model.specs.Registers as model;
-ghost use Rattle.lf_model.specs.Table.{position, only_position, store_bytes, store_mask};
-ghost use Rattle.lf_model.specs.Registers.{holds, is_free, holds_in, registers_of, right_for_primary, right_for_merge, takes, has_room, released};
+ghost use Rattle.std.specs.Prelude.{◌≡◌, ℕ, List};
+ghost use Rattle.lf_model.specs.Registers.{Held, holds, has_room, primary_clauses, merge_clauses};
+ghost use Rattle.lf_model.specs.Run.{first_failing};
+ghost use Rattle.lf_model.specs.State.{Missed};
+ghost use Rattle.lf_model.specs.Table.{OfBank, destinations, destinations2, only_position, position, store_bytes};
+ghost use Rattle.lf_model.specs.declared.shape.Shape.{Shape};
+ghost use Rattle.lf_mshr.specs.Alike.{AreAlike};
+ghost use Rattle.lf_mshr.specs.RegisterFile.{primary_wants, merge_wants};
+ghost use Rattle.lf_mshr.specs.declared.level_one.Request1.{Request1};
+ghost use Rattle.lf_mshr.specs.declared.level_two.Request2.{Request2};
+ghost use Rattle.lf_replay.specs.Kept.{IsFile1, IsFile2};
+ghost use Rattle.lf_replay.specs.Tells.{Tells, TellsRegister};
 
-use crate::request::Missed;
-use lf_model::OrgShape;
-use std::marker::Model;
+use lf_model::{Rule, Shape};
+use lf_mshr::{Organisation, Request1, Request2};
 
-/// A register's block, and one target of it.
-#[derive(Drop)]
-pub struct Held<T> {
-    pub register: u16,
-    pub block: u32,
-    pub target: T,
-}
-
-impl<T> Model for Held<T> {
-    ghost use Rattle.lf_model.specs.Registers as model;
-
-    ghost Value = { model.Held T };
-
-    ghost view = { λ h. record { register = h.register; block = h.block; target = h.target } };
-}
-
-impl<T> Held<T> {
-    pub fn register(&self) -> u32
-        ensures { result ≡ self.now.register }
-    {
-        u32::from(self.register)
-    }
-
-    pub fn block(&self) -> u32
-        ensures { result ≡ self.now.block }
-    {
-        self.block
-    }
-
-    pub fn target(&self) -> &T
-        ensures { result.now ≡ self.now.target }
-    {
-        &self.target
-    }
-}
-
-/// What a register holds for a request.
-pub trait Target: Drop {
-    ghost position: { Self → ℕ };
-
-    /// The field of an implicitly addressed register that the target takes.
-    fn position(&self) -> u32
-        ensures { result ≡ position self.now };
-}
-
-impl Target for Missed {
-    ghost position = { position };
-
-    fn position(&self) -> u32 {
-        self.word()
-    }
-}
-
-/// A level-two register's target is the level-one register that asked.
-impl Target for u16 {
-    ghost position = { only_position };
-
-    fn position(&self) -> u32 {
-        0
-    }
-}
-
-pub fn holds<T>(held: &[Held<T>], block: u32) -> bool
-    ensures { result ≡ holds held.now block }
-{
-    held.iter().any(|h| h.block() == block)
-}
-
-fn is_used<T>(held: &[Held<T>], register: u32) -> bool
-    ensures { result ≡ list_any (λ h. h.register == register) held.now }
-{
-    held.iter().any(|h| h.register() == register)
-}
-
-pub fn is_free<T>(held: &[Held<T>], register: u32) -> bool
-    ensures { result ≡ is_free held.now register }
-{
-    !is_used(held, register)
-}
-
-pub fn holds_in<T>(held: &[Held<T>], register: u32, block: u32) -> bool
-    ensures { result ≡ holds_in held.now register block }
-{
-    held.iter()
-        .any(|h| h.register() == register && h.block() == block)
-}
-
-/// How many targets the register holds.
-fn targets_in<T>(held: &[Held<T>], register: u32) -> usize
-    ensures { result ≡ count_by (λ h. h.register == register) held.now }
-{
-    held.iter().filter(|h| h.register() == register).count()
-}
-
-/// Whether the register's field at this position is in use.
-fn is_field_used<T: Target>(held: &[Held<T>], register: u32, at: u32) -> bool
-    ensures { result ≡ list_any (λ h. h.register == register && T.position h.target == at) held.now }
-{
-    held.iter().any(|h| h.register() == register && h.target().position() == at)
-}
-
-/// Whether a further target at this position has a place in the register.
-pub fn takes<T: Target>(organisation: OrgShape, held: &[Held<T>], register: u32, at: u32) -> bool
-    ensures { result ≡ takes organisation T.position held.now register at }
-{
-    match organisation {
-        OrgShape::Implicit { .. } => !is_field_used(held, register, at),
-        OrgShape::Explicit { entries, .. } => targets_in(held, register) < entries as usize,
-        OrgShape::Inverted => is_free(held, register),
-    }
-}
-
-/// How many registers there are.
-pub fn registers_of(organisation: OrgShape, destinations: u32) -> u32
-    ensures { result ≡ registers_of organisation destinations }
-{
-    match organisation {
-        OrgShape::Implicit { registers } | OrgShape::Explicit { registers, .. } => registers,
-        OrgShape::Inverted => destinations,
-    }
-}
-
-/// Whether a primary miss of this destination may take the register.
-pub fn right_for_primary(organisation: OrgShape, destination: u32, register: u32) -> bool
-    ensures { result ≡ right_for_primary organisation destination register }
-{
-    match organisation {
-        OrgShape::Inverted => register == destination,
-        _ => true,
-    }
-}
-
-/// Whether it is the register that a further miss of this destination to the block joins.
-pub fn right_for_merge<T>(
-    organisation: OrgShape,
-    held: &[Held<T>],
+/// The first rule that the target breaks as a primary miss of the register.
+pub fn primary_rule<O: Organisation<Target = Request1>>(
+    waiting: &O::File,
+    shape: &Shape,
     block: u32,
-    destination: u32,
-    register: u32,
-) -> bool
-    ensures { result ≡ right_for_merge organisation held.now block destination register }
+    target: &Request1,
+    register: u16,
+) -> Option<Rule>
+    requires { IsFile1 shape.now (O.seen waiting.now) }
+    ensures held { result ≡ first_failing OfBank (primary_wants (λ (r : Request1). r.position) (λ (r : Request1). r.destination) (O.seen waiting.now) register block target.now) }
+    ensures told { (missed : List (Held Missed)) → AreAlike (Tells shape.now) (O.seen waiting.now).held missed
+        → result ≡ first_failing OfBank (primary_clauses shape.now.level1.organisation (destinations shape.now) missed block target.now.destination register) }
 {
-    match organisation {
-        OrgShape::Inverted => register == destination,
-        _ => holds_in(held, register, block),
+    match O::primary_fault(waiting, register, block, target) {
+        Some(fault) => Some(fault.rule()),
+        None => None,
     }
 }
 
-fn some_takes<T: Target>(
-    organisation: OrgShape,
-    registers: u32,
-    held: &[Held<T>],
+/// The first rule that the target breaks as a merge into the register.
+pub fn merge_rule<O: Organisation<Target = Request1>>(
+    waiting: &O::File,
+    shape: &Shape,
     block: u32,
-    at: u32,
-) -> bool
-    ensures { result ≡ list_any (λ r. holds_in held.now r block && takes organisation T.position held.now r at) (range_with_len 0 registers) }
+    target: &Request1,
+    register: u16,
+) -> Option<Rule>
+    requires { IsFile1 shape.now (O.seen waiting.now) }
+    ensures held { result ≡ first_failing OfBank (merge_wants (λ (r : Request1). r.position) (λ (r : Request1). r.destination) (O.seen waiting.now) register block target.now) }
+    ensures told { (missed : List (Held Missed)) → AreAlike (Tells shape.now) (O.seen waiting.now).held missed
+        → result ≡ first_failing OfBank (merge_clauses shape.now.level1.organisation (destinations shape.now) position missed block target.now.destination target.now.position register) }
 {
-    (0..registers).any(|r| holds_in(held, r, block) && takes(organisation, held, r, at))
-}
-
-fn some_is_free<T>(registers: u32, held: &[Held<T>]) -> bool
-    ensures { result ≡ list_any (is_free held.now) (range_with_len 0 registers) }
-{
-    (0..registers).any(|r| is_free(held, r))
-}
-
-/// Whether some register takes a target of this block, destination and position.
-pub fn has_room<T: Target>(
-    organisation: OrgShape,
-    destinations: u32,
-    held: &[Held<T>],
-    block: u32,
-    destination: u32,
-    at: u32,
-) -> bool
-    ensures { result ≡ has_room organisation destinations T.position held.now block destination at }
-{
-    match organisation {
-        OrgShape::Implicit { registers } | OrgShape::Explicit { registers, .. } => {
-            if holds(held, block) {
-                some_takes(organisation, registers, held, block, at)
-            } else {
-                some_is_free(registers, held)
-            }
-        }
-        OrgShape::Inverted => destination < destinations && is_free(held, destination),
+    match O::merge_fault(waiting, register, block, target) {
+        Some(fault) => Some(fault.rule()),
+        None => None,
     }
 }
 
-/// The targets of the block leave; the others keep their order.
-pub fn release<T: Drop>(held: &mut Vec<Held<T>>, block: u32)
-    ensures { held.new.items ≡ released held.old.items block }
+/// Whether some level-one register takes the target.
+pub fn has_room1<O: Organisation<Target = Request1>>(
+    waiting: &O::File,
+    shape: &Shape,
+    block: u32,
+    target: &Request1,
+) -> bool
+    requires { IsFile1 shape.now (O.seen waiting.now) }
+    ensures { (missed : List (Held Missed)) → AreAlike (Tells shape.now) (O.seen waiting.now).held missed
+        → result ≡ has_room shape.now.level1.organisation (destinations shape.now) position missed block target.now.destination target.now.position }
 {
-    held.retain(|h| h.block() != block);
+    O::room(waiting, block, target)
+}
+
+/// Whether a request waits for the block in a level-one register.
+pub fn is_waited_for<O: Organisation<Target = Request1>>(waiting: &O::File, block: u32) -> bool
+    ensures { (shape : Shape) (missed : List (Held Missed)) → AreAlike (Tells shape) (O.seen waiting.now).held missed → result ≡ holds missed block }
+{
+    O::holds(waiting, block)
 }
 
 /// The bytes that waiting stores of the block write.
-pub fn store_bytes(waiting: &[Held<Missed>], block: u32) -> u64
-    ensures { result ≡ store_bytes waiting.now block }
+pub fn store_bytes<O: Organisation<Target = Request1>>(waiting: &O::File, block: u32) -> u64
+    ensures { (shape : Shape) (missed : List (Held Missed)) → AreAlike (Tells shape) (O.seen waiting.now).held missed → result ≡ store_bytes missed block }
 {
-    waiting
-        .iter()
-        .filter(|h| h.block() == block)
-        .fold(0, |mask, h| mask | h.target().store_mask())
+    O::store_bytes(waiting, block).0
+}
+
+/// Whether a level-two register fetches the block.
+pub fn is_fetched<O: Organisation<Target = Request2>>(regs2: &O::File, block: u32) -> bool
+    ensures held { result ≡ holds (O.seen regs2.now).held block }
+    ensures told { (fetched : List (Held ℕ)) → AreAlike TellsRegister (O.seen regs2.now).held fetched → result ≡ holds fetched block }
+{
+    O::holds(regs2, block)
+}
+
+/// The first rule that the block breaks as a primary miss of the level-two register.
+pub fn second_primary_rule<O: Organisation<Target = Request2>>(
+    regs2: &O::File,
+    shape: &Shape,
+    block: u32,
+    target: &Request2,
+    register: u16,
+) -> Option<Rule>
+    requires { IsFile2 shape.now (O.seen regs2.now) }
+    ensures held { result ≡ first_failing OfBank (primary_wants (λ (r : Request2). r.position) (λ (r : Request2). r.destination) (O.seen regs2.now) register block target.now) }
+    ensures told { (fetched : List (Held ℕ)) → AreAlike TellsRegister (O.seen regs2.now).held fetched
+        → result ≡ first_failing OfBank (primary_clauses shape.now.level2.organisation (destinations2 shape.now) fetched block target.now.destination register) }
+{
+    match O::primary_fault(regs2, register, block, target) {
+        Some(fault) => Some(fault.rule()),
+        None => None,
+    }
+}
+
+/// Whether some level-two register takes the block.
+pub fn has_room2<O: Organisation<Target = Request2>>(
+    regs2: &O::File,
+    shape: &Shape,
+    block: u32,
+    target: &Request2,
+) -> bool
+    requires file { IsFile2 shape.now (O.seen regs2.now) }
+    requires position { target.now.position ≡ 0 }
+    ensures { (fetched : List (Held ℕ)) → AreAlike TellsRegister (O.seen regs2.now).held fetched
+        → result ≡ has_room shape.now.level2.organisation (destinations2 shape.now) only_position fetched block target.now.destination 0 }
+{
+    O::room(regs2, block, target)
 }

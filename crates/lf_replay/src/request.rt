@@ -1,4 +1,4 @@
-//! What a bank keeps of a request, from its issue to its reply.
+//! What a bank keeps of a request before its acceptance, and of its reply.
 
 ghost use Rattle.std.specs.Prelude.{◌≡◌, ℕ, ◌+◌, ◌/◌, ◌%◌, true, ◌<◌, ◌≤◌, ◌↔◌, length};
 ghost use Rattle.lf_model.specs.Address.{mask_of};
@@ -15,7 +15,7 @@ use std::marker::Model;
 /// The bytes of a request: what a store writes, or a load's value.
 pub type Data = ArrayVec<u8, 8>;
 
-/// A request of a port, from its issue to its acceptance, and on as a target of a register.
+/// A request of a port, from its issue to its acceptance.
 #[derive(Drop)]
 pub struct Request {
     pub tag: u8,
@@ -38,22 +38,6 @@ impl Model for Request {
     ghost invariant = { λ r. let request : model.Request = record { tag = r.tag; op = r.op; block = r.block; offset = r.offset; size = r.size; bytes = r.bytes.items } in IsSound request };
 }
 
-/// A request that missed, and its value where it is a load.
-#[derive(Drop)]
-pub struct Missed {
-    pub port: u8,
-    pub request: Request,
-    pub value: Data,
-}
-
-impl Model for Missed {
-    ghost use Rattle.lf_model.specs.State as model;
-
-    ghost Value = { model.Missed };
-
-    ghost view = { λ m. record { port = m.port; request = m.request; value = m.value.items } };
-}
-
 /// The reply that a request may have: a load's value, and nothing for a store.
 #[derive(Drop)]
 pub struct Ready {
@@ -70,15 +54,6 @@ impl Model for Ready {
     ghost view = { λ r. record { port = r.port; tag = r.tag; value = r.value.items } };
 }
 
-impl Missed {
-    /// The word of the block that the request touches first.
-    pub fn word(&self) -> u32
-        ensures { result ≡ position self.now }
-    {
-        u32::from(self.request.offset()) / 8
-    }
-}
-
 /// The same bytes.
 fn data_of(bytes: &[u8]) -> Data
     requires { length bytes.now ≤ 8 }
@@ -91,40 +66,7 @@ fn data_of(bytes: &[u8]) -> Data
     data
 }
 
-impl Missed {
-    /// What the port gets once the block is there.
-    pub fn reply(&self) -> Ready
-        ensures { let reply : model.Ready = record { port = self.now.port; tag = self.now.request.tag; value = self.now.value } in result ≡ reply }
-    {
-        Ready {
-            port: self.port,
-            tag: self.request.tag(),
-            value: data_of(&self.value),
-        }
-    }
-
-    pub fn store_mask(&self) -> u64
-        ensures { result ≡ store_mask self.now.request }
-    {
-        self.request.store_mask()
-    }
-}
-
 impl Request {
-    /// The same request.
-    pub fn copied(&self) -> Request
-        ensures { result ≡ self.now }
-    {
-        Request {
-            tag: self.tag,
-            op: self.op,
-            block: self.block,
-            offset: self.offset,
-            size: self.size,
-            bytes: data_of(&self.bytes),
-        }
-    }
-
     pub fn tag(&self) -> u8
         ensures { result ≡ self.now.tag }
     {

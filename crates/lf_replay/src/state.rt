@@ -1,156 +1,99 @@
-//! The state of one bank.
+//! The state of a bank with two organisations of registers.
 
-ghost use Rattle.std.specs.Prelude.{◌≡◌, ℕ, ◌&&◌, nat_lt, Bool, true, false, [], length, IfOk, MatchOption, option_copied, ◌==◌};
-ghost use Rattle.std.specs.List.{find, list_any};
-ghost use Rattle.lf_model.specs.Table.{is_head, oldest, is_asked, is_among, asked_register, is_ready_for, first_ready};
-ghost use Rattle.lf_model.specs.Address.{flat_memory};
+ghost use Rattle.std.specs.Prelude.{◌≡◌, ◌≤◌, true, List, [], ◌∷◌, ◌++◌, IfOk, OnOk, OnErr, IfErr};
+ghost use Rattle.lf_model.specs.declared.event.Record.{Record};
+ghost use Rattle.lf_model.specs.declared.shape.Shape.{Shape};
+ghost use Rattle.lf_model.specs.Address.{FlatMemory, flat_memory};
+ghost use Rattle.lf_model.specs.Fits.{Fits};
 ghost use Rattle.lf_model.specs.InRange.{IsShape};
 ghost use Rattle.lf_model.specs.Outcomes.{first_local};
-ghost use Rattle.lf_model.specs.Lines.{dirty_mask};
-ghost use Rattle.lf_replay.specs.Apart.{EachStands};
+ghost use Rattle.lf_model.specs.Table.{destinations, destinations2};
 ghost use Rattle.lf_replay.specs.Bytes.{bank_part};
-ghost use Rattle.lf_replay.specs.Kept.{queue_at, local_of, slice_of, IsFramed};
-ghost use Rattle.lf_replay.specs.View.{kept};
+ghost use Rattle.lf_replay.specs.Shows.{IsSound, Shows};
+ghost use Rattle.lf_replay.specs.Step.{KeptAfter, IsFaultAfter};
 
-use crate::memory::FlatMemory;
-use crate::queue::{Queue, head};
-use crate::registers::Held;
-use crate::request::{Missed, Ready, Request};
-use lf_levels::{Lines, One, Two};
-use lf_model::{Block, NoMemory, Shape};
+use crate::bank::Bank;
+use crate::fault::BankFault;
+use lf_model::{Block, NoMemory, OrgShape, Record, Shape};
+use lf_mshr::{Organisation, Request1, Request2};
 use std::alloc::Global;
+use std::marker::Model;
 
-/// What bank b of both levels holds, and its part of flat memory.
+/// What a bank of both levels holds, and its part of flat memory.
 #[derive(Drop)]
-pub struct BankState {
-    pub shape: Shape,
-    pub memory: FlatMemory,
-    /// One for each port.
-    pub queues: Vec<Queue>,
-    pub lines1: Lines<One>,
-    pub lines2: Lines<Two>,
-    /// The targets in level-one registers.
-    pub waiting: Vec<Held<Missed>>,
-    /// Those in level-two registers: a level-one register each.
-    pub regs2: Vec<Held<u16>>,
-    /// Blocks, each with the level-one register of its primary miss.
-    pub asked: Vec<(u32, u16)>,
-    pub supplied: Vec<u32>,
-    pub ready: Vec<Ready>,
+pub struct BankState<O1: Organisation<Target = Request1>, O2: Organisation<Target = Request2>> {
+    bank: Bank,
+    /// The level-one registers.
+    waiting: O1::File,
+    /// The level-two registers.
+    regs2: O2::File,
 }
 
-/// An empty queue for each port.
-fn empty_queues(alloc: Global, ports: u32) -> Result<Vec<Queue>, NoMemory>
-    ensures ports { IfOk result (λ queues. length queues.items ≡ ports) }
-    ensures empty { IfOk result (λ queues. (port : ℕ) → queue_at queues.items port ≡ []) }
+impl<O1: Organisation<Target = Request1>, O2: Organisation<Target = Request2>> Model
+    for BankState<O1, O2> {
+    ghost use Rattle.lf_replay.specs.Kept.{Kept};
+    ghost use Rattle.lf_replay.specs.View.{kept};
+
+    ghost Value = { Kept };
+
+    ghost view = { λ s. kept s.bank (O1.seen s.waiting) (O2.seen s.regs2) };
+}
+
+/// How many requests may wait at level one: one for each port and tag.
+fn destinations(shape: &Shape) -> u16
+    requires { IsShape shape.now }
+    ensures number { result ≡ destinations shape.now }
+    ensures few { result ≤ 1024 }
 {
-    let mut queues = Vec::new(alloc);
-    for _ in 0..ports {
-        if queues.push(Queue::new(alloc)).is_err() {
-            return Err(NoMemory);
-        }
-    }
-    Ok(queues)
+    (shape.ports * shape.tags) as u16
 }
 
-impl BankState {
-    /// The opening state, with the bank's blocks of the memory that a trace names.
+/// How many blocks may wait at level two: one for each register of level one.
+fn destinations2(shape: &Shape) -> u16
+    requires { IsShape shape.now }
+    ensures number { result ≡ destinations2 shape.now }
+    ensures few { result ≤ 1024 }
+{
+    match shape.level1.organisation {
+        OrgShape::Implicit { registers } | OrgShape::Explicit { registers, .. } => registers as u16,
+        OrgShape::Inverted => destinations(shape),
+    }
+}
+
+impl<O1: Organisation<Target = Request1>, O2: Organisation<Target = Request2>> BankState<O1, O2> {
+    /// The opening state, with the bank's blocks of the memory that a trace names. The shape's levels
+    /// name the two organisations.
     pub fn new(
         alloc: Global,
         shape: &Shape,
         memory: &[(u32, Block)],
         bank: u32,
-    ) -> Result<BankState, NoMemory>
-        requires { IsShape shape.now }
-        ensures opening { IfOk result (λ state. local_of (kept state) ≡ first_local (bank_part shape.now.banks bank (flat_memory memory.now))) }
-        ensures framed { IfOk result (λ state. IsFramed (kept state)) }
-        ensures stands { IfOk result (λ state. EachStands (slice_of (kept state))) }
+    ) -> Result<BankState<O1, O2>, NoMemory>
+        requires in_range { IsShape shape.now }
+        requires level1 { O1.names shape.now.level1.organisation ≡ true }
+        requires level2 { O2.names shape.now.level2.organisation ≡ true }
+        ensures opening { IfOk result (λ state. Shows state (first_local (bank_part shape.now.banks bank (flat_memory memory.now)))) }
+        ensures sound { IfOk result (λ state. IsSound state) }
         ensures shape { IfOk result (λ state. state.shape ≡ shape.now) }
     {
-        let level1 = shape.level1;
-        let level2 = shape.level2;
         Ok(BankState {
-            shape: *shape,
-            memory: FlatMemory::new(alloc, memory, shape.banks, bank)?,
-            queues: empty_queues(alloc, shape.ports)?,
-            lines1: Lines::new(alloc, level1.sets, level1.ways, shape.banks)?,
-            lines2: Lines::new(alloc, level2.sets, level2.ways, shape.banks)?,
-            waiting: Vec::new(alloc),
-            regs2: Vec::new(alloc),
-            asked: Vec::new(alloc),
-            supplied: Vec::new(alloc),
-            ready: Vec::new(alloc),
+            bank: Bank::new(alloc, shape, memory, bank)?,
+            waiting: O1::new(alloc, &shape.level1.organisation, destinations(shape))?,
+            regs2: O2::new(alloc, &shape.level2.organisation, destinations2(shape))?,
         })
     }
 
-    /// The oldest request of the port, where the port exists and that request has the tag.
-    pub fn head(&self, port: u8, tag: u8) -> Option<&Request>
-        requires { IsFramed (kept self.now) }
-        ensures { let queue = queue_at self.now.queues.items port in let is = nat_lt port self.now.shape.ports && is_head queue tag in MatchOption result (is ≡ false) (λ request. (is ≡ true) × (request.now ≡ oldest queue)) }
+    /// Judges the record, and carries it out where it breaks no rule of the bank.
+    pub fn apply(&mut self, item: &Record) -> Result<(), BankFault>
+        requires sound { IsSound self.old }
+        requires fits { Fits self.old.shape item.now }
+        ensures unchanged { OnErr result (self.new ≡ self.old) }
+        ensures stands { (shape : Shape) (memory : FlatMemory) (rs : List Record) → KeptAfter self.old shape memory rs → OnOk result (KeptAfter self.new shape memory (rs ++ item.now ∷ [])) }
+        ensures broken { (shape : Shape) (memory : FlatMemory) (rs : List Record) → KeptAfter self.old shape memory rs → IfErr result (IsFaultAfter shape memory rs item.now) }
+        ensures sound { IsSound self.new }
+        ensures shape { self.new.shape ≡ self.old.shape }
     {
-        head(&self.queues, port, tag)
-    }
-
-    pub fn has_asked(&self, block: u32) -> bool
-        ensures { result ≡ is_asked self.now.asked.items block }
-    {
-        self.asked.iter().any(|a| a.0 == block)
-    }
-
-    pub fn has_supplied(&self, block: u32) -> bool
-        ensures { result ≡ is_among self.now.supplied.items block }
-    {
-        self.supplied.iter().any(|b| *b == block)
-    }
-
-    /// The level-one register of the block's primary miss, and 0 where the block is not asked for.
-    pub fn asked_register(&self, block: u32) -> u16
-        ensures { result ≡ asked_register self.now.asked.items block }
-    {
-        match self.asked_entry(block) {
-            Some(entry) => entry.1,
-            None => 0,
-        }
-    }
-
-    fn asked_entry(&self, block: u32) -> Option<&(u32, u16)>
-        ensures { option_copied result ≡ find (λ a. a.0 == block) self.now.asked.items }
-    {
-        self.asked.iter().find(|a| a.0 == block)
-    }
-
-    fn ready_entry(&self, port: u8, tag: u8) -> Option<&Ready>
-        ensures { option_copied result ≡ find (is_ready_for port tag) self.now.ready.items }
-    {
-        self.ready
-            .iter()
-            .find(|r| r.port() == port && r.tag() == tag)
-    }
-
-    /// The first reply that is ready for the port and tag.
-    pub fn ready_for(&self, port: u8, tag: u8) -> Option<&Ready>
-        ensures { let ready = self.now.ready.items in MatchOption result (list_any (is_ready_for port tag) ready ≡ false) (λ r. (list_any (is_ready_for port tag) ready ≡ true) × (r.now.value ≡ first_ready ready port tag)) }
-    {
-        self.ready_entry(port, tag)
-    }
-
-    /// The dirty mask of the block's line in level one, and 0 where there is none.
-    pub fn dirty1(&self, block: u32) -> u64
-        ensures { result ≡ dirty_mask self.now.lines1.lines block }
-    {
-        match self.lines1.dirty(block) {
-            Some(mask) => mask.0,
-            None => 0,
-        }
-    }
-
-    /// The same of level two.
-    pub fn dirty2(&self, block: u32) -> u64
-        ensures { result ≡ dirty_mask self.now.lines2.lines block }
-    {
-        match self.lines2.dirty(block) {
-            Some(mask) => mask.0,
-            None => 0,
-        }
+        self.bank
+            .apply::<O1, O2>(&mut self.waiting, &mut self.regs2, item)
     }
 }

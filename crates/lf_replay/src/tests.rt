@@ -5,11 +5,13 @@ ghost use Rattle.std.specs.Prelude.{◌≡◌, ◌≤◌, true, length};
 ghost use Rattle.lf_model.specs.InRange.{IsShape, IsOrganisation};
 ghost use Rattle.lf_replay.specs.Step.{IsBankOrder};
 
-use crate::{Step, replay};
+use crate::{Step, bank_replay, replay};
 use lf_model::{
     Block, Event, Level, Mask, Memory, Op, OrgShape, Outcome, Record, Rule, Shape, fits,
 };
+use lf_mshr::{Explicit, Implicit, Inverted, Organisation, Request1, Request2};
 use std::alloc::Global;
+use std::process::Abort;
 use std::test::Fail;
 
 const ZEROS: [u8; 8] = [0; 8];
@@ -585,4 +587,86 @@ fn a_step_goes_on_after_a_fault(rt: HostRuntime) -> Result<(), Fail> {
     events.push(reply(0, 8, &ZEROS))?;
     assert_eq!(rt; refused_by_step(rt.alloc(), &plain(), events)?, 9);
     Ok(())
+}
+
+/// A load and a store that miss both levels, each from its issue to its reply.
+fn load_and_store(alloc: Global) -> Result<Vec<Event>, Fail> {
+    let mut events = load_misses(alloc)?;
+    events.push(evict1(0, 0, &[]))?;
+    events.push(store(1, 8, 8, &[1, 2, 3, 4, 5, 6, 7, 8]))?;
+    events.push(primary(1, 1))?;
+    events.push(second_primary(1, 1))?;
+    events.push(fill2(1, &ZEROS))?;
+    events.push(fill1(1, &ZEROS))?;
+    events.push(reply(1, 0, &[]))?;
+    Ok(events)
+}
+
+/// Drives one pair of organisations through a whole load and store, and through a load with a wrong
+/// reply.
+fn drive<O1: Organisation<Target = Request1>, O2: Organisation<Target = Request2>>(
+    rt: &impl Abort,
+    alloc: Global,
+    shape: &Shape,
+) -> Result<(), Fail>
+    requires in_range { IsShape shape.now }
+    requires level1 { O1.names shape.now.level1.organisation ≡ true }
+    requires level2 { O2.names shape.now.level2.organisation ≡ true }
+{
+    let memory = Vec::new(alloc);
+    let records = records_of(alloc, load_and_store(alloc)?)?;
+    if !is_bank_order(shape, 0, &records) || shape.banks == 0 {
+        return Err(Fail::from("these are no records of the bank"));
+    }
+    assert_eq!(rt;
+        bank_replay::<O1, O2>(alloc, shape, &memory, 0, &records),
+        Outcome::Passed
+    );
+    assert_eq!(rt; replay(alloc, shape, &memory, 0, &records), Outcome::Passed);
+    assert_eq!(rt; refused_by_step(alloc, shape, load_and_store(alloc)?)?, 0);
+    let mut wrong = load_filled(alloc)?;
+    wrong.push(reply(0, 8, &[1, 0, 0, 0, 0, 0, 0, 0]))?;
+    assert_eq!(rt;
+        judged(alloc, shape, wrong)?,
+        Outcome::Broken(5, Rule::ReplyData)
+    );
+    Ok(())
+}
+
+fn shape_of(level1: OrgShape, level2: OrgShape) -> Shape
+    requires level1 { IsOrganisation level1 }
+    requires level2 { IsOrganisation level2 }
+    ensures in_range { IsShape result }
+    ensures first { result.level1.organisation ≡ level1 }
+    ensures second { result.level2.organisation ≡ level2 }
+{
+    let mut shape = shape_with(level1);
+    shape.level2.organisation = level2;
+    shape
+}
+
+#[test]
+fn each_pair_of_organisations(rt: HostRuntime) -> Result<(), Fail> {
+    type Implicit1 = Implicit<Request1>;
+    type Explicit1 = Explicit<Request1>;
+    type Inverted1 = Inverted<Request1>;
+    type Implicit2 = Implicit<Request2>;
+    type Explicit2 = Explicit<Request2>;
+    type Inverted2 = Inverted<Request2>;
+    let implicit = OrgShape::Implicit { registers: 4 };
+    let explicit = OrgShape::Explicit {
+        registers: 4,
+        entries: 2,
+    };
+    let inverted = OrgShape::Inverted;
+    let alloc = rt.alloc();
+    drive::<Implicit1, Implicit2>(&rt, alloc, &shape_of(implicit, implicit))?;
+    drive::<Implicit1, Explicit2>(&rt, alloc, &shape_of(implicit, explicit))?;
+    drive::<Implicit1, Inverted2>(&rt, alloc, &shape_of(implicit, inverted))?;
+    drive::<Explicit1, Implicit2>(&rt, alloc, &shape_of(explicit, implicit))?;
+    drive::<Explicit1, Explicit2>(&rt, alloc, &shape_of(explicit, explicit))?;
+    drive::<Explicit1, Inverted2>(&rt, alloc, &shape_of(explicit, inverted))?;
+    drive::<Inverted1, Implicit2>(&rt, alloc, &shape_of(inverted, implicit))?;
+    drive::<Inverted1, Explicit2>(&rt, alloc, &shape_of(inverted, explicit))?;
+    drive::<Inverted1, Inverted2>(&rt, alloc, &shape_of(inverted, inverted))
 }

@@ -1,0 +1,109 @@
+-- Each event that breaks no rule leads to a state that a run may reach.
+use Rattle.std.proofs.Common.{◌≡◌, ◌<◌, ℕ, Bool, true, false, cond, ◌==◌, List, [], ◌∷◌, ◌++◌, drop, Result, Ok, Err, None, refl, sym, ap, ◌∙◌, subst, ltb-true}
+use Rattle.std.specs.List.{AllByRecursion}
+use Rattle.std.specs.Prelude.{OnErr}
+use Rattle.lf_model.specs.declared.shape.Shape.{Shape}
+use Rattle.lf_model.specs.declared.event.Event.{Event}
+use Rattle.lf_model.specs.declared.shape.OrgShape.{OrgShape}
+use Rattle.lf_model.specs.Address.{FlatMemory}
+use Rattle.lf_model.specs.Outcomes.{first_local}
+use Rattle.lf_mshr.specs.Alike.{AreAlike}
+use Rattle.lf_mshr.specs.RegisterFile.{RegisterFile, empty_file}
+use Rattle.lf_mshr.specs.declared.level_one.Request1.{Request1}
+use Rattle.lf_mshr.specs.declared.level_two.Request2.{Request2}
+use Rattle.lf_replay.specs.Tells.{Tells, TellsRegister}
+use Rattle.lf_model.specs.declared.event.Event.TheVariants.{Issue, Reply, Hit, Primary, Merge, Stall, Fill1, Evict1, SecondHit, SecondPrimary, SecondStall, Fill2, Evict2}
+use Rattle.lf_model.specs.State.{Request, Ready, Slice, Local, idle, update}
+use Rattle.lf_model.specs.Table.{OfBank, rules_of, slice_after, carries, value_at, accepts, replies_at, request_of, destinations, destinations2}
+use Rattle.lf_model.specs.Run.{first_failing}
+use Rattle.lf_replay.specs.declared.fault.BankFault.{BankFault}
+use Rattle.lf_replay.specs.Apart.{EachStands}
+use Rattle.lf_replay.specs.Kept.{Kept, local_of, slice_of, after_event, IsFile1, IsFile2}
+use Rattle.lf_replay.specs.Shows.{AreTagged, IsReached, Keeps, Shows, IsAnswer, AnswerOf}
+use Rattle.lf_replay.proofs.Apart.{facts, stands_after}
+
+abbrev Tagged : ℕ → List Request → Type 0
+Tagged tags queue = AllByRecursion (λ request. request.tag < tags) queue
+
+either : (tags : ℕ) (b : Bool) (xs ys : List Request) → Tagged tags xs → Tagged tags ys → Tagged tags (cond b xs ys)
+either tags true xs ys p q = p
+either tags false xs ys p q = q
+
+updated : (tags : ℕ) (queue : ℕ → List Request) (k : ℕ) (xs : List Request) → ((port : ℕ) → Tagged tags (queue port)) → Tagged tags xs → (port : ℕ) → Tagged tags (update queue k xs port)
+updated tags queue k xs each new port = either tags (k == port) xs (queue port) new (each port)
+
+rest : (tags : ℕ) (queue : List Request) → Tagged tags queue → Tagged tags (drop 1 queue)
+rest tags [] all = tt
+rest tags (request ∷ queue) all = all.1
+
+pushed : (tags : ℕ) (queue : List Request) (request : Request) → Tagged tags queue → request.tag < tags → Tagged tags (queue ++ request ∷ [])
+pushed tags [] request all lt = (lt, tt)
+pushed tags (r ∷ queue) request all lt = (all.0, pushed tags queue request all.1 lt)
+
+tagged_after : (shape : Shape) (right : Bool) (value : List ℕ) (replies : List Ready) (slice : Slice) (log bank : ℕ) (e : Event) → AreTagged shape slice
+    → first_failing OfBank (rules_of shape right idle slice log bank e) ≡ None → AreTagged shape (slice_after shape value replies slice log e)
+tagged_after shape right value replies slice log bank (Issue op tag size address bytes) each none =
+    let h = facts shape right slice log bank (Issue op tag size address bytes) none in
+    updated shape.tags slice.queue log _ each (pushed shape.tags (slice.queue log) (request_of shape tag op size address bytes.items) (each log) (ltb-true tag shape.tags h.0))
+tagged_after shape right value replies slice log bank (Hit port tag) each none = updated shape.tags slice.queue port _ each (rest shape.tags (slice.queue port) (each port))
+tagged_after shape right value replies slice log bank (Primary port tag register) each none = updated shape.tags slice.queue port _ each (rest shape.tags (slice.queue port) (each port))
+tagged_after shape right value replies slice log bank (Merge port tag register) each none = updated shape.tags slice.queue port _ each (rest shape.tags (slice.queue port) (each port))
+tagged_after shape right value replies slice log bank (Reply tag size bytes) each none = each
+tagged_after shape right value replies slice log bank (Stall port tag) each none = each
+tagged_after shape right value replies slice log bank (Fill1 block bytes) each none = each
+tagged_after shape right value replies slice log bank (Evict1 block mask bytes) each none = each
+tagged_after shape right value replies slice log bank (SecondHit block) each none = each
+tagged_after shape right value replies slice log bank (SecondPrimary block register) each none = each
+tagged_after shape right value replies slice log bank (SecondStall block) each none = each
+tagged_after shape right value replies slice log bank (Fill2 block bytes) each none = each
+tagged_after shape right value replies slice log bank (Evict2 block mask bytes) each none = each
+
+-- a bank that keeps a state that a run may reach keeps one after each answer
+pub keeps_after : {A : Type 0} (old new : Kept) (log : ℕ) (e : Event) (result : Result A BankFault) → Keeps old → new.shape ≡ old.shape → IsAnswer old new log e result → Keeps new
+keeps_after old new log e result keeps same answer = go result (answer 0 keeps.now.slice.waiting keeps.now.slice.regs2 keeps.shows.registers)
+  where
+    here : Local
+    here = local_of old keeps.now.slice.waiting keeps.now.slice.regs2
+
+    reached : IsReached old.shape here
+    reached = subst (IsReached old.shape) (sym keeps.shows.rest) keeps.reached
+
+    go : {A : Type 0} (r : Result A BankFault) → AnswerOf old new here log 0 e r → Keeps new
+    go (Ok done) a = record {
+      now = after_event old.shape here log e;
+      shows = a.1;
+      reached = subst (λ (s : Shape). IsReached s (after_event old.shape here log e)) (sym same) (record {
+        stands = stands_after old.shape (carries old.shape here.memory here.slice e) (value_at here.memory (accepts here.slice e)) (replies_at here.slice e) here.slice log 0 e reached.stands a.0;
+        tagged = tagged_after old.shape (carries old.shape here.memory here.slice e) (value_at here.memory (accepts here.slice e)) (replies_at here.slice e) here.slice log 0 e reached.tagged a.0;
+      });
+    }
+    go (Err fault) a = subst Keeps (sym a.1) keeps
+
+-- a fault leaves what a bank keeps as it was
+pub same_after : {A : Type 0} (old new : Kept) (log : ℕ) (e : Event) (result : Result A BankFault) → Keeps old → IsAnswer old new log e result → OnErr result (new ≡ old)
+same_after old new log e (Ok done) keeps answer = tt
+same_after old new log e (Err fault) keeps answer = (answer 0 keeps.now.slice.waiting keeps.now.slice.regs2 keeps.shows.registers).1
+
+-- ---- the opening state
+
+pub opening_reached : (shape : Shape) (memory : FlatMemory) → IsReached shape (first_local memory)
+opening_reached shape memory = record { stands = λ block. refl; tagged = λ port. tt }
+
+-- a bank whose registers are free keeps the opening state
+pub opens : (kept : Kept) (memory : FlatMemory) (organisation1 organisation2 : OrgShape) (destinations1 destinations2 : ℕ) → kept.waiting ≡ empty_file organisation1 destinations1 → kept.regs2 ≡ empty_file organisation2 destinations2
+    → local_of kept [] [] ≡ first_local memory → Shows kept (first_local memory)
+opens kept memory organisation1 organisation2 destinations1 destinations2 free1 free2 rest = record {
+  registers = record {
+    level1 = subst (λ (f : RegisterFile Request1). AreAlike (Tells kept.shape) f.held []) (sym free1) tt;
+    level2 = subst (λ (f : RegisterFile Request2). AreAlike TellsRegister f.held []) (sym free2) tt;
+  };
+  rest = rest;
+}
+
+pub file1_new : (shape s : Shape) (file : RegisterFile Request1) (number : ℕ) → file ≡ empty_file shape.level1.organisation number → number ≡ destinations shape → s ≡ shape → IsFile1 s file
+file1_new shape s file number is same e =
+    subst (λ (t : Shape). IsFile1 t file) (sym e) (record { organisation = ap (λ (f : RegisterFile Request1). f.organisation) is; destinations = ap (λ (f : RegisterFile Request1). f.destinations) is ∙ same })
+
+pub file2_new : (shape s : Shape) (file : RegisterFile Request2) (number : ℕ) → file ≡ empty_file shape.level2.organisation number → number ≡ destinations2 shape → s ≡ shape → IsFile2 s file
+file2_new shape s file number is same e =
+    subst (λ (t : Shape). IsFile2 t file) (sym e) (record { organisation = ap (λ (f : RegisterFile Request2). f.organisation) is; destinations = ap (λ (f : RegisterFile Request2). f.destinations) is ∙ same })

@@ -1,0 +1,50 @@
+-- What registers say of the requests that they tell of.
+use Rattle.std.proofs.Common.{◌≡◌, ℕ, List, ◌∙◌}
+use Rattle.lf_model.specs.declared.shape.Shape.{Shape}
+use Rattle.lf_model.specs.Registers.{Held, has_room, primary_clauses, merge_clauses}
+use Rattle.lf_model.specs.State.{Missed}
+use Rattle.lf_model.specs.Table.{destinations, destinations2, only_position, position}
+use Rattle.lf_mshr.specs.Alike.{AreAlike}
+use Rattle.lf_mshr.specs.RegisterFile.{RegisterFile}
+use Rattle.lf_mshr.specs.declared.level_one.Request1.{Request1}
+use Rattle.lf_mshr.specs.declared.level_two.Request2.{Request2}
+use Rattle.lf_mshr.proofs.Alike.{primary_clauses-alike, merge_clauses-alike, has_room-alike}
+use Rattle.lf_replay.specs.Kept.{IsFile1, IsFile2}
+use Rattle.lf_replay.specs.Tells.{Tells, TellsRegister}
+
+-- ---- level one
+
+module _ (shape : Shape) (file : RegisterFile Request1) (of_shape : IsFile1 shape file) (missed : List (Held Missed)) (alike : AreAlike (Tells shape) file.held missed) where
+  pub primary_told : (block register d : ℕ)
+      → primary_clauses file.organisation file.destinations file.held block d register ≡ primary_clauses shape.level1.organisation (destinations shape) missed block d register
+  primary_told block register d =
+      (λ i. primary_clauses (of_shape.organisation i) (of_shape.destinations i) file.held block d register)
+      ∙ primary_clauses-alike (Tells shape) file.held missed alike shape.level1.organisation (destinations shape) block d register
+
+  pub merge_told : (block register d at : ℕ)
+      → merge_clauses file.organisation file.destinations (λ (r : Request1). r.position) file.held block d at register
+      ≡ merge_clauses shape.level1.organisation (destinations shape) position missed block d at register
+  merge_told block register d at =
+      (λ i. merge_clauses (of_shape.organisation i) (of_shape.destinations i) (λ (r : Request1). r.position) file.held block d at register)
+      ∙ merge_clauses-alike (Tells shape) file.held missed alike (λ (r : Request1). r.position) position (λ a b tells. tells.position) shape.level1.organisation (destinations shape) block d at register
+
+  pub room_told : (block d at : ℕ)
+      → has_room file.organisation file.destinations (λ (r : Request1). r.position) file.held block d at ≡ has_room shape.level1.organisation (destinations shape) position missed block d at
+  room_told block d at =
+      (λ i. has_room (of_shape.organisation i) (of_shape.destinations i) (λ (r : Request1). r.position) file.held block d at)
+      ∙ has_room-alike (Tells shape) file.held missed alike (λ (r : Request1). r.position) position (λ a b tells. tells.position) shape.level1.organisation (destinations shape) block d at
+
+-- ---- level two
+
+module _ (shape : Shape) (file : RegisterFile Request2) (of_shape : IsFile2 shape file) (fetched : List (Held ℕ)) (alike : AreAlike TellsRegister file.held fetched) where
+  pub second_primary_told : (block register d : ℕ)
+      → primary_clauses file.organisation file.destinations file.held block d register ≡ primary_clauses shape.level2.organisation (destinations2 shape) fetched block d register
+  second_primary_told block register d =
+      (λ i. primary_clauses (of_shape.organisation i) (of_shape.destinations i) file.held block d register)
+      ∙ primary_clauses-alike TellsRegister file.held fetched alike shape.level2.organisation (destinations2 shape) block d register
+
+  pub second_room_told : (block d at : ℕ) → at ≡ 0
+      → has_room file.organisation file.destinations (λ (r : Request2). r.position) file.held block d at ≡ has_room shape.level2.organisation (destinations2 shape) only_position fetched block d 0
+  second_room_told block d at there =
+      (λ i. has_room (of_shape.organisation i) (of_shape.destinations i) (λ (r : Request2). r.position) file.held block d (there i))
+      ∙ has_room-alike TellsRegister file.held fetched alike (λ (r : Request2). r.position) only_position (λ a b tells. tells.position) shape.level2.organisation (destinations2 shape) block d 0

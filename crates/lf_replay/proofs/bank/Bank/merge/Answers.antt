@@ -1,0 +1,34 @@
+use Rattle.std.proofs.Common.{◌<◌, sym, ap, ◌∙◌, subst, rules}
+use Rattle.lf_model.specs.State.{Request}
+use Rattle.lf_replay.specs.Bytes.{flat_of}
+use Rattle.lf_replay.specs.View.{kept}
+use Rattle.lf_replay.proofs.Keeping.{oldest_tagged}
+use Rattle.lf_replay.proofs.Placed.{placed1}
+use Rattle.lf_replay.proofs.bank.Bank.merge.Goals as goal
+
+pub missed-target-requires-clause-tag : goal.missed-target-requires-clause-tag
+missed-target-requires-clause-tag g c =
+    let head = rw c.deref.ensures.value at c.in-Some.ensures in
+    subst (λ (r : Request). r.tag < c.args.self.now.shape.tags) (sym head.1)
+    (oldest_tagged (kept c.args.self.now (g.O.Organisation.seen c.args.waiting.now) c.requires.keeps.0) c.requires.keeps.1 c.args.port c.args.tag head.0)
+
+pub returns-in_default-accept_merge-clause-answer : goal.returns-in_default-accept_merge-clause-answer
+returns-in_default-accept_merge-clause-answer g c = λ log regs2 bank waiting fetched wait.
+    let head = rw c.deref.ensures.value at c.in-Some.ensures in
+    let told = c.in_default-merge_rule.ensures.told waiting wait.level1 in
+    (search rules, c.in_default-accept_merge.ensures.err (g.O.Organisation.seen c.args.waiting.now) regs2)
+
+pub returns-clause-answer : goal.returns-clause-answer
+returns-clause-answer g c = λ log regs2 bank waiting fetched wait.
+    let head = rw c.deref.ensures.value at c.in-Some.ensures in
+    let told = c.in_default-merge_rule.ensures.told waiting wait.level1 in (
+      search rules,
+      record {
+        registers = record {
+          level1 = placed1 c.args.self.now.shape c.accept_merge.new.self.shape (g.O.Organisation.seen c.args.waiting.now) (g.O.Organisation.seen c.merge.new.file) waiting c.args.register c.block-block.result c.args.port c.missed-target.result
+              (flat_of c.args.self.now.memory) _ _ c.accept_merge.ensures.shape wait.level1 c.in-Ok-merge.ensures.placed c.block-block.ensures head.1 c.missed-target.ensures.tells;
+          level2 = wait.level2;
+        };
+        rest = c.in-Ok.ensures.ok (g.O.Organisation.seen c.merge.new.file) regs2 waiting fetched log c.args.register;
+      },
+    )

@@ -1,0 +1,44 @@
+-- What the registers of a bank tell of the requests that wait in them.
+use Rattle.std.specs.Prelude.{◌≡◌, ℕ, ◌<◌, List, take, length, if◌then◌else◌}
+use Rattle.std.specs.Int.{to_le_bytes, w64}
+use Rattle.lf_model.specs.declared.shape.Shape.{Shape}
+use Rattle.lf_model.specs.Address.{FlatMemory, mask_of}
+use Rattle.lf_model.specs.Registers.{Held}
+use Rattle.lf_model.specs.State.{Request, Missed, Ready}
+use Rattle.lf_model.specs.Table.{destination, is_store, position, value_of}
+use Rattle.lf_mshr.specs.declared.level_one.Request1.{Request1}
+use Rattle.lf_mshr.specs.declared.level_two.Request2.{Request2}
+
+-- these are the first bytes of the number, the lowest first
+abbrev pub IsNumberOf : List ℕ → ℕ → Type 0
+IsNumberOf bytes number = take (length bytes) (to_le_bytes w64 number) ≡ bytes
+
+-- A level-one target tells all of a request that its reply and its fill need: not what a store writes.
+pub record Tells (shape : Shape) (target : Request1) (missed : Missed) : Type 0 where
+  pub position : target.position ≡ position missed
+  pub port : missed.port < shape.ports
+  pub tag : missed.request.tag < shape.tags
+  pub destination : target.destination ≡ destination shape missed.port missed.request.tag
+  pub store : target.is_store ≡ is_store missed.request
+  pub bytes : target.bytes.0 ≡ mask_of missed.request.offset missed.request.size
+  pub size : length missed.value ≡ (if is_store missed.request then 0 else missed.request.size)
+  pub value : IsNumberOf missed.value target.value
+
+-- the target tells of some request
+abbrev pub IsTold : Shape → Request1 → Type 0
+IsTold shape target = (missed : Missed) × Tells shape target missed
+
+-- the reply to a request that missed
+abbrev pub reply_to : Missed → Ready
+reply_to missed = record { port = missed.port; tag = missed.request.tag; value = missed.value }
+
+-- A level-two target tells which level-one register asked; it has the only position that there is.
+pub record TellsRegister (target : Request2) (register : ℕ) : Type 0 where
+  pub position : target.position ≡ 0
+  pub destination : target.destination ≡ register
+
+-- what a level-one register holds of a port's request that misses now
+abbrev pub miss_of : ℕ → ℕ → FlatMemory → Request → Held Missed
+miss_of port register memory request =
+    let missed : Missed = record { port = port; request = request; value = value_of memory request } in
+    record { register = register; block = request.block; target = missed }
