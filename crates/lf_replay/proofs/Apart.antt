@@ -2,16 +2,15 @@
 use Rattle.std.proofs.Common.{◌≡◌, ℕ, Bool, true, false, cond, not, ◌&&◌, ◌||◌, ◌==◌, List, [], ◌∷◌, Some, None, refl, sym, ap, ◌∙◌, eqb-true}
 use Rattle.std.proofs.lemmas.Bool.{both_ways}
 use Rattle.lf_model.specs.declared.shape.Shape.{Shape}
-use Rattle.lf_model.specs.declared.event.Record.{Record}
 use Rattle.lf_model.specs.declared.event.Event.{Event}
 use Rattle.lf_model.specs.declared.event.Event.TheVariants.{Issue, Reply, Hit, Primary, Merge, Stall, Fill1, Evict1, SecondHit, SecondPrimary, SecondStall, Fill2, Evict2}
 use Rattle.lf_model.specs.Registers.{Held, holds}
 use Rattle.lf_model.specs.Lines.{has_line}
-use Rattle.lf_model.specs.State.{Missed, Ready, Slice, Local, idle}
-use Rattle.lf_model.specs.Table.{OfBank, Clause, rules_of, slice_after, is_asked, is_among, oldest, miss, carries, clauses, bank_effect, value_at, accepts, replies_at}
+use Rattle.lf_model.specs.State.{Missed, Ready, Slice, idle}
+use Rattle.lf_model.specs.Table.{OfBank, Clause, rules_of, slice_after, is_asked, is_among, oldest, miss}
 use Rattle.lf_model.specs.Run.{judges, first_failing}
 use Rattle.lf_model.proofs.Clauses.{this_holds, others_hold}
-use Rattle.lf_replay.specs.Apart.{stands, stands_at, EachStands}
+use Rattle.lf_replay.specs.Apart.{stands, EachStands}
 use Rattle.lf_replay.proofs.Blocks.{has_put, has_gone, any_push, any_gone}
 
 -- ---- the clauses of a bank, all of which hold

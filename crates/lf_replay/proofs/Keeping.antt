@@ -1,5 +1,5 @@
 -- Where the blocks of a bank stand, by what the bank keeps.
-use Rattle.std.proofs.Common.{◌≡◌, ◌<◌, ℕ, List, [], ◌∷◌, Bool, true, false, not, ◌||◌, refl, ap, sym, ◌∙◌, subst}
+use Rattle.std.proofs.Common.{◌≡◌, ◌<◌, ℕ, List, [], ◌∷◌, Bool, true, false, not, ◌||◌, refl, sym, ◌∙◌, subst}
 use Rattle.lf_model.specs.Lines.{has_line}
 use Rattle.lf_model.specs.Registers.{holds}
 use Rattle.std.specs.List.{AllByRecursion}
@@ -10,7 +10,7 @@ use Rattle.lf_replay.specs.Apart.{stands, stands_at}
 use Rattle.lf_replay.specs.Kept.{Kept, queue_at}
 use Rattle.lf_replay.specs.Shows.{Keeps}
 use Rattle.lf_replay.specs.Tells.{TellsRegister}
-use Rattle.lf_replay.proofs.Apart.{every4, every5, implied, is_not}
+use Rattle.lf_replay.proofs.Apart.{every5, implied, is_not}
 
 supplied_absent : (a f w l1 l2 : Bool) → stands a f true w l1 l2 ≡ true → not l1 ≡ true
 supplied_absent a f w l1 l2 e = implied _ _ (every5 (λ a f w l1 l2. not (stands a f true w l1 l2) || not l1) refl a f w l1 l2) e

@@ -1,5 +1,5 @@
 -- Registers after a target was placed or a block released, and the requests that they tell of then.
-use Rattle.std.proofs.Common.{◌≡◌, ℕ, List, [], ◌∷◌, ◌++◌, refl, sym, ap, ◌∙◌, subst}
+use Rattle.std.proofs.Common.{◌≡◌, ℕ, List, [], ◌∷◌, ◌++◌, refl, sym, subst}
 use Rattle.lf_model.specs.declared.shape.Shape.{Shape}
 use Rattle.lf_model.specs.Address.{FlatMemory}
 use Rattle.lf_model.specs.Registers.{Held, released}

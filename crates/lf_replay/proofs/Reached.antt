@@ -17,8 +17,7 @@ use Rattle.lf_model.specs.State.{Request, Ready, Slice, Local, idle, update}
 use Rattle.lf_model.specs.Table.{OfBank, rules_of, slice_after, carries, value_at, accepts, replies_at, request_of, destinations, destinations2}
 use Rattle.lf_model.specs.Run.{first_failing}
 use Rattle.lf_replay.specs.declared.fault.BankFault.{BankFault}
-use Rattle.lf_replay.specs.Apart.{EachStands}
-use Rattle.lf_replay.specs.Kept.{Kept, local_of, slice_of, after_event, IsFile1, IsFile2}
+use Rattle.lf_replay.specs.Kept.{Kept, local_of, after_event, IsFile1, IsFile2}
 use Rattle.lf_replay.specs.Shows.{AreTagged, IsReached, Keeps, Shows, IsAnswer, AnswerOf}
 use Rattle.lf_replay.proofs.Apart.{facts, stands_after}
 

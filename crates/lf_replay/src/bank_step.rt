@@ -52,6 +52,8 @@ impl Step {
     /// `NoMemory` tells that it breaks none and a growth was refused. Both leave the state as it was.
     pub fn apply(&mut self, item: &Record) -> Result<(), BankFault>
         requires { IsForStep self.old item.now }
+        ensures bank { self.new.bank ≡ self.old.bank }
+        ensures shape { self.new.kept.shape ≡ self.old.kept.shape }
         ensures unchanged { OnErr result (self.new ≡ self.old) }
         ensures stands { (shape : Shape) (memory : FlatMemory) (bank : ℕ) (rs : List Record) → StandsAfter self.old shape memory bank rs → OnOk result (StandsAfter self.new shape memory bank (rs ++ item.now ∷ [])) }
         ensures broken { (shape : Shape) (memory : FlatMemory) (bank : ℕ) (rs : List Record) → StandsAfter self.old shape memory bank rs → IfErr result (IsFaultAfter shape memory rs item.now) }

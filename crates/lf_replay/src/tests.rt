@@ -20,7 +20,8 @@ const ZEROS: [u8; 8] = [0; 8];
 /// has two lines and one register.
 fn shape_with(level1: OrgShape) -> Shape
     requires { IsOrganisation level1 }
-    ensures { IsShape result }
+    ensures in_range { IsShape result }
+    ensures first { result.level1.organisation ≡ level1 }
 {
     Shape {
         ports: 1,

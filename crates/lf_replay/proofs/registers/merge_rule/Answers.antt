@@ -1,4 +1,4 @@
-use Rattle.std.proofs.Common.{Some, refl, ap, ◌∙◌}
+use Rattle.std.proofs.Common.{Some, ap, ◌∙◌}
 use Rattle.lf_model.specs.Run.{first_failing}
 use Rattle.lf_model.specs.Table.{OfBank}
 use Rattle.lf_replay.proofs.Told.{merge_told}

@@ -1,4 +1,4 @@
-use Rattle.std.proofs.Common.{◌<◌, sym, ap, ◌∙◌, subst, rules}
+use Rattle.std.proofs.Common.{◌<◌, sym, subst, rules}
 use Rattle.lf_model.specs.State.{Request}
 use Rattle.lf_replay.specs.Bytes.{flat_of}
 use Rattle.lf_replay.specs.View.{kept}

@@ -1,5 +1,4 @@
 use Rattle.std.proofs.Common.{rules}
-use Rattle.lf_replay.specs.View.{kept}
 use Rattle.lf_replay.proofs.Placed.{placed2}
 use Rattle.lf_replay.proofs.bank.Bank.second_primary.Goals as goal
 
