@@ -8,7 +8,7 @@ use Rattle.lf_join.specs.declared.log_set.LogSet.{LogSet}
 use Rattle.lf_join.specs.declared.roster.Roster.{Roster}
 use Rattle.lf_join.specs.LogSets.{has, IsEmpty, IsLowest, Changes}
 use Rattle.lf_join.specs.Heads.{next_entry, carries_next, can_go, Advances}
-use Rattle.lf_join.specs.Standings.{Standing, Nowhere, Goes, Waits, standing_of, is_going, is_waiting, waiting_at, IsSized, Stands, OthersStay, AreCalled, AllStand, IsItsOwn}
+use Rattle.lf_join.specs.Standings.{Standing, Nowhere, Goes, Waits, standing_of, is_going, is_waiting, waiting_at, IsKept, IsSized, Stands, OthersStay, once_called, IsCalled, AllStand, IsItsOwn}
 
 abbrev none : LogSet
 none = record { 0 = 0 }
@@ -17,10 +17,13 @@ abbrev rows_with : List (List LogSet) → ℕ → ℕ → LogSet → List (List 
 rows_with rows bank place v = set rows bank (set (get_or rows bank []) place v)
 
 abbrev with_set : Roster → ℕ → ℕ → LogSet → Roster
-with_set roster bank place v = record { ready = roster.ready; waiting = rows_with roster.waiting bank place v }
+with_set roster bank place v = record { ready = roster.ready; waiting = rows_with roster.waiting bank place v; numbers = roster.numbers }
 
 abbrev with_ready : Roster → LogSet → Roster
-with_ready roster ready = record { ready = ready; waiting = roster.waiting }
+with_ready roster ready = record { ready = ready; waiting = roster.waiting; numbers = roster.numbers }
+
+abbrev with_number : Roster → ℕ → ℕ → Roster
+with_number roster log number = record { ready = roster.ready; waiting = roster.waiting; numbers = set roster.numbers log number }
 
 -- ---- one set of a bank's changes
 
@@ -53,6 +56,7 @@ module _ (roster : Roster) (sized : IsSized roster) (bank place : ℕ) (v : LogS
           (ap length row_is ∙ length-set (get_or roster.waiting bank []) place v ∙ sized.sets bank in_bank)
       | inr other ↦ ap length (other_row b other) ∙ sized.sets b lt
     ];
+    numbers = sized.numbers;
   }
 
 -- the same set, or another
@@ -83,24 +87,37 @@ waits_not_there bank number b s apart = elim apart [
     second true q is = is
     second false q is = refl
 
-module _ (roster : Roster) (log bank number : ℕ) (v : LogSet) (in_bank : bank < 256) (in_sets : number % 32 < 32)
-    (change : Changes (waiting_at roster bank (number % 32)) v log true) where
-  pub now_waits : Stands roster log Nowhere → Stands (with_set roster bank (number % 32) v) log (Waits bank number)
-  now_waits stands = record {
-    sized = still_sized roster stands.sized bank (number % 32) v in_bank in_sets;
-    going = stands.going;
-    waiting = λ b s lt lt'. elim (which b s bank (number % 32)) [
-      | inl same ↦
-          subst (λ k. has (waiting_at (with_set roster bank (number % 32) v) k s) log ≡ is_waiting (Waits bank number) k s) (sym same.0)
-          (subst (λ k. has (waiting_at (with_set roster bank (number % 32) v) bank k) log ≡ is_waiting (Waits bank number) bank k) (sym same.1)
-          (ap (λ (w : LogSet). has w log) (same_set roster stands.sized bank (number % 32) v in_bank in_sets) ∙ change.this ∙ sym (waits_here bank number)))
-      | inr apart ↦
-          ap (λ (w : LogSet). has w log) (other_set roster stands.sized bank (number % 32) v in_bank in_sets b s apart) ∙ stands.waiting b s lt lt' ∙ sym (waits_not_there bank number b s apart)
-    ];
-  }
+-- ---- a log's number is kept
 
-  pub others_stay : OthersStay roster (with_set roster bank (number % 32) v) log
-  others_stay other standing lt apart stands = record {
+numbered : (roster : Roster) (log number : ℕ) → IsSized roster → IsSized (with_number roster log number)
+numbered roster log number sized = record { banks = sized.banks; sets = sized.sets; numbers = length-set roster.numbers log number ∙ sized.numbers }
+
+others_keep : (roster : Roster) (log number : ℕ) → OthersStay roster (with_number roster log number) log
+others_keep roster log number other standing lt apart stands = record {
+  sized = numbered roster log number stands.sized;
+  going = stands.going;
+  waiting = stands.waiting;
+  kept = subst (IsKept standing) (sym (get_or-set_other roster.numbers log other number 0 apart)) stands.kept;
+}
+
+-- ---- a log comes to a set, or leaves it
+
+module _ (roster : Roster) (log bank number : ℕ) (v : LogSet) (now : Bool) (in_bank : bank < 256) (in_sets : number % 32 < 32)
+    (change : Changes (waiting_at roster bank (number % 32)) v log now) where
+  now_at : (before after : Standing) → is_waiting after bank (number % 32) ≡ now
+      → ((b s : ℕ) → (b ≢ bank) ⊎ (s ≢ number % 32) → is_waiting before b s ≡ is_waiting after b s) → Stands roster log before
+      → (b s : ℕ) → b < 256 → s < 32 → has (waiting_at (with_set roster bank (number % 32) v) b s) log ≡ is_waiting after b s
+  now_at before after here elsewhere stands b s lt lt' = elim (which b s bank (number % 32)) [
+    | inl same ↦
+        subst (λ k. has (waiting_at (with_set roster bank (number % 32) v) k s) log ≡ is_waiting after k s) (sym same.0)
+        (subst (λ k. has (waiting_at (with_set roster bank (number % 32) v) bank k) log ≡ is_waiting after bank k) (sym same.1)
+        (ap (λ (w : LogSet). has w log) (same_set roster stands.sized bank (number % 32) v in_bank in_sets) ∙ change.this ∙ sym here))
+    | inr apart ↦
+        ap (λ (w : LogSet). has w log) (other_set roster stands.sized bank (number % 32) v in_bank in_sets b s apart) ∙ stands.waiting b s lt lt' ∙ elsewhere b s apart
+  ]
+
+  others_at : OthersStay roster (with_set roster bank (number % 32) v) log
+  others_at other standing lt apart stands = record {
     sized = still_sized roster stands.sized bank (number % 32) v in_bank in_sets;
     going = stands.going;
     waiting = λ b s lt' lt''. elim (which b s bank (number % 32)) [
@@ -110,80 +127,157 @@ module _ (roster : Roster) (log bank number : ℕ) (v : LogSet) (in_bank : bank 
           (ap (λ (w : LogSet). has w other) (same_set roster stands.sized bank (number % 32) v in_bank in_sets) ∙ change.others other lt apart ∙ stands.waiting bank (number % 32) in_bank in_sets))
       | inr away ↦ ap (λ (w : LogSet). has w other) (other_set roster stands.sized bank (number % 32) v in_bank in_sets b s away) ∙ stands.waiting b s lt' lt''
     ];
+    kept = stands.kept;
   }
 
--- ---- a set of a bank's is called
+module _ (roster : Roster) (log bank number : ℕ) (v : LogSet) (in_bank : bank < 256) (in_sets : number % 32 < 32)
+    (change : Changes (waiting_at roster bank (number % 32)) v log true) where
+  pub now_waits : log < 32 → Stands roster log Nowhere → Stands (with_number (with_set roster bank (number % 32) v) log number) log (Waits bank number)
+  now_waits within stands = record {
+    sized = numbered (with_set roster bank (number % 32) v) log number (still_sized roster stands.sized bank (number % 32) v in_bank in_sets);
+    going = stands.going;
+    waiting = now_at roster log bank number v true in_bank in_sets change Nowhere (Waits bank number) (waits_here bank number) (λ b s apart. sym (waits_not_there bank number b s apart)) stands;
+    kept = get_or-set_same roster.numbers log number 0 (let len = stands.sized.numbers in omega arith);
+  }
 
--- where a log stands once this set was called
-abbrev after_call : Standing → ℕ → ℕ → Standing
-after_call standing bank place = cond (is_waiting standing bank place) Nowhere standing
-
-only_there : (standing : Standing) (bank place b s : ℕ) → (b ≢ bank) ⊎ (s ≢ place) → is_waiting standing b s ≡ is_waiting (after_call standing bank place) b s
-only_there Nowhere bank place b s apart = refl
-only_there Goes bank place b s apart = refl
-only_there (Waits at number) bank place b s apart = elim (cases_Bool (is_waiting (Waits at number) bank place)) [
-  | inr not_here ↦ ap (λ (st : Standing). is_waiting st b s) (sym (cond-false (is_waiting (Waits at number) bank place) Nowhere (Waits at number) not_here))
-  | inl here ↦
-      waits_not_there at number b s (moved (parts (at == bank) (number % 32 == place) here))
-      ∙ ap (λ (st : Standing). is_waiting st b s) (sym (cond-true (is_waiting (Waits at number) bank place) Nowhere (Waits at number) here))
-]
-  where
-    parts : (p q : Bool) → (p && q) ≡ true → (p ≡ true) × (q ≡ true)
-    parts true q is = (refl, is)
-    parts false q is = cc
-
-    moved : ((at == bank) ≡ true) × ((number % 32 == place) ≡ true) → (b ≢ at) ⊎ (s ≢ number % 32)
-    moved is = elim apart [
-      | inl other ↦ inl (λ e. other (e ∙ eqb-true at bank is.0))
-      | inr other ↦ inr (λ e. other (e ∙ eqb-true (number % 32) place is.1))
-    ]
-
-not_in_it : (standing : Standing) (bank place : ℕ) → is_waiting (after_call standing bank place) bank place ≡ false
-not_in_it standing bank place = elim (cases_Bool (is_waiting standing bank place)) [
-  | inl here ↦ ap (λ (st : Standing). is_waiting st bank place) (cond-true (is_waiting standing bank place) Nowhere standing here)
-  | inr not_here ↦ ap (λ (st : Standing). is_waiting st bank place) (cond-false (is_waiting standing bank place) Nowhere standing not_here) ∙ not_here
-]
-
-still_going : (standing : Standing) (bank place : ℕ) → is_going standing ≡ is_going (after_call standing bank place)
-still_going Nowhere bank place = refl
-still_going Goes bank place = refl
-still_going (Waits at number) bank place = go (is_waiting (Waits at number) bank place)
-  where
-    go : (b : Bool) → false ≡ is_going (cond b Nowhere (Waits at number))
-    go true = refl
-    go false = refl
-
-pub are_called : (roster : Roster) (bank place : ℕ) (v : LogSet) → bank < 256 → place < 32 → IsEmpty v → AreCalled roster (with_set roster bank place v) bank place (waiting_at roster bank place)
-are_called roster bank place v in_bank in_sets empty = record {
-  waited = λ log standing lt stands. stands.waiting bank place in_bank in_sets;
-  left = λ log standing lt stands. record {
-    sized = still_sized roster stands.sized bank place v in_bank in_sets;
-    going = stands.going ∙ still_going standing bank place;
-    waiting = λ b s lt' lt''. elim (which b s bank place) [
-      | inl same ↦
-          subst (λ k. has (waiting_at (with_set roster bank place v) k s) log ≡ is_waiting (after_call standing bank place) k s) (sym same.0)
-          (subst (λ k. has (waiting_at (with_set roster bank place v) bank k) log ≡ is_waiting (after_call standing bank place) bank k) (sym same.1)
-          (ap (λ (w : LogSet). has w log) (same_set roster stands.sized bank place v in_bank in_sets) ∙ empty log lt ∙ sym (not_in_it standing bank place)))
-      | inr apart ↦
-          ap (λ (w : LogSet). has w log) (other_set roster stands.sized bank place v in_bank in_sets b s apart) ∙ stands.waiting b s lt' lt'' ∙ only_there standing bank place b s apart
-    ];
-  };
-}
+  pub others_stay : OthersStay roster (with_number (with_set roster bank (number % 32) v) log number) log
+  others_stay other standing lt apart stands =
+      others_keep (with_set roster bank (number % 32) v) log number other standing lt apart (others_at roster log bank number v true in_bank in_sets change other standing lt apart stands)
 
 -- ---- the logs that can go
 
+still_as_large : (roster : Roster) (ready : LogSet) → IsSized roster → IsSized (with_ready roster ready)
+still_as_large roster ready sized = record { banks = sized.banks; sets = sized.sets; numbers = sized.numbers }
+
 pub now_goes : (roster : Roster) (ready : LogSet) (log : ℕ) → Changes roster.ready ready log true → Stands roster log Nowhere → Stands (with_ready roster ready) log Goes
-now_goes roster ready log change stands = record { sized = record { banks = stands.sized.banks; sets = stands.sized.sets }; going = change.this; waiting = stands.waiting }
+now_goes roster ready log change stands = record { sized = still_as_large roster ready stands.sized; going = change.this; waiting = stands.waiting; kept = tt }
 
 pub now_nowhere : (roster : Roster) (ready : LogSet) (log : ℕ) → Changes roster.ready ready log false → Stands roster log Goes → Stands (with_ready roster ready) log Nowhere
-now_nowhere roster ready log change stands = record { sized = record { banks = stands.sized.banks; sets = stands.sized.sets }; going = change.this; waiting = stands.waiting }
+now_nowhere roster ready log change stands = record { sized = still_as_large roster ready stands.sized; going = change.this; waiting = stands.waiting; kept = tt }
 
 pub others_go_on : (roster : Roster) (ready : LogSet) (log : ℕ) (now : Bool) → Changes roster.ready ready log now → OthersStay roster (with_ready roster ready) log
 others_go_on roster ready log now change other standing lt apart stands = record {
-  sized = record { banks = stands.sized.banks; sets = stands.sized.sets };
+  sized = still_as_large roster ready stands.sized;
   going = change.others other lt apart ∙ stands.going;
   waiting = stands.waiting;
+  kept = stands.kept;
 }
+
+-- ---- a log is woken
+
+-- the set that it leaves, and the logs that can go, to which it comes
+module _ (roster : Roster) (log bank number : ℕ) (v ready : LogSet) (in_bank : bank < 256) (in_sets : number % 32 < 32)
+    (change : Changes (waiting_at roster bank (number % 32)) v log false) (comes : Changes roster.ready ready log true) where
+  pub now_woken : Stands roster log (Waits bank number) → Stands (with_ready (with_set roster bank (number % 32) v) ready) log Goes
+  now_woken stands = record {
+    sized = still_as_large (with_set roster bank (number % 32) v) ready (still_sized roster stands.sized bank (number % 32) v in_bank in_sets);
+    going = comes.this;
+    waiting = now_at roster log bank number v false in_bank in_sets change (Waits bank number) Goes refl (waits_not_there bank number) stands;
+    kept = tt;
+  }
+
+  pub others_sleep : OthersStay roster (with_ready (with_set roster bank (number % 32) v) ready) log
+  others_sleep other standing lt apart stands =
+      others_go_on (with_set roster bank (number % 32) v) ready log true comes other standing lt apart (others_at roster log bank number v false in_bank in_sets change other standing lt apart stands)
+
+-- ---- the logs of a set are called one by one
+
+-- Of the logs of the set, these have not been called yet.
+pub record IsCalling (old roster : Roster) (bank number : ℕ) (rest : LogSet) : Type 0 where
+  pub waits : (log : ℕ) (standing : Standing) → log < 32 → Stands old log standing → has rest log ≡ true → is_waiting standing bank (number % 32) ≡ true
+  pub stands : (log : ℕ) (standing : Standing) → log < 32 → Stands old log standing → Stands roster log (cond (has rest log) standing (once_called standing bank number))
+
+both_true : (p q : Bool) → (p && q) ≡ true → (p ≡ true) × (q ≡ true)
+both_true true q is = (refl, is)
+both_true false q is = cc
+
+-- a log that waits for another number, or elsewhere, is not woken
+sleeps_on : (standing : Standing) (bank number : ℕ) → ((n : ℕ) → standing ≡ Waits bank n → n ≢ number) → once_called standing bank number ≡ standing
+sleeps_on Nowhere bank number apart = refl
+sleeps_on Goes bank number apart = refl
+sleeps_on (Waits at n) bank number apart = elim (cases_Bool ((at == bank) && (n == number))) [
+  | inr not_called ↦ cond-false ((at == bank) && (n == number)) Goes (Waits at n) not_called
+  | inl called ↦
+      let is = both_true (at == bank) (n == number) called in
+      absurd (apart n (ap (λ k. Waits k n) (eqb-true at bank is.0)) (eqb-true n number is.1))
+]
+
+wakes : (bank number : ℕ) → once_called (Waits bank number) bank number ≡ Goes
+wakes bank number = cond-true ((bank == bank) && (number == number)) Goes (Waits bank number) (both (bank == bank) (number == number) (eq-eqb bank bank refl) (eq-eqb number number refl))
+  where
+    both : (p q : Bool) → p ≡ true → q ≡ true → (p && q) ≡ true
+    both true q is is' = is'
+    both false q is is' = is
+
+-- a log in the set waits at the bank for the number that is kept
+waits_for_kept : (standing : Standing) (bank set kept : ℕ) → is_waiting standing bank set ≡ true → IsKept standing kept → standing ≡ Waits bank kept
+waits_for_kept Nowhere bank set kept here is = cc
+waits_for_kept Goes bank set kept here is = cc
+waits_for_kept (Waits at n) bank set kept here is =
+    ap (λ k. Waits k n) (eqb-true at bank ((both_true (at == bank) (n % 32 == set) here).0)) ∙ ap (Waits bank) (sym is)
+
+pub none_called : (old : Roster) (bank number : ℕ) → bank < 256 → number % 32 < 32 → IsCalling old old bank number (waiting_at old bank (number % 32))
+none_called old bank number in_bank in_sets = record {
+  waits = λ log standing lt stands here. sym (stands.waiting bank (number % 32) in_bank in_sets) ∙ here;
+  stands = λ log standing lt stands. elim (cases_Bool (has (waiting_at old bank (number % 32)) log)) [
+    | inl here ↦ subst (Stands old log) (sym (cond-true (has (waiting_at old bank (number % 32)) log) standing (once_called standing bank number) here)) stands
+    | inr away ↦
+        let not_here = sym (stands.waiting bank (number % 32) in_bank in_sets) ∙ away in
+        let same = sleeps_on standing bank number (λ n is called. not_both (is_waiting standing bank (number % 32))
+        (subst (λ k. is_waiting standing bank (k % 32) ≡ true) called (subst (λ (st : Standing). is_waiting st bank (n % 32) ≡ true) (sym is) (waits_here bank n))) not_here) in
+        subst (Stands old log) (sym (cond-false (has (waiting_at old bank (number % 32)) log) standing (once_called standing bank number) away ∙ same)) stands
+  ];
+}
+  where
+    not_both : (b : Bool) → b ≡ true → b ≡ false → ⊥
+    not_both b t f = cc
+
+module _ (old roster : Roster) (bank number : ℕ) (called rest : LogSet) (log : ℕ) (before : IsCalling old roster bank number called) (lowest : IsLowest called log)
+    (change : Changes called rest log false) where
+  stood : (standing : Standing) → Stands old log standing → Stands roster log standing
+  stood standing stands =
+      subst (Stands roster log) (cond-true (has called log) standing (once_called standing bank number) lowest.member) (before.stands log standing lowest.is_log stands)
+
+  waited : (standing : Standing) → Stands old log standing → standing ≡ Waits bank (slice_index roster.numbers log)
+  waited standing stands =
+      waits_for_kept standing bank (number % 32) (slice_index roster.numbers log) (before.waits log standing lowest.is_log stands lowest.member) ((stood standing stands).kept)
+
+  one_called : (new : Roster) → OthersStay roster new log → ((standing : Standing) → Stands old log standing → Stands new log (once_called standing bank number)) → IsCalling old new bank number rest
+  one_called new stay this = record {
+    waits = λ k standing lt stands here. elim (cases_eq k log) [
+      | inl same ↦ absurd (not_both (has rest log) (subst (λ m. has rest m ≡ true) same here) change.this)
+      | inr apart ↦ before.waits k standing lt stands (sym (change.others k lt apart) ∙ here)
+    ];
+    stands = λ k standing lt stands. elim (cases_eq k log) [
+      | inl same ↦
+          subst (λ m. Stands new m (cond (has rest m) standing (once_called standing bank number))) (sym same)
+          (subst (Stands new log) (sym (cond-false (has rest log) standing (once_called standing bank number) change.this)) (this standing (subst (λ m. Stands old m standing) same stands)))
+      | inr apart ↦
+          subst (λ b. Stands new k (cond b standing (once_called standing bank number))) (sym (change.others k lt apart))
+          (stay k (cond (has called k) standing (once_called standing bank number)) lt apart (before.stands k standing lt stands))
+    ];
+  }
+    where
+      not_both : (b : Bool) → b ≡ true → b ≡ false → ⊥
+      not_both b t f = cc
+
+  -- its number was called
+  pub one_woken : (new : Roster) → slice_index roster.numbers log ≡ number → (Stands roster log (Waits bank number) → Stands new log Goes) → OthersStay roster new log → IsCalling old new bank number rest
+  one_woken new is woken stay = one_called new stay (λ standing stands.
+      let waits = waited standing stands ∙ ap (Waits bank) is in
+      subst (Stands new log) (sym (ap (λ (st : Standing). once_called st bank number) waits ∙ wakes bank number)) (woken (subst (Stands roster log) waits (stood standing stands))))
+
+  -- it waits for another
+  pub one_sleeps : slice_index roster.numbers log ≢ number → IsCalling old roster bank number rest
+  one_sleeps other = one_called roster (λ k standing lt apart stands. stands) (λ standing stands.
+      subst (Stands roster log) (sym (sleeps_on standing bank number (λ n is called. other (same_number (sym (waited standing stands) ∙ is) ∙ called)))) (stood standing stands))
+    where
+      same_number : {a b m n : ℕ} → Waits a m ≡ Waits b n → m ≡ n
+      same_number e = cc
+
+pub all_called : (old roster : Roster) (bank number : ℕ) (rest : LogSet) → IsEmpty rest → IsCalling old roster bank number rest → IsCalled old roster bank number
+all_called old roster bank number rest empty calling log standing lt stands =
+    subst (Stands roster log) (cond-false (has rest log) standing (once_called standing bank number) (empty log lt)) (calling.stands log standing lt stands)
 
 -- ---- at first
 
@@ -192,14 +286,17 @@ get_replicate zero k x d lt = absurd (omega arith)
 get_replicate (suc n) zero x d lt = refl
 get_replicate (suc n) (suc k) x d lt = get_replicate n k x d (omega arith)
 
-pub nobody : (banks sets : ℕ) (ready v : LogSet) → banks ≡ 256 → sets ≡ 32 → IsEmpty ready → IsEmpty v → (log : ℕ) → log < 32 → Stands (record { ready = ready; waiting = replicate banks (replicate sets v) }) log Nowhere
-nobody banks sets ready v banks_are sets_are none_ready none_waits log lt = record {
+pub nobody : (banks sets logs : ℕ) (ready v : LogSet) → banks ≡ 256 → sets ≡ 32 → logs ≡ 32 → IsEmpty ready → IsEmpty v → (log : ℕ) → log < 32
+    → Stands (record { ready = ready; waiting = replicate banks (replicate sets v); numbers = replicate logs 0 }) log Nowhere
+nobody banks sets logs ready v banks_are sets_are logs_are none_ready none_waits log lt = record {
   sized = record {
     banks = length-replicate {A = List LogSet} banks (replicate sets v) ∙ banks_are;
     sets = λ bank within. ap length (row bank within) ∙ length-replicate {A = LogSet} sets v ∙ sets_are;
+    numbers = length-replicate {A = ℕ} logs 0 ∙ logs_are;
   };
   going = none_ready log lt;
   waiting = λ bank s within within'. ap (λ (w : LogSet). has w log) (ap (λ (ws : List LogSet). get_or ws s none) (row bank within) ∙ get_replicate sets s v none (omega arith)) ∙ none_waits log lt;
+  kept = tt;
 }
   where
     row : (bank : ℕ) → bank < 256 → get_or (replicate banks (replicate sets v)) bank [] ≡ replicate sets v
@@ -219,43 +316,42 @@ going_carries next (Some x) = go (x.1 == slice_index next x.0)
     go true = refl
     go false = refl
 
--- An entry of another bank, or with a number that neither went nor is called, stands where it stood.
-same_standing : (next : List ℕ) (bank : ℕ) (o : Option (ℕ × ℕ)) → bank < length next → o ≢ Some (bank, slice_index next bank)
-    → is_waiting (standing_of next o) bank ((slice_index next bank + 1) % 32) ≡ false → standing_of next o ≡ standing_of (set next bank (slice_index next bank + 1)) o
-same_standing next bank None within own not_called = refl
-same_standing next bank (Some x) within own not_called = elim (cases_eq x.0 bank) [
-  | inr other ↦ ap (λ n. cond (x.1 == n) Goes (Waits x.0 x.1)) (sym (get_or-set_other next bank x.0 (slice_index next bank + 1) 0 other))
+-- Where an entry that did not go stands, once the bank called its next number.
+called_standing : (next : List ℕ) (bank : ℕ) (o : Option (ℕ × ℕ)) → bank < length next → o ≢ Some (bank, slice_index next bank)
+    → once_called (standing_of next o) bank (slice_index next bank + 1) ≡ standing_of (set next bank (slice_index next bank + 1)) o
+called_standing next bank None within own = refl
+called_standing next bank (Some x) within own = elim (cases_eq x.0 bank) [
+  | inr other ↦
+      sleeps_on (standing_of next (Some x)) bank (slice_index next bank + 1) (λ n is. absurd (elsewhere (x.1 == slice_index next x.0) n other is))
+      ∙ ap (λ n. cond (x.1 == n) Goes (Waits x.0 x.1)) (sym (get_or-set_other next bank x.0 (slice_index next bank + 1) 0 other))
   | inl same ↦
       let number = slice_index next bank in
       let not_gone : x.1 ≢ slice_index next x.0 = λ e. own (ap Some (pair_is x.0 x.1 bank number same (e ∙ ap (slice_index next) same))) in
       let before : standing_of next (Some x) ≡ Waits x.0 x.1 = cond-false (x.1 == slice_index next x.0) Goes (Waits x.0 x.1) (ne_eqb x.1 (slice_index next x.0) not_gone) in
       let is_next : slice_index (set next bank (number + 1)) x.0 ≡ number + 1 =
       subst (λ k. slice_index (set next bank (number + 1)) k ≡ number + 1) (sym same) (get_or-set_same next bank (number + 1) 0 within) in
-      let waits : is_waiting (Waits x.0 x.1) bank ((number + 1) % 32) ≡ false = subst (λ (st : Standing). is_waiting st bank ((number + 1) % 32) ≡ false) before not_called in
-      let not_next : x.1 ≢ slice_index (set next bank (number + 1)) x.0 = λ e. called x.0 x.1 bank (number + 1) same (e ∙ is_next) waits in
-      before ∙ sym (cond-false (x.1 == slice_index (set next bank (number + 1)) x.0) Goes (Waits x.0 x.1) (ne_eqb x.1 (slice_index (set next bank (number + 1)) x.0) not_next))
+      ap (λ (st : Standing). once_called st bank (number + 1)) before
+      ∙ ap (λ (b : Bool). cond b Goes (Waits x.0 x.1)) (first (x.0 == bank) (x.1 == number + 1) (eq-eqb x.0 bank same))
+      ∙ ap (λ n. cond (x.1 == n) Goes (Waits x.0 x.1)) (sym is_next)
 ]
   where
     pair_is : (a b c d : ℕ) → a ≡ c → b ≡ d → ◌≡◌ {A = ℕ × ℕ} (a, b) (c, d)
     pair_is a b c d e e' = λ i. (e i, e' i)
 
-    called : (b m bank number : ℕ) → b ≡ bank → m ≡ number → is_waiting (Waits b m) bank (number % 32) ≡ false → ⊥
-    called b m bank number e e' not_called =
-        true_false (is_waiting (Waits bank number) bank (number % 32)) (waits_here bank number)
-        (subst (λ k. is_waiting (Waits bank k) bank (number % 32) ≡ false) e' (subst (λ k. is_waiting (Waits k m) bank (number % 32) ≡ false) e not_called))
-      where
-        true_false : (b : Bool) → b ≡ true → b ≡ false → ⊥
-        true_false b t f = cc
+    first : (p q : Bool) → p ≡ true → (p && q) ≡ q
+    first true q is = refl
+    first false q is = cc
+
+    same_bank : {a b m n : ℕ} → Waits a m ≡ Waits b n → a ≡ b
+    same_bank e = cc
+
+    elsewhere : (b : Bool) (n : ℕ) → x.0 ≢ bank → cond b Goes (Waits x.0 x.1) ≡ Waits bank n → ⊥
+    elsewhere true n other is = cc
+    elsewhere false n other is = other (same_bank is)
 
 pub stands_after : (L : List (List (ℕ × ℕ))) (places next : List ℕ) (log : ℕ) (before after : Roster) → OthersStay before after log → AllStand L places next before
     → (other : ℕ) → other < 32 → other ≢ log → Stands after other (standing_of next (next_entry L places other))
 stands_after L places next log before after stay all other lt apart = stay other (standing_of next (next_entry L places other)) lt apart (all other lt)
-
--- The log and those that are called stand nowhere, and each other one where it belongs.
-pub record SettledBut (target : ℕ → Standing) (roster : Roster) (called : LogSet) (log : ℕ) : Type 0 where
-  pub not_called : has called log ≡ false
-  pub nowhere : Stands roster log Nowhere
-  pub others : (k : ℕ) → k < 32 → k ≢ log → Stands roster k (cond (has called k) Nowhere (target k))
 
 module _ (L : List (List (ℕ × ℕ))) (places next new_places new_next : List ℕ) (log bank number : ℕ) (goes : can_go L places next log ≡ true)
     (is : next_entry L places log ≡ Some (bank, number)) (gone : Advances L places next log new_places new_next) (sized : length next ≡ 256) (own : IsItsOwn L places log) where
@@ -277,73 +373,18 @@ module _ (L : List (List (ℕ × ℕ))) (places next new_places new_next : List 
   other_entry : (other : ℕ) → other ≢ log → next_entry L new_places other ≡ next_entry L places other
   other_entry other apart = ap (λ (k : ℕ). entry_at (log_at L other) k) (ap (λ (ps : List ℕ). slice_index ps other) gone.moved ∙ get_or-set_other places log other (slice_index places log + 1) 0 apart)
 
-  pub called_left : (left called_from : Roster) (called : LogSet) → log < 32 → Stands left log Nowhere
-      → ((other : ℕ) → other < 32 → other ≢ log → Stands left other (standing_of next (next_entry L places other)))
-      → AreCalled left called_from bank ((number + 1) % 32) called → SettledBut (λ (k : ℕ). standing_of new_next (next_entry L new_places k)) called_from called log
-  called_left left called_from called within nowhere others called_are = record {
-    not_called = called_are.waited log Nowhere within nowhere;
-    nowhere = called_are.left log Nowhere within nowhere;
-    others = λ k lt apart. other_left k lt apart;
-  }
-    where
-      other_left : (k : ℕ) → k < 32 → k ≢ log → Stands called_from k (cond (has called k) Nowhere (standing_of new_next (next_entry L new_places k)))
-      other_left k lt apart =
-          let was = standing_of next (next_entry L places k) in
-          let now = standing_of new_next (next_entry L new_places k) in
-          let stood = others k lt apart in
-          let waited = called_are.waited k was lt stood in
-          let later = called_are.left k was lt stood in (
-          elim (cases_Bool (is_waiting was bank ((number + 1) % 32))) [
-            | inl called_now ↦
-                subst (λ (st : Standing). Stands called_from k st) (cond-true (is_waiting was bank ((number + 1) % 32)) Nowhere was called_now ∙ sym (cond-true (has called k) Nowhere now (waited ∙ called_now))) later
-            | inr not_called ↦
-                let same : was ≡ now =
-                same_standing next bank (next_entry L places k) (let within = bank_within in omega arith) (λ e. own k (bank, number) apart is (e ∙ ap (λ n. Some (bank, n)) (sym number_is)))
-                (ap (λ n. is_waiting was bank ((n + 1) % 32)) (sym number_is) ∙ not_called)
-                ∙ ap (λ (o : Option (ℕ × ℕ)). standing_of (set next bank (slice_index next bank + 1)) o) (sym (other_entry k apart))
-                ∙ ap (λ (ns : List ℕ). standing_of ns (next_entry L new_places k)) (sym next_is) in
-                subst (λ (st : Standing). Stands called_from k st)
-                (cond-false (is_waiting was bank ((number + 1) % 32)) Nowhere was not_called ∙ same ∙ sym (cond-false (has called k) Nowhere now (waited ∙ not_called))) later
-          ]
-          )
-
--- ---- the logs that were called settle one by one
-
-module _ (target : ℕ → Standing) (old : Roster) (called : LogSet) (log : ℕ) (before : SettledBut target old called log) where
-  not_the_log : (other : ℕ) → has called other ≡ true → other ≢ log
-  not_the_log other member same = true_false (has called log) (subst (λ k. has called k ≡ true) same member) before.not_called
-    where
-      true_false : (b : Bool) → b ≡ true → b ≡ false → ⊥
-      true_false b t f = cc
-
-  pub called_is_nowhere : (other : ℕ) → IsLowest called other → Stands old other Nowhere
-  called_is_nowhere other lowest =
-      subst (λ (st : Standing). Stands old other st) (cond-true (has called other) Nowhere (target other) lowest.member) (before.others other lowest.is_log (not_the_log other lowest.member))
-
-  -- One more of them has settled.
-  pub one_settled : (new : Roster) (rest : LogSet) (other : ℕ) → log < 32 → IsLowest called other → Changes called rest other false → Stands new other (target other) → OthersStay old new other
-      → SettledBut target new rest log
-  one_settled new rest other within lowest change here stay = record {
-    not_called = change.others log within away ∙ before.not_called;
-    nowhere = stay log Nowhere within away before.nowhere;
-    others = λ k lt apart. elim (cases_eq k other) [
-      | inl same ↦
-          subst (λ m. Stands new m (cond (has rest m) Nowhere (target m))) (sym same)
-          (subst (λ (st : Standing). Stands new other st) (sym (cond-false (has rest other) Nowhere (target other) change.this)) here)
-      | inr not_this ↦
-          subst (λ b. Stands new k (cond b Nowhere (target k))) (sym (change.others k lt not_this))
-          (stay k (cond (has called k) Nowhere (target k)) lt not_this (before.others k lt apart))
-    ];
-  }
-    where
-      away : log ≢ other
-      away same = not_the_log other lowest.member (sym same)
-
-  -- None is left, and the log itself has settled.
-  pub all_settled : (new : Roster) → IsEmpty called → Stands new log (target log) → OthersStay old new log → (k : ℕ) → k < 32 → Stands new k (target k)
-  all_settled new empty here stay k lt = elim (cases_eq k log) [
-    | inl same ↦ subst (λ m. Stands new m (target m)) (sym same) here
-    | inr apart ↦ stay k (target k) lt apart (subst (λ (st : Standing). Stands old k st) (cond-false (has called k) Nowhere (target k) (empty k lt)) (before.others k lt apart))
+  pub all_settled : (left called_from settled : Roster) → log < 32 → ((other : ℕ) → other < 32 → other ≢ log → Stands left other (standing_of next (next_entry L places other)))
+      → IsCalled left called_from bank (number + 1) → Stands settled log (standing_of new_next (next_entry L new_places log)) → OthersStay called_from settled log → AllStand L new_places new_next settled
+  all_settled left called_from settled within others are_called here stay k lt = elim (cases_eq k log) [
+    | inl same ↦ subst (λ m. Stands settled m (standing_of new_next (next_entry L new_places m))) (sym same) here
+    | inr apart ↦
+        let now : once_called (standing_of next (next_entry L places k)) bank (number + 1) ≡ standing_of new_next (next_entry L new_places k) =
+        ap (λ n. once_called (standing_of next (next_entry L places k)) bank (n + 1)) number_is
+        ∙ called_standing next bank (next_entry L places k) (let w = bank_within in omega arith) (λ e. own k (bank, number) apart is (e ∙ ap (λ n. Some (bank, n)) (sym number_is)))
+        ∙ ap (λ (o : Option (ℕ × ℕ)). standing_of (set next bank (slice_index next bank + 1)) o) (sym (other_entry k apart))
+        ∙ ap (λ (ns : List ℕ). standing_of ns (next_entry L new_places k)) (sym next_is) in
+        stay k (standing_of new_next (next_entry L new_places k)) lt apart
+        (subst (Stands called_from k) now (are_called k (standing_of next (next_entry L places k)) lt (others k lt apart)))
   ]
 
 -- Before anything has gone, one more log has settled.

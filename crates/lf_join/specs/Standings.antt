@@ -1,5 +1,5 @@
 -- Where the logs stand in a merge: each can go, or waits at a bank, or has nothing left.
-use Rattle.std.specs.Prelude.{◌≡◌, ◌≢◌, ℕ, ◌%◌, ◌<◌, Bool, true, false, ◌==◌, ◌&&◌, List, [], length, Option, Some, None, if◌then◌else◌, slice_index, slice_index_or}
+use Rattle.std.specs.Prelude.{◌≡◌, ◌≢◌, ℕ, ◌%◌, ◌<◌, Bool, true, false, ◌==◌, ◌&&◌, List, [], length, Option, Some, None, if◌then◌else◌, slice_index, slice_index_or, ⊤}
 use Rattle.lf_join.specs.declared.log_set.LogSet.{LogSet}
 use Rattle.lf_join.specs.declared.roster.Roster.{Roster}
 use Rattle.lf_join.specs.LogSets.{has}
@@ -26,29 +26,41 @@ is_waiting Nowhere at set = false
 is_waiting Goes at set = false
 is_waiting (Waits bank number) at set = (bank == at) && (number % 32 == set)
 
+-- the number kept of a log that waits is the one that it waits for
+abbrev pub IsKept : Standing → ℕ → Type 0
+IsKept Nowhere kept = ⊤
+IsKept Goes kept = ⊤
+IsKept (Waits bank number) kept = kept ≡ number
+
 -- the logs that wait in this set of the bank's
 abbrev pub waiting_at : Roster → ℕ → ℕ → LogSet
 waiting_at roster bank set = slice_index_or (slice_index_or roster.waiting bank []) set (record { 0 = 0 })
 
--- each bank has its sets
+-- each bank has its sets, and each log its number
 pub record IsSized (roster : Roster) : Type 0 where
   pub banks : length roster.waiting ≡ 256
   pub sets : (bank : ℕ) → bank < 256 → length (slice_index_or roster.waiting bank []) ≡ 32
+  pub numbers : length roster.numbers ≡ 32
 
 -- The roster has the log where it stands, and nowhere else.
 pub record Stands (roster : Roster) (log : ℕ) (standing : Standing) : Type 0 where
   pub sized : IsSized roster
   pub going : has roster.ready log ≡ is_going standing
   pub waiting : (bank set : ℕ) → bank < 256 → set < 32 → has (waiting_at roster bank set) log ≡ is_waiting standing bank set
+  pub kept : IsKept standing (slice_index roster.numbers log)
 
 -- Each other log stands where it stood.
 abbrev pub OthersStay : Roster → Roster → ℕ → Type 0
 OthersStay old new log = (other : ℕ) (standing : Standing) → other < 32 → other ≢ log → Stands old other standing → Stands new other standing
 
--- The logs that waited in this set of the bank's were called, and stand nowhere now; each other log stands where it stood.
-pub record AreCalled (old new : Roster) (bank set : ℕ) (called : LogSet) : Type 0 where
-  pub waited : (log : ℕ) (standing : Standing) → log < 32 → Stands old log standing → has called log ≡ is_waiting standing bank set
-  pub left : (log : ℕ) (standing : Standing) → log < 32 → Stands old log standing → Stands new log (if is_waiting standing bank set then Nowhere else standing)
+-- A log that waits for the number that a bank calls goes from now on, and any other stands where it stood.
+abbrev pub once_called : Standing → ℕ → ℕ → Standing
+once_called Nowhere at called = Nowhere
+once_called Goes at called = Goes
+once_called (Waits bank number) at called = if (bank == at) && (number == called) then Goes else Waits bank number
+
+abbrev pub IsCalled : Roster → Roster → ℕ → ℕ → Type 0
+IsCalled old new bank number = (log : ℕ) (standing : Standing) → log < 32 → Stands old log standing → Stands new log (once_called standing bank number)
 
 -- Each log stands where its next entry says.
 abbrev pub AllStand : List (List (ℕ × ℕ)) → List ℕ → List ℕ → Roster → Type 0

@@ -10,7 +10,7 @@ use crate::log_set::LogSet;
 use lf_model::Skeleton;
 
 /// How many sets of waiting logs a bank has. A log waits in the set of its number's remainder, so
-/// that it is looked at once at most while so many numbers of its bank go by.
+/// that its number is compared once at most while so many numbers of its bank go by.
 const SETS: usize = 32;
 
 /// Where each log stands.
@@ -20,6 +20,8 @@ pub(crate) struct Roster {
     ready: LogSet,
     /// Per bank, by the remainder of the number that they wait for, the logs that wait.
     waiting: [[LogSet; SETS]; BANKS],
+    /// Per log that waits, the number that it waits for.
+    numbers: [u64; LOGS],
 }
 
 /// The set of the logs that wait for this number.
@@ -30,7 +32,7 @@ fn set_of(number: u64) -> usize
 }
 
 impl Roster {
-    ghost use Rattle.lf_join.specs.Standings.{Nowhere, Goes, Waits, Stands, OthersStay, AllStand, IsItsOwn, AreCalled, standing_of};
+    ghost use Rattle.lf_join.specs.Standings.{Nowhere, Goes, Waits, Stands, OthersStay, AllStand, IsItsOwn, IsCalled, standing_of};
 
     /// No log stands anywhere.
     fn empty() -> Self
@@ -39,6 +41,7 @@ impl Roster {
         Roster {
             ready: LogSet::new(),
             waiting: [[LogSet::new(); SETS]; BANKS],
+            numbers: [0; LOGS],
         }
     }
 
@@ -53,17 +56,32 @@ impl Roster {
         let mut waiting = self.waiting[bank as usize][set];
         waiting.insert(log);
         self.waiting[bank as usize][set] = waiting;
+        self.numbers[log as usize] = number;
     }
 
-    /// Takes out the set of the logs that wait for this number; some may wait for another number of
-    /// the set.
-    fn call(&mut self, bank: u8, number: u64) -> LogSet
-        ensures { AreCalled self.old self.new bank (number % 32) result }
+    /// A log that waited for this number can go.
+    fn wake(&mut self, log: u8, bank: u8, number: u64)
+        requires log { log < 32 }
+        ensures woken { Stands self.old log (Waits bank number) → Stands self.new log Goes }
+        ensures others { OthersStay self.old self.new log }
     {
         let set = set_of(number);
-        let called = self.waiting[bank as usize][set];
-        self.waiting[bank as usize][set] = LogSet::new();
-        called
+        let mut waiting = self.waiting[bank as usize][set];
+        waiting.remove(log);
+        self.waiting[bank as usize][set] = waiting;
+        self.ready.insert(log);
+    }
+
+    /// Wakes the log that waits for this number. Those that wait for another number of the set stay.
+    fn call(&mut self, bank: u8, number: u64)
+        ensures { IsCalled self.old self.new bank number }
+    {
+        let mut called = self.waiting[bank as usize][set_of(number)];
+        while let Some(log) = called.pop() {
+            if self.numbers[log as usize] == number {
+                self.wake(log, bank, number);
+            }
+        }
     }
 
     /// Adds a log to those that can go.
@@ -121,8 +139,8 @@ impl Roster {
         self.ready.lowest()
     }
 
-    /// Lets the log's next entry go. Then the log stands elsewhere, and so do the logs that waited for
-    /// the number that goes next at the bank.
+    /// Lets the log's next entry go. The bank's next number wakes the log that waits for it, and the
+    /// log that went stands where its next entry says.
     pub fn let_go(&mut self, skeletons: &[Skeleton], heads: &mut Heads, log: u8)
         requires log { log < 32 }
         requires sized { length heads.old.next ≡ 256 }
@@ -134,10 +152,7 @@ impl Roster {
     {
         let (bank, number) = heads.advance(skeletons, log as usize);
         self.leave(log);
-        let mut called = self.call(bank, u64::from(number) + 1);
-        while let Some(other) = called.pop() {
-            self.settle(skeletons, heads, other);
-        }
+        self.call(bank, u64::from(number) + 1);
         self.settle(skeletons, heads, log);
     }
 }
