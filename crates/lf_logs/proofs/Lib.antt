@@ -1,11 +1,14 @@
 mod BankLists
 mod Counting
+pub mod GivenOut
 mod Joined
 mod Judged
 mod Members
 mod Ordered
 mod Placing
 mod PortRun
+mod PortSteps
 mod Reading
-mod Splitting
+pub mod Reordered
+pub mod Splitting
 mod Tallying

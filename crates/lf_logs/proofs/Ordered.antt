@@ -20,14 +20,14 @@ use Rattle.lf_logs.proofs.Members.{IsIn-get, IsIn-joined, IsIn-filter, only_one}
 
 -- ---- the records of each number
 
-abbrev with_number : ℕ → List Record → List Record
+abbrev pub with_number : ℕ → List Record → List Record
 with_number k rs = filter (λ r. eqb r.number k) rs
 
 abbrev below : ℕ → List Record → List Record
 below n rs = filter (λ r. ltb r.number n) rs
 
 -- the records that carry 0 to n - 1, in the order of their numbers
-abbrev by_number : ℕ → List Record → List Record
+abbrev pub by_number : ℕ → List Record → List Record
 by_number n rs = flat_map (λ k. with_number k rs) (range_with_len 0 n)
 
 filter-filter : {X : Type 0} (p q r : X → Bool) → ((x : X) → r x ≡ cond (p x) (q x) false) → (xs : List X) → filter q (filter p xs) ≡ filter r xs
@@ -96,7 +96,7 @@ below_is (suc n) rs =
 
 -- ---- whole numbers
 
-times_is : (k : ℕ) (rs : List Record) → times k (numbers_of rs) ≡ length (with_number k rs)
+pub times_is : (k : ℕ) (rs : List Record) → times k (numbers_of rs) ≡ length (with_number k rs)
 times_is k [] = refl
 times_is k (r ∷ rs) =
     let carries : Record → Bool = λ r. eqb r.number k in
@@ -113,7 +113,7 @@ count_below n (r ∷ rs) =
     ∙ sym (count_by-cons (λ r. ltb r.number n) r rs)
 
 -- where each number below the count of the records occurs once, there are no others
-whole_by_number : (rs : List Record) → ((k : ℕ) → k < length rs → times k (numbers_of rs) ≡ 1) → IsPermutation rs (by_number (length rs) rs)
+pub whole_by_number : (rs : List Record) → ((k : ℕ) → k < length rs → times k (numbers_of rs) ≡ 1) → IsPermutation rs (by_number (length rs) rs)
 whole_by_number rs whole =
     let all : below (length rs) rs ≡ rs = filter-all (λ r. ltb r.number (length rs)) rs (sym (count_below (length rs) rs) ∙ once_below (length rs) (numbers_of rs) whole) in
     subst (λ ys. IsPermutation ys (by_number (length rs) rs)) all (below_is (length rs) rs)

@@ -20,10 +20,10 @@ module _ (key : Record → ℕ) where
   of_key-push : (k : ℕ) (rs : List Record) (r : Record) → of_key key k (rs ++ r ∷ []) ≡ of_key key k rs ++ cond (eqb (key r) k) (r ∷ []) []
   of_key-push k rs r = filter-append (λ r. eqb (key r) k) rs (r ∷ [])
 
-  of_key-push_own : (k : ℕ) (rs : List Record) (r : Record) → key r ≡ k → of_key key k (rs ++ r ∷ []) ≡ of_key key k rs ++ r ∷ []
+  pub of_key-push_own : (k : ℕ) (rs : List Record) (r : Record) → key r ≡ k → of_key key k (rs ++ r ∷ []) ≡ of_key key k rs ++ r ∷ []
   of_key-push_own k rs r e = of_key-push k rs r ∙ ap (λ xs. of_key key k rs ++ xs) (cond-true (eqb (key r) k) (r ∷ []) [] (eq-eqb (key r) k e))
 
-  of_key-push_other : (k : ℕ) (rs : List Record) (r : Record) → (key r ≡ k → ⊥) → of_key key k (rs ++ r ∷ []) ≡ of_key key k rs
+  pub of_key-push_other : (k : ℕ) (rs : List Record) (r : Record) → (key r ≡ k → ⊥) → of_key key k (rs ++ r ∷ []) ≡ of_key key k rs
   of_key-push_other k rs r n = of_key-push k rs r ∙ ap (λ xs. of_key key k rs ++ xs) (cond-false (eqb (key r) k) (r ∷ []) [] (ne_eqb (key r) k n)) ∙ append-nil (of_key key k rs)
 
   pub length-parts_of : (count : ℕ) (rs : List Record) → length (parts_of key count rs) ≡ count
@@ -32,7 +32,7 @@ module _ (key : Record → ℕ) where
   pub get_or-parts_of : (count : ℕ) (rs : List Record) (k : ℕ) (d : List Record) → k < count → get_or (parts_of key count rs) k d ≡ of_key key k rs
   get_or-parts_of count rs k d h = get_or-map-range_with_len (λ k. of_key key k rs) 0 count k k d h (omega arith)
 
-  parts_of-push : (count : ℕ) (rs : List Record) (r : Record) → key r < count →
+  pub parts_of-push : (count : ℕ) (rs : List Record) (r : Record) → key r < count →
       set (parts_of key count rs) (key r) (of_key key (key r) rs ++ r ∷ []) ≡ parts_of key count (rs ++ r ∷ [])
   parts_of-push count rs r h =
       let part = of_key key (key r) rs ++ r ∷ [] in

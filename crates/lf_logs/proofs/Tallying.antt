@@ -30,7 +30,7 @@ of_bank_push_other bank seen r n =
     ∙ ap (λ xs. of_bank bank seen ++ xs) (cond-false (eqb r.bank bank) (r ∷ []) [] (ne_eqb r.bank bank n))
     ∙ append-nil (of_bank bank seen)
 
-times_push : (k : ℕ) (rs : List Record) (r : Record) → times k (numbers_of (rs ++ r ∷ [])) ≡ times k (numbers_of rs) + counts (eqb r.number k)
+pub times_push : (k : ℕ) (rs : List Record) (r : Record) → times k (numbers_of (rs ++ r ∷ [])) ≡ times k (numbers_of rs) + counts (eqb r.number k)
 times_push k rs r = ap (times k) (map_push (λ r. r.number) rs r) ∙ sum_by_push (λ n. counts (eqb n k)) (numbers_of rs) r.number
 
 -- a record of another bank or number is not counted

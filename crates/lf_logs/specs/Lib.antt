@@ -2,3 +2,4 @@ pub mod Lists
 pub mod Tags
 pub mod Places
 pub mod Tallies
+pub mod Reordering

@@ -1,7 +1,35 @@
 -- What the rules of a port look at.
-use Rattle.std.specs.Prelude.{ℕ, List, Option, None, slice_index_or}
+use Rattle.std.specs.Prelude.{◌≡◌, ℕ, List, [], ◌∷◌, ◌++◌, length, Option, None, slice_index_or}
+use Rattle.lf_model.specs.declared.shape.Shape.{Shape}
+use Rattle.lf_model.specs.declared.event.Record.{Record}
+use Rattle.lf_model.specs.declared.rule.Rule.{Rule}
+use Rattle.lf_model.specs.Address.{FlatMemory}
 use Rattle.lf_model.specs.State.{Local}
+use Rattle.lf_model.specs.Outcomes.{first_local}
+use Rattle.lf_model.specs.Table.{OfPort, port_effect}
+use Rattle.lf_model.specs.Run.{IsRunOf, BreaksAt}
 
 -- the same, with these busy tags: for each tag the bank that owes its reply
 abbrev pub with_tags : Local → List (Option ℕ) → Local
 with_tags now owed_by = record now { busy = λ tag. slice_index_or owed_by tag None }
+
+-- what the rules of a port, judged a record at a time, keep
+pub record PortKept : Type 0 where
+  pub shape : Shape
+  pub port : ℕ
+  pub owed_by : List (Option ℕ)
+
+-- the port's state after these records
+abbrev pub port_after : Shape → Local → List Record → Local
+port_after shape now [] = now
+port_after shape now (r ∷ rs) = port_after shape (port_effect now r) rs
+
+-- The records are a run of the port, and what is kept is the state where it ends. Its rules look at no memory.
+pub record PortStandsAfter (step : PortKept) (shape : Shape) (rs : List Record) : Type 0 where
+  pub of_shape : step.shape ≡ shape
+  pub is_run : (memory : FlatMemory) → IsRunOf OfPort shape (first_local memory) rs
+  pub state : (memory : FlatMemory) → port_after shape (first_local memory) rs ≡ with_tags (first_local memory) step.owed_by
+
+-- After these records the next breaks the rule first.
+abbrev pub IsPortFaultAfter : Shape → List Record → Record → Rule → Type 0
+IsPortFaultAfter shape rs r rule = (memory : FlatMemory) → BreaksAt OfPort shape (first_local memory) (rs ++ r ∷ []) (length rs) rule

@@ -6,12 +6,16 @@ mod banks;
 mod logs;
 mod order;
 mod port;
+mod port_step;
+mod reorder;
 mod skeleton;
 
 pub use banks::bank_records;
 pub use logs::split;
 pub use order::{NumberFault, Place, bank_order, record_at};
 pub use port::port_replay;
+pub use port_step::PortStep;
+pub use reorder::Reorder;
 pub use skeleton::skeletons;
 
 #[cfg(test)]

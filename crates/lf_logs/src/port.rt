@@ -15,12 +15,12 @@ const TAGS: usize = 256;
 
 /// For each tag of a port the bank that owes its reply.
 #[derive(Drop)]
-struct BusyTags {
-    owed_by: [Option<u8>; TAGS],
+pub struct BusyTags {
+    pub owed_by: [Option<u8>; TAGS],
 }
 
 impl BusyTags {
-    fn new() -> Self
+    pub(crate) fn new() -> Self
         ensures { (now : Local) → with_tags now result.owed_by ≡ record now { busy = idle } }
     {
         BusyTags {
@@ -29,7 +29,7 @@ impl BusyTags {
     }
 
     /// The first rule of the port that the record breaks.
-    fn failing(&self, shape: &Shape, item: &Record) -> Option<Rule>
+    pub(crate) fn failing(&self, shape: &Shape, item: &Record) -> Option<Rule>
         ensures { (now : Local) → result ≡ first_failing OfPort (clauses shape.now (with_tags now self.now.owed_by) item.now) }
     {
         match &item.event {
@@ -56,7 +56,7 @@ impl BusyTags {
     }
 
     /// An issue makes its tag busy, a reply frees it.
-    fn update(&mut self, shape: &Shape, item: &Record)
+    pub(crate) fn update(&mut self, shape: &Shape, item: &Record)
         ensures { (now : Local) → effect OfPort shape.now (with_tags now self.old.owed_by) item.now ≡ with_tags now self.new.owed_by }
     {
         match &item.event {

@@ -189,8 +189,8 @@ impl<T: Target> Organisation for Explicit<T> {
         Ok(())
     }
 
-    fn release(file: &mut ExplicitFile<T>, block: u32) -> Targets<T> {
-        release(&mut file.held, block)
+    fn release(file: &mut ExplicitFile<T>, block: u32, targets: &mut Targets<T>) {
+        release(&mut file.held, block, targets);
     }
 
     fn store_bytes(file: &ExplicitFile<T>, block: u32) -> Mask {

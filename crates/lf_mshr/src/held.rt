@@ -120,27 +120,26 @@ pub fn store_bytes<T: Target>(held: &[Held<T>], block: u32) -> Mask
     Mask(bytes)
 }
 
-fn targets_of<T: Target>(held: &[Held<T>], block: u32) -> Targets<T>
+/// Puts the targets of the block into a list, in place of what it had.
+fn list_targets<T: Target>(held: &[Held<T>], block: u32, targets: &mut Targets<T>)
     requires { length held.now ≤ 1024 }
-    ensures { result.items ≡ map released_pair (targets_of held.now block) }
+    ensures { targets.new.items ≡ map released_pair (targets_of held.now block) }
 {
-    let mut targets = Targets::new();
+    targets.clear();
     for h in held {
         if h.block() == block {
             targets.push((h.register(), *h.target()));
         }
     }
-    targets
 }
 
-/// Takes the targets of the block out. The others keep their order.
-pub fn release<T: Target>(held: &mut Vec<Held<T>>, block: u32) -> Targets<T>
+/// Moves the targets of the block into a list, in place of what it had. The others keep their order.
+pub fn release<T: Target>(held: &mut Vec<Held<T>>, block: u32, targets: &mut Targets<T>)
     requires { length held.old.items ≤ 1024 }
-    ensures targets { result.items ≡ map released_pair (targets_of held.old.items block) }
+    ensures targets { targets.new.items ≡ map released_pair (targets_of held.old.items block) }
     ensures others { held.new.items ≡ released held.old.items block }
     ensures capacity { vec_capacity held.new ≡ vec_capacity held.old }
 {
-    let targets = targets_of(held, block);
+    list_targets(held, block, targets);
     held.retain(|h| h.block() != block);
-    targets
 }

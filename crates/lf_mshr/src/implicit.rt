@@ -189,8 +189,8 @@ impl<T: Target> Organisation for Implicit<T> {
         Ok(())
     }
 
-    fn release(file: &mut ImplicitFile<T>, block: u32) -> Targets<T> {
-        release(&mut file.held, block)
+    fn release(file: &mut ImplicitFile<T>, block: u32, targets: &mut Targets<T>) {
+        release(&mut file.held, block, targets);
     }
 
     fn store_bytes(file: &ImplicitFile<T>, block: u32) -> Mask {

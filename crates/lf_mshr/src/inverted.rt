@@ -147,8 +147,8 @@ impl<T: Target> Organisation for Inverted<T> {
         Ok(())
     }
 
-    fn release(file: &mut InvertedFile<T>, block: u32) -> Targets<T> {
-        release(&mut file.held, block)
+    fn release(file: &mut InvertedFile<T>, block: u32, targets: &mut Targets<T>) {
+        release(&mut file.held, block, targets);
     }
 
     fn store_bytes(file: &InvertedFile<T>, block: u32) -> Mask {

@@ -103,9 +103,10 @@ pub trait Organisation {
         ensures placed { OnOk result (seen file.new ≡ with_target (seen file.old) register block target) }
         ensures unchanged { OnErr result (seen file.new ≡ seen file.old) };
 
-    /// Takes out every target of the block, each once, in the order of acceptance. The others stay.
-    fn release(file: &mut Self::File, block: u32) -> Targets<Self::Target>
-        ensures targets { result.items ≡ map released_pair (targets_of (seen file.old).held block) }
+    /// Takes out every target of the block, each once, in the order of acceptance. The others stay. The
+    /// list gets them in place of what it had, so that it can be used again.
+    fn release(file: &mut Self::File, block: u32, targets: &mut Targets<Self::Target>)
+        ensures targets { targets.new.items ≡ map released_pair (targets_of (seen file.old).held block) }
         ensures others { seen file.new ≡ without_block (seen file.old) block };
 
     /// The bytes that the block's waiting stores write.

@@ -19,7 +19,7 @@ use crate::queue::Queue;
 use crate::request::Ready;
 use lf_levels::{Lines, One, Two};
 use lf_model::{Block, NoMemory, Shape};
-use lf_mshr::Request2;
+use lf_mshr::{Request1, Request2, Targets};
 use std::alloc::Global;
 
 /// What a bank of both levels holds beside its registers, and its part of flat memory.
@@ -35,6 +35,10 @@ pub struct Bank {
     pub asked: Vec<(u32, u16)>,
     pub supplied: Vec<u32>,
     pub ready: Vec<Ready>,
+    /// What the last fill of level one released. No state is kept in it.
+    pub replied: Targets<Request1>,
+    /// The same of level two.
+    pub fetched: Targets<Request2>,
 }
 
 /// An empty queue for each port.
@@ -75,6 +79,8 @@ impl Bank {
             asked: Vec::new(alloc),
             supplied: Vec::new(alloc),
             ready: Vec::new(alloc),
+            replied: Targets::new(),
+            fetched: Targets::new(),
         })
     }
 

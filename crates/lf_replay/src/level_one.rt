@@ -267,8 +267,8 @@ impl Bank {
         if self.lines1.fill(block, Mask(stores)).is_err() {
             return Err(BankFault::NoMemory);
         }
-        let targets = O::release(waiting, block);
-        add_replies(&mut self.ready, &self.shape, targets.as_slice());
+        O::release(waiting, block, &mut self.replied);
+        add_replies(&mut self.ready, &self.shape, self.replied.as_slice());
         drop_block(&mut self.supplied, block);
         Ok(())
     }

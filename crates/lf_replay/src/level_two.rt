@@ -126,7 +126,7 @@ impl Bank {
         let Ok(()) = self.supply(block) else {
             return Err(BankFault::NoMemory);
         };
-        O2::release(regs2, block);
+        O2::release(regs2, block, &mut self.fetched);
         Ok(())
     }
 

@@ -31,7 +31,7 @@ use Rattle.lf_verdict.proofs.Outcomes.{list_of}
 
 -- ---- the logs of a trace that agrees with the shape
 
-log_below : (ports bank log banks : ℕ) (event : Event) → bank < banks → FitsLog ports bank log event → log < ports + banks
+pub log_below : (ports bank log banks : ℕ) (event : Event) → bank < banks → FitsLog ports bank log event → log < ports + banks
 log_below ports bank log banks (Issue op tag size address bytes) lt fits = omega arith
 log_below ports bank log banks (Reply tag size bytes) lt fits = omega arith
 log_below ports bank log banks _ lt fits = omega arith

@@ -41,7 +41,7 @@ fault_of_whole fed rest fault e =
     let same : reading_of (fed ++ rest) ≡ reading_of fed = read_on_both fed rest nothing_read ∙ fault_stays rest (reading_of fed) fault e in
     ap (λ (r : Reading). fault_of r r.fault) same ∙ ap (fault_of (reading_of fed)) e
 
-fault_told : (fault : Option CodecFault) (t : Told CodecFault) → told None fault ≡ Err t → fault ≡ Some (fault_in t)
+pub fault_told : (fault : Option CodecFault) (t : Told CodecFault) → told None fault ≡ Err t → fault ≡ Some (fault_in t)
 fault_told None t e = cc
 fault_told (Some fault) t e = cc
 

@@ -18,7 +18,7 @@ use Rattle.lf_verdict.specs.Legal.{Agrees, IsTraceFor}
 pub log_of_logs : (count log : ℕ) (rs : List Record) → log < count → log_at (logs_of count rs) log ≡ of_log log rs
 log_of_logs count log rs lt = get_or-map-range_with_len (λ l. of_log l rs) 0 count log log [] lt (omega arith)
 
-no_log : (count log : ℕ) (rs : List Record) → count ≤ log → log_at (logs_of count rs) log ≡ []
+pub no_log : (count log : ℕ) (rs : List Record) → count ≤ log → log_at (logs_of count rs) log ≡ []
 no_log count log rs le =
     let few : length (logs_of count rs) ≤ log = omega (arith, length-map-range_with_len (λ l. of_log l rs) 0 count) in
     get_or_past (logs_of count rs) log [] few

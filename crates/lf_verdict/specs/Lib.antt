@@ -2,6 +2,8 @@ pub mod Legal
 pub mod Parts
 pub mod Verdict
 pub mod Reading
+pub mod Standing
 pub mod Laws
 pub mod Judging
 pub mod Configured
+pub mod Session

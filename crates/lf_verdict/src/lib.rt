@@ -8,19 +8,27 @@
 #![tactic(auto)]
 
 mod answer;
+mod bank_judge;
 mod configured;
 mod halt;
+mod intake;
 mod judge;
 mod laws;
 mod numbers;
 mod order;
 mod parts;
+mod port_judge;
 mod reading;
+mod session;
 mod shape_check;
+mod standing;
+mod standing_new;
+mod standing_verdict;
 
 pub use answer::{Fault, HeaderField, Refusal, Verdict};
 pub use configured::check;
 pub use laws::{mixtures_are_alike, no_has_no_run, verdicts_are_one, yes_is_legal};
+pub use session::Session;
 pub use shape_check::check_shape;
 
 #[cfg(test)]

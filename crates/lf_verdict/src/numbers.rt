@@ -63,7 +63,7 @@ fn number_bank(alloc: Global, logs: &Logs, bank: u8) -> Result<Vec<Record>, Numb
     }
 }
 
-fn number_halt(bank: u8, fault: NumberFault) -> Halt
+pub fn number_halt(bank: u8, fault: NumberFault) -> Halt
     ensures { result ≡ number_halt bank fault }
 {
     match fault {

@@ -20,10 +20,10 @@ use std::alloc::Global;
 
 /// A port or a bank that is broken: at a place, by a rule.
 #[derive(Clone, Copy)]
-struct Broken {
-    part: u8,
-    at: u32,
-    rule: Rule,
+pub struct Broken {
+    pub part: u8,
+    pub at: u32,
+    pub rule: Rule,
 }
 
 /// The outcome of each port's log.

@@ -18,7 +18,7 @@ use lf_model::{NoMemory, Shape};
 use std::alloc::Global;
 
 /// The first number of the header that is not that of the shape.
-fn differing(shape: &Shape, header: Header) -> Option<HeaderField>
+pub fn differing(shape: &Shape, header: Header) -> Option<HeaderField>
     ensures some { IfSome result (Differs shape.now header) }
     ensures none { IfNone result (Agrees shape.now header) }
 {

@@ -4,7 +4,7 @@ ghost use Rattle.std.specs.Prelude.{◌<◌};
 ghost use Rattle.lf_model.specs.InRange.{IsFrom, IsShape};
 
 use super::*;
-use lf_codec::{CodecCause, CodecFault};
+use lf_codec::{CodecCause, CodecFault, Told};
 use lf_config::{ConfigFault, Key};
 use lf_model::{Knot, Level, OrgShape, Rule, Shape};
 use std::alloc::{AllocError, Global};
@@ -325,5 +325,50 @@ fn refusals(rt: HostRuntime) -> Result<(), Fail> {
         verdict,
         Verdict::Refused(Refusal::Header(HeaderField::Ports))
     );
+    Ok(())
+}
+
+/// The answer of a session that is fed a byte at a time.
+fn fed_by_bytes(rt: &HostRuntime, shape: &Shape, bytes: &[u8]) -> Verdict
+    requires { IsShape shape.now }
+{
+    let mut session = Session::for_shape(rt.alloc(), shape);
+    for byte in bytes {
+        let _ = session.feed(&[*byte]);
+    }
+    session.finish()
+}
+
+#[test]
+fn a_session_answers_as_one_piece(rt: HostRuntime) -> Result<(), Fail> {
+    let order = [0, 1, 1, 1, 1, 0];
+    let bytes: &[u8] = &LOAD_MISSES_BOTH_LEVELS;
+    let verdict = fed_by_bytes(&rt, &hierarchy(1, 1), bytes);
+    assert_eq!(rt; verdict, yes(rt.alloc(), &order)?);
+    let mut mixed = Vec::from_slice(rt.alloc(), &LOAD_MISSES_BOTH_LEVELS[..16])?;
+    mixed.extend_from_slice(&LOAD_MISSES_BOTH_LEVELS[36..104])?;
+    mixed.extend_from_slice(&LOAD_MISSES_BOTH_LEVELS[16..36])?;
+    mixed.extend_from_slice(&LOAD_MISSES_BOTH_LEVELS[104..])?;
+    let verdict = fed_by_bytes(&rt, &hierarchy(1, 1), &mixed);
+    assert_eq!(rt; verdict, yes(rt.alloc(), &order)?);
+    let verdict = check_shape(&rt, &hierarchy(1, 1), &[&mixed], 1);
+    assert_eq!(rt; verdict, yes(rt.alloc(), &order)?);
+    let verdict = fed_by_bytes(&rt, &hierarchy(2, 1), bytes);
+    assert_eq!(rt; verdict, Verdict::Refused(Refusal::Header(HeaderField::Ports)));
+    Ok(())
+}
+
+#[test]
+fn a_session_after_a_refusal(rt: HostRuntime) -> Result<(), Fail> {
+    let empty = Draft::new(rt.alloc(), 1, 1)?.end()?;
+    let trailing = CodecFault {
+        cause: CodecCause::Trailing,
+        offset: 24,
+    };
+    let mut session = Session::for_shape(rt.alloc(), &hierarchy(1, 1));
+    assert_eq!(rt; session.feed(&empty), Ok(()));
+    assert_eq!(rt; session.feed(&[0]), Err(Told::Fault(Refusal::Format(trailing))));
+    assert_eq!(rt; session.feed(&[0]), Err(Told::Failed(Refusal::Format(trailing))));
+    assert_eq!(rt; session.finish(), Verdict::Refused(Refusal::Format(trailing)));
     Ok(())
 }

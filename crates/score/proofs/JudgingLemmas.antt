@@ -1,5 +1,5 @@
 -- Laws of the verdicts for a shape and for a configuration.
-use Rattle.std.proofs.Common.{◌≡◌, ◌≢◌, ℕ, List, Option, None, Some, Result, Ok, Err, sym, ◌∙◌, refl, inl, inr, [], arith}
+use Rattle.std.proofs.Common.{◌≡◌, ◌≢◌, ℕ, ◌<◌, ◌≤◌, List, Option, None, Some, Result, Ok, Err, sym, ◌∙◌, subst, refl, inl, inr, [], arith}
 use Rattle.lf_model.specs.declared.shape.Shape.{Shape}
 use Rattle.lf_model.specs.Fits.{Bytes}
 use Rattle.lf_model.specs.declared.event.Record.{Record}
@@ -14,14 +14,17 @@ use Rattle.lf_verdict.specs.declared.answer.Verdict.TheVariants.{Yes, No, Refuse
 use Rattle.lf_verdict.specs.declared.answer.Refusal.{Refusal}
 use Rattle.lf_verdict.specs.declared.answer.Refusal.TheVariants.{Workers, Config, Format, Header as OtherHeader, Memory, Thread}
 use Rattle.lf_verdict.specs.Legal.{IsLegal}
-use Rattle.lf_verdict.specs.Verdict.{IsWorkerCount, IsJudged, IsTraceVerdict, IsVerdictOf}
-use Rattle.lf_verdict.specs.Configured.{IsConfigFault, IsConfiguredVerdict, IsVerdictFor, IsLegalFor}
+use Rattle.lf_verdict.specs.Laws.{NoHasNoRun, IsRunlessNo}
+use Rattle.lf_verdict.specs.Verdict.{IsWorkerCount, IsJudged, IsTraceVerdict, IsVerdictOf, IsLegalYes}
+use Rattle.lf_verdict.specs.declared.intake.Intake.{Intake}
+use Rattle.lf_verdict.specs.Session.{HasFed}
+use Rattle.lf_verdict.specs.Configured.{IsConfigFault, IsConfiguredVerdict, IsVerdictFor, IsLegalFor, IsRunlessNoFor}
 use Rattle.score.specs.declared.counted.Counted.{Counted}
 use Rattle.score.specs.declared.fault.RunFault.{RunFault}
 use Rattle.score.specs.Counted.{calls_of, failures_of, inner_of}
-use Rattle.score.specs.Watch.{HasFault}
-use Rattle.score.specs.Run.{IsAsked, IsRefusedFirst, IsVerdictOfRead, IsLegalRead, IfYes, IsOutcome}
-use Rattle.score.proofs.RunLemmas.{IsKept, IsFreeUnless, HasNoFault}
+use Rattle.score.specs.Gathered.{HasFault}
+use Rattle.score.specs.Run.{IsAsked, IsRefusedFirst, IsVerdictOfRead, IsLegalRead, IfYes, IsOutcome, HasGathered}
+use Rattle.score.proofs.RunLemmas.{IsKept, IsFreeUnless, HasNoFault, MeansOfNo, MeansNothingElse}
 
 -- A trace has no fault.
 trace_has_none : ReadingIsExact → (bytes : List ℕ) (h : Header) (memory : List (ℕ × Bytes)) (records : List Record) → AreBytes bytes → IsTrace bytes h memory records → ¬ HasFault bytes
@@ -67,7 +70,59 @@ shape_free shape workers bytes all (Refused Thread) h = absurd h.1
 shape_free shape workers bytes all (No f) h = inl h.0
 shape_free shape workers bytes all (Yes events order) h = inl h.0
 
+pub shape_runless : NoHasNoRun → (shape : Shape) (workers : ℕ) → MeansOfNo (IsWorkerCount workers) (IsVerdictOf shape workers) (IsRunlessNo shape)
+shape_runless law shape workers bytes (No f) h = (h.0, law shape bytes f h.1)
+shape_runless law shape workers bytes (Yes events order) h = tt
+shape_runless law shape workers bytes (Refused f) h = tt
+
+pub shape_nothing : (shape : Shape) → MeansNothingElse (IsRunlessNo shape)
+shape_nothing shape bytes (No f) h = absurd h
+shape_nothing shape bytes (Yes events order) h = tt
+shape_nothing shape bytes (Refused f) h = tt
+
+legal_read : {R : Type 0} (remaining : R → Option (List ℕ)) (old new : R) (shape : Shape) (session : Intake) (v : Verdict) → (g : HasGathered remaining old new session)
+    → IsLegalYes shape g.bytes v → IfYes v (IsLegalRead remaining old new (IsLegal shape))
+legal_read remaining old new shape session (Yes events order) g h = record { bytes = g.bytes; reads = g.reads; legal = h.0 }
+legal_read remaining old new shape session (No f) g h = tt
+legal_read remaining old new shape session (Refused f) g h = tt
+
+-- What a session says of all that was read is what the run came to.
+pub finished : {R : Type 0} (remaining : R → Option (List ℕ)) (old new : Counted R) (shape : Shape) (workers turns : ℕ) (session : Intake) (v : Verdict)
+    → session.shape ≡ shape → IsWorkerCount workers → calls_of new ≤ turns → ¬ (0 < failures_of new) → HasGathered remaining (inner_of old) (inner_of new) session
+    → ((bytes : List ℕ) → HasFed session bytes → IsLegalYes session.shape bytes v)
+    → ((bytes : List ℕ) → HasFed session bytes → IsJudged v → IsVerdictOf session.shape 1 bytes v)
+    → ¬ (v ≡ Refused Thread)
+    → IsOutcome remaining old new (IsWorkerCount workers) (IsLegal shape) (IsVerdictOf shape workers) turns (Ok v)
+finished remaining old new shape workers turns session v same count few none g legal verdict thread = record {
+  reads = few;
+  unread = λ unasked. absurd (unasked count);
+  verdict = λ judged. record {
+    bytes = g.bytes;
+    reads = λ _. g.reads;
+    verdict = subst (λ n. IsVerdictOf shape n g.bytes v) (sym count) (subst (λ (s : Shape). IsVerdictOf s 1 g.bytes v) same (verdict g.bytes g.fed judged));
+  };
+  legal = legal_read remaining (inner_of old) (inner_of new) shape session v g (subst (λ (s : Shape). IsLegalYes s g.bytes v) same (legal g.bytes g.fed));
+  no_thread = λ e. thread cc;
+  read = (λ e. cc, λ failed. absurd (none failed));
+  turned = λ e. cc;
+  sound = tt;
+  no_write = λ e. cc;
+}
+
 -- ---- for a configuration
+
+pub text_runless : NoHasNoRun → (text : List ℕ) (workers : ℕ) → MeansOfNo (IsAsked text workers) (IsVerdictFor text workers) (IsRunlessNoFor text)
+text_runless law text workers bytes (No f) h = ((h.0, (h.1.shape, h.1.configured)), λ shape configured.
+    let same : Ok h.1.shape ≡ Ok shape = sym h.1.configured ∙ configured in
+    let one : h.1.shape ≡ shape = cc in
+    subst (λ (s : Shape). IsRunlessNo s bytes (No f)) one (law h.1.shape bytes f h.1.verdict))
+text_runless law text workers bytes (Yes events order) h = tt
+text_runless law text workers bytes (Refused f) h = tt
+
+pub text_nothing : (text : List ℕ) → MeansNothingElse (IsRunlessNoFor text)
+text_nothing text bytes (No f) h = absurd h
+text_nothing text bytes (Yes events order) h = λ shape configured. tt
+text_nothing text bytes (Refused f) h = λ shape configured. tt
 
 pub text_no_fault : ReadingIsExact → (text : List ℕ) → HasNoFault (IsLegalFor text)
 text_no_fault exact text bytes order are h = shape_no_fault exact h.shape bytes order are h.legal

@@ -1,4 +1,4 @@
 pub mod KnownLemmas
 pub mod JudgingLemmas
 pub mod RunLemmas
-pub mod WatchLemmas
+pub mod GatheringLemmas

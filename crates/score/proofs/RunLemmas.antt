@@ -11,8 +11,9 @@ use Rattle.score.specs.declared.counted.Counted.{Counted}
 use Rattle.score.specs.declared.fault.RunFault.{RunFault}
 use Rattle.score.specs.declared.fault.RunFault.TheVariants.{Write}
 use Rattle.score.specs.Counted.{inner_of}
-use Rattle.score.specs.Watch.{HasFault}
-use Rattle.score.specs.Run.{IsVerdictOfRead, IsLegalRead, IfYes, IsOutcome, Follows}
+use Rattle.score.specs.Gathered.{HasFault}
+use Rattle.score.proofs.GatheringLemmas.{none_stands}
+use Rattle.score.specs.Run.{IsVerdictOfRead, IsLegalRead, IsRunlessRead, IfYes, IfNo, IsOutcome, Follows}
 
 -- What is told of an outcome is an outcome.
 pub outcome_told : {R : Type 0} (remaining : R → Option (List ℕ)) (old new : Counted R) (asked : Type 0) (L : List ℕ → List ℕ → Type 0) (V : List ℕ → Verdict → Type 0) (turns : ℕ) (outcome said : Result Verdict RunFault)
@@ -47,10 +48,6 @@ abbrev pub HasNoFault : (List ℕ → List ℕ → Type 0) → Type 0
 HasNoFault L = (bytes order : List ℕ) → AreBytes bytes → L bytes order → ¬ HasFault bytes
 
 -- ---- all that the reader had
-
--- Where no fault so far stands in the bytes, none stands whatever comes after them.
-none_stands : FaultsSoFarAreNotTruncated → (bytes : List ℕ) → fault_so_far bytes ≡ None → ¬ HasFault bytes
-none_stands so_far bytes none (fault, is, other) = let bad : None ≡ Some fault = sym none ∙ (so_far bytes fault).1 (is, other) in cc
 
 -- The verdict of what a reader gave is that of all that it had: it was at its end, or a fault stands in what it gave.
 verdict_of_all : FaultsSoFarAreNotTruncated → (V : List ℕ → Verdict → Type 0) → IsKept V → (v : Verdict) (all left bytes : List ℕ)
@@ -118,3 +115,43 @@ pub told_legal : {R : Type 0} → (remaining : R → Option (List ℕ)) (old new
 told_legal remaining old new asked L V sound turns outcome (Ok v) h follows =
     yes_whole remaining (inner_of old) (inner_of new) L sound v (outcome_told remaining old new asked L V turns outcome (Ok v) h (follows (λ e. cc))).legal
 told_legal remaining old new asked L V sound turns outcome (Err e) h follows = tt
+
+-- ---- what a no means
+
+-- A verdict of no means this of the bytes, and the trace was asked for.
+abbrev pub MeansOfNo : Type 0 → (List ℕ → Verdict → Type 0) → (List ℕ → Verdict → Type 0) → Type 0
+MeansOfNo asked V N = (bytes : List ℕ) (v : Verdict) → V bytes v → IfNo v (asked × N bytes v)
+
+-- Another verdict means nothing.
+abbrev pub MeansNothingElse : (List ℕ → Verdict → Type 0) → Type 0
+MeansNothingElse N = (bytes : List ℕ) (v : Verdict) → IfNo v ⊥ → N bytes v
+
+runless_read : {R : Type 0} → (remaining : R → Option (List ℕ)) (old new : R) (asked : Type 0) (V N : List ℕ → Verdict → Type 0) → MeansOfNo asked V N → (v : Verdict)
+    → (IsJudged v → IsVerdictOfRead remaining old new asked V v) → IfNo v (IsRunlessRead remaining old new (λ bytes. N bytes v))
+runless_read remaining old new asked V N means (No f) h =
+    let is = h tt in
+    let both = means is.bytes (No f) is.verdict in
+    record { bytes = is.bytes; reads = is.reads both.0; runless = both.1 }
+runless_read remaining old new asked V N means (Yes events order) h = tt
+runless_read remaining old new asked V N means (Refused f) h = tt
+
+pub told_runless : {R : Type 0} → (remaining : R → Option (List ℕ)) (old new : Counted R) (asked : Type 0) (L : List ℕ → List ℕ → Type 0) (V N : List ℕ → Verdict → Type 0)
+    → MeansOfNo asked V N → (turns : ℕ) (outcome said : Result Verdict RunFault)
+    → IsOutcome remaining old new asked L V turns outcome → (said ≢ Err Write → Follows outcome said)
+    → IfOk said (λ v. IfNo v (IsRunlessRead remaining (inner_of old) (inner_of new) (λ bytes. N bytes v)))
+told_runless remaining old new asked L V N means turns outcome (Ok v) h follows =
+    runless_read remaining (inner_of old) (inner_of new) asked V N means v (outcome_told remaining old new asked L V turns outcome (Ok v) h (follows (λ e. cc))).verdict
+told_runless remaining old new asked L V N means turns outcome (Err e) h follows = tt
+
+all_runless : (asked : Type 0) (V N : List ℕ → Verdict → Type 0) → MeansOfNo asked V N → MeansNothingElse N → (a : Option (List ℕ)) (v : Verdict)
+    → (IsJudged v → IfSome a (λ all. V all v)) → IfSome a (λ all. N all v)
+all_runless asked V N means other None v h = tt
+all_runless asked V N means other (Some all) (No f) h = (means all (No f) (h tt)).1
+all_runless asked V N means other (Some all) (Yes events order) h = other all (Yes events order) tt
+all_runless asked V N means other (Some all) (Refused f) h = other all (Refused f) tt
+
+-- The same of all that the reader had.
+pub whole_runless : (asked : Type 0) (V N : List ℕ → Verdict → Type 0) → MeansOfNo asked V N → MeansNothingElse N → (a : Option (List ℕ)) (said : Result Verdict RunFault)
+    → IfOk said (λ v. IsJudged v → IfSome a (λ all. V all v)) → IfOk said (λ v. IfSome a (λ all. N all v))
+whole_runless asked V N means other a (Ok v) h = all_runless asked V N means other a v h
+whole_runless asked V N means other a (Err e) h = tt

@@ -1,4 +1,4 @@
 pub mod Counted
 pub mod Line
-pub mod Watch
+pub mod Gathered
 pub mod Run

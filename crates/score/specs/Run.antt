@@ -1,27 +1,37 @@
 -- What a run of the engine reads, answers and writes.
-use Rattle.std.specs.Prelude.{◌≡◌, ◌≢◌, ℕ, ◌≤◌, ◌<◌, ◌↔◌, List, [], ◌∷◌, ◌++◌, codes, Option, Result, Ok, Err, IfOk, IfErr, ◌⊎◌}
+use Rattle.std.specs.Prelude.{◌≡◌, ◌≢◌, ℕ, ◌≤◌, ◌<◌, ◌↔◌, List, [], ◌∷◌, ◌++◌, length, codes, Option, Result, Ok, Err, IfOk, IfErr, ◌⊎◌}
 use Rattle.std.specs.Io.KnownBytes.{Consumes, IsAtEnd}
 use Rattle.lf_model.specs.declared.shape.Shape.{Shape}
 use Rattle.lf_codec.specs.Laws.{AreBytes}
 use Rattle.lf_verdict.specs.declared.answer.Verdict.{Verdict}
-use Rattle.lf_verdict.specs.declared.answer.Verdict.TheVariants.{Yes, Refused}
+use Rattle.lf_verdict.specs.declared.answer.Verdict.TheVariants.{Yes, No, Refused}
 use Rattle.lf_verdict.specs.declared.answer.Refusal.{Refusal}
 use Rattle.lf_verdict.specs.declared.answer.Refusal.TheVariants.{Workers, Config, Memory, Thread}
 use Rattle.lf_config.specs.Configuration.{configuration_of}
 use Rattle.lf_verdict.specs.Verdict.{IsWorkerCount, IsJudged}
 use Rattle.lf_verdict.specs.Configured.{IsConfigFault}
+use Rattle.lf_verdict.specs.declared.intake.Intake.{Intake}
+use Rattle.lf_verdict.specs.Session.{HasFed}
 use Rattle.score.specs.declared.counted.Counted.{Counted}
 use Rattle.score.specs.declared.fault.RunFault.{RunFault}
 use Rattle.score.specs.declared.fault.RunFault.TheVariants.{Read, Turns, Write}
 use Rattle.score.specs.Counted.{calls_of, failures_of, inner_of}
 use Rattle.score.specs.Line.{line_of}
-use Rattle.score.specs.Watch.{HasFault}
+use Rattle.score.specs.Gathered.{HasFault}
 
 -- ---- what is read
 
--- No fault stood in the bytes before the last read.
-abbrev pub NoMore : List ℕ → Type 0
-NoMore bytes = (before : List ℕ) × (last : List ℕ) × (bytes ≡ before ++ last) × ¬ HasFault before
+-- No fault stood in the bytes before the last read, which gave at most so many.
+pub record NoMore (most : ℕ) (bytes : List ℕ) : Type 0 where
+  pub before : List ℕ
+  pub last : List ℕ
+  pub cut : bytes ≡ before ++ last
+  pub one_read : length last ≤ most
+  pub sound : ¬ HasFault before
+
+-- the most bytes that one read asks for
+abbrev pub piece_len : ℕ
+piece_len = 65536
 
 -- The reader gave these bytes between two moments, and then no more were wanted: it was at its end, or a fault
 -- stands in them, which came with the last read.
@@ -29,7 +39,13 @@ pub record Reads {R : Type 0} (remaining : R → Option (List ℕ)) (old new : R
   pub are_bytes : AreBytes bytes
   pub given : Consumes (remaining old) (remaining new) bytes
   pub enough : ¬ HasFault bytes → IsAtEnd (remaining new)
-  pub no_more : NoMore bytes
+  pub no_more : NoMore piece_len bytes
+
+-- The session was fed all bytes that the reader gave.
+pub record HasGathered {R : Type 0} (remaining : R → Option (List ℕ)) (old new : R) (session : Intake) : Type 0 where
+  pub bytes : List ℕ
+  pub reads : Reads remaining old new bytes
+  pub fed : HasFed session bytes
 
 -- The reader gave bytes in which no fault stands.
 abbrev pub GaveSound : {R : Type 0} → (R → Option (List ℕ)) → R → R → Type 0
@@ -59,6 +75,16 @@ pub record IsLegalRead {R : Type 0} (remaining : R → Option (List ℕ)) (old n
   pub bytes : List ℕ
   pub reads : Reads remaining old new bytes
   pub legal : IsLegal bytes order
+
+-- The bytes that the reader gave have no run where the verdict is a no.
+pub record IsRunlessRead {R : Type 0} (remaining : R → Option (List ℕ)) (old new : R) (IsRunless : List ℕ → Type 0) : Type 0 where
+  pub bytes : List ℕ
+  pub reads : Reads remaining old new bytes
+  pub runless : IsRunless bytes
+
+abbrev pub IfNo : Verdict → Type 0 → Type 0
+IfNo (No fault) P = P
+IfNo _ P = Unit {0}
 
 abbrev pub IfYes : Verdict → (List ℕ → Type 0) → Type 0
 IfYes (Yes events order) P = P order.items

@@ -7,12 +7,13 @@ ghost use Rattle.lf_config.specs.Configuration.{Tells, configuration_of};
 ghost use Rattle.lf_verdict.specs.declared.answer.Verdict.{Verdict};
 ghost use Rattle.lf_verdict.specs.Verdict.{IsWorkerCount, IsJudged, IsVerdictOf};
 ghost use Rattle.lf_verdict.specs.Legal.{IsLegal};
-ghost use Rattle.lf_verdict.specs.Configured.{IsVerdictFor, IsLegalFor};
+ghost use Rattle.lf_verdict.specs.Laws.{IsRunlessNo};
+ghost use Rattle.lf_verdict.specs.Configured.{IsVerdictFor, IsLegalFor, IsRunlessNoFor};
 ghost use Rattle.lf_verdict.specs.declared.answer.Refusal.{Refusal};
 ghost use Rattle.score.specs.Counted.{calls_of, failures_of, inner_of};
 ghost use Rattle.score.specs.declared.fault.RunFault.{RunFault};
 ghost use Rattle.score.specs.Line.{line_of};
-ghost use Rattle.score.specs.Run.{outcome_line, GaveSound, IfYes, IsAsked, IsRefusedFirst, IsVerdictOfRead, IsLegalRead, IsOutcome, Follows};
+ghost use Rattle.score.specs.Run.{outcome_line, GaveSound, IfYes, IfNo, IsRunlessRead, IsAsked, IsRefusedFirst, IsVerdictOfRead, IsLegalRead, IsOutcome, Follows};
 
 use crate::counted::Counted;
 use crate::fault::RunFault;
@@ -22,7 +23,7 @@ use crate::output::put;
 use lf_codec::{exact_reading, fault_so_far, faults_stand};
 use lf_config::{ConfigFault, read};
 use lf_model::Shape;
-use lf_verdict::{Refusal, Verdict, check_shape};
+use lf_verdict::{Refusal, Session, Verdict, no_has_no_run};
 use std::alloc::{AllocError, Global};
 use std::io::{Read, Write};
 
@@ -53,11 +54,9 @@ fn judge<T: AllocGlobal, R: Read>(
     let Ok(mut buffer) = zeros(rt.alloc(), PIECE) else {
         return Ok(Verdict::Refused(Refusal::Memory));
     };
-    match gather(rt.alloc(), reader, buffer.as_mut_slice(), turns) {
-        Ok(bytes) => {
-            let pieces = [bytes.as_slice()];
-            Ok(check_shape(rt, shape, pieces.as_slice(), workers))
-        }
+    let mut session = Session::for_shape(rt.alloc(), shape);
+    match gather(reader, buffer.as_mut_slice(), &mut session, turns) {
+        Ok(()) => Ok(session.finish()),
         Err(Stop::Memory) => Ok(Verdict::Refused(Refusal::Memory)),
         Err(Stop::Read) => Err(RunFault::Read),
         Err(Stop::Turns) => Err(RunFault::Turns),
@@ -197,6 +196,10 @@ pub fn run_shape<T: AllocGlobal, R: Read, W: Write>(
     ensures legal { IfOk result (λ v. IfYes v (IsLegalRead R.remaining (inner_of reader.old) (inner_of reader.new) (IsLegal shape.now))) }
     ensures legal_whole { IfOk result (λ v. IfSome (R.remaining (inner_of reader.old)) (λ bytes. IfYes v (IsLegal shape.now bytes))) }
 
+    // A no means that the bytes that the reader gave have no run, and so with all that it had.
+    ensures runless { IfOk result (λ v. IfNo v (IsRunlessRead R.remaining (inner_of reader.old) (inner_of reader.new) (λ bytes. IsRunlessNo shape.now bytes v))) }
+    ensures runless_whole { IfOk result (λ v. IfSome (R.remaining (inner_of reader.old)) (λ bytes. IsRunlessNo shape.now bytes v)) }
+
     // The verdict is that of the bytes that the reader gave, and of all that it had.
     ensures verdict { IfOk result (λ v. IsJudged v →
         IsVerdictOfRead R.remaining (inner_of reader.old) (inner_of reader.new) (IsWorkerCount workers) (IsVerdictOf shape.now workers) v) }
@@ -222,6 +225,7 @@ pub fn run_shape<T: AllocGlobal, R: Read, W: Write>(
     exact_reading();
     fault_so_far();
     faults_stand();
+    no_has_no_run();
     let outcome = decide(rt, reader, shape, workers, turns);
     tell(rt.alloc(), writer, outcome)
 }
@@ -255,6 +259,11 @@ pub fn run<T: AllocGlobal, R: Read, W: Write>(
     ensures legal { IfOk result (λ v. IfYes v (IsLegalRead R.remaining (inner_of reader.old) (inner_of reader.new) (IsLegalFor config.now))) }
     ensures legal_whole { IfOk result (λ v. IfSome (R.remaining (inner_of reader.old)) (λ bytes. IfYes v (IsLegalFor config.now bytes))) }
 
+    // A no means that the configuration says a shape for which the bytes that the reader gave have no run, and so with all
+    // that it had.
+    ensures runless { IfOk result (λ v. IfNo v (IsRunlessRead R.remaining (inner_of reader.old) (inner_of reader.new) (λ bytes. IsRunlessNoFor config.now bytes v))) }
+    ensures runless_whole { IfOk result (λ v. IfSome (R.remaining (inner_of reader.old)) (λ bytes. IsRunlessNoFor config.now bytes v)) }
+
     // The verdict is that of the bytes that the reader gave, and of all that it had.
     ensures verdict { IfOk result (λ v. IsJudged v →
         IsVerdictOfRead R.remaining (inner_of reader.old) (inner_of reader.new) (IsAsked config.now workers) (IsVerdictFor config.now workers) v) }
@@ -280,6 +289,7 @@ pub fn run<T: AllocGlobal, R: Read, W: Write>(
     exact_reading();
     fault_so_far();
     faults_stand();
+    no_has_no_run();
     let outcome = decide_configured(rt, reader, config, workers, turns);
     tell(rt.alloc(), writer, outcome)
 }

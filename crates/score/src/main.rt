@@ -17,7 +17,6 @@ mod shape;
 #[cfg(test)]
 mod tests;
 mod trace;
-mod watch;
 
 use command::{CommandFault, Request, asked};
 use configuration::text_in;

@@ -1,5 +1,5 @@
-use Rattle.score.proofs.RunLemmas.{told_whole, told_legal, outcome_told}
-use Rattle.score.proofs.JudgingLemmas.{text_no_fault, text_kept, text_free}
+use Rattle.score.proofs.RunLemmas.{told_whole, told_legal, told_runless, whole_runless, outcome_told}
+use Rattle.score.proofs.JudgingLemmas.{text_no_fault, text_kept, text_free, text_runless, text_nothing}
 use Rattle.score.proofs.engine.run.Goals as goal
 
 pub returns-clause-legal_whole : goal.returns-clause-legal_whole
@@ -14,3 +14,9 @@ pub returns-clause-prefix : goal.returns-clause-prefix
 returns-clause-prefix g c = λ failed.
     let (told, follows, out) = c.tell.ensures.prefix failed in
     (told, outcome_told _ _ _ _ _ _ _ _ told c.decide_configured-outcome.ensures follows, out)
+
+pub returns-clause-runless : goal.returns-clause-runless
+returns-clause-runless g c = told_runless _ _ _ _ _ _ _ (text_runless c.no_has_no_run.ensures _ _) _ _ _ c.decide_configured-outcome.ensures c.tell.ensures.follows
+
+pub returns-clause-runless_whole : goal.returns-clause-runless_whole
+returns-clause-runless_whole g c = whole_runless _ _ _ (text_runless c.no_has_no_run.ensures _ _) (text_nothing _) _ _ (returns-clause-whole g c)

@@ -1,0 +1,13 @@
+use Rattle.std.proofs.Common.{◌≡◌, ℕ, ◌+◌, Option, Some, None, sym, ap, ◌∙◌, subst, refl, arith, rules}
+use Rattle.lf_model.specs.declared.event.Record.{Record}
+use Rattle.lf_logs.specs.Reordering.{Reordering, HasOrdered}
+use Rattle.lf_logs.proofs.Reordered.{HasOrdered-pass}
+use Rattle.lf_logs.proofs.reorder.Reorder.pass.Goals as goal
+
+pub returns-clause-passed : goal.returns-clause-passed
+returns-clause-passed c = λ _ put gave has absent.
+    let turn : c.args.item.now.number ≡ c.self.inside.next = search rules in
+    let nothing : c.self.inside.ready ≡ None = search rules in
+    let own : c.args.item.now.number ≡ c.args.self.now.next = turn ∙ ap (λ (o : Reordering). o.next) c.self.view_is in
+    (own ∙ has.next, HasOrdered-pass c.args.self.now put gave has c.args.item.now _ (omega arith) own (sym (ap (λ (o : Reordering). o.ready) c.self.view_is) ∙ nothing) absent
+        (ap (λ (o : Reordering). record o { next = o.next + 1 }) c.self.view_is))

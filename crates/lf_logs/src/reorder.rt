@@ -1,0 +1,210 @@
+//! A bank's records, put into the order of their numbers as they come.
+
+ghost use Rattle.std.specs.Prelude.{◌≡◌, ◌≢◌, ◌≤◌, ◌<◌, ◌^◌, ℕ, List, [], ◌∷◌, ◌++◌, length, option_to_list, is_some, IsTrue, None, Some, OnOk, OnErr, IfSome, IfNone};
+ghost use Rattle.lf_model.specs.declared.event.Record.{Record};
+ghost use Rattle.lf_model.specs.Numbers.{numbers_of, times, IsMissing, IsWhole};
+ghost use Rattle.lf_logs.specs.Places.{IsNumberFault};
+ghost use Rattle.lf_logs.specs.Reordering.{first_with, early_at, waiting_at, waiting_count, has_come, least_double, HasOrdered};
+
+use crate::order::NumberFault;
+use lf_model::{NoMemory, Record};
+use std::alloc::Global;
+use std::collections::BTreeMap;
+use std::marker::Model;
+
+/// Takes a bank's records as they come and gives them in the order of their numbers, each as soon as
+/// all before it are there. It keeps those alone that came before their turn.
+#[derive(Drop)]
+pub struct Reorder {
+    bank: u8,
+    /// The number of the next record that is given out.
+    next: u64,
+    /// The record of that number, where it came in its turn.
+    ready: Option<Record>,
+    /// The records that came before their turn.
+    early: BTreeMap<u32, Record>,
+    /// The least number that came more than once.
+    double: Option<u32>,
+}
+
+impl Model for Reorder {
+    ghost use Rattle.lf_logs.specs.Reordering.{Reordering, IsInTurn};
+
+    ghost Value = { Reordering };
+
+    ghost view = { λ o. record { bank = o.bank; next = o.next; ready = o.ready; early = o.early.entries; double = o.double } };
+
+    ghost invariant = { λ o. IsInTurn o.next o.ready };
+}
+
+impl Reorder {
+    /// No record was put in.
+    pub fn new(alloc: Global, bank: u8) -> Reorder
+        ensures bank { result.bank ≡ bank }
+        ensures nothing { HasOrdered result [] [] }
+    {
+        Reorder {
+            bank,
+            next: 0,
+            ready: None,
+            early: BTreeMap::new(alloc),
+            double: None,
+        }
+    }
+
+    /// Whether a record that waits for its turn has this number.
+    fn waits(&self, number: u32) -> bool
+        ensures { result ≡ is_some (waiting_at self.now number) }
+    {
+        if u64::from(number) == self.next && self.ready.is_some() {
+            return true;
+        }
+        self.early.contains_key(&number)
+    }
+
+    /// Whether a record of this number came.
+    fn has_come(&self, number: u32) -> bool
+        ensures { result ≡ has_come self.now number }
+    {
+        u64::from(number) < self.next || self.waits(number)
+    }
+
+    fn note_double(&mut self, number: u32)
+        ensures { self.new ≡ record self.old { double = least_double self.old.double number } }
+    {
+        match self.double {
+            Some(least) if least <= number => {}
+            _ => self.double = Some(number),
+        }
+    }
+
+    /// Passes the record on where its turn has come: it counts as put in and given out, and nothing is
+    /// kept of it. It takes no memory.
+    pub fn pass(&mut self, item: &Record) -> bool
+        ensures bank { self.new.bank ≡ self.old.bank }
+        ensures passed { IsTrue result → (put : List Record) (gave : List Record) → HasOrdered self.old put gave → first_with (length gave) put ≡ None
+            → (item.now.number ≡ length gave) × HasOrdered self.new (put ++ item.now ∷ []) (gave ++ item.now ∷ []) }
+        ensures unchanged { ¬ IsTrue result → self.new ≡ self.old }
+        ensures early { ¬ IsTrue result → (put : List Record) (gave : List Record) → HasOrdered self.old put gave → first_with (length gave) put ≡ None
+            → ¬ (item.now.number ≡ length gave) }
+    {
+        if u64::from(item.number) != self.next || self.ready.is_some() {
+            return false;
+        }
+        self.next += 1;
+        true
+    }
+
+    /// Takes a record of the bank. Of the records of one number the first that comes is used.
+    /// `NoMemory` where a growth was refused, and nothing has changed then.
+    pub fn put(&mut self, item: Record) -> Result<(), NoMemory>
+        requires { item.bank ≡ self.old.bank }
+        ensures bank { self.new.bank ≡ self.old.bank }
+        ensures unchanged { OnErr result (self.new ≡ self.old) }
+        ensures put { (put : List Record) (gave : List Record) → HasOrdered self.old put gave
+            → OnOk result (HasOrdered self.new (put ++ item ∷ []) gave) }
+    {
+        let number = item.number;
+        if self.has_come(number) {
+            self.note_double(number);
+            return Ok(());
+        }
+        if u64::from(number) == self.next {
+            self.ready = Some(item);
+            return Ok(());
+        }
+        match self.early.insert(number, item) {
+            Ok(_) => Ok(()),
+            Err(_) => Err(NoMemory),
+        }
+    }
+
+    /// Takes the record whose turn it is from those that came early.
+    fn take_early(&mut self) -> Option<Record>
+        ensures found { self.old.next < 2 ^ 32 → result ≡ early_at self.old self.old.next }
+        ensures none { IfNone result (self.new ≡ self.old) }
+        ensures some { IfSome result (λ _. self.old.next < 2 ^ 32) }
+        ensures rest { self.new ≡ record self.old { early = self.new.early } }
+        ensures others { (k : ℕ) → ¬ (k ≡ self.old.next) → early_at self.new k ≡ early_at self.old k }
+        ensures fewer { IfSome result (λ _. length self.new.early < length self.old.early) }
+    {
+        if self.next > u64::from(u32::MAX) {
+            return None;
+        }
+        self.early.remove(&(self.next as u32))
+    }
+
+    /// Takes the record whose turn it is.
+    fn take_next(&mut self) -> Option<Record>
+        ensures found { self.old.next < 2 ^ 32 → result ≡ waiting_at self.old self.old.next }
+        ensures none { IfNone result (self.new ≡ self.old) }
+        ensures some { IfSome result (λ _. self.old.next < 2 ^ 32) }
+        ensures rest { IfSome result (λ _. self.new ≡ record self.old { ready = None; early = self.new.early }) }
+        ensures others { (k : ℕ) → ¬ (k ≡ self.old.next) → early_at self.new k ≡ early_at self.old k }
+        ensures fewer { IfSome result (λ _. waiting_count self.new < waiting_count self.old) }
+    {
+        match self.ready.take() {
+            Some(item) => Some(item),
+            None => self.take_early(),
+        }
+    }
+
+    /// The record with the bank's next number, as soon as it is there. It takes no memory.
+    pub fn next(&mut self) -> Option<Record>
+        ensures bank { self.new.bank ≡ self.old.bank }
+        ensures gives { (put : List Record) (gave : List Record) → HasOrdered self.old put gave
+            → HasOrdered self.new put (gave ++ option_to_list result) }
+        ensures there { (put : List Record) (gave : List Record) → HasOrdered self.old put gave
+            → result ≡ first_with (length gave) put }
+        ensures fewer { IfSome result (λ _. waiting_count self.new < waiting_count self.old) }
+    {
+        let item = self.take_next()?;
+        self.next += 1;
+        Some(item)
+    }
+
+    /// The least number that is missing below a greater one.
+    fn missing(&self) -> Option<u32>
+        ensures some { (put : List Record) (gave : List Record) → HasOrdered self.now put gave
+            → IfSome result (λ k. IsMissing (numbers_of put) k × ((j : ℕ) → j < k → 0 < times j (numbers_of put))) }
+        ensures none { (put : List Record) (gave : List Record) → HasOrdered self.now put gave
+            → IfNone result ((k : ℕ) → ¬ IsMissing (numbers_of put) k) }
+    {
+        let Some((greatest, _)) = self.early.last_key_value() else {
+            return None;
+        };
+        for number in self.next..u64::from(*greatest) {
+            if !self.waits(number as u32) {
+                return Some(number as u32);
+            }
+        }
+        None
+    }
+
+    /// The least number that is missing below a greater one or that came more than once, of the
+    /// records put in so far. It takes no memory.
+    pub fn fault(&self) -> Option<NumberFault>
+        ensures fault { (put : List Record) (gave : List Record) → HasOrdered self.now put gave
+            → IfSome result (IsNumberFault (numbers_of put)) }
+        ensures whole { (put : List Record) (gave : List Record) → HasOrdered self.now put gave
+            → IfNone result (IsWhole (numbers_of put)) }
+        ensures memory { result ≢ Some NumberFault.NoMemory }
+    {
+        let Some(k) = self.missing() else {
+            return match self.double {
+                None => None,
+                Some(double) => Some(NumberFault::Double(double)),
+            };
+        };
+        match self.double {
+            None => Some(NumberFault::Missing(k)),
+            Some(double) => {
+                if double < k {
+                    Some(NumberFault::Double(double))
+                } else {
+                    Some(NumberFault::Missing(k))
+                }
+            }
+        }
+    }
+}

@@ -1,0 +1,224 @@
+-- What a session takes from its reader, and what it answers.
+use Rattle.std.proofs.Common.{◌≡◌, ℕ, zero, suc, ◌+◌, ◌-◌, ◌<◌, ◌≤◌, ◌^◌, Bool, true, false, cond, List, [], ◌∷◌, ◌++◌, length, Option, Some, None, Result, Ok, Err, refl, sym, ap, ◌∙◌, subst, ◌⊎◌, inl, inr, ⊎_elim, arith}
+use Rattle.std.specs.Prelude.{◌==◌, slice_index}
+use Rattle.std.specs.List.{AllByRecursion}
+use Rattle.std.proofs.lemmas.List.{append-nil, append_assoc, length-append, take-append-le, get_or_append_left, get_or-append_right}
+use Rattle.std.proofs.lemmas.List.Elements.{filter-append}
+use Rattle.std.proofs.lemmas.Bool.{cond-true, eq-eqb}
+use Rattle.lf_model.specs.declared.shape.Shape.{Shape}
+use Rattle.lf_model.specs.declared.event.Record.{Record}
+use Rattle.lf_model.specs.Address.{flat_memory}
+use Rattle.lf_model.specs.Fits.{Bytes, FitsRecord, Fits}
+use Rattle.lf_model.specs.Run.{of_log}
+use Rattle.lf_codec.specs.declared.header.Header.{Header}
+use Rattle.lf_codec.specs.declared.fault.CodecFault.{CodecFault}
+use Rattle.lf_codec.specs.declared.fault.Told.{Told}
+use Rattle.lf_codec.specs.Laws.{WhatIsReadFits, ReadingIsExact, FaultsStand, HeaderIsOfItsBytes, header_if, AreBytes}
+use Rattle.lf_codec.specs.Checks.{judged, header_checks}
+use Rattle.lf_codec.specs.declared.fault.CodecCause.TheVariants.{NoMemory}
+use Rattle.std.proofs.Common.{take}
+use Rattle.std.proofs.lemmas.Bool.{cases_lt}
+use Rattle.lf_verdict.proofs.Pieces.{fault_told}
+use Rattle.lf_codec.specs.Reading.{Reading, nothing_read, reading_of, fault_of, fault_so_far, trace_fault, header_now, header_of}
+use Rattle.lf_codec.specs.Reader.{HasRead, RanOut, told}
+use Rattle.lf_codec.specs.Trace.{IsTrace}
+use Rattle.lf_verdict.specs.declared.answer.Verdict.TheVariants.{Refused}
+use Rattle.lf_verdict.specs.declared.answer.HeaderField.{HeaderField}
+use Rattle.lf_verdict.specs.declared.intake.Intake.{Intake}
+use Rattle.lf_verdict.specs.declared.intake.Stop.{Stop}
+use Rattle.lf_verdict.specs.declared.intake.Stop.TheVariants as stops
+use Rattle.lf_verdict.specs.declared.standing.Standing.{Standing}
+use Rattle.lf_verdict.specs.Legal.{Agrees, IsTraceFor}
+use Rattle.lf_verdict.specs.Judging.{IsAnswer}
+use Rattle.lf_verdict.specs.Reading.{IsFaultOrWant, fault_in}
+use Rattle.lf_verdict.specs.Standing.{MayCome, IsShort, logs_so_far}
+use Rattle.lf_verdict.specs.Session.{IsRunning, IsOfAnotherHeader, IsJudging, HasJudged, IsAt, HasTaken, IsLacking, IsDrained, HasFed, refusal_of, stop_told, refusal_in, IsRefusalSoFar, IsStopOf}
+use Rattle.lf_verdict.specs.declared.answer.Refusal.{Refusal}
+use Rattle.lf_codec.specs.declared.fault.Told.TheVariants as tolds
+use Rattle.std.specs.Prelude.{IsSome}
+use Rattle.lf_verdict.specs.declared.intake.Judging.{Judging}
+use Rattle.lf_verdict.specs.declared.intake.Judging.TheVariants.{Waiting, Running, Another}
+use Rattle.lf_model.specs.InRange.{IsShape}
+use Rattle.lf_verdict.specs.Verdict.{Differs, IsOfAnother}
+
+-- ---- the next record may come
+
+middle : (P : Record → Type 0) (xs : List Record) (r : Record) (ys : List Record) → AllByRecursion P (xs ++ r ∷ ys) → P r
+middle P [] r ys all = all.0
+middle P (x ∷ xs) r ys all = middle P xs r ys all.1
+
+one_of_log : (xs : List Record) (r : Record) (ys : List Record) → length (of_log r.log xs) < length (of_log r.log (xs ++ r ∷ ys))
+one_of_log xs r ys =
+    let whole = filter-append (λ (x : Record). x.log == r.log) xs (r ∷ ys) in
+    let own = cond-true (r.log == r.log) (r ∷ of_log r.log ys) (of_log r.log ys) (eq-eqb r.log r.log refl) in
+    omega (arith, ap length whole, length-append (of_log r.log xs) (of_log r.log (r ∷ ys)), ap length own)
+
+fits_here : (shape : Shape) (h : Header) (r : Record) → Agrees shape h → FitsRecord h.ports h.banks h.block r → Fits shape r
+fits_here shape h r agrees fits =
+    subst (λ n. FitsRecord shape.ports shape.banks n r) agrees.block
+    (subst (λ n. FitsRecord shape.ports n h.block r) agrees.banks
+    (subst (λ n. FitsRecord n h.banks h.block r) agrees.ports fits))
+
+pub may_come : WhatIsReadFits → (shape : Shape) (bytes : List ℕ) (memory : List (ℕ × Bytes)) (records : List Record) (r : Reading) (running : Standing) (item : Record) (rest : List Record)
+    → HasRead r bytes memory records → IsRunning shape bytes memory records running → r.records ≡ item ∷ rest → MayCome shape records item
+may_come law shape bytes memory records r running item rest read run next =
+    let fits = law bytes run.header read.are_bytes run.read in
+    let all : (reading_of bytes).records ≡ records ++ item ∷ rest = ap (λ (q : Reading). q.records) read.same ∙ ap (λ (xs : List Record). records ++ xs) next in
+    record {
+      fits = fits_here shape run.header item run.agrees
+          (middle (FitsRecord run.header.ports run.header.banks run.header.block) records item rest (subst (AllByRecursion (FitsRecord run.header.ports run.header.banks run.header.block)) all fits.each));
+      room = omega (arith, one_of_log records item rest, ap (λ (xs : List Record). length (of_log item.log xs)) all, fits.logs item.log);
+    }
+
+-- ---- what a session answers
+
+pub stopped : (s : Intake) (shape : Shape) (bytes : List ℕ) (stop : Stop) → IsAt s bytes (Some stop) → IsAnswer shape bytes (Refused (refusal_of stop))
+stopped s shape bytes (stops.Format fault) at = ap (fault_of (reading_of bytes)) at.0
+stopped s shape bytes stops.Memory at = tt
+
+pub told_stop : (shape : Shape) (bytes : List ℕ) (fault : CodecFault) (stop : Stop) → IsFaultOrWant bytes fault → IsStopOf fault stop → IsAnswer shape bytes (Refused (refusal_of stop))
+told_stop shape bytes fault (stops.Format told) either is = ⊎_elim (λ want. absurd (is.1 want)) (λ e. e ∙ ap Some (sym is.0)) either
+told_stop shape bytes fault stops.Memory either is = tt
+
+module _ (exact : ReadingIsExact) (shape : Shape) (bytes : List ℕ) (are_bytes : (i : ℕ) → slice_index bytes i < 256) (h : Header) (memory left : List (ℕ × Bytes)) (records rest : List Record) (trace : IsTrace bytes h (memory ++ left) (records ++ rest)) where
+  same_header : (header : Header) → header_of bytes ≡ Some header → header ≡ h
+  same_header header read =
+      let read_as = (exact bytes h (memory ++ left) (records ++ rest) are_bytes).1 trace in
+      let one : Some header ≡ Some h = sym read ∙ read_as.1 in cc
+
+  pub another : (field : HeaderField) → IsOfAnotherHeader shape bytes field → IsOfAnother shape bytes field
+  another field other = record {
+    header = h;
+    memory = memory ++ left;
+    records = records ++ rest;
+    trace = trace;
+    differs = subst (λ (g : Header). Differs shape g field) (same_header other.header other.read) other.differs;
+  }
+
+  module _ (running : Standing) (run : IsRunning shape bytes memory records running) (drained : rest ≡ []) where
+    none_left : left ≡ []
+    none_left =
+        let one = same_header run.header run.read in
+        empty left (omega (arith, trace.fits.memory_count, length-append memory left, run.whole, ap (λ (g : Header). g.memory_count) one))
+      where
+        empty : (xs : List (ℕ × Bytes)) → length xs ≡ 0 → xs ≡ []
+        empty [] e = refl
+        empty (x ∷ xs) e = absurd (omega arith)
+
+    whole_trace : IsTrace bytes h memory records
+    whole_trace =
+        subst (λ (rs : List Record). IsTrace bytes h memory rs) (ap (λ (xs : List Record). records ++ xs) drained ∙ append-nil records)
+        (subst (λ (m : List (ℕ × Bytes)). IsTrace bytes h m (records ++ rest)) (ap (λ (xs : List (ℕ × Bytes)). memory ++ xs) none_left ∙ append-nil memory) trace)
+
+    pub trace_for : IsTraceFor shape bytes memory (logs_so_far shape records)
+    trace_for = record {
+      header = h;
+      records = records;
+      trace = whole_trace;
+      agrees = subst (Agrees shape) (same_header run.header run.read) run.agrees;
+      are_logs = refl;
+    }
+
+    pub short_logs : IsShape shape → IsShort shape records
+    short_logs in_range = record { in_range = in_range; short = whole_trace.fits.logs }
+
+-- while the session waits, no memory matters
+pub waiting_any : (shape : Shape) (bytes : List ℕ) (a b : List (ℕ × Bytes)) (records : List Record) (judging : Judging) → judging ≡ Waiting → IsJudging shape bytes a records judging → IsJudging shape bytes b records judging
+waiting_any shape bytes a b records judging e h =
+    subst (λ (j : Judging). IsJudging shape bytes b records j) (sym e) (subst (λ (j : Judging). IsJudging shape bytes a records j) e h)
+
+-- what a session that nothing stopped has taken
+pub going : (s : Intake) (bytes : List ℕ) → s.stop ≡ None → HasFed s bytes → HasTaken s bytes × IsDrained s.judging s.reader s.memory.items
+going s bytes e fed = subst (λ (stop : Option Stop). IsAt s bytes stop) e fed
+
+-- ---- what stands in the bytes so far
+
+-- a session that nothing stopped was fed bytes without a fault
+pub no_fault_so_far : (s : Intake) (bytes : List ℕ) → s.stop ≡ None → HasFed s bytes → fault_so_far bytes ≡ None
+no_fault_so_far s bytes e fed =
+    let m = (going s bytes e fed).0 in
+    ap (λ (q : Reading). q.fault) m.1.read.same ∙ m.1.fine
+
+pub refusal_so_far : (s : Intake) (bytes : List ℕ) (stop : Stop) → IsAt s bytes (Some stop) → IsRefusalSoFar bytes (refusal_of stop)
+refusal_so_far s bytes (stops.Format fault) at = at.0
+refusal_so_far s bytes stops.Memory at = tt
+
+-- what a feed that succeeded, and one that did not, says of the bytes
+pub fed_fine : (s : Intake) (bytes : List ℕ) (old new : Option Stop) → s.stop ≡ new → Ok tt ≡ stop_told old new → HasFed s bytes → fault_so_far bytes ≡ None
+fed_fine s bytes None None e told fed = no_fault_so_far s bytes e fed
+fed_fine s bytes None (Some stop) e told fed = absurd (cc)
+fed_fine s bytes (Some stop) new e told fed = absurd (cc)
+
+pub fed_fault : (s : Intake) (bytes : List ℕ) (old new : Option Stop) (t : Told Refusal) → s.stop ≡ new → (IsSome old → old ≡ new) → Err t ≡ stop_told old new → HasFed s bytes → IsRefusalSoFar bytes (refusal_in t)
+fed_fault s bytes None None t e same told fed = absurd (cc)
+fed_fault s bytes None (Some stop) t e same told fed =
+    let is : t ≡ tolds.Fault (refusal_of stop) = cc in
+    subst (λ (u : Told Refusal). IsRefusalSoFar bytes (refusal_in u)) (sym is) (refusal_so_far s bytes stop (subst (λ (o : Option Stop). IsAt s bytes o) e fed))
+fed_fault s bytes (Some stop) new t e same told fed =
+    let is : t ≡ tolds.Failed (refusal_of stop) = cc in
+    subst (λ (u : Told Refusal). IsRefusalSoFar bytes (refusal_in u)) (sym is) (refusal_so_far s bytes stop (subst (λ (o : Option Stop). IsAt s bytes o) (e ∙ sym (same refl)) fed))
+
+-- ---- a session that waits
+
+pub new_lacks : (r : Reading) → HasRead r [] [] [] → IsLacking r []
+new_lacks r read =
+    let is : r ≡ nothing_read = sym read.same in
+    record {
+      none = ap (λ (q : Reading). q.memory) is;
+      lacks = λ h e. let none : header_now r ≡ None = ap header_now is in absurd (cc);
+    }
+
+-- bytes that are a whole trace lack nothing
+pub waits_no_more : ReadingIsExact → (bytes : List ℕ) (r : Reading) (h : Header) (memory : List (ℕ × Bytes)) (records : List Record)
+    → HasRead r bytes memory records → IsTrace bytes h (memory ++ r.memory) (records ++ r.records) → IsLacking r memory → ⊥
+waits_no_more exact bytes r h memory records read trace lacking =
+    let read_as = (exact bytes h (memory ++ r.memory) (records ++ r.records) read.are_bytes).1 trace in
+    let here : header_now r ≡ Some h = sym (ap header_now read.same) ∙ read_as.1 in
+    lacking.lacks h here (sym (length-append-nil memory r.memory lacking.none) ∙ sym trace.fits.memory_count)
+  where
+    length-append-nil : (xs ys : List (ℕ × Bytes)) → ys ≡ [] → length (xs ++ ys) ≡ length xs
+    length-append-nil xs ys e = ap (λ (zs : List (ℕ × Bytes)). length (xs ++ zs)) e ∙ ap length (append-nil xs)
+
+-- ---- one feed more
+
+both_bytes : (xs ys : List ℕ) → AreBytes xs → AreBytes ys → AreBytes (xs ++ ys)
+both_bytes xs ys a b i =
+    elim (cases_lt i (length xs)) [
+      | inl lt ↦ rw (get_or_append_left xs ys 0 i lt) (a i)
+      | inr le ↦ rw (get_or-append_right xs ys (length xs) i 0 refl le) (b (i - length xs))
+    ]
+
+pub stop_stays : FaultsStand → (s : Intake) (bytes piece : List ℕ) (stop : Stop) → AreBytes piece → IsAt s bytes (Some stop) → IsAt s (bytes ++ piece) (Some stop)
+stop_stays law s bytes piece (stops.Format fault) fit at = ((law bytes piece fault at.0).so_far, both_bytes bytes piece at.1 fit)
+stop_stays law s bytes piece stops.Memory fit at = tt
+
+pub read_stop : (s : Intake) (old : Option CodecFault) (new : Reading) (bytes : List ℕ) (memory : List (ℕ × Bytes)) (records : List Record) (t : Told CodecFault) (stop : Stop) → old ≡ None → told old new.fault ≡ Err t
+    → HasRead new bytes memory records ⊎ RanOut new bytes memory records → IsStopOf (fault_in t) stop → IsAt s bytes (Some stop)
+read_stop s old new bytes memory records t (stops.Format fault) fine e either is =
+    let here : new.fault ≡ Some (fault_in t) = fault_told new.fault t (sym (ap (λ (f : Option CodecFault). told f new.fault) fine) ∙ e) in
+    ⊎_elim
+    (λ (has : HasRead new bytes memory records). (ap (λ (q : Reading). q.fault) has.same ∙ here ∙ ap Some (sym is.0), has.are_bytes))
+    (λ (out : RanOut new bytes memory records).
+    let same : Some out.fault ≡ Some (fault_in t) = sym out.failed ∙ here in
+    let one : out.fault ≡ fault_in t = cc in
+    absurd (is.1 (subst (λ (f : CodecFault). f.cause ≡ NoMemory) one out.cause)))
+    either
+read_stop s old new bytes memory records t stops.Memory fine e either is = tt
+
+header_stays : HeaderIsOfItsBytes → (bytes piece : List ℕ) (h : Header) → header_of bytes ≡ Some h → header_of (bytes ++ piece) ≡ Some h
+header_stays law bytes piece h e = elim (cases_lt (length bytes) 16) [
+  | inl lt ↦ let no : Some h ≡ None = sym e ∙ law.fewer bytes lt in absurd (cc)
+  | inr le ↦
+      let long : 16 ≤ length (bytes ++ piece) = omega (arith, length-append bytes piece) in
+      let same : take 16 (bytes ++ piece) ≡ take 16 bytes = take-append-le 16 bytes piece le in
+      law.whole (bytes ++ piece) long ∙ ap (λ (b : List ℕ). header_if (judged (header_checks b)) b) same ∙ sym (law.whole bytes le) ∙ e
+]
+
+pub judged_feed : HeaderIsOfItsBytes → (s : Intake) (bytes piece : List ℕ) (records : List Record) (new : Reading) → HasJudged s bytes records → HasRead new (bytes ++ piece) s.memory.items records → new.fault ≡ None
+    → HasJudged (record s { reader = new }) (bytes ++ piece) records
+judged_feed law s bytes piece records new was read fine = record { in_range = was.in_range; read = read; fine = fine; judging = go s.judging was.judging }
+  where
+    go : (j : Judging) → IsJudging s.shape bytes s.memory.items records j → IsJudging s.shape (bytes ++ piece) s.memory.items records j
+    go Waiting h = h
+    go (Running running) h = record { header = h.header; read = header_stays law bytes piece h.header h.read; agrees = h.agrees; whole = h.whole; stands = h.stands }
+    go (Another field) h = record { header = h.header; read = header_stays law bytes piece h.header h.read; differs = h.differs }

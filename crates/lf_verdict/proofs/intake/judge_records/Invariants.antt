@@ -1,0 +1,14 @@
+use Rattle.std.proofs.Common.{◌≡◌, ℕ, List, length}
+use Rattle.lf_model.specs.declared.shape.Shape.{Shape}
+use Rattle.lf_model.specs.declared.event.Record.{Record}
+use Rattle.lf_model.specs.Fits.{Bytes}
+use Rattle.lf_codec.specs.Reader.{HasRead}
+use Rattle.lf_verdict.specs.Session.{IsRunning}
+use Rattle.lf_verdict.proofs.intake.judge_records.Given as goal
+
+abbrev pub invariant-loop-item : goal.invariant-loop-item
+invariant-loop-item l = (l.reader.fault ≡ l.fn.reader.fault) × ((shape : Shape) (bytes : List ℕ) (memory : List (ℕ × Bytes)) (records : List Record) → HasRead l.fn.reader bytes memory records
+    → IsRunning shape bytes memory records l.fn.standing → (more : List Record) × (HasRead l.reader bytes memory more × IsRunning shape bytes memory more l.standing))
+
+abbrev pub decreases-loop-item : goal.decreases-loop-item
+decreases-loop-item l = length l.reader.records

@@ -1,0 +1,10 @@
+use Rattle.std.proofs.Common.{List}
+use Rattle.lf_model.specs.declared.shape.Shape.{Shape}
+use Rattle.lf_model.specs.declared.event.Record.{Record}
+use Rattle.lf_model.specs.Address.{FlatMemory}
+use Rattle.lf_verdict.specs.Judging.{AreWholeBelow}
+use Rattle.lf_verdict.specs.Standing.{logs_so_far, StandsAfterAll}
+use Rattle.lf_verdict.proofs.standing.Standing.judge_numbers.Given as goal
+
+abbrev pub invariant-loop-bank : goal.invariant-loop-bank
+invariant-loop-bank l = (shape : Shape) (memory : FlatMemory) (records : List Record) → StandsAfterAll shape memory records l.self → AreWholeBelow (logs_so_far shape records) l.bank

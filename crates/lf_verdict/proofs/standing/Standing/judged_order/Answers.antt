@@ -1,0 +1,55 @@
+use Rattle.std.proofs.Common.{◌≡◌, ◌≤◌, ◌^◌, ℕ, List, length, sym, ap, ◌∙◌, subst, arith}
+use Rattle.std.specs.List.{All}
+use Rattle.lf_model.specs.declared.shape.Shape.{Shape}
+use Rattle.lf_model.specs.declared.event.Record.{Record}
+use Rattle.lf_model.specs.Address.{FlatMemory}
+use Rattle.lf_model.specs.Order.{IsLeastOrder}
+use Rattle.lf_model.specs.Ring.{skeletons_of, IsRing}
+use Rattle.lf_join.specs.Join as joins
+use Rattle.lf_join.specs.Join.{BanksAreWhole, IsStuckRing}
+use Rattle.lf_verdict.specs.Standing.{logs_so_far, StandsAfterAll}
+use Rattle.lf_verdict.proofs.Settled.{few_logs, skeletons_short, skeletons_whole}
+use Rattle.lf_verdict.proofs.standing.Standing.judged_order.Goals as goal
+
+pub returns-in-Err-clause-fault : goal.returns-in-Err-clause-fault
+returns-in-Err-clause-fault c shape memory records stands short = c.in-Err.ensures.fault shape memory records stands
+
+pub returns-in-Err-judge_rules-clause-fault : goal.returns-in-Err-judge_rules-clause-fault
+returns-in-Err-judge_rules-clause-fault c shape memory records stands short =
+    c.in-Err-judge_rules.ensures.fault shape memory records stands (c.in_default.ensures.whole shape memory records stands)
+
+pub join-requires-clause-few : goal.join-requires-clause-few
+join-requires-clause-few c =
+    let r = c.requires in
+    omega (arith, ap length c.deref.ensures.value, few_logs r.0 r.1.0 r.1.1.0 c.args.self.now r.1.1.1.0 r.1.1.1.1)
+
+pub join-requires-clause-short : goal.join-requires-clause-short
+join-requires-clause-short c =
+    let r = c.requires in
+    let same = ap joins.lists_of c.deref.ensures.value ∙ r.1.1.1.0.logs in
+    subst (All (λ (entries : List (ℕ × ℕ)). length entries ≤ 2 ^ 20)) (sym same) (skeletons_short r.0 r.1.0 r.1.1.0 c.args.self.now r.1.1.1.0 r.1.1.1.1)
+
+pub join-requires-clause-whole : goal.join-requires-clause-whole
+join-requires-clause-whole c =
+    let r = c.requires in
+    let same = ap joins.lists_of c.deref.ensures.value ∙ r.1.1.1.0.logs in
+    subst BanksAreWhole (sym same) (skeletons_whole r.0 r.1.0 r.1.1.0 c.args.self.now r.1.1.1.0 r.1.1.1.1 (c.in_default.ensures.whole r.0 r.1.0 r.1.1.0 r.1.1.1.0))
+
+pub returns-in-Ok-clause-order : goal.returns-in-Ok-clause-order
+returns-in-Ok-clause-order c shape memory records stands short =
+    let same = ap joins.lists_of c.deref.ensures.value ∙ stands.logs in
+    record {
+      parts = c.in_default-judge_rules.ensures.run shape memory records stands (c.in_default.ensures.whole shape memory records stands);
+      least = subst (λ (ls : List (List (ℕ × ℕ))). IsLeastOrder ls c.in-Ok.order.items) same c.in-Ok.ensures.least;
+    }
+
+pub returns-in-Err-Cycle-clause-fault : goal.returns-in-Err-Cycle-clause-fault
+returns-in-Err-Cycle-clause-fault c shape memory records stands short =
+    let ring = rw c.in-Err-Cycle.field-0-is at c.in-Err-Cycle.ensures.ring in
+    let shown = rw c.in-Err-Cycle.field-0-is at c.in-Err-Cycle.ensures.shown in
+    let same = ap joins.lists_of c.deref.ensures.value ∙ stands.logs in
+    record {
+      parts = c.in_default-judge_rules.ensures.run shape memory records stands (c.in_default.ensures.whole shape memory records stands);
+      stuck = subst (λ (ls : List (List (ℕ × ℕ))). IsStuckRing ls c.in-Err-Cycle.ring.items) same ring;
+      waits = subst (λ (ls : List (List (ℕ × ℕ))). IsRing ls c.in-Err-Cycle.ring.items) same shown;
+    }

@@ -1,0 +1,26 @@
+use Rattle.std.proofs.Common.{◌≡◌, ◌+◌, List, [], sym, ◌∙◌, subst}
+use Rattle.std.specs.Prelude.{replicate}
+use Rattle.lf_model.specs.declared.event.Record.{Record}
+use Rattle.lf_model.specs.Address.{flat_memory}
+use Rattle.lf_model.specs.Run.{of_bank}
+use Rattle.lf_replay.specs.Bytes.{bank_part}
+use Rattle.std.proofs.Common.{get_or}
+use Rattle.lf_verdict.specs.Standing.{IsBankSettled}
+use Rattle.lf_verdict.proofs.Opened.{no_entries, nothing_at, length-nothing}
+use Rattle.lf_verdict.proofs.standing.Standing.new.Goals as goal
+
+pub returns : goal.returns
+returns c =
+    let shape = c.args.shape.now in
+    record {
+      fit = tt;
+      logs = c.in_ok-logs.ensures ∙ no_entries 0 (shape.ports + shape.banks);
+      count_ports = c.in_ok-ports.ensures.count;
+      count_banks = c.in_ok-banks.ensures.count;
+      ports = c.in_ok-ports.ensures.each;
+      given = replicate {A = List Record} shape.banks [];
+      count_given = length-nothing Record shape.banks;
+      banks = λ bank d lt.
+          subst (λ (gave : List Record). IsBankSettled shape (bank_part shape.banks bank (flat_memory c.args.memory.now.items)) bank [] gave (get_or c.in_ok-banks.banks.items bank d))
+          (sym (nothing_at {X = Record} shape.banks bank)) (c.in_ok-banks.ensures.each bank d lt);
+    }

@@ -1,0 +1,121 @@
+-- What a session has seen of a trace.
+use Rattle.std.specs.Prelude.{◌≡◌, ◌≢◌, ℕ, List, [], length, Option, Some, None, Result, Ok, Err}
+use Rattle.lf_model.specs.declared.event.Record.{Record}
+use Rattle.lf_model.specs.declared.shape.Shape.{Shape}
+use Rattle.lf_model.specs.Address.{flat_memory}
+use Rattle.lf_model.specs.Fits.{Bytes}
+use Rattle.lf_model.specs.InRange.{IsShape}
+use Rattle.lf_codec.specs.declared.header.Header.{Header}
+use Rattle.lf_codec.specs.declared.fault.Told.{Told}
+use Rattle.lf_codec.specs.declared.fault.Told.TheVariants as tolds
+use Rattle.lf_codec.specs.Laws.{AreBytes}
+use Rattle.lf_codec.specs.Reading.{Reading, header_now, header_of, fault_so_far}
+use Rattle.lf_codec.specs.Reader.{HasRead}
+use Rattle.lf_verdict.specs.declared.intake.Intake.{Intake}
+use Rattle.lf_verdict.specs.declared.intake.Stop.{Stop}
+use Rattle.lf_verdict.specs.declared.intake.Stop.TheVariants as stops
+use Rattle.lf_verdict.specs.declared.intake.Judging.{Judging}
+use Rattle.lf_verdict.specs.declared.intake.Judging.TheVariants.{Waiting, Running, Another}
+use Rattle.lf_verdict.specs.declared.standing.Standing.{Standing}
+use Rattle.lf_verdict.specs.declared.answer.HeaderField.{HeaderField}
+use Rattle.lf_codec.specs.declared.fault.CodecCause.TheVariants.{NoMemory}
+use Rattle.lf_codec.specs.declared.fault.CodecFault.{CodecFault}
+use Rattle.lf_verdict.specs.declared.answer.Refusal.{Refusal}
+use Rattle.lf_verdict.specs.declared.answer.Refusal.TheVariants as refusals
+use Rattle.lf_verdict.specs.Configured.{IsConfigFault}
+use Rattle.lf_verdict.specs.Legal.{Agrees}
+use Rattle.lf_verdict.specs.Standing.{StandsAfterAll}
+use Rattle.lf_verdict.specs.Verdict.{Differs}
+
+-- The memory is whole and of a header that agrees with the shape, and the parts stand where the records lead.
+pub record IsRunning (shape : Shape) (bytes : List ℕ) (memory : List (ℕ × Bytes)) (records : List Record) (running : Standing) : Type 0 where
+  pub header : Header
+  pub read : header_of bytes ≡ Some header
+  pub agrees : Agrees shape header
+  pub whole : length memory ≡ header.memory_count
+  pub stands : StandsAfterAll shape (flat_memory memory) records running
+
+-- The header is of another hierarchy.
+pub record IsOfAnotherHeader (shape : Shape) (bytes : List ℕ) (field : HeaderField) : Type 0 where
+  pub header : Header
+  pub read : header_of bytes ≡ Some header
+  pub differs : Differs shape header field
+
+-- No record was taken before the memory is whole; from then on each is judged, unless the header is of another hierarchy.
+abbrev pub IsJudging : Shape → List ℕ → List (ℕ × Bytes) → List Record → Judging → Type 0
+IsJudging shape bytes memory records Waiting = records ≡ []
+IsJudging shape bytes memory records (Running running) = IsRunning shape bytes memory records running
+IsJudging shape bytes memory records (Another field) = IsOfAnotherHeader shape bytes field
+
+-- The session was fed these bytes, and took these records from them.
+pub record HasJudged (s : Intake) (bytes : List ℕ) (records : List Record) : Type 0 where
+  pub in_range : IsShape s.shape
+  pub read : HasRead s.reader bytes s.memory.items records
+  pub fine : s.reader.fault ≡ None
+  pub judging : IsJudging s.shape bytes s.memory.items records s.judging
+
+-- ... whichever records they are.
+abbrev pub HasTaken : Intake → List ℕ → Type 0
+HasTaken s bytes = (records : List Record) × HasJudged s bytes records
+
+-- No memory record waits in the reader, and the header is not there or lacks memory records.
+pub record IsLacking (reader : Reading) (memory : List (ℕ × Bytes)) : Type 0 where
+  pub none : reader.memory ≡ []
+  pub lacks : (h : Header) → header_now reader ≡ Some h → ¬ (length memory ≡ h.memory_count)
+
+-- ... where the session waits
+abbrev pub IsLackingIf : Judging → Reading → List (ℕ × Bytes) → Type 0
+IsLackingIf Waiting reader memory = IsLacking reader memory
+IsLackingIf _ reader memory = Unit {0}
+
+-- What can be judged was taken from the reader.
+abbrev pub IsDrained : Judging → Reading → List (ℕ × Bytes) → Type 0
+IsDrained Waiting reader memory = IsLacking reader memory
+IsDrained (Running running) reader memory = reader.records ≡ []
+IsDrained (Another field) reader memory = Unit {0}
+
+-- Nothing stopped the session and it has judged what it can, or a fault that stands in the bytes stopped it, or want of memory.
+abbrev pub IsAt : Intake → List ℕ → Option Stop → Type 0
+IsAt s bytes None = HasTaken s bytes × IsDrained s.judging s.reader s.memory.items
+IsAt s bytes (Some (stops.Format fault)) = (fault_so_far bytes ≡ Some fault) × AreBytes bytes
+IsAt s bytes (Some stops.Memory) = Unit {0}
+
+-- The session was fed these bytes.
+abbrev pub HasFed : Intake → List ℕ → Type 0
+HasFed s bytes = IsAt s bytes s.stop
+
+-- The session was fed some bytes.
+abbrev pub WasFed : Intake → Type 0
+WasFed s = (bytes : List ℕ) × HasFed s bytes
+
+abbrev pub refusal_of : Stop → Refusal
+refusal_of (stops.Format fault) = refusals.Format fault
+refusal_of stops.Memory = refusals.Memory
+
+-- a refusal is told when it is met, and as failed from then on
+abbrev pub stop_told : Option Stop → Option Stop → Result (Unit {0}) (Told Refusal)
+stop_told (Some stop) after = Err (tolds.Failed (refusal_of stop))
+stop_told None (Some stop) = Err (tolds.Fault (refusal_of stop))
+stop_told None None = Ok tt
+
+-- the refusal, however often it was told
+abbrev pub refusal_in : Told Refusal → Refusal
+refusal_in (tolds.Fault refusal) = refusal
+refusal_in (tolds.Failed refusal) = refusal
+
+-- The fault of the format that stands in the bytes so far, whatever comes after them, or want of memory.
+abbrev pub IsRefusalSoFar : List ℕ → Refusal → Type 0
+IsRefusalSoFar bytes (refusals.Format fault) = fault_so_far bytes ≡ Some fault
+IsRefusalSoFar bytes refusals.Memory = Unit {0}
+IsRefusalSoFar bytes _ = ⊥
+
+-- what a fault of the reader stops with
+abbrev pub IsStopOf : CodecFault → Stop → Type 0
+IsStopOf fault (stops.Format told) = (told ≡ fault) × (fault.cause ≢ NoMemory)
+IsStopOf fault stops.Memory = fault.cause ≡ NoMemory
+
+-- a text that is no configuration, or want of memory
+abbrev pub IsConfigRefusal : List ℕ → Refusal → Type 0
+IsConfigRefusal text (refusals.Config fault) = IsConfigFault text fault
+IsConfigRefusal text refusals.Memory = Unit {0}
+IsConfigRefusal text _ = ⊥

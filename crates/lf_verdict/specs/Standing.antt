@@ -1,0 +1,89 @@
+-- How the parts of a trace stand while its records come.
+use Rattle.std.specs.Prelude.{◌≡◌, ℕ, ◌+◌, ◌<◌, ◌≤◌, ◌^◌, List, [], map, length, slice_index_or, None}
+use Rattle.std.specs.List.{AllByRecursion}
+use Rattle.lf_model.specs.declared.shape.Shape.{Shape}
+use Rattle.lf_model.specs.declared.event.Record.{Record}
+use Rattle.lf_model.specs.declared.outcome.Outcome.{Outcome}
+use Rattle.lf_model.specs.declared.outcome.Outcome.TheVariants as outcomes
+use Rattle.lf_model.specs.Address.{FlatMemory}
+use Rattle.lf_model.specs.Fits.{Fits}
+use Rattle.lf_model.specs.InRange.{IsShape}
+use Rattle.lf_model.specs.Order.{log_at}
+use Rattle.lf_model.specs.Outcomes.{first_local}
+use Rattle.lf_model.specs.Ring.{skeletons_of}
+use Rattle.lf_model.specs.Run.{of_log, of_bank, BreaksAt}
+use Rattle.lf_model.specs.Table.{OfPort, OfBank}
+use Rattle.lf_logs.specs.Lists.{logs_of}
+use Rattle.lf_logs.specs.Reordering.{Reordering, first_with, HasOrdered}
+use Rattle.lf_logs.specs.Tags.{PortKept, PortStandsAfter}
+use Rattle.lf_join.specs.Join as joins
+use Rattle.lf_replay.specs.Bytes.{bank_part}
+use Rattle.lf_replay.specs.Step.{BankKept, StandsAfter}
+use Rattle.lf_verdict.specs.declared.port_judge.PortJudge.{PortJudge}
+use Rattle.lf_verdict.specs.declared.bank_judge.BankJudge.{BankJudge}
+use Rattle.lf_verdict.specs.declared.standing.Standing.{Standing}
+
+-- ---- one port
+
+-- Before the first fault the step stands where the records lead; from then on the outcome names that fault.
+abbrev pub IsPortAt : Shape → List Record → PortKept → Outcome → Type 0
+IsPortAt shape rs step outcomes.Passed = PortStandsAfter step shape rs
+IsPortAt shape rs step (outcomes.Broken at rule) = (memory : FlatMemory) → BreaksAt OfPort shape (first_local memory) rs at rule
+IsPortAt shape rs step outcomes.NoMemory = ⊥
+
+-- The port's log so far was judged.
+pub record IsPortJudged (shape : Shape) (port : ℕ) (rs : List Record) (judge : PortJudge) : Type 0 where
+  pub of_port : judge.step.port ≡ port
+  pub judged : IsPortAt shape rs judge.step judge.outcome
+
+-- ---- one bank
+
+-- The same of a bank's records in the order of their numbers.
+abbrev pub IsBankAt : Shape → FlatMemory → ℕ → List Record → BankKept → Outcome → Type 0
+IsBankAt shape memory bank rs step outcomes.Passed = StandsAfter step shape memory bank rs
+IsBankAt shape memory bank rs step (outcomes.Broken number rule) = BreaksAt OfBank shape (first_local memory) rs number rule
+IsBankAt shape memory bank rs step outcomes.NoMemory = ⊥
+
+-- These records of the bank came, and these were judged in the order of their numbers.
+pub record IsBankJudged (shape : Shape) (memory : FlatMemory) (bank : ℕ) (came gave : List Record) (judge : BankJudge) : Type 0 where
+  pub fit : AllByRecursion (Fits shape) came
+  pub named : AllByRecursion (λ r. r.bank ≡ bank) came
+  pub ordered : HasOrdered judge.order came gave
+  pub order_of_bank : judge.order.bank ≡ bank
+  pub of_bank : judge.step.bank ≡ bank
+  pub of_shape : judge.step.kept.shape ≡ shape
+  pub judged : IsBankAt shape memory bank gave judge.step judge.outcome
+
+-- ... and the next one has not come.
+pub record IsBankSettled (shape : Shape) (memory : FlatMemory) (bank : ℕ) (came gave : List Record) (judge : BankJudge) : Type 0 where
+  pub bank_judged : IsBankJudged shape memory bank came gave judge
+  pub drained : first_with (length gave) came ≡ None
+
+-- ---- all of them
+
+-- The record may come next: it fits, and its log has room for it.
+pub record MayCome (shape : Shape) (records : List Record) (r : Record) : Type 0 where
+  pub fits : Fits shape r
+  pub room : length (of_log r.log records) < 2 ^ 20
+
+-- These records of the trace came: each log's entries are kept, each port and each bank was judged as far as its records go.
+pub record StandsAfterAll (shape : Shape) (memory : FlatMemory) (records : List Record) (s : Standing) : Type 0 where
+  pub fit : AllByRecursion (Fits shape) records
+  pub logs : joins.lists_of s.logs.items ≡ skeletons_of (logs_of (shape.ports + shape.banks) records)
+  pub count_ports : length s.ports.items ≡ shape.ports
+  pub count_banks : length s.banks.items ≡ shape.banks
+  pub ports : (port : ℕ) (d : PortJudge) → port < shape.ports → IsPortJudged shape port (of_log port records) (slice_index_or s.ports.items port d)
+  -- what each bank was judged on
+  pub given : List (List Record)
+  pub count_given : length given ≡ shape.banks
+  pub banks : (bank : ℕ) (d : BankJudge) → bank < shape.banks
+      → IsBankSettled shape (bank_part shape.banks bank memory) bank (of_bank bank records) (log_at given bank) (slice_index_or s.banks.items bank d)
+
+-- the logs of the records that came
+abbrev pub logs_so_far : Shape → List Record → List (List Record)
+logs_so_far shape records = logs_of (shape.ports + shape.banks) records
+
+-- The shape is in range, and no log has more records than a trace may have.
+pub record IsShort (shape : Shape) (records : List Record) : Type 0 where
+  pub in_range : IsShape shape
+  pub short : (log : ℕ) → length (of_log log records) ≤ 2 ^ 20

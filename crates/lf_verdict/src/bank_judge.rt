@@ -1,0 +1,87 @@
+//! A bank, judged while its records come.
+
+ghost use Rattle.std.specs.Prelude.{◌≡◌, ◌<◌, ℕ, List, [], ◌∷◌, ◌++◌, length, IfOk, OnOk};
+ghost use Rattle.lf_model.specs.declared.shape.Shape.{Shape};
+ghost use Rattle.lf_model.specs.declared.event.Record.{Record};
+ghost use Rattle.lf_model.specs.Address.{FlatMemory, flat_memory};
+ghost use Rattle.lf_model.specs.Fits.{Fits};
+ghost use Rattle.lf_model.specs.InRange.{IsShape};
+ghost use Rattle.lf_replay.specs.Bytes.{bank_part};
+ghost use Rattle.lf_replay.specs.Step.{IsForStep};
+ghost use Rattle.lf_verdict.specs.Standing.{IsBankAt, IsBankJudged, IsBankSettled};
+
+use lf_logs::Reorder;
+use lf_model::{Memory, NoMemory, Outcome, Record, Shape};
+use lf_replay::{BankFault, Step};
+use std::alloc::Global;
+
+/// A bank, the records that came before their turn, and the first that broke a rule.
+#[derive(Drop)]
+pub struct BankJudge {
+    pub order: Reorder,
+    pub step: Step,
+    pub outcome: Outcome,
+}
+
+impl BankJudge {
+    pub fn new(alloc: Global, shape: &Shape, memory: &Memory, bank: u8) -> Result<BankJudge, NoMemory>
+        requires in_range { IsShape shape.now }
+        requires bank { bank < shape.now.banks }
+        ensures { IfOk result (IsBankSettled shape.now (bank_part shape.now.banks bank (flat_memory memory.now.items)) bank [] []) }
+    {
+        Ok(BankJudge {
+            order: Reorder::new(alloc, bank),
+            step: Step::new(alloc, shape, memory, u32::from(bank))?,
+            outcome: Outcome::Passed,
+        })
+    }
+
+    /// Judges the record whose turn it is, unless an earlier one broke a rule.
+    fn judge(&mut self, item: &Record) -> Result<(), NoMemory>
+        requires { IsForStep self.old.step item.now }
+        ensures order { self.new.order ≡ self.old.order }
+        ensures bank { self.new.step.bank ≡ self.old.step.bank }
+        ensures shape { self.new.step.kept.shape ≡ self.old.step.kept.shape }
+        ensures judged { (shape : Shape) (memory : FlatMemory) (bank : ℕ) (rs : List Record) → item.now.number ≡ length rs
+            → IsBankAt shape memory bank rs self.old.step self.old.outcome
+            → OnOk result (IsBankAt shape memory bank (rs ++ item.now ∷ []) self.new.step self.new.outcome) }
+    {
+        if let Outcome::Passed = self.outcome {
+            match self.step.apply(item) {
+                Ok(()) => {}
+                Err(BankFault::Rule(rule)) => {
+                    self.outcome = Outcome::Broken(item.number, rule);
+                }
+                Err(BankFault::NoMemory) => return Err(NoMemory),
+            }
+        }
+        Ok(())
+    }
+
+    /// Judges the records whose turn has come.
+    fn settle(&mut self) -> Result<(), NoMemory>
+        requires { (shape : Shape) × ((memory : FlatMemory) × ((bank : ℕ) × ((came : List Record) × ((gave : List Record) × IsBankJudged shape memory bank came gave self.old)))) }
+        ensures { (shape : Shape) (memory : FlatMemory) (bank : ℕ) (came : List Record) (gave : List Record) → IsBankJudged shape memory bank came gave self.old
+            → OnOk result ((more : List Record) × IsBankSettled shape memory bank came more self.new) }
+    {
+        while let Some(item) = self.order.next() {
+            self.judge(&item)?;
+        }
+        Ok(())
+    }
+
+    /// Takes a record of the bank, and judges those whose turn has come.
+    pub fn take(&mut self, item: Record) -> Result<(), NoMemory>
+        requires { (shape : Shape) × ((memory : FlatMemory) × ((bank : ℕ) × ((came : List Record) × ((gave : List Record) ×
+            (Fits shape item × ((item.bank ≡ bank) × IsBankSettled shape memory bank came gave self.old)))))) }
+        ensures { (shape : Shape) (memory : FlatMemory) (bank : ℕ) (came : List Record) (gave : List Record) → Fits shape item → item.bank ≡ bank
+            → IsBankSettled shape memory bank came gave self.old
+            → OnOk result ((more : List Record) × IsBankSettled shape memory bank (came ++ item ∷ []) more self.new) }
+    {
+        if self.order.pass(&item) {
+            self.judge(&item)?;
+            return self.settle();
+        }
+        self.order.put(item)
+    }
+}

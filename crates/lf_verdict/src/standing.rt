@@ -1,0 +1,38 @@
+//! The parts of a trace, judged while its records come.
+
+ghost use Rattle.std.specs.Prelude.{◌≡◌, ◌<◌, ℕ, List, [], ◌∷◌, ◌++◌, length, IfOk, OnOk};
+ghost use Rattle.lf_model.specs.declared.shape.Shape.{Shape};
+ghost use Rattle.lf_model.specs.declared.event.Record.{Record};
+ghost use Rattle.lf_model.specs.Address.{FlatMemory, flat_memory};
+ghost use Rattle.lf_model.specs.InRange.{IsShape};
+ghost use Rattle.lf_verdict.specs.Standing.{MayCome, StandsAfterAll};
+
+use crate::bank_judge::BankJudge;
+use crate::halt::push;
+use crate::port_judge::PortJudge;
+use lf_model::{NoMemory, Record, Skeleton};
+
+/// Each log's entries so far, and how each port and each bank stands.
+#[derive(Drop)]
+pub struct Standing {
+    pub logs: Vec<Skeleton>,
+    pub ports: Vec<PortJudge>,
+    pub banks: Vec<BankJudge>,
+}
+
+impl Standing {
+    /// Takes the next record of the trace.
+    pub fn take(&mut self, item: Record) -> Result<(), NoMemory>
+        requires { (shape : Shape) × ((memory : FlatMemory) × ((records : List Record) × (MayCome shape records item × StandsAfterAll shape memory records self.old))) }
+        ensures { (shape : Shape) (memory : FlatMemory) (records : List Record) → MayCome shape records item → StandsAfterAll shape memory records self.old
+            → OnOk result (StandsAfterAll shape memory (records ++ item ∷ []) self.new) }
+    {
+        let log = usize::from(item.log);
+        let at = self.logs[log].len() as u32;
+        push(&mut self.logs[log], (item.bank, item.number))?;
+        if log < self.ports.len() {
+            self.ports[log].take(at, &item);
+        }
+        self.banks[usize::from(item.bank)].take(item)
+    }
+}

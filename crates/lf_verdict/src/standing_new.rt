@@ -1,0 +1,67 @@
+//! The parts of a trace before its first record.
+
+ghost use Rattle.std.specs.Prelude.{◌≡◌, ◌+◌, ◌≤◌, ◌<◌, ℕ, [], IfOk, length, replicate, slice_index_or};
+ghost use Rattle.lf_model.specs.Address.{flat_memory};
+ghost use Rattle.lf_model.specs.InRange.{IsShape};
+ghost use Rattle.lf_join.specs.Join.{lists_of};
+ghost use Rattle.lf_replay.specs.Bytes.{bank_part};
+ghost use Rattle.lf_verdict.specs.declared.port_judge.PortJudge.{PortJudge};
+ghost use Rattle.lf_verdict.specs.declared.bank_judge.BankJudge.{BankJudge};
+ghost use Rattle.lf_verdict.specs.Standing.{IsPortJudged, IsBankSettled, StandsAfterAll};
+
+use crate::bank_judge::BankJudge;
+use crate::halt::push;
+use crate::port_judge::PortJudge;
+use crate::standing::Standing;
+use lf_model::{Memory, NoMemory, Shape, Skeleton};
+use std::alloc::Global;
+
+fn empty_logs(alloc: Global, count: u32) -> Result<Vec<Skeleton>, NoMemory>
+    ensures { IfOk result (λ logs. lists_of logs.items ≡ replicate count []) }
+{
+    let mut logs = Vec::new(alloc);
+    for _ in 0..count {
+        push(&mut logs, Vec::new(alloc))?;
+    }
+    Ok(logs)
+}
+
+fn port_judges(alloc: Global, shape: &Shape) -> Result<Vec<PortJudge>, NoMemory>
+    requires { shape.now.ports ≤ 16 }
+    ensures count { IfOk result (λ judges. length judges.items ≡ shape.now.ports) }
+    ensures each { IfOk result (λ judges. (port : ℕ) (d : PortJudge) → port < shape.now.ports
+        → IsPortJudged shape.now port [] (slice_index_or judges.items port d)) }
+{
+    let mut judges = Vec::new(alloc);
+    for port in 0..shape.ports {
+        push(&mut judges, PortJudge::new(shape, port as u8))?;
+    }
+    Ok(judges)
+}
+
+fn bank_judges(alloc: Global, shape: &Shape, memory: &Memory) -> Result<Vec<BankJudge>, NoMemory>
+    requires { IsShape shape.now }
+    ensures count { IfOk result (λ judges. length judges.items ≡ shape.now.banks) }
+    ensures each { IfOk result (λ judges. (bank : ℕ) (d : BankJudge) → bank < shape.now.banks
+        → IsBankSettled shape.now (bank_part shape.now.banks bank (flat_memory memory.now.items)) bank [] [] (slice_index_or judges.items bank d)) }
+{
+    let mut judges = Vec::new(alloc);
+    for bank in 0..shape.banks {
+        let judge = BankJudge::new(alloc, shape, memory, bank as u8)?;
+        push(&mut judges, judge)?;
+    }
+    Ok(judges)
+}
+
+impl Standing {
+    /// No record has come. `memory` is the whole memory of the trace.
+    pub fn new(alloc: Global, shape: &Shape, memory: &Memory) -> Result<Standing, NoMemory>
+        requires { IsShape shape.now }
+        ensures { IfOk result (StandsAfterAll shape.now (flat_memory memory.now.items) []) }
+    {
+        let logs = empty_logs(alloc, shape.ports + shape.banks)?;
+        let ports = port_judges(alloc, shape)?;
+        let banks = bank_judges(alloc, shape, memory)?;
+        Ok(Standing { logs, ports, banks })
+    }
+}

@@ -1,0 +1,132 @@
+//! The verdict of a trace whose records have all come.
+
+ghost use Rattle.std.specs.Prelude.{◌≡◌, ◌+◌, ◌≤◌, ◌<◌, ◌^◌, ℕ, List, map, length, IfOk, IfErr, OnOk, IfSome, IfNone};
+ghost use Rattle.lf_model.specs.declared.shape.Shape.{Shape};
+ghost use Rattle.lf_model.specs.declared.event.Record.{Record};
+ghost use Rattle.lf_model.specs.Address.{FlatMemory};
+ghost use Rattle.lf_model.specs.Run.{of_log};
+ghost use Rattle.lf_logs.specs.Lists.{logs_of};
+ghost use Rattle.lf_verdict.specs.Parts.{PartsRun};
+ghost use Rattle.lf_verdict.specs.Judging.{IsHalt, AreWholeBelow, IsOrderOf, IsLogsVerdict, IsFirstBroken, NoneBroken};
+ghost use Rattle.lf_verdict.specs.Standing.{logs_so_far, IsShort, StandsAfterAll};
+
+use crate::answer::{Fault, Refusal, Verdict};
+use crate::bank_judge::BankJudge;
+use crate::halt::Halt;
+use crate::numbers::number_halt;
+use crate::parts::Broken;
+use crate::port_judge::PortJudge;
+use crate::standing::Standing;
+use lf_join::{JoinFault, join};
+use lf_model::Outcome;
+use std::alloc::Global;
+
+fn first_broken_port(ports: &[PortJudge]) -> Option<Broken>
+    requires { length ports.now ≤ 16 }
+    ensures some { IfSome result (IsFirstBroken (map (λ judge. judge.outcome) ports.now)) }
+    ensures none { IfNone result (NoneBroken (map (λ judge. judge.outcome) ports.now) (length ports.now)) }
+{
+    for (part, judge) in ports.iter().enumerate() {
+        if let Outcome::Broken(at, rule) = judge.outcome {
+            return Some(Broken {
+                part: part as u8,
+                at,
+                rule,
+            });
+        }
+    }
+    None
+}
+
+fn first_broken_bank(banks: &[BankJudge]) -> Option<Broken>
+    requires { length banks.now ≤ 16 }
+    ensures some { IfSome result (IsFirstBroken (map (λ judge. judge.outcome) banks.now)) }
+    ensures none { IfNone result (NoneBroken (map (λ judge. judge.outcome) banks.now) (length banks.now)) }
+{
+    for (part, judge) in banks.iter().enumerate() {
+        if let Outcome::Broken(at, rule) = judge.outcome {
+            return Some(Broken {
+                part: part as u8,
+                at,
+                rule,
+            });
+        }
+    }
+    None
+}
+
+impl Standing {
+    /// The least number of the lowest bank that is missing or double.
+    fn judge_numbers(&self) -> Result<(), Halt>
+        requires { length self.now.banks.items ≤ 16 }
+        ensures whole { (shape : Shape) (memory : FlatMemory) (records : List Record) → StandsAfterAll shape memory records self.now
+            → OnOk result (AreWholeBelow (logs_so_far shape records) shape.banks) }
+        ensures fault { (shape : Shape) (memory : FlatMemory) (records : List Record) → StandsAfterAll shape memory records self.now
+            → IfErr result (IsHalt shape memory (logs_so_far shape records)) }
+    {
+        for (bank, judge) in self.banks.iter().enumerate() {
+            if let Some(fault) = judge.order.fault() {
+                return Err(number_halt(bank as u8, fault));
+            }
+        }
+        Ok(())
+    }
+
+    /// The lowest port that is broken, then the lowest bank.
+    fn judge_rules(&self) -> Result<(), Halt>
+        requires ports { length self.now.ports.items ≤ 16 }
+        requires banks { length self.now.banks.items ≤ 16 }
+        ensures run { (shape : Shape) (memory : FlatMemory) (records : List Record) → StandsAfterAll shape memory records self.now
+            → AreWholeBelow (logs_so_far shape records) shape.banks → OnOk result (PartsRun shape memory (logs_so_far shape records)) }
+        ensures fault { (shape : Shape) (memory : FlatMemory) (records : List Record) → StandsAfterAll shape memory records self.now
+            → AreWholeBelow (logs_so_far shape records) shape.banks → IfErr result (IsHalt shape memory (logs_so_far shape records)) }
+    {
+        if let Some(Broken { part, at, rule }) = first_broken_port(&self.ports) {
+            let port = part;
+            return Err(Halt::Found(Fault::Port { port, at, rule }));
+        }
+        if let Some(Broken { part, at, rule }) = first_broken_bank(&self.banks) {
+            let (bank, number) = (part, at);
+            return Err(Halt::Found(Fault::Bank { bank, number, rule }));
+        }
+        Ok(())
+    }
+
+    /// The least order of the logs. Numbers are judged first, then the ports, then the banks, then
+    /// whether the logs wait for one another.
+    fn judged_order(&self, alloc: Global) -> Result<Vec<u8>, Halt>
+        requires { (shape : Shape) × ((memory : FlatMemory) × ((records : List Record) × (StandsAfterAll shape memory records self.now × IsShort shape records))) }
+        ensures order { (shape : Shape) (memory : FlatMemory) (records : List Record) → StandsAfterAll shape memory records self.now → IsShort shape records
+            → IfOk result (λ order. IsOrderOf shape memory (logs_so_far shape records) order.items) }
+        ensures fault { (shape : Shape) (memory : FlatMemory) (records : List Record) → StandsAfterAll shape memory records self.now → IsShort shape records
+            → IfErr result (IsHalt shape memory (logs_so_far shape records)) }
+    {
+        if let Err(halt) = self.judge_numbers() {
+            return Err(halt);
+        }
+        if let Err(halt) = self.judge_rules() {
+            return Err(halt);
+        }
+        match join(alloc, &self.logs) {
+            Ok(order) => Ok(order),
+            Err(JoinFault::Cycle(ring)) => Err(Halt::Found(Fault::Cycle(ring))),
+            Err(JoinFault::NoMemory) => Err(Halt::NoMemory),
+        }
+    }
+
+    /// The verdict of the records so far, as those of a whole trace.
+    pub fn verdict(&self, alloc: Global) -> Verdict
+        requires { (shape : Shape) × ((memory : FlatMemory) × ((records : List Record) × (StandsAfterAll shape memory records self.now × IsShort shape records))) }
+        ensures { (shape : Shape) (memory : FlatMemory) (records : List Record) → StandsAfterAll shape memory records self.now → IsShort shape records
+            → IsLogsVerdict shape memory (logs_so_far shape records) result }
+    {
+        match self.judged_order(alloc) {
+            Ok(order) => Verdict::Yes {
+                events: order.len() as u32,
+                order,
+            },
+            Err(Halt::Found(fault)) => Verdict::No(fault),
+            Err(Halt::NoMemory) => Verdict::Refused(Refusal::Memory),
+        }
+    }
+}
