@@ -3,6 +3,7 @@ mod Counting
 mod Joined
 mod Judged
 mod Members
+mod NoneBusy
 mod Ordered
 mod Placing
 mod PortRun
