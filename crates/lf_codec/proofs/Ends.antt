@@ -3,7 +3,6 @@ use Rattle.std.proofs.Common.{◌≡◌, ℕ, ◌-◌, List, [], ◌∷◌, ◌+
 use Rattle.std.specs.Prelude.{◌==◌}
 use Rattle.std.proofs.lemmas.Bool.{cond_both}
 use Rattle.std.proofs.lemmas.List.{length-take-le, take-append-drop}
-use Rattle.lf_model.specs.declared.event.Record.{Record}
 use Rattle.lf_codec.specs.declared.header.Header.{Header}
 use Rattle.lf_codec.specs.declared.fault.CodecCause.{CodecCause}
 use Rattle.lf_codec.specs.declared.fault.CodecCause.TheVariants.{Trailing}
@@ -14,10 +13,10 @@ use Rattle.lf_codec.specs.declared.stage.Found.{Found}
 use Rattle.lf_codec.specs.declared.stage.Found.TheVariants as found
 use Rattle.lf_codec.specs.declared.progress.Progress.{Progress}
 use Rattle.lf_codec.specs.Checks.{judged, byte_at, header_checks, stage_checks}
-use Rattle.lf_codec.specs.Steps.{stage_len, header_at, head_at, event_at, data_len, at_next, within, past_record, advanced}
+use Rattle.lf_codec.specs.Steps.{stage_len, header_at, head_at, at_next, past_head, advanced}
 use Rattle.lf_codec.specs.Reading.{Reading, reading_of, read_on, byte_read, byte_unless, stepped_if, failed, nothing_read, end_of, truncated_at, fault_of, fault_so_far, trace_fault, header_of, header_now, header_unless}
 use Rattle.lf_codec.specs.Laws.{MoreIsTrailing, LessIsTruncated, HeaderIsOfItsBytes, header_if}
-use Rattle.lf_codec.proofs.Bytes.{header-between, read_on-append, read_on-failed}
+use Rattle.lf_codec.proofs.Bytes.{header-between, header-past_head, header-past_fixed, read_on-append, read_on-failed}
 use Rattle.lf_codec.proofs.Parts.{waits_on, steps_on}
 use Rattle.lf_codec.proofs.Forward.{clean}
 use Rattle.lf_codec.proofs.Backward.{fine_before, no_fault_at, read_is_spelled}
@@ -47,7 +46,7 @@ end_cases stages.MemoryBlock offset = inr refl
 end_cases (stages.MemoryData block) offset = inr refl
 end_cases stages.Head offset = inr refl
 end_cases (stages.Fixed head) offset = inr refl
-end_cases (stages.Data r) offset = inr refl
+end_cases (stages.Data head fixed) offset = inr refl
 end_cases stages.Ended offset = inl refl
 
 pub less_is_truncated : LessIsTruncated
@@ -81,12 +80,9 @@ stays_in_step stages.MemoryBlock q bytes h e = e
 stays_in_step (stages.MemoryData block) q bytes h e = header-between (q.left - 1) q.header ∙ e
 stays_in_step stages.Head q bytes h e =
     let p : Progress = record q { stage = stages.Head } in
-    cond_both (byte_at 0 bytes == 0) (at_next p 8 stages.Ended, found.Nothing) (within p 8 (stages.Fixed (head_at bytes)), found.Nothing) (λ (x : Progress × Found). header_unless x.0.stage x.0.header ≡ Some h) (λ _. e) (λ _. e)
-stays_in_step (stages.Fixed head) q bytes h e =
-    let p : Progress = record q { stage = stages.Fixed head } in
-    let item : Record = record { log = head.log; bank = head.bank; number = head.number; event = event_at head.kind bytes } in
-    cond_both (data_len q.header item.event == 0) (past_record p (length bytes) item) (within p (length bytes) (stages.Data item), found.Nothing) (λ (x : Progress × Found). header_unless x.0.stage x.0.header ≡ Some h) (λ _. e) (λ _. e)
-stays_in_step (stages.Data r) q bytes h e = e
+    cond_both (byte_at 0 bytes == 0) (at_next p 8 stages.Ended, found.Nothing) (past_head p (head_at bytes)) (λ (x : Progress × Found). header_unless x.0.stage x.0.header ≡ Some h) (λ _. e) (λ _. header-past_head p (head_at bytes) ∙ e)
+stays_in_step (stages.Fixed head) q bytes h e = header-past_fixed (record q { stage = stages.Fixed head }) head bytes ∙ e
+stays_in_step (stages.Data head fixed) q bytes h e = e
 stays_in_step stages.Ended q bytes h e = e
 
 stays_if : (judgement : Result (Unit {0}) CodecCause) (r : Reading) (bytes : List ℕ) (h : Header) → header_now r ≡ Some h → header_now (stepped_if judgement r bytes) ≡ Some h

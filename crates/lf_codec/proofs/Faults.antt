@@ -12,7 +12,7 @@ use Rattle.lf_codec.specs.declared.stage.Stage.{Stage}
 use Rattle.lf_codec.specs.declared.stage.Stage.TheVariants as stages
 use Rattle.lf_codec.specs.declared.header.Header.{Header}
 use Rattle.lf_codec.specs.declared.progress.Progress.{Progress}
-use Rattle.lf_codec.specs.Checks.{Checks, judged, byte_at, header_checks, memory_checks, end_checks, head_checks, issue_checks, reply_checks, request_checks, block_checks, second_primary_checks, evict_checks, fixed_checks, stage_checks}
+use Rattle.lf_codec.specs.Checks.{Checks, judged, byte_at, header_checks, memory_checks, end_checks, head_checks, issue_checks, reply_checks, request_checks, block_checks, second_miss_checks, evict_checks, second_checks, wide_evict_checks, fixed_checks, stage_checks}
 use Rattle.lf_codec.specs.Steps.{stage_len}
 use Rattle.lf_codec.specs.Reading.{Reading, reading_of, read_on, byte_read, failed, nothing_read, end_of, fault_of, fault_so_far, header_of, header_now}
 use Rattle.lf_codec.specs.Laws.{FaultsSoFarAreNotTruncated, FaultsStand, WhatStandsBeforeIsGiven, BytesNeverWantMemory, WhatIsReadFits, WhatIsReadIsGiven}
@@ -39,7 +39,7 @@ judged_of_bytes ((c, true) ∷ checks) cause all e = judged_of_bytes checks caus
 judged_of_bytes ((c, false) ∷ checks) cause all e = let same : c ≡ cause = cc in ap is_of_bytes (sym same) ∙ all.0
 
 fixed_of_bytes : (h : Header) (bank : ℕ) (kind : Kind) (bytes : List ℕ) → AreOfBytes (fixed_checks h bank kind bytes)
-unfolding is_of_bytes AreOfBytes fixed_checks issue_checks reply_checks request_checks block_checks second_primary_checks evict_checks
+unfolding is_of_bytes AreOfBytes fixed_checks issue_checks reply_checks request_checks block_checks second_miss_checks evict_checks second_checks wide_evict_checks
 fixed_of_bytes h bank kinds.Issue bytes = (refl, (refl, (refl, (refl, (refl, (refl, tt))))))
 fixed_of_bytes h bank kinds.Reply bytes = (refl, (refl, tt))
 fixed_of_bytes h bank kinds.Hit bytes = (refl, tt)
@@ -51,8 +51,10 @@ fixed_of_bytes h bank kinds.Evict1 bytes = (refl, (refl, tt))
 fixed_of_bytes h bank kinds.SecondHit bytes = (refl, tt)
 fixed_of_bytes h bank kinds.SecondPrimary bytes = (refl, (refl, tt))
 fixed_of_bytes h bank kinds.SecondStall bytes = (refl, tt)
-fixed_of_bytes h bank kinds.Fill2 bytes = (refl, tt)
-fixed_of_bytes h bank kinds.Evict2 bytes = (refl, (refl, tt))
+fixed_of_bytes h bank kinds.Fill2 bytes = (refl, (refl, tt))
+fixed_of_bytes h bank kinds.Evict2 bytes = (refl, (refl, (refl, tt)))
+fixed_of_bytes h bank kinds.Fence bytes = tt
+fixed_of_bytes h bank kinds.SecondMerge bytes = (refl, (refl, tt))
 
 stage_of_bytes : (s : Stage) (p : Progress) (bytes : List ℕ) → AreOfBytes (stage_checks s p bytes)
 unfolding is_of_bytes AreOfBytes stage_checks header_checks memory_checks end_checks head_checks
@@ -64,7 +66,7 @@ stage_of_bytes stages.Head p bytes =
     (λ _. (refl, (refl, tt)))
     (λ _. (refl, (refl, (refl, (refl, (refl, (refl, tt)))))))
 stage_of_bytes (stages.Fixed head) p bytes = fixed_of_bytes p.header head.bank head.kind bytes
-stage_of_bytes (stages.Data r) p bytes = tt
+stage_of_bytes (stages.Data head fixed) p bytes = tt
 stage_of_bytes stages.Ended p bytes = (refl, tt)
 
 -- ---- where a fault stands
@@ -129,7 +131,7 @@ end_is_truncated stages.MemoryBlock offset f e = let same : record { cause = Tru
 end_is_truncated (stages.MemoryData block) offset f e = let same : record { cause = Truncated; offset = offset } ≡ f = cc in ap (λ (g : CodecFault). g.cause) (sym same)
 end_is_truncated stages.Head offset f e = let same : record { cause = Truncated; offset = offset } ≡ f = cc in ap (λ (g : CodecFault). g.cause) (sym same)
 end_is_truncated (stages.Fixed head) offset f e = let same : record { cause = Truncated; offset = offset } ≡ f = cc in ap (λ (g : CodecFault). g.cause) (sym same)
-end_is_truncated (stages.Data r) offset f e = let same : record { cause = Truncated; offset = offset } ≡ f = cc in ap (λ (g : CodecFault). g.cause) (sym same)
+end_is_truncated (stages.Data head fixed) offset f e = let same : record { cause = Truncated; offset = offset } ≡ f = cc in ap (λ (g : CodecFault). g.cause) (sym same)
 end_is_truncated stages.Ended offset f e = absurd cc
 
 pub faults_so_far_are_not_truncated : FaultsSoFarAreNotTruncated

@@ -3,10 +3,11 @@ use Rattle.std.proofs.Common.{◌≡◌, ℕ, zero, suc, ◌+◌, ◌<◌, ◌�
 use Rattle.std.specs.List.{AllByRecursion}
 use Rattle.std.proofs.lemmas.Bool.{cases_lt}
 use Rattle.std.proofs.lemmas.List.{take_more, take-append-drop, take_all}
-use Rattle.lf_model.specs.Fits.{Bytes, IsData, FitsRecord}
+use Rattle.lf_model.specs.Fits.{Bytes, IsData}
 use Rattle.lf_model.specs.declared.event.Record.{Record}
 use Rattle.lf_codec.specs.declared.header.Header.{Header}
-use Rattle.lf_codec.specs.Trace.{FitsHeader, FitsMemory, log_len}
+use Rattle.lf_codec.specs.Checks.{log_limit}
+use Rattle.lf_codec.specs.Trace.{FitsHeader, FitsMemory, FitsIn, log_len}
 use Rattle.lf_codec.proofs.Forward.{log_len-append, log_len_own}
 use Rattle.lf_codec.proofs.Backward.{least_after, memory_push, least_after-push, no_log_above}
 
@@ -46,8 +47,8 @@ log_len_at records i x lt is =
     let whole : (take i records ++ x ∷ []) ++ drop (i + 1) records ≡ records = ap (λ (xs : List Record). xs ++ drop (i + 1) records) (sym more) ∙ take-append-drop (i + 1) records in
     omega (arith, ap (log_len x.log) whole, log_len-append x.log (take i records ++ x ∷ []) (drop (i + 1) records), log_len-append x.log (take i records) (x ∷ []), log_len_own x.log x refl)
 
-pub logs_within : (h : Header) (records : List Record) (counts : List ℕ) (n : ℕ) → FitsHeader h → AllByRecursion (FitsRecord h.ports h.banks h.block) records → length records ≤ n
-    → ((log : ℕ) → log < 32 → get_or counts log 0 ≡ log_len log (take n records)) → ((log : ℕ) → get_or counts log 0 ≤ 1048576) → (log : ℕ) → log_len log records ≤ 1048576
+pub logs_within : (h : Header) (records : List Record) (counts : List ℕ) (n : ℕ) → FitsHeader h → AllByRecursion (FitsIn h) records → length records ≤ n
+    → ((log : ℕ) → log < 32 → get_or counts log 0 ≡ log_len log (take n records)) → ((log : ℕ) → get_or counts log 0 ≤ log_limit h.version) → (log : ℕ) → log_len log records ≤ log_limit h.version
 logs_within h records counts n range each all counted limit log =
     elim (cases_lt log 32) [
       | inl lt ↦ let own : get_or counts log 0 ≡ log_len log records = counted log lt ∙ ap (log_len log) (take_all n records all) in omega (arith, own, limit log)

@@ -33,7 +33,7 @@ end_offset stages.MemoryBlock offset f e = let same : record { cause = Truncated
 end_offset (stages.MemoryData block) offset f e = let same : record { cause = Truncated; offset = offset } ≡ f = cc in ap (λ (g : CodecFault). g.offset) (sym same)
 end_offset stages.Head offset f e = let same : record { cause = Truncated; offset = offset } ≡ f = cc in ap (λ (g : CodecFault). g.offset) (sym same)
 end_offset (stages.Fixed head) offset f e = let same : record { cause = Truncated; offset = offset } ≡ f = cc in ap (λ (g : CodecFault). g.offset) (sym same)
-end_offset (stages.Data r) offset f e = let same : record { cause = Truncated; offset = offset } ≡ f = cc in ap (λ (g : CodecFault). g.offset) (sym same)
+end_offset (stages.Data head fixed) offset f e = let same : record { cause = Truncated; offset = offset } ≡ f = cc in ap (λ (g : CodecFault). g.offset) (sym same)
 end_offset stages.Ended offset f e = absurd cc
 
 before_fault : (bytes : List ℕ) (f : CodecFault) → IsBytes bytes → trace_fault bytes ≡ Some f → Before bytes f

@@ -1,17 +1,17 @@
 -- The laws between the bytes of a trace and what they are read as.
 use Rattle.std.specs.Prelude.{◌≡◌, ◌⊎◌, ℕ, ◌<◌, ◌≤◌, List, [], ◌++◌, length, take, slice_index, Option, Some, None, Result, Ok, Err, ◌↔◌, ◌∷◌}
 use Rattle.std.specs.List.{flat_map, AllByRecursion}
-use Rattle.lf_model.specs.Fits.{Bytes, FitsRecord}
+use Rattle.lf_model.specs.Fits.{Bytes}
 use Rattle.lf_model.specs.declared.event.Record.{Record}
 use Rattle.lf_codec.specs.declared.header.Header.{Header}
 use Rattle.lf_codec.specs.declared.fault.CodecCause.{CodecCause}
 use Rattle.lf_codec.specs.declared.fault.CodecCause.TheVariants.{Truncated, Trailing, NoMemory}
 use Rattle.lf_codec.specs.declared.fault.CodecFault.{CodecFault}
 use Rattle.lf_codec.specs.Layout.{header_bytes, memory_bytes, record_bytes}
-use Rattle.lf_codec.specs.Checks.{judged, header_checks}
+use Rattle.lf_codec.specs.Checks.{judged, header_checks, log_limit}
 use Rattle.lf_codec.specs.Steps.{header_at}
 use Rattle.lf_codec.specs.Reading.{Reading, reading_of, truncated_at, fault_so_far, trace_fault, header_of}
-use Rattle.lf_codec.specs.Trace.{FitsHeader, FitsMemory, log_len, IsTrace}
+use Rattle.lf_codec.specs.Trace.{FitsHeader, FitsMemory, FitsIn, log_len, IsTrace}
 use Rattle.lf_codec.specs.Reader.{HasRead, Gives}
 
 abbrev pub AreBytes : List ℕ → Type 0
@@ -133,8 +133,8 @@ pub record FitsSoFar (h : Header) (memory : List (ℕ × Bytes)) (records : List
   pub header : FitsHeader h
   pub few : length memory ≤ h.memory_count
   pub blocks : FitsMemory h.block 0 memory
-  pub each : AllByRecursion (FitsRecord h.ports h.banks h.block) records
-  pub logs : (log : ℕ) → log_len log records ≤ 1048576
+  pub each : AllByRecursion (FitsIn h) records
+  pub logs : (log : ℕ) → log_len log records ≤ log_limit h.version
 
 -- what has been read fits, before the end of the trace and before a fault too
 abbrev pub WhatIsReadFits : Type 0

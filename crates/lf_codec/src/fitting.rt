@@ -2,22 +2,28 @@
 
 ghost use Rattle.std.specs.Prelude.{◌≡◌, ℕ, ◌≤◌, ◌<◌, ◌↔◌, IsTrue, length, slice_index};
 ghost use Rattle.std.specs.List.{AllByRecursion};
-ghost use Rattle.lf_model.specs.Fits.{IsData, FitsRecord};
-ghost use Rattle.lf_codec.specs.Trace.{FitsHeader, FitsMemory, FitsTrace, log_len};
+ghost use Rattle.lf_model.specs.Fits.{IsData};
+ghost use Rattle.lf_codec.specs.Checks.{log_limit};
+ghost use Rattle.lf_codec.specs.Trace.{FitsHeader, FitsMemory, FitsIn, FitsTrace, log_len};
 
+use crate::checks::{is_factor, last_kind, log_limit};
 use crate::header::Header;
+use crate::writing::code_of;
 use lf_model::{Block, Memory, Record, fits};
 
 fn header_fits(header: &Header) -> bool
     ensures { IsTrue result ↔ FitsHeader header.now }
 {
     let _memory_count = header.memory_count;
-    header.version == 1
+    1 <= header.version
+        && header.version <= 3
         && 1 <= header.ports
         && header.ports <= 16
         && 1 <= header.banks
         && header.banks <= 16
         && (header.block == 8 || header.block == 16 || header.block == 32 || header.block == 64)
+        && is_factor(header.factor)
+        && (header.version == 3 || header.factor == 1)
 }
 
 fn has_len(len: u16, bytes: &[u8]) -> bool
@@ -46,29 +52,44 @@ fn memory_fits(size: u16, memory: &Memory) -> bool
     true
 }
 
+/// Whether the record fits the header and is of a kind that its version has.
+fn fits_in(header: &Header, item: &Record) -> bool
+    requires { FitsHeader header.now }
+    ensures { IsTrue result ↔ FitsIn header.now item.now }
+{
+    u16::from(code_of(&item.event)) <= last_kind(header.version)
+        && fits(
+            u32::from(header.ports),
+            u32::from(header.banks),
+            u32::from(header.block),
+            u32::from(header.factor),
+            item,
+        )
+}
+
 fn records_fit(header: &Header, records: &[Record]) -> bool
     requires { FitsHeader header.now }
-    ensures { IsTrue result ↔ AllByRecursion (FitsRecord header.now.ports header.now.banks header.now.block) records.now }
+    ensures { IsTrue result ↔ AllByRecursion (FitsIn header.now) records.now }
 {
-    let (ports, banks) = (u32::from(header.ports), u32::from(header.banks));
     for item in records {
-        if !fits(ports, banks, u32::from(header.block), item) {
+        if !fits_in(header, item) {
             return false;
         }
     }
     true
 }
 
-/// Whether no log has more than 2^20 records.
+/// Whether no log has more records than the version allows.
 fn logs_fit(header: &Header, records: &[Record]) -> bool
     requires header { FitsHeader header.now }
-    requires each { AllByRecursion (FitsRecord header.now.ports header.now.banks header.now.block) records.now }
-    ensures { IsTrue result ↔ ((log : ℕ) → log_len log records.now ≤ 1048576) }
+    requires each { AllByRecursion (FitsIn header.now) records.now }
+    ensures { IsTrue result ↔ ((log : ℕ) → log_len log records.now ≤ log_limit header.now.version) }
 {
+    let limit = log_limit(header.version);
     let mut counts = [0u32; 32];
     for item in records {
         let log = item.log as usize;
-        if counts[log] >= 1048576 {
+        if counts[log] >= limit {
             return false;
         }
         counts[log] += 1;
@@ -77,7 +98,8 @@ fn logs_fit(header: &Header, records: &[Record]) -> bool
 }
 
 /// Whether these may be written as a trace: the header is in range and its `memory_count` is the
-/// memory's length, each record fits, and no log has more than 2^20 of them. It takes no memory.
+/// memory's length, each record fits and is of a kind that the version has, and no log has more of them
+/// than the version allows: 2^20, and 2^24 from version 2 on. It takes no memory.
 pub fn fits_trace(header: &Header, memory: &Memory, records: &[Record]) -> bool
     ensures { IsTrue result ↔ FitsTrace header.now memory.now.items records.now }
 {

@@ -1,18 +1,17 @@
 //! How far the reading of a trace has come, and its steps.
 
-ghost use Rattle.std.specs.Prelude.{◌≡◌, ◌+◌, ◌<◌, ◌^◌, length, slice_index, OnOk};
+ghost use Rattle.std.specs.Prelude.{◌≡◌, ◌+◌, ◌<◌, ◌≤◌, ◌^◌, length, slice_index, OnOk};
 ghost use Rattle.lf_codec.specs.Reading.{at_start};
-ghost use Rattle.lf_codec.specs.Steps.{stage_len, within, at_next, past_header, past_memory, past_record, past_fixed, advanced};
+ghost use Rattle.lf_codec.specs.Steps.{fixed_len, stage_len, within, at_next, past_header, past_memory, counted, past_head, past_fixed, advanced};
 
 use crate::checks::{check_end, check_fixed, check_head, check_header, check_memory};
 use crate::fault::CodecCause;
 use crate::fields::u32_at;
 use crate::header::Header;
-use crate::stage::{Found, Stage};
+use crate::stage::{Found, Head, Stage};
 use crate::step::{
-    between, block_of, data_len, head_at, header_at, record_at, record_with, stage_len,
+    between, block_of, data_len, fixed_len, fixed_of, head_at, header_at, record_of,
 };
-use lf_model::Record;
 use std::mem;
 
 /// How far the reading of a trace has come.
@@ -35,6 +34,7 @@ pub struct Progress {
 impl Progress {
     ghost use Rattle.lf_codec.specs.Sound.{IsSound};
     ghost use Rattle.lf_codec.specs.Checks.{judged, stage_checks};
+    ghost use Rattle.lf_codec.specs.Takes.{all_passed};
 
     pub(crate) fn new() -> Progress
         ensures { result ≡ at_start }
@@ -45,6 +45,7 @@ impl Progress {
                 ports: 0,
                 banks: 0,
                 block: 0,
+                factor: 0,
                 memory_count: 0,
             },
             stage: Stage::Header,
@@ -94,41 +95,69 @@ impl Progress {
         self.least = u64::from(block) + 1;
     }
 
-    fn past_record(&mut self, n: u64, item: Record) -> Found
+    fn count(&mut self, n: u64, log: u8)
         requires room { self.old.position + n < 2 ^ 64 }
-        requires log { item.log < 32 }
+        requires log { log < 32 }
         requires one_more { self.old.count + 1 < 2 ^ 32 }
-        requires one_more_of_log { slice_index self.old.counts item.log + 1 < 2 ^ 32 }
-        ensures next { self.new ≡ (past_record self.old n item).0 }
-        ensures found { result ≡ (past_record self.old n item).1 }
+        requires one_more_of_log { slice_index self.old.counts log + 1 < 2 ^ 32 }
+        ensures { self.new ≡ counted self.old n log }
     {
         self.at_next(n, Stage::Head);
-        self.counts[item.log as usize] += 1;
+        self.counts[log as usize] += 1;
         self.count += 1;
-        Found::Record(item)
     }
 
-    fn past_fixed(&mut self, n: u64, item: Record) -> Found
-        requires room { self.old.position + n < 2 ^ 64 }
-        requires log { item.log < 32 }
+    fn past_head(&mut self, head: Head) -> Found
+        requires room { self.old.position + 8 < 2 ^ 64 }
+        requires factor { self.old.header.factor ≤ 4 }
+        requires log { head.log < 32 }
         requires one_more { self.old.count + 1 < 2 ^ 32 }
-        requires one_more_of_log { slice_index self.old.counts item.log + 1 < 2 ^ 32 }
-        ensures next { self.new ≡ (past_fixed self.old n item).0 }
-        ensures found { result ≡ (past_fixed self.old n item).1 }
+        requires one_more_of_log { slice_index self.old.counts head.log + 1 < 2 ^ 32 }
+        ensures next { self.new ≡ (past_head self.old head).0 }
+        ensures found { result ≡ (past_head self.old head).1 }
     {
-        if data_len(&self.header, &item.event) == 0 {
-            self.past_record(n, item)
+        if fixed_len(&self.header, head.kind) == 0 {
+            self.count(8, head.log);
+            Found::Record(record_of(&self.header, head, &[], &[]))
         } else {
-            self.within(n, Stage::Data(item));
+            self.within(8, Stage::Fixed(head));
+            Found::Nothing
+        }
+    }
+
+    fn past_fixed(&mut self, head: Head, fixed: &[u8]) -> Found
+        requires room { self.old.position + length fixed.now < 2 ^ 64 }
+        requires factor { self.old.header.factor ≤ 4 }
+        requires len { length fixed.now ≡ fixed_len self.old.header head.kind }
+        requires log { head.log < 32 }
+        requires one_more { self.old.count + 1 < 2 ^ 32 }
+        requires one_more_of_log { slice_index self.old.counts head.log + 1 < 2 ^ 32 }
+        ensures next { self.new ≡ (past_fixed self.old head fixed.now).0 }
+        ensures found { result ≡ (past_fixed self.old head fixed.now).1 }
+    {
+        if data_len(&self.header, head.kind, fixed) == 0 {
+            self.count(fixed.len() as u64, head.log);
+            Found::Record(record_of(&self.header, head, fixed, &[]))
+        } else {
+            self.within(fixed.len() as u64, Stage::Data(head, fixed_of(fixed)));
             Found::Nothing
         }
     }
 
     /// How many bytes the next step takes.
     pub(crate) fn step_len(&self) -> usize
+        requires { IsSound self.now }
         ensures { result ≡ stage_len self.now.header self.now.stage }
     {
-        stage_len(&self.header, &self.stage)
+        match &self.stage {
+            Stage::Header => 16,
+            Stage::MemoryBlock => 4,
+            Stage::MemoryData(_) => usize::from(self.header.block),
+            Stage::Head => 8,
+            Stage::Fixed(head) => fixed_len(&self.header, head.kind),
+            Stage::Data(head, fixed) => data_len(&self.header, head.kind, fixed),
+            Stage::Ended => 1,
+        }
     }
 
     #[tactic(auto, unfolding(crate::specs::Checks::stage_checks))]
@@ -140,7 +169,7 @@ impl Progress {
         match &self.stage {
             Stage::Header => check_header(bytes),
             Stage::MemoryBlock => check_memory(self.least, bytes),
-            Stage::MemoryData(_) | Stage::Data(_) => Ok(()),
+            Stage::MemoryData(_) | Stage::Data(_, _) => Ok(()),
             Stage::Head if bytes[0] == 0 => check_end(self.count, bytes),
             Stage::Head => check_head(&self.header, &self.counts, bytes),
             Stage::Fixed(head) => check_fixed(&self.header, head.bank, head.kind, bytes),
@@ -163,6 +192,7 @@ impl Progress {
     pub(crate) fn advance(&mut self, bytes: &[u8]) -> Found
         requires sound { IsSound self.old }
         requires len { length bytes.now ≡ stage_len self.old.header self.old.stage }
+        requires checked { judged (stage_checks self.old.stage self.old bytes.now) ≡ all_passed }
         ensures next { self.new ≡ (advanced self.old.stage self.old bytes.now).0 }
         ensures found { result ≡ (advanced self.old.stage self.old bytes.now).1 }
     {
@@ -182,13 +212,16 @@ impl Progress {
             Stage::Head => {
                 if bytes[0] == 0 {
                     self.at_next(8, Stage::Ended);
+                    Found::Nothing
                 } else {
-                    self.within(8, Stage::Fixed(head_at(bytes)));
+                    self.past_head(head_at(bytes))
                 }
-                Found::Nothing
             }
-            Stage::Fixed(head) => self.past_fixed(bytes.len() as u64, record_at(head, bytes)),
-            Stage::Data(item) => self.past_record(bytes.len() as u64, record_with(item, bytes)),
+            Stage::Fixed(head) => self.past_fixed(head, bytes),
+            Stage::Data(head, fixed) => {
+                self.count(bytes.len() as u64, head.log);
+                Found::Record(record_of(&self.header, head, &fixed, bytes))
+            }
             Stage::Ended => Found::Nothing,
         }
     }

@@ -3,11 +3,11 @@
 ghost use Rattle.std.specs.Prelude.{◌≡◌, ◌∷◌, ◌++◌, ◌<◌, ◌^◌, length, take, OnOk, IfOk, vec_len};
 ghost use Rattle.std.specs.List.{flat_map};
 ghost use Rattle.lf_codec.specs.Trace.{FitsTrace, IsTrace};
-ghost use Rattle.lf_codec.specs.Layout.{u16_bytes, u32_bytes, u64_bytes, header_bytes, memory_bytes, fixed_bytes, data_of, head_bytes, record_bytes, end_bytes, code_of, kind_of, op_code, spelling};
+ghost use Rattle.lf_codec.specs.Layout.{u16_bytes, u32_bytes, u64_bytes, factor_word, mask_bytes, header_bytes, memory_bytes, fixed_bytes, data_of, head_bytes, record_bytes, end_bytes, code_of, kind_of, op_code, spelling};
 
 use crate::header::Header;
 use byteorder::{ByteOrder, LittleEndian};
-use lf_model::{Block, Event, Memory, NoMemory, Op, Record};
+use lf_model::{Block, Event, Masks, Memory, NoMemory, Op, Record};
 use std::alloc::{AllocError, Global};
 
 #[tactic(auto, unfolding(crate::specs::Layout::u16_bytes))]
@@ -37,6 +37,17 @@ fn put_u64(out: &mut Vec<u8>, n: u64) -> Result<(), AllocError>
     out.extend_from_slice(&bytes)
 }
 
+/// The factor as it is spelled: zero before version 3.
+fn factor_word(header: &Header) -> u16
+    ensures { result ≡ factor_word header.now }
+{
+    if header.version == 3 {
+        header.factor
+    } else {
+        0
+    }
+}
+
 fn put_header(out: &mut Vec<u8>, header: &Header) -> Result<(), AllocError>
     ensures { OnOk result (out.new.items ≡ out.old.items ++ header_bytes header.now) }
 {
@@ -44,7 +55,7 @@ fn put_header(out: &mut Vec<u8>, header: &Header) -> Result<(), AllocError>
     put_u16(out, header.version)?;
     out.extend_from_slice(&[header.ports, header.banks])?;
     put_u16(out, header.block)?;
-    put_u16(out, 0)?;
+    put_u16(out, factor_word(header))?;
     put_u32(out, header.memory_count)
 }
 
@@ -55,7 +66,7 @@ fn put_memory(out: &mut Vec<u8>, item: &(u32, Block)) -> Result<(), AllocError>
     out.extend_from_slice(&item.1)
 }
 
-fn code_of(event: &Event) -> u8
+pub(crate) fn code_of(event: &Event) -> u8
     ensures { result ≡ code_of (kind_of event.now) }
 {
     match event {
@@ -72,6 +83,8 @@ fn code_of(event: &Event) -> u8
         Event::SecondStall { .. } => 11,
         Event::Fill2 { .. } => 12,
         Event::Evict2 { .. } => 13,
+        Event::Fence => 14,
+        Event::SecondMerge { .. } => 15,
     }
 }
 
@@ -90,6 +103,23 @@ fn put_request(out: &mut Vec<u8>, port: u8, tag: u8, n: u16) -> Result<(), Alloc
 {
     out.extend_from_slice(&[port, tag])?;
     put_u16(out, n)
+}
+
+fn put_second_miss(out: &mut Vec<u8>, block: u32, register: u16) -> Result<(), AllocError>
+    ensures { OnOk result (out.new.items ≡ out.old.items ++ (u32_bytes block ++ u16_bytes register ++ u16_bytes 0)) }
+{
+    put_u32(out, block)?;
+    put_u16(out, register)?;
+    put_u16(out, 0)
+}
+
+fn put_masks(out: &mut Vec<u8>, masks: &Masks) -> Result<(), AllocError>
+    ensures { OnOk result (out.new.items ≡ out.old.items ++ flat_map mask_bytes masks.now.items) }
+{
+    for mask in masks.iter() {
+        put_u64(out, mask.0)?;
+    }
+    Ok(())
 }
 
 fn put_fixed(out: &mut Vec<u8>, event: &Event) -> Result<(), AllocError>
@@ -123,15 +153,17 @@ fn put_fixed(out: &mut Vec<u8>, event: &Event) -> Result<(), AllocError>
         Event::Fill2 { block, .. } => put_u32(out, *block),
         Event::SecondHit { block } => put_u32(out, *block),
         Event::SecondStall { block } => put_u32(out, *block),
-        Event::SecondPrimary { block, register } => {
-            put_u32(out, *block)?;
-            put_u16(out, *register)?;
-            put_u16(out, 0)
-        }
-        Event::Evict1 { block, mask, .. } | Event::Evict2 { block, mask, .. } => {
+        Event::SecondPrimary { block, register } => put_second_miss(out, *block, *register),
+        Event::SecondMerge { block, register } => put_second_miss(out, *block, *register),
+        Event::Evict1 { block, mask, .. } => {
             put_u32(out, *block)?;
             put_u64(out, mask.0)
         }
+        Event::Evict2 { block, masks, .. } => {
+            put_u32(out, *block)?;
+            put_masks(out, masks)
+        }
+        Event::Fence => Ok(()),
     }
 }
 
@@ -142,9 +174,8 @@ fn put_data(out: &mut Vec<u8>, event: &Event) -> Result<(), AllocError>
         Event::Issue { bytes, .. }
         | Event::Reply { bytes, .. }
         | Event::Fill1 { bytes, .. }
-        | Event::Evict1 { bytes, .. }
-        | Event::Fill2 { bytes, .. }
-        | Event::Evict2 { bytes, .. } => out.extend_from_slice(bytes),
+        | Event::Evict1 { bytes, .. } => out.extend_from_slice(bytes),
+        Event::Fill2 { bytes, .. } | Event::Evict2 { bytes, .. } => out.extend_from_slice(bytes),
         _ => Ok(()),
     }
 }

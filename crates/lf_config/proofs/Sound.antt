@@ -11,15 +11,15 @@ use Rattle.lf_config.specs.declared.key.Which.TheVariants.{One, Two}
 use Rattle.lf_config.specs.declared.key.Part.{Part}
 use Rattle.lf_config.specs.declared.key.Part.TheVariants.{Sets, Ways, Organisation, Registers, Entries}
 use Rattle.lf_config.specs.declared.key.Key.{Key}
-use Rattle.lf_config.specs.declared.key.Key.TheVariants.{Ports, Banks, Block, Tags, Table, Of}
+use Rattle.lf_config.specs.declared.key.Key.TheVariants.{Ports, Banks, Block, Tags, Table, Of, Blocks}
 use Rattle.lf_model.specs.declared.shape.OrgShape.TheVariants.{Implicit, Explicit, Inverted}
 use Rattle.lf_config.specs.declared.key.Need.TheVariants.{UnlessInverted, IfExplicit}
 use Rattle.lf_model.specs.declared.shape.Shape.{Shape}
 use Rattle.lf_config.specs.Key.{all_keys, level_keys, level_name, need_of}
 use Rattle.lf_config.specs.Unknown.{first_unknown}
-use Rattle.lf_model.specs.Fits.{is_block_size}
+use Rattle.lf_model.specs.Fits.{is_block_size, is_factor}
 use Rattle.lf_config.specs.Lookup.{level_at, value_at}
-use Rattle.lf_config.specs.Rules.{is_between, is_size_of_block, is_missing, is_misfit, is_out_of_range, is_required, is_needed, organisation_at, first_missing, first_misfit, first_out_of_range}
+use Rattle.lf_config.specs.Rules.{is_between, is_size_of_block, is_number_of_blocks, is_missing, is_misfit, is_out_of_range, is_required, is_needed, organisation_at, first_missing, first_misfit, first_out_of_range}
 use Rattle.lf_config.specs.Told.{number_of, number_at, organisation_named, level_of, shape_of}
 use Rattle.lf_config.specs.declared.fault.ConfigFault.{ConfigFault}
 use Rattle.lf_config.specs.Configuration.{unknown, missing, kind, range, ◌otherwise◌, judged, Gives}
@@ -50,10 +50,11 @@ of_key P h Ports = h.0
 of_key P h Banks = h.1.0
 of_key P h Block = h.1.1.0
 of_key P h Tags = h.1.1.1.0
-of_key P h (Table One) = (of_level P One (level_keys Two []) h.1.1.1.1).1
-of_key P h (Of One p) = (of_level P One (level_keys Two []) h.1.1.1.1).0 p
-of_key P h (Table Two) = (of_level P Two [] (of_level P One (level_keys Two []) h.1.1.1.1).2).1
-of_key P h (Of Two p) = (of_level P Two [] (of_level P One (level_keys Two []) h.1.1.1.1).2).0 p
+of_key P h (Table One) = (of_level P One (level_keys Two (Blocks ∷ [])) h.1.1.1.1).1
+of_key P h (Of One p) = (of_level P One (level_keys Two (Blocks ∷ [])) h.1.1.1.1).0 p
+of_key P h (Table Two) = (of_level P Two (Blocks ∷ []) (of_level P One (level_keys Two (Blocks ∷ [])) h.1.1.1.1).2).1
+of_key P h (Of Two p) = (of_level P Two (Blocks ∷ []) (of_level P One (level_keys Two (Blocks ∷ [])) h.1.1.1.1).2).0 p
+of_key P h Blocks = (of_level P Two (Blocks ∷ []) (of_level P One (level_keys Two (Blocks ∷ [])) h.1.1.1.1).2).2.0
 
 -- no key breaks a rule
 pub record IsClean (ms : Members) : Type 0 where
@@ -111,6 +112,27 @@ block_in (Some (boolean b)) there sort within = let bad = sort in cc
 block_in (Some (datetime d)) there sort within = let bad = sort in cc
 block_in (Some (array ds)) there sort within = let bad = sort in cc
 block_in (Some (table ms)) there sort within = let bad = sort in cc
+
+factor_kept : (n : ℕ) → not (is_factor n) ≡ false → is_factor (number_of (pos n)) ≡ true
+factor_kept n within =
+    let small : n < 2 ^ 32 = grind (arith, nat_tests) in
+    let same : number_of (pos n) ≡ n = grind (arith, nat_tests) in
+    rw same (grind (arith, nat_tests))
+
+-- the number of blocks, which need not be there
+factor_in : (o : Option Data)
+    → option_map_or (λ d. not (is_some (as_integer d))) o false ≡ false
+    → option_map_or (λ d. not (option_map_or is_number_of_blocks (as_integer d) false)) o false ≡ false
+    → is_factor (option_map_or (λ d. option_map_or number_of (as_integer d) 0) o 1) ≡ true
+factor_in None sort within = refl
+factor_in (Some (integer (pos n))) sort within = factor_kept n within
+factor_in (Some (integer (negsuc n))) sort within = let bad = within in cc
+factor_in (Some (string t)) sort within = let bad = sort in cc
+factor_in (Some (float x)) sort within = let bad = sort in cc
+factor_in (Some (boolean b)) sort within = let bad = sort in cc
+factor_in (Some (datetime d)) sort within = let bad = sort in cc
+factor_in (Some (array ds)) sort within = let bad = sort in cc
+factor_in (Some (table ms)) sort within = let bad = sort in cc
 
 -- a key that is required is there
 there_if_required : (ms : Members) (k : Key) → IsClean ms → is_required ms k ≡ true → is_none (value_at ms k) ≡ false
@@ -172,6 +194,7 @@ shape_in ms clean = record {
   banks = number_in (value_at ms Banks) 1 16 (omega arith) (there_if_required ms Banks clean refl) (clean.misfit Banks) (clean.out_of_range Banks);
   block_size = block_in (value_at ms Block) (there_if_required ms Block clean refl) (clean.misfit Block) (clean.out_of_range Block);
   tags = number_in (value_at ms Tags) 1 64 (omega arith) (there_if_required ms Tags clean refl) (clean.misfit Tags) (clean.out_of_range Tags);
+  factor = factor_in (value_at ms Blocks) (clean.misfit Blocks) (clean.out_of_range Blocks);
   level1 = level_in ms One clean;
   level2 = level_in ms Two clean;
 }

@@ -5,13 +5,13 @@ use Rattle.lf_config.specs.declared.key.Which.TheVariants.{One, Two}
 use Rattle.lf_config.specs.declared.key.Part.{Part}
 use Rattle.lf_config.specs.declared.key.Part.TheVariants.{Sets, Ways, Organisation, Registers, Entries}
 use Rattle.lf_config.specs.declared.key.Key.{Key}
-use Rattle.lf_config.specs.declared.key.Key.TheVariants.{Ports, Banks, Block, Tags, Table, Of}
+use Rattle.lf_config.specs.declared.key.Key.TheVariants.{Ports, Banks, Block, Tags, Table, Of, Blocks}
 use Rattle.lf_config.specs.declared.key.Sort.{Sort}
 use Rattle.lf_config.specs.declared.key.Sort.TheVariants as sorts
 use Rattle.lf_config.specs.declared.key.Limits.{Limits}
 use Rattle.lf_config.specs.declared.key.Limits.TheVariants as limits
 use Rattle.lf_config.specs.declared.key.Need.{Need}
-use Rattle.lf_config.specs.declared.key.Need.TheVariants.{Always, UnlessInverted, IfExplicit}
+use Rattle.lf_config.specs.declared.key.Need.TheVariants.{Always, UnlessInverted, IfExplicit, Never}
 
 -- the keys of a level, and others after them
 abbrev pub level_keys : Which → List Key → List Key
@@ -19,11 +19,15 @@ level_keys level others = Table level ∷ Of level Sets ∷ Of level Ways ∷ Of
 
 -- all keys, in the order that decides between faults of one sort
 abbrev pub all_keys : List Key
-all_keys = Ports ∷ Banks ∷ Block ∷ Tags ∷ level_keys One (level_keys Two [])
+all_keys = Ports ∷ Banks ∷ Block ∷ Tags ∷ level_keys One (level_keys Two (Blocks ∷ []))
 
 abbrev pub level_name : Which → List ℕ
 level_name One = codes "level1"
 level_name Two = codes "level2"
+
+-- a key of level two alone
+abbrev pub blocks_name : List ℕ
+blocks_name = codes "blocks"
 
 abbrev pub part_name : Part → List ℕ
 part_name Sets = codes "sets"
@@ -40,6 +44,7 @@ name_of Block = codes "block"
 name_of Tags = codes "tags"
 name_of (Table level) = level_name level
 name_of (Of level part) = part_name part
+name_of Blocks = blocks_name
 
 -- what the value has to be
 abbrev pub sort_of : Key → Sort
@@ -59,9 +64,11 @@ limits_of (Of level Ways) = limits.Between 1 16
 limits_of (Of level Organisation) = limits.Organisation
 limits_of (Of level Registers) = limits.Between 1 64
 limits_of (Of level Entries) = limits.Between 1 8
+limits_of Blocks = limits.Factor
 
 -- when the key has to be there
 abbrev pub need_of : Key → Need
 need_of (Of level Registers) = UnlessInverted
 need_of (Of level Entries) = IfExplicit
+need_of Blocks = Never
 need_of _ = Always

@@ -2,9 +2,10 @@
 use Rattle.std.specs.Prelude.{Option, option_and_then}
 use Rattle.toml.specs.Data.{Data, Members, as_table, get_member}
 use Rattle.lf_config.specs.declared.key.Which.{Which}
+use Rattle.lf_config.specs.declared.key.Which.TheVariants.{Two}
 use Rattle.lf_config.specs.declared.key.Key.{Key}
-use Rattle.lf_config.specs.declared.key.Key.TheVariants.{Of}
-use Rattle.lf_config.specs.Key.{level_name, part_name, name_of}
+use Rattle.lf_config.specs.declared.key.Key.TheVariants.{Of, Blocks}
+use Rattle.lf_config.specs.Key.{level_name, part_name, blocks_name, name_of}
 
 -- the table of a level, where there is one
 abbrev pub level_at : Members → Which → Option Members
@@ -13,4 +14,5 @@ level_at document level = option_and_then as_table (get_member (level_name level
 -- the value of a key, where there is one
 abbrev pub value_at : Members → Key → Option Data
 value_at document (Of level part) = option_and_then (get_member (part_name part)) (level_at document level)
+value_at document Blocks = option_and_then (get_member blocks_name) (level_at document Two)
 value_at document key = get_member (name_of key) document

@@ -1,9 +1,9 @@
 -- What a document has to say of the keys, and the first key of which it does not.
-use Rattle.std.specs.Prelude.{ℕ, ℤ, pos, negsuc, nat_le, List, codes, Bool, true, false, not, ◌&&◌, ◌||◌, Option, is_some, is_none, option_and_then, find}
+use Rattle.std.specs.Prelude.{ℕ, ℤ, pos, negsuc, nat_le, List, codes, Bool, true, false, not, ◌&&◌, ◌||◌, Option, None, is_some, is_none, option_and_then, find}
 use Rattle.std.specs.Option.{option_map_or}
 use Rattle.std.specs.Str.{bytes_eq}
 use Rattle.toml.specs.Data.{Data, Members, as_integer, as_str, as_table}
-use Rattle.lf_model.specs.Fits.{is_block_size}
+use Rattle.lf_model.specs.Fits.{is_block_size, is_factor}
 use Rattle.lf_config.specs.declared.key.Which.{Which}
 use Rattle.lf_config.specs.declared.key.Part.TheVariants.{Organisation}
 use Rattle.lf_config.specs.declared.key.Key.{Key}
@@ -13,7 +13,7 @@ use Rattle.lf_config.specs.declared.key.Sort.TheVariants as sorts
 use Rattle.lf_config.specs.declared.key.Limits.{Limits}
 use Rattle.lf_config.specs.declared.key.Limits.TheVariants as limits
 use Rattle.lf_config.specs.declared.key.Need.{Need}
-use Rattle.lf_config.specs.declared.key.Need.TheVariants.{Always, UnlessInverted, IfExplicit}
+use Rattle.lf_config.specs.declared.key.Need.TheVariants.{Always, UnlessInverted, IfExplicit, Never}
 use Rattle.lf_config.specs.Key.{all_keys, sort_of, limits_of, need_of}
 use Rattle.lf_config.specs.Lookup.{level_at, value_at}
 
@@ -27,6 +27,10 @@ abbrev pub is_size_of_block : ℤ → Bool
 is_size_of_block (pos n) = is_block_size n
 is_size_of_block (negsuc n) = false
 
+abbrev pub is_number_of_blocks : ℤ → Bool
+is_number_of_blocks (pos n) = is_factor n
+is_number_of_blocks (negsuc n) = false
+
 abbrev pub is_organisation : List ℕ → Bool
 is_organisation text = bytes_eq text (codes "implicit") || bytes_eq text (codes "explicit") || bytes_eq text (codes "inverted")
 
@@ -39,6 +43,7 @@ has_sort sorts.Table value = is_some (as_table value)
 abbrev pub is_within : Limits → Data → Bool
 is_within (limits.Between low high) value = option_map_or (is_between low high) (as_integer value) false
 is_within limits.BlockSize value = option_map_or is_size_of_block (as_integer value) false
+is_within limits.Factor value = option_map_or is_number_of_blocks (as_integer value) false
 is_within limits.Organisation value = option_map_or is_organisation (as_str value) false
 is_within limits.Any value = true
 
@@ -56,11 +61,12 @@ abbrev pub is_needed : Need → Option (List ℕ) → Bool
 is_needed Always organisation = true
 is_needed UnlessInverted organisation = not (is_text (codes "inverted") organisation)
 is_needed IfExplicit organisation = is_text (codes "explicit") organisation
+is_needed Never organisation = false
 
 -- A key of a level is required only where the level's table is there.
 abbrev pub is_required : Members → Key → Bool
 is_required document (Of level part) = is_some (level_at document level) && is_needed (need_of (Of level part)) (organisation_at document level)
-is_required document key = true
+is_required document key = is_needed (need_of key) None
 
 abbrev pub is_missing : Members → Key → Bool
 is_missing document key = is_none (value_at document key) && is_required document key

@@ -7,7 +7,7 @@ use Rattle.lf_config.specs.declared.key.Which.{Which}
 use Rattle.lf_config.specs.declared.key.Which.TheVariants.{One, Two}
 use Rattle.lf_config.specs.declared.key.Part.TheVariants.{Sets, Ways, Registers, Entries}
 use Rattle.lf_config.specs.declared.key.Key.{Key}
-use Rattle.lf_config.specs.declared.key.Key.TheVariants.{Ports, Banks, Block, Tags, Of}
+use Rattle.lf_config.specs.declared.key.Key.TheVariants.{Ports, Banks, Block, Tags, Of, Blocks}
 use Rattle.lf_model.specs.declared.shape.OrgShape.{OrgShape}
 use Rattle.lf_model.specs.declared.shape.OrgShape.TheVariants.{Implicit, Explicit, Inverted}
 use Rattle.lf_model.specs.declared.shape.Level.{Level}
@@ -37,12 +37,17 @@ level_of document level = record {
   organisation = organisation_named document level (organisation_at document level);
 }
 
+-- 1 where nothing is said of it
+abbrev pub factor_at : Members → ℕ
+factor_at document = option_map_or (λ value. option_map_or number_of (as_integer value) 0) (value_at document Blocks) 1
+
 unfoldable pub shape_of : Members → Shape
 shape_of document = record {
   ports = number_at document Ports;
   banks = number_at document Banks;
   block = number_at document Block;
   tags = number_at document Tags;
+  factor = factor_at document;
   level1 = level_of document One;
   level2 = level_of document Two;
 }

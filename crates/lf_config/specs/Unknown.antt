@@ -8,7 +8,7 @@ use Rattle.std.specs.Str.{bytes_eq}
 use Rattle.toml.specs.Data.{Members, no_members, member}
 use Rattle.lf_config.specs.declared.key.Which.{Which}
 use Rattle.lf_config.specs.declared.key.Which.TheVariants.{One, Two}
-use Rattle.lf_config.specs.Key.{level_name}
+use Rattle.lf_config.specs.Key.{level_name, blocks_name}
 use Rattle.lf_config.specs.Lookup.{level_at}
 
 abbrev pub is_top_name : List ℕ → Bool
@@ -20,7 +20,8 @@ is_part_name name = bytes_eq name (codes "sets") || bytes_eq name (codes "ways")
 -- may the table of a level, or the document itself, have a key of this name?
 abbrev pub is_known : Option Which → List ℕ → Bool
 is_known None name = is_top_name name
-is_known (Some level) name = is_part_name name
+is_known (Some One) name = is_part_name name
+is_known (Some Two) name = is_part_name name || bytes_eq name blocks_name
 
 abbrev pub names_of : Members → List (List ℕ)
 names_of no_members = []

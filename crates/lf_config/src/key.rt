@@ -31,6 +31,8 @@ pub enum Key {
     Table(Which),
     /// A key of a level's table.
     Of(Which, Part),
+    /// The blocks of level one in one of level two. Only level two's table has this key.
+    Blocks,
 }
 
 /// What a value has to be.
@@ -48,6 +50,8 @@ pub(crate) enum Limits {
     Between(u32, u32),
     /// 8, 16, 32 and 64.
     BlockSize,
+    /// 1, 2 and 4.
+    Factor,
     /// The three names of an organisation.
     Organisation,
     Any,
@@ -61,10 +65,11 @@ pub(crate) enum Need {
     UnlessInverted,
     /// If the organisation is explicit.
     IfExplicit,
+    Never,
 }
 
 /// The keys, in the order in which their faults are told.
-pub(crate) const KEYS: [Key; 16] = [
+pub(crate) const KEYS: [Key; 17] = [
     Key::Ports,
     Key::Banks,
     Key::Block,
@@ -81,6 +86,7 @@ pub(crate) const KEYS: [Key; 16] = [
     Key::Of(Which::Two, Part::Organisation),
     Key::Of(Which::Two, Part::Registers),
     Key::Of(Which::Two, Part::Entries),
+    Key::Blocks,
 ];
 
 impl Which {
@@ -122,6 +128,7 @@ impl Key {
             Key::Tags => "tags",
             Key::Table(which) => which.name(),
             Key::Of(_, part) => part.name(),
+            Key::Blocks => "blocks",
         }
     }
 
@@ -150,6 +157,7 @@ impl Key {
             Key::Of(_, Part::Organisation) => Limits::Organisation,
             Key::Of(_, Part::Registers) => Limits::Between(1, 64),
             Key::Of(_, Part::Entries) => Limits::Between(1, 8),
+            Key::Blocks => Limits::Factor,
         }
     }
 
@@ -160,6 +168,7 @@ impl Key {
         match self {
             Key::Of(_, Part::Registers) => Need::UnlessInverted,
             Key::Of(_, Part::Entries) => Need::IfExplicit,
+            Key::Blocks => Need::Never,
             _ => Need::Always,
         }
     }

@@ -1,6 +1,6 @@
 //! What a table has at a key.
 
-ghost use Rattle.std.specs.Prelude.{◌≡◌, option_map};
+ghost use Rattle.std.specs.Prelude.{◌≡◌, option_map, option_and_then};
 ghost use Rattle.toml.specs.Data.{get_member};
 ghost use Rattle.toml.specs.View.{view, table_view};
 ghost use Rattle.lf_config.specs.Lookup.{level_at, value_at};
@@ -24,15 +24,23 @@ pub(crate) fn level<'a>(table: &'a Table, which: Which) -> Option<&'a Table>
     }
 }
 
+/// What the table of a level has at a name.
+fn entry_of<'a>(table: &'a Table, which: Which, name: &str) -> Option<&'a Value>
+    ensures { option_map (λ v. view v.now) result ≡ option_and_then (get_member name.now) (level_at (table_view table.now) which) }
+{
+    match level(table, which) {
+        Some(inner) => entry(inner, name),
+        None => None,
+    }
+}
+
 /// The value of a key, where there is one.
 pub(crate) fn value<'a>(table: &'a Table, key: Key) -> Option<&'a Value>
     ensures { option_map (λ v. view v.now) result ≡ value_at (table_view table.now) key }
 {
     match key {
-        Key::Of(which, part) => match level(table, which) {
-            Some(inner) => entry(inner, part.name()),
-            None => None,
-        },
+        Key::Of(which, part) => entry_of(table, which, part.name()),
+        Key::Blocks => entry_of(table, Which::Two, key.name()),
         _ => entry(table, key.name()),
     }
 }

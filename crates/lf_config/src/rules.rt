@@ -2,7 +2,7 @@
 
 ghost use Rattle.std.specs.Prelude.{◌≡◌, option_map};
 ghost use Rattle.toml.specs.View.{view, table_view};
-ghost use Rattle.lf_config.specs.Rules.{is_between, is_size_of_block, is_organisation, is_needed, has_sort, is_within, organisation_at, is_required, is_missing, is_misfit, is_out_of_range, first_missing, first_misfit, first_out_of_range};
+ghost use Rattle.lf_config.specs.Rules.{is_between, is_size_of_block, is_number_of_blocks, is_organisation, is_needed, has_sort, is_within, organisation_at, is_required, is_missing, is_misfit, is_out_of_range, first_missing, first_misfit, first_out_of_range};
 
 use crate::key::{KEYS, Key, Limits, Need, Part, Sort, Which};
 use crate::lookup::{level, value};
@@ -21,6 +21,12 @@ fn is_block_size(number: i64) -> bool
     ensures { result ≡ is_size_of_block number }
 {
     matches!(number, 8 | 16 | 32 | 64)
+}
+
+fn is_factor(number: i64) -> bool
+    ensures { result ≡ is_number_of_blocks number }
+{
+    matches!(number, 1 | 2 | 4)
 }
 
 fn is_organisation_name(text: &str) -> bool
@@ -51,6 +57,10 @@ fn is_allowed(value: &Value, limits: Limits) -> bool
             Some(number) => is_block_size(number),
             None => false,
         },
+        Limits::Factor => match value.as_integer() {
+            Some(number) => is_factor(number),
+            None => false,
+        },
         Limits::Organisation => match value.as_str() {
             Some(text) => is_organisation_name(text),
             None => false,
@@ -78,6 +88,7 @@ fn is_needed(need: Need, organisation: Option<&str>) -> bool
         (Need::UnlessInverted, None) => true,
         (Need::IfExplicit, Some(name)) => name == "explicit",
         (Need::IfExplicit, None) => false,
+        (Need::Never, _) => false,
     }
 }
 
@@ -88,7 +99,7 @@ fn is_required(table: &Table, key: Key) -> bool
         Key::Of(which, _) => {
             level(table, which).is_some() && is_needed(key.need(), organisation(table, which))
         }
-        _ => true,
+        _ => is_needed(key.need(), None),
     }
 }
 

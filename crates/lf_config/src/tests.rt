@@ -19,6 +19,7 @@ const C1: Shape = Shape {
     banks: 1,
     block: 8,
     tags: 4,
+    factor: 1,
     level1: Level {
         sets: 1,
         ways: 1,
@@ -107,6 +108,25 @@ fn configuration_faults(rt: HostRuntime) -> Result<(), Fail> {
     let unknown = Err(ConfigFault::Unknown(String::from_str(rt.alloc(), "colour")?));
     assert_read(&rt, coloured, LEVEL1, LEVEL2, unknown)?;
     assert_read(&rt, "", "", "", Err(ConfigFault::Missing(Key::Ports)))
+}
+
+/// Level two alone may say how many blocks of level one its blocks have, and the last key it is.
+#[test]
+fn blocks_of_level_two(rt: HostRuntime) -> Result<(), Fail> {
+    let wide =
+        "[level2]\nsets = 1\nways = 2\norganisation = \"explicit\"\nregisters = 1\nentries = 1\nblocks = 4\n";
+    assert_read(&rt, TOP, LEVEL1, wide, Ok(Shape { factor: 4, ..C1 }))?;
+    let three = "[level2]\nsets = 1\nways = 2\norganisation = \"inverted\"\nblocks = 3\n";
+    let range = Err(ConfigFault::Range(Key::Blocks));
+    assert_read(&rt, TOP, LEVEL1, three, range)?;
+    assert_fault(&rt, TOP, LEVEL1, three, "Range level2.blocks")?;
+    let worded = "[level2]\nsets = 1\nways = 2\norganisation = \"inverted\"\nblocks = \"2\"\n";
+    assert_fault(&rt, TOP, LEVEL1, worded, "Kind level2.blocks")?;
+    let earlier = "[level2]\nsets = 1\nways = 17\norganisation = \"inverted\"\nblocks = 3\n";
+    assert_fault(&rt, TOP, LEVEL1, earlier, "Range level2.ways")?;
+    let level1 = "[level1]\nsets = 1\nways = 1\norganisation = \"inverted\"\nblocks = 2\n";
+    assert_fault(&rt, TOP, level1, LEVEL2, "Unknown level1.blocks")?;
+    assert_fault(&rt, "blocks = 1\n", LEVEL1, LEVEL2, "Unknown blocks")
 }
 
 #[test]

@@ -18,6 +18,7 @@ impl fmt::Display for Key {
                 let level = which.name();
                 write!(f, "{level}.{name}")
             }
+            Key::Blocks => write!(f, "level2.{name}"),
             _ => write!(f, "{name}"),
         }
     }

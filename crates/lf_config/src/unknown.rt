@@ -36,7 +36,8 @@ fn is_known(level: Option<Which>, name: &str) -> bool
     ensures { result ≡ is_known level name.now }
 {
     match level {
-        Some(_) => is_part(name),
+        Some(Which::One) => is_part(name),
+        Some(Which::Two) => is_part(name) || name == "blocks",
         None => is_top(name),
     }
 }

@@ -1,6 +1,7 @@
 -- However the logs go, where nothing more can go the same is left.
 use Rattle.std.proofs.Common.{◌≡◌, ◌≢◌, ℕ, zero, suc, ◌+◌, ◌<◌, ◌≤◌, Bool, true, false, cond, ◌==◌, inl, inr, List, [], ◌∷◌, length, drop, Some, refl, sym, ap, ◌∙◌, subst, eq-eqb, arith}
 use Rattle.std.proofs.lemmas.Bool.{cases_eq, and_from}
+use Rattle.lf_model.specs.Address.{no_bank}
 use Rattle.lf_model.specs.Order.{log_at, after_next, entries_of}
 use Rattle.lf_model.specs.Ring.{entry_at}
 use Rattle.lf_join.specs.Join.{TakesUpTo, next_number, HasGone, NothingGoes, BanksAreWhole}
@@ -50,15 +51,15 @@ of_its_bank bank x = x.0 == bank
 
 -- No number below those of the bank is left twice.
 abbrev pub AtMostOnce : List (List (ℕ × ℕ)) → (ℕ → ℕ) → Type 0
-AtMostOnce left next = (bank k : ℕ) → k < next bank + count (of_its_bank bank) (joined left) → count (is_next bank k) (joined left) ≤ 1
+AtMostOnce left next = (bank k : ℕ) → bank < no_bank → k < next bank + count (of_its_bank bank) (joined left) → count (is_next bank k) (joined left) ≤ 1
 
 pub once_after : (left : List (List (ℕ × ℕ))) (next : ℕ → ℕ) (log : ℕ) (goes : Goes left next log) → AtMostOnce left next → AtMostOnce (after_next left log) (bump next goes.entry.0)
-once_after left next log goes once bank k below =
+once_after left next log goes once bank k lt below =
     let x = goes.entry in
     let all = count-after (is_next bank k) left log x goes.first in
     let of_bank = count-after (of_its_bank bank) left log x goes.first in
     let same : bump next x.0 bank ≡ next bank + count (of_its_bank bank) (x ∷ []) = added (x.0 == bank) in
-    omega (arith, all, once bank k (omega (arith, below, of_bank, same)))
+    omega (arith, all, once bank k lt (omega (arith, below, of_bank, same)))
   where
     added : (q : Bool) → cond q (next bank + 1) (next bank) ≡ next bank + length (cond q (goes.entry ∷ []) [])
     added true = refl
@@ -79,36 +80,34 @@ exchange_to left left' next next' [] log goes once stuck runs =
 exchange_to left left' next next' (m ∷ order) log goes once stuck (goes', runs) =
     elim (cases_eq log m) [
       | inl same ↦ (order, first_of_all log m same goes goes' runs)
-      | inr apart ↦ (elim (cases_eq goes'.entry.0 goes.entry.0) [
-        | inl same_bank ↦
-            let number : goes'.entry.1 ≡ goes.entry.1 = goes'.carries ∙ ap next same_bank ∙ sym goes.carries in
-            let some_left = one_in_joined (of_its_bank goes.entry.0) left log 0 goes.entry (ap (λ (xs : List (ℕ × ℕ)). entry_at xs 0) goes.first) (eq-eqb goes.entry.0 goes.entry.0 refl) in
-            let carries = goes.carries in
-            let one = once goes.entry.0 goes.entry.1 (omega (arith, carries, some_left)) in
-            let two = two_apart (is_next goes.entry.0 goes.entry.1) left log m 0 0 goes.entry goes'.entry apart (ap (λ (xs : List (ℕ × ℕ)). entry_at xs 0) goes.first) (ap (λ (xs : List (ℕ × ℕ)). entry_at xs 0) goes'.first)
-            (and_from (goes.entry.0 == goes.entry.0) (goes.entry.1 == goes.entry.1) (eq-eqb goes.entry.0 goes.entry.0 refl) (eq-eqb goes.entry.1 goes.entry.1 refl))
-            (and_from (goes'.entry.0 == goes.entry.0) (goes'.entry.1 == goes.entry.1) (eq-eqb goes'.entry.0 goes.entry.0 same_bank) (eq-eqb goes'.entry.1 goes.entry.1 number)) in
-            absurd (omega (arith, one, two))
-        | inr other_bank ↦
-            let later : Goes (after_next left m) (bump next goes'.entry.0) log = record {
-              entry = goes.entry;
-              first = still_first left m log goes.entry apart goes.first;
-              carries = goes.carries ∙ sym (bump_other next goes'.entry.0 goes.entry.0 other_bank);
-            } in
-            let rest = exchange_to (after_next left m) left' (bump next goes'.entry.0) next' order log later (once_after left next m goes' once) stuck runs in
-            let sooner : Goes (after_next left log) (bump next goes.entry.0) m = record {
-              entry = goes'.entry;
-              first = still_first left log m goes'.entry (λ e. apart (sym e)) goes'.first;
-              carries = goes'.carries ∙ sym (bump_other next goes.entry.0 goes'.entry.0 (λ e. other_bank (sym e)));
-            } in (
-              m ∷ rest.0,
-              (
-                sooner,
-                subst (λ ls. RunsTo ls (bump (bump next goes.entry.0) goes'.entry.0) rest.0 left' next') (after_comm left m log (λ e. apart (sym e)))
-                    (subst (λ (f : ℕ → ℕ). RunsTo (after_next (after_next left m) log) f rest.0 left' next') (bump_comm next goes'.entry.0 goes.entry.0) rest.1),
-              ),
-            )
-      ])
+      | inr apart ↦
+          let other_bank : goes.entry.0 < no_bank → goes'.entry.0 ≢ goes.entry.0 = λ lt same_bank.
+          let number : goes'.entry.1 ≡ goes.entry.1 = goes'.carries (subst (λ k. k < no_bank) (sym same_bank) lt) ∙ ap next same_bank ∙ sym (goes.carries lt) in
+          let some_left = one_in_joined (of_its_bank goes.entry.0) left log 0 goes.entry (ap (λ (xs : List (ℕ × ℕ)). entry_at xs 0) goes.first) (eq-eqb goes.entry.0 goes.entry.0 refl) in
+          let carries = goes.carries lt in
+          let one = once goes.entry.0 goes.entry.1 lt (omega (arith, carries, some_left)) in
+          let two = two_apart (is_next goes.entry.0 goes.entry.1) left log m 0 0 goes.entry goes'.entry apart (ap (λ (xs : List (ℕ × ℕ)). entry_at xs 0) goes.first) (ap (λ (xs : List (ℕ × ℕ)). entry_at xs 0) goes'.first)
+          (and_from (goes.entry.0 == goes.entry.0) (goes.entry.1 == goes.entry.1) (eq-eqb goes.entry.0 goes.entry.0 refl) (eq-eqb goes.entry.1 goes.entry.1 refl))
+          (and_from (goes'.entry.0 == goes.entry.0) (goes'.entry.1 == goes.entry.1) (eq-eqb goes'.entry.0 goes.entry.0 same_bank) (eq-eqb goes'.entry.1 goes.entry.1 number)) in
+          omega (arith, one, two) in
+          let later : Goes (after_next left m) (bump next goes'.entry.0) log = record {
+            entry = goes.entry;
+            first = still_first left m log goes.entry apart goes.first;
+            carries = λ lt. goes.carries lt ∙ sym (bump_other next goes'.entry.0 goes.entry.0 (other_bank lt));
+          } in
+          let rest = exchange_to (after_next left m) left' (bump next goes'.entry.0) next' order log later (once_after left next m goes' once) stuck runs in
+          let sooner : Goes (after_next left log) (bump next goes.entry.0) m = record {
+            entry = goes'.entry;
+            first = still_first left log m goes'.entry (λ e. apart (sym e)) goes'.first;
+            carries = λ lt. goes'.carries lt ∙ sym (bump_other next goes.entry.0 goes'.entry.0 (λ e. other_bank (subst (λ k. k < no_bank) (sym e) lt) (sym e)));
+          } in (
+            m ∷ rest.0,
+            (
+              sooner,
+              subst (λ ls. RunsTo ls (bump (bump next goes.entry.0) goes'.entry.0) rest.0 left' next') (after_comm left m log (λ e. apart (sym e)))
+                  (subst (λ (f : ℕ → ℕ). RunsTo (after_next (after_next left m) log) f rest.0 left' next') (bump_comm next goes'.entry.0 goes.entry.0) rest.1),
+            ),
+          )
     ]
   where
     first_of_all : (log m : ℕ) → log ≡ m → (goes : Goes left next log) (goes' : Goes left next m) → RunsTo (after_next left m) (bump next goes'.entry.0) order left' next'
@@ -163,10 +162,10 @@ gone_runs skeletons gone left h = (h.order, subst (λ (f : ℕ → ℕ). RunsTo 
     none n = omega arith
 
 pub stuck_at : (gone : List (ℕ × ℕ)) (left : List (List (ℕ × ℕ))) → NothingGoes gone left → IsStuckAt left (next_number gone)
-stuck_at gone left nothing log goes = nothing log goes.entry (ap (λ (xs : List (ℕ × ℕ)). entry_at xs 0) goes.first) goes.carries
+stuck_at gone left nothing log goes = let stays = nothing log goes.entry (ap (λ (xs : List (ℕ × ℕ)). entry_at xs 0) goes.first) in stays.1 (goes.carries stays.0)
 
 pub once_at_start : (skeletons : List (List (ℕ × ℕ))) → BanksAreWhole skeletons → AtMostOnce skeletons (λ _. 0)
-once_at_start skeletons whole bank k below =
+once_at_start skeletons whole bank k lt below =
     let len = length-map (entries_of bank (joined skeletons)) (λ (e : ℕ × ℕ). e.1) in
-    let once : count (is_next bank k) (joined skeletons) ≡ 1 = sym (times_is bank k (joined skeletons)) ∙ whole bank k (omega (arith, len, below)) in
+    let once : count (is_next bank k) (joined skeletons) ≡ 1 = sym (times_is bank k (joined skeletons)) ∙ whole bank lt k (omega (arith, len, below)) in
     omega (arith, once)

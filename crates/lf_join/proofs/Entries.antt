@@ -8,6 +8,7 @@ use Rattle.std.proofs.lemmas.Bool.{and_parts, lt-ltb, ltb-true}
 use Rattle.std.proofs.lemmas.List.{get_or-map, get_or_past, get_or-drop, length-drop, length-map}
 use Rattle.std.proofs.lemmas.List.Folds.{Any-from_list_any, list_any-from_Any}
 use Rattle.std.proofs.lemmas.Option.{slice_get-get_or, slice_get_within, get_or_from_slice_get, slice_get_past}
+use Rattle.lf_model.specs.Address.{no_bank}
 use Rattle.lf_model.specs.Order.{log_at}
 use Rattle.lf_model.specs.declared.ring.Knot.{Knot}
 use Rattle.lf_model.specs.Ring.{entry_at, IsWait}
@@ -78,10 +79,11 @@ test_from_smaller xs from bank number s =
 
 -- the test of the code, at the entry that it read
 pub wait_from_smaller : (skeletons : List (List (ℕ × ℕ))) (knot next : Knot) (waiting : ℕ × ℕ) → entry_at (log_at skeletons knot.log) knot.at ≡ Some waiting
-    → Smaller (log_at skeletons next.log) (next.at + 1) waiting.0 waiting.1 → IsWait skeletons knot next
-wait_from_smaller skeletons knot next waiting named s = record {
+    → waiting.0 < no_bank → Smaller (log_at skeletons next.log) (next.at + 1) waiting.0 waiting.1 → IsWait skeletons knot next
+wait_from_smaller skeletons knot next waiting named is_bank s = record {
   waiting = waiting;
   named = named;
+  is_bank = is_bank;
   place = s.place;
   behind = let behind = s.behind in omega arith;
   earlier = s.entry;
@@ -105,6 +107,10 @@ smaller_from_wait skeletons knot next waiting named w =
       same_bank = w.same_bank ∙ ap (λ (e : ℕ × ℕ). e.0) same;
       smaller = subst (λ n. w.earlier.1 < n) (ap (λ (e : ℕ × ℕ). e.1) same) w.smaller;
     }
+
+pub waits_at_bank : (skeletons : List (List (ℕ × ℕ))) (knot next : Knot) (waiting : ℕ × ℕ) → entry_at (log_at skeletons knot.log) knot.at ≡ Some waiting
+    → IsWait skeletons knot next → waiting.0 < no_bank
+waits_at_bank skeletons knot next waiting named w = subst (λ (e : ℕ × ℕ). e.0 < no_bank) (some_same (sym w.named ∙ named)) w.is_bank
 
 pub no_wait : (skeletons : List (List (ℕ × ℕ))) (knot next : Knot) → length (log_at skeletons knot.log) ≤ knot.at → IsWait skeletons knot next → ⊥
 no_wait skeletons knot next past w =

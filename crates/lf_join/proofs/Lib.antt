@@ -1,5 +1,6 @@
 pub mod LogSetLemmas
 pub mod RosterLemmas
+pub mod Due
 pub mod Entries
 pub mod Orders
 pub mod Merge

@@ -5,11 +5,13 @@ use Rattle.std.specs.List.{range_with_len, flat_map}
 use Rattle.std.proofs.lemmas.Bool.{cases_Bool, cases_eq, cases_lt, cond-true, cond-false}
 use Rattle.std.proofs.lemmas.List.{get_or-set_same, get_or-set_other, drop-drop, length-append, map-append, append-nil, append_assoc, length-replicate, length-set}
 use Rattle.std.proofs.lemmas.List.Elements.{filter-append}
+use Rattle.lf_model.specs.Address.{no_bank}
 use Rattle.lf_model.specs.Order.{log_at, after_next, entries_of, EntriesKeepNumbers}
 use Rattle.lf_model.specs.Ring.{entry_at}
 use Rattle.lf_join.specs.Join.{lists_of, TakesUpTo, next_number}
 use Rattle.std.specs.Global.{Vec}
 use Rattle.lf_join.proofs.Entries.{log_at-past}
+use Rattle.lf_join.proofs.Due.{due_carries, due_from}
 use Rattle.lf_join.specs.Heads.{next_entry, carries_next, can_go, Advances, IsAt, IsMerged}
 use Rattle.lf_join.proofs.Orders.{after_same, after_other, bump, bump_same, bump_other, Goes, IsLeastRun, HasNone, least_goes_first, none_before, least_at_end, none_where_stuck, runs_from_order, least_order}
 
@@ -70,16 +72,16 @@ module _ (gone : List (ℕ × ℕ)) (x : ℕ × ℕ) where
         | inr e ↦ ap length (of_bank_same bank e) ∙ sym (cond-false (x.0 == bank) (next_number gone bank + 1) (next_number gone bank) e)
       ]
 
-  pub kept_more : x.1 ≡ next_number gone x.0 → EntriesKeepNumbers gone → EntriesKeepNumbers more
-  kept_more first kept bank = elim (cases_Bool (x.0 == bank)) [
+  pub kept_more : (x.0 < no_bank → x.1 ≡ next_number gone x.0) → EntriesKeepNumbers gone → EntriesKeepNumbers more
+  kept_more first kept bank lt = elim (cases_Bool (x.0 == bank)) [
     | inl e ↦
         let is = of_bank_more bank (eqb-true x.0 bank e) in
-        let is_number : x.1 ≡ length (entries_of bank gone) = first ∙ ap (next_number gone) (eqb-true x.0 bank e) in
+        let is_number : x.1 ≡ length (entries_of bank gone) = first (subst (λ k. k < no_bank) (sym (eqb-true x.0 bank e)) lt) ∙ ap (next_number gone) (eqb-true x.0 bank e) in
         ap (map (λ (e : ℕ × ℕ). e.1)) is ∙ map-append (λ (e : ℕ × ℕ). e.1) (entries_of bank gone) (x ∷ [])
-        ∙ ap₂ (λ (ms ns : List ℕ). ms ++ ns) (kept bank) (ap (λ (k : ℕ). k ∷ []) (is_number ∙ sym (zero_add (length (entries_of bank gone)))))
+        ∙ ap₂ (λ (ms ns : List ℕ). ms ++ ns) (kept bank lt) (ap (λ (k : ℕ). k ∷ []) (is_number ∙ sym (zero_add (length (entries_of bank gone)))))
         ∙ range_more 0 (length (entries_of bank gone))
         ∙ ap (λ (k : ℕ). range_with_len 0 k) (sym (ap length is ∙ length-append (entries_of bank gone) (x ∷ [])))
-    | inr e ↦ subst (λ (es : List (ℕ × ℕ)). map (λ (e : ℕ × ℕ). e.1) es ≡ range_with_len 0 (length es)) (sym (of_bank_same bank e)) (kept bank)
+    | inr e ↦ subst (λ (es : List (ℕ × ℕ)). map (λ (e : ℕ × ℕ). e.1) es ≡ range_with_len 0 (length es)) (sym (of_bank_same bank e)) (kept bank lt)
   ]
     where
       zero_add : (n : ℕ) → 0 + n ≡ n
@@ -105,9 +107,9 @@ at_start skeletons = record {
     gone = [];
     left = skeletons;
     taken = refl;
-    kept = λ bank. refl;
+    kept = λ bank lt. refl;
     placed = λ log. ap (λ (n : ℕ). drop n (log_at skeletons log)) (sym (zeros 32 log));
-    counted = λ bank. zeros 256 bank;
+    counted = λ bank lt. zeros 256 bank;
   };
   least = λ rest is. is;
   none = λ none. none;
@@ -116,11 +118,11 @@ at_start skeletons = record {
 }
 
 -- the next entry, as the code reads it and as what is left begins
-pub can_go_carries : (next : List ℕ) (o : Option (ℕ × ℕ)) (x : ℕ × ℕ) → carries_next next o ≡ true → o ≡ Some x → x.1 ≡ slice_index next x.0
-can_go_carries next o x can is = eqb-true x.1 (slice_index next x.0) (subst (λ (p : Option (ℕ × ℕ)). carries_next next p ≡ true) is can)
+pub can_go_carries : (next : List ℕ) (o : Option (ℕ × ℕ)) (x : ℕ × ℕ) → carries_next next o ≡ true → o ≡ Some x → x.0 < no_bank → x.1 ≡ slice_index next x.0
+can_go_carries next o x can is = due_carries next x (subst (λ (p : Option (ℕ × ℕ)). carries_next next p ≡ true) is can)
 
-pub carries_can_go : (next : List ℕ) (o : Option (ℕ × ℕ)) (x : ℕ × ℕ) → o ≡ Some x → x.1 ≡ slice_index next x.0 → carries_next next o ≡ true
-carries_can_go next o x is carries = ap (carries_next next) is ∙ eq-eqb x.1 (slice_index next x.0) carries
+pub carries_can_go : (next : List ℕ) (o : Option (ℕ × ℕ)) (x : ℕ × ℕ) → o ≡ Some x → (x.0 < no_bank → x.1 ≡ slice_index next x.0) → carries_next next o ≡ true
+carries_can_go next o x is carries = ap (carries_next next) is ∙ due_from next x carries
 
 module _ (skeletons : List (List (ℕ × ℕ))) (order places next : List ℕ) where
   pub left_first : (at : IsAt skeletons order places next) (log : ℕ) (x : ℕ × ℕ) → next_entry skeletons places log ≡ Some x → log_at at.left log ≡ x ∷ drop 1 (log_at at.left log)
@@ -132,14 +134,14 @@ module _ (skeletons : List (List (ℕ × ℕ))) (order places next : List ℕ) w
   goes_from_test at log x can is = record {
     entry = x;
     first = left_first at log x is;
-    carries = can_go_carries next (next_entry skeletons places log) x can is ∙ at.counted x.0;
+    carries = λ lt. can_go_carries next (next_entry skeletons places log) x can is lt ∙ at.counted x.0 lt;
   }
 
   pub test_from_goes : (at : IsAt skeletons order places next) (log : ℕ) → Goes at.left (next_number at.gone) log → can_go skeletons places next log ≡ true
   test_from_goes at log goes =
       carries_can_go next (next_entry skeletons places log) goes.entry
       (first_at (log_at skeletons log) (slice_index places log) goes.entry (drop 1 (log_at at.left log)) (sym (at.placed log) ∙ goes.first))
-      (goes.carries ∙ sym (at.counted goes.entry.0))
+      (λ lt. goes.carries lt ∙ sym (at.counted goes.entry.0 lt))
 
   false_true : (b : Bool) → b ≡ false → b ≡ true → ⊥
   false_true b f t = cc
@@ -154,7 +156,7 @@ module _ (skeletons : List (List (ℕ × ℕ))) (order places next : List ℕ) w
           taken = taken_more skeletons order o.is_at.gone o.is_at.left log x o.is_at.taken goes.first;
           kept = kept_more o.is_at.gone x goes.carries o.is_at.kept;
           placed = placed;
-          counted = λ bank. counted bank ∙ sym (ap (λ (f : ℕ → ℕ). f bank) (next_more o.is_at.gone x));
+          counted = λ bank lt. counted bank lt ∙ sym (ap (λ (f : ℕ → ℕ). f bank) (next_more o.is_at.gone x));
         };
         least = λ rest is. subst (λ (os : List ℕ). IsLeastRun skeletons (λ _. 0) os) (sym (append_assoc order (log ∷ []) rest))
             (o.least (log ∷ rest) (least_goes_first o.is_at.left (next_number o.is_at.gone) log goes below rest
@@ -162,7 +164,7 @@ module _ (skeletons : List (List (ℕ × ℕ))) (order places next : List ℕ) w
         none = λ none. o.none (none_before o.is_at.left (next_number o.is_at.gone) log goes
             (subst (λ (f : ℕ → ℕ). HasNone (after_next o.is_at.left log) f) (next_more o.is_at.gone x) none));
         places_len = ap length a.moved ∙ length-set places log (slice_index places log + 1) ∙ o.places_len;
-        next_len = ap length a.counted ∙ length-set next x.0 (slice_index next x.0 + 1) ∙ o.next_len;
+        next_len = ap length a.counted ∙ length-set next x.0 (x.1 + 1) ∙ o.next_len;
       }
     where
       x : ℕ × ℕ
@@ -183,13 +185,13 @@ module _ (skeletons : List (List (ℕ × ℕ))) (order places next : List ℕ) w
             ∙ ap (λ k. drop k (log_at skeletons n)) (sym (ap (λ (ps : List ℕ). slice_index ps n) a.moved ∙ get_or-set_other places log n (slice_index places log + 1) 0 apart))
       ]
 
-      counted : (bank : ℕ) → slice_index new_next bank ≡ bump (next_number o.is_at.gone) x.0 bank
-      counted bank = elim (cases_eq bank x.0) [
+      counted : (bank : ℕ) → bank < no_bank → slice_index new_next bank ≡ bump (next_number o.is_at.gone) x.0 bank
+      counted bank lt = elim (cases_eq bank x.0) [
         | inl same ↦ subst (λ k. slice_index new_next k ≡ bump (next_number o.is_at.gone) x.0 k) (sym same)
-            (ap (λ (ns : List ℕ). slice_index ns x.0) a.counted ∙ get_or-set_same next x.0 (slice_index next x.0 + 1) 0 (let is_bank = a.is_bank in let len = o.next_len in omega arith)
-            ∙ ap (λ k. k + 1) (o.is_at.counted x.0) ∙ sym (bump_same (next_number o.is_at.gone) x.0 x.0 refl))
-        | inr apart ↦ ap (λ (ns : List ℕ). slice_index ns bank) a.counted ∙ get_or-set_other next x.0 bank (slice_index next x.0 + 1) 0 apart
-            ∙ o.is_at.counted bank ∙ sym (bump_other (next_number o.is_at.gone) x.0 bank (λ e. apart (sym e)))
+            (ap (λ (ns : List ℕ). slice_index ns x.0) a.counted ∙ get_or-set_same next x.0 (x.1 + 1) 0 (let is_bank = a.is_bank in let len = o.next_len in omega arith)
+            ∙ ap (λ k. k + 1) (goes.carries (subst (λ k. k < no_bank) same lt)) ∙ sym (bump_same (next_number o.is_at.gone) x.0 x.0 refl))
+        | inr apart ↦ ap (λ (ns : List ℕ). slice_index ns bank) a.counted ∙ get_or-set_other next x.0 bank (x.1 + 1) 0 apart
+            ∙ o.is_at.counted bank lt ∙ sym (bump_other (next_number o.is_at.gone) x.0 bank (λ e. apart (sym e)))
       ]
 
   pub all_gone : Ongoing skeletons order places next → ((log : ℕ) → can_go skeletons places next log ≡ false) → IsMerged skeletons order places next

@@ -7,7 +7,7 @@ use Rattle.std.proofs.Math.Nat.{mod-eq_of_lt, mod_self}
 use Rattle.lf_model.specs.declared.ring.Knot.{Knot}
 use Rattle.lf_model.specs.Order.{log_at, IsNotAbove}
 use Rattle.lf_model.specs.Ring.{entry_at, knot_at, no_knot}
-use Rattle.lf_join.specs.Join.{next_number, WaitsFor, Leads}
+use Rattle.lf_join.specs.Join.{next_number, NothingGoes, WaitsFor, Leads}
 use Rattle.lf_join.specs.Heads.{is_next}
 use Rattle.lf_join.specs.Laws.{LeastOrdersAreOne, StuckRingsAdmitNone, StuckRingsAreOne}
 use Rattle.lf_join.proofs.Orders.{none_where_stuck, runs_from_order}
@@ -96,8 +96,8 @@ same_entry : {x y : ℕ × ℕ} → ◌≡◌ {A = Option (ℕ × ℕ)} (Some x)
 same_entry e = cc
 
 -- Each log waits for one log.
-one_wait : (gone : List (ℕ × ℕ)) (left : List (List (ℕ × ℕ))) → AtMostOnce left (next_number gone) → (log a b : ℕ) → WaitsFor gone left log a → WaitsFor gone left log b → a ≡ b
-one_wait gone left once log a b w w' = elim (cases_eq a b) [
+one_wait : (gone : List (ℕ × ℕ)) (left : List (List (ℕ × ℕ))) → NothingGoes gone left → AtMostOnce left (next_number gone) → (log a b : ℕ) → WaitsFor gone left log a → WaitsFor gone left log b → a ≡ b
+one_wait gone left nothing once log a b w w' = elim (cases_eq a b) [
   | inl same ↦ same
   | inr apart ↦
       let bank = w.waiting.0 in
@@ -107,7 +107,7 @@ one_wait gone left once log a b w w' = elim (cases_eq a b) [
       let test : is_next bank k (bank, k) ≡ true = and_from (bank == bank) (k == k) (eq-eqb bank bank refl) (eq-eqb k k refl) in
       let some_left = one_in_joined (of_its_bank bank) left a w.place (bank, k) w.holds (eq-eqb bank bank refl) in
       let two = two_apart (is_next bank k) left a b w.place w'.place (bank, k) (bank, k) apart w.holds holds' test test in
-      absurd (omega (arith, two, once bank k (omega (arith, some_left))))
+      absurd (omega (arith, two, once bank k (nothing log w.waiting w.first).0 (omega (arith, some_left))))
 ]
 
 -- the same waits, where the same is left and the same numbers go next
@@ -154,7 +154,7 @@ stuck_rings_are_one skeletons ring other whole s t =
     let waits = WaitsFor s.gone s.left in
     let waits' = WaitsFor t.gone t.left in
     let by : (log to : ℕ) → waits' log to → waits log to = other_wait s.gone t.gone s.left t.left end.0 end.1 in
-    let one = one_wait s.gone s.left (once_at_end skeletons s.left (λ _. 0) (next_number s.gone) runs.0 runs.1 once) in
+    let one = one_wait s.gone s.left s.nothing_goes (once_at_end skeletons s.left (λ _. 0) (next_number s.gone) runs.0 runs.1 once) in
     let start : s.start ≡ t.start = same_start s.left t.left end.0 s.start t.start s.some_left t.some_left s.none_below t.none_below in
     let round = round_of_ring waits ring s.some_knot s.waits s.lowest in
     let round' = round_of_ring waits other t.some_knot (λ j lt. by (knot_at other j).log (knot_at other ((j + 1) % length other)).log (t.waits j lt)) t.lowest in

@@ -4,6 +4,7 @@ use mathlib.Core.Path.{ap₂}
 use Rattle.std.specs.List.{range_with_len}
 use Rattle.std.proofs.lemmas.Bool.{cases_Bool, cases_eq, cases_lt, cond-true, cond-false}
 use Rattle.std.proofs.lemmas.List.{get_or-set_same, get_or-set_other, set_past, get_or_past, set_comm}
+use Rattle.lf_model.specs.Address.{no_bank}
 use Rattle.lf_model.specs.Order.{log_at, after_next, Takes, entries_of, IsOrder, IsNotAbove, IsLeastOrder}
 
 -- ---- what is left of the logs
@@ -61,13 +62,13 @@ bump_other next bank n apart = elim (cases_Bool (bank == n)) [
 
 -- ---- runs
 
--- The log's next entry carries its bank's next number.
+-- The log's next entry names no bank, or carries its bank's next number.
 pub record Goes (left : List (List (ℕ × ℕ))) (next : ℕ → ℕ) (log : ℕ) : Type 0 where
   pub entry : ℕ × ℕ
   pub first : log_at left log ≡ entry ∷ drop 1 (log_at left log)
-  pub carries : entry.1 ≡ next entry.0
+  pub carries : entry.0 < no_bank → entry.1 ≡ next entry.0
 
--- The order takes what is left, each entry with its bank's next number.
+-- The order takes what is left, each entry of a bank with the bank's next number.
 abbrev pub Runs : List (List (ℕ × ℕ)) → (ℕ → ℕ) → List ℕ → Type 0
 Runs left next [] = (log : ℕ) → log_at left log ≡ []
 Runs left next (log ∷ order) = (goes : Goes left next log) × Runs (after_next left log) (bump next goes.entry.0) order
@@ -88,17 +89,17 @@ still_first left log other x apart first = subst (λ xs. xs ≡ x ∷ drop 1 xs)
 
 -- An entry whose number has passed never goes.
 stale : (left : List (List (ℕ × ℕ))) (next : ℕ → ℕ) (order : List ℕ) (log : ℕ) (x : ℕ × ℕ)
-    → log_at left log ≡ x ∷ drop 1 (log_at left log) → x.1 < next x.0 → Runs left next order → ⊥
-stale left next [] log x first small runs = nothing_first (sym (runs log) ∙ first)
-stale left next (m ∷ order) log x first small (goes, runs) =
+    → log_at left log ≡ x ∷ drop 1 (log_at left log) → x.0 < no_bank → x.1 < next x.0 → Runs left next order → ⊥
+stale left next [] log x first is_bank small runs = nothing_first (sym (runs log) ∙ first)
+stale left next (m ∷ order) log x first is_bank small (goes, runs) =
     elim (cases_eq log m) [
       | inl same ↦
           let head : x ≡ goes.entry = same_first (sym first ∙ subst (λ k. log_at left k ≡ goes.entry ∷ drop 1 (log_at left k)) (sym same) goes.first) in
-          let carries : x.1 ≡ next x.0 = subst (λ (e : ℕ × ℕ). e.1 ≡ next e.0) (sym head) goes.carries in
+          let carries : x.1 ≡ next x.0 = subst (λ (e : ℕ × ℕ). e.0 < no_bank → e.1 ≡ next e.0) (sym head) goes.carries is_bank in
           omega (arith, carries, small)
       | inr apart ↦
           let le = bump_le next goes.entry.0 x.0 in
-          stale (after_next left m) (bump next goes.entry.0) order log x (still_first left m log x apart first) (omega (arith, le, small)) runs
+          stale (after_next left m) (bump next goes.entry.0) order log x (still_first left m log x apart first) is_bank (omega (arith, le, small)) runs
     ]
 
 -- A log that can go now may as well go first.
@@ -108,32 +109,28 @@ exchange left next [] log goes runs = absurd (nothing_first (sym (runs log) ∙ 
 exchange left next (m ∷ order) log goes (goes', runs) =
     elim (cases_eq log m) [
       | inl same ↦ (order, first_of_all log m same goes goes' runs)
-      | inr apart ↦ (elim (cases_eq goes'.entry.0 goes.entry.0) [
-        | inl same_bank ↦
-            let carries' = goes'.carries in
-            let carries = goes.carries in
-            absurd (stale (after_next left m) (bump next goes'.entry.0) order log goes.entry (still_first left m log goes.entry apart goes.first)
-            (omega (arith, bump_same next goes'.entry.0 goes.entry.0 same_bank, carries)) runs)
-        | inr other_bank ↦
-            let later : Goes (after_next left m) (bump next goes'.entry.0) log = record {
-              entry = goes.entry;
-              first = still_first left m log goes.entry apart goes.first;
-              carries = goes.carries ∙ sym (bump_other next goes'.entry.0 goes.entry.0 other_bank);
-            } in
-            let rest = exchange (after_next left m) (bump next goes'.entry.0) order log later runs in
-            let sooner : Goes (after_next left log) (bump next goes.entry.0) m = record {
-              entry = goes'.entry;
-              first = still_first left log m goes'.entry (λ e. apart (sym e)) goes'.first;
-              carries = goes'.carries ∙ sym (bump_other next goes.entry.0 goes'.entry.0 (λ e. other_bank (sym e)));
-            } in (
-              m ∷ rest.0,
-              (
-                sooner,
-                subst (λ ls. Runs ls (bump (bump next goes.entry.0) goes'.entry.0) rest.0) (after_comm left m log (λ e. apart (sym e)))
-                    (subst (λ (f : ℕ → ℕ). Runs (after_next (after_next left m) log) f rest.0) (bump_comm next goes'.entry.0 goes.entry.0) rest.1),
-              ),
-            )
-      ])
+      | inr apart ↦
+          let other_bank : goes.entry.0 < no_bank → goes'.entry.0 ≢ goes.entry.0 = λ lt same_bank.
+          stale (after_next left m) (bump next goes'.entry.0) order log goes.entry (still_first left m log goes.entry apart goes.first)
+          lt (omega (arith, bump_same next goes'.entry.0 goes.entry.0 same_bank, goes.carries lt)) runs in
+          let later : Goes (after_next left m) (bump next goes'.entry.0) log = record {
+            entry = goes.entry;
+            first = still_first left m log goes.entry apart goes.first;
+            carries = λ lt. goes.carries lt ∙ sym (bump_other next goes'.entry.0 goes.entry.0 (other_bank lt));
+          } in
+          let rest = exchange (after_next left m) (bump next goes'.entry.0) order log later runs in
+          let sooner : Goes (after_next left log) (bump next goes.entry.0) m = record {
+            entry = goes'.entry;
+            first = still_first left log m goes'.entry (λ e. apart (sym e)) goes'.first;
+            carries = λ lt. goes'.carries lt ∙ sym (bump_other next goes.entry.0 goes'.entry.0 (λ e. other_bank (subst (λ k. k < no_bank) (sym e) lt) (sym e)));
+          } in (
+            m ∷ rest.0,
+            (
+              sooner,
+              subst (λ ls. Runs ls (bump (bump next goes.entry.0) goes'.entry.0) rest.0) (after_comm left m log (λ e. apart (sym e)))
+                  (subst (λ (f : ℕ → ℕ). Runs (after_next (after_next left m) log) f rest.0) (bump_comm next goes'.entry.0 goes.entry.0) rest.1),
+            ),
+          )
     ]
   where
     first_of_all : (log m : ℕ) → log ≡ m → (goes : Goes left next log) (goes' : Goes left next m) → Runs (after_next left m) (bump next goes'.entry.0) order
@@ -189,28 +186,28 @@ none_where_stuck left next stuck log some_left (m ∷ order) (goes, runs) = stuc
 -- ---- runs and orders
 
 abbrev pub Keeps : (ℕ → ℕ) → List (ℕ × ℕ) → Type 0
-Keeps next xs = (bank : ℕ) → map (λ (e : ℕ × ℕ). e.1) (entries_of bank xs) ≡ range_with_len (next bank) (length (entries_of bank xs))
+Keeps next xs = (bank : ℕ) → bank < no_bank → map (λ (e : ℕ × ℕ). e.1) (entries_of bank xs) ≡ range_with_len (next bank) (length (entries_of bank xs))
 
 first_number : (a b n : ℕ) (rest : List ℕ) → a ∷ rest ≡ range_with_len b (suc n) → (a ≡ b) × (rest ≡ range_with_len (b + 1) n)
 first_number a b n rest e = (cc, cc)
 
-pub keeps_first : (next : ℕ → ℕ) (x : ℕ × ℕ) (xs : List (ℕ × ℕ)) → Keeps next (x ∷ xs) → x.1 ≡ next x.0
-keeps_first next x xs keeps =
+pub keeps_first : (next : ℕ → ℕ) (x : ℕ × ℕ) (xs : List (ℕ × ℕ)) → Keeps next (x ∷ xs) → x.0 < no_bank → x.1 ≡ next x.0
+keeps_first next x xs keeps lt =
     let is : entries_of x.0 (x ∷ xs) ≡ x ∷ entries_of x.0 xs = cond-true (x.0 == x.0) (x ∷ entries_of x.0 xs) (entries_of x.0 xs) (eq-eqb x.0 x.0 refl) in
-    (first_number x.1 (next x.0) (length (entries_of x.0 xs)) (map (λ (e : ℕ × ℕ). e.1) (entries_of x.0 xs)) (subst (λ (es : List (ℕ × ℕ)). map (λ (e : ℕ × ℕ). e.1) es ≡ range_with_len (next x.0) (length es)) is (keeps x.0))).0
+    (first_number x.1 (next x.0) (length (entries_of x.0 xs)) (map (λ (e : ℕ × ℕ). e.1) (entries_of x.0 xs)) (subst (λ (es : List (ℕ × ℕ)). map (λ (e : ℕ × ℕ). e.1) es ≡ range_with_len (next x.0) (length es)) is (keeps x.0 lt))).0
 
 pub keeps_rest : (next : ℕ → ℕ) (x : ℕ × ℕ) (xs : List (ℕ × ℕ)) → Keeps next (x ∷ xs) → Keeps (bump next x.0) xs
-keeps_rest next x xs keeps bank = go (x.0 == bank) (keeps bank)
+keeps_rest next x xs keeps bank lt = go (x.0 == bank) (keeps bank lt)
   where
     go : (b : Bool) → map (λ (e : ℕ × ℕ). e.1) (cond b (x ∷ entries_of bank xs) (entries_of bank xs)) ≡ range_with_len (next bank) (length (cond b (x ∷ entries_of bank xs) (entries_of bank xs)))
         → map (λ (e : ℕ × ℕ). e.1) (entries_of bank xs) ≡ range_with_len (cond b (next bank + 1) (next bank)) (length (entries_of bank xs))
     go true e = (first_number x.1 (next bank) (length (entries_of bank xs)) (map (λ (e : ℕ × ℕ). e.1) (entries_of bank xs)) e).1
     go false e = e
 
-pub keeps_more : (next : ℕ → ℕ) (x : ℕ × ℕ) (xs : List (ℕ × ℕ)) → x.1 ≡ next x.0 → Keeps (bump next x.0) xs → Keeps next (x ∷ xs)
-keeps_more next x xs first keeps bank = elim (cases_Bool (x.0 == bank)) [
-  | inl e ↦ subst (λ b. Goal b) (sym e) (ap₂ (λ (a : ℕ) (rest : List ℕ). a ∷ rest) (first ∙ ap next (eqb-true x.0 bank e)) (subst (λ b. Rest b) e (keeps bank)))
-  | inr e ↦ subst (λ b. Goal b) (sym e) (subst (λ b. Rest b) e (keeps bank))
+pub keeps_more : (next : ℕ → ℕ) (x : ℕ × ℕ) (xs : List (ℕ × ℕ)) → (x.0 < no_bank → x.1 ≡ next x.0) → Keeps (bump next x.0) xs → Keeps next (x ∷ xs)
+keeps_more next x xs first keeps bank lt = elim (cases_Bool (x.0 == bank)) [
+  | inl e ↦ subst (λ b. Goal b) (sym e) (ap₂ (λ (a : ℕ) (rest : List ℕ). a ∷ rest) (first (subst (λ k. k < no_bank) (sym (eqb-true x.0 bank e)) lt) ∙ ap next (eqb-true x.0 bank e)) (subst (λ b. Rest b) e (keeps bank lt)))
+  | inr e ↦ subst (λ b. Goal b) (sym e) (subst (λ b. Rest b) e (keeps bank lt))
 ]
   where
     Goal : Bool → Type 0
@@ -228,7 +225,7 @@ runs_from_takes left next (log ∷ order) (x ∷ xs) takes keeps =
     (goes, runs_from_takes (after_next left log) (bump next x.0) order xs takes.1 (keeps_rest next x xs keeps))
 
 pub takes_from_runs : (left : List (List (ℕ × ℕ))) (next : ℕ → ℕ) (order : List ℕ) → Runs left next order → (xs : List (ℕ × ℕ)) × Takes left order xs × Keeps next xs
-takes_from_runs left next [] runs = ([], runs, λ bank. refl)
+takes_from_runs left next [] runs = ([], runs, λ bank lt. refl)
 takes_from_runs left next (log ∷ order) (goes, runs) =
     let rest = takes_from_runs (after_next left log) (bump next goes.entry.0) order runs in
     (goes.entry ∷ rest.0, (goes.first, rest.1), keeps_more next goes.entry rest.0 goes.carries rest.2)

@@ -12,7 +12,7 @@ use Rattle.lf_join.specs.Heads.{next_entry, can_go, IsAt, HeadsWait, IsRound, kn
 use Rattle.lf_join.proofs.Merge.{left_first, none_left, carries_can_go}
 use Rattle.lf_join.proofs.Rounds.{chain_at}
 use Rattle.lf_join.proofs.Waits.{within_log}
-use Rattle.lf_join.proofs.Stuck.{entry_at-drop, above}
+use Rattle.lf_join.proofs.Stuck.{entry_at-drop, names_bank, above}
 
 turn : (logs : List ℕ) (j : ℕ) → j < length logs → slice_index (logs ++ slice_index logs 0 ∷ []) (suc j) ≡ slice_index logs ((j + 1) % length logs)
 turn logs j lt = elim (cases_lt (suc j) (length logs)) [
@@ -63,13 +63,14 @@ module _ (skeletons : List (List (ℕ × ℕ))) (order places next : List ℕ) (
         place = w.place - slice_index places other;
         holds = ap (λ (xs : List (ℕ × ℕ)). entry_at xs (w.place - slice_index places other)) (at.placed other)
             ∙ entry_at-drop (slice_index places other) (log_at skeletons other) (w.place - slice_index places other)
-            ∙ ap (λ n. entry_at (log_at skeletons other) n) same ∙ w.holds ∙ ap (λ n. Some (w.waiting.0, n)) (at.counted w.waiting.0);
+            ∙ ap (λ n. entry_at (log_at skeletons other) n) same ∙ w.holds ∙ ap (λ n. Some (w.waiting.0, n)) (at.counted w.waiting.0 (names_bank skeletons order places next at whole nothing log w.waiting w.first));
       }
 
   is_wait : (log other : ℕ) → HeadsWait skeletons places next log other → IsWait skeletons (knot_of places log) (knot_of places other)
   is_wait log other w = record {
     waiting = w.waiting;
     named = w.first;
+    is_bank = names_bank skeletons order places next at whole nothing log w.waiting w.first;
     place = w.place;
     behind = (elim (cases_lt (slice_index places other) w.place) [
       | inl lt ↦ lt
@@ -77,7 +78,7 @@ module _ (skeletons : List (List (ℕ × ℕ))) (order places next : List ℕ) (
           let not_gone = w.not_gone in
           let same : w.place ≡ slice_index places other = omega arith in
           let head : next_entry skeletons places other ≡ Some (w.waiting.0, slice_index next w.waiting.0) = ap (λ n. entry_at (log_at skeletons other) n) (sym same) ∙ w.holds in
-          absurd (false_true (can_go skeletons places next other) (nothing other) (carries_can_go next (next_entry skeletons places other) (w.waiting.0, slice_index next w.waiting.0) head refl))
+          absurd (false_true (can_go skeletons places next other) (nothing other) (carries_can_go next (next_entry skeletons places other) (w.waiting.0, slice_index next w.waiting.0) head (λ _. refl)))
     ]);
     earlier = (w.waiting.0, slice_index next w.waiting.0);
     there = w.holds;
@@ -98,9 +99,11 @@ module _ (skeletons : List (List (ℕ × ℕ))) (order places next : List ℕ) (
       ap (λ n. entry_at (log_at skeletons log) n) none ∙ sym (entry_at-drop (slice_index places log) (log_at skeletons log) 0) ∙ ap (λ (xs : List (ℕ × ℕ)). entry_at xs 0) (sym (at.placed log))
 
   nothing_goes : NothingGoes at.gone at.left
-  nothing_goes log entry first carries =
-      let is : next_entry skeletons places log ≡ Some entry = next_is log ∙ first in
-      false_true (can_go skeletons places next log) (nothing log) (carries_can_go next (next_entry skeletons places log) entry is (carries ∙ sym (at.counted entry.0)))
+  nothing_goes log entry first =
+      let is : next_entry skeletons places log ≡ Some entry = next_is log ∙ first in (
+        names_bank skeletons order places next at whole nothing log entry is,
+        λ carries. false_true (can_go skeletons places next log) (nothing log) (carries_can_go next (next_entry skeletons places log) entry is (λ lt. carries ∙ sym (at.counted entry.0 lt))),
+      )
 
   pub is_stuck_ring : (start : ℕ) (logs : List ℕ) → IsRound (HeadsWait skeletons places next) start logs → IsSome (next_entry skeletons places start)
       → ((log : ℕ) → log < start → next_entry skeletons places log ≡ None) → IsStuckRing skeletons (map (knot_of places) logs)

@@ -1,13 +1,15 @@
 -- The roster of a merge, step by step.
-use Rattle.std.proofs.Common.{◌≡◌, ◌≢◌, ℕ, zero, suc, ◌+◌, ◌%◌, ◌<◌, ◌≤◌, Bool, true, false, cond, ◌==◌, ◌&&◌, inl, inr, ◌⊎◌, List, [], length, replicate, get_or, set, Option, Some, None, slice_index, refl, sym, ap, ◌∙◌, subst, eqb-true, eq-eqb, arith}
-use Rattle.std.proofs.lemmas.Bool.{cases_Bool, cases_eq, cond-true, cond-false, ne_eqb}
+use Rattle.std.proofs.Common.{◌≡◌, ◌≢◌, ℕ, zero, suc, ◌+◌, ◌%◌, ◌<◌, ◌≤◌, Bool, true, false, cond, not, ltb, ◌==◌, ◌&&◌, ◌||◌, inl, inr, ◌⊎◌, List, [], length, replicate, get_or, set, Option, Some, None, slice_index, refl, sym, ap, ◌∙◌, subst, eqb-true, eq-eqb, arith}
+use Rattle.std.proofs.lemmas.Bool.{cases_Bool, cases_eq, cases_lt, cond-true, cond-false, ne_eqb}
 use Rattle.std.proofs.lemmas.List.{get_or-set_same, get_or-set_other, length-set, length-replicate}
+use Rattle.lf_model.specs.Address.{no_bank}
 use Rattle.lf_model.specs.Order.{log_at}
 use Rattle.lf_model.specs.Ring.{entry_at}
 use Rattle.lf_join.specs.declared.log_set.LogSet.{LogSet}
 use Rattle.lf_join.specs.declared.roster.Roster.{Roster}
 use Rattle.lf_join.specs.LogSets.{has, IsEmpty, IsLowest, Changes}
-use Rattle.lf_join.specs.Heads.{next_entry, carries_next, can_go, Advances}
+use Rattle.lf_join.specs.Heads.{next_entry, carries_next, is_due, can_go, Advances}
+use Rattle.lf_join.proofs.Due.{of_bank, of_none, due_carries}
 use Rattle.lf_join.specs.Standings.{Standing, Nowhere, Goes, Waits, standing_of, is_going, is_waiting, waiting_at, IsKept, IsSized, Stands, OthersStay, once_called, IsCalled, AllStand, IsItsOwn}
 
 abbrev none : LogSet
@@ -306,33 +308,39 @@ nobody banks sets logs ready v banks_are sets_are logs_are none_ready none_waits
 
 pub standing_goes : (next : List ℕ) (o : Option (ℕ × ℕ)) → carries_next next o ≡ true → standing_of next o ≡ Goes
 standing_goes next None carries = cc
-standing_goes next (Some x) carries = cond-true (x.1 == slice_index next x.0) Goes (Waits x.0 x.1) carries
+standing_goes next (Some x) carries = cond-true (is_due next x) Goes (Waits x.0 x.1) carries
 
 pub going_carries : (next : List ℕ) (o : Option (ℕ × ℕ)) → is_going (standing_of next o) ≡ carries_next next o
 going_carries next None = refl
-going_carries next (Some x) = go (x.1 == slice_index next x.0)
+going_carries next (Some x) = go (is_due next x)
   where
     go : (b : Bool) → is_going (cond b Goes (Waits x.0 x.1)) ≡ b
     go true = refl
     go false = refl
 
 -- Where an entry that did not go stands, once the bank called its next number.
-called_standing : (next : List ℕ) (bank : ℕ) (o : Option (ℕ × ℕ)) → bank < length next → o ≢ Some (bank, slice_index next bank)
-    → once_called (standing_of next o) bank (slice_index next bank + 1) ≡ standing_of (set next bank (slice_index next bank + 1)) o
-called_standing next bank None within own = refl
-called_standing next bank (Some x) within own = elim (cases_eq x.0 bank) [
+called_standing : (next : List ℕ) (bank number : ℕ) (o : Option (ℕ × ℕ)) → bank < length next → (bank < no_bank → (number ≡ slice_index next bank) × (o ≢ Some (bank, number)))
+    → once_called (standing_of next o) bank (number + 1) ≡ standing_of (set next bank (number + 1)) o
+called_standing next bank number None within own = refl
+called_standing next bank number (Some x) within own = elim (cases_eq x.0 bank) [
   | inr other ↦
-      sleeps_on (standing_of next (Some x)) bank (slice_index next bank + 1) (λ n is. absurd (elsewhere (x.1 == slice_index next x.0) n other is))
-      ∙ ap (λ n. cond (x.1 == n) Goes (Waits x.0 x.1)) (sym (get_or-set_other next bank x.0 (slice_index next bank + 1) 0 other))
-  | inl same ↦
-      let number = slice_index next bank in
-      let not_gone : x.1 ≢ slice_index next x.0 = λ e. own (ap Some (pair_is x.0 x.1 bank number same (e ∙ ap (slice_index next) same))) in
-      let before : standing_of next (Some x) ≡ Waits x.0 x.1 = cond-false (x.1 == slice_index next x.0) Goes (Waits x.0 x.1) (ne_eqb x.1 (slice_index next x.0) not_gone) in
-      let is_next : slice_index (set next bank (number + 1)) x.0 ≡ number + 1 =
-      subst (λ k. slice_index (set next bank (number + 1)) k ≡ number + 1) (sym same) (get_or-set_same next bank (number + 1) 0 within) in
-      ap (λ (st : Standing). once_called st bank (number + 1)) before
-      ∙ ap (λ (b : Bool). cond b Goes (Waits x.0 x.1)) (first (x.0 == bank) (x.1 == number + 1) (eq-eqb x.0 bank same))
-      ∙ ap (λ n. cond (x.1 == n) Goes (Waits x.0 x.1)) (sym is_next)
+      sleeps_on (standing_of next (Some x)) bank (number + 1) (λ n is. absurd (elsewhere (is_due next x) n other is))
+      ∙ ap (λ n. cond (not (ltb x.0 no_bank) || (x.1 == n)) Goes (Waits x.0 x.1)) (sym (get_or-set_other next bank x.0 (number + 1) 0 other))
+  | inl same ↦ (elim (cases_lt x.0 no_bank) [
+    | inr free ↦
+        ap (λ (st : Standing). once_called st bank (number + 1)) (cond-true (is_due next x) Goes (Waits x.0 x.1) (of_none next x free))
+        ∙ sym (cond-true (is_due (set next bank (number + 1)) x) Goes (Waits x.0 x.1) (of_none (set next bank (number + 1)) x free))
+    | inl is_bank ↦
+        let mine = own (subst (λ k. k < no_bank) same is_bank) in
+        let not_gone : x.1 ≢ slice_index next x.0 = λ e. mine.1 (ap Some (pair_is x.0 x.1 bank number same (e ∙ ap (slice_index next) same ∙ sym mine.0))) in
+        let before : standing_of next (Some x) ≡ Waits x.0 x.1 = cond-false (is_due next x) Goes (Waits x.0 x.1) (of_bank next x is_bank ∙ ne_eqb x.1 (slice_index next x.0) not_gone) in
+        let is_next : slice_index (set next bank (number + 1)) x.0 ≡ number + 1 =
+        subst (λ k. slice_index (set next bank (number + 1)) k ≡ number + 1) (sym same) (get_or-set_same next bank (number + 1) 0 within) in
+        ap (λ (st : Standing). once_called st bank (number + 1)) before
+        ∙ ap (λ (b : Bool). cond b Goes (Waits x.0 x.1)) (first (x.0 == bank) (x.1 == number + 1) (eq-eqb x.0 bank same))
+        ∙ ap (λ n. cond (x.1 == n) Goes (Waits x.0 x.1)) (sym is_next)
+        ∙ ap (λ (b : Bool). cond b Goes (Waits x.0 x.1)) (sym (of_bank (set next bank (number + 1)) x is_bank))
+  ])
 ]
   where
     pair_is : (a b c d : ℕ) → a ≡ c → b ≡ d → ◌≡◌ {A = ℕ × ℕ} (a, b) (c, d)
@@ -358,8 +366,8 @@ module _ (L : List (List (ℕ × ℕ))) (places next new_places new_next : List 
   same_pair : {x y : ℕ × ℕ} → ◌≡◌ {A = Option (ℕ × ℕ)} (Some x) (Some y) → x ≡ y
   same_pair e = cc
 
-  number_is : number ≡ slice_index next bank
-  number_is = eqb-true number (slice_index next bank) (subst (λ (o : Option (ℕ × ℕ)). carries_next next o ≡ true) is goes)
+  number_is : bank < no_bank → number ≡ slice_index next bank
+  number_is = due_carries next (bank, number) (subst (λ (o : Option (ℕ × ℕ)). carries_next next o ≡ true) is goes)
 
   entry_is : gone.entry ≡ (bank, number)
   entry_is = same_pair (sym gone.there ∙ is)
@@ -367,8 +375,8 @@ module _ (L : List (List (ℕ × ℕ))) (places next new_places new_next : List 
   bank_within : bank < 256
   bank_within = subst (λ (x : ℕ × ℕ). x.0 < 256) entry_is gone.is_bank
 
-  next_is : new_next ≡ set next bank (slice_index next bank + 1)
-  next_is = gone.counted ∙ ap (λ (x : ℕ × ℕ). set next x.0 (slice_index next x.0 + 1)) entry_is
+  next_is : new_next ≡ set next bank (number + 1)
+  next_is = gone.counted ∙ ap (λ (x : ℕ × ℕ). set next x.0 (x.1 + 1)) entry_is
 
   other_entry : (other : ℕ) → other ≢ log → next_entry L new_places other ≡ next_entry L places other
   other_entry other apart = ap (λ (k : ℕ). entry_at (log_at L other) k) (ap (λ (ps : List ℕ). slice_index ps other) gone.moved ∙ get_or-set_other places log other (slice_index places log + 1) 0 apart)
@@ -379,9 +387,8 @@ module _ (L : List (List (ℕ × ℕ))) (places next new_places new_next : List 
     | inl same ↦ subst (λ m. Stands settled m (standing_of new_next (next_entry L new_places m))) (sym same) here
     | inr apart ↦
         let now : once_called (standing_of next (next_entry L places k)) bank (number + 1) ≡ standing_of new_next (next_entry L new_places k) =
-        ap (λ n. once_called (standing_of next (next_entry L places k)) bank (n + 1)) number_is
-        ∙ called_standing next bank (next_entry L places k) (let w = bank_within in omega arith) (λ e. own k (bank, number) apart is (e ∙ ap (λ n. Some (bank, n)) (sym number_is)))
-        ∙ ap (λ (o : Option (ℕ × ℕ)). standing_of (set next bank (slice_index next bank + 1)) o) (sym (other_entry k apart))
+        called_standing next bank number (next_entry L places k) (let w = bank_within in omega arith) (λ lt. (number_is lt, own k (bank, number) apart lt is))
+        ∙ ap (λ (o : Option (ℕ × ℕ)). standing_of (set next bank (number + 1)) o) (sym (other_entry k apart))
         ∙ ap (λ (ns : List ℕ). standing_of ns (next_entry L new_places k)) (sym next_is) in
         stay k (standing_of new_next (next_entry L new_places k)) lt apart
         (subst (Stands called_from k) now (are_called k (standing_of next (next_entry L places k)) lt (others k lt apart)))

@@ -5,11 +5,13 @@ use Rattle.std.specs.List.{range_with_len}
 use Rattle.std.proofs.lemmas.Bool.{cases_Bool, cases_eq, cases_lt, cond-true, cond-false, and_parts, and_from, ne_eqb}
 use Rattle.std.proofs.lemmas.List.{length-map}
 use Rattle.std.proofs.lemmas.List.Recursion.{is_count_by}
+use Rattle.lf_model.specs.Address.{no_bank}
 use Rattle.lf_model.specs.Order.{log_at, entries_of, EntriesKeepNumbers}
 use Rattle.lf_model.specs.Ring.{entry_at}
 use Rattle.lf_model.specs.Numbers.{times}
 use Rattle.lf_join.specs.Join.{BanksAreWhole, next_number}
-use Rattle.lf_join.specs.Heads.{next_entry, can_go, is_next, IsAt, AllWait, HeadsWait}
+use Rattle.lf_join.specs.Heads.{next_entry, carries_next, can_go, is_next, IsAt, AllWait, HeadsWait}
+use Rattle.lf_join.proofs.Due.{not_due}
 use Rattle.lf_join.proofs.Merge.{count, count-append, count-after, count-taken, joined, left_first, carries_can_go}
 
 -- ---- counts
@@ -56,8 +58,8 @@ some_in_range a (suc n) k from below =
     ]
 
 -- the numbers of the entries that went are those below the next one
-gone_numbers : (gone : List (ℕ × ℕ)) (bank k : ℕ) → EntriesKeepNumbers gone → count (is_next bank k) gone ≡ length (filter (λ m. m == k) (range_with_len 0 (next_number gone bank)))
-gone_numbers gone bank k kept = sym (numbered_is bank k gone) ∙ ap (λ (ms : List ℕ). length (filter (λ m. m == k) ms)) (kept bank)
+gone_numbers : (gone : List (ℕ × ℕ)) (bank k : ℕ) → bank < no_bank → EntriesKeepNumbers gone → count (is_next bank k) gone ≡ length (filter (λ m. m == k) (range_with_len 0 (next_number gone bank)))
+gone_numbers gone bank k lt kept = sym (numbered_is bank k gone) ∙ ap (λ (ms : List ℕ). length (filter (λ m. m == k) ms)) (kept bank lt)
 
 pub one_of : (p : ℕ × ℕ → Bool) (x : ℕ × ℕ) → p x ≡ true → count p (x ∷ []) ≡ 1
 one_of p x passes = ap length (cond-true (p x) (x ∷ []) [] passes)
@@ -97,6 +99,10 @@ entry_at-drop (suc n) (x ∷ xs) k = let e : suc (n + k) ≡ suc n + k = omega a
 -- ---- the waits
 
 module _ (skeletons : List (List (ℕ × ℕ))) (order places next : List ℕ) (at : IsAt skeletons order places next) (whole : BanksAreWhole skeletons) where
+  -- A next entry that cannot go names a bank.
+  pub names_bank : ((log : ℕ) → can_go skeletons places next log ≡ false) → (log : ℕ) (x : ℕ × ℕ) → next_entry skeletons places log ≡ Some x → x.0 < no_bank
+  names_bank nothing log x is = not_due next x (sym (ap (carries_next next) is) ∙ nothing log)
+
   -- how many entries of the bank of a next entry there are
   pub more_of_bank : (log : ℕ) (x : ℕ × ℕ) → next_entry skeletons places log ≡ Some x
       → next_number at.gone x.0 < length (map (λ (e : ℕ × ℕ). e.1) (entries_of x.0 (joined skeletons)))
@@ -108,20 +114,20 @@ module _ (skeletons : List (List (ℕ × ℕ))) (order places next : List ℕ) (
       omega (arith, here, left, all, length-map (entries_of x.0 (joined skeletons)) (λ (e : ℕ × ℕ). e.1))
 
   -- the bank's next number is still left
-  still_left : (log : ℕ) (x : ℕ × ℕ) → next_entry skeletons places log ≡ Some x → Found (is_next x.0 (next_number at.gone x.0)) at.left
-  still_left log x is =
+  still_left : (log : ℕ) (x : ℕ × ℕ) → x.0 < no_bank → next_entry skeletons places log ≡ Some x → Found (is_next x.0 (next_number at.gone x.0)) at.left
+  still_left log x lt is =
       let n = next_number at.gone x.0 in
       let test = is_next x.0 n in
-      let once : count test (joined skeletons) ≡ 1 = sym (times_is x.0 n (joined skeletons)) ∙ whole x.0 n (more_of_bank log x is) in
-      let none_gone : count test at.gone ≡ 0 = gone_numbers at.gone x.0 n at.kept ∙ none_in_range 0 n n (omega arith) in
+      let once : count test (joined skeletons) ≡ 1 = sym (times_is x.0 n (joined skeletons)) ∙ whole x.0 lt n (more_of_bank log x is) in
+      let none_gone : count test at.gone ≡ 0 = gone_numbers at.gone x.0 n lt at.kept ∙ none_in_range 0 n n (omega arith) in
       let all = count-taken test skeletons order at.gone at.left at.taken in
       found test at.left (omega (arith, once, none_gone, all))
 
   -- the log that holds it is the one that is waited for
-  waits_there : (log : ℕ) (x : ℕ × ℕ) → next_entry skeletons places log ≡ Some x → (f : Found (is_next x.0 (next_number at.gone x.0)) at.left) → HeadsWait skeletons places next log f.log
-  waits_there log x is f =
+  waits_there : (log : ℕ) (x : ℕ × ℕ) → x.0 < no_bank → next_entry skeletons places log ≡ Some x → (f : Found (is_next x.0 (next_number at.gone x.0)) at.left) → HeadsWait skeletons places next log f.log
+  waits_there log x lt is f =
       let parts = and_parts (f.entry.0 == x.0) (f.entry.1 == next_number at.gone x.0) f.passes in
-      let same : f.entry ≡ (x.0, slice_index next x.0) = ap₂ (λ a b. (a, b)) (eqb-true f.entry.0 x.0 parts.0) (eqb-true f.entry.1 (next_number at.gone x.0) parts.1 ∙ sym (at.counted x.0)) in
+      let same : f.entry ≡ (x.0, slice_index next x.0) = ap₂ (λ a b. (a, b)) (eqb-true f.entry.0 x.0 parts.0) (eqb-true f.entry.1 (next_number at.gone x.0) parts.1 ∙ sym (at.counted x.0 lt)) in
       record {
         waiting = x;
         first = is;
@@ -130,23 +136,24 @@ module _ (skeletons : List (List (ℕ × ℕ))) (order places next : List ℕ) (
         holds = sym (entry_at-drop (slice_index places f.log) (log_at skeletons f.log) f.place) ∙ ap (λ (xs : List (ℕ × ℕ)). entry_at xs f.place) (sym (at.placed f.log)) ∙ f.there ∙ ap Some same;
       }
 
-  pub all_wait : AllWait skeletons places next
-  all_wait log x is = let f = still_left log x is in (f.log, waits_there log x is f)
+  pub all_wait : ((log : ℕ) → can_go skeletons places next log ≡ false) → AllWait skeletons places next
+  all_wait nothing log x is = let lt = names_bank nothing log x is in let f = still_left log x lt is in (f.log, waits_there log x lt is f)
 
   -- A next entry that cannot go carries a number above its bank's next one.
   pub above : ((log : ℕ) → can_go skeletons places next log ≡ false) → (log : ℕ) (x : ℕ × ℕ) → next_entry skeletons places log ≡ Some x → slice_index next x.0 < x.1
   above nothing log x is = elim (cases_lt (slice_index next x.0) x.1) [
     | inl lt ↦ lt
     | inr le ↦ (elim (cases_eq x.1 (slice_index next x.0)) [
-      | inl same ↦ absurd (false_true (can_go skeletons places next log) (nothing log) (carries_can_go next (next_entry skeletons places log) x is same))
+      | inl same ↦ absurd (false_true (can_go skeletons places next log) (nothing log) (carries_can_go next (next_entry skeletons places log) x is (λ _. same)))
       | inr apart ↦
           let test = is_next x.0 x.1 in
           let n = next_number at.gone x.0 in
-          let n_is = at.counted x.0 in
+          let is_bank = names_bank nothing log x is in
+          let n_is = at.counted x.0 is_bank in
           let below : x.1 < n = omega (arith, le, apart, n_is) in
           let more = more_of_bank log x is in
-          let once : count test (joined skeletons) ≡ 1 = sym (times_is x.0 x.1 (joined skeletons)) ∙ whole x.0 x.1 (omega (arith, below, more)) in
-          let some_gone : 0 < count test at.gone = subst (λ k. 0 < k) (sym (gone_numbers at.gone x.0 x.1 at.kept)) (some_in_range 0 n x.1 (omega arith) (omega (arith, below))) in
+          let once : count test (joined skeletons) ≡ 1 = sym (times_is x.0 x.1 (joined skeletons)) ∙ whole x.0 is_bank x.1 (omega (arith, below, more)) in
+          let some_gone : 0 < count test at.gone = subst (λ k. 0 < k) (sym (gone_numbers at.gone x.0 x.1 is_bank at.kept)) (some_in_range 0 n x.1 (omega arith) (omega (arith, below))) in
           let here = one_of test x (and_from (x.0 == x.0) (x.1 == x.1) (eq-eqb x.0 x.0 refl) (eq-eqb x.1 x.1 refl)) in
           let left = count-after test at.left log x (left_first skeletons order places next at log x is) in
           let all = count-taken test skeletons order at.gone at.left at.taken in

@@ -76,7 +76,7 @@ pub within_log : (skeletons : List (List (ℕ × ℕ))) (places next : List ℕ)
 within_log skeletons places next log other w = (get_or-entry_at (log_at skeletons log) (slice_index places log) w.waiting (0, 0) w.first).0
 
 -- what a knot of each log of a path needs
-pub path_fits : (skeletons : List (Vec (ℕ × ℕ))) (places next path : List ℕ) (last : ℕ) → length skeletons ≤ 32 → All (λ skeleton. length skeleton ≤ 2 ^ 20) (lists_of skeletons)
+pub path_fits : (skeletons : List (Vec (ℕ × ℕ))) (places next path : List ℕ) (last : ℕ) → length skeletons ≤ 32 → All (λ skeleton. length skeleton ≤ 2 ^ 24) (lists_of skeletons)
     → Chain (HeadsWait (lists_of skeletons) places next) path last → All (λ log. log < length skeletons) path → All (λ log. (log < 32) × (slice_index places log < 2 ^ 32)) path
 path_fits skeletons places next path last few short chain logs = All-from_get_or (λ log. (log < 32) × (slice_index places log < 2 ^ 32)) path 0 each
   where

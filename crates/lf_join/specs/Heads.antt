@@ -1,7 +1,8 @@
 -- How far the logs have gone, as the join keeps it: per log the place of its next entry, per bank the number that goes next.
-use Rattle.std.specs.Prelude.{◌≡◌, ◌≢◌, ℕ, ◌+◌, ◌<◌, ◌≤◌, Bool, false, ◌==◌, ◌&&◌, List, [], ◌∷◌, length, map, drop, AllPairs, Option, Some, None, slice_index, slice_set}
+use Rattle.std.specs.Prelude.{◌≡◌, ◌≢◌, ℕ, ◌+◌, ◌<◌, ◌≤◌, Bool, false, not, nat_lt, ◌==◌, ◌&&◌, ◌||◌, List, [], ◌∷◌, length, map, drop, AllPairs, Option, Some, None, slice_index, slice_set}
 use Rattle.std.specs.List.{list_any}
 use Rattle.lf_model.specs.declared.ring.Knot.{Knot}
+use Rattle.lf_model.specs.Address.{no_bank}
 use Rattle.lf_model.specs.Order.{log_at, EntriesKeepNumbers, IsOrder, IsLeastOrder}
 use Rattle.lf_model.specs.Ring.{entry_at}
 use Rattle.lf_join.specs.Join.{TakesUpTo, next_number, Leads}
@@ -10,11 +11,15 @@ use Rattle.lf_join.specs.Join.{TakesUpTo, next_number, Leads}
 abbrev pub next_entry : List (List (ℕ × ℕ)) → List ℕ → ℕ → Option (ℕ × ℕ)
 next_entry skeletons places log = entry_at (log_at skeletons log) (slice_index places log)
 
+-- whether an entry may go: it names no bank, or carries its bank's next number
+abbrev pub is_due : List ℕ → ℕ × ℕ → Bool
+is_due next entry = not (nat_lt entry.0 no_bank) || (entry.1 == slice_index next entry.0)
+
 abbrev pub carries_next : List ℕ → Option (ℕ × ℕ) → Bool
 carries_next next None = false
-carries_next next (Some entry) = entry.1 == slice_index next entry.0
+carries_next next (Some entry) = is_due next entry
 
--- whether the log's next entry carries its bank's next number
+-- whether the log's next entry may go
 abbrev pub can_go : List (List (ℕ × ℕ)) → List ℕ → List ℕ → ℕ → Bool
 can_go skeletons places next log = carries_next next (next_entry skeletons places log)
 
@@ -26,22 +31,22 @@ is_next bank number entry = (entry.0 == bank) && (entry.1 == number)
 abbrev pub holds_next : List (List (ℕ × ℕ)) → List ℕ → List ℕ → ℕ → ℕ → Bool
 holds_next skeletons places next bank log = list_any (is_next bank (slice_index next bank)) (drop (slice_index places log) (log_at skeletons log))
 
--- The log's next entry goes: its log's place and its bank's number move on by one.
+-- The log's next entry goes: its log's place moves on by one, and the number behind its own is its bank's next.
 pub record Advances (skeletons : List (List (ℕ × ℕ))) (places next : List ℕ) (log : ℕ) (new_places new_next : List ℕ) : Type 0 where
   pub entry : ℕ × ℕ
   pub there : next_entry skeletons places log ≡ Some entry
   pub is_bank : entry.0 < 256
   pub moved : new_places ≡ slice_set places log (slice_index places log + 1)
-  pub counted : new_next ≡ slice_set next entry.0 (slice_index next entry.0 + 1)
+  pub counted : new_next ≡ slice_set next entry.0 (entry.1 + 1)
 
--- The order has taken these entries, which keep the numbers; each place is that of a log's next entry, and each number that of a bank.
+-- The order has taken these entries, which keep the numbers; each place is that of a log's next entry, and each number that which a bank's next entry carries.
 pub record IsAt (skeletons : List (List (ℕ × ℕ))) (order places next : List ℕ) : Type 0 where
   pub gone : List (ℕ × ℕ)
   pub left : List (List (ℕ × ℕ))
   pub taken : TakesUpTo skeletons order gone left
   pub kept : EntriesKeepNumbers gone
   pub placed : (log : ℕ) → log_at left log ≡ drop (slice_index places log) (log_at skeletons log)
-  pub counted : (bank : ℕ) → slice_index next bank ≡ next_number gone bank
+  pub counted : (bank : ℕ) → bank < no_bank → slice_index next bank ≡ next_number gone bank
 
 -- The least entries have gone as far as any can: where none is left the order is the least, and otherwise there is none.
 pub record IsMerged (skeletons : List (List (ℕ × ℕ))) (order places next : List ℕ) : Type 0 where

@@ -3,6 +3,7 @@ use Rattle.std.specs.Prelude.{◌≡◌, ◌≢◌, ℕ, ◌+◌, ◌%◌, ◌<�
 use Rattle.std.specs.List.{flat_map}
 use Rattle.std.specs.Global.{Vec}
 use Rattle.lf_model.specs.declared.ring.Knot.{Knot}
+use Rattle.lf_model.specs.Address.{no_bank}
 use Rattle.lf_model.specs.Numbers.{IsWhole}
 use Rattle.lf_model.specs.Order.{log_at, after_next, entries_of, EntriesKeepNumbers, IsOrder}
 use Rattle.lf_model.specs.Ring.{entry_at, knot_at}
@@ -11,9 +12,9 @@ use Rattle.lf_model.specs.Ring.{entry_at, knot_at}
 abbrev pub lists_of : List (Vec (ℕ × ℕ)) → List (List (ℕ × ℕ))
 lists_of skeletons = map (λ skeleton. skeleton.items) skeletons
 
--- Over all skeletons each bank's numbers are 0 to n - 1, each once.
+-- Over all skeletons each bank's numbers are 0 to n - 1, each once. Entries that name no bank have none.
 abbrev pub BanksAreWhole : List (List (ℕ × ℕ)) → Type 0
-BanksAreWhole skeletons = (bank : ℕ) → IsWhole (map (λ entry. entry.1) (entries_of bank (flat_map (λ entries. entries) skeletons)))
+BanksAreWhole skeletons = (bank : ℕ) → bank < no_bank → IsWhole (map (λ entry. entry.1) (entries_of bank (flat_map (λ entries. entries) skeletons)))
 
 abbrev pub HasNoOrder : List (List (ℕ × ℕ)) → Type 0
 HasNoOrder skeletons = (order : List ℕ) → IsOrder skeletons order → ⊥
@@ -38,9 +39,9 @@ pub record HasGone (skeletons : List (List (ℕ × ℕ))) (gone : List (ℕ × �
   pub taken : TakesUpTo skeletons order gone left
   pub kept : EntriesKeepNumbers gone
 
--- No log's next entry carries its bank's next number.
+-- Each log's next entry names a bank, and none carries its bank's next number.
 abbrev pub NothingGoes : List (ℕ × ℕ) → List (List (ℕ × ℕ)) → Type 0
-NothingGoes gone left = (log : ℕ) (entry : ℕ × ℕ) → entry_at (log_at left log) 0 ≡ Some entry → entry.1 ≢ next_number gone entry.0
+NothingGoes gone left = (log : ℕ) (entry : ℕ × ℕ) → entry_at (log_at left log) 0 ≡ Some entry → (entry.0 < no_bank) × (entry.1 ≢ next_number gone entry.0)
 
 -- ---- the ring
 

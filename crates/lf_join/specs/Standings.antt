@@ -1,19 +1,20 @@
 -- Where the logs stand in a merge: each can go, or waits at a bank, or has nothing left.
 use Rattle.std.specs.Prelude.{◌≡◌, ◌≢◌, ℕ, ◌%◌, ◌<◌, Bool, true, false, ◌==◌, ◌&&◌, List, [], length, Option, Some, None, if◌then◌else◌, slice_index, slice_index_or, ⊤}
+use Rattle.lf_model.specs.Address.{no_bank}
 use Rattle.lf_join.specs.declared.log_set.LogSet.{LogSet}
 use Rattle.lf_join.specs.declared.roster.Roster.{Roster}
 use Rattle.lf_join.specs.LogSets.{has}
-use Rattle.lf_join.specs.Heads.{next_entry}
+use Rattle.lf_join.specs.Heads.{next_entry, is_due}
 
 pub data Standing : Type 0 where
   Nowhere : Standing
   Goes : Standing
   Waits : ℕ → ℕ → Standing
 
--- A log whose next entry carries its bank's next number can go, and any other waits at the bank for its number.
+-- A log whose next entry may go can go, and any other waits at the bank for its number.
 abbrev pub standing_of : List ℕ → Option (ℕ × ℕ) → Standing
 standing_of next None = Nowhere
-standing_of next (Some entry) = if entry.1 == slice_index next entry.0 then Goes else Waits entry.0 entry.1
+standing_of next (Some entry) = if is_due next entry then Goes else Waits entry.0 entry.1
 
 abbrev pub is_going : Standing → Bool
 is_going Nowhere = false
@@ -66,6 +67,6 @@ IsCalled old new bank number = (log : ℕ) (standing : Standing) → log < 32 �
 abbrev pub AllStand : List (List (ℕ × ℕ)) → List ℕ → List ℕ → Roster → Type 0
 AllStand skeletons places next roster = (log : ℕ) → log < 32 → Stands roster log (standing_of next (next_entry skeletons places log))
 
--- no other log's next entry is that of this log
+-- no other log's next entry is that of this log, where it names a bank
 abbrev pub IsItsOwn : List (List (ℕ × ℕ)) → List ℕ → ℕ → Type 0
-IsItsOwn skeletons places log = (other : ℕ) (entry : ℕ × ℕ) → other ≢ log → next_entry skeletons places log ≡ Some entry → next_entry skeletons places other ≢ Some entry
+IsItsOwn skeletons places log = (other : ℕ) (entry : ℕ × ℕ) → other ≢ log → entry.0 < no_bank → next_entry skeletons places log ≡ Some entry → next_entry skeletons places other ≢ Some entry

@@ -6,7 +6,7 @@ ghost use Rattle.lf_model.specs.Order.{log_at};
 ghost use Rattle.lf_model.specs.Ring.{IsRing, IsWait, entry_at};
 ghost use Rattle.lf_join.specs.Join.{lists_of};
 
-use lf_model::{Knot, Ring, Skeleton};
+use lf_model::{Knot, NO_BANK, Ring, Skeleton};
 
 /// The entries of a log, none where there is no such log.
 pub(crate) fn entries(skeletons: &[Skeleton], log: usize) -> &[(u8, u32)]
@@ -28,22 +28,23 @@ fn has_smaller(entries: &[(u8, u32)], from: usize, bank: u8, number: u32) -> boo
         .any(|entry| entry.0 == bank && entry.1 < number)
 }
 
-/// Whether the knot's entry waits for an entry behind the next knot's place.
+/// Whether the knot's entry waits for an entry behind the next knot's place. One that names no bank
+/// waits for none.
 fn waits(skeletons: &[Skeleton], knot: Knot, next: Knot) -> bool
     ensures { IsTrue result ↔ IsWait (lists_of skeletons.now) knot next }
 {
     match entries(skeletons, knot.log as usize).get(knot.at as usize) {
         Some(&(bank, number)) => {
             let other = entries(skeletons, next.log as usize);
-            has_smaller(other, next.at as usize + 1, bank, number)
+            bank < NO_BANK && has_smaller(other, next.at as usize + 1, bank, number)
         }
         None => false,
     }
 }
 
-/// Whether the logs wait for one another: each knot's entry is behind one of the same bank with a
-/// smaller number, which stands after the next knot's place in the next knot's log, and the last knot
-/// waits for the first. A ring is not empty.
+/// Whether the logs wait for one another: each knot's entry names a bank and is behind one of that
+/// bank with a smaller number, which stands after the next knot's place in the next knot's log, and
+/// the last knot waits for the first. A ring is not empty.
 pub fn check_cycle(skeletons: &[Skeleton], ring: &Ring) -> bool
     ensures { IsTrue result ↔ IsRing (lists_of skeletons.now) ring.now.items }
 {

@@ -45,7 +45,8 @@ impl Heads {
         entries(skeletons, log).get(self.places[log]).copied()
     }
 
-    /// Lets the log's next entry go, which is the answer.
+    /// Lets the log's next entry go, which is the answer. That of a fence leaves a number where no
+    /// entry is compared with it.
     pub fn advance(&mut self, skeletons: &[Skeleton], log: usize) -> (u8, u32)
         requires log { log < 32 }
         requires goes { can_go (lists_of skeletons.now) self.old.places self.old.next log ≡ true }
@@ -164,7 +165,7 @@ impl Heads {
     /// The ring to which the waits lead from the start, from its lowest log on.
     pub fn ring(&self, skeletons: &[Skeleton], start: u8) -> Ring
         requires few { length skeletons.now ≤ 32 }
-        requires short { All (λ skeleton. length skeleton ≤ 2 ^ 20) (lists_of skeletons.now) }
+        requires short { All (λ skeleton. length skeleton ≤ 2 ^ 24) (lists_of skeletons.now) }
         requires start { start < length skeletons.now }
         requires left { IsSome (next_entry (lists_of skeletons.now) self.now.places start) }
         requires waits { AllWait (lists_of skeletons.now) self.now.places self.now.next }

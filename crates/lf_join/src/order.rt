@@ -38,11 +38,12 @@ fn merged(alloc: Global, skeletons: &[Skeleton]) -> Result<(Vec<u8>, Heads), All
 }
 
 /// One order of all logs: for each place the log whose next entry comes. It keeps each log's order
-/// and each bank's numbers, and of all such orders it is the lexicographically least. Where there is
-/// none, the answer is the ring of logs that wait for one another when nothing more can go.
+/// and each bank's numbers, and of all such orders it is the lexicographically least. An entry that
+/// names no bank may always go. Where there is no order, the answer is the ring of logs that wait for
+/// one another when nothing more can go.
 pub fn join(alloc: Global, skeletons: &[Skeleton]) -> Result<Vec<u8>, JoinFault>
     requires few { length skeletons.now ≤ 32 }
-    requires short { All (λ entries. length entries ≤ 2 ^ 20) (lists_of skeletons.now) }
+    requires short { All (λ entries. length entries ≤ 2 ^ 24) (lists_of skeletons.now) }
     requires whole { BanksAreWhole (lists_of skeletons.now) }
 
     ensures least { IfOk result (λ order. IsLeastOrder (lists_of skeletons.now) order.items) }

@@ -7,7 +7,7 @@ ghost use Rattle.lf_join.specs.LogSets.{IsEmpty, IsLowest};
 
 use crate::heads::{BANKS, Heads, LOGS};
 use crate::log_set::LogSet;
-use lf_model::Skeleton;
+use lf_model::{NO_BANK, Skeleton};
 
 /// How many sets of waiting logs a bank has. A log waits in the set of its number's remainder, so
 /// that its number is compared once at most while so many numbers of its bank go by.
@@ -113,10 +113,10 @@ impl Roster {
     {
         if let Some((bank, number)) = heads.next_entry(skeletons, log as usize) {
             let number = u64::from(number);
-            if number == heads.next[bank as usize] {
-                self.admit(log);
-            } else {
+            if bank < NO_BANK && number != heads.next[bank as usize] {
                 self.wait(log, bank, number);
+            } else {
+                self.admit(log);
             }
         }
     }

@@ -64,6 +64,38 @@ fn ring_of_one(rt: HostRuntime) -> Result<(), Fail> {
     Ok(())
 }
 
+/// An entry that names no bank goes as soon as it is a log's next, and no log waits at it.
+#[test]
+fn fences(rt: HostRuntime) -> Result<(), Fail> {
+    let port = Vec::from_slice(rt.alloc(), &[(255, 0), (0, 0), (0, 5)])?;
+    let bank = Vec::from_slice(rt.alloc(), &[(0, 1), (0, 2), (0, 3), (0, 4)])?;
+    let order = join(rt.alloc(), &[port, bank])?;
+    assert_eq!(rt; order.as_slice(), [0, 0, 1, 1, 1, 1, 0].as_slice());
+
+    let port = Vec::from_slice(rt.alloc(), &[(0, 0), (0, 5), (255, 0)])?;
+    let bank = Vec::from_slice(rt.alloc(), &[(0, 1), (0, 2), (0, 3), (0, 4)])?;
+    let order = join(rt.alloc(), &[port, bank])?;
+    assert_eq!(rt; order.as_slice(), [0, 1, 1, 1, 1, 0, 0].as_slice());
+
+    // Several, in several logs at once.
+    let low = Vec::from_slice(rt.alloc(), &[(255, 0), (0, 1), (255, 0)])?;
+    let high = Vec::from_slice(rt.alloc(), &[(255, 0), (255, 0), (0, 0)])?;
+    let order = join(rt.alloc(), &[low, high])?;
+    assert_eq!(rt; order.as_slice(), [0, 1, 1, 1, 0, 0].as_slice());
+
+    // A ring behind a fence, and none at fences.
+    let first = Vec::from_slice(rt.alloc(), &[(255, 0), (0, 1), (1, 0)])?;
+    let second = Vec::from_slice(rt.alloc(), &[(1, 1), (255, 0), (0, 0)])?;
+    let skeletons = [first, second];
+    let ring = ring_of(join(rt.alloc(), &skeletons));
+    assert_eq!(rt; ring.as_slice(), [knot(0, 1), knot(1, 0)].as_slice());
+    assert!(rt; check_cycle(&skeletons, &ring));
+    let mut other = Ring::new();
+    other.push(knot(0, 0));
+    assert!(rt; !check_cycle(&skeletons, &other));
+    Ok(())
+}
+
 #[test]
 fn no_logs(rt: HostRuntime) -> Result<(), Fail> {
     let order = join(rt.alloc(), &[])?;

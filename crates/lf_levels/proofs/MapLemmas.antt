@@ -1,5 +1,5 @@
 -- The calls of a sorted map, in the words for lines.
-use Rattle.std.proofs.Common.{Option, ◌≡◌, ℕ, Bool, true, false, not, cond, ◌⊎◌, [], ◌∷◌, ◌+◌, refl, ap, sym, subst, inl, inr, arith, Less, Equal, Greater, Ordering, Some, None, ◌∙◌}
+use Rattle.std.proofs.Common.{List, Option, ◌≡◌, ℕ, Bool, true, false, not, cond, ◌⊎◌, [], ◌∷◌, ◌+◌, refl, ap, sym, subst, inl, inr, arith, Less, Equal, Greater, Ordering, Some, None, ◌∙◌}
 use Rattle.std.specs.Prelude.{is_some, count_by, ◌==◌}
 use Rattle.std.specs.List.{filter, AllByRecursion}
 use Rattle.std.specs.List.Sorted.{IsStrictlySortedBy}
@@ -12,21 +12,20 @@ use Rattle.std.proofs.lemmas.Bool.Decides.{nat_tests}
 use Rattle.std.proofs.lemmas.Cmp.{nat_cmp_total}
 use Rattle.std.proofs.lemmas.List.Sums.{sum_by-cons}
 use Rattle.std.proofs.lemmas.Map.Keys.{sorted_head, sorted_tail}
-use Rattle.lf_model.specs.Lines.{Lines}
 
 -- ---- one line, and the others
 
-module _ (at : ℕ → Bool) (line : ℕ × ℕ) (lines : Lines) where
+module _ {M : Type 0} (at : ℕ → Bool) (line : ℕ × M) (lines : List (ℕ × M)) where
   remove_here : at line.0 ≡ true → remove_entry at (line ∷ lines) ≡ lines
   remove_here h = rw h refl
 
   remove_later : at line.0 ≡ false → remove_entry at (line ∷ lines) ≡ line ∷ remove_entry at lines
   remove_later h = rw h refl
 
-  set_here : (w : ℕ) → at line.0 ≡ true → set_value at (line ∷ lines) w ≡ (line.0, w) ∷ lines
+  set_here : (w : M) → at line.0 ≡ true → set_value at (line ∷ lines) w ≡ (line.0, w) ∷ lines
   set_here w h = rw h refl
 
-  set_later : (w : ℕ) → at line.0 ≡ false → set_value at (line ∷ lines) w ≡ line ∷ set_value at lines w
+  set_later : (w : M) → at line.0 ≡ false → set_value at (line ∷ lines) w ≡ line ∷ set_value at lines w
   set_later w h = rw h refl
 
   lookup_here : at line.0 ≡ true → lookup at (line ∷ lines) ≡ Some line.1
@@ -35,7 +34,7 @@ module _ (at : ℕ → Bool) (line : ℕ × ℕ) (lines : Lines) where
   lookup_later : at line.0 ≡ false → lookup at (line ∷ lines) ≡ lookup at lines
   lookup_later h = rw h refl
 
-module _ (cmp : ℕ → ℕ → Ordering) (line : ℕ × ℕ) (lines : Lines) (k w : ℕ) where
+module _ {M : Type 0} (cmp : ℕ → ℕ → Ordering) (line : ℕ × M) (lines : List (ℕ × M)) (k : ℕ) (w : M) where
   insert_before : cmp k line.0 ≡ Less → insert_entry cmp (line ∷ lines) k w ≡ (k, w) ∷ line ∷ lines
   insert_before h = rw h refl
 
@@ -45,7 +44,7 @@ module _ (cmp : ℕ → ℕ → Ordering) (line : ℕ × ℕ) (lines : Lines) (k
   insert_later : cmp k line.0 ≡ Greater → insert_entry cmp (line ∷ lines) k w ≡ line ∷ insert_entry cmp lines k w
   insert_later h = rw h refl
 
-module _ (keep : ℕ × ℕ → Bool) (line : ℕ × ℕ) (lines : Lines) where
+module _ {M : Type 0} (keep : ℕ × M → Bool) (line : ℕ × M) (lines : List (ℕ × M)) where
   filter_with : keep line ≡ true → filter keep (line ∷ lines) ≡ line ∷ filter keep lines
   filter_with h = rw h refl
 
@@ -86,15 +85,15 @@ place_of k x = ⊎_elim
 
 -- ---- lines that lie after a block
 
-abbrev AllAfter : ℕ → Lines → Type 0
+abbrev AllAfter : {M : Type 0} → ℕ → List (ℕ × M) → Type 0
 AllAfter k lines = AllByRecursion (λ y. nat_cmp k y ≡ Less) (keys_of lines)
 
-filter_after : (k : ℕ) (lines : Lines) → AllAfter k lines → filter (λ line. not (line.0 == k)) lines ≡ lines
+filter_after : {M : Type 0} (k : ℕ) (lines : List (ℕ × M)) → AllAfter k lines → filter (λ line. not (line.0 == k)) lines ≡ lines
 filter_after k [] h = refl
 filter_after k (line ∷ lines) h =
     filter_with (λ l. not (l.0 == k)) line lines (before k line.0 h.0).keeps ∙ ap (λ rest. line ∷ rest) (filter_after k lines h.1)
 
-lookup_after : (k : ℕ) (lines : Lines) → AllAfter k lines → lookup (is_at (nat_cmp k)) lines ≡ None
+lookup_after : {M : Type 0} (k : ℕ) (lines : List (ℕ × M)) → AllAfter k lines → lookup (is_at (nat_cmp k)) lines ≡ None
 lookup_after k [] h = refl
 lookup_after k (line ∷ lines) h = lookup_later (is_at (nat_cmp k)) line lines (before k line.0 h.0).at ∙ lookup_after k lines h.1
 
@@ -102,18 +101,18 @@ less_trans : (k x y : ℕ) → nat_cmp k x ≡ Less → nat_cmp x y ≡ Less →
 less_trans k x y p q = nat_cmp_total.trans k x y p q
 
 -- what lies after a line that lies after k, lies after k
-after_after : (k x : ℕ) (lines : Lines) → nat_cmp k x ≡ Less → AllAfter x lines → AllAfter k lines
+after_after : {M : Type 0} (k x : ℕ) (lines : List (ℕ × M)) → nat_cmp k x ≡ Less → AllAfter x lines → AllAfter k lines
 after_after k x [] h after = tt
 after_after k x (line ∷ lines) h after = (less_trans k x line.0 h after.0, after_after k x lines h after.1)
 
 -- ---- sorted lines
 
-pub remove_entry-sorted : (k : ℕ) (lines : Lines) → IsStrictlySortedBy nat_cmp (keys_of lines)
+pub remove_entry-sorted : {M : Type 0} (k : ℕ) (lines : List (ℕ × M)) → IsStrictlySortedBy nat_cmp (keys_of lines)
     → remove_entry (is_at (nat_cmp k)) lines ≡ filter (λ line. not (line.0 == k)) lines
 remove_entry-sorted k [] sorted = refl
-remove_entry-sorted k (line ∷ lines) sorted =
+remove_entry-sorted {M = M} k (line ∷ lines) sorted =
     let at = is_at (nat_cmp k) in
-    let keep : ℕ × ℕ → Bool = λ l. not (l.0 == k) in
+    let keep : ℕ × M → Bool = λ l. not (l.0 == k) in
     let head = sorted_head nat_cmp line.0 (keys_of lines) sorted in
     let rest = remove_entry-sorted k lines (sorted_tail nat_cmp line.0 (keys_of lines) sorted) in
     ⊎_elim
@@ -125,7 +124,7 @@ remove_entry-sorted k (line ∷ lines) sorted =
     (λ (l : IsLater k line.0). remove_later at line lines l.at ∙ ap (λ r. line ∷ r) rest ∙ sym (filter_with keep line lines l.keeps)))
     (place_of k line.0)
 
-pub set_value-sorted : (k w : ℕ) (lines : Lines) → IsStrictlySortedBy nat_cmp (keys_of lines) → is_some (lookup (is_at (nat_cmp k)) lines) ≡ true
+pub set_value-sorted : {M : Type 0} (k : ℕ) (w : M) (lines : List (ℕ × M)) → IsStrictlySortedBy nat_cmp (keys_of lines) → is_some (lookup (is_at (nat_cmp k)) lines) ≡ true
     → set_value (is_at (nat_cmp k)) lines w ≡ insert_entry nat_cmp lines k w
 set_value-sorted k w [] sorted there = cc
 set_value-sorted k w (line ∷ lines) sorted there =
@@ -145,14 +144,14 @@ set_value-sorted k w (line ∷ lines) sorted there =
 
 -- ---- how many lines have a block that passes a test
 
-module _ (test : ℕ → Bool) where
-  abbrev pub passing : Lines → ℕ
+module _ {M : Type 0} (test : ℕ → Bool) where
+  abbrev pub passing : List (ℕ × M) → ℕ
   passing lines = count_by (λ line. test line.0) lines
 
-  passing-cons : (line : ℕ × ℕ) (lines : Lines) → passing (line ∷ lines) ≡ cond (test line.0) 1 0 + passing lines
-  passing-cons line lines = sum_by-cons (λ (l : ℕ × ℕ). cond (test l.0) 1 0) line lines
+  passing-cons : (line : ℕ × M) (lines : List (ℕ × M)) → passing (line ∷ lines) ≡ cond (test line.0) 1 0 + passing lines
+  passing-cons line lines = sum_by-cons (λ (l : ℕ × M). cond (test l.0) 1 0) line lines
 
-  pub passing-insert_entry : (k w : ℕ) (lines : Lines) → lookup (is_at (nat_cmp k)) lines ≡ None
+  pub passing-insert_entry : (k : ℕ) (w : M) (lines : List (ℕ × M)) → lookup (is_at (nat_cmp k)) lines ≡ None
       → passing (insert_entry nat_cmp lines k w) ≡ cond (test k) 1 0 + passing lines
   passing-insert_entry k w [] absent = passing-cons (k, w) []
   passing-insert_entry k w (line ∷ lines) absent =
@@ -168,7 +167,7 @@ module _ (test : ℕ → Bool) where
       ap passing (insert_later nat_cmp line lines k w l.cmp) ∙ omega (arith, rest, first, all)))
       (place_of k line.0)
 
-  pub passing-remove_entry : (k : ℕ) (lines : Lines) → is_some (lookup (is_at (nat_cmp k)) lines) ≡ true
+  pub passing-remove_entry : (k : ℕ) (lines : List (ℕ × M)) → is_some (lookup (is_at (nat_cmp k)) lines) ≡ true
       → cond (test k) 1 0 + passing (remove_entry (is_at (nat_cmp k)) lines) ≡ passing lines
   passing-remove_entry k [] there = cc
   passing-remove_entry k (line ∷ lines) there =
@@ -188,7 +187,7 @@ module _ (test : ℕ → Bool) where
       (λ (l : IsLater k line.0). later l.at))
       (place_of k line.0)
 
-  pub passing-set_value : (at : ℕ → Bool) (w : ℕ) (lines : Lines) → passing (set_value at lines w) ≡ passing lines
+  pub passing-set_value : (at : ℕ → Bool) (w : M) (lines : List (ℕ × M)) → passing (set_value at lines w) ≡ passing lines
   passing-set_value at w [] = refl
   passing-set_value at w (line ∷ lines) =
       let all = passing-cons line lines in
@@ -201,7 +200,7 @@ module _ (test : ℕ → Bool) where
       (cases_Bool (at line.0))
 
 -- ---- what a call says of each block, in the words for lines
-pub changes_at : (block : ℕ) (mask : Option ℕ) (old new : Lines)
+pub changes_at : {M : Type 0} (block : ℕ) (mask : Option M) (old new : List (ℕ × M))
     → ((q : ℕ) → lookup (is_at (nat_cmp q)) new ≡ cond (is_at (nat_cmp block) q) mask (lookup (is_at (nat_cmp q)) old))
     → (other : ℕ) → lookup (is_at (nat_cmp other)) new ≡ cond (other == block) mask (lookup (is_at (nat_cmp other)) old)
 changes_at block mask old new updates other =

@@ -1,36 +1,68 @@
--- What a table of lines is: a map from each block that is there to its dirty mask, and the numbers of its sets.
-use Rattle.std.specs.Prelude.{◌≡◌, ℕ, ◌≤◌, Bool, not, ◌==◌, Option, if◌then◌else◌}
+-- What a table of lines is: a map from each block that is there to what is dirty of it, and the numbers of its sets.
+use Rattle.std.specs.Prelude.{◌≡◌, ℕ, ◌≤◌, ◌*◌, ◌+◌, Bool, not, ◌==◌, ◌&&◌, List, [], ◌∷◌, Option, Some, None, bit_or, if◌then◌else◌}
+use Rattle.std.specs.List.{range_with_len, list_all}
 use Rattle.std.specs.List.Sorted.{IsStrictlySortedBy}
 use Rattle.std.specs.Map.{keys_of}
 use Rattle.std.specs.Ordering.{nat_cmp}
-use Rattle.lf_model.specs.Lines.{Lines, no_lines, line_at, with_line, without_line, lines_of_set, has_way, mark}
+use Rattle.lf_model.specs.declared.mask.Mask.{Mask}
+use Rattle.lf_model.specs.Address.{Masks, set2_of}
+use Rattle.lf_model.specs.Lines.{line_at, has_line, with_line, without_line, lines_of_set, has_way, dirty_mask, dirty_masks}
 
-pub record LineTable : Type 0 where
+pub record LineTable (M : Type 0) : Type 0 where
   pub sets : ℕ
   pub ways : ℕ  -- lines that a set has room for
   pub banks : ℕ
-  pub lines : Lines
+  pub factor : ℕ  -- first-level blocks in a block of level two
+  pub lines : List (ℕ × M)
 
--- The lines stand by rising blocks, and no set has more of them than it has ways.
-pub record IsLineTable (table : LineTable) : Type 0 where
-  pub sorted : IsStrictlySortedBy nat_cmp (keys_of table.lines)
-  pub bounded : (block : ℕ) → lines_of_set table.banks table.sets table.lines block ≤ table.ways
+module _ {M : Type 0} where
+  -- which set a block of the table is in, where a level says it of banks, factor, sets and block
+  abbrev pub set_in : (ℕ → ℕ → ℕ → ℕ → ℕ) → LineTable M → ℕ → ℕ
+  set_in set table = set table.banks table.factor table.sets
 
-abbrev pub empty_table : ℕ → ℕ → ℕ → LineTable
-empty_table sets ways banks = record { sets = sets; ways = ways; banks = banks; lines = no_lines }
+  -- The lines stand by rising blocks, and no set has more of them than it has ways.
+  pub record IsLineTable (set : ℕ → ℕ → ℕ → ℕ → ℕ) (table : LineTable M) : Type 0 where
+    pub sorted : IsStrictlySortedBy nat_cmp (keys_of table.lines)
+    pub bounded : (block : ℕ) → lines_of_set (set_in set table) table.lines block ≤ table.ways
 
-abbrev pub is_full : LineTable → ℕ → Bool
-is_full table block = not (has_way table.banks table.sets table.ways table.lines block)
+  abbrev pub empty_table : ℕ → ℕ → ℕ → ℕ → LineTable M
+  empty_table sets ways banks factor = record { sets = sets; ways = ways; banks = banks; factor = factor; lines = [] }
 
-abbrev pub after_fill : LineTable → ℕ → ℕ → LineTable
-after_fill table block mask = record table { lines = with_line table.lines block mask }
+  abbrev pub is_full : (ℕ → ℕ → ℕ → ℕ → ℕ) → LineTable M → ℕ → Bool
+  is_full set table block = not (has_way (set_in set table) table.ways table.lines block)
 
-abbrev pub after_mark : LineTable → ℕ → ℕ → LineTable
-after_mark table block mask = record table { lines = mark table.lines block mask }
+  -- the table with a line on the block of which so much is dirty, and with none
+  abbrev pub after_fill : LineTable M → ℕ → M → LineTable M
+  after_fill table block dirty = record { sets = table.sets; ways = table.ways; banks = table.banks; factor = table.factor; lines = with_line table.lines block dirty }
 
-abbrev pub after_evict : LineTable → ℕ → LineTable
-after_evict table block = record table { lines = without_line table.lines block }
+  abbrev pub after_evict : LineTable M → ℕ → LineTable M
+  after_evict table block = record { sets = table.sets; ways = table.ways; banks = table.banks; factor = table.factor; lines = without_line table.lines block }
 
--- The map has this mask at the block, or none, and at each other block what it had.
-abbrev pub ChangesOnly : LineTable → LineTable → ℕ → Option ℕ → Type 0
-ChangesOnly old new block mask = (other : ℕ) → line_at new.lines other ≡ (if other == block then mask else line_at old.lines other)
+  -- The map has this at the block, or nothing, and at each other block what it had.
+  abbrev pub ChangesOnly : LineTable M → LineTable M → ℕ → Option M → Type 0
+  ChangesOnly old new block dirty = (other : ℕ) → line_at new.lines other ≡ (if other == block then dirty else line_at old.lines other)
+
+-- ---- level one
+
+-- the line's mask with these bytes
+abbrev pub joined1 : LineTable ℕ → ℕ → ℕ → ℕ
+joined1 table block mask = bit_or (dirty_mask table.lines block) mask
+
+-- ---- level two
+
+abbrev pub wide_set : ℕ → ℕ → ℕ → ℕ → ℕ
+wide_set banks factor sets second = set2_of banks sets second
+
+-- each mask with the bytes of the other that stands beside it
+abbrev pub joined : List Mask → List Mask → List Mask
+joined [] others = []
+joined (m ∷ ms) [] = m ∷ ms
+joined (m ∷ ms) (o ∷ others) = record { 0 = bit_or m.0 o.0 } ∷ joined ms others
+
+-- the line's masks with these bytes
+abbrev pub joined2 : LineTable Masks → ℕ → Masks → Masks
+joined2 table second masks = record { items = joined (dirty_masks table.lines second).items masks.items }
+
+-- none of the blocks of a second-level block has a line in level one
+abbrev pub are_absent : ℕ → LineTable ℕ → ℕ → Bool
+are_absent factor inner second = list_all (λ place. not (has_line inner.lines (second * factor + place))) (range_with_len 0 factor)

@@ -1,9 +1,77 @@
 //! The two levels of the cache, as types.
 
+ghost use Rattle.std.specs.Prelude.{◌≡◌, ◌<◌, true};
+ghost use Rattle.lf_model.specs.Address.{set1_of};
+ghost use Rattle.lf_model.specs.Fits.{is_factor};
+
+use lf_model::Masks;
+
+/// A level of the cache: what is dirty of its lines, and which set a block is in.
+pub trait Level {
+    ghost use Rattle.std.specs.Prelude.{◌≡◌, ℕ, ◌<◌, true};
+    ghost use Rattle.lf_model.specs.Fits.{is_factor};
+
+    /// What is dirty of a line.
+    type Dirty: Drop;
+
+    // the set of a block, of so many banks, first-level blocks in one of level two, and sets
+    ghost set: { ℕ → ℕ → ℕ → ℕ → ℕ };
+
+    // there are only so many sets
+    ghost set_below: { (banks factor sets block : ℕ) → 0 < sets → set banks factor sets block < sets };
+
+    /// The set of a block.
+    fn set_of(banks: u32, factor: u32, sets: u32, block: u32) -> u32
+        requires some_banks { 0 < banks }
+        requires some_sets { 0 < sets }
+        requires factor { is_factor factor ≡ true }
+        ensures { result ≡ set banks factor sets block };
+}
+
 /// The first level, which the ports' requests look at.
 #[derive(Clone, Copy, Debug, PartialEq, Eq)]
 pub struct One;
 
-/// The second level, which holds each block that the first holds.
+/// The second level, which holds each block that the first holds. Its blocks are wide: each has so many
+/// first-level blocks, and its lines have a mask for each of them.
 #[derive(Clone, Copy, Debug, PartialEq, Eq)]
 pub struct Two;
+
+impl Level for One {
+    ghost use Rattle.lf_model.specs.Address.{set1_of};
+    ghost use Rattle.std.proofs.lemmas.Nat.{mod_below};
+
+    type Dirty = u64;
+
+    ghost set = { set1_of };
+
+    ghost set_below = { λ banks factor sets block some. mod_below _ sets some };
+
+    fn set_of(banks: u32, factor: u32, sets: u32, block: u32) -> u32 {
+        set1_of(banks, factor, sets, block)
+    }
+}
+
+fn set1_of(banks: u32, factor: u32, sets: u32, block: u32) -> u32
+    requires some_banks { 0 < banks }
+    requires some_sets { 0 < sets }
+    requires factor { is_factor factor ≡ true }
+    ensures { result ≡ set1_of banks factor sets block }
+{
+    (block / factor / banks * factor + block % factor) % sets
+}
+
+impl Level for Two {
+    ghost use Rattle.lf_levels.specs.LineTable.{wide_set};
+    ghost use Rattle.std.proofs.lemmas.Nat.{mod_below};
+
+    type Dirty = Masks;
+
+    ghost set = { wide_set };
+
+    ghost set_below = { λ banks factor sets block some. mod_below _ sets some };
+
+    fn set_of(banks: u32, _factor: u32, sets: u32, block: u32) -> u32 {
+        block / banks % sets
+    }
+}

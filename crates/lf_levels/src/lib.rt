@@ -1,17 +1,20 @@
-//! The lines of one bank at one level of the cache: which blocks are there, each with the dirty mask
-//! of its line, which has a bit for each byte that was written since the line came.
+//! The lines of one bank at one level of the cache: which blocks are there, each with what is dirty of
+//! its line, a mask of each first-level block that has a bit for each byte that was written since the
+//! line came. The lines of level two are on second-level blocks.
 //!
-//! A `Lines` is seen as its numbers of sets, ways and banks and a map from block to dirty mask, by
-//! the words of `lf_model`. No set ever has more lines than ways.
+//! A `Lines` is seen as its numbers of sets, ways, banks and first-level blocks in one of level two, and
+//! a map from block to what is dirty, by the words of `lf_model`. No set ever has more lines than ways.
 #![tactic(auto)]
 
 mod fault;
 mod level;
 mod lines;
-mod sets;
+mod lines_one;
+mod lines_two;
 #[cfg(test)]
 mod tests;
 
 pub use fault::LineFault;
-pub use level::{One, Two};
+pub use level::{Level, One, Two};
 pub use lines::Lines;
+pub use lines_two::same_masks;

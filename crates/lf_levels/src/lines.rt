@@ -1,60 +1,67 @@
 //! A table of lines.
 
-ghost use Rattle.std.specs.Prelude.{◌≡◌, ◌≢◌, ◌↔◌, true, false, not, ◌&&◌, IsTrue, Option, option_map, IfOk, IfErr, OnErr, bit_or};
+ghost use Rattle.std.specs.Prelude.{◌≡◌, true, false, ◌↔◌, IsTrue, Option, Some, None, option_copied, IfOk, IfErr, OnErr};
+ghost use Rattle.lf_model.specs.Fits.{is_factor};
 ghost use Rattle.lf_model.specs.InRange.{IsFrom};
-ghost use Rattle.lf_model.specs.Lines.{line_at, has_line, dirty_mask, lines_of_set};
-ghost use Rattle.lf_levels.specs.LineTable.{IsLineTable, ChangesOnly, empty_table, is_full, after_fill, after_mark, after_evict};
-ghost use Rattle.lf_levels.specs.Refusals.{FillRefusal, EvictRefusal};
+ghost use Rattle.lf_model.specs.Lines.{line_at, has_line, lines_of_set};
+ghost use Rattle.lf_levels.specs.LineTable.{IsLineTable, ChangesOnly, set_in, empty_table, is_full, after_fill, after_evict};
+ghost use Rattle.lf_levels.specs.Refusals.{FillRefusal};
 
 use crate::fault::LineFault;
-use crate::level::{One, Two};
-use crate::sets::set_of;
-use lf_model::{Mask, NoMemory};
+use crate::level::Level;
+use lf_model::NoMemory;
 use std::alloc::Global;
 use std::collections::BTreeMap;
-use std::marker::{Model, PhantomData};
+use std::marker::Model;
 
 /// The lines of one bank at level `L`, which is `One` or `Two`.
 #[derive(Drop)]
-pub struct Lines<L> {
+pub struct Lines<L: Level> {
     sets: u32,
     ways: u32,
     banks: u32,
-    /// The dirty mask of each block that has a line.
-    masks: BTreeMap<u32, u64>,
+    factor: u32,
+    /// What is dirty of each block that has a line.
+    dirty: BTreeMap<u32, L::Dirty>,
     /// How many lines each set has.
     counts: Vec<u8>,
-    level: PhantomData<L>,
 }
 
-impl<L> Model for Lines<L> {
+impl<L: Level> Model for Lines<L> {
     ghost use Rattle.lf_levels.specs.LineTable.{LineTable};
-    ghost use Rattle.lf_levels.specs.Counts.{IsCounted};
+    ghost use Rattle.lf_levels.specs.Counts.{IsWhole};
 
-    ghost Value = { LineTable };
+    ghost Value = { LineTable L.Dirty };
 
-    ghost view = { λ a. record { sets = a.sets; ways = a.ways; banks = a.banks; lines = a.masks.entries } };
+    ghost view = { λ a. record { sets = a.sets; ways = a.ways; banks = a.banks; factor = a.factor; lines = a.dirty.entries } };
 
-    ghost invariant = { λ a. IsCounted a.sets a.ways a.banks a.counts.items a.masks.entries };
+    ghost invariant = { λ a. IsWhole L.set a.sets a.ways a.banks a.factor a.counts.items a.dirty.entries };
 }
 
-impl<L> Lines<L> {
+impl<L: Level> Lines<L> {
     /// A table with no line.
-    pub fn new(alloc: Global, sets: u32, ways: u32, banks: u32) -> Result<Lines<L>, NoMemory>
+    pub fn new(
+        alloc: Global,
+        sets: u32,
+        ways: u32,
+        banks: u32,
+        factor: u32,
+    ) -> Result<Lines<L>, NoMemory>
         requires sets { IsFrom 1 4096 sets }
         requires ways { IsFrom 1 16 ways }
         requires banks { IsFrom 1 16 banks }
-        ensures { IfOk result (λ lines. lines ≡ empty_table sets ways banks) }
+        requires factor { is_factor factor ≡ true }
+        ensures { IfOk result (λ lines. lines ≡ empty_table sets ways banks factor) }
     {
-        let masks = BTreeMap::new(alloc);
+        let dirty = BTreeMap::new(alloc);
         match vec![in alloc; 0; sets as usize] {
             Ok(counts) => Ok(Lines {
                 sets,
                 ways,
                 banks,
-                masks,
+                factor,
+                dirty,
                 counts,
-                level: PhantomData,
             }),
             Err(_) => Err(NoMemory),
         }
@@ -63,48 +70,51 @@ impl<L> Lines<L> {
     /// Whether a line is on the block.
     pub fn has(&self, block: u32) -> bool
         ensures value { result ≡ has_line self.now.lines block }
-        ensures table { IsLineTable self.now }
+        ensures table { IsLineTable L.set self.now }
     {
-        self.masks.contains_key(&block)
-    }
-
-    /// The dirty mask of the block's line.
-    pub fn dirty(&self, block: u32) -> Option<Mask>
-        ensures value { option_map (λ mask. mask.0) result ≡ line_at self.now.lines block }
-        ensures table { IsLineTable self.now }
-    {
-        match self.masks.get(&block) {
-            Some(mask) => Some(Mask(*mask)),
-            None => None,
-        }
+        self.dirty.contains_key(&block)
     }
 
     /// Whether each way of the block's set has a line.
     pub fn full(&self, block: u32) -> bool
-        ensures value { result ≡ is_full self.now block }
-        ensures all_ways { IsTrue result ↔ (lines_of_set self.now.banks self.now.sets self.now.lines block ≡ self.now.ways) }
-        ensures table { IsLineTable self.now }
+        ensures value { result ≡ is_full L.set self.now block }
+        ensures all_ways { IsTrue result ↔ (lines_of_set (set_in L.set self.now) self.now.lines block ≡ self.now.ways) }
+        ensures table { IsLineTable L.set self.now }
     {
-        let set = set_of(self.banks, self.sets, block);
+        let set = L::set_of(self.banks, self.factor, self.sets, block);
         u32::from(self.counts[set as usize]) >= self.ways
     }
 
-    /// A line comes to a block that has none, with this dirty mask. `SetFull` where each way of the
-    /// block's set has a line; `NoMemory` where there is a free way and a growth was refused.
-    pub fn fill(&mut self, block: u32, mask: Mask) -> Result<(), LineFault>
+    pub(crate) fn factor(&self) -> u32
+        ensures value { result ≡ self.now.factor }
+        ensures factor { is_factor result ≡ true }
+    {
+        self.factor
+    }
+
+    /// What is dirty of the block's line.
+    pub(crate) fn line(&self, block: u32) -> Option<&L::Dirty>
+        ensures value { option_copied result ≡ line_at self.now.lines block }
+        ensures table { IsLineTable L.set self.now }
+    {
+        self.dirty.get(&block)
+    }
+
+    /// A line comes to a block that has none.
+    pub(crate) fn put(&mut self, block: u32, dirty: L::Dirty) -> Result<(), LineFault>
         requires { has_line self.old.lines block ≡ false }
-        ensures free_way { IfOk result (λ _. is_full self.old block ≡ false) }
-        ensures filled { IfOk result (λ _. self.new ≡ after_fill self.old block mask.0) }
-        ensures here { IfOk result (λ _. ChangesOnly self.old self.new block (Some mask.0)) }
-        ensures refused { IfErr result (λ fault. FillRefusal self.old block fault) }
+        ensures free_way { IfOk result (λ _. is_full L.set self.old block ≡ false) }
+        ensures filled { IfOk result (λ _. self.new ≡ after_fill self.old block dirty) }
+        ensures here { IfOk result (λ _. ChangesOnly self.old self.new block (Some dirty)) }
+        ensures refused { IfErr result (λ fault. FillRefusal L.set self.old block fault) }
         ensures unchanged { OnErr result (self.new ≡ self.old) }
     {
         if self.full(block) {
             return Err(LineFault::SetFull);
         }
-        match self.masks.insert(block, mask.0) {
+        match self.dirty.insert(block, dirty) {
             Ok(_) => {
-                let set = set_of(self.banks, self.sets, block);
+                let set = L::set_of(self.banks, self.factor, self.sets, block);
                 self.counts[set as usize] += 1;
                 Ok(())
             }
@@ -112,49 +122,26 @@ impl<L> Lines<L> {
         }
     }
 
-    /// The dirty mask of the block's line gains these bytes.
-    pub fn mark(&mut self, block: u32, mask: Mask)
+    /// What is dirty of the block's line becomes this.
+    pub(crate) fn set(&mut self, block: u32, dirty: L::Dirty)
         requires { has_line self.old.lines block ≡ true }
-        ensures marked { self.new ≡ after_mark self.old block mask.0 }
-        ensures here { ChangesOnly self.old self.new block (Some (bit_or (dirty_mask self.old.lines block) mask.0)) }
+        ensures set { self.new ≡ after_fill self.old block dirty }
+        ensures here { ChangesOnly self.old self.new block (Some dirty) }
     {
-        let Some(dirty) = self.masks.get_mut(&block) else {
+        let Some(old) = self.dirty.get_mut(&block) else {
             unreachable!()
         };
-        *dirty |= mask.0;
+        *old = dirty;
     }
 
-    /// The block's line goes, where the mask is its dirty mask. `EvictAbsent` where no line is on the
-    /// block; `EvictMask` where there is one with another mask.
-    pub fn evict(&mut self, block: u32, mask: Mask) -> Result<(), LineFault>
-        ensures there { IfOk result (λ _. has_line self.old.lines block ≡ true) }
-        ensures same_mask { IfOk result (λ _. mask.0 ≡ dirty_mask self.old.lines block) }
-        ensures evicted { IfOk result (λ _. self.new ≡ after_evict self.old block) }
-        ensures here { IfOk result (λ _. ChangesOnly self.old self.new block None) }
-        ensures refused { IfErr result (λ fault. EvictRefusal self.old block mask.0 fault) }
-        ensures unchanged { OnErr result (self.new ≡ self.old) }
+    /// The block's line goes.
+    pub(crate) fn take_out(&mut self, block: u32)
+        requires { has_line self.old.lines block ≡ true }
+        ensures gone { self.new ≡ after_evict self.old block }
+        ensures here { ChangesOnly self.old self.new block None }
     {
-        match self.masks.get(&block) {
-            None => return Err(LineFault::EvictAbsent),
-            Some(dirty) => {
-                if *dirty != mask.0 {
-                    return Err(LineFault::EvictMask);
-                }
-            }
-        }
-        let _ = self.masks.remove(&block);
-        let set = set_of(self.banks, self.sets, block);
+        let _ = self.dirty.remove(&block);
+        let set = L::set_of(self.banks, self.factor, self.sets, block);
         self.counts[set as usize] -= 1;
-        Ok(())
-    }
-}
-
-impl Lines<Two> {
-    /// Whether the second level may give up its line on the block: where the first level has no line
-    /// on it, and no register of the first level holds it.
-    pub fn may_leave(&self, block: u32, inner: &Lines<One>, in_register: bool) -> bool
-        ensures { result ≡ (not (has_line inner.now.lines block) && not in_register) }
-    {
-        !inner.has(block) && !in_register
     }
 }

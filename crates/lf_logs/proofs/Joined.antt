@@ -34,8 +34,8 @@ pub of_bank-le : (bank : ℕ) (rs : List Record) → length (of_bank bank rs) �
 of_bank-le bank rs = omega (arith, length-filter (names bank) rs, count_by-le-length (names bank) rs)
 
 -- logs of a bounded length have a bounded number of records of a bank
-pub of_first-le : (bank : ℕ) (logs : List (Vec Record)) → All (λ log. length log.items ≤ 2 ^ 20) logs → (i : ℕ) → i ≤ length logs →
-    length (of_bank bank (of_first i logs)) ≤ i * 2 ^ 20
+pub of_first-le : (bank : ℕ) (logs : List (Vec Record)) → All (λ log. length log.items ≤ 2 ^ 24) logs → (i : ℕ) → i ≤ length logs →
+    length (of_bank bank (of_first i logs)) ≤ i * 2 ^ 24
 of_first-le bank logs short zero within = omega arith
 of_first-le bank [] short (suc i) within = absurd (omega arith)
 of_first-le bank (log ∷ logs) short (suc i) within =
@@ -47,8 +47,8 @@ of_first-le bank (log ∷ logs) short (suc i) within =
     let short_one = short i log (omega arith) in
     omega (arith, before, sum, few, short_one)
 
-pub all_records-le : (bank : ℕ) (logs : List (Vec Record)) → All (λ log. length log.items ≤ 2 ^ 20) logs → length logs ≤ 32 →
-    length (of_bank bank (all_records (map (λ v. v.items) logs))) ≤ 2 ^ 25
+pub all_records-le : (bank : ℕ) (logs : List (Vec Record)) → All (λ log. length log.items ≤ 2 ^ 24) logs → length logs ≤ 32 →
+    length (of_bank bank (all_records (map (λ v. v.items) logs))) ≤ 2 ^ 29
 all_records-le bank logs short few =
     let all = ap (λ rs. length (of_bank bank rs)) (of_first-all logs (length logs) (omega arith)) in
     omega (arith, of_first-le bank logs short (length logs) (omega arith), all, few)

@@ -4,6 +4,7 @@ pub mod GivenOut
 mod Joined
 mod Judged
 mod Members
+mod NoneBusy
 mod Ordered
 mod Placing
 mod PortRun

@@ -1,5 +1,5 @@
 -- A record joins its log, or its bank.
-use Rattle.std.proofs.Common.{◌≡◌, ℕ, ◌+◌, ◌<◌, cond, eqb, List, [], ◌∷◌, ◌++◌, map, length, get_or, set, refl, sym, ap, ◌∙◌, subst, ⊎_elim, arith, add-one}
+use Rattle.std.proofs.Common.{◌≡◌, ℕ, ◌+◌, ◌<◌, ◌≤◌, cond, eqb, List, [], ◌∷◌, ◌++◌, map, length, get_or, set, refl, sym, ap, ◌∙◌, subst, ⊎_elim, arith, add-one}
 use Rattle.std.specs.List.{All, filter, range_with_len}
 use Rattle.std.specs.Global.{Vec}
 use Rattle.std.proofs.lemmas.List.{same_lists, length-set, get_or-set_same, get_or-set_other, append-nil, map-set, length-map, get_or-map, get_or_at, length-append}
@@ -54,6 +54,16 @@ module _ (key : Record → ℕ) where
       ∙ sym (of_key-push_other k rs r other)
       ∙ sym (get_or-parts_of count (rs ++ r ∷ []) k d inside))
       (cases_eq (key r) k))
+
+  -- a record of no part
+  pub parts_of-outside : (count : ℕ) (rs : List Record) (r : Record) → count ≤ key r → parts_of key count rs ≡ parts_of key count (rs ++ r ∷ [])
+  parts_of-outside count rs r h = same_lists _ _
+      (length-parts_of count rs ∙ sym (length-parts_of count (rs ++ r ∷ [])))
+      (λ k d below.
+      let inside : k < count = omega (arith, length-parts_of count rs) in
+      get_or-parts_of count rs k d inside
+      ∙ sym (of_key-push_other k rs r (λ e. absurd (omega (arith, e))))
+      ∙ sym (get_or-parts_of count (rs ++ r ∷ []) k d inside))
 
   -- the same at the vectors that hold the parts
   pub placed : (xs : List (Vec Record)) (count : ℕ) (rs : List Record) (r : Record) (i : ℕ) (v w : Vec Record) → i ≡ key r → key r < count →

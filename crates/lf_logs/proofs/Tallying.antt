@@ -88,10 +88,10 @@ AreTallies-set logs bank seen tallies r place old new own inside read one_more a
 
 -- where the count of one log stands: `now` are the tallies after its records before place `at`
 pub record Counted (bank log : ℕ) (rs : List Record) (start now : List Tally) (at : ℕ) : Type 0 where
-  pub small : All (λ tally. tally.times ≤ 2 ^ 25 + at) now
+  pub small : All (λ tally. tally.times ≤ 2 ^ 29 + at) now
   pub counted : (logs : List (List Record)) (seen : List Record) → get_or logs log [] ≡ rs → AreTallies logs bank seen start → AreTallies logs bank (seen ++ take at rs) now
 
-pub Counted-start : (bank log : ℕ) (rs : List Record) (start : List Tally) → All (λ tally. tally.times ≤ 2 ^ 25) start → Counted bank log rs start start 0
+pub Counted-start : (bank log : ℕ) (rs : List Record) (start : List Tally) → All (λ tally. tally.times ≤ 2 ^ 29) start → Counted bank log rs start start 0
 Counted-start bank log rs start low = record {
   small = λ k d h. omega (arith, low k d h);
   counted = λ logs seen is was. subst (λ xs. AreTallies logs bank xs start) (sym (append-nil seen)) was;

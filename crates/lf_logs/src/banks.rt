@@ -1,7 +1,7 @@
 //! The records of each bank, moved into the order of their numbers.
 
 ghost use Rattle.std.specs.Prelude.{◌≡◌, ℕ, ◌<◌, ◌≤◌, ◌^◌, List, ◌++◌, length, IfOk, OnOk, IsPermutation};
-ghost use Rattle.std.specs.List.{All, range_with_len};
+ghost use Rattle.std.specs.List.{range_with_len};
 ghost use Rattle.lf_model.specs.declared.event.Record.{Record};
 ghost use Rattle.lf_model.specs.Numbers.{all_records, numbers_of, bank_numbers, IsWhole};
 ghost use Rattle.lf_logs.specs.Lists.{lists_of, banks_of, AreNumbered};
@@ -10,14 +10,17 @@ use crate::logs::empty_logs;
 use lf_model::{Logs, NoMemory, Record};
 use std::alloc::Global;
 
-/// Moves each record of a log to the end of its bank's list.
+/// Moves each record of a log to the end of its bank's list. One that names none of these banks is
+/// left out, as a fence is.
 fn add_log(banks: &mut Vec<Vec<Record>>, log: Vec<Record>) -> Result<(), NoMemory>
-    requires { All (λ r. r.bank < length banks.old.items) log.items }
     ensures { OnOk result ((count : ℕ) (seen : List Record) → lists_of banks.old ≡ banks_of count seen
         → lists_of banks.new ≡ banks_of count (seen ++ log.items)) }
 {
     for item in log {
         let bank = usize::from(item.bank);
+        if bank >= banks.len() {
+            continue;
+        }
         if banks[bank].push(item).is_err() {
             return Err(NoMemory);
         }
@@ -27,7 +30,6 @@ fn add_log(banks: &mut Vec<Vec<Record>>, log: Vec<Record>) -> Result<(), NoMemor
 
 /// The records of each bank, log after log.
 fn split_by_bank(alloc: Global, count: u32, logs: Logs) -> Result<Vec<Vec<Record>>, NoMemory>
-    requires { All (λ log. All (λ r. r.bank < count) log.items) logs.items }
     ensures { IfOk result (λ banks. lists_of banks ≡ banks_of count (all_records (lists_of logs))) }
 {
     let mut banks = empty_logs(alloc, count)?;
@@ -54,9 +56,9 @@ fn order_by_number(records: &mut [Record])
     }
 }
 
-/// For each bank its records of all logs, in the order of their numbers. Each record is moved.
+/// For each bank its records of all logs, in the order of their numbers. Each record is moved. Those
+/// that name none of these banks are left out, as fences are.
 pub fn bank_records(alloc: Global, banks: u32, logs: Logs) -> Result<Vec<Vec<Record>>, NoMemory>
-    requires named { All (λ log. All (λ r. r.bank < banks) log.items) logs.items }
     requires whole { (bank : ℕ) → bank < banks → IsWhole (bank_numbers (lists_of logs) bank) }
     ensures { IfOk result (λ lists. AreNumbered (lists_of logs) banks (lists_of lists)) }
 {

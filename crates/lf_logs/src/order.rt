@@ -45,7 +45,7 @@ fn count_of_bank(bank: u8, log: &[Record]) -> usize
 /// How many records name the bank.
 fn bank_len(logs: &Logs, bank: u8) -> usize
     requires few { length logs.now.items ≤ 32 }
-    requires short { All (λ log. length log.items ≤ 2 ^ 20) logs.now.items }
+    requires short { All (λ log. length log.items ≤ 2 ^ 24) logs.now.items }
     ensures { result ≡ length (of_bank bank (all_records (lists_of logs.now))) }
 {
     let mut len = 0;
@@ -57,8 +57,8 @@ fn bank_len(logs: &Logs, bank: u8) -> usize
 
 /// Counts the bank's records of one log. A number without a tally is left out.
 fn count_log(tallies: &mut [Tally], bank: u8, log: u8, records: &[Record])
-    requires low { All (λ tally. tally.times ≤ 2 ^ 25) tallies.old }
-    requires short { length records.now ≤ 2 ^ 20 }
+    requires low { All (λ tally. tally.times ≤ 2 ^ 29) tallies.old }
+    requires short { length records.now ≤ 2 ^ 24 }
     ensures { (logs : List (List Record)) (seen : List Record) → slice_index_or logs log [] ≡ records.now
         → AreTallies logs bank seen tallies.old → AreTallies logs bank (seen ++ records.now) tallies.new }
 {
@@ -75,7 +75,7 @@ fn count_log(tallies: &mut [Tally], bank: u8, log: u8, records: &[Record])
 /// A tally for each number below the count of the bank's records.
 fn tallies_of(alloc: Global, logs: &Logs, bank: u8) -> Result<Vec<Tally>, NumberFault>
     requires few { length logs.now.items ≤ 32 }
-    requires short { All (λ log. length log.items ≤ 2 ^ 20) logs.now.items }
+    requires short { All (λ log. length log.items ≤ 2 ^ 24) logs.now.items }
     ensures len { IfOk result (λ tallies. length tallies.items ≡ length (of_bank bank (all_records (lists_of logs.now)))) }
     ensures counted { IfOk result (λ tallies. AreTallies (lists_of logs.now) bank (all_records (lists_of logs.now)) tallies.items) }
     ensures memory { IfErr result (λ fault. fault ≡ NumberFault.NoMemory) }
@@ -96,7 +96,7 @@ fn tallies_of(alloc: Global, logs: &Logs, bank: u8) -> Result<Vec<Tally>, Number
 
 /// The first number that does not occur exactly once.
 fn judge(tallies: &[Tally]) -> Result<(), NumberFault>
-    requires { length tallies.now ≤ 2 ^ 25 }
+    requires { length tallies.now ≤ 2 ^ 29 }
     ensures fine { OnOk result (AreOnceBelow (length tallies.now) tallies.now) }
     ensures fault { IfErr result (IsFirstFault tallies.now) }
 {
@@ -125,7 +125,7 @@ fn last_places(alloc: Global, tallies: &[Tally]) -> Result<Vec<Place>, NumberFau
 /// or that occurs more than once.
 pub fn bank_order(alloc: Global, logs: &Logs, bank: u8) -> Result<Vec<Place>, NumberFault>
     requires few { length logs.now.items ≤ 32 }
-    requires short { All (λ log. length log.items ≤ 2 ^ 20) logs.now.items }
+    requires short { All (λ log. length log.items ≤ 2 ^ 24) logs.now.items }
     ensures order { IfOk result (λ places. IsOrder (lists_of logs.now) bank places.items) }
     ensures whole { OnOk result (IsWhole (bank_numbers (lists_of logs.now) bank)) }
     ensures fault { IfErr result (IsNumberFault (bank_numbers (lists_of logs.now) bank)) }

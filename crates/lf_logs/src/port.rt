@@ -1,10 +1,10 @@
 //! The rules of a port's log. They look at nothing but which tags are busy.
 
-ghost use Rattle.std.specs.Prelude.{◌≡◌, ◌≢◌, ◌≤◌, ◌^◌, length};
+ghost use Rattle.std.specs.Prelude.{◌≡◌, ◌≢◌, ◌≤◌, ◌^◌, length, None, slice_index_or};
 ghost use Rattle.lf_model.specs.declared.outcome.Outcome.{Outcome};
 ghost use Rattle.lf_model.specs.Outcomes.{IsPortOutcome};
 ghost use Rattle.lf_model.specs.State.{Local, idle};
-ghost use Rattle.lf_model.specs.Table.{OfPort, clauses};
+ghost use Rattle.lf_model.specs.Table.{OfPort, clauses, none_busy};
 ghost use Rattle.lf_model.specs.Run.{first_failing, effect};
 ghost use Rattle.lf_logs.specs.Tags.{with_tags};
 
@@ -26,6 +26,19 @@ impl BusyTags {
         BusyTags {
             owed_by: [None; TAGS],
         }
+    }
+
+    /// Whether none of so many tags is busy.
+    fn none_busy(&self, tags: u32) -> bool
+        ensures { result ≡ none_busy tags (λ tag. slice_index_or self.now.owed_by tag None) }
+    {
+        let named = self.owed_by.len().min(tags as usize);
+        for tag in 0..named {
+            if self.owed_by[tag].is_some() {
+                return false;
+            }
+        }
+        true
     }
 
     /// The first rule of the port that the record breaks.
@@ -51,6 +64,13 @@ impl BusyTags {
                     None
                 }
             }
+            Event::Fence => {
+                if self.none_busy(shape.tags) {
+                    None
+                } else {
+                    Some(Rule::FenceBusy)
+                }
+            }
             _ => None,
         }
     }
@@ -68,9 +88,10 @@ impl BusyTags {
 }
 
 /// Judges the log of one port, `records`, by the rules of ports: a tag is in range, an issue's is not
-/// busy, a reply's is busy with the reply's bank. The place in `Broken` counts from 0 in the log.
+/// busy, a reply's is busy with the reply's bank, and at a fence none is busy. The place in `Broken`
+/// counts from 0 in the log.
 pub fn port_replay(shape: &Shape, records: &[Record]) -> Outcome
-    requires { length records.now ≤ 2 ^ 20 }
+    requires { length records.now ≤ 2 ^ 24 }
     ensures outcome { IsPortOutcome shape.now records.now result }
     ensures memory { result ≢ Outcome.NoMemory }
 {

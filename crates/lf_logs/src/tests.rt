@@ -5,7 +5,9 @@ ghost use Rattle.std.specs.Prelude.{◌≡◌};
 use crate::{
     NumberFault, Place, bank_order, bank_records, port_replay, record_at, skeletons, split,
 };
-use lf_model::{Block, Event, Level, Op, OrgShape, Outcome, Record, Rule, Shape};
+use lf_model::{
+    Block, Event, Level, NO_BANK, Op, OrgShape, Outcome, Record, Rule, Shape, WideBlock,
+};
 use std::test::Fail;
 
 /// An event of port 0 at bank 0.
@@ -31,6 +33,16 @@ fn of_bank(number: u32, event: Event) -> Record
         bank: 0,
         number,
         event,
+    }
+}
+
+/// A fence of port 0.
+fn fence() -> Record {
+    Record {
+        log: 0,
+        bank: NO_BANK,
+        number: 0,
+        event: Event::Fence,
     }
 }
 
@@ -89,6 +101,7 @@ fn shape() -> Shape {
         banks: 1,
         block: 8,
         tags: 4,
+        factor: 1,
         level1: level,
         level2: level,
     }
@@ -128,7 +141,7 @@ fn gaps_and_doubles(rt: HostRuntime) -> Result<(), Fail> {
         let records = vec![in rt.alloc(); load(0, a), load(1, b), load(2, c)]?;
         let logs = split(rt.alloc(), 1, 1, records).ok().ok_or("no memory")?;
         assert!(rt; logs.len() <= 32);
-        assert!(rt; logs.iter().all(|log| log.len() <= 1 << 20));
+        assert!(rt; logs.iter().all(|log| log.len() <= 1 << 24));
         match bank_order(rt.alloc(), &logs, 0) {
             Ok(order) => {
                 assert_eq!(rt; fault, None);
@@ -150,7 +163,7 @@ fn records_of_a_bank_from_two_logs(rt: HostRuntime) -> Result<(), Fail> {
     let bank = vec![in rt.alloc(); of_bank(2, stall.clone()?), of_bank(1, stall.clone()?)]?;
     let logs = vec![in rt.alloc(); port, bank]?;
     assert!(rt; logs.len() <= 32);
-    assert!(rt; logs.iter().all(|log| log.len() <= 1 << 20));
+    assert!(rt; logs.iter().all(|log| log.len() <= 1 << 24));
     match bank_order(rt.alloc(), &logs, 0) {
         Ok(order) => {
             let places = [(0, 1), (1, 1), (1, 0), (0, 0)].map(|(log, at)| Place { log, at });
@@ -193,6 +206,48 @@ fn tags_of_a_port(rt: HostRuntime) {
 }
 
 #[test]
+fn fences_of_a_port(rt: HostRuntime) {
+    let shape = shape();
+    let last = [load(0, 0), reply(0, 5), fence()];
+    assert_eq!(rt; port_replay(&shape, &last), Outcome::Passed);
+    let first = [fence(), load(0, 0), reply(0, 5)];
+    assert_eq!(rt; port_replay(&shape, &first), Outcome::Passed);
+    let between = [load(0, 0), fence(), reply(0, 5)];
+    assert_eq!(rt;
+        port_replay(&shape, &between),
+        Outcome::Broken(1, Rule::FenceBusy)
+    );
+    let highest = [load(3, 0), fence()];
+    assert_eq!(rt;
+        port_replay(&shape, &highest),
+        Outcome::Broken(1, Rule::FenceBusy)
+    );
+}
+
+#[test]
+fn fences_have_no_place_in_a_bank(rt: HostRuntime) -> Result<(), Fail> {
+    let port = vec![in rt.alloc(); fence(), load(0, 0), fence()]?;
+    let logs = vec![in rt.alloc(); port]?;
+    assert!(rt; logs.len() <= 32);
+    assert!(rt; logs.iter().all(|log| log.len() <= 1 << 24));
+    let found = skeletons(rt.alloc(), &logs).ok().ok_or("no memory")?;
+    assert_eq!(rt;
+        found[0].as_slice(),
+        [(255, 0), (0, 0), (255, 0)].as_slice()
+    );
+    match bank_order(rt.alloc(), &logs, 0) {
+        Ok(order) => {
+            assert_eq!(rt; order.as_slice(), [Place { log: 0, at: 1 }].as_slice());
+            let banks = bank_records(rt.alloc(), 1, logs).ok().ok_or("no memory")?;
+            assert_eq!(rt; banks.len(), 1);
+            assert_eq!(rt; banks[0].as_slice(), [load(0, 0)].as_slice());
+        }
+        Err(fault) => assert!(rt; false, "{fault:?}"),
+    }
+    Ok(())
+}
+
+#[test]
 fn encode_and_skeletons(rt: HostRuntime) -> Result<(), Fail> {
     let port = vec![in rt.alloc(); load(0, 0), reply(0, 5)]?;
     let primary = of_bank(
@@ -214,7 +269,7 @@ fn encode_and_skeletons(rt: HostRuntime) -> Result<(), Fail> {
         3,
         Event::Fill2 {
             block: 0,
-            bytes: zeros(),
+            bytes: WideBlock::new(),
         },
     );
     let fill1 = of_bank(

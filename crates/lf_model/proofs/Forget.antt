@@ -2,7 +2,7 @@
 use Rattle.std.proofs.Common.{◌≡◌, ℕ, ◌+◌, Bool, true, false, cond, not, ◌&&◌, ◌||◌, ◌==◌, nat_lt, ◌/◌, drop, List, [], ◌∷◌, ◌++◌, map, Option, refl, ap, ◌∙◌}
 use mathlib.Core.Path.{ap₂, fun_ext}
 use Rattle.std.specs.Prelude.{bit_or}
-use Rattle.std.specs.List.{list_any, filter, fold, range_with_len}
+use Rattle.std.specs.List.{list_all, list_any, filter, fold, range_with_len}
 use Rattle.lf_model.specs.declared.shape.Shape.{Shape}
 use Rattle.lf_model.specs.declared.shape.OrgShape.{OrgShape}
 use Rattle.lf_model.specs.declared.shape.OrgShape.TheVariants.{Implicit, Explicit, Inverted}
@@ -10,7 +10,8 @@ use Rattle.lf_model.specs.declared.event.Event.{Event}
 use Rattle.lf_model.specs.declared.event.Event.TheVariants.{Hit, Primary, Merge, Stall, Fill1, Evict2}
 use Rattle.lf_model.specs.Registers.{Held, registers_of, holds, holds_in, is_free, targets_of, right_for_primary, right_for_merge, takes, has_room}
 use Rattle.lf_model.specs.State.{update, Missed, Ready, Slice}
-use Rattle.lf_model.specs.Lines.{has_line, dirty_mask, with_line}
+use Rattle.lf_model.specs.Lines.{has_line, dirty_masks, same_masks, with_line}
+use Rattle.lf_model.specs.Address.{sub_block, places}
 use Rattle.lf_model.specs.Table.{oldest, is_head, position, destination, destinations, store_mask, store_bytes, miss, bank_wants, written, without, rules_of, slice_after}
 use Rattle.lf_model.specs.declared.rule.Rule.TheVariants.{NotHead, Present, PrimaryInFlight, NotInFlight, RegisterRange, WrongRegister, RegisterBusy, MergeFull, NeedlessStall, EvictAbsent, Inclusion, EvictMask, EvictData}
 use Rattle.lf_model.proofs.CopyBlock.{answer}
@@ -114,14 +115,14 @@ rules_same shape right busy slice log bank (Stall port tag) =
     ∷ bank_wants NeedlessStall (not room)
     ∷ [] in
     ap list (room_same shape.level1.organisation (destinations shape) slice.waiting request.block (destination shape port tag) (request.offset / 8))
-rules_same shape right busy slice log bank (Evict2 block mask bytes) =
-    let list = λ (waits : Bool).
-    bank_wants EvictAbsent (has_line slice.lines2 block)
-    ∷ bank_wants Inclusion (not (has_line slice.lines1 block) && not waits)
-    ∷ bank_wants EvictMask (mask.0 == dirty_mask slice.lines2 block)
+rules_same shape right busy slice log bank (Evict2 second masks bytes) =
+    let list = λ (apart : ℕ → Bool).
+    bank_wants EvictAbsent (has_line slice.lines2 second)
+    ∷ bank_wants Inclusion (list_all apart (places shape))
+    ∷ bank_wants EvictMask (same_masks shape.factor masks (dirty_masks slice.lines2 second))
     ∷ bank_wants EvictData right
     ∷ [] in
-    ap list (holds_same slice.waiting block)
+    ap list (fun_ext (λ place. ap (λ (waits : Bool). not (has_line slice.lines1 (sub_block shape second place)) && not waits) (holds_same slice.waiting (sub_block shape second place))))
 rules_same shape right busy slice log bank _ = refl
 
 -- ---- effects

@@ -26,5 +26,6 @@ pub mod Finds
 pub mod BusyTags
 pub mod PlainSteps
 pub mod Walks
+pub mod Wide
 pub mod PlainStart
 pub mod Rechecks

@@ -1,5 +1,5 @@
 -- A record looks at its own port and its own bank alone, and changes nothing else.
-use Rattle.std.proofs.Common.{◌≡◌, ℕ, Bool, true, false, cond, ◌==◌, List, [], ◌∷◌, ◌++◌, map, drop, Option, Some, None, ◌⊎◌, inl, inr, refl, sym, ap, ◌∙◌, subst, ne_eqb, eqb-true}
+use Rattle.std.proofs.Common.{◌≡◌, ℕ, arith, Bool, true, false, cond, ◌==◌, List, [], ◌∷◌, ◌++◌, map, drop, Option, Some, None, ◌⊎◌, inl, inr, refl, sym, ap, ◌∙◌, subst, ne_eqb, eqb-true}
 use Rattle.std.specs.Prelude.{bytes_eq}
 use Rattle.std.proofs.lemmas.Bool.{cond-false}
 use Rattle.std.specs.List.{range_with_len, AllByRecursion}
@@ -7,7 +7,8 @@ use Rattle.lf_model.specs.declared.shape.Shape.{Shape}
 use Rattle.lf_model.specs.declared.event.Record.{Record}
 use Rattle.lf_model.specs.declared.event.Event.{Event}
 use Rattle.lf_model.specs.declared.event.Event.TheVariants.{Issue, Hit, Primary, Merge, Fill1, Evict1, Fill2, Evict2}
-use Rattle.lf_model.specs.Address.{FlatMemory, bank_of, agree_off, masked}
+use Rattle.lf_model.specs.Address.{FlatMemory, bank_of, sub_block, part_at, mask_at, agree_off, masked}
+use Rattle.lf_model.proofs.Wide.{bank_of_sub, all_same, flat_same}
 use Rattle.lf_model.specs.State.{update, Request, Ready, Slice, Local}
 use Rattle.lf_model.specs.Table.{OfPort, OfBank, nobody, oldest, read, written, store_bytes, carries, rules_of, accepts, accepted_if, slice_after, value_at, replies_at, clauses, bank_effect}
 use Rattle.lf_model.specs.Run.{first_failing}
@@ -51,12 +52,13 @@ carries_same : (shape : Shape) (m n : FlatMemory) (slice : Slice) (log bank : �
     → carries shape m slice e ≡ carries shape n slice e
 carries_same shape m n slice log bank (Fill1 x bytes) fit same =
     ap (λ (f : ℕ → ℕ). agree_off shape.block bytes.items (map f (range_with_len 0 shape.block)) (store_bytes slice.waiting x)) (same x fit)
-carries_same shape m n slice log bank (Fill2 x bytes) fit same =
-    ap (λ (f : ℕ → ℕ). agree_off shape.block bytes.items (map f (range_with_len 0 shape.block)) (store_bytes slice.waiting x)) (same x fit)
+carries_same shape m n slice log bank (Fill2 second bytes) fit same = all_same _ _ 0 shape.factor (λ place le lt.
+    ap (λ (f : ℕ → ℕ). agree_off shape.block (part_at shape.block bytes.items place) (map f (range_with_len 0 shape.block)) (store_bytes slice.waiting (sub_block shape second place)))
+    (same (sub_block shape second place) (bank_of_sub shape second place bank (omega (arith, lt)) fit)))
 carries_same shape m n slice log bank (Evict1 x mask bytes) fit same =
     ap (λ (f : ℕ → ℕ). bytes_eq bytes.items (masked (map f (range_with_len 0 shape.block)) mask.0)) (same x fit)
-carries_same shape m n slice log bank (Evict2 x mask bytes) fit same =
-    ap (λ (f : ℕ → ℕ). bytes_eq bytes.items (masked (map f (range_with_len 0 shape.block)) mask.0)) (same x fit)
+carries_same shape m n slice log bank (Evict2 second masks bytes) fit same = ap (bytes_eq bytes.items) (flat_same _ _ 0 shape.factor (λ place le lt.
+    ap (λ (f : ℕ → ℕ). masked (map f (range_with_len 0 shape.block)) (mask_at masks place)) (same (sub_block shape second place) (bank_of_sub shape second place bank (omega (arith, lt)) fit))))
 carries_same shape m n slice log bank _ fit same = refl
 
 pub bank_clauses_same : (shape : Shape) (a b : Local) (r : Record) → Fits shape r → SameBank shape r.bank a b

@@ -88,11 +88,11 @@ pub numbered_is_whole : NumberedIsWhole
 numbered_is_whole = whole_if_numbered
 
 pub interleavings_are_numbered : InterleavingsAreNumbered
-interleavings_are_numbered logs rs is keeps bank = record { numbers = keeps bank; same = interleaving_permutes_bank logs rs is bank }
+interleavings_are_numbered logs rs is keeps bank named = record { numbers = keeps bank named; same = interleaving_permutes_bank logs rs is bank }
 
 pub gaps_admit_none : GapsAdmitNone
-gaps_admit_none logs bank k (inl gap) rs is keeps = no_gap_if_numbered logs bank (of_bank bank rs) (interleavings_are_numbered logs rs is keeps bank) k gap
-gaps_admit_none logs bank k (inr double) rs is keeps = no_double_if_numbered logs bank (of_bank bank rs) (interleavings_are_numbered logs rs is keeps bank) k double
+gaps_admit_none logs bank k named (inl gap) rs is keeps = no_gap_if_numbered logs bank (of_bank bank rs) (interleavings_are_numbered logs rs is keeps bank named) k gap
+gaps_admit_none logs bank k named (inr double) rs is keeps = no_double_if_numbered logs bank (of_bank bank rs) (interleavings_are_numbered logs rs is keeps bank named) k double
 
 -- ---- there is one order by numbers
 

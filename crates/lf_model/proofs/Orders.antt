@@ -176,7 +176,7 @@ RisesFromZero es = map (λ e. e.1) es ≡ range_with_len 0 (length es)
 
 pub entries_keep_alike : EntriesKeepAlike
 entries_keep_alike rs = (
-  λ keeps bank. subst RisesFromZero (sym (bank_entries bank rs))
-      (entry_numbers (of_bank bank rs) ∙ keeps bank ∙ ap (range_with_len 0) (sym (length-map (of_bank bank rs) entry_of))),
-  λ keeps bank. sym (entry_numbers (of_bank bank rs)) ∙ subst RisesFromZero (bank_entries bank rs) (keeps bank) ∙ ap (range_with_len 0) (length-map (of_bank bank rs) entry_of),
+  λ keeps bank named. subst RisesFromZero (sym (bank_entries bank rs))
+      (entry_numbers (of_bank bank rs) ∙ keeps bank named ∙ ap (range_with_len 0) (sym (length-map (of_bank bank rs) entry_of))),
+  λ keeps bank named. sym (entry_numbers (of_bank bank rs)) ∙ subst RisesFromZero (bank_entries bank rs) (keeps bank named) ∙ ap (range_with_len 0) (length-map (of_bank bank rs) entry_of),
 )

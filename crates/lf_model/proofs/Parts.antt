@@ -5,11 +5,11 @@ use Rattle.std.specs.List.{AllByRecursion}
 use Rattle.lf_model.specs.declared.shape.Shape.{Shape}
 use Rattle.lf_model.specs.declared.event.Record.{Record}
 use Rattle.lf_model.specs.declared.event.Event.{Event}
-use Rattle.lf_model.specs.declared.event.Event.TheVariants.{Issue, Reply}
+use Rattle.lf_model.specs.declared.event.Event.TheVariants.{Issue, Reply, Fence}
 use Rattle.lf_model.specs.State.{update, Slice, State, Local, opening, seen_by}
 use Rattle.lf_model.specs.Table.{OfPort, OfBank, carries, rules_of, accepts, busy_after, clauses, bank_effect, port_effect}
 use Rattle.lf_model.specs.Run.{first_failing, state_after, IsRunOf, IsRunFrom, of_log, of_bank, RunsByParts}
-use Rattle.lf_model.specs.Fits.{Fits, FitsLog}
+use Rattle.lf_model.specs.Fits.{Fits, FitsBank, FitsLog}
 use Rattle.lf_model.proofs.FitFacts.{names_home}
 use Rattle.lf_model.proofs.Clauses.{part_holds, both_hold}
 use Rattle.lf_model.proofs.Locality.{SameBank, SameBank-sym, IsHome, bank_clauses_same, port_clauses_same, accepts_home, accepted_apart, bank_effect_same, home_after}
@@ -138,7 +138,17 @@ bank_event shape now r fits at = go (carries shape now.memory now.slice r.event)
     go : (right : Bool) (e : Event) → FitsLog shape.ports r.bank r.log e → first_failing OfPort (rules_of shape right now.busy now.slice r.log r.bank e) ≡ None
     go right (Issue op tag size address bytes) fit = absurd (omega (arith, fit))
     go right (Reply tag size bytes) fit = absurd (omega (arith, fit))
+    go right Fence fit = absurd (omega (arith, fit))
     go right _ fit = refl
+
+-- a record that names no bank has no clause of one
+no_bank_event : (shape : Shape) (now : Local) (r : Record) → Fits shape r → shape.banks ≤ r.bank → first_failing OfBank (clauses shape now r) ≡ None
+no_bank_event shape now r fits at = go (carries shape now.memory now.slice r.event) r.event fits.bank
+  where
+    go : (right : Bool) (e : Event) → FitsBank shape.banks r.bank r.number e → first_failing OfBank (rules_of shape right now.busy now.slice r.log r.bank e) ≡ None
+    go right Fence fit = refl
+    go right (Issue op tag size address bytes) fit = absurd (omega (arith, fit))
+    go right _ fit = absurd (omega (arith, fit))
 
 whole_of_parts : (shape : Shape) (rs : List Record) (state : State) → AllByRecursion (Fits shape) rs → AreHome shape state
     → ((bank : ℕ) → bank < shape.banks → IsRunOf OfBank shape (seen_by 0 bank state) (of_bank bank rs))
@@ -149,8 +159,8 @@ whole_of_parts shape (r ∷ rs) state fits home banks ports =
     let now : Local = seen_by r.log r.bank state in
     let next : State = state_after shape state r in
     let home_next : AreHome shape next = home_step shape state r fits.0 home in
-    let bank_head : IsRunOf OfBank shape (seen_by 0 r.bank state) (r ∷ of_bank r.bank rs) =
-    subst (IsRunOf OfBank shape (seen_by 0 r.bank state)) (cond-true (r.bank == r.bank) (r ∷ of_bank r.bank rs) (of_bank r.bank rs) (eq-eqb r.bank r.bank refl)) (banks r.bank fits.0.bank) in
+    let bank_head : r.bank < shape.banks → IsRunOf OfBank shape (seen_by 0 r.bank state) (r ∷ of_bank r.bank rs) =
+    λ lt. subst (IsRunOf OfBank shape (seen_by 0 r.bank state)) (cond-true (r.bank == r.bank) (r ∷ of_bank r.bank rs) (of_bank r.bank rs) (eq-eqb r.bank r.bank refl)) (banks r.bank lt) in
     let port_head : r.log < shape.ports → IsRunOf OfPort shape (seen_by r.log 0 state) (r ∷ of_log r.log rs) =
     λ lt. subst (IsRunOf OfPort shape (seen_by r.log 0 state)) (cond-true (r.log == r.log) (r ∷ of_log r.log rs) (of_log r.log rs) (eq-eqb r.log r.log refl)) (ports r.log lt) in
     let of_port : first_failing OfPort (clauses shape now r) ≡ None =
@@ -159,12 +169,15 @@ whole_of_parts shape (r ∷ rs) state fits home banks ports =
       | inr ge ↦ bank_event shape now r fits.0 ge
     ]) in
     let of_bank_now : first_failing OfBank (clauses shape now r) ≡ None =
-    bank_clauses_same shape now (seen_by 0 r.bank state) r fits.0 (record { slice = refl; memory = λ x e. refl }) ∙ bank_head.0 in
+    (elim (cases_lt r.bank shape.banks) [
+      | inl lt ↦ bank_clauses_same shape now (seen_by 0 r.bank state) r fits.0 (record { slice = refl; memory = λ x e. refl }) ∙ (bank_head lt).0
+      | inr ge ↦ no_bank_event shape now r fits.0 ge
+    ]) in
     let banks_next : (bank : ℕ) → bank < shape.banks → IsRunOf OfBank shape (seen_by 0 bank next) (of_bank bank rs) = λ bank inside.
     (elim (cases_Bool (r.bank == bank)) [
       | inl e ↦ subst (λ k. IsRunOf OfBank shape (seen_by 0 k next) (of_bank k rs)) (eqb-true r.bank bank e)
           (bank_run_same shape r.bank (of_bank r.bank rs) (bank_effect shape (seen_by 0 r.bank state) r) (seen_by 0 r.bank next) (fit_bank shape r.bank rs fits.1)
-          (home_after shape r.bank _ _ (state.slice r.bank) r.log r.event (names_home shape r fits.0) (home r.bank)) (SameBank-sym (bank_stays shape state r)) bank_head.1)
+          (home_after shape r.bank _ _ (state.slice r.bank) r.log r.event (names_home shape r fits.0) (home r.bank)) (SameBank-sym (bank_stays shape state r)) (bank_head (subst (λ k. k < shape.banks) (sym (eqb-true r.bank bank e)) inside)).1)
       | inr e ↦ bank_run_same shape bank (of_bank bank rs) (seen_by 0 bank state) (seen_by 0 bank next) (fit_bank shape bank rs fits.1) (home bank) (SameBank-sym (bank_apart shape state r home bank e))
           (subst (IsRunOf OfBank shape (seen_by 0 bank state)) (cond-false (r.bank == bank) (r ∷ of_bank bank rs) (of_bank bank rs) e) (banks bank inside))
     ]) in

@@ -8,7 +8,8 @@ use Rattle.arrayvec.specs.ArrayVec.{ArrayVec}
 use Rattle.lf_model.specs.declared.event.Record.{Record}
 use Rattle.lf_model.specs.declared.plain.slice.PlainSlice.{PlainSlice}
 use Rattle.lf_model.specs.Registers.{Held}
-use Rattle.lf_model.specs.State.{update, Request, Missed, Ready, Slice, State, empty_slice, opening}
+use Rattle.lf_model.specs.Lines.{Lines, WideLines}
+use Rattle.lf_model.specs.State.{Asked, update, Request, Missed, Ready, Slice, State, empty_slice, opening}
 use Rattle.lf_model.specs.Address.{FlatMemory, flat_memory}
 use Rattle.lf_model.specs.Plain.{flat_of, put, queue_at, slice_of, slices_of, left_of, busy_of}
 use Rattle.lf_model.proofs.Bytes.{zeros}
@@ -43,7 +44,7 @@ queue_push [] h (suc port) = refl
 queue_push (x ∷ xs) h zero = h zero
 queue_push (x ∷ xs) h (suc port) = queue_push xs (λ p. h (suc p)) port
 
-pub slice_empty : (queues : List (List Request)) (lines1 lines2 : List (ℕ × ℕ)) (waiting : List (Held Missed)) (regs2 : List (Held ℕ)) (asked : List (ℕ × ℕ)) (supplied : List ℕ) (ready : List Ready)
+pub slice_empty : (queues : List (List Request)) (lines1 : Lines) (lines2 : WideLines) (waiting : List (Held Missed)) (regs2 : List (Held Asked)) (asked : List Asked) (supplied : List ℕ) (ready : List Ready)
     → ((port : ℕ) → queue_at queues port ≡ []) → lines1 ≡ [] → lines2 ≡ [] → waiting ≡ [] → regs2 ≡ [] → asked ≡ [] → supplied ≡ [] → ready ≡ []
     → (let made : Slice = record { queue = queue_at queues; lines1 = lines1; lines2 = lines2; waiting = waiting; regs2 = regs2; asked = asked; supplied = supplied; ready = ready } in made ≡ empty_slice)
 slice_empty queues lines1 lines2 waiting regs2 asked supplied ready a b c d e f g h =

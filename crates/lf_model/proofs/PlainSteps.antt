@@ -1,5 +1,5 @@
 -- A step of the plain machine is a step of the whole system.
-use Rattle.std.proofs.Common.{◌≡◌, ℕ, zero, suc, ◌<◌, ◌==◌, true, false, cond, List, [], ◌∷◌, map, length, get_or, set, Result, Ok, Err, refl, sym, ap, ◌∙◌, eqb-true, arith, get_or-set_same, get_or-set_other}
+use Rattle.std.proofs.Common.{◌≡◌, ℕ, zero, suc, ◌<◌, ◌≤◌, ◌==◌, Bool, true, false, cond, List, [], ◌∷◌, Option, map, length, get_or, set, Result, Ok, Err, refl, sym, ap, ◌∙◌, subst, eqb-true, arith, get_or-set_same, get_or-set_other}
 use mathlib.Core.Path.{fun_ext}
 use Rattle.std.specs.Prelude.{OnOk, IfOk}
 use Rattle.std.proofs.lemmas.Bool.{eqb-false}
@@ -8,9 +8,13 @@ use Rattle.lf_model.specs.declared.plain.busy.BusyTag.{BusyTag}
 use Rattle.lf_model.specs.declared.plain.slice.PlainSlice.{PlainSlice}
 use Rattle.lf_model.specs.declared.shape.Shape.{Shape}
 use Rattle.lf_model.specs.declared.event.Record.{Record}
-use Rattle.lf_model.specs.State.{update, Slice, State, empty_slice}
-use Rattle.lf_model.specs.Table.{busy_after, memory_after}
-use Rattle.lf_model.specs.Run.{state_after}
+use Rattle.lf_model.specs.declared.rule.Rule.{Rule}
+use Rattle.lf_model.specs.declared.event.Event.{Event}
+use Rattle.lf_model.specs.declared.event.Event.TheVariants.{Issue, Fence}
+use Rattle.lf_model.specs.Fits.{Fits, FitsBank}
+use Rattle.lf_model.specs.State.{update, Slice, State, Local, empty_slice}
+use Rattle.lf_model.specs.Table.{OfBoth, rules_of, carries, clauses, busy_after, memory_after}
+use Rattle.lf_model.specs.Run.{first_failing, state_after}
 use Rattle.lf_model.specs.Plain.{flat_of, busy_of, slice_of, slice_next, slices_of}
 
 pub on_both : {X E A B C : Type 0} (r : Result X E) → OnOk r A → OnOk r B → (A → B → C) → OnOk r C
@@ -50,3 +54,30 @@ stepped shape blocks new_blocks busy new_busy xs at old new item same inside is 
 pub if_ok_more : {X E : Type 0} (P Q : X → Type 0) (r : Result X E) → ((x : X) → P x → Q x) → IfOk r P → IfOk r Q
 if_ok_more P Q (Ok x) f h = f x h
 if_ok_more P Q (Err e) f h = tt
+
+-- ---- a fence
+
+-- what names no bank is a fence
+pub fence_if : (shape : Shape) (r : Record) → Fits shape r → shape.banks ≤ r.bank → r.event ≡ Fence
+fence_if shape r fits past = go r.event fits.bank
+  where
+    go : (e : Event) → FitsBank shape.banks r.bank r.number e → e ≡ Fence
+    go Fence fit = refl
+    go (Issue op tag size address bytes) fit = absurd (omega (arith, fit, past))
+    go _ fit = absurd (omega (arith, fit, past))
+
+pub judged_fence : (shape : Shape) (now : Local) (r : Record) (result : Option Rule) → r.event ≡ Fence
+    → ((right : Bool) (slice : Slice) (bank : ℕ) → result ≡ first_failing OfBoth (rules_of shape right now.busy slice r.log bank Fence)) → result ≡ first_failing OfBoth (clauses shape now r)
+judged_fence shape now r result is told =
+    subst (λ (e : Event). result ≡ first_failing OfBoth (rules_of shape (carries shape now.memory now.slice e) now.busy now.slice r.log r.bank e)) (sym is)
+    (told (carries shape now.memory now.slice Fence) now.slice r.bank)
+
+pub fenced : (shape : Shape) (blocks : List (ℕ × List ℕ)) (busy new_busy : List BusyTag) (xs : List PlainSlice) (item : Record) → item.event ≡ Fence
+    → busy_of new_busy ≡ update (busy_of busy) item.log (busy_after (busy_of busy item.log) item.bank item.event) → made blocks new_busy xs ≡ state_after shape (made blocks busy xs) item
+fenced shape blocks busy new_busy xs item is tags =
+    let memory_is = ap (λ (e : Event). memory_after (flat_of blocks) (slices_of xs item.bank) e) (sym is) in
+    let slices_are = fun_ext (same (slices_of xs) item.bank) ∙ ap (λ (e : Event). update (slices_of xs) item.bank (slice_next shape (flat_of blocks) (slices_of xs item.bank) item.log e)) (sym is) in
+    λ i. record { memory = memory_is i; busy = tags i; slice = slices_are i }
+  where
+    same : (f : ℕ → Slice) (k n : ℕ) → f n ≡ update f k (f k) n
+    same f k n = elim (k == n) as (λ b. (k == n) ≡ b → f n ≡ cond b (f k) (f n)) [ true ↦ λ e. ap f (sym (eqb-true k n e)) | false ↦ λ e. refl ] refl

@@ -4,42 +4,42 @@ use mathlib.Core.Path.{ap₂}
 use Rattle.std.specs.Prelude.{slice_index}
 use Rattle.std.specs.Global.{Vec}
 use Rattle.std.specs.List.{All, list_all, range_with_len}
-use Rattle.std.proofs.lemmas.Bool.{eqb-false, cond-true, cond-false, both_ways, cases_Bool}
+use Rattle.std.proofs.lemmas.Bool.{cond-true, cond-false, both_ways, cases_Bool}
 use Rattle.std.proofs.lemmas.List.Elements.{All-head, All-tail}
 use Rattle.lf_model.specs.declared.shape.Shape.{Shape}
 use Rattle.lf_model.specs.declared.event.Record.{Record}
 use Rattle.lf_model.specs.declared.rule.Rule.{Rule}
 use Rattle.lf_model.specs.declared.outcome.Recheck.{Recheck}
 use Rattle.lf_model.specs.declared.outcome.Recheck.TheVariants.{Accepted, NotAnOrder, Broken}
-use Rattle.lf_model.specs.Address.{FlatMemory}
-use Rattle.lf_model.specs.State.{update, State, opening, seen_by}
+use Rattle.lf_model.specs.Address.{FlatMemory, no_bank}
+use Rattle.lf_model.specs.State.{State, opening, seen_by}
 use Rattle.lf_model.specs.Table.{OfBoth, clauses}
 use Rattle.lf_model.specs.Run.{first_failing, state_after, IsRunFrom, of_bank, NameTheirLogs}
 use Rattle.lf_model.specs.Sharing.{state_after_all}
 use Rattle.lf_model.specs.Order.{log_at, after_next, Takes}
-use Rattle.lf_model.specs.Plain.{is_empty, finished, judged, recheck_from, recheck_of, count_left}
+use Rattle.lf_model.specs.Plain.{is_empty, is_numbered, next_after, finished, judged, recheck_from, recheck_of, count_left}
 use Rattle.lf_model.specs.Recheck.{TakesTo, IsRecheck, RechecksAreOne}
 use Rattle.lf_model.proofs.Orders.{orders_interleave}
-use Rattle.lf_model.proofs.Walks.{items_of, none_next, wrong_number, right_number, rule_broken}
+use Rattle.lf_model.proofs.Walks.{items_of, numbered_if, if_numbered, next_at, none_next, wrong_number, right_number, rule_broken}
 
 -- ---- how many records there are
 
-pub few_left : (vs : List (Vec Record)) → All (λ v. length v.items ≤ 2 ^ 20) vs → count_left (items_of vs) ≤ length vs * 2 ^ 20
+pub few_left : (vs : List (Vec Record)) → All (λ v. length v.items ≤ 2 ^ 24) vs → count_left (items_of vs) ≤ length vs * 2 ^ 24
 few_left [] short = omega arith
 few_left (v ∷ vs) short =
-    let here = All-head (λ (v : Vec Record). length v.items ≤ 2 ^ 20) v vs short in
-    let rest = few_left vs (All-tail (λ (v : Vec Record). length v.items ≤ 2 ^ 20) v vs short) in
+    let here = All-head (λ (v : Vec Record). length v.items ≤ 2 ^ 24) v vs short in
+    let rest = few_left vs (All-tail (λ (v : Vec Record). length v.items ≤ 2 ^ 24) v vs short) in
     omega (arith, here, rest)
 
-pub short_at : (vs : List (Vec Record)) → All (λ v. length v.items ≤ 2 ^ 20) vs → (log : ℕ) → length (log_at (items_of vs) log) < 2 ^ 32
+pub short_at : (vs : List (Vec Record)) → All (λ v. length v.items ≤ 2 ^ 24) vs → (log : ℕ) → length (log_at (items_of vs) log) < 2 ^ 32
 short_at [] short log = omega arith
-short_at (v ∷ vs) short zero = let here = All-head (λ (v : Vec Record). length v.items ≤ 2 ^ 20) v vs short in omega (arith, here)
-short_at (v ∷ vs) short (suc log) = short_at vs (All-tail (λ (v : Vec Record). length v.items ≤ 2 ^ 20) v vs short) log
+short_at (v ∷ vs) short zero = let here = All-head (λ (v : Vec Record). length v.items ≤ 2 ^ 24) v vs short in omega (arith, here)
+short_at (v ∷ vs) short (suc log) = short_at vs (All-tail (λ (v : Vec Record). length v.items ≤ 2 ^ 24) v vs short) log
 
 -- ---- the same from a state on
 
 abbrev NumbersFrom : (ℕ → ℕ) → List Record → Type 0
-NumbersFrom next rs = (bank : ℕ) → map (λ (r : Record). r.number) (of_bank bank rs) ≡ range_with_len (next bank) (length (of_bank bank rs))
+NumbersFrom next rs = (bank : ℕ) → bank < no_bank → map (λ (r : Record). r.number) (of_bank bank rs) ≡ range_with_len (next bank) (length (of_bank bank rs))
 
 pub record UpTo (shape : Shape) (state : State) (logs : List (List Record)) (next : ℕ → ℕ) (order : List ℕ) (n : ℕ) (rs : List Record) (left : List (List Record)) : Type 0 where
   pub inside : n ≤ length order
@@ -48,7 +48,7 @@ pub record UpTo (shape : Shape) (state : State) (logs : List (List Record)) (nex
   pub run : IsRunFrom shape state rs
 
 abbrev IsNextFrom : List (List Record) → ℕ → (ℕ → ℕ) → List Record → Record → Type 0
-IsNextFrom left log next rs r = (log_at left log ≡ r ∷ drop 1 (log_at left log)) × (r.number ≡ next r.bank + length (of_bank r.bank rs))
+IsNextFrom left log next rs r = (log_at left log ≡ r ∷ drop 1 (log_at left log)) × (r.bank < no_bank → r.number ≡ next r.bank + length (of_bank r.bank rs))
 
 pub record Ends (shape : Shape) (state : State) (logs : List (List Record)) (next : ℕ → ℕ) (order : List ℕ) : Type 0 where
   pub rs : List Record
@@ -81,26 +81,26 @@ Tells shape state logs next place order (NotAnOrder at) = Stops shape state logs
 Tells shape state logs next place order (Broken at rule) = Fails shape state logs next place order at rule
 
 nothing_yet : (shape : Shape) (state : State) (logs : List (List Record)) (next : ℕ → ℕ) (order : List ℕ) → UpTo shape state logs next order 0 [] logs
-nothing_yet shape state logs next order = record { inside = omega arith; taken = refl; numbers = λ bank. refl; run = tt }
+nothing_yet shape state logs next order = record { inside = omega arith; taken = refl; numbers = λ bank named. refl; run = tt }
 
 -- ---- one record in front
 
-module _ (shape : Shape) (state : State) (logs : List (List Record)) (next : ℕ → ℕ) (log : ℕ) (r : Record) (first : log_at logs log ≡ r ∷ drop 1 (log_at logs log)) (number : r.number ≡ next r.bank)
+module _ (shape : Shape) (state : State) (logs : List (List Record)) (next : ℕ → ℕ) (log : ℕ) (r : Record) (first : log_at logs log ≡ r ∷ drop 1 (log_at logs log)) (number : is_numbered next r ≡ true)
     (holds : first_failing OfBoth (clauses shape (seen_by r.log r.bank state) r) ≡ None) where
   abbrev then : ℕ → ℕ
-  then = update next r.bank (next r.bank + 1)
+  then = next_after next r
 
   numbers_front : (rs : List Record) → NumbersFrom then rs → NumbersFrom next (r ∷ rs)
-  numbers_front rs h bank =
+  numbers_front rs h bank named =
       elim (r.bank == bank) as (λ b. (r.bank == bank) ≡ b → map (λ (q : Record). q.number) (cond b (r ∷ of_bank bank rs) (of_bank bank rs)) ≡ range_with_len (next bank) (length (cond b (r ∷ of_bank bank rs) (of_bank bank rs)))) [
-        | true ↦ λ same. ap₂ (λ a as'. a ∷ as') (number ∙ ap next (eqb-true r.bank bank same))
-            (h bank ∙ ap (λ k. range_with_len k (length (of_bank bank rs))) (cond-true (r.bank == bank) (next r.bank + 1) (next bank) same ∙ ap (λ k. next k + 1) (eqb-true r.bank bank same)))
-        | false ↦ λ apart. h bank ∙ ap (λ k. range_with_len k (length (of_bank bank rs))) (cond-false (r.bank == bank) (next r.bank + 1) (next bank) apart)
+        | true ↦ λ same. ap₂ (λ a as'. a ∷ as') (if_numbered next r number (subst (λ k. k < no_bank) (sym (eqb-true r.bank bank same)) named) ∙ ap next (eqb-true r.bank bank same))
+            (h bank named ∙ ap (λ k. range_with_len k (length (of_bank bank rs))) (next_at next r bank named ∙ cond-true (r.bank == bank) (next r.bank + 1) (next bank) same ∙ ap (λ k. next k + 1) (eqb-true r.bank bank same)))
+        | false ↦ λ apart. h bank named ∙ ap (λ k. range_with_len k (length (of_bank bank rs))) (next_at next r bank named ∙ cond-false (r.bank == bank) (next r.bank + 1) (next bank) apart)
       ] refl
 
-  count_front : (rs : List Record) (bank : ℕ) → then bank + length (of_bank bank rs) ≡ next bank + length (of_bank bank (r ∷ rs))
-  count_front rs bank =
-      elim (r.bank == bank) as (λ b. (r.bank == bank) ≡ b → cond b (next r.bank + 1) (next bank) + length (of_bank bank rs) ≡ next bank + length (cond b (r ∷ of_bank bank rs) (of_bank bank rs))) [
+  count_front : (rs : List Record) (bank : ℕ) → bank < no_bank → then bank + length (of_bank bank rs) ≡ next bank + length (of_bank bank (r ∷ rs))
+  count_front rs bank named =
+      ap (λ k. k + length (of_bank bank rs)) (next_at next r bank named) ∙ elim (r.bank == bank) as (λ b. (r.bank == bank) ≡ b → cond b (next r.bank + 1) (next bank) + length (of_bank bank rs) ≡ next bank + length (cond b (r ∷ of_bank bank rs) (of_bank bank rs))) [
         | true ↦ λ same. let e = ap next (eqb-true r.bank bank same) in omega (arith, e)
         | false ↦ λ apart. refl
       ] refl
@@ -119,7 +119,7 @@ module _ (shape : Shape) (state : State) (logs : List (List Record)) (next : ℕ
     so_far = up_front order h.n h.rs h.left h.so_far;
     stops = (elim h.stops [
       | inl s ↦ inl (let e = s.0 in omega (arith, e), s.1)
-      | inr s ↦ inr (let lt = s.0 in omega (arith, lt), λ q is. s.1 q (is.0, is.1 ∙ sym (count_front h.rs q.bank)))
+      | inr s ↦ inr (let lt = s.0 in omega (arith, lt), λ q is. s.1 q (is.0, λ named. is.1 named ∙ sym (count_front h.rs q.bank named)))
     ]);
   }
   tells_front place order (Broken at rule) h = record {
@@ -130,7 +130,7 @@ module _ (shape : Shape) (state : State) (logs : List (List Record)) (next : ℕ
     so_far = up_front order h.n h.rs h.left h.so_far;
     inside = let lt = h.inside in omega (arith, lt);
     r = h.r;
-    is_next = (h.is_next.0, h.is_next.1 ∙ count_front h.rs h.r.bank);
+    is_next = (h.is_next.0, λ named. h.is_next.1 named ∙ count_front h.rs h.r.bank named);
     fails = h.fails;
   }
 
@@ -160,7 +160,7 @@ tells : (shape : Shape) (order : List ℕ) (state : State) (logs : List (List Re
 tells shape [] state logs next place a e = go (list_all is_empty logs) refl e
   where
     go : (b : Bool) → list_all is_empty logs ≡ b → finished b place ≡ a → Tells shape state logs next place [] a
-    go true all e = subst (Tells shape state logs next place []) e (record { rs = []; taken = empty_all logs all; numbers = λ bank. refl; run = tt })
+    go true all e = subst (Tells shape state logs next place []) e (record { rs = []; taken = empty_all logs all; numbers = λ bank named. refl; run = tt })
     go false some e = subst (Tells shape state logs next place []) e (record {
       n = 0;
       rs = [];
@@ -170,7 +170,7 @@ tells shape [] state logs next place a e = go (list_all is_empty logs) refl e
       stops = inl (refl, λ none. true≢false (sym (are_empty logs none) ∙ some));
     })
 tells shape (log ∷ order) state logs next place a e =
-    go (log_at logs log) refl e (λ r. tells shape order (state_after shape state r) (after_next logs log) (update next r.bank (next r.bank + 1)) (place + 1) a)
+    go (log_at logs log) refl e (λ r. tells shape order (state_after shape state r) (after_next logs log) (next_after next r) (place + 1) a)
   where
     stop : ((r : Record) → IsNextFrom logs log next [] r → ⊥) → Tells shape state logs next place (log ∷ order) (NotAnOrder place)
     stop none = record {
@@ -195,32 +195,31 @@ tells shape (log ∷ order) state logs next place a e =
       fails = fails;
     }
 
-    judge : (r : Record) (b : Bool) (o : Option Rule) → log_at logs log ≡ r ∷ drop 1 (log_at logs log) → (r.number == next r.bank) ≡ b → first_failing OfBoth (clauses shape (seen_by r.log r.bank state) r) ≡ o
-        → judged b o place (recheck_from shape (state_after shape state r) (after_next logs log) (update next r.bank (next r.bank + 1)) (place + 1) order) ≡ a
-        → (recheck_from shape (state_after shape state r) (after_next logs log) (update next r.bank (next r.bank + 1)) (place + 1) order ≡ a
-        → Tells shape (state_after shape state r) (after_next logs log) (update next r.bank (next r.bank + 1)) (place + 1) order a)
+    judge : (r : Record) (b : Bool) (o : Option Rule) → log_at logs log ≡ r ∷ drop 1 (log_at logs log) → is_numbered next r ≡ b → first_failing OfBoth (clauses shape (seen_by r.log r.bank state) r) ≡ o
+        → judged b o place (recheck_from shape (state_after shape state r) (after_next logs log) (next_after next r) (place + 1) order) ≡ a
+        → (recheck_from shape (state_after shape state r) (after_next logs log) (next_after next r) (place + 1) order ≡ a
+        → Tells shape (state_after shape state r) (after_next logs log) (next_after next r) (place + 1) order a)
         → Tells shape state logs next place (log ∷ order) a
     judge r false o first number rule e rest =
         subst (Tells shape state logs next place (log ∷ order)) e (stop (λ q is.
         let same : r ≡ q = heads_same (sym first ∙ is.0) in
-        let told = is.1 in
-        let right : q.number ≡ next q.bank = omega (arith, told) in
-        eqb-false r.number (next r.bank) number (subst (λ (s : Record). s.number ≡ next s.bank) (sym same) right)))
+        let right : q.bank < no_bank → q.number ≡ next q.bank = λ named. let told = is.1 named in omega (arith, told) in
+        true≢false (sym (numbered_if next r (subst (λ (s : Record). s.bank < no_bank → s.number ≡ next s.bank) (sym same) right)) ∙ number)))
     judge r true (Some rule) first number fails e rest =
-        subst (Tells shape state logs next place (log ∷ order)) e (fail r rule (first, let n = eqb-true r.number (next r.bank) number in omega (arith, n)) fails)
-    judge r true None first number holds e rest = tells_front shape state logs next log r first (eqb-true r.number (next r.bank) number) holds place order a (rest e)
+        subst (Tells shape state logs next place (log ∷ order)) e (fail r rule (first, λ named. let n = if_numbered next r number named in omega (arith, n)) fails)
+    judge r true None first number holds e rest = tells_front shape state logs next log r first number holds place order a (rest e)
 
     go : (xs : List Record) → log_at logs log ≡ xs
         → ◌≡◌ {A = Recheck} (elim xs [
           | [] ↦ NotAnOrder place
-          | r ∷ rest ↦ judged (r.number == next r.bank) (first_failing OfBoth (clauses shape (seen_by r.log r.bank state) r)) place
-              (recheck_from shape (state_after shape state r) (after_next logs log) (update next r.bank (next r.bank + 1)) (place + 1) order)
+          | r ∷ rest ↦ judged (is_numbered next r) (first_failing OfBoth (clauses shape (seen_by r.log r.bank state) r)) place
+              (recheck_from shape (state_after shape state r) (after_next logs log) (next_after next r) (place + 1) order)
         ]) a
-        → ((r : Record) → recheck_from shape (state_after shape state r) (after_next logs log) (update next r.bank (next r.bank + 1)) (place + 1) order ≡ a
-        → Tells shape (state_after shape state r) (after_next logs log) (update next r.bank (next r.bank + 1)) (place + 1) order a)
+        → ((r : Record) → recheck_from shape (state_after shape state r) (after_next logs log) (next_after next r) (place + 1) order ≡ a
+        → Tells shape (state_after shape state r) (after_next logs log) (next_after next r) (place + 1) order a)
         → Tells shape state logs next place (log ∷ order) a
     go [] is e rest = subst (Tells shape state logs next place (log ∷ order)) e (stop (λ r next_is. cons_nil (sym next_is.0 ∙ is)))
-    go (r ∷ xs) is e rest = judge r (r.number == next r.bank) (first_failing OfBoth (clauses shape (seen_by r.log r.bank state) r)) (first_of (log_at logs log) r xs is) refl refl e (rest r)
+    go (r ∷ xs) is e rest = judge r (is_numbered next r) (first_failing OfBoth (clauses shape (seen_by r.log r.bank state) r)) (first_of (log_at logs log) r xs is) refl refl e (rest r)
 
 -- ---- from the opening state on
 
@@ -236,7 +235,7 @@ told_of shape memory logs order (NotAnOrder at) named h =
       so_far = record { inside = h.so_far.inside; taken = h.so_far.taken; numbers = h.so_far.numbers; run = h.so_far.run };
       stops = (elim h.stops [
         | inl s ↦ inl s
-        | inr s ↦ inr (s.0, λ r is. s.1 r (is.0, let e = is.1 in omega (arith, e)))
+        | inr s ↦ inr (s.0, λ r is. s.1 r (is.0, λ named. let e = is.1 named in omega (arith, e)))
       ]);
     })
 told_of shape memory logs order (Broken at rule) named h =
@@ -247,7 +246,7 @@ told_of shape memory logs order (Broken at rule) named h =
       so_far = record { inside = h.so_far.inside; taken = h.so_far.taken; numbers = h.so_far.numbers; run = h.so_far.run };
       inside = h.inside;
       next = h.r;
-      is_next = (h.is_next.0, let e = h.is_next.1 in omega (arith, e));
+      is_next = (h.is_next.0, λ named. let e = h.is_next.1 named in omega (arith, e));
       fails = h.fails;
     })
 
@@ -259,22 +258,22 @@ recheck_tells shape memory logs order a named e = told_of shape memory logs orde
 tail_numbers : (n a : ℕ) (ns : List ℕ) (len : ℕ) → ◌≡◌ {A = List ℕ} (n ∷ ns) (a ∷ range_with_len (a + 1) len) → (n ≡ a) × (ns ≡ range_with_len (a + 1) len)
 tail_numbers n a ns len e = (cc, cc)
 
-counted : (next : ℕ → ℕ) (r : Record) (rs : List Record) → NumbersFrom next (r ∷ rs) → (bank : ℕ) → (r.bank == bank) ≡ true
+counted : (next : ℕ → ℕ) (r : Record) (rs : List Record) → NumbersFrom next (r ∷ rs) → (bank : ℕ) → bank < no_bank → (r.bank == bank) ≡ true
     → (r.number ≡ next bank) × (map (λ (q : Record). q.number) (of_bank bank rs) ≡ range_with_len (next bank + 1) (length (of_bank bank rs)))
-counted next r rs h bank same =
+counted next r rs h bank named same =
     tail_numbers r.number (next bank) (map (λ (q : Record). q.number) (of_bank bank rs)) (length (of_bank bank rs))
-    (subst (λ (xs : List Record). map (λ (q : Record). q.number) xs ≡ range_with_len (next bank) (length xs)) (cond-true (r.bank == bank) (r ∷ of_bank bank rs) (of_bank bank rs) same) (h bank))
+    (subst (λ (xs : List Record). map (λ (q : Record). q.number) xs ≡ range_with_len (next bank) (length xs)) (cond-true (r.bank == bank) (r ∷ of_bank bank rs) (of_bank bank rs) same) (h bank named))
 
-first_number : (next : ℕ → ℕ) (r : Record) (rs : List Record) → NumbersFrom next (r ∷ rs) → r.number ≡ next r.bank
-first_number next r rs h = (counted next r rs h r.bank (eq-eqb r.bank r.bank refl)).0
+first_number : (next : ℕ → ℕ) (r : Record) (rs : List Record) → NumbersFrom next (r ∷ rs) → is_numbered next r ≡ true
+first_number next r rs h = numbered_if next r (λ named. (counted next r rs h r.bank named (eq-eqb r.bank r.bank refl)).0)
 
-numbers_behind : (next : ℕ → ℕ) (r : Record) (rs : List Record) → NumbersFrom next (r ∷ rs) → NumbersFrom (update next r.bank (next r.bank + 1)) rs
-numbers_behind next r rs h bank =
+numbers_behind : (next : ℕ → ℕ) (r : Record) (rs : List Record) → NumbersFrom next (r ∷ rs) → NumbersFrom (next_after next r) rs
+numbers_behind next r rs h bank named =
     (elim (cases_Bool (r.bank == bank)) [
-      | inl same ↦ (counted next r rs h bank same).1 ∙ ap (λ k. range_with_len k (length (of_bank bank rs))) (sym (cond-true (r.bank == bank) (next r.bank + 1) (next bank) same ∙ ap (λ k. next k + 1) (eqb-true r.bank bank same)))
+      | inl same ↦ (counted next r rs h bank named same).1 ∙ ap (λ k. range_with_len k (length (of_bank bank rs))) (sym (next_at next r bank named ∙ cond-true (r.bank == bank) (next r.bank + 1) (next bank) same ∙ ap (λ k. next k + 1) (eqb-true r.bank bank same)))
       | inr apart ↦
-          subst (λ (xs : List Record). map (λ (q : Record). q.number) xs ≡ range_with_len (next bank) (length xs)) (cond-false (r.bank == bank) (r ∷ of_bank bank rs) (of_bank bank rs) apart) (h bank)
-          ∙ ap (λ k. range_with_len k (length (of_bank bank rs))) (sym (cond-false (r.bank == bank) (next r.bank + 1) (next bank) apart))
+          subst (λ (xs : List Record). map (λ (q : Record). q.number) xs ≡ range_with_len (next bank) (length xs)) (cond-false (r.bank == bank) (r ∷ of_bank bank rs) (of_bank bank rs) apart) (h bank named)
+          ∙ ap (λ k. range_with_len k (length (of_bank bank rs))) (sym (next_at next r bank named ∙ cond-false (r.bank == bank) (next r.bank + 1) (next bank) apart))
     ])
 
 none_before : (logs left : List (List Record)) (rs : List Record) → TakesTo logs [] rs left → (rs ≡ []) × (left ≡ logs)
@@ -288,7 +287,11 @@ accepted_is shape [] (r ∷ rs) state logs next place taken numbers run = absurd
 accepted_is shape (log ∷ order) [] state logs next place taken numbers run = absurd taken
 accepted_is shape (log ∷ order) (r ∷ rs) state logs next place taken numbers run =
     right_number shape state logs next place log order r None taken.0 (first_number next r rs numbers) run.0
-    ∙ accepted_is shape order rs (state_after shape state r) (after_next logs log) (update next r.bank (next r.bank + 1)) (place + 1) taken.1 (numbers_behind next r rs numbers) run.1
+    ∙ accepted_is shape order rs (state_after shape state r) (after_next logs log) (next_after next r) (place + 1) taken.1 (numbers_behind next r rs numbers) run.1
+
+false_if : (b : Bool) → (b ≡ true → ⊥) → b ≡ false
+false_if true none = absurd (none refl)
+false_if false none = refl
 
 -- nothing can be taken at the place
 stops_here : (shape : Shape) (order : List ℕ) (state : State) (logs : List (List Record)) (next : ℕ → ℕ) (place : ℕ)
@@ -307,7 +310,7 @@ stops_here shape (log ∷ order) state logs next place (inr s) = go (log_at logs
     go [] e = none_next shape state logs next place log order e
     go (r ∷ xs) e =
         let first = first_of (log_at logs log) r xs e in
-        wrong_number shape state logs next place log order r first (λ same. s.1 r (first, omega (arith, same)))
+        wrong_number shape state logs next place log order r first (false_if (is_numbered next r) (λ right. s.1 r (first, λ named. let same = if_numbered next r right named in omega (arith, same))))
 
 stopped_is : (shape : Shape) (n : ℕ) (order : List ℕ) (rs : List Record) (left : List (List Record)) (state : State) (logs : List (List Record)) (next : ℕ → ℕ) (place : ℕ)
     → n ≤ length order → TakesTo logs (take n order) rs left → NumbersFrom next rs → IsRunFrom shape state rs
@@ -324,10 +327,10 @@ stopped_is shape (suc n) (log ∷ order) [] left state logs next place inside ta
 stopped_is shape (suc n) (log ∷ order) (r ∷ rs) left state logs next place inside taken numbers run stops =
     let number = first_number next r rs numbers in
     right_number shape state logs next place log order r None taken.0 number run.0
-    ∙ stopped_is shape n order rs left (state_after shape state r) (after_next logs log) (update next r.bank (next r.bank + 1)) (place + 1) (omega arith) taken.1 (numbers_behind next r rs numbers) run.1
+    ∙ stopped_is shape n order rs left (state_after shape state r) (after_next logs log) (next_after next r) (place + 1) (omega arith) taken.1 (numbers_behind next r rs numbers) run.1
     (elim stops [
       | inl s ↦ inl (let e = s.0 in omega (arith, e), s.1)
-      | inr s ↦ inr (let lt = s.0 in omega (arith, lt), λ q is. s.1 q (is.0, is.1 ∙ count_front shape state logs next log r taken.0 number run.0 rs q.bank))
+      | inr s ↦ inr (let lt = s.0 in omega (arith, lt), λ q is. s.1 q (is.0, λ named. is.1 named ∙ count_front shape state logs next log r taken.0 number run.0 rs q.bank named))
     ])
     ∙ ap NotAnOrder (omega arith)
 
@@ -339,14 +342,13 @@ failed_is shape n [] rs left state logs next place q rule inside taken numbers r
 failed_is shape zero (log ∷ order) (r ∷ rs) left state logs next place q rule inside taken numbers run is fails = absurd taken
 failed_is shape zero (log ∷ order) [] left state logs next place q rule inside taken numbers run is fails =
     let first : log_at logs log ≡ q ∷ drop 1 (log_at logs log) = subst (λ (l : List (List Record)). log_at l log ≡ q ∷ drop 1 (log_at l log)) taken is.0 in
-    let told = is.1 in
-    rule_broken shape state logs next place log order q rule first (omega (arith, told)) fails ∙ ap (λ k. Broken k rule) (omega arith)
+    rule_broken shape state logs next place log order q rule first (numbered_if next q (λ named. let told = is.1 named in omega (arith, told))) fails ∙ ap (λ k. Broken k rule) (omega arith)
 failed_is shape (suc n) (log ∷ order) [] left state logs next place q rule inside taken numbers run is fails = absurd taken
 failed_is shape (suc n) (log ∷ order) (r ∷ rs) left state logs next place q rule inside taken numbers run is fails =
     let number = first_number next r rs numbers in
     right_number shape state logs next place log order r None taken.0 number run.0
-    ∙ failed_is shape n order rs left (state_after shape state r) (after_next logs log) (update next r.bank (next r.bank + 1)) (place + 1) q rule (omega arith) taken.1 (numbers_behind next r rs numbers) run.1
-    (is.0, is.1 ∙ sym (count_front shape state logs next log r taken.0 number run.0 rs q.bank)) fails
+    ∙ failed_is shape n order rs left (state_after shape state r) (after_next logs log) (next_after next r) (place + 1) q rule (omega arith) taken.1 (numbers_behind next r rs numbers) run.1
+    (is.0, λ named. is.1 named ∙ sym (count_front shape state logs next log r taken.0 number run.0 rs q.bank named)) fails
     ∙ ap (λ k. Broken k rule) (omega arith)
 
 one_of : (shape : Shape) (memory : FlatMemory) (logs : List (List Record)) (order : List ℕ) (a : Recheck) → NameTheirLogs logs → IsRecheck shape memory logs order a → recheck_of shape memory logs order ≡ a
@@ -356,11 +358,11 @@ one_of shape memory logs order (NotAnOrder place) named h =
     stopped_is shape place order h.records h.left (opening memory) logs (λ _. 0) 0 h.so_far.inside h.so_far.taken h.so_far.numbers h.so_far.run
     (elim h.stops [
       | inl s ↦ inl s
-      | inr s ↦ inr (s.0, λ r is. s.1 r (is.0, let e = is.1 in omega (arith, e)))
+      | inr s ↦ inr (s.0, λ r is. s.1 r (is.0, λ named. let e = is.1 named in omega (arith, e)))
     ])
     ∙ ap NotAnOrder (omega arith)
 one_of shape memory logs order (Broken place rule) named h =
-    failed_is shape place order h.records h.left (opening memory) logs (λ _. 0) 0 h.next rule h.inside h.so_far.taken h.so_far.numbers h.so_far.run (h.is_next.0, let e = h.is_next.1 in omega (arith, e)) h.fails
+    failed_is shape place order h.records h.left (opening memory) logs (λ _. 0) 0 h.next rule h.inside h.so_far.taken h.so_far.numbers h.so_far.run (h.is_next.0, λ named. let e = h.is_next.1 named in omega (arith, e)) h.fails
     ∙ ap (λ k. Broken k rule) (omega arith)
 
 pub rechecks_are_one : RechecksAreOne

@@ -7,6 +7,7 @@ use Rattle.std.specs.List.{range_with_len}
 use Rattle.lf_model.specs.declared.event.Record.{Record}
 use Rattle.lf_model.specs.declared.ring.Knot.{Knot}
 use Rattle.lf_model.specs.State.{update}
+use Rattle.lf_model.specs.Address.{no_bank}
 use Rattle.lf_model.specs.Run.{of_log, of_bank}
 use Rattle.lf_model.specs.Ring.{entry_of, skeletons_of, entry_at, knot_at, IsWait, IsRing, RingsAdmitNone}
 
@@ -20,6 +21,7 @@ record_at (r ∷ rs) (suc n) = record_at rs n
 pub record Waits (logs : List (List Record)) (knot next : Knot) : Type 0 where
   pub waiting : Record
   pub named : record_at (get_or logs knot.log []) knot.at ≡ Some waiting
+  pub is_bank : waiting.bank < no_bank
   pub place : ℕ
   pub behind : next.at < place
   pub earlier : Record
@@ -52,6 +54,7 @@ waits_of logs knot next w =
     record {
       waiting = a.0;
       named = a.1;
+      is_bank = subst (λ (e : ℕ × ℕ). e.0 < no_bank) (sym a.2) w.is_bank;
       place = w.place;
       behind = w.behind;
       earlier = b.0;
@@ -115,7 +118,7 @@ module _ (logs : List (List Record)) (n : ℕ) (knot : ℕ → Knot) (cycle : Is
   next_lt j = let pos = cycle.some_knot in omega arith
 
   none_left : (rs : List Record) (at next : ℕ → ℕ) → ((log : ℕ) → of_log log rs ≡ drop (at log) (get_or logs log []))
-      → ((bank : ℕ) → map (λ (q : Record). q.number) (of_bank bank rs) ≡ range_with_len (next bank) (length (of_bank bank rs)))
+      → ((bank : ℕ) → bank < no_bank → map (λ (q : Record). q.number) (of_bank bank rs) ≡ range_with_len (next bank) (length (of_bank bank rs)))
       → ((j : ℕ) → j < n → at (knot j).log ≤ (knot j).at) → ⊥
   none_left [] at next logs_left numbers before =
       let pos = cycle.some_knot in
@@ -125,20 +128,20 @@ module _ (logs : List (List Record)) (n : ℕ) (knot : ℕ → Knot) (cycle : Is
       cc
   none_left (r ∷ rs) at next logs_left numbers before =
       let first : r ∷ of_log r.log rs ≡ drop (at r.log) (get_or logs r.log []) = sym (cond-true (r.log == r.log) (r ∷ of_log r.log rs) (of_log r.log rs) (eq-eqb r.log r.log refl)) ∙ logs_left r.log in
-      let counted : (bank : ℕ) → (r.bank == bank) ≡ true → map (λ (q : Record). q.number) (r ∷ of_bank bank rs) ≡ range_with_len (next bank) (length (r ∷ of_bank bank rs)) = λ bank same.
-      subst (λ (xs : List Record). map (λ (q : Record). q.number) xs ≡ range_with_len (next bank) (length xs)) (cond-true (r.bank == bank) (r ∷ of_bank bank rs) (of_bank bank rs) same) (numbers bank) in
+      let counted : (bank : ℕ) → bank < no_bank → (r.bank == bank) ≡ true → map (λ (q : Record). q.number) (r ∷ of_bank bank rs) ≡ range_with_len (next bank) (length (r ∷ of_bank bank rs)) = λ bank named same.
+      subst (λ (xs : List Record). map (λ (q : Record). q.number) xs ≡ range_with_len (next bank) (length xs)) (cond-true (r.bank == bank) (r ∷ of_bank bank rs) (of_bank bank rs) same) (numbers bank named) in
       (elim (somewhere (λ j. (knot j).log == r.log && (knot j).at == at r.log) n) [
-        | inl f ↦ stuck f.0 f.1 f.2 first (counted r.bank (eq-eqb r.bank r.bank refl))
+        | inl f ↦ stuck f.0 f.1 f.2 first (λ named. counted r.bank named (eq-eqb r.bank r.bank refl))
         | inr free ↦ none_left rs (update at r.log (at r.log + 1)) (update next r.bank (next r.bank + 1))
             (λ log. (elim (cases_Bool (r.log == log)) [
               | inl same ↦ subst (λ k. of_log k rs ≡ drop (update at r.log (at r.log + 1) k) (get_or logs k [])) (eqb-true r.log log same)
                   (ap (drop 1) first ∙ drop-drop 1 (at r.log) (get_or logs r.log []) ∙ ap (λ k. drop k (get_or logs r.log [])) (sym (cond-true (r.log == r.log) (at r.log + 1) (at r.log) (eq-eqb r.log r.log refl))))
               | inr apart ↦ sym (cond-false (r.log == log) (r ∷ of_log log rs) (of_log log rs) apart) ∙ logs_left log ∙ ap (λ k. drop k (get_or logs log [])) (sym (cond-false (r.log == log) (at r.log + 1) (at log) apart))
             ]))
-            (λ bank. (elim (cases_Bool (r.bank == bank)) [
-              | inl same ↦ tail (counted bank same) ∙ ap (λ k. range_with_len k (length (of_bank bank rs))) (sym (cond-true (r.bank == bank) (next r.bank + 1) (next bank) same ∙ ap (λ k. next k + 1) (eqb-true r.bank bank same)))
+            (λ bank named. (elim (cases_Bool (r.bank == bank)) [
+              | inl same ↦ tail (counted bank named same) ∙ ap (λ k. range_with_len k (length (of_bank bank rs))) (sym (cond-true (r.bank == bank) (next r.bank + 1) (next bank) same ∙ ap (λ k. next k + 1) (eqb-true r.bank bank same)))
               | inr apart ↦
-                  subst (λ (xs : List Record). map (λ (q : Record). q.number) xs ≡ range_with_len (next bank) (length xs)) (cond-false (r.bank == bank) (r ∷ of_bank bank rs) (of_bank bank rs) apart) (numbers bank)
+                  subst (λ (xs : List Record). map (λ (q : Record). q.number) xs ≡ range_with_len (next bank) (length xs)) (cond-false (r.bank == bank) (r ∷ of_bank bank rs) (of_bank bank rs) apart) (numbers bank named)
                   ∙ ap (λ k. range_with_len k (length (of_bank bank rs))) (sym (cond-false (r.bank == bank) (next r.bank + 1) (next bank) apart))
             ]))
             (λ j lt. bound j lt (free j lt) (before j lt))
@@ -168,7 +171,7 @@ module _ (logs : List (List Record)) (n : ℕ) (knot : ℕ → Knot) (cycle : Is
           ])
 
       stuck : (j : ℕ) → j < n → ((knot j).log == r.log && (knot j).at == at r.log) ≡ true → r ∷ of_log r.log rs ≡ drop (at r.log) (get_or logs r.log [])
-          → map (λ (q : Record). q.number) (r ∷ of_bank r.bank rs) ≡ range_with_len (next r.bank) (length (r ∷ of_bank r.bank rs)) → ⊥
+          → (r.bank < no_bank → map (λ (q : Record). q.number) (r ∷ of_bank r.bank rs) ≡ range_with_len (next r.bank) (length (r ∷ of_bank r.bank rs))) → ⊥
       stuck j lt test first counted =
           let parts = and_parts ((knot j).log == r.log) ((knot j).at == at r.log) test in
           let w = cycle.waits j lt in
@@ -184,8 +187,9 @@ module _ (logs : List (List Record)) (n : ℕ) (knot : ℕ → Knot) (cycle : Is
           let in_log = ap (λ (xs : List Record). record_at xs (w.place - at k.log)) (logs_left k.log) ∙ e_there in
           let in_bank = of_its_bank (r ∷ rs) k.log (w.place - at k.log) w.earlier in_log in
           let bank_is : w.earlier.bank ≡ r.bank = w.same_bank ∙ ap (λ (q : Record). q.bank) (sym same) in
-          let le = number_from (of_bank w.earlier.bank (r ∷ rs)) (next w.earlier.bank) (length (of_bank w.earlier.bank (r ∷ rs))) in_bank.0 w.earlier (numbers w.earlier.bank) in_bank.1 in
-          let mine : r.number ≡ next r.bank = head counted in
+          let named_bank : r.bank < no_bank = subst (λ (q : Record). q.bank < no_bank) (sym same) w.is_bank in
+          let le = number_from (of_bank w.earlier.bank (r ∷ rs)) (next w.earlier.bank) (length (of_bank w.earlier.bank (r ∷ rs))) in_bank.0 w.earlier (numbers w.earlier.bank (subst (λ k. k < no_bank) (sym bank_is) named_bank)) in_bank.1 in
+          let mine : r.number ≡ next r.bank = head (counted named_bank) in
           let small = w.smaller in
           omega (arith, le, ap next bank_is, mine, ap (λ (q : Record). q.number) same, small)
 

@@ -6,10 +6,11 @@ use Rattle.lf_model.specs.declared.shape.OrgShape.{OrgShape}
 use Rattle.lf_model.specs.declared.shape.OrgShape.TheVariants.{Implicit, Explicit, Inverted}
 use Rattle.lf_model.specs.declared.event.Record.{Record}
 use Rattle.lf_model.specs.declared.event.Event.{Event}
-use Rattle.lf_model.specs.declared.event.Event.TheVariants.{Primary, Merge, Fill1, SecondPrimary, Fill2}
+use Rattle.lf_model.specs.declared.event.Event.TheVariants.{Primary, Merge, Fill1, SecondPrimary, SecondMerge, Fill2}
 use Rattle.lf_model.specs.Registers.{Held, shares, holds, holds_in, released, right_for_merge}
 use Rattle.lf_model.specs.State.{update, Ready, Slice, State, opening}
-use Rattle.lf_model.specs.Table.{OfBoth, rules_of, oldest, destination, slice_after}
+use Rattle.lf_model.specs.Table.{OfBoth, rules_of, oldest, destination, asked_register, slice_after}
+use Rattle.lf_model.specs.Address.{second_of}
 use Rattle.lf_model.specs.Run.{first_failing, state_after, IsRunFrom}
 use Rattle.lf_model.specs.Sharing.{HoldsOnce, KeepsApart, state_after_all}
 use Rattle.lf_model.specs.Laws.{RunsShare}
@@ -103,6 +104,12 @@ apart_after shape right busy value replies slice log bank (SecondPrimary block r
     record {
       level1 = apart.level1;
       level2 = λ closed. push_apart slice.regs2 _ (inl (not-true _ clauses.1.1.0)) (apart.level2 closed);
+    }
+apart_after shape right busy value replies slice log bank (SecondMerge block register) h apart =
+    let clauses = all_hold (rules_of shape right busy slice log bank (SecondMerge block register)) h in
+    record {
+      level1 = apart.level1;
+      level2 = λ closed. push_apart slice.regs2 _ (inr (merge_apart shape.level2.organisation slice.regs2 (second_of shape block) (asked_register slice.asked block) register closed clauses.1.1.1.1.0)) (apart.level2 closed);
     }
 apart_after shape right busy value replies slice log bank (Fill2 block bytes) h apart =
     record {

@@ -1,13 +1,16 @@
 -- A walk along an order of the logs.
-use Rattle.std.proofs.Common.{◌≡◌, ℕ, zero, suc, ◌+◌, ◌<◌, ◌≤◌, true, false, cond, ◌&&◌, ◌==◌, List, [], ◌∷◌, map, length, get_or, set, drop, Option, Some, None, refl, sym, ap, ◌∙◌, eq-eqb, eqb-true, ne_eqb, arith, get_or-set_same, get_or-set_other}
+use Rattle.std.proofs.Common.{◌≡◌, ℕ, zero, suc, ◌+◌, ◌<◌, ◌≤◌, Bool, true, false, cond, ◌&&◌, ◌==◌, List, [], ◌∷◌, map, length, get_or, set, drop, Option, Some, None, ◌⊎◌, inl, inr, refl, sym, ap, ◌∙◌, eq-eqb, eqb-true, ne_eqb, arith, ltb-true, get_or-set_same, get_or-set_other}
 use mathlib.Core.Path.{ap₂, fun_ext}
-use Rattle.std.specs.Prelude.{slice_index, MatchOption}
+use Rattle.std.specs.Prelude.{nat_lt, slice_index, MatchOption}
 use Rattle.std.specs.List.{All, Contains, HoldsAt, list_all}
 use Rattle.std.proofs.lemmas.List.Elements.{All-contains, All-head, All-tail}
-use Rattle.lf_model.specs.Fits.{Fits}
+use Rattle.lf_model.specs.Fits.{Fits, FitsBank}
+use Rattle.lf_model.specs.InRange.{IsShape}
+use Rattle.lf_model.specs.declared.event.Event.{Event}
+use Rattle.lf_model.specs.declared.event.Event.TheVariants.{Issue, Fence}
 use Rattle.std.specs.Global.{Vec}
 use denote.Bor.{Bor}
-use Rattle.std.proofs.lemmas.Bool.{eqb-false}
+use Rattle.std.proofs.lemmas.Bool.{lt-ltb, eqb-false, cond-true, cond-false, both_ways}
 use Rattle.std.proofs.lemmas.List.{drop-drop, drop_more, drop_all, length-map, get_or_past, get_or_default}
 use Rattle.lf_model.specs.declared.event.Record.{Record}
 use Rattle.lf_model.specs.declared.rule.Rule.{Rule}
@@ -17,8 +20,9 @@ use Rattle.lf_model.specs.declared.outcome.Recheck.TheVariants.{NotAnOrder, Brok
 use Rattle.lf_model.specs.State.{update, State, seen_by}
 use Rattle.lf_model.specs.Table.{OfBoth, clauses}
 use Rattle.lf_model.specs.Run.{first_failing, state_after}
+use Rattle.lf_model.specs.Address.{no_bank}
 use Rattle.lf_model.specs.Order.{log_at, after_next}
-use Rattle.lf_model.specs.Plain.{count_left, is_empty, left_of, judged, recheck_from}
+use Rattle.lf_model.specs.Plain.{count_left, is_empty, is_numbered, next_after, NamesBankBelow, left_of, judged, recheck_from}
 
 -- ---- what is left behind the places
 
@@ -50,8 +54,8 @@ pub none_next : (shape : Shape) (state : State) (left : List (List Record)) (nex
 none_next shape state left next place log order e =
     ap (λ (xs : List Record). elim xs as (λ _. Recheck) [
       | [] ↦ NotAnOrder place
-      | r ∷ rest ↦ judged (r.number == next r.bank) (first_failing OfBoth (clauses shape (seen_by r.log r.bank state) r)) place
-          (recheck_from shape (state_after shape state r) (after_next left log) (update next r.bank (next r.bank + 1)) (place + 1) order)
+      | r ∷ rest ↦ judged (is_numbered next r) (first_failing OfBoth (clauses shape (seen_by r.log r.bank state) r)) place
+          (recheck_from shape (state_after shape state r) (after_next left log) (next_after next r) (place + 1) order)
     ]) e
 
 -- ---- a record that is looked up
@@ -103,62 +107,120 @@ fits_at shape (v ∷ vs) (suc log) fits inside = fits_at shape vs log (All-tail 
 pub fits_found : (shape : Shape) (places : List ℕ) (vs : List (Vec Record)) (log : ℕ) (item : Record) → All (λ v. All (Fits shape) v.items) vs → IsFound places vs log item → Fits shape item
 fits_found shape places vs log item fits found = All-contains (Fits shape) (log_at (items_of vs) log) item (fits_at shape vs log fits found.1) found.3
 
+pub names_below : (shape : Shape) (len : ℕ) (r : Record) → IsShape shape → len ≡ shape.banks → Fits shape r → NamesBankBelow len r
+names_below shape len r in_range same fits = (let few = in_range.banks.1 in omega (arith, few, same), go r.event fits.bank)
+  where
+    go : (e : Event) → FitsBank shape.banks r.bank r.number e → (r.bank < len) ⊎ (r.bank ≡ no_bank)
+    go Fence fit = inr fit.0
+    go (Issue op tag size address bytes) fit = inl (omega (arith, fit, same))
+    go _ fit = inl (omega (arith, fit, same))
+
 -- ---- the answer at a place where the log has a next record
 
 abbrev later : Shape → State → List (List Record) → (ℕ → ℕ) → ℕ → ℕ → List ℕ → Record → Recheck
-later shape state left next place log order r = recheck_from shape (state_after shape state r) (after_next left log) (update next r.bank (next r.bank + 1)) (place + 1) order
+later shape state left next place log order r = recheck_from shape (state_after shape state r) (after_next left log) (next_after next r) (place + 1) order
 
 at_next : (shape : Shape) (state : State) (left : List (List Record)) (next : ℕ → ℕ) (place log : ℕ) (order : List ℕ) (r : Record) → log_at left log ≡ r ∷ drop 1 (log_at left log)
-    → recheck_from shape state left next place (log ∷ order) ≡ judged (r.number == next r.bank) (first_failing OfBoth (clauses shape (seen_by r.log r.bank state) r)) place
-    (recheck_from shape (state_after shape state r) (after_next left log) (update next r.bank (next r.bank + 1)) (place + 1) order)
+    → recheck_from shape state left next place (log ∷ order) ≡ judged (is_numbered next r) (first_failing OfBoth (clauses shape (seen_by r.log r.bank state) r)) place
+    (recheck_from shape (state_after shape state r) (after_next left log) (next_after next r) (place + 1) order)
 at_next shape state left next place log order r e =
     ap (λ (xs : List Record). elim xs as (λ _. Recheck) [
       | [] ↦ NotAnOrder place
-      | q ∷ rest ↦ judged (q.number == next q.bank) (first_failing OfBoth (clauses shape (seen_by q.log q.bank state) q)) place
-          (recheck_from shape (state_after shape state q) (after_next left log) (update next q.bank (next q.bank + 1)) (place + 1) order)
+      | q ∷ rest ↦ judged (is_numbered next q) (first_failing OfBoth (clauses shape (seen_by q.log q.bank state) q)) place
+          (recheck_from shape (state_after shape state q) (after_next left log) (next_after next q) (place + 1) order)
     ]) e
 
+pub numbered_if : (next : ℕ → ℕ) (r : Record) → (r.bank < no_bank → r.number ≡ next r.bank) → is_numbered next r ≡ true
+numbered_if next r e = go (nat_lt r.bank no_bank) refl
+  where
+    go : (b : Bool) → nat_lt r.bank no_bank ≡ b → cond b (r.number == next r.bank) true ≡ true
+    go true lt = eq-eqb r.number (next r.bank) (e (ltb-true r.bank no_bank lt))
+    go false ge = refl
+
+pub if_numbered : (next : ℕ → ℕ) (r : Record) → is_numbered next r ≡ true → r.bank < no_bank → r.number ≡ next r.bank
+if_numbered next r e lt = eqb-true r.number (next r.bank) (sym (cond-true (nat_lt r.bank no_bank) (r.number == next r.bank) true (lt-ltb r.bank no_bank lt)) ∙ e)
+
+-- of a bank, the next number is as after a record that names one
+pub next_at : (next : ℕ → ℕ) (r : Record) (bank : ℕ) → bank < no_bank → next_after next r bank ≡ update next r.bank (next r.bank + 1) bank
+next_at next r bank named = go (nat_lt r.bank no_bank) refl
+  where
+    go : (b : Bool) → nat_lt r.bank no_bank ≡ b → cond b (update next r.bank (next r.bank + 1)) next bank ≡ update next r.bank (next r.bank + 1) bank
+    go true lt = refl
+    go false ge = sym (cond-false (r.bank == bank) (next r.bank + 1) (next bank) (ne_eqb r.bank bank (λ same. both_ways false refl (sym ge ∙ lt-ltb r.bank no_bank (omega (arith, same, named))))))
+
 pub wrong_number : (shape : Shape) (state : State) (left : List (List Record)) (next : ℕ → ℕ) (place log : ℕ) (order : List ℕ) (r : Record) → log_at left log ≡ r ∷ drop 1 (log_at left log)
-    → (r.number ≡ next r.bank → ⊥) → recheck_from shape state left next place (log ∷ order) ≡ NotAnOrder place
-wrong_number shape state left next place log order r e apart =
-    at_next shape state left next place log order r e ∙ ap (λ b. judged b (first_failing OfBoth (clauses shape (seen_by r.log r.bank state) r)) place (later shape state left next place log order r)) (ne_eqb r.number (next r.bank) apart)
+    → is_numbered next r ≡ false → recheck_from shape state left next place (log ∷ order) ≡ NotAnOrder place
+wrong_number shape state left next place log order r e wrong =
+    at_next shape state left next place log order r e ∙ ap (λ b. judged b (first_failing OfBoth (clauses shape (seen_by r.log r.bank state) r)) place (later shape state left next place log order r)) wrong
 
 pub right_number : (shape : Shape) (state : State) (left : List (List Record)) (next : ℕ → ℕ) (place log : ℕ) (order : List ℕ) (r : Record) (o : Option Rule) → log_at left log ≡ r ∷ drop 1 (log_at left log)
-    → r.number ≡ next r.bank → first_failing OfBoth (clauses shape (seen_by r.log r.bank state) r) ≡ o
+    → is_numbered next r ≡ true → first_failing OfBoth (clauses shape (seen_by r.log r.bank state) r) ≡ o
     → recheck_from shape state left next place (log ∷ order) ≡ judged true o place
-    (recheck_from shape (state_after shape state r) (after_next left log) (update next r.bank (next r.bank + 1)) (place + 1) order)
+    (recheck_from shape (state_after shape state r) (after_next left log) (next_after next r) (place + 1) order)
 right_number shape state left next place log order r o e number rule =
-    at_next shape state left next place log order r e ∙ ap₂ (λ b p. judged b p place (later shape state left next place log order r)) (eq-eqb r.number (next r.bank) number) rule
+    at_next shape state left next place log order r e ∙ ap₂ (λ b p. judged b p place (later shape state left next place log order r)) number rule
 
 pub rule_broken : (shape : Shape) (state : State) (left : List (List Record)) (next : ℕ → ℕ) (place log : ℕ) (order : List ℕ) (r : Record) (rule : Rule) → log_at left log ≡ r ∷ drop 1 (log_at left log)
-    → r.number ≡ next r.bank → first_failing OfBoth (clauses shape (seen_by r.log r.bank state) r) ≡ Some rule
+    → is_numbered next r ≡ true → first_failing OfBoth (clauses shape (seen_by r.log r.bank state) r) ≡ Some rule
     → recheck_from shape state left next place (log ∷ order) ≡ Broken place rule
 rule_broken shape state left next place log order r rule = right_number shape state left next place log order r (Some rule)
 
 -- ---- numbers as a function
 
-index_set : (xs : List ℕ) (bank v : ℕ) → bank < length xs → slice_index (set xs bank v) ≡ update (slice_index xs) bank v
+pub index_set : (xs : List ℕ) (bank v : ℕ) → bank < length xs → slice_index (set xs bank v) ≡ update (slice_index xs) bank v
 index_set xs bank v inside = fun_ext (λ n.
     elim (bank == n) as (λ b. (bank == n) ≡ b → get_or (set xs bank v) n 0 ≡ cond b v (get_or xs n 0)) [
       | true ↦ λ e. ap (λ k. get_or (set xs bank v) k 0) (sym (eqb-true bank n e)) ∙ get_or-set_same xs bank v 0 inside
       | false ↦ λ e. get_or-set_other xs bank n v 0 (λ same. eqb-false bank n e (sym same))
     ] refl)
 
-pub walked_on : (shape : Shape) (state new : State) (places : List ℕ) (vs : List (Vec Record)) (numbers : List ℕ) (place log bank : ℕ) (order : List ℕ) (r : Record)
+pub found_number : (numbers : List ℕ) (bank k : ℕ) → bank < length numbers → k ≡ get_or numbers bank k → slice_index numbers bank ≡ k
+found_number numbers bank k inside is = get_or_default numbers bank 0 k inside ∙ sym is
+
+-- the record's bank has this number next
+pub has_number : (numbers : List ℕ) (r : Record) (k : ℕ) → NamesBankBelow (length numbers) r → r.bank < length numbers → slice_index numbers r.bank ≡ k → (r.number == k) ≡ is_numbered (slice_index numbers) r
+has_number numbers r k names inside is =
+    ap (λ n. r.number == n) (sym is)
+    ∙ sym (cond-true (nat_lt r.bank no_bank) (r.number == slice_index numbers r.bank) true (lt-ltb r.bank no_bank (let few = names.0 in omega (arith, few, inside))))
+
+pub has_none : (numbers : List ℕ) (r : Record) → length numbers ≤ r.bank → NamesBankBelow (length numbers) r → true ≡ is_numbered (slice_index numbers) r
+has_none numbers r past names = sym (numbered_if (slice_index numbers) r (λ named. absurd (beyond numbers r past names named)))
+  where
+    beyond : (numbers : List ℕ) (r : Record) → length numbers ≤ r.bank → NamesBankBelow (length numbers) r → r.bank < no_bank → ⊥
+    beyond numbers r past names named = (elim names.1 [ inl lt ↦ omega (arith, lt, past) | inr e ↦ omega (arith, e, named) ])
+
+pub counted_on : (numbers : List ℕ) (r : Record) → NamesBankBelow (length numbers) r → r.bank < length numbers
+    → slice_index (set numbers r.bank (slice_index numbers r.bank + 1)) ≡ next_after (slice_index numbers) r
+counted_on numbers r names inside =
+    index_set numbers r.bank (slice_index numbers r.bank + 1) inside
+    ∙ sym (cond-true (nat_lt r.bank no_bank) (update (slice_index numbers) r.bank (slice_index numbers r.bank + 1)) (slice_index numbers) (lt-ltb r.bank no_bank (let few = names.0 in omega (arith, few, inside))))
+
+pub counted_none : (numbers : List ℕ) (r : Record) → NamesBankBelow (length numbers) r → length numbers ≤ r.bank → slice_index numbers ≡ next_after (slice_index numbers) r
+counted_none numbers r names past =
+    sym (cond-false (nat_lt r.bank no_bank) (update (slice_index numbers) r.bank (slice_index numbers r.bank + 1)) (slice_index numbers) (not_below (nat_lt r.bank no_bank) refl))
+  where
+    not_below : (b : Bool) → nat_lt r.bank no_bank ≡ b → b ≡ false
+    not_below true lt = (elim names.1 [ inl k ↦ absurd (omega (arith, k, past)) | inr e ↦ absurd (let l = ltb-true r.bank no_bank lt in omega (arith, l, e)) ])
+    not_below false ge = refl
+
+pub walked_on : (shape : Shape) (state new : State) (places : List ℕ) (vs : List (Vec Record)) (numbers later : List ℕ) (place log : ℕ) (order : List ℕ) (r : Record)
     → length places ≡ length vs → log_at (left_of places (items_of vs)) log ≡ r ∷ drop 1 (log_at (left_of places (items_of vs)) log)
-    → bank ≡ r.bank → bank < length numbers → r.number ≡ slice_index numbers bank
+    → is_numbered (slice_index numbers) r ≡ true → slice_index later ≡ next_after (slice_index numbers) r
     → first_failing OfBoth (clauses shape (seen_by r.log r.bank state) r) ≡ None → new ≡ state_after shape state r
     → recheck_from shape state (left_of places (items_of vs)) (slice_index numbers) place (log ∷ order)
-    ≡ recheck_from shape new (left_of (set places log (slice_index places log + 1)) (items_of vs)) (slice_index (set numbers bank (slice_index numbers bank + 1))) (place + 1) order
-walked_on shape state new places vs numbers place log bank order r e first same inside number holds is =
+    ≡ recheck_from shape new (left_of (set places log (slice_index places log + 1)) (items_of vs)) (slice_index later) (place + 1) order
+walked_on shape state new places vs numbers later place log order r e first number after holds is =
     let long = length-map vs (λ (v : Vec Record). v.items) in
-    right_number shape state (left_of places (items_of vs)) (slice_index numbers) place log order r None first (number ∙ ap (slice_index numbers) same) holds
-    ∙ ap (λ (s : State). recheck_from shape s (after_next (left_of places (items_of vs)) log) (update (slice_index numbers) r.bank (slice_index numbers r.bank + 1)) (place + 1) order) (sym is)
-    ∙ ap (λ (left : List (List Record)). recheck_from shape new left (update (slice_index numbers) r.bank (slice_index numbers r.bank + 1)) (place + 1) order) (sym (left_next places (items_of vs) log (e ∙ sym long)))
+    right_number shape state (left_of places (items_of vs)) (slice_index numbers) place log order r None first number holds
+    ∙ ap (λ (s : State). recheck_from shape s (after_next (left_of places (items_of vs)) log) (next_after (slice_index numbers) r) (place + 1) order) (sym is)
+    ∙ ap (λ (left : List (List Record)). recheck_from shape new left (next_after (slice_index numbers) r) (place + 1) order) (sym (left_next places (items_of vs) log (e ∙ sym long)))
     ∙ ap (λ (next : ℕ → ℕ). recheck_from shape new (left_of (set places log (slice_index places log + 1)) (items_of vs)) next (place + 1) order)
-    (ap (λ k. update (slice_index numbers) k (slice_index numbers k + 1)) (sym same) ∙ sym (index_set numbers bank (slice_index numbers bank + 1) inside))
+    (sym after)
 
 -- ---- how many are left
+
+pub none_over : (numbers : List ℕ) (n : ℕ) → slice_index numbers n ≤ slice_index numbers n + 1
+none_over numbers n = omega arith
 
 pub count_next : (left : List (List Record)) (log : ℕ) (r : Record) → log_at left log ≡ r ∷ drop 1 (log_at left log) → count_left (after_next left log) + 1 ≡ count_left left
 count_next [] log r e = cc

@@ -1,7 +1,8 @@
 -- Logs of one recording.
-use Rattle.std.specs.Prelude.{ℕ, List}
+use Rattle.std.specs.Prelude.{ℕ, ◌<◌, List}
 use Rattle.lf_model.specs.declared.event.Record.{Record}
 use Rattle.lf_model.specs.declared.ring.Knot.{Knot}
+use Rattle.lf_model.specs.Address.{no_bank}
 use Rattle.lf_model.specs.Run.{Interleaves, KeepsNumbers}
 use Rattle.lf_model.specs.Numbers.{bank_numbers, IsMissing, IsDouble}
 use Rattle.lf_model.specs.Ring.{skeletons_of, IsRing}
@@ -14,8 +15,8 @@ pub record HasCommonOrder (logs : List (List Record)) : Type 0 where
 
 -- no number of a bank is missing or double, and no logs wait for one another
 pub record IsFreeOfFaults (logs : List (List Record)) : Type 0 where
-  pub none_missing : (bank k : ℕ) → IsMissing (bank_numbers logs bank) k → ⊥
-  pub none_double : (bank k : ℕ) → IsDouble (bank_numbers logs bank) k → ⊥
+  pub none_missing : (bank k : ℕ) → bank < no_bank → IsMissing (bank_numbers logs bank) k → ⊥
+  pub none_double : (bank k : ℕ) → bank < no_bank → IsDouble (bank_numbers logs bank) k → ⊥
   pub no_ring : (ring : List Knot) → IsRing (skeletons_of logs) ring → ⊥
 
 abbrev pub CollectedLogsAreFree : Type 0

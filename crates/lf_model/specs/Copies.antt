@@ -1,16 +1,16 @@
 -- A run whose levels hold copies of the bytes, over a memory below, with no memory beside them.
-use Rattle.std.specs.Prelude.{◌≡◌, ℕ, Bool, true, List, [], ◌∷◌, Option, None, bytes_eq}
+use Rattle.std.specs.Prelude.{◌≡◌, ℕ, Bool, true, ◌==◌, List, [], ◌∷◌, Option, None, bytes_eq, if◌then◌else◌}
 use Rattle.lf_model.specs.declared.shape.Shape.{Shape}
 use Rattle.lf_model.specs.declared.event.Record.{Record}
 use Rattle.lf_model.specs.declared.event.Event.{Event}
 use Rattle.lf_model.specs.declared.event.Event.TheVariants.{Hit, Fill1, Evict1, Fill2, Evict2}
-use Rattle.lf_model.specs.Address.{FlatMemory, block_bytes, masked, overlay}
+use Rattle.lf_model.specs.Address.{FlatMemory, second_of, place_of, block_bytes, wide_bytes, mask_at, masked, wide_masked, overlay}
 use Rattle.lf_model.specs.Registers.{Held, targets_of}
 use Rattle.lf_model.specs.State.{update, idle, Missed, Ready, Slice, empty_slice}
 use Rattle.lf_model.specs.Table.{OfBoth, Clause, oldest, read, written, value_of, accepted, rules_of, busy_after, slice_after}
 use Rattle.lf_model.specs.Run.{first_failing}
 
--- the bytes of each line of level one, of each line of level two, and of the memory below
+-- the bytes of each line of level one, of each line of level two block by block, and of the memory below
 pub record Copies : Type 0 where
   pub one : FlatMemory
   pub two : FlatMemory
@@ -30,19 +30,23 @@ served (h ∷ held) bytes =
 -- Are the bytes that an event carries exactly those of the copy that it moves?
 abbrev pub moves_copy : Shape → Copies → Event → Bool
 moves_copy shape copies (Fill1 block bytes) = bytes_eq bytes.items (block_bytes shape copies.two block)
-moves_copy shape copies (Fill2 block bytes) = bytes_eq bytes.items (block_bytes shape copies.below block)
+moves_copy shape copies (Fill2 second bytes) = bytes_eq bytes.items (wide_bytes shape copies.below second)
 moves_copy shape copies (Evict1 block mask bytes) = bytes_eq bytes.items (masked (block_bytes shape copies.one block) mask.0)
-moves_copy shape copies (Evict2 block mask bytes) = bytes_eq bytes.items (masked (block_bytes shape copies.two block) mask.0)
+moves_copy shape copies (Evict2 second masks bytes) = bytes_eq bytes.items (wide_masked shape copies.two second masks)
 moves_copy shape copies _ = true
 
+-- these bytes at each block of the second-level block
+abbrev pub update_second : Shape → FlatMemory → ℕ → FlatMemory → FlatMemory
+update_second shape memory second new block = if second == second_of shape block then new block else memory block
+
 -- A hit reads or writes its line, a fill serves the block's targets, an eviction writes to the level below.
-abbrev pub copies_after : Copies → Slice → Event → Copies
-copies_after copies slice (Hit port tag) = record copies { one = accepted copies.one (oldest (slice.queue port)) }
-copies_after copies slice (Fill1 block bytes) = record copies { one = update copies.one block (serve (targets_of slice.waiting block) (copies.two block)) }
-copies_after copies slice (Fill2 block bytes) = record copies { two = update copies.two block (copies.below block) }
-copies_after copies slice (Evict1 block mask bytes) = record copies { two = update copies.two block (overlay (copies.two block) (copies.one block) mask.0) }
-copies_after copies slice (Evict2 block mask bytes) = record copies { below = update copies.below block (overlay (copies.below block) (copies.two block) mask.0) }
-copies_after copies slice _ = copies
+abbrev pub copies_after : Shape → Copies → Slice → Event → Copies
+copies_after shape copies slice (Hit port tag) = record copies { one = accepted copies.one (oldest (slice.queue port)) }
+copies_after shape copies slice (Fill1 block bytes) = record copies { one = update copies.one block (serve (targets_of slice.waiting block) (copies.two block)) }
+copies_after shape copies slice (Fill2 second bytes) = record copies { two = update_second shape copies.two second copies.below }
+copies_after shape copies slice (Evict1 block mask bytes) = record copies { two = update copies.two block (overlay (copies.two block) (copies.one block) mask.0) }
+copies_after shape copies slice (Evict2 second masks bytes) = record copies { below = update_second shape copies.below second (λ block. overlay (copies.below block) (copies.two block) (mask_at masks (place_of shape block))) }
+copies_after shape copies slice _ = copies
 
 -- a load's value is fixed at its hit, or else at the fill
 abbrev pub value_by_copy : Copies → Slice → Event → List ℕ
@@ -66,7 +70,7 @@ abbrev pub copy_state_after : Shape → CopyState → Record → CopyState
 copy_state_after shape state r =
     let slice = state.slice r.bank in
     record {
-      copies = copies_after state.copies slice r.event;
+      copies = copies_after shape state.copies slice r.event;
       busy = update state.busy r.log (busy_after (state.busy r.log) r.bank r.event);
       slice = update state.slice r.bank
           (slice_after shape (value_by_copy state.copies slice r.event) (replies_by_copy state.copies slice r.event) slice r.log r.event);

@@ -1,5 +1,5 @@
 -- The rows of the worked examples, each with its answer by computation. They show that the definitions mean what they say.
-use Rattle.std.specs.Prelude.{◌≡◌, Bool, true, false, ℕ, ◌++◌, List, [], ◌∷◌, replicate, Option, Some, None, refl}
+use Rattle.std.specs.Prelude.{◌≡◌, Bool, true, false, ℕ, ◌++◌, List, [], ◌∷◌, map, replicate, Option, Some, None, refl}
 use Rattle.arrayvec.specs.ArrayVec.{ArrayVec}
 use Rattle.lf_model.specs.declared.event.Op.TheVariants.{Load, Store}
 use Rattle.lf_model.specs.declared.shape.OrgShape.{OrgShape}
@@ -8,10 +8,10 @@ use Rattle.lf_model.specs.declared.shape.Level.{Level}
 use Rattle.lf_model.specs.declared.shape.Shape.{Shape}
 use Rattle.lf_model.specs.declared.event.Record.{Record}
 use Rattle.lf_model.specs.declared.event.Event.{Event}
-use Rattle.lf_model.specs.declared.event.Event.TheVariants.{Issue, Reply, Hit, Primary, Merge, Stall, Fill1, Evict1, SecondHit, SecondPrimary, SecondStall, Fill2, Evict2}
+use Rattle.lf_model.specs.declared.event.Event.TheVariants.{Issue, Reply, Hit, Primary, Merge, Stall, Fill1, Evict1, SecondHit, SecondPrimary, SecondStall, Fill2, Evict2, SecondMerge, Fence}
 use Rattle.lf_model.specs.declared.rule.Rule.{Rule}
-use Rattle.lf_model.specs.declared.rule.Rule.TheVariants.{NotHead, ReplyData, MergeFull, NeedlessStall, WrongRegister, PrimaryInFlight, Inclusion, EvictMask, EvictData, FillData, SetFull, TagBusy, NotOutstanding, TagRange}
-use Rattle.lf_model.specs.Address.{flat_memory}
+use Rattle.lf_model.specs.declared.rule.Rule.TheVariants.{NotHead, ReplyData, MergeFull, NeedlessStall, WrongRegister, PrimaryInFlight, Inclusion, EvictMask, EvictData, FillData, SetFull, TagBusy, NotOutstanding, TagRange, FenceBusy}
+use Rattle.lf_model.specs.Address.{Masks, no_bank, flat_memory}
 use Rattle.lf_model.specs.State.{opening}
 use Rattle.lf_model.specs.Table.{OfPort, OfBoth}
 use Rattle.lf_model.specs.Copies.{CopyState, copy_opening, copy_clauses, copy_state_after}
@@ -24,7 +24,7 @@ abbrev with_files : OrgShape → OrgShape → Shape
 with_files file1 file2 =
     let level1 : Level = record { sets = 1; ways = 1; organisation = file1 } in
     let level2 : Level = record { sets = 1; ways = 2; organisation = file2 } in
-    record { ports = 1; banks = 1; block = 8; tags = 4; level1 = level1; level2 = level2 }
+    record { ports = 1; banks = 1; block = 8; tags = 4; factor = 1; level1 = level1; level2 = level2 }
 
 abbrev c1 : Shape
 c1 = with_files (Explicit 1 2) (Explicit 1 1)
@@ -36,6 +36,9 @@ two_registers = with_files (Explicit 2 2) (Explicit 1 1)
 
 abbrev data_of : List ℕ → ArrayVec ℕ
 data_of xs = record { items = xs }
+
+abbrev masks_of : List ℕ → Masks
+masks_of ns = record { items = map (λ n. record { 0 = n }) ns }
 
 abbrev of_port : Event → Record
 of_port event = record { log = 0; bank = 0; number = 0; event = event }
@@ -83,7 +86,16 @@ abbrev E1 : ℕ → ℕ → List ℕ → Record
 E1 block mask bytes = of_its_bank (Evict1 block (record { 0 = mask }) (data_of bytes))
 
 abbrev E2 : ℕ → ℕ → List ℕ → Record
-E2 block mask bytes = of_its_bank (Evict2 block (record { 0 = mask }) (data_of bytes))
+E2 block mask bytes = of_its_bank (Evict2 block (masks_of (mask ∷ [])) (data_of bytes))
+
+abbrev Z : Record
+Z = record { log = 0; bank = no_bank; number = 0; event = Fence }
+
+abbrev E2s : ℕ → List ℕ → List ℕ → Record
+E2s second masks bytes = of_its_bank (Evict2 second (masks_of masks) (data_of bytes))
+
+abbrev SM : ℕ → ℕ → Record
+SM block register = of_its_bank (SecondMerge block register)
 
 abbrev zeros : List ℕ
 zeros = replicate 8 0
@@ -241,7 +253,74 @@ second_level_inverted_wrong = refl
 initial_memory : first_fault c1 (opening (flat_memory ((0, data_of first_words) ∷ []))) 0 (L 0 2 2 ∷ P 0 0 ∷ SP 0 0 ∷ F2 0 first_words ∷ F1 0 first_words ∷ R 0 2 (0x33 ∷ 0x44 ∷ []) ∷ []) ≡ None
 initial_memory = refl
 
+fence_last : answer c1 (load_run ++ Z ∷ []) ≡ None
+fence_last = refl
+
+fence_elsewhere : answer c1 (Z ∷ load_run) ≡ None
+fence_elsewhere = refl
+
+fence_elsewhere_between : port_answer c1 (L 0 8 0 ∷ Z ∷ P 0 0 ∷ SP 0 0 ∷ F2 0 zeros ∷ F1 0 zeros ∷ R 0 8 zeros ∷ []) ≡ Some (1, FenceBusy)
+fence_elsewhere_between = refl
+
+-- ---- second-level blocks of two blocks
+
+abbrev c2_with : ℕ → Shape
+c2_with entries =
+    let level1 : Level = record { sets = 1; ways = 2; organisation = Explicit 2 2 } in
+    let level2 : Level = record { sets = 1; ways = 2; organisation = Explicit 1 entries } in
+    record { ports = 1; banks = 1; block = 8; tags = 4; factor = 2; level1 = level1; level2 = level2 }
+
+abbrev c2 : Shape
+c2 = c2_with 2
+
+abbrev wide_zeros : List ℕ
+wide_zeros = replicate 16 0
+
+abbrev two_misses : List Record
+two_misses = L 0 8 0 ∷ P 0 0 ∷ L 1 8 8 ∷ P 1 1 ∷ SP 0 0 ∷ []
+
+abbrev two_fills : List Record
+two_fills = two_misses ++ SM 1 0 ∷ F2 0 wide_zeros ∷ F1 0 zeros ∷ F1 1 zeros ∷ R 0 8 zeros ∷ R 1 8 zeros ∷ []
+
+abbrev stored_in_second : List Record
+stored_in_second = S 0 1 8 (0xaa ∷ []) ∷ P 0 0 ∷ SP 1 0 ∷ F2 0 wide_zeros ∷ F1 1 zeros ∷ E1 1 1 (0xaa ∷ []) ∷ []
+
+second_level_merge : answer c2 (two_fills) ≡ None
+second_level_merge = refl
+
+second_level_merge_refused : answer c2 (two_misses ++ SP 1 0 ∷ []) ≡ Some (5, PrimaryInFlight)
+second_level_merge_refused = refl
+
+second_level_merge_refused_stall : answer c2 (two_misses ++ SS 1 ∷ []) ≡ Some (5, NeedlessStall)
+second_level_merge_refused_stall = refl
+
+second_level_merge_refused_full : answer (c2_with 1) (two_misses ++ SM 1 0 ∷ []) ≡ Some (5, MergeFull)
+second_level_merge_refused_full = refl
+
+second_level_merge_refused_right_stall : answer (c2_with 1) (two_misses ++ SS 1 ∷ []) ≡ None
+second_level_merge_refused_right_stall = refl
+
+inclusion_of_every_sub_block : answer c2 (two_fills ++ E1 0 0 [] ∷ E2s 0 (0 ∷ 0 ∷ []) [] ∷ []) ≡ Some (12, Inclusion)
+inclusion_of_every_sub_block = refl
+
+inclusion_of_every_sub_block_both : answer c2 (two_fills ++ E1 0 0 [] ∷ E1 1 0 [] ∷ E2s 0 (0 ∷ 0 ∷ []) [] ∷ []) ≡ None
+inclusion_of_every_sub_block_both = refl
+
+sub_block_masks : answer c2 (stored_in_second ++ E2s 0 (0 ∷ 1 ∷ []) (0xaa ∷ []) ∷ []) ≡ None
+sub_block_masks = refl
+
+sub_block_masks_turned : answer c2 (stored_in_second ++ E2s 0 (1 ∷ 0 ∷ []) (0xaa ∷ []) ∷ []) ≡ Some (6, EvictMask)
+sub_block_masks_turned = refl
+
 -- ---- the same, with copies of the bytes
+
+copies_second_level_merge : with_copies c2 (two_fills) ≡ true
+unfolding copies_from
+copies_second_level_merge = refl
+
+copies_sub_block_masks : with_copies c2 (stored_in_second ++ E2s 0 (0 ∷ 1 ∷ []) (0xaa ∷ []) ∷ []) ≡ true
+unfolding copies_from
+copies_sub_block_masks = refl
 
 copies_load_misses_both_levels : with_copies c1 (load_run) ≡ true
 unfolding copies_from

@@ -1,5 +1,5 @@
 -- The laws about runs.
-use Rattle.std.specs.Prelude.{List}
+use Rattle.std.specs.Prelude.{◌<◌, List}
 use Rattle.lf_model.specs.declared.shape.Shape.{Shape}
 use Rattle.lf_model.specs.declared.event.Record.{Record}
 use Rattle.lf_model.specs.Address.{FlatMemory}
@@ -20,4 +20,4 @@ abbrev pub RunsAreFlat : Type 0
 RunsAreFlat = (shape : Shape) (memory : FlatMemory) (rs : List Record) → IsRun shape memory rs → IsFlat shape memory rs
 
 abbrev pub CopyRunsAreRuns : Type 0
-CopyRunsAreRuns = (shape : Shape) (memory : FlatMemory) (rs : List Record) → AllByRecursion (Fits shape) rs → IsCopyRun shape memory rs → IsRun shape memory rs
+CopyRunsAreRuns = (shape : Shape) (memory : FlatMemory) (rs : List Record) → 0 < shape.factor → AllByRecursion (Fits shape) rs → IsCopyRun shape memory rs → IsRun shape memory rs

@@ -3,6 +3,7 @@ use Rattle.std.specs.Prelude.{◌≡◌, ℕ, ◌<◌, ◌⊎◌, ◌==◌, List
 use Rattle.std.specs.List.{range_with_len, flat_map, AllByRecursion}
 use Rattle.lf_model.specs.declared.event.Record.{Record}
 use Rattle.lf_model.specs.declared.shape.Shape.{Shape}
+use Rattle.lf_model.specs.Address.{no_bank}
 use Rattle.lf_model.specs.Fits.{Fits}
 use Rattle.lf_model.specs.Run.{of_bank, Interleaves, KeepsNumbers}
 
@@ -50,7 +51,7 @@ InterleavingsFit = (shape : Shape) (logs : List (List Record)) (rs : List Record
 
 -- an interleaving that keeps the numbers has each bank's records of all logs, in the order of their numbers
 abbrev pub InterleavingsAreNumbered : Type 0
-InterleavingsAreNumbered = (logs : List (List Record)) (rs : List Record) → Interleaves logs rs → KeepsNumbers rs → (bank : ℕ) → IsNumbered logs bank (of_bank bank rs)
+InterleavingsAreNumbered = (logs : List (List Record)) (rs : List Record) → Interleaves logs rs → KeepsNumbers rs → (bank : ℕ) → bank < no_bank → IsNumbered logs bank (of_bank bank rs)
 
 -- there is only one such order
 abbrev pub NumberedIsOne : Type 0
@@ -62,5 +63,5 @@ NumberedIsWhole = (logs : List (List Record)) (bank : ℕ) (rs : List Record) �
 
 -- where a number is missing or double, no list of all logs keeps the numbers
 abbrev pub GapsAdmitNone : Type 0
-GapsAdmitNone = (logs : List (List Record)) (bank k : ℕ) → IsMissing (bank_numbers logs bank) k ⊎ IsDouble (bank_numbers logs bank) k
+GapsAdmitNone = (logs : List (List Record)) (bank k : ℕ) → bank < no_bank → IsMissing (bank_numbers logs bank) k ⊎ IsDouble (bank_numbers logs bank) k
     → (rs : List Record) → Interleaves logs rs → KeepsNumbers rs → ⊥

@@ -1,5 +1,5 @@
 -- What the plain machine keeps, and what that is in the state of the whole system.
-use Rattle.std.specs.Prelude.{◌≡◌, ℕ, ◌+◌, ◌-◌, ◌<◌, ◌≤◌, Bool, true, false, ◌&&◌, ◌==◌, nat_le, nat_lt, List, [], ◌∷◌, map, length, drop, slice_index, slice_index_or, Option, Some, None, unwrap_or, if◌then◌else◌}
+use Rattle.std.specs.Prelude.{◌≡◌, ℕ, ◌+◌, ◌-◌, ◌<◌, ◌≤◌, ◌⊎◌, Bool, true, false, ◌&&◌, ◌==◌, nat_le, nat_lt, List, [], ◌∷◌, map, length, drop, slice_index, slice_index_or, Option, Some, None, unwrap_or, if◌then◌else◌}
 use Rattle.std.specs.List.{All, list_all}
 use Rattle.std.specs.Map.{lookup}
 use Rattle.std.specs.BTreeMap.{is_at}
@@ -10,7 +10,7 @@ use Rattle.lf_model.specs.declared.shape.Shape.{Shape}
 use Rattle.lf_model.specs.declared.plain.machine.Machine.{Machine}
 use Rattle.lf_model.specs.declared.event.Event.{Event}
 use Rattle.lf_model.specs.declared.event.Event.TheVariants.{Issue, Hit, Primary, Merge}
-use Rattle.lf_model.specs.Address.{FlatMemory}
+use Rattle.lf_model.specs.Address.{FlatMemory, no_bank}
 use Rattle.lf_model.specs.InRange.{IsShape}
 use Rattle.lf_model.specs.Order.{log_at, after_next}
 use Rattle.lf_model.specs.Run.{first_failing, state_after}
@@ -110,6 +110,17 @@ judged false rule place rest = NotAnOrder place
 judged true (Some rule) place rest = Broken place rule
 judged true None place rest = rest
 
+-- the record carries its bank's next number, where it names a bank
+abbrev pub is_numbered : (ℕ → ℕ) → Record → Bool
+is_numbered next r = if nat_lt r.bank no_bank then r.number == next r.bank else true
+
+abbrev pub next_after : (ℕ → ℕ) → Record → ℕ → ℕ
+next_after next r = if nat_lt r.bank no_bank then update next r.bank (next r.bank + 1) else next
+
+-- it names one of so many banks, or none
+abbrev pub NamesBankBelow : ℕ → Record → Type 0
+NamesBankBelow banks r = (banks ≤ 16) × ((r.bank < banks) ⊎ (r.bank ≡ no_bank))
+
 -- the answer from a state on, with what is left of each log and the next number of each bank
 abbrev pub recheck_from : Shape → State → List (List Record) → (ℕ → ℕ) → ℕ → List ℕ → Recheck
 recheck_from shape state left next place [] = finished (list_all is_empty left) place
@@ -117,8 +128,8 @@ recheck_from shape state left next place (log ∷ order) =
     elim (log_at left log) [
       | [] ↦ NotAnOrder place
       | r ∷ rest ↦
-          let later = recheck_from shape (state_after shape state r) (after_next left log) (update next r.bank (next r.bank + 1)) (place + 1) order in
-          judged (r.number == next r.bank) (first_failing OfBoth (clauses shape (seen_by r.log r.bank state) r)) place later
+          let later = recheck_from shape (state_after shape state r) (after_next left log) (next_after next r) (place + 1) order in
+          judged (is_numbered next r) (first_failing OfBoth (clauses shape (seen_by r.log r.bank state) r)) place later
     ]
 
 abbrev pub recheck_of : Shape → FlatMemory → List (List Record) → List ℕ → Recheck

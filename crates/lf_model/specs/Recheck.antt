@@ -6,7 +6,7 @@ use Rattle.lf_model.specs.declared.event.Record.{Record}
 use Rattle.lf_model.specs.declared.rule.Rule.{Rule}
 use Rattle.lf_model.specs.declared.outcome.Recheck.{Recheck}
 use Rattle.lf_model.specs.declared.outcome.Recheck.TheVariants.{Accepted, NotAnOrder, Broken}
-use Rattle.lf_model.specs.Address.{FlatMemory}
+use Rattle.lf_model.specs.Address.{FlatMemory, no_bank}
 use Rattle.lf_model.specs.State.{opening, seen_by}
 use Rattle.lf_model.specs.Table.{OfBoth, clauses}
 use Rattle.lf_model.specs.Run.{first_failing, IsRun, Interleaves, KeepsNumbers, NameTheirLogs, of_bank}
@@ -38,9 +38,9 @@ pub record IsRunUpTo (shape : Shape) (memory : FlatMemory) (logs : List (List Re
   pub numbers : KeepsNumbers records
   pub run : IsRun shape memory records
 
--- the next record of the log, which carries its bank's next number
+-- the next record of the log, which carries its bank's next number, where it names a bank
 abbrev pub IsNext : List (List Record) → ℕ → List Record → Record → Type 0
-IsNext left log records r = (log_at left log ≡ r ∷ drop 1 (log_at left log)) × (r.number ≡ length (of_bank r.bank records))
+IsNext left log records r = (log_at left log ≡ r ∷ drop 1 (log_at left log)) × (r.bank < no_bank → r.number ≡ length (of_bank r.bank records))
 
 -- At the place the order ends and records are left, or the log that it names has no such record.
 pub record StopsAt (shape : Shape) (memory : FlatMemory) (logs : List (List Record)) (order : List ℕ) (place : ℕ) : Type 0 where

@@ -2,6 +2,7 @@
 use Rattle.std.specs.Prelude.{◌≡◌, ℕ, zero, suc, ◌+◌, ◌%◌, ◌<◌, List, [], ◌∷◌, map, length, slice_index_or, Option, Some, None}
 use Rattle.lf_model.specs.declared.event.Record.{Record}
 use Rattle.lf_model.specs.declared.ring.Knot.{Knot}
+use Rattle.lf_model.specs.Address.{no_bank}
 use Rattle.lf_model.specs.Run.{Interleaves, KeepsNumbers}
 
 -- bank and number of a record, and of each record of each log
@@ -20,6 +21,7 @@ entry_at (entry ∷ entries) (suc n) = entry_at entries n
 pub record IsWait (skeletons : List (List (ℕ × ℕ))) (knot next : Knot) : Type 0 where
   pub waiting : ℕ × ℕ
   pub named : entry_at (slice_index_or skeletons knot.log []) knot.at ≡ Some waiting
+  pub is_bank : waiting.0 < no_bank
   pub place : ℕ
   pub behind : next.at < place
   pub earlier : ℕ × ℕ

@@ -4,7 +4,7 @@ use Rattle.std.specs.List.{range_with_len, AllByRecursion}
 use Rattle.lf_model.specs.declared.shape.Shape.{Shape}
 use Rattle.lf_model.specs.declared.event.Record.{Record}
 use Rattle.lf_model.specs.declared.rule.Rule.{Rule}
-use Rattle.lf_model.specs.Address.{FlatMemory}
+use Rattle.lf_model.specs.Address.{FlatMemory, no_bank}
 use Rattle.lf_model.specs.Fits.{Fits}
 use Rattle.lf_model.specs.State.{State, Local, opening, seen_by, with_seen}
 use Rattle.lf_model.specs.Table.{Side, OfPort, OfBank, OfBoth, Clause, clauses, bank_effect, port_effect}
@@ -75,9 +75,9 @@ pub record Interleaves (logs : List (List Record)) (rs : List Record) : Type 0 w
 abbrev pub NameTheirLogs : List (List Record) → Type 0
 NameTheirLogs logs = (log : ℕ) → AllByRecursion (λ r. r.log ≡ log) (slice_index_or logs log [])
 
--- Each bank's records carry 0, 1, 2, .. in this order.
+-- Each bank's records carry 0, 1, 2, .. in this order. Those that name no bank are not among them.
 abbrev pub KeepsNumbers : List Record → Type 0
-KeepsNumbers rs = (bank : ℕ) → map (λ r. r.number) (of_bank bank rs) ≡ range_with_len 0 (length (of_bank bank rs))
+KeepsNumbers rs = (bank : ℕ) → bank < no_bank → map (λ r. r.number) (of_bank bank rs) ≡ range_with_len 0 (length (of_bank bank rs))
 
 -- ---- the law of composition
 

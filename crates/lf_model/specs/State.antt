@@ -2,7 +2,7 @@
 use Rattle.std.specs.Prelude.{ℕ, ◌==◌, List, [], Option, None, if◌then◌else◌}
 use Rattle.lf_model.specs.declared.event.Op.{Op}
 use Rattle.lf_model.specs.Address.{FlatMemory}
-use Rattle.lf_model.specs.Lines.{Lines, no_lines}
+use Rattle.lf_model.specs.Lines.{Lines, WideLines}
 use Rattle.lf_model.specs.Registers.{Held}
 
 abbrev pub update : {X : Type 0} → (ℕ → X) → ℕ → X → ℕ → X
@@ -29,14 +29,18 @@ pub record Ready : Type 0 where
   pub tag : ℕ
   pub value : List ℕ
 
+-- what level one asks of level two: a block, with the level-one register of its primary miss
+abbrev pub Asked : Type 0
+Asked = ℕ × ℕ
+
 -- what bank b of both levels holds
 pub record Slice : Type 0 where
   pub queue : ℕ → List Request  -- of each port, the oldest first
   pub lines1 : Lines
-  pub lines2 : Lines
+  pub lines2 : WideLines  -- by second-level blocks
   pub waiting : List (Held Missed)  -- the targets in level-one registers
-  pub regs2 : List (Held ℕ)  -- those in level-two registers: a level-one register each
-  pub asked : List (ℕ × ℕ)  -- blocks, each with the level-one register of its primary miss
+  pub regs2 : List (Held Asked)  -- those in level-two registers, which hold second-level blocks
+  pub asked : List Asked
   pub supplied : List ℕ
   pub ready : List Ready
 
@@ -55,7 +59,7 @@ abbrev pub idle : ℕ → Option ℕ
 idle tag = None
 
 abbrev pub empty_slice : Slice
-empty_slice = record { queue = λ _. []; lines1 = no_lines; lines2 = no_lines; waiting = []; regs2 = []; asked = []; supplied = []; ready = [] }
+empty_slice = record { queue = λ _. []; lines1 = []; lines2 = []; waiting = []; regs2 = []; asked = []; supplied = []; ready = [] }
 
 abbrev pub opening : FlatMemory → State
 opening memory = record { memory = memory; busy = λ _. idle; slice = λ _. empty_slice }

@@ -1,18 +1,18 @@
 -- The rules: for each event its clauses in order, and its effect.
 use Rattle.std.specs.Prelude.{ℕ, ◌+◌, ◌-◌, ◌*◌, ◌/◌, Bool, true, false, not, ◌&&◌, ◌==◌, nat_le, nat_lt, List, [], ◌∷◌, ◌++◌, map, length, drop, slice_index, Option, Some, None, is_none, bit_or, bytes_eq, if◌then◌else◌}
-use Rattle.std.specs.List.{range_with_len, list_any, filter, fold}
+use Rattle.std.specs.List.{range_with_len, list_all, list_any, filter, fold}
 use Rattle.lf_model.specs.declared.event.Op.{Op}
 use Rattle.lf_model.specs.declared.event.Op.TheVariants.{Load, Store}
 use Rattle.lf_model.specs.declared.shape.Shape.{Shape}
 use Rattle.lf_model.specs.declared.event.Record.{Record}
 use Rattle.lf_model.specs.declared.event.Event.{Event}
-use Rattle.lf_model.specs.declared.event.Event.TheVariants.{Issue, Reply, Hit, Primary, Merge, Stall, Fill1, Evict1, SecondHit, SecondPrimary, SecondStall, Fill2, Evict2}
-use Rattle.lf_model.specs.declared.rule.Rule.TheVariants.{TagRange, TagBusy, NotOutstanding, NotReady, ReplySize, ReplyData, NotHead, NotPresent, Present, NeedlessStall, NotSupplied, SetFull, FillData, EvictAbsent, EvictMask, EvictData, NotAsked, SecondAbsent, SecondPresent, NotFetched, Inclusion}
+use Rattle.lf_model.specs.declared.event.Event.TheVariants.{Issue, Reply, Hit, Primary, Merge, Stall, Fill1, Evict1, SecondHit, SecondPrimary, SecondStall, Fill2, Evict2, SecondMerge, Fence}
+use Rattle.lf_model.specs.declared.rule.Rule.TheVariants.{TagRange, TagBusy, NotOutstanding, NotReady, ReplySize, ReplyData, NotHead, NotPresent, Present, NeedlessStall, NotSupplied, SetFull, FillData, EvictAbsent, EvictMask, EvictData, NotAsked, SecondAbsent, SecondPresent, NotFetched, Inclusion, FenceBusy}
 pub use Rattle.lf_model.specs.Clauses.{Side, OfPort, OfBank, OfBoth, Clause, port_wants, bank_wants, both_want}
-use Rattle.lf_model.specs.Address.{FlatMemory, block_of, offset_of, block_bytes, mask_of, agree_off, masked}
+use Rattle.lf_model.specs.Address.{FlatMemory, block_of, offset_of, second_of, place_of, sub_block, places, set1_of, set2_of, block_bytes, part_at, wide_masked, mask_of, agree_off, masked}
 use Rattle.lf_model.specs.Registers.{Held, registers_of, holds, targets_of, released, has_room, primary_clauses, merge_clauses}
-use Rattle.lf_model.specs.State.{update, Request, Missed, Ready, Slice, Local}
-use Rattle.lf_model.specs.Lines.{has_line, dirty_mask, has_way, with_line, without_line, mark}
+use Rattle.lf_model.specs.State.{update, Request, Missed, Ready, Asked, Slice, Local}
+use Rattle.lf_model.specs.Lines.{has_line, dirty_mask, dirty_masks, same_masks, has_way, with_line, without_line, mark, mark_at, clean_masks}
 
 -- ---- requests
 
@@ -69,12 +69,13 @@ destination shape port tag = port * shape.tags + tag
 abbrev pub destinations : Shape → ℕ
 destinations shape = shape.ports * shape.tags
 
--- level two has as many destinations as level one has registers, and all its targets have one position
+-- level two has as many destinations as level one has registers
 abbrev pub destinations2 : Shape → ℕ
 destinations2 shape = registers_of shape.level1.organisation (destinations shape)
 
-abbrev pub only_position : ℕ → ℕ
-only_position register = 0
+-- a target of level two has its block's place for a position
+abbrev pub position2 : Shape → Asked → ℕ
+position2 shape asked = place_of shape asked.0
 
 -- the union of the masks of the block's waiting stores
 abbrev pub store_bytes : List (Held Missed) → ℕ → ℕ
@@ -93,14 +94,14 @@ abbrev pub without_ready : List Ready → ℕ → ℕ → List Ready
 without_ready [] port tag = []
 without_ready (r ∷ rs) port tag = if is_ready_for port tag r then rs else r ∷ without_ready rs port tag
 
-abbrev pub is_asked : List (ℕ × ℕ) → ℕ → Bool
+abbrev pub is_asked : List Asked → ℕ → Bool
 is_asked asked block = list_any (λ a. a.0 == block) asked
 
-abbrev pub asked_register : List (ℕ × ℕ) → ℕ → ℕ
+abbrev pub asked_register : List Asked → ℕ → ℕ
 asked_register [] block = 0
 asked_register (a ∷ asked) block = if a.0 == block then a.1 else asked_register asked block
 
-abbrev pub without_asked : List (ℕ × ℕ) → ℕ → List (ℕ × ℕ)
+abbrev pub without_asked : List Asked → ℕ → List Asked
 without_asked asked block = filter (λ a. not (a.0 == block)) asked
 
 abbrev pub is_among : List ℕ → ℕ → Bool
@@ -115,13 +116,24 @@ abbrev pub is_at : Option ℕ → ℕ → Bool
 is_at None bank = false
 is_at (Some b) bank = b == bank
 
+-- none of so many tags is busy
+abbrev pub none_busy : ℕ → (ℕ → Option ℕ) → Bool
+none_busy tags busy = list_all (λ tag. is_none (busy tag)) (range_with_len 0 tags)
+
 -- Are the bytes that an event carries those of the memory, off or on the mask that its rule names?
 abbrev pub carries : Shape → FlatMemory → Slice → Event → Bool
 carries shape memory slice (Fill1 block bytes) = agree_off shape.block bytes.items (block_bytes shape memory block) (store_bytes slice.waiting block)
-carries shape memory slice (Fill2 block bytes) = agree_off shape.block bytes.items (block_bytes shape memory block) (store_bytes slice.waiting block)
+carries shape memory slice (Fill2 second bytes) =
+    list_all (λ place. let block = sub_block shape second place in agree_off shape.block (part_at shape.block bytes.items place) (block_bytes shape memory block) (store_bytes slice.waiting block)) (places shape)
 carries shape memory slice (Evict1 block mask bytes) = bytes_eq bytes.items (masked (block_bytes shape memory block) mask.0)
-carries shape memory slice (Evict2 block mask bytes) = bytes_eq bytes.items (masked (block_bytes shape memory block) mask.0)
+carries shape memory slice (Evict2 second masks bytes) = bytes_eq bytes.items (wide_masked shape memory second masks)
 carries shape memory slice _ = true
+
+-- level one has neither a line nor a register on the block at this place
+abbrev pub is_apart : Shape → Slice → ℕ → ℕ → Bool
+is_apart shape slice second place =
+    let block = sub_block shape second place in
+    not (has_line slice.lines1 block) && not (holds slice.waiting block)
 
 -- The clauses of each event in order, where the bytes it carries are right or not.
 abbrev pub rules_of : Shape → Bool → (ℕ → Option ℕ) → Slice → ℕ → ℕ → Event → List Clause
@@ -158,7 +170,7 @@ rules_of shape right busy slice log bank (Stall port tag) =
     ∷ []
 rules_of shape right busy slice log bank (Fill1 block bytes) =
     bank_wants NotSupplied (is_among slice.supplied block)
-    ∷ bank_wants SetFull (has_way shape.banks shape.level1.sets shape.level1.ways slice.lines1 block)
+    ∷ bank_wants SetFull (has_way (set1_of shape.banks shape.factor shape.level1.sets) shape.level1.ways slice.lines1 block)
     ∷ bank_wants FillData right
     ∷ []
 rules_of shape right busy slice log bank (Evict1 block mask bytes) =
@@ -168,28 +180,33 @@ rules_of shape right busy slice log bank (Evict1 block mask bytes) =
     ∷ []
 rules_of shape right busy slice log bank (SecondHit block) =
     bank_wants NotAsked (is_asked slice.asked block)
-    ∷ bank_wants SecondAbsent (has_line slice.lines2 block)
+    ∷ bank_wants SecondAbsent (has_line slice.lines2 (second_of shape block))
     ∷ []
 rules_of shape right busy slice log bank (SecondPrimary block register) =
     bank_wants NotAsked (is_asked slice.asked block)
-    ∷ bank_wants SecondPresent (not (has_line slice.lines2 block))
-    ∷ primary_clauses shape.level2.organisation (destinations2 shape) slice.regs2 block (asked_register slice.asked block) register
+    ∷ bank_wants SecondPresent (not (has_line slice.lines2 (second_of shape block)))
+    ∷ primary_clauses shape.level2.organisation (destinations2 shape) slice.regs2 (second_of shape block) (asked_register slice.asked block) register
 rules_of shape right busy slice log bank (SecondStall block) =
     bank_wants NotAsked (is_asked slice.asked block)
-    ∷ bank_wants SecondPresent (not (has_line slice.lines2 block))
-    ∷ bank_wants NeedlessStall (not (has_room shape.level2.organisation (destinations2 shape) only_position slice.regs2 block (asked_register slice.asked block) 0))
+    ∷ bank_wants SecondPresent (not (has_line slice.lines2 (second_of shape block)))
+    ∷ bank_wants NeedlessStall (not (has_room shape.level2.organisation (destinations2 shape) (position2 shape) slice.regs2 (second_of shape block) (asked_register slice.asked block) (place_of shape block)))
     ∷ []
-rules_of shape right busy slice log bank (Fill2 block bytes) =
-    bank_wants NotFetched (holds slice.regs2 block)
-    ∷ bank_wants SetFull (has_way shape.banks shape.level2.sets shape.level2.ways slice.lines2 block)
+rules_of shape right busy slice log bank (SecondMerge block register) =
+    bank_wants NotAsked (is_asked slice.asked block)
+    ∷ bank_wants SecondPresent (not (has_line slice.lines2 (second_of shape block)))
+    ∷ merge_clauses shape.level2.organisation (destinations2 shape) (position2 shape) slice.regs2 (second_of shape block) (asked_register slice.asked block) (place_of shape block) register
+rules_of shape right busy slice log bank (Fill2 second bytes) =
+    bank_wants NotFetched (holds slice.regs2 second)
+    ∷ bank_wants SetFull (has_way (set2_of shape.banks shape.level2.sets) shape.level2.ways slice.lines2 second)
     ∷ bank_wants FillData right
     ∷ []
-rules_of shape right busy slice log bank (Evict2 block mask bytes) =
-    bank_wants EvictAbsent (has_line slice.lines2 block)
-    ∷ bank_wants Inclusion (not (has_line slice.lines1 block) && not (holds slice.waiting block))
-    ∷ bank_wants EvictMask (mask.0 == dirty_mask slice.lines2 block)
+rules_of shape right busy slice log bank (Evict2 second masks bytes) =
+    bank_wants EvictAbsent (has_line slice.lines2 second)
+    ∷ bank_wants Inclusion (list_all (is_apart shape slice second) (places shape))
+    ∷ bank_wants EvictMask (same_masks shape.factor masks (dirty_masks slice.lines2 second))
     ∷ bank_wants EvictData right
     ∷ []
+rules_of shape right busy slice log bank Fence = port_wants FenceBusy (none_busy shape.tags busy) ∷ []
 
 -- ---- effects
 
@@ -217,6 +234,14 @@ abbrev pub miss : Slice → ℕ → ℕ → List ℕ → Held Missed
 miss slice port register value =
     let request = oldest (slice.queue port) in
     record { register = register; block = request.block; target = record { port = port; request = request; value = value } }
+
+-- what a miss of level two places: its register holds the second-level block
+abbrev pub second_miss : Shape → Slice → ℕ → ℕ → Held Asked
+second_miss shape slice block register = record { register = register; block = second_of shape block; target = (block, asked_register slice.asked block) }
+
+-- the block that a target of level two asks for
+abbrev pub block_asked : Held Asked → ℕ
+block_asked h = h.target.0
 
 -- the reply that a target may have once its block is there
 abbrev pub reply_of : Held Missed → Ready
@@ -257,24 +282,29 @@ slice_after shape value replies slice log (Fill1 block bytes) =
       supplied = without slice.supplied block;
     }
 slice_after shape value replies slice log (Evict1 block mask bytes) =
-    record slice { lines1 = without_line slice.lines1 block; lines2 = mark slice.lines2 block mask.0 }
+    record slice { lines1 = without_line slice.lines1 block; lines2 = mark_at slice.lines2 (second_of shape block) (place_of shape block) mask.0 }
 slice_after shape value replies slice log (SecondHit block) =
     record slice { asked = without_asked slice.asked block; supplied = slice.supplied ++ block ∷ [] }
 slice_after shape value replies slice log (SecondPrimary block register) =
-    let held : Held ℕ = record { register = register; block = block; target = asked_register slice.asked block } in
     record slice {
       asked = without_asked slice.asked block;
-      regs2 = slice.regs2 ++ held ∷ [];
+      regs2 = slice.regs2 ++ second_miss shape slice block register ∷ [];
+    }
+slice_after shape value replies slice log (SecondMerge block register) =
+    record slice {
+      asked = without_asked slice.asked block;
+      regs2 = slice.regs2 ++ second_miss shape slice block register ∷ [];
     }
 slice_after shape value replies slice log (SecondStall block) = slice
-slice_after shape value replies slice log (Fill2 block bytes) =
+slice_after shape value replies slice log (Fill2 second bytes) =
     record slice {
-      regs2 = released slice.regs2 block;
-      lines2 = with_line slice.lines2 block 0;
-      supplied = slice.supplied ++ block ∷ [];
+      regs2 = released slice.regs2 second;
+      lines2 = with_line slice.lines2 second (clean_masks shape.factor);
+      supplied = slice.supplied ++ map block_asked (targets_of slice.regs2 second);
     }
-slice_after shape value replies slice log (Evict2 block mask bytes) =
-    record slice { lines2 = without_line slice.lines2 block }
+slice_after shape value replies slice log (Evict2 second masks bytes) =
+    record slice { lines2 = without_line slice.lines2 second }
+slice_after shape value replies slice log Fence = slice
 
 -- what an accepted load has for a value
 abbrev pub value_at : FlatMemory → Option Request → List ℕ

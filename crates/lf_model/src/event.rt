@@ -6,11 +6,20 @@ use arrayvec::ArrayVec;
 /// The bytes of a block, or those that an event carries.
 pub type Block = ArrayVec<u8, 64>;
 
+/// The bytes of a block of level two, or those that its eviction carries.
+pub type WideBlock = ArrayVec<u8, 256>;
+
+/// Which bytes of a block of level two: a mask for each of its first-level blocks.
+pub type Masks = ArrayVec<Mask, 4>;
+
 /// The blocks that a trace names, by rising number. All others are zero.
 pub type Memory = Vec<(u32, Block)>;
 
 /// One list of records for each port, and behind them one for each bank.
 pub type Logs = Vec<Vec<Record>>;
+
+/// What a record has for a bank where it names none.
+pub const NO_BANK: u8 = 255;
 
 #[derive(Clone, Copy, Debug, PartialEq, Eq)]
 pub enum Op {
@@ -18,7 +27,7 @@ pub enum Op {
     Store,
 }
 
-/// What happened. The first two kinds stand in a port's log, the others in a bank's.
+/// What happened. Issues, replies and fences stand in a port's log, the others in a bank's.
 #[derive(Clone, Debug, Drop, PartialEq, Eq)]
 pub enum Event {
     /// A port sends a request. `bytes` is what a store writes, and empty for a load.
@@ -81,17 +90,24 @@ pub enum Event {
     SecondStall {
         block: u32,
     },
-    /// Level two gets a block.
+    /// Level two gets a block. It is named by its own number, as in an eviction of level two.
     Fill2 {
         block: u32,
-        bytes: Block,
+        bytes: WideBlock,
     },
-    /// Level two gives up a line. `bytes` are those under the mask.
+    /// Level two gives up a line. `bytes` are those under the masks.
     Evict2 {
         block: u32,
-        mask: Mask,
-        bytes: Block,
+        masks: Masks,
+        bytes: WideBlock,
     },
+    /// A level-two miss to a second-level block that a register holds is recorded beside the first.
+    SecondMerge {
+        block: u32,
+        register: u16,
+    },
+    /// No tag of the port is busy. It names no bank.
+    Fence,
 }
 
 /// One event, with the log that it stands in and its place in the order of its bank.
@@ -99,8 +115,9 @@ pub enum Event {
 pub struct Record {
     /// 0 to P-1 for a port's log, P+b for that of bank b.
     pub log: u8,
+    /// The bank that it names, and `NO_BANK` for a fence.
     pub bank: u8,
-    /// The bank's number of this event, from 0.
+    /// The bank's number of this event, from 0, and 0 for a fence.
     pub number: u32,
     pub event: Event,
 }

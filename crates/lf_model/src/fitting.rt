@@ -1,9 +1,10 @@
 //! Which records a trace may have.
 
-ghost use Rattle.std.specs.Prelude.{◌≡◌, ℕ, ◌+◌, ◌<◌, ◌≤◌, ◌↔◌, ◌^◌, IsTrue, slice_index, length, true};
-ghost use Rattle.lf_model.specs.Fits.{is_size, is_block_size, is_of_bank, issue_len, IsData, FitsIssue, FitsReply, FitsRequest, FitsBlock, FitsEvict, FitsEvent, FitsLog, FitsRecord};
+ghost use Rattle.std.specs.Prelude.{◌≡◌, ℕ, ◌+◌, ◌<◌, ◌≤◌, ◌↔◌, ◌^◌, IsTrue, slice_index, slice_index_or, length, true};
+ghost use Rattle.lf_model.specs.Address.{clean_mask};
+ghost use Rattle.lf_model.specs.Fits.{is_size, is_block_size, is_factor, is_of_bank, masks_len, FitsSecond, FitsWideEvict, issue_len, IsData, FitsBank, FitsIssue, FitsReply, FitsRequest, FitsBlock, FitsEvict, FitsEvent, FitsLog, FitsRecord};
 
-use crate::event::{Block, Event, Op, Record};
+use crate::event::{Block, Event, Masks, NO_BANK, Op, Record, WideBlock};
 use crate::mask::Mask;
 
 fn is_size(n: u8) -> bool
@@ -12,11 +13,11 @@ fn is_size(n: u8) -> bool
     n == 1 || n == 2 || n == 4 || n == 8
 }
 
-fn is_of_bank(banks: u32, bank: u32, block: u64) -> bool
+fn is_of_bank(banks: u32, bank: u32, second: u64) -> bool
     requires { 0 < banks }
-    ensures { result ≡ is_of_bank banks bank block }
+    ensures { result ≡ is_of_bank banks bank second }
 {
-    block % u64::from(banks) == u64::from(bank)
+    second % u64::from(banks) == u64::from(bank)
 }
 
 fn slice_is_data(len: usize, bytes: &[u8]) -> bool
@@ -32,16 +33,27 @@ fn is_data(len: usize, bytes: &Block) -> bool
     slice_is_data(len, bytes)
 }
 
-fn fits_block(banks: u32, bank: u32, block: u32) -> bool
-    requires { 0 < banks }
-    ensures { IsTrue result ↔ FitsBlock banks bank block }
+fn fits_block(banks: u32, factor: u32, bank: u32, block: u32) -> bool
+    requires some_bank { 0 < banks }
+    requires some_factor { 0 < factor }
+    ensures { IsTrue result ↔ FitsBlock banks factor bank block }
 {
-    is_of_bank(banks, bank, u64::from(block))
+    is_of_bank(banks, bank, u64::from(block / factor))
+}
+
+fn fits_second(banks: u32, factor: u32, bank: u32, second: u32) -> bool
+    requires some_bank { 0 < banks }
+    requires some_factor { 0 < factor }
+    ensures { IsTrue result ↔ FitsSecond banks factor bank second }
+{
+    u64::from(second) < 0x1_0000_0000 / u64::from(factor)
+        && is_of_bank(banks, bank, u64::from(second))
 }
 
 fn fits_issue(
     banks: u32,
     block: u32,
+    factor: u32,
     bank: u32,
     op: Op,
     tag: u8,
@@ -51,7 +63,8 @@ fn fits_issue(
 ) -> bool
     requires some_bank { 0 < banks }
     requires some_block { 0 < block }
-    ensures { IsTrue result ↔ FitsIssue banks block bank op tag size address bytes.now }
+    requires some_factor { 0 < factor }
+    ensures { IsTrue result ↔ FitsIssue banks block factor bank op tag size address bytes.now }
 {
     if !is_size(size) || address % u64::from(size) != 0 {
         return false;
@@ -61,7 +74,7 @@ fn fits_issue(
         Op::Load => 0,
         Op::Store => usize::from(size),
     };
-    number < 0x1_0000_0000 && is_of_bank(banks, bank, number) && is_data(len, bytes)
+    number < 0x1_0000_0000 && is_of_bank(banks, bank, number / u64::from(factor)) && is_data(len, bytes)
 }
 
 fn mask_fits(size: u32, mask: u64) -> bool
@@ -70,13 +83,68 @@ fn mask_fits(size: u32, mask: u64) -> bool
     size >= 64 || mask < 1 << size
 }
 
-fn fits_evict(banks: u32, size: u32, bank: u32, block: u32, mask: Mask, bytes: &Block) -> bool
+fn fits_evict(
+    banks: u32,
+    size: u32,
+    factor: u32,
+    bank: u32,
+    block: u32,
+    mask: Mask,
+    bytes: &Block,
+) -> bool
     requires some_bank { 0 < banks }
-    ensures { IsTrue result ↔ FitsEvict banks size bank block mask.0 bytes.now }
+    requires some_factor { 0 < factor }
+    ensures { IsTrue result ↔ FitsEvict banks size factor bank block mask.0 bytes.now }
 {
-    fits_block(banks, bank, block)
+    fits_block(banks, factor, bank, block)
         && mask_fits(size, mask.0)
         && is_data(mask.0.count_ones() as usize, bytes)
+}
+
+fn is_wide_data(len: usize, bytes: &WideBlock) -> bool
+    ensures { IsTrue result ↔ IsData len bytes.now }
+{
+    slice_is_data(len, bytes)
+}
+
+fn masks_fit(size: u32, masks: &[Mask]) -> bool
+    ensures { IsTrue result ↔ ((place : ℕ) → (slice_index_or masks.now place clean_mask).0 < 2 ^ size) }
+{
+    for i in 0..masks.len() {
+        if !mask_fits(size, masks[i].0) {
+            return false;
+        }
+    }
+    true
+}
+
+fn masks_len(masks: &Masks) -> usize
+    ensures { result ≡ masks_len masks.now.items }
+{
+    let mut len = 0;
+    for mask in masks.iter() {
+        len += mask.0.count_ones() as usize;
+    }
+    len
+}
+
+fn fits_wide_evict(
+    banks: u32,
+    size: u32,
+    factor: u32,
+    bank: u32,
+    second: u32,
+    masks: &Masks,
+    bytes: &WideBlock,
+) -> bool
+    requires some_bank { 0 < banks }
+    requires some_factor { 0 < factor }
+    ensures { IsTrue result ↔ FitsWideEvict banks size factor bank second masks.now bytes.now }
+{
+    fits_second(banks, factor, bank, second)
+        && masks.len() == factor as usize
+        && masks_fit(size, masks)
+        && is_wide_data(masks_len(masks), bytes)
 }
 
 fn fits_reply(size: u8, tag: u8, bytes: &Block) -> bool
@@ -85,10 +153,13 @@ fn fits_reply(size: u8, tag: u8, bytes: &Block) -> bool
     (size == 0 || is_size(size)) && is_data(usize::from(size), bytes)
 }
 
-fn fits_event(banks: u32, size: u32, bank: u32, event: &Event) -> bool
+fn fits_event(banks: u32, size: u32, factor: u32, bank: u32, event: &Event) -> bool
     requires some_bank { 0 < banks }
     requires some_block { 0 < size }
-    ensures { IsTrue result ↔ FitsEvent banks size bank event.now }
+    requires small_block { size ≤ 64 }
+    requires some_factor { 0 < factor }
+    requires small_factor { factor ≤ 4 }
+    ensures { IsTrue result ↔ FitsEvent banks size factor bank event.now }
 {
     match event {
         Event::Issue {
@@ -97,7 +168,7 @@ fn fits_event(banks: u32, size: u32, bank: u32, event: &Event) -> bool
             size: len,
             address,
             bytes,
-        } => fits_issue(banks, size, bank, *op, *tag, *len, *address, bytes),
+        } => fits_issue(banks, size, factor, bank, *op, *tag, *len, *address, bytes),
         Event::Reply {
             tag,
             size: len,
@@ -116,22 +187,29 @@ fn fits_event(banks: u32, size: u32, bank: u32, event: &Event) -> bool
             register,
         } => is_miss(*port, *tag, *register),
         Event::Fill1 { block, bytes } => {
-            fits_block(banks, bank, *block) && is_data(size as usize, bytes)
+            fits_block(banks, factor, bank, *block) && is_data(size as usize, bytes)
         }
         Event::Evict1 { block, mask, bytes } => {
-            fits_evict(banks, size, bank, *block, *mask, bytes)
+            fits_evict(banks, size, factor, bank, *block, *mask, bytes)
         }
-        Event::SecondHit { block } => fits_block(banks, bank, *block),
+        Event::SecondHit { block } => fits_block(banks, factor, bank, *block),
         Event::SecondPrimary { block, register } => {
-            fits_second_primary(banks, bank, *block, *register)
+            fits_second_miss(banks, factor, bank, *block, *register)
         }
-        Event::SecondStall { block } => fits_block(banks, bank, *block),
+        Event::SecondStall { block } => fits_block(banks, factor, bank, *block),
         Event::Fill2 { block, bytes } => {
-            fits_block(banks, bank, *block) && is_data(size as usize, bytes)
+            fits_second(banks, factor, bank, *block)
+                && is_wide_data((factor * size) as usize, bytes)
         }
-        Event::Evict2 { block, mask, bytes } => {
-            fits_evict(banks, size, bank, *block, *mask, bytes)
+        Event::Evict2 {
+            block,
+            masks,
+            bytes,
+        } => fits_wide_evict(banks, size, factor, bank, *block, masks, bytes),
+        Event::SecondMerge { block, register } => {
+            fits_second_miss(banks, factor, bank, *block, *register)
         }
+        Event::Fence => true,
     }
 }
 
@@ -149,12 +227,13 @@ fn is_miss(port: u8, tag: u8, register: u16) -> bool
     true
 }
 
-fn fits_second_primary(banks: u32, bank: u32, block: u32, register: u16) -> bool
-    requires { 0 < banks }
-    ensures { IsTrue result ↔ (FitsBlock banks bank block × (register < 0x1_0000)) }
+fn fits_second_miss(banks: u32, factor: u32, bank: u32, block: u32, register: u16) -> bool
+    requires some_bank { 0 < banks }
+    requires some_factor { 0 < factor }
+    ensures { IsTrue result ↔ (FitsBlock banks factor bank block × (register < 0x1_0000)) }
 {
     let _ = register;
-    fits_block(banks, bank, block)
+    fits_block(banks, factor, bank, block)
 }
 
 fn fits_log(ports: u32, bank: u32, log: u32, event: &Event) -> bool
@@ -163,22 +242,31 @@ fn fits_log(ports: u32, bank: u32, log: u32, event: &Event) -> bool
     ensures { IsTrue result ↔ FitsLog ports bank log event.now }
 {
     match event {
-        Event::Issue { .. } | Event::Reply { .. } => log < ports,
+        Event::Issue { .. } | Event::Reply { .. } | Event::Fence => log < ports,
         _ => log == ports + bank,
     }
 }
 
-/// Whether a trace of these ports, banks and block size may have the record.
-pub fn fits(ports: u32, banks: u32, block: u32, item: &Record) -> bool
+fn fits_bank(banks: u32, bank: u8, number: u32, event: &Event) -> bool
+    ensures { IsTrue result ↔ FitsBank banks bank number event.now }
+{
+    match event {
+        Event::Fence => bank == NO_BANK && number == 0,
+        _ => u32::from(bank) < banks,
+    }
+}
+
+/// Whether a trace of these ports, banks, block size and factor may have the record.
+pub fn fits(ports: u32, banks: u32, block: u32, factor: u32, item: &Record) -> bool
     requires ports { ports ≤ 16 }
     requires some_bank { 0 < banks }
     requires banks { banks ≤ 16 }
     requires block_size { is_block_size block ≡ true }
-    ensures { IsTrue result ↔ FitsRecord ports banks block item.now }
+    requires factor { is_factor factor ≡ true }
+    ensures { IsTrue result ↔ FitsRecord ports banks block factor item.now }
 {
-    let _number = item.number;
     let bank = u32::from(item.bank);
-    bank < banks
+    fits_bank(banks, item.bank, item.number, &item.event)
         && fits_log(ports, bank, u32::from(item.log), &item.event)
-        && fits_event(banks, block, bank, &item.event)
+        && fits_event(banks, block, factor, bank, &item.event)
 }

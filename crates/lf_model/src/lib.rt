@@ -17,7 +17,7 @@ mod shape;
 #[cfg(test)]
 mod tests;
 
-pub use event::{Block, Event, Logs, Memory, Op, Record};
+pub use event::{Block, Event, Logs, Masks, Memory, NO_BANK, Op, Record, WideBlock};
 pub use fitting::fits;
 pub use laws::{
     collected_logs_are_free, copies_are_flat, gaps_admit_none, interleavings_are_numbered,

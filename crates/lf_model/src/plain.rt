@@ -38,7 +38,7 @@ pub fn recheck(
 ) -> Result<Recheck, NoMemory>
     requires in_range { IsShape shape.now }
     requires few { length logs.now.items ≤ 32 }
-    requires short { All (λ log. length log.items ≤ 2 ^ 20) logs.now.items }
+    requires short { All (λ log. length log.items ≤ 2 ^ 24) logs.now.items }
     requires named { NameTheirLogs (lists_of logs.now) }
     requires fits { All (λ log. All (Fits shape.now) log.items) logs.now.items }
     ensures { IfOk result (λ answer. IsRecheck shape.now (flat_memory memory.now.items) (lists_of logs.now) order.now answer) }

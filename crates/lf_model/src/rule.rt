@@ -55,4 +55,6 @@ pub enum Rule {
     NotFetched,
     /// Level one has neither a line nor a register on the block.
     Inclusion,
+    /// No tag of the port is busy.
+    FenceBusy,
 }

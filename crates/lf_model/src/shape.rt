@@ -32,6 +32,8 @@ pub struct Shape {
     pub block: u32,
     /// Tags per port, 1 to 64.
     pub tags: u32,
+    /// First-level blocks in a block of level two: 1, 2 or 4.
+    pub factor: u32,
     pub level1: Level,
     pub level2: Level,
 }

@@ -63,9 +63,9 @@ fn records_that_fit(rt: HostRuntime) {
             bytes: Block::new(),
         },
     };
-    assert!(rt; fits(1, 1, 8, &item));
-    assert!(rt; !fits(1, 2, 8, &item));
-    assert!(rt; fits(1, 2, 16, &item));
+    assert!(rt; fits(1, 1, 8, 1, &item));
+    assert!(rt; !fits(1, 2, 8, 1, &item));
+    assert!(rt; fits(1, 2, 16, 1, &item));
 }
 
 /// One port, one bank, blocks of eight bytes, one explicit register per level.
@@ -77,6 +77,7 @@ fn c1() -> Shape
         banks: 1,
         block: 8,
         tags: 4,
+        factor: 1,
         level1: Level {
             sets: 1,
             ways: 1,
@@ -181,7 +182,7 @@ fn log_is_sound(shape: &Shape, log: usize, records: &[Record]) -> bool
 fn are_sound(shape: &Shape, logs: &Logs) -> bool
     requires { IsShape shape.now }
     ensures few { IsTrue result → length logs.now.items ≤ 32 }
-    ensures short { IsTrue result → All (λ log. length log.items ≤ 2 ^ 20) logs.now.items }
+    ensures short { IsTrue result → All (λ log. length log.items ≤ 2 ^ 24) logs.now.items }
     ensures named { IsTrue result → NameTheirLogs (lists_of logs.now) }
     ensures fits { IsTrue result → All (λ log. All (Fits shape.now) log.items) logs.now.items }
 {

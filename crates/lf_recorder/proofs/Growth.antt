@@ -8,6 +8,7 @@ use Rattle.std.proofs.lemmas.Option.{slice_get_within}
 use Rattle.std.proofs.lemmas.List.Elements.{filter-append, All-filter, All-nil, All-cons}
 use Rattle.std.proofs.lemmas.List.Filters.{length-filter_both}
 use Rattle.lf_model.specs.declared.event.Record.{Record}
+use Rattle.lf_model.specs.Address.{no_bank}
 use Rattle.lf_model.specs.Run.{of_log, of_bank}
 use Rattle.lf_recorder.specs.Rule.{CountsUp}
 use Rattle.lf_recorder.proofs.Places.{slice_get_snoc, filter_no_longer, filter_out}
@@ -56,13 +57,13 @@ size_bound (suc n) most all short none =
         (λ ne. let a = filter_no_longer (λ (r : Record). r.log == log) (λ (r : Record). not (r.log == n)) all in let b = none log (omega arith) in omega arith)
 
 -- a record more keeps the numbers, where it carries its bank's next one
-pub keeps_more : (all : List Record) (r : Record) → CountsUp all → r.number ≡ length (of_bank r.bank all) → CountsUp (all ++ r ∷ [])
-keeps_more all r keeps next bank k x at = dite (ℕ_discrete r.bank bank)
+pub keeps_more : (all : List Record) (r : Record) → CountsUp all → (r.bank < no_bank → r.number ≡ length (of_bank r.bank all)) → CountsUp (all ++ r ∷ [])
+keeps_more all r keeps next bank k x lt at = dite (ℕ_discrete r.bank bank)
     (λ e. ⊎_elim
-    (λ (was : slice_get (of_bank bank all) k ≡ Some x). keeps bank k x was)
-    (λ (new : (k ≡ length (of_bank bank all)) × (r ≡ x)). ap (λ (y : Record). y.number) (sym new.1) ∙ (next ∙ (ap (λ b. length (of_bank b all)) e ∙ sym new.0)))
+    (λ (was : slice_get (of_bank bank all) k ≡ Some x). keeps bank k x lt was)
+    (λ (new : (k ≡ length (of_bank bank all)) × (r ≡ x)). ap (λ (y : Record). y.number) (sym new.1) ∙ (next (subst (λ b. b < no_bank) (sym e) lt) ∙ (ap (λ b. length (of_bank b all)) e ∙ sym new.0)))
     (slice_get_snoc (of_bank bank all) r x k (subst (λ l. slice_get l k ≡ Some x) (of_bank_own all r bank e) at)))
-    (λ ne. keeps bank k x (subst (λ l. slice_get l k ≡ Some x) (of_bank_other all r bank ne) at))
+    (λ ne. keeps bank k x lt (subst (λ l. slice_get l k ≡ Some x) (of_bank_other all r bank ne) at))
 
 -- each record of a bank carries a number below n, where that bank's list says so
 pub all_below : (all : List Record) (bank n : ℕ) → ((k : ℕ) (r : Record) → slice_get (of_bank bank all) k ≡ Some r → r.number < n) → All (λ (r : Record). r.bank ≡ bank → r.number < n) all
@@ -78,7 +79,7 @@ all_below (r ∷ rs) bank n below = dite (ℕ_discrete r.bank bank)
     (all_below rs bank n (λ k x at. below k x (ap (λ (l : List Record). slice_get l k) is ∙ at))))
 
 -- so do those of one log
-pub log_below : (all : List Record) (log bank : ℕ) → CountsUp all → All (λ (r : Record). r.bank ≡ bank → r.number < length (of_bank bank all)) (of_log log all)
-log_below all log bank keeps =
+pub log_below : (all : List Record) (log bank : ℕ) → bank < no_bank → CountsUp all → All (λ (r : Record). r.bank ≡ bank → r.number < length (of_bank bank all)) (of_log log all)
+log_below all log bank lt keeps =
     All-filter (λ (r : Record). r.log == log) (λ (r : Record). r.bank ≡ bank → r.number < length (of_bank bank all)) all
-    (all_below all bank (length (of_bank bank all)) (λ k r at. let n = keeps bank k r at in let within = slice_get_within (of_bank bank all) k r at in omega arith))
+    (all_below all bank (length (of_bank bank all)) (λ k r at. let n = keeps bank k r lt at in let within = slice_get_within (of_bank bank all) k r at in omega arith))

@@ -15,4 +15,4 @@ counts_from start (r ∷ rs) at =
     (counts_from (start + 1) rs (λ k x e. at (suc k) x e ∙ omega arith))
 
 pub keeps_numbers : (all : List Record) → CountsUp all → KeepsNumbers all
-keeps_numbers all counts bank = counts_from 0 (of_bank bank all) (λ k r e. counts bank k r e ∙ omega arith)
+keeps_numbers all counts bank lt = counts_from 0 (of_bank bank all) (λ k r e. counts bank k r lt e ∙ omega arith)

@@ -12,8 +12,9 @@ use Rattle.lf_model.specs.declared.event.Record.{Record}
 use Rattle.lf_model.specs.declared.event.Event.{Event}
 use Rattle.lf_recorder.specs.declared.rule.View.{View}
 use Rattle.lf_recorder.specs.declared.rule.View.TheVariants.{Collector, Log, Spent}
+use Rattle.lf_model.specs.Address.{no_bank}
 use Rattle.lf_model.specs.Run.{of_log, of_bank}
-use Rattle.lf_recorder.specs.Rule.{DeskState, Fits, IsListOf, Kept, IsAbove, Draws, new_collector}
+use Rattle.lf_recorder.specs.Rule.{DeskState, Fits, IsListOf, Kept, IsAbove, Draws, fence_of, Passes, new_collector}
 use Rattle.lf_recorder.proofs.Places.{slice_get_snoc, at_snoc_place, at_within}
 use Rattle.lf_recorder.proofs.Growth.{of_log_own, of_log_other, of_bank_own, of_bank_other, size_bound, log_below, keeps_more}
 
@@ -21,14 +22,9 @@ use Rattle.lf_recorder.proofs.Growth.{of_log_own, of_log_other, of_bank_own, of_
 spent_apart : (log : ℕ) (records : List Record) → Spent ≡ Log log records → ⊥
 spent_apart log records e = cc
 
-module _ (banks slots seat log : ℕ) (records : List Record) (bank : ℕ) (event : Event) (s : DeskState) (all : List Record) (was : IsListOf banks s all)
-    (at : get_elem? s.views seat ≡ some (Log log records)) (room : length records < 2 ^ 20) where
-  abbrev number : ℕ
-  number = slice_index s.words bank
-
-  abbrev new : Record
-  new = record { log = log; bank = bank; number = number; event = event }
-
+-- a log's seat takes one more record
+module _ (banks seat log : ℕ) (records : List Record) (new : Record) (own : new.log ≡ log) (s : DeskState) (all : List Record) (was : IsListOf banks s all)
+    (at : get_elem? s.views seat ≡ some (Log log records)) (room : length records < 2 ^ 24) where
   abbrev after : View
   after = Log log (records ++ new ∷ [])
 
@@ -47,70 +43,114 @@ module _ (banks slots seat log : ℕ) (records : List Record) (bank : ℕ) (even
         let l : ℕ = y.0 in
         let differ : log ≢ l = λ same. spent_apart log records (some-injective _ _ (sym x.1 ∙ subst (λ k. get_elem? s.views (k + 1) ≡ some (Log log records)) same there)) in
         let place = mine.0 in
-        (of_log_other all new l differ ∙ x.0, set_else s.views seat (l + 1) after (λ e. differ (omega arith)) ∙ x.1),
+        (of_log_other all new l (λ e. differ (sym own ∙ e)) ∙ x.0, set_else s.views seat (l + 1) after (λ e. differ (omega arith)) ∙ x.1),
   )
-  other_fits j (Log m rs) apart fits = let place = mine.0 in let other = fits.0 in (fits.0, of_log_other all new m (λ e. apart (omega arith)) ∙ fits.1)
+  other_fits j (Log m rs) apart fits = let place = mine.0 in let other = fits.0 in (fits.0, of_log_other all new m (λ e. apart (omega (arith, own))) ∙ fits.1)
   other_fits j Spent apart fits = tt
 
   seats_after : (j : ℕ) (u : View) → get_elem? (set s.views seat after) j ≡ some u → Fits (all ++ new ∷ []) (set s.views seat after) j u
   seats_after j u e = ⊎_elim
-      (λ (x : (j ≡ seat) × (after ≡ u)). subst (λ v. Fits (all ++ new ∷ []) (set s.views seat after) j v) x.1 (x.0 ∙ mine.0, of_log_own all new log refl ∙ ap (λ l. l ++ new ∷ []) mine.1))
+      (λ (x : (j ≡ seat) × (after ≡ u)). subst (λ v. Fits (all ++ new ∷ []) (set s.views seat after) j v) x.1 (x.0 ∙ mine.0, of_log_own all new log own ∙ ap (λ l. l ++ new ∷ []) mine.1))
       (λ (x : (j ≢ seat) × (get_elem? s.views j ≡ some u)). other_fits j u x.0 (was.seats j u x.1))
       (at_set s.views seat j after u e)
 
-  short_after : (l : ℕ) → length (of_log l (all ++ new ∷ [])) ≤ 2 ^ 20
+  short_after : (l : ℕ) → length (of_log l (all ++ new ∷ [])) ≤ 2 ^ 24
   short_after l = dite (ℕ_discrete log l)
-      (λ e. rw (of_log_own all new l e) (let n : length (of_log l all) ≡ length records = ap (λ k. length (of_log k all)) (sym e) ∙ ap length mine.1 in omega (arith, length-append (of_log l all) (new ∷ []))))
-      (λ ne. rw (of_log_other all new l ne) (was.short l))
+      (λ e. rw (of_log_own all new l (own ∙ e)) (let n : length (of_log l all) ≡ length records = ap (λ k. length (of_log k all)) (sym e) ∙ ap length mine.1 in omega (arith, length-append (of_log l all) (new ∷ []))))
+      (λ ne. rw (of_log_other all new l (λ e. ne (sym own ∙ e))) (was.short l))
 
   unmade_after : (l : ℕ) → length (set s.views seat after) ≤ l + 1 → of_log l (all ++ new ∷ []) ≡ []
   unmade_after l h = let within = at_within s.views seat (Log log records) at in let place = mine.0 in let same = length-set s.views seat after in
-      of_log_other all new l (λ e. absurd (omega arith)) ∙ was.unmade l (omega arith)
+      of_log_other all new l (λ e. absurd (omega (arith, own))) ∙ was.unmade l (omega arith)
 
-  -- the words have no more than all logs have room for
-  fits_word : number < 2 ^ 25
-  fits_word =
-      let total : length (all ++ new ∷ []) ≤ 32 * 2 ^ 20 = size_bound 32 (2 ^ 20) (all ++ new ∷ []) short_after
+  -- a bank has no more records than all logs have room for
+  pub has_room : (bank : ℕ) → length (of_bank bank all) < 2 ^ 29
+  has_room bank =
+      let total : length (all ++ new ∷ []) ≤ 32 * 2 ^ 24 = size_bound 32 (2 ^ 24) (all ++ new ∷ []) short_after
       (λ l h. ap length (unmade_after l (let few = was.few in let same = length-set s.views seat after in omega arith))) in
       let split = length-filter_both (λ (r : Record). r.bank == bank) (λ (r : Record). not (r.bank == bank)) (λ _. refl) all in
-      let count = was.counts bank in
       omega (arith, length-append all (new ∷ []))
 
-  counts_after : bank < banks → (b : ℕ) → length (of_bank b (all ++ new ∷ [])) ≡ slice_index (set s.words bank ((number + 1) % 2 ^ 64)) b
-  counts_after there b = dite (ℕ_discrete bank b)
-      (λ e.
-      let next : ℕ = (number + 1) % 2 ^ 64 in
-      let small : next ≡ number + 1 = let few = fits_word in omega arith in
-      let put : slice_index (set s.words bank next) bank ≡ next = get_or-set_same s.words bank next 0 (let wide = was.words in omega arith) in
-      let put' : slice_index (set s.words bank next) b ≡ number + 1 = subst (λ k. slice_index (set s.words bank next) k ≡ next) e put ∙ small in
-      let count : length (of_bank b all) ≡ number = ap (λ k. length (of_bank k all)) (sym e) ∙ was.counts bank in
-      rw (of_bank_own all new b e) (omega (arith, length-append (of_bank b all) (new ∷ []))))
-      (λ ne. rw (of_bank_other all new b ne) (was.counts b ∙ sym (get_or-set_other s.words bank b _ 0 (λ e. ne (sym e)))))
-
-  drawn : bank < banks → IsListOf banks (stepped s bank ((number + 1) % 2 ^ 64) seat [] after keeps) (all ++ new ∷ [])
-  drawn there' = record {
-    words = length-set s.words bank _ ∙ was.words;
-    counts = counts_after there';
-    numbers = keeps_more all new was.numbers (sym (was.counts bank));
+  -- the list has the record, where the words count it
+  pub grows : (words : List ℕ) → length words ≡ banks → ((b : ℕ) → b < no_bank → length (of_bank b (all ++ new ∷ [])) ≡ slice_index words b)
+      → (new.bank < no_bank → new.number ≡ length (of_bank new.bank all)) → IsListOf banks (record { words = words; homes = s.homes; views = set s.views seat after }) (all ++ new ∷ [])
+  grows words wide counts next = record {
+    words = wide;
+    counts = counts;
+    numbers = keeps_more all new was.numbers next;
     short = short_after;
     few = let few = was.few in let same = length-set s.views seat after in omega arith;
     unmade = unmade_after;
     seats = seats_after;
   }
 
+module _ (banks seat log : ℕ) (records : List Record) (bank : ℕ) (event : Event) (s : DeskState) (all : List Record) (was : IsListOf banks s all)
+    (at : get_elem? s.views seat ≡ some (Log log records)) (room : length records < 2 ^ 24) (is_bank : bank < no_bank) where
+  abbrev number : ℕ
+  number = slice_index s.words bank
+
+  abbrev new : Record
+  new = record { log = log; bank = bank; number = number; event = event }
+
+  fits_word : number < 2 ^ 29
+  fits_word = let count = was.counts bank is_bank in omega (arith, has_room banks seat log records new refl s all was at room bank)
+
+  counts_after : bank < banks → (b : ℕ) → b < no_bank → length (of_bank b (all ++ new ∷ [])) ≡ slice_index (set s.words bank ((number + 1) % 2 ^ 64)) b
+  counts_after there b lt = dite (ℕ_discrete bank b)
+      (λ e.
+      let next : ℕ = (number + 1) % 2 ^ 64 in
+      let small : next ≡ number + 1 = let few = fits_word in omega arith in
+      let put : slice_index (set s.words bank next) bank ≡ next = get_or-set_same s.words bank next 0 (let wide = was.words in omega arith) in
+      let put' : slice_index (set s.words bank next) b ≡ number + 1 = subst (λ k. slice_index (set s.words bank next) k ≡ next) e put ∙ small in
+      let count : length (of_bank b all) ≡ number = ap (λ k. length (of_bank k all)) (sym e) ∙ was.counts bank is_bank in
+      rw (of_bank_own all new b e) (omega (arith, length-append (of_bank b all) (new ∷ []))))
+      (λ ne. rw (of_bank_other all new b ne) (was.counts b lt ∙ sym (get_or-set_other s.words bank b _ 0 (λ e. ne (sym e)))))
+
+  drawn : bank < banks → IsListOf banks (stepped s bank ((number + 1) % 2 ^ 64) seat [] (Log log (records ++ new ∷ [])) keeps) (all ++ new ∷ [])
+  drawn there =
+      grows banks seat log records new refl s all was at room (set s.words bank ((number + 1) % 2 ^ 64)) (length-set s.words bank _ ∙ was.words) (counts_after there)
+      (λ lt. sym (was.counts bank is_bank))
+
   above : IsAbove number bank records
-  above = subst (λ (l : List Record). IsAbove number bank l) mine.1 (subst (λ n. IsAbove n bank (of_log log all)) (was.counts bank) (log_below all log bank was.numbers))
+  above =
+      subst (λ (l : List Record). IsAbove number bank l) (was.seats seat (Log log records) at).1
+      (subst (λ n. IsAbove n bank (of_log log all)) (was.counts bank is_bank) (log_below all log bank is_bank was.numbers))
 
 -- a draw keeps the rule
-pub draws : (banks slots seat log : ℕ) (records : List Record) (bank : ℕ) (event : Event) → bank < banks → length records < 2 ^ 20
+pub draws : (banks slots seat log : ℕ) (records : List Record) (bank : ℕ) (event : Event) → bank < banks → bank < no_bank → length records < 2 ^ 24
     → Allows (Kept banks) slots seat (Log log records, []) bank (λ n. (n + 1) % 2 ^ 64) (Draws event (step slots bank 1 0 none) (Log log records, []))
-draws banks slots seat log records bank event there room s kept homes at small =
-    let all = kept.0 in let was = kept.1 in (
-      after banks slots seat log records bank event s all was at room,
+draws banks slots seat log records bank event there is_bank room s kept homes at small =
+    let all = kept.0 in let was = kept.1 in
+    let new : Record = record { log = log; bank = bank; number = slice_index s.words bank; event = event } in (
+      Log log (records ++ new ∷ []),
       keeps,
       tt,
-      (all ++ new banks slots seat log records bank event s all was at room ∷ [], drawn banks slots seat log records bank event s all was at room there),
-      (fits_word banks slots seat log records bank event s all was at room, above banks slots seat log records bank event s all was at room, refl),
+      (all ++ new ∷ [], drawn banks seat log records bank event s all was at room is_bank there),
+      (fits_word banks seat log records bank event s all was at room is_bank, above banks seat log records bank event s all was at room is_bank, refl),
+    )
+
+-- a fence keeps the rule: the word of bank 0 is what it was
+pub passes : (banks slots seat log : ℕ) (records : List Record) → 0 < banks → length records < 2 ^ 24
+    → Allows (Kept banks) slots seat (Log log records, []) 0 (λ n. (n + 0) % 2 ^ 64) (Passes (step slots 0 0 0 none) (Log log records, []))
+passes banks slots seat log records there room s kept homes at small =
+    let all = kept.0 in let was = kept.1 in
+    let new = fence_of log in
+    let found = slice_index s.words 0 in
+    let same : (found + 0) % 2 ^ 64 ≡ found = omega arith in
+    let words = set s.words 0 ((found + 0) % 2 ^ 64) in
+    let stay : (b : ℕ) → slice_index words b ≡ slice_index s.words b = λ b. dite (ℕ_discrete 0 b)
+    (λ e. subst (λ k. slice_index words k ≡ slice_index s.words k) e (get_or-set_same s.words 0 _ 0 (let wide = was.words in omega arith) ∙ same))
+    (λ ne. get_or-set_other s.words 0 b _ 0 (λ e. ne (sym e))) in (
+      Log log (records ++ new ∷ []),
+      keeps,
+      tt,
+      (
+        all ++ new ∷ [],
+        grows banks seat log records new refl s all was at room words (length-set s.words 0 _ ∙ was.words)
+            (λ b lt. rw (of_bank_other all new b (λ e. absurd (omega (arith, e, lt)))) (was.counts b lt ∙ sym (stay b)))
+            (λ lt. absurd (omega (arith, lt))),
+      ),
+      refl,
     )
 
 -- the desk gives the next log a seat
@@ -237,8 +277,8 @@ starts banks words wide zeros = (
   [],
   record {
     words = wide;
-    counts = λ bank. sym (zeros bank);
-    numbers = λ bank k r e. absurd (none_at k r e);
+    counts = λ bank lt. sym (zeros bank);
+    numbers = λ bank k r lt e. absurd (none_at k r e);
     short = λ log. omega arith;
     few = omega arith;
     unmade = λ log h. refl;

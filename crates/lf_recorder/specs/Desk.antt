@@ -1,9 +1,10 @@
 -- What contracts see of a desk and of a seat, and what they say.
-use Rattle.std.specs.Prelude.{◌≡◌, ◌==◌, ◌+◌, ◌^◌, ℕ, Bool, true, false, cond, not, ◌||◌, ◌&&◌, nat_lt, List, [], ◌∷◌, ◌++◌, length, slice_get, slice_set, ◌≢◌, Any, All, ◌<◌, Option, None, Some}
+use Rattle.std.specs.Prelude.{◌≡◌, ◌==◌, ◌+◌, ◌^◌, ℕ, Bool, true, false, cond, not, ◌||◌, ◌&&◌, nat_lt, nat_le, List, [], ◌∷◌, ◌++◌, length, slice_get, slice_set, ◌≢◌, Any, All, ◌<◌, Option, None, Some}
 use Rattle.atomic_table.specs.Seated.{TableId}
+use Rattle.lf_model.specs.Address.{no_bank}
 use Rattle.lf_model.specs.declared.event.Record.{Record}
 use Rattle.lf_model.specs.declared.event.Event.{Event}
-use Rattle.lf_model.specs.declared.event.Event.TheVariants.{Issue, Reply}
+use Rattle.lf_model.specs.declared.event.Event.TheVariants.{Issue, Reply, Fence, SecondMerge}
 use Rattle.lf_recorder.specs.declared.fault.RecordFault.{RecordFault}
 use Rattle.lf_recorder.specs.declared.fault.RecordFault.TheVariants.{LogKind, BankRange, LogFull}
 
@@ -15,6 +16,7 @@ pub record SeatView : Type 0 where
 
 pub record DeskView : Type 0 where
   pub desk : TableId
+  pub version : ℕ
   pub ports : ℕ
   pub banks : ℕ
   pub is_open : Bool
@@ -23,7 +25,18 @@ pub record DeskView : Type 0 where
 abbrev pub is_port_event : Event → Bool
 is_port_event (Issue op tag size address bytes) = true
 is_port_event (Reply tag size bytes) = true
+is_port_event Fence = true
 is_port_event _ = false
+
+-- the first version of the traces that have this kind
+abbrev pub first_version : Event → ℕ
+first_version Fence = 2
+first_version (SecondMerge block register) = 3
+first_version _ = 1
+
+-- the most records of one log
+abbrev pub most_records : ℕ → ℕ
+most_records version = cond (version == 1) (2 ^ 20) (2 ^ 24)
 
 -- the seat after a record
 abbrev pub with_record : SeatView → ℕ → ℕ → Event → SeatView
@@ -35,15 +48,16 @@ is_port_log d v = nat_lt v.log d.ports
 
 -- whether the seat's log holds this kind
 abbrev pub is_own_kind : DeskView → SeatView → Event → Bool
-is_own_kind d v event = cond (is_port_log d v) (is_port_event event) (not (is_port_event event))
+is_own_kind d v event = nat_le (first_version event) d.version && cond (is_port_log d v) (is_port_event event) (not (is_port_event event))
 
--- whether the seat's log may name this bank
-abbrev pub is_own_bank : DeskView → SeatView → ℕ → Bool
-is_own_bank d v bank = nat_lt bank d.banks && (is_port_log d v || (v.log == d.ports + bank))
+-- whether the seat's log may name this bank, or none in the record of a fence
+abbrev pub is_own_bank : DeskView → SeatView → ℕ → Event → Bool
+is_own_bank d v bank Fence = bank == no_bank
+is_own_bank d v bank event = nat_lt bank d.banks && (is_port_log d v || (v.log == d.ports + bank))
 
 -- the first cause, other than memory, for which an event is refused
 abbrev pub refusal_of : DeskView → SeatView → ℕ → Event → Option RecordFault
-refusal_of d v bank event = cond (is_own_kind d v event) (cond (is_own_bank d v bank) (cond (nat_lt (length v.records) (2 ^ 20)) None (Some LogFull)) (Some BankRange)) (Some LogKind)
+refusal_of d v bank event = cond (is_own_kind d v event) (cond (is_own_bank d v bank event) (cond (nat_lt (length v.records) (most_records d.version)) None (Some LogFull)) (Some BankRange)) (Some LogKind)
 
 -- the seat of a log with no record
 abbrev pub new_seat : TableId → ℕ → SeatView
@@ -54,7 +68,7 @@ logs_of d = d.ports + d.banks
 
 -- the desk, once it is open
 abbrev pub opened : DeskView → DeskView
-opened d = record { desk = d.desk; ports = d.ports; banks = d.banks; is_open = true }
+opened d = record { desk = d.desk; version = d.version; ports = d.ports; banks = d.banks; is_open = true }
 
 -- one seat per log of the desk, in log order, each with no record
 abbrev pub AreNewSeats : TableId → List SeatView → Type 0

@@ -2,21 +2,20 @@
 ghost use Rattle.std.specs.Prelude.{◌≡◌, ◌+◌, ◌^◌, ◌<◌, ◌≤◌, ℕ, [], ◌∷◌, ◌++◌, length, None, IfOk, IfErr, IfSome, IfNone, OnOk, OnErr, IsOkUnless, ◌↔◌, true, false, ◌≢◌, All, map, replicate};
 ghost use Rattle.std.specs.Bool.{OnTrue, OnFalse};
 ghost use Rattle.lf_recorder.specs.declared.rule.View.TheVariants.{Collector, Log};
-ghost use Rattle.lf_recorder.specs.Rule.{IsAbove};
-ghost use Rattle.lf_recorder.specs.Desk.{with_record, refusal_of, is_port_event, new_seat as new_seat_of, logs_of, opened, entry_of, placed, AreNewSeats, HasSeat, HoldSeats, IsLowestWithout};
+ghost use Rattle.lf_recorder.specs.Rule.{IsAbove, fence_of};
+ghost use Rattle.lf_recorder.specs.Desk.{with_record, refusal_of, is_port_event, first_version, most_records, is_own_bank, new_seat as new_seat_of, logs_of, opened, entry_of, placed, AreNewSeats, HasSeat, HoldSeats, IsLowestWithout};
 ghost use Rattle.lf_recorder.specs.Closing.{HandsBack};
+ghost use Rattle.lf_model.specs.Address.{no_bank};
+ghost use Rattle.lf_model.specs.declared.event.Event.TheVariants as Event;
 ghost use Rattle.lf_model.specs.CommonOrder.{HasCommonOrder};
 
 use crate::desk_seat::DeskSeat;
 use crate::fault::{CloseFault, OpenFault, RecordFault};
-use crate::rule::{DeskShared, DeskTable, Draw, NextLog, Noted, Takes, View};
+use crate::rule::{DeskShared, DeskTable, Draw, NextLog, Noted, Pass, Takes, View};
 use atomic_table::Seat;
-use lf_model::{Event, Logs, NoMemory, Record};
+use lf_model::{Event, Logs, NO_BANK, NoMemory, Record};
 use std::alloc::{AllocError, Global};
 use std::marker::{Brand, Model};
-
-/// The most records of one log.
-const MOST_RECORDS: usize = 1 << 20;
 
 /// The seat of one log, with the log's records.
 #[derive(Drop)]
@@ -51,6 +50,7 @@ impl LogSeat {
 pub struct Desk {
     table: DeskTable,
     collector: Option<DeskSeat>,
+    version: u32,
     ports: u8,
     banks: u8,
     is_open: bool,
@@ -64,7 +64,7 @@ impl Model for Desk {
 
     ghost Value = { DeskView };
 
-    ghost view = { λ d. record { desk = d.table.shared.table_id; ports = d.ports; banks = d.banks; is_open = d.is_open } };
+    ghost view = { λ d. record { desk = d.table.shared.table_id; version = d.version; ports = d.ports; banks = d.banks; is_open = d.is_open } };
 
     ghost invariant = { λ d. (d.table.shared.table_id.words ≡ d.banks) × (d.table.shared.table_id.slots ≡ 0) × (d.table.shared.key ≡ d.banks) × IsSomeAnd d.collector (λ k. (k.seat.table_id ≡ d.table.shared.table_id) × (k.seat.me ≡ (Collector (cond d.is_open (d.ports + d.banks) 0) [], []))) × (d.ports ≤ 16) × (d.banks ≤ 16) × (0 < d.banks) };
 }
@@ -80,11 +80,12 @@ fn draw<N: Noted>(
 ) -> u64
     requires table { (seat.old.table_id ≡ shared.now.table_id) × (bank < shared.now.table_id.words) × (shared.now.key ≡ shared.now.table_id.words) }
     requires seat { seat.old.me ≡ (Log log records.now.items, []) }
-    requires room { length records.now.items < 2 ^ 20 }
+    requires bank { bank < no_bank }
+    requires room { length records.now.items < 2 ^ 24 }
     requires event { event.now ≡ N.event }
     ensures table { seat.new.table_id ≡ seat.old.table_id }
     ensures seat { seat.new.me ≡ (Log log (records.now.items ++ record { log = log; bank = bank; number = result; event = event.now } ∷ []), []) }
-    ensures fits { result < 2 ^ 25 }
+    ensures fits { result < 2 ^ 29 }
     ensures above { IsAbove result bank records.now.items }
 {
     let _ = records;
@@ -93,13 +94,44 @@ fn draw<N: Noted>(
     shared.fetch_add::<Draw<N>>(seat, usize::from(bank), 1)
 }
 
+// Gives the seat the record of a fence, for which no number is drawn.
+fn pass(shared: &DeskShared, seat: &mut Seat<(), View>, log: u8, records: &Vec<Record>)
+    requires table { (seat.old.table_id ≡ shared.now.table_id) × (0 < shared.now.table_id.words) × (shared.now.key ≡ shared.now.table_id.words) }
+    requires seat { seat.old.me ≡ (Log log records.now.items, []) }
+    requires room { length records.now.items < 2 ^ 24 }
+    ensures table { seat.new.table_id ≡ seat.old.table_id }
+    ensures seat { seat.new.me ≡ (Log log (records.now.items ++ fence_of log ∷ []), []) }
+{
+    let _ = records;
+    let _ = log;
+    shared.fetch_add::<Pass>(seat, 0, 0);
+}
+
 fn is_port(event: &Event) -> bool
     ensures { result ≡ is_port_event event.now }
 {
     match event {
-        Event::Issue { .. } | Event::Reply { .. } => true,
+        Event::Issue { .. } | Event::Reply { .. } | Event::Fence => true,
         _ => false,
     }
+}
+
+// The first version of the traces that have this kind.
+fn first_version(event: &Event) -> u32
+    ensures { result ≡ first_version event.now }
+{
+    match event {
+        Event::Fence => 2,
+        Event::SecondMerge { .. } => 3,
+        _ => 1,
+    }
+}
+
+// The most records of one log.
+fn most_records(version: u32) -> usize
+    ensures { result ≡ most_records version }
+{
+    if version == 1 { 1 << 20 } else { 1 << 24 }
 }
 
 // A seat for the next log.
@@ -194,11 +226,27 @@ fn gather(
 }
 
 impl Desk {
-    /// A desk whose seats are still to be given out.
+    /// A desk for traces of version 1, whose seats are still to be given out.
     pub fn new(alloc: Global, ports: u32, banks: u32) -> Result<Desk, NoMemory>
         requires ports { (0 < ports) × (ports ≤ 16) }
         requires banks { (0 < banks) × (banks ≤ 16) }
-        ensures { IfOk result (λ d. (d.ports ≡ ports) × (d.banks ≡ banks) × (d.is_open ≡ false)) }
+        ensures { IfOk result (λ d. (d.version ≡ 1) × (d.ports ≡ ports) × (d.banks ≡ banks) × (d.is_open ≡ false)) }
+    {
+        Desk::new_version(alloc, 1, ports, banks)
+    }
+
+    /// A desk for traces of this version. Version 2 brings fences and longer logs, version 3 the merges
+    /// of level two.
+    pub fn new_version(
+        alloc: Global,
+        version: u32,
+        ports: u32,
+        banks: u32,
+    ) -> Result<Desk, NoMemory>
+        requires version { (0 < version) × (version ≤ 3) }
+        requires ports { (0 < ports) × (ports ≤ 16) }
+        requires banks { (0 < banks) × (banks ≤ 16) }
+        ensures { IfOk result (λ d. (d.version ≡ version) × (d.ports ≡ ports) × (d.banks ≡ banks) × (d.is_open ≡ false)) }
     {
         let zeros = [0u64; 16];
         let words = &zeros[..banks as usize];
@@ -208,6 +256,7 @@ impl Desk {
         Ok(Desk {
             table,
             collector: Some(DeskSeat::new(seat)),
+            version,
             ports: ports as u8,
             banks: banks as u8,
             is_open: false,
@@ -244,28 +293,40 @@ impl Desk {
         }
     }
 
+    // Whether the seat's log may name this bank, or none in the record of a fence.
+    fn may_name(&self, seat: &LogSeat, bank: u8, event: &Event) -> bool
+        ensures { result ≡ is_own_bank self.now seat.now bank event.now }
+    {
+        match event {
+            Event::Fence => bank == NO_BANK,
+            _ => bank < self.banks && (seat.log < self.ports || seat.log == self.ports + bank),
+        }
+    }
+
     // The first cause, other than memory, for which an event is refused.
     fn refusal(&self, seat: &LogSeat, bank: u8, event: &Event) -> Option<RecordFault>
         ensures { result ≡ refusal_of self.now seat.now bank event.now }
     {
         let of_port = seat.log < self.ports;
-        if is_port(event) != of_port {
+        if first_version(event) > self.version || is_port(event) != of_port {
             return Some(RecordFault::LogKind);
         }
-        if bank >= self.banks || !of_port && seat.log != self.ports + bank {
+        if !self.may_name(seat, bank, event) {
             return Some(RecordFault::BankRange);
         }
-        if seat.records.len() >= MOST_RECORDS {
+        if seat.records.len() >= most_records(self.version) {
             return Some(RecordFault::LogFull);
         }
         None
     }
 
-    /// Draws the bank's next number and appends the record that carries it to the seat's log.
+    /// Draws the bank's next number and appends the record that carries it to the seat's log. For a
+    /// fence, which names `NO_BANK`, nothing is drawn, and the answer is 0.
     pub fn record(&self, seat: &mut LogSeat, bank: u8, event: Event) -> Result<u32, RecordFault>
         requires { seat.old.desk ≡ self.now.desk }
         ensures ok { IfOk result (λ number. seat.new ≡ with_record seat.old bank number event) }
-        ensures above { IfOk result (λ number. IsAbove number bank seat.old.records) }
+        ensures above { bank < no_bank → IfOk result (λ number. IsAbove number bank seat.old.records) }
+        ensures fence { event ≡ Event.Fence → IfOk result (λ number. number ≡ 0) }
         ensures refused { IfSome (refusal_of self.now seat.old bank event) (λ fault. result ≡ Err fault) }
         ensures recorded { IfNone (refusal_of self.now seat.old bank event) (IsOkUnless result RecordFault.NoMemory) }
         ensures err { OnErr result (seat.new ≡ seat.old) }
@@ -277,14 +338,20 @@ impl Desk {
         if seat.records.reserve(1).is_err() {
             return Err(RecordFault::NoMemory);
         }
-        let number = draw::<Brand>(
-            &self.table.shared,
-            &mut seat.seat,
-            seat.log,
-            &seat.records,
-            bank,
-            &event,
-        ) as u32;
+        let number = match event {
+            Event::Fence => {
+                pass(&self.table.shared, &mut seat.seat, seat.log, &seat.records);
+                0
+            }
+            _ => draw::<Brand>(
+                &self.table.shared,
+                &mut seat.seat,
+                seat.log,
+                &seat.records,
+                bank,
+                &event,
+            ) as u32,
+        };
         seat.records.push_reserved(Record {
             log: seat.log,
             bank,
@@ -315,6 +382,7 @@ impl Desk {
         let Desk {
             table,
             collector,
+            version: _,
             ports: _,
             banks: _,
             is_open,

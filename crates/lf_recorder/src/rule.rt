@@ -1,5 +1,5 @@
-//! The rule over the banks' words and over what each seat knows, and the three kinds of step that keep
-//! it: a draw of a number, a seat for a further log, and a log that is taken in.
+//! The rule over the banks' words and over what each seat knows, and the four kinds of step that keep
+//! it: a draw of a number, a fence, a seat for a further log, and a log that is taken in.
 
 ghost use Rattle.std.specs.Prelude.{ℕ};
 
@@ -52,6 +52,15 @@ impl<N: Noted> Play<(), View> for Draw<N> {
     ghost use Rattle.lf_recorder.specs.Rule.{Draws};
 
     ghost then = { Draws N.event };
+}
+
+/// The record of a fence, for which no number is drawn.
+pub struct Pass;
+
+impl Play<(), View> for Pass {
+    ghost use Rattle.lf_recorder.specs.Rule.{Passes};
+
+    ghost then = { Passes };
 }
 
 /// A seat for the next log.

@@ -2,7 +2,7 @@ ghost use Rattle.std.specs.Prelude.{◌≡◌, All, IfOk, IfSome};
 
 use crate::desk::{Desk, LogSeat};
 use crate::fault::{CloseFault, OpenFault, RecordFault};
-use lf_model::{Block, Event, Op};
+use lf_model::{Block, Event, NO_BANK, Op};
 use std::alloc::AllocError;
 use std::test::Fail;
 use std::thread;
@@ -42,6 +42,16 @@ fn record_all(desk: &Desk, seat: LogSeat, ports: u8, count: u32) -> LogSeat
     seat
 }
 
+// The same, and a fence behind them.
+fn record_all_and_a_fence(desk: &Desk, seat: LogSeat, ports: u8, count: u32) -> LogSeat
+    requires { seat.desk ≡ desk.now.desk }
+    ensures { result.desk ≡ desk.now.desk }
+{
+    let mut seat = record_all(desk, seat, ports, count);
+    let _ = desk.record(&mut seat, NO_BANK, Event::Fence);
+    seat
+}
+
 // A thread for each seat, so one for each of the two ports that record.
 fn record_each<R: Threads + Sync>(
     rt: &R,
@@ -54,6 +64,24 @@ fn record_each<R: Threads + Sync>(
     ensures { IfOk result (λ v. All (λ s. s.desk ≡ desk.now.desk) v.items) }
 {
     thread::map_vec(rt, seats, &move |seat| record_all(desk, seat, ports, count))
+}
+
+// The same, each with a fence behind them.
+fn record_each_and_a_fence<R: Threads + Sync>(
+    rt: &R,
+    desk: &Desk,
+    seats: Vec<LogSeat>,
+    ports: u8,
+    count: u32,
+) -> Result<Vec<LogSeat>, AllocError>
+    requires { All (λ s. s.desk ≡ desk.now.desk) seats.items }
+    ensures { IfOk result (λ v. All (λ s. s.desk ≡ desk.now.desk) v.items) }
+{
+    thread::map_vec(
+        rt,
+        seats,
+        &move |seat| record_all_and_a_fence(desk, seat, ports, count),
+    )
 }
 
 #[test]
@@ -86,6 +114,80 @@ fn recorder_two_threads(rt: HostRuntime) -> Result<(), Fail> {
         }
     }
     Ok(())
+}
+
+// A fence draws no number: the banks' numbers are as without it.
+#[test]
+fn recorder_two_threads_with_fences(rt: HostRuntime) -> Result<(), Fail> {
+    let mut desk = Desk::new_version(rt.alloc(), 2, 2, 2)
+        .ok()
+        .expect(&rt, "there is memory");
+    let seats = desk.open().ok().expect(&rt, "it is opened once");
+    let seats = record_each_and_a_fence(&rt, &desk, seats, 2, 1000)?;
+    let logs = desk.close(seats).ok().expect(&rt, "each log has a seat");
+    assert_eq!(rt; logs.len(), 4);
+    for (log, count) in [(0usize, 1001usize), (1, 1001), (2, 0), (3, 0)] {
+        if log < logs.len() {
+            assert_eq!(rt; logs[log].len(), count);
+        }
+    }
+    let mut seen = [[0u32; 1000]; 2];
+    let mut fences = 0u32;
+    for log in &logs {
+        for item in log {
+            let bank = usize::from(item.bank);
+            let number = item.number as usize;
+            if item.event == Event::Fence {
+                assert!(rt; item.bank == NO_BANK && number == 0);
+                fences = fences.wrapping_add(1);
+            } else {
+                assert!(rt; bank < 2 && number < 1000);
+                seen[bank][number] = 1;
+            }
+        }
+    }
+    assert_eq!(rt; fences, 2);
+    for bank in 0..2usize {
+        for number in 0..1000usize {
+            assert_eq!(rt; seen[bank][number], 1, "number {number} of bank {bank}");
+        }
+    }
+    Ok(())
+}
+
+// What each version has, and which bank a fence names.
+#[test]
+fn recorder_versions(rt: HostRuntime) {
+    let merge = || Event::SecondMerge {
+        block: 0,
+        register: 0,
+    };
+    for version in 1..4u32 {
+        let mut desk = Desk::new_version(rt.alloc(), version, 1, 1)
+            .ok()
+            .expect(&rt, "there is memory");
+        let mut seats = desk.open().ok().expect(&rt, "it is opened once");
+        let mut bank = take_seat(&desk, &mut seats).expect(&rt, "log 1 has a seat");
+        let mut port = take_seat(&desk, &mut seats).expect(&rt, "log 0 has a seat");
+        let fence = desk.record(&mut port, NO_BANK, Event::Fence);
+        let merged = desk.record(&mut bank, 0, merge());
+        let kind = Err(RecordFault::LogKind);
+        assert_eq!(rt; fence, if version < 2 { kind } else { Ok(0) });
+        assert_eq!(rt; merged, if version < 3 { kind } else { Ok(0) });
+        assert_eq!(rt; desk.record(&mut bank, NO_BANK, Event::Fence), kind);
+        assert_eq!(rt; desk.record(&mut port, 0, merge()), kind);
+        let other = desk.record(&mut port, 0, Event::Fence);
+        assert_eq!(rt;
+            other,
+            if version < 2 {
+                kind
+            } else {
+                Err(RecordFault::BankRange)
+            }
+        );
+        let none = desk.record(&mut port, NO_BANK, load(0));
+        assert_eq!(rt; none, Err(RecordFault::BankRange));
+    }
 }
 
 #[test]

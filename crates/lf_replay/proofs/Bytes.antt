@@ -15,8 +15,9 @@ use Rattle.std.proofs.Math.Nat.{mod-eq_of_lt, one-le-pow, pow-le-pow_right}
 use Rattle.std.specs.List.{range_with_len, filter, list_all}
 use borrow.Rule.Slice.PartMut.{put_mid}
 use Rattle.arrayvec.specs.ArrayVec.{ArrayVec}
+use Rattle.lf_model.specs.declared.shape.Shape.{Shape}
 use Rattle.lf_model.specs.declared.event.Op.TheVariants.{Load, Store}
-use Rattle.lf_model.specs.Address.{FlatMemory, flat_memory, is_under, agree_off, masked}
+use Rattle.lf_model.specs.Address.{FlatMemory, bank_of, flat_memory, is_under, agree_off, masked}
 use Rattle.lf_model.specs.State.{update, Request}
 use Rattle.lf_model.specs.Table.{value_of}
 use Rattle.lf_replay.specs.Bytes.{flat_of, bank_part, put}
@@ -152,24 +153,24 @@ padded_is blank bytes zero_there = fun_ext (λ place. go place (leb 0 place) (lt
     go place true true low high = let same : place - 0 ≡ place = omega arith in ap (λ n. get_or bytes n 0) same
     go place true false low high = zero_there place ∙ sym (get_or_past bytes place 0 (omega (arith, ltb-false place (0 + length bytes) high)))
 
-module _ (banks bank : ℕ) where
+module _ (shape : Shape) (bank : ℕ) where
   -- a block of the bank, and one of another
-  part_more : (m : ℕ × ArrayVec ℕ) (memory : List (ℕ × ArrayVec ℕ)) → (m.0 % banks == bank) ≡ true
-      → update (bank_part banks bank (flat_memory memory)) m.0 (slice_index m.1.items) ≡ bank_part banks bank (flat_memory (m ∷ memory))
+  part_more : (m : ℕ × ArrayVec ℕ) (memory : List (ℕ × ArrayVec ℕ)) → (bank_of shape m.0 == bank) ≡ true
+      → update (bank_part shape bank (flat_memory memory)) m.0 (slice_index m.1.items) ≡ bank_part shape bank (flat_memory (m ∷ memory))
   part_more m memory ours = fun_ext (λ block. fun_ext (λ place. go block place (m.0 == block) refl))
     where
       go : (block place : ℕ) (b : Bool) → (m.0 == block) ≡ b
-          → cond b (slice_index m.1.items) (bank_part banks bank (flat_memory memory) block) place ≡ cond (block % banks == bank) (cond b (slice_index m.1.items place) (flat_memory memory block place)) 0
-      go block place true e = sym (ap (λ c. cond c (slice_index m.1.items place) 0) (ap (λ k. k % banks == bank) (sym (eqb-true m.0 block e)) ∙ ours))
+          → cond b (slice_index m.1.items) (bank_part shape bank (flat_memory memory) block) place ≡ cond (bank_of shape block == bank) (cond b (slice_index m.1.items place) (flat_memory memory block place)) 0
+      go block place true e = sym (ap (λ c. cond c (slice_index m.1.items place) 0) (ap (λ k. bank_of shape k == bank) (sym (eqb-true m.0 block e)) ∙ ours))
       go block place false e = refl
 
-  part_same : (m : ℕ × ArrayVec ℕ) (memory : List (ℕ × ArrayVec ℕ)) → (m.0 % banks == bank) ≡ false → bank_part banks bank (flat_memory memory) ≡ bank_part banks bank (flat_memory (m ∷ memory))
+  part_same : (m : ℕ × ArrayVec ℕ) (memory : List (ℕ × ArrayVec ℕ)) → (bank_of shape m.0 == bank) ≡ false → bank_part shape bank (flat_memory memory) ≡ bank_part shape bank (flat_memory (m ∷ memory))
   part_same m memory other = fun_ext (λ block. fun_ext (λ place. go block place (m.0 == block) refl))
     where
       go : (block place : ℕ) (b : Bool) → (m.0 == block) ≡ b
-          → cond (block % banks == bank) (flat_memory memory block place) 0 ≡ cond (block % banks == bank) (cond b (slice_index m.1.items place) (flat_memory memory block place)) 0
+          → cond (bank_of shape block == bank) (flat_memory memory block place) 0 ≡ cond (bank_of shape block == bank) (cond b (slice_index m.1.items place) (flat_memory memory block place)) 0
       go block place true e =
-          let none : (block % banks == bank) ≡ false = ap (λ k. k % banks == bank) (sym (eqb-true m.0 block e)) ∙ other in
+          let none : (bank_of shape block == bank) ≡ false = ap (λ k. bank_of shape k == bank) (sym (eqb-true m.0 block e)) ∙ other in
           ap (λ c. cond c (flat_memory memory block place) 0) none ∙ sym (ap (λ c. cond c (slice_index m.1.items place) 0) none)
       go block place false e = refl
 
@@ -179,14 +180,14 @@ module _ (banks bank : ℕ) where
       sym (drop-cons memory (left - 1) m (omega arith) ∙ ap₂ (λ (a : ℕ × ArrayVec ℕ) k. a ∷ drop k memory) (sym here) next)
 
   pub memory_step : (memory : List (ℕ × ArrayVec ℕ)) (left : ℕ) (m : ℕ × ArrayVec ℕ) (flat new : FlatMemory) (bytes : ℕ → ℕ) → 0 < left → left ≤ length memory
-      → m ≡ get_or memory (left - 1) m → flat ≡ bank_part banks bank (flat_memory (drop left memory)) → m.0 % banks ≡ bank → bytes ≡ slice_index m.1.items → new ≡ update flat m.0 bytes
-      → new ≡ bank_part banks bank (flat_memory (drop (left - 1) memory))
+      → m ≡ get_or memory (left - 1) m → flat ≡ bank_part shape bank (flat_memory (drop left memory)) → bank_of shape m.0 ≡ bank → bytes ≡ slice_index m.1.items → new ≡ update flat m.0 bytes
+      → new ≡ bank_part shape bank (flat_memory (drop (left - 1) memory))
   memory_step memory left m flat new bytes some within here before ours same step =
-      step ∙ ap₂ (λ (f : FlatMemory) (g : ℕ → ℕ). update f m.0 g) before same ∙ part_more m (drop left memory) (eq-eqb (m.0 % banks) bank ours)
-      ∙ ap (λ (ms : List (ℕ × ArrayVec ℕ)). bank_part banks bank (flat_memory ms)) (taken_next memory left m some within here)
+      step ∙ ap₂ (λ (f : FlatMemory) (g : ℕ → ℕ). update f m.0 g) before same ∙ part_more m (drop left memory) (eq-eqb (bank_of shape m.0) bank ours)
+      ∙ ap (λ (ms : List (ℕ × ArrayVec ℕ)). bank_part shape bank (flat_memory ms)) (taken_next memory left m some within here)
 
   pub memory_passed : (memory : List (ℕ × ArrayVec ℕ)) (left : ℕ) (m : ℕ × ArrayVec ℕ) (flat : FlatMemory) → 0 < left → left ≤ length memory
-      → m ≡ get_or memory (left - 1) m → flat ≡ bank_part banks bank (flat_memory (drop left memory)) → (m.0 % banks ≡ bank → ⊥) → flat ≡ bank_part banks bank (flat_memory (drop (left - 1) memory))
+      → m ≡ get_or memory (left - 1) m → flat ≡ bank_part shape bank (flat_memory (drop left memory)) → (bank_of shape m.0 ≡ bank → ⊥) → flat ≡ bank_part shape bank (flat_memory (drop (left - 1) memory))
   memory_passed memory left m flat some within here before other =
-      before ∙ part_same m (drop left memory) (ne_eqb (m.0 % banks) bank other)
-      ∙ ap (λ (ms : List (ℕ × ArrayVec ℕ)). bank_part banks bank (flat_memory ms)) (taken_next memory left m some within here)
+      before ∙ part_same m (drop left memory) (ne_eqb (bank_of shape m.0) bank other)
+      ∙ ap (λ (ms : List (ℕ × ArrayVec ℕ)). bank_part shape bank (flat_memory ms)) (taken_next memory left m some within here)

@@ -1,48 +1,52 @@
 -- Where the blocks of a bank stand, by what the bank keeps.
-use Rattle.std.proofs.Common.{◌≡◌, ◌<◌, ℕ, List, [], ◌∷◌, Bool, true, false, not, ◌||◌, refl, sym, ◌∙◌, subst}
+use Rattle.std.proofs.Common.{◌≡◌, ◌<◌, ℕ, List, [], ◌∷◌, Bool, true, false, not, ◌&&◌, ◌||◌, refl, sym, ◌∙◌, subst}
 use Rattle.lf_model.specs.Lines.{has_line}
+use Rattle.lf_model.specs.Address.{second_of}
 use Rattle.lf_model.specs.Registers.{holds}
 use Rattle.std.specs.List.{AllByRecursion}
 use Rattle.lf_model.specs.State.{Request, Local}
 use Rattle.lf_model.specs.Table.{is_among, is_asked, is_head, oldest}
 use Rattle.lf_mshr.proofs.Alike.{holds-alike}
-use Rattle.lf_replay.specs.Apart.{stands, stands_at}
-use Rattle.lf_replay.specs.Kept.{Kept, queue_at}
+use Rattle.lf_replay.specs.Apart.{asks_for, is_absent_if_fetched, stands, stands_at}
+use Rattle.lf_replay.specs.Kept.{Kept, local_of, queue_at}
 use Rattle.lf_replay.specs.Shows.{Keeps}
-use Rattle.lf_replay.specs.Tells.{TellsRegister}
+use Rattle.lf_replay.specs.Tells.{TellsAsked}
 use Rattle.lf_replay.proofs.Apart.{every5, implied, is_not}
 
 supplied_absent : (a f w l1 l2 : Bool) → stands a f true w l1 l2 ≡ true → not l1 ≡ true
 supplied_absent a f w l1 l2 e = implied _ _ (every5 (λ a f w l1 l2. not (stands a f true w l1 l2) || not l1) refl a f w l1 l2) e
 
-fetched_absent : (a s w l1 l2 : Bool) → stands a true s w l1 l2 ≡ true → not l2 ≡ true
-fetched_absent a s w l1 l2 e = implied _ _ (every5 (λ a s w l1 l2. not (stands a true s w l1 l2) || not l2) refl a s w l1 l2) e
-
 line_inner : (a f s w l2 : Bool) → stands a f s w true l2 ≡ true → l2 ≡ true
 line_inner a f s w l2 e = implied _ _ (every5 (λ a f s w l2. not (stands a f s w true l2) || l2) refl a f s w l2) e
 
-module _ (kept : Kept) (keeps : Keeps kept) (block : ℕ) where
-  here : stands (is_asked kept.asked block) (holds keeps.now.slice.regs2 block) (is_among kept.supplied block) (holds keeps.now.slice.waiting block) (has_line kept.lines1.lines block) (has_line kept.lines2.lines block) ≡ true
-  here = subst (λ (s : Local). stands_at s.slice block ≡ true) (sym keeps.shows.rest) (keeps.reached.stands block)
+not_both : (h l : Bool) → not (h && l) ≡ true → h ≡ true → l ≡ false
+not_both true l e p = is_not l e
+not_both false l e p = absurd (cc p)
 
-  -- level one has no line of a supplied block
-  pub absent1 : is_among kept.supplied block ≡ true → has_line kept.lines1.lines block ≡ false
-  absent1 e =
-      is_not _ (supplied_absent (is_asked kept.asked block) (holds keeps.now.slice.regs2 block) (holds keeps.now.slice.waiting block) (has_line kept.lines1.lines block) (has_line kept.lines2.lines block)
-      (subst (λ b. stands (is_asked kept.asked block) (holds keeps.now.slice.regs2 block) b (holds keeps.now.slice.waiting block) (has_line kept.lines1.lines block) (has_line kept.lines2.lines block) ≡ true) e here))
+module _ (kept : Kept) (keeps : Keeps kept) where
+  module _ (block : ℕ) where
+    here : stands (is_asked kept.asked block) (asks_for keeps.now.slice.regs2 block) (is_among kept.supplied block) (holds keeps.now.slice.waiting block) (has_line kept.lines1.lines block) (has_line kept.lines2.lines (second_of kept.shape block)) ≡ true
+    here = subst (λ (s : Local). stands_at kept.shape s.slice block ≡ true) (sym keeps.shows.rest) (keeps.reached.stands.blocks block)
 
-  -- level two has no line of a block that it fetches
-  pub absent2 : holds kept.regs2.held block ≡ true → has_line kept.lines2.lines block ≡ false
-  absent2 e =
-      let same = sym (holds-alike TellsRegister kept.regs2.held keeps.now.slice.regs2 keeps.shows.registers.level2 block) ∙ e in
-      is_not _ (fetched_absent (is_asked kept.asked block) (is_among kept.supplied block) (holds keeps.now.slice.waiting block) (has_line kept.lines1.lines block) (has_line kept.lines2.lines block)
-      (subst (λ b. stands (is_asked kept.asked block) b (is_among kept.supplied block) (holds keeps.now.slice.waiting block) (has_line kept.lines1.lines block) (has_line kept.lines2.lines block) ≡ true) same here))
+    -- level one has no line of a supplied block
+    pub absent1 : is_among kept.supplied block ≡ true → has_line kept.lines1.lines block ≡ false
+    absent1 e =
+        is_not _ (supplied_absent (is_asked kept.asked block) (asks_for keeps.now.slice.regs2 block) (holds keeps.now.slice.waiting block) (has_line kept.lines1.lines block) (has_line kept.lines2.lines (second_of kept.shape block))
+        (subst (λ b. stands (is_asked kept.asked block) (asks_for keeps.now.slice.regs2 block) b (holds keeps.now.slice.waiting block) (has_line kept.lines1.lines block) (has_line kept.lines2.lines (second_of kept.shape block)) ≡ true) e here))
 
-  -- what level one has, level two has
-  pub inner : has_line kept.lines1.lines block ≡ true → has_line kept.lines2.lines block ≡ true
-  inner e =
-      line_inner (is_asked kept.asked block) (holds keeps.now.slice.regs2 block) (is_among kept.supplied block) (holds keeps.now.slice.waiting block) (has_line kept.lines2.lines block)
-      (subst (λ b. stands (is_asked kept.asked block) (holds keeps.now.slice.regs2 block) (is_among kept.supplied block) (holds keeps.now.slice.waiting block) b (has_line kept.lines2.lines block) ≡ true) e here)
+    -- what level one has, level two has in its second-level block
+    pub inner : has_line kept.lines1.lines block ≡ true → has_line kept.lines2.lines (second_of kept.shape block) ≡ true
+    inner e =
+        line_inner (is_asked kept.asked block) (asks_for keeps.now.slice.regs2 block) (is_among kept.supplied block) (holds keeps.now.slice.waiting block) (has_line kept.lines2.lines (second_of kept.shape block))
+        (subst (λ b. stands (is_asked kept.asked block) (asks_for keeps.now.slice.regs2 block) (is_among kept.supplied block) (holds keeps.now.slice.waiting block) b (has_line kept.lines2.lines (second_of kept.shape block)) ≡ true) e here)
+
+  -- level two has no line of a second-level block that it fetches
+  pub absent2 : (second : ℕ) → holds kept.regs2.held second ≡ true → has_line kept.lines2.lines second ≡ false
+  absent2 second e =
+      let same = sym (holds-alike (TellsAsked kept.shape) kept.regs2.held keeps.now.slice.regs2 keeps.shows.registers.level2 second) ∙ e in
+      let apart : is_absent_if_fetched (local_of kept keeps.now.slice.waiting keeps.now.slice.regs2).slice second ≡ true =
+      subst (λ (s : Local). is_absent_if_fetched s.slice second ≡ true) (sym keeps.shows.rest) (keeps.reached.stands.fetched second) in
+      not_both _ _ apart same
 
 head_tagged : (tags tag : ℕ) (queue : List Request) → AllByRecursion (λ request. request.tag < tags) queue → is_head queue tag ≡ true → (oldest queue).tag < tags
 head_tagged tags tag [] all e = absurd (cc e)

@@ -1,15 +1,18 @@
 -- Registers after a target was placed or a block released, and the requests that they tell of then.
-use Rattle.std.proofs.Common.{◌≡◌, ℕ, List, [], ◌∷◌, ◌++◌, refl, sym, subst}
+use Rattle.std.proofs.Common.{◌≡◌, ◌==◌, not, ℕ, List, [], ◌∷◌, ◌++◌, refl, sym, subst}
 use Rattle.lf_model.specs.declared.shape.Shape.{Shape}
-use Rattle.lf_model.specs.Address.{FlatMemory}
+use Rattle.lf_model.specs.Address.{FlatMemory, second_of, place_of}
 use Rattle.lf_model.specs.Registers.{Held, released}
-use Rattle.lf_model.specs.State.{Request, Missed}
+use Rattle.lf_model.specs.State.{Request, Missed, Asked}
+use Rattle.lf_model.specs.Table.{block_asked}
 use Rattle.lf_mshr.specs.Alike.{IsAlike, AreAlike}
 use Rattle.lf_mshr.specs.RegisterFile.{RegisterFile, held_item, with_target, without_block}
 use Rattle.lf_mshr.specs.declared.level_one.Request1.{Request1}
 use Rattle.lf_mshr.specs.declared.level_two.Request2.{Request2}
 use Rattle.lf_mshr.proofs.Alike.{AreAlike-push, released-alike}
-use Rattle.lf_replay.specs.Tells.{Tells, TellsRegister, miss_of}
+use Rattle.lf_replay.specs.Tells.{Tells, TellsAsked, miss_of}
+use Rattle.lf_replay.specs.Apart.{AreHome}
+use Rattle.lf_model.proofs.CopyStep.{push_all, filter_all}
 
 pub placed1 : (shape after : Shape) (old new : RegisterFile Request1) (waiting : List (Held Missed)) (register block port : ℕ) (target : Request1) (memory : FlatMemory) (request oldest : Request)
     → after ≡ shape → AreAlike (Tells shape) old.held waiting → new ≡ with_target old register block target → block ≡ request.block → request ≡ oldest
@@ -21,20 +24,34 @@ placed1 shape after old new waiting register block port target memory request ol
     (subst (λ (f : RegisterFile Request1). AreAlike (Tells shape) f.held (waiting ++ miss_of port register memory request ∷ [])) (sym is)
     (AreAlike-push (Tells shape) old.held waiting (held_item register block target) (miss_of port register memory request) alike one)))
 
-pub placed2 : (old new : RegisterFile Request2) (fetched : List (Held ℕ)) (register block asker : ℕ) (target : Request2)
-    → AreAlike TellsRegister old.held fetched → new ≡ with_target old register block target → target.position ≡ 0 → target.destination ≡ asker
-    → AreAlike TellsRegister new.held (fetched ++ held_item register block asker ∷ [])
-placed2 old new fetched register block asker target alike is there same =
-    let one : IsAlike TellsRegister (held_item register block target) (held_item register block asker) = record { register = refl; block = refl; target = record { position = there; destination = same } } in
-    subst (λ (f : RegisterFile Request2). AreAlike TellsRegister f.held (fetched ++ held_item register block asker ∷ [])) (sym is)
-    (AreAlike-push TellsRegister old.held fetched (held_item register block target) (held_item register block asker) alike one)
+-- a register of level two takes a target of a block, and holds its second-level block
+pub placed2 : (shape : Shape) (old new : RegisterFile Request2) (fetched : List (Held Asked)) (register second block asker : ℕ) (target : Request2)
+    → AreAlike (TellsAsked shape) old.held fetched → new ≡ with_target old register second target → target.position ≡ place_of shape block → target.destination ≡ asker → second ≡ second_of shape block
+    → AreAlike (TellsAsked shape) new.held (fetched ++ held_item register (second_of shape block) (block, asker) ∷ [])
+placed2 shape old new fetched register second block asker target alike is there same at =
+    let one : IsAlike (TellsAsked shape) (held_item register second target) (held_item register (second_of shape block) (block, asker)) = record { register = refl; block = at; target = record { position = there; destination = same } } in
+    subst (λ (f : RegisterFile Request2). AreAlike (TellsAsked shape) f.held (fetched ++ held_item register (second_of shape block) (block, asker) ∷ [])) (sym is)
+    (AreAlike-push (TellsAsked shape) old.held fetched (held_item register second target) (held_item register (second_of shape block) (block, asker)) alike one)
+
+pub home_placed : (shape : Shape) (fetched : List (Held Asked)) (register block asker : ℕ) → AreHome shape fetched → AreHome shape (fetched ++ held_item register (second_of shape block) (block, asker) ∷ [])
+home_placed shape fetched register block asker home = push_all (λ h. second_of shape (block_asked h) ≡ h.block) fetched (held_item register (second_of shape block) (block, asker)) home refl
+
+-- another shape that is the same
+pub same_shape2 : (after shape : Shape) (held : List (Held Request2)) (fetched : List (Held Asked)) → after ≡ shape → AreAlike (TellsAsked shape) held fetched → AreAlike (TellsAsked after) held fetched
+same_shape2 after shape held fetched same alike = subst (λ (s : Shape). AreAlike (TellsAsked s) held fetched) (sym same) alike
+
+pub same_home : (after shape : Shape) (fetched : List (Held Asked)) → after ≡ shape → AreHome shape fetched → AreHome after fetched
+same_home after shape fetched same home = subst (λ (s : Shape). AreHome s fetched) (sym same) home
 
 pub released1 : (shape : Shape) (old new : RegisterFile Request1) (waiting : List (Held Missed)) (block : ℕ) → AreAlike (Tells shape) old.held waiting → new ≡ without_block old block
     → AreAlike (Tells shape) new.held (released waiting block)
 released1 shape old new waiting block alike is =
     subst (λ (f : RegisterFile Request1). AreAlike (Tells shape) f.held (released waiting block)) (sym is) (released-alike (Tells shape) old.held waiting alike block)
 
-pub released2 : (old new : RegisterFile Request2) (fetched : List (Held ℕ)) (block : ℕ) → AreAlike TellsRegister old.held fetched → new ≡ without_block old block
-    → AreAlike TellsRegister new.held (released fetched block)
-released2 old new fetched block alike is =
-    subst (λ (f : RegisterFile Request2). AreAlike TellsRegister f.held (released fetched block)) (sym is) (released-alike TellsRegister old.held fetched alike block)
+pub released2 : (shape : Shape) (old new : RegisterFile Request2) (fetched : List (Held Asked)) (second : ℕ) → AreAlike (TellsAsked shape) old.held fetched → new ≡ without_block old second
+    → AreAlike (TellsAsked shape) new.held (released fetched second)
+released2 shape old new fetched second alike is =
+    subst (λ (f : RegisterFile Request2). AreAlike (TellsAsked shape) f.held (released fetched second)) (sym is) (released-alike (TellsAsked shape) old.held fetched alike second)
+
+pub home_released : (shape : Shape) (fetched : List (Held Asked)) (second : ℕ) → AreHome shape fetched → AreHome shape (released fetched second)
+home_released shape fetched second home = filter_all (λ h. second_of shape (block_asked h) ≡ h.block) (λ h. not (h.block == second)) fetched home

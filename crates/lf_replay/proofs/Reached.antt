@@ -11,14 +11,16 @@ use Rattle.lf_mshr.specs.Alike.{AreAlike}
 use Rattle.lf_mshr.specs.RegisterFile.{RegisterFile, empty_file}
 use Rattle.lf_mshr.specs.declared.level_one.Request1.{Request1}
 use Rattle.lf_mshr.specs.declared.level_two.Request2.{Request2}
-use Rattle.lf_replay.specs.Tells.{Tells, TellsRegister}
-use Rattle.lf_model.specs.declared.event.Event.TheVariants.{Issue, Reply, Hit, Primary, Merge, Stall, Fill1, Evict1, SecondHit, SecondPrimary, SecondStall, Fill2, Evict2}
+use Rattle.lf_replay.specs.Tells.{Tells, TellsAsked}
+use Rattle.lf_model.specs.declared.event.Event.TheVariants.{Issue, Reply, Hit, Primary, Merge, Stall, Fill1, Evict1, SecondHit, SecondPrimary, SecondStall, Fill2, Evict2, SecondMerge, Fence}
 use Rattle.lf_model.specs.State.{Request, Ready, Slice, Local, idle, update}
 use Rattle.lf_model.specs.Table.{OfBank, rules_of, slice_after, carries, value_at, accepts, replies_at, request_of, destinations, destinations2}
 use Rattle.lf_model.specs.Run.{first_failing}
 use Rattle.lf_replay.specs.declared.fault.BankFault.{BankFault}
 use Rattle.lf_replay.specs.Kept.{Kept, local_of, after_event, IsFile1, IsFile2}
 use Rattle.lf_replay.specs.Shows.{AreTagged, IsReached, Keeps, Shows, IsAnswer, AnswerOf}
+use Rattle.lf_model.specs.InRange.{IsShape}
+use Rattle.lf_replay.proofs.Places.{factor_some}
 use Rattle.lf_replay.proofs.Apart.{facts, stands_after}
 
 abbrev Tagged : ℕ → List Request → Type 0
@@ -55,11 +57,13 @@ tagged_after shape right value replies slice log bank (SecondHit block) each non
 tagged_after shape right value replies slice log bank (SecondPrimary block register) each none = each
 tagged_after shape right value replies slice log bank (SecondStall block) each none = each
 tagged_after shape right value replies slice log bank (Fill2 block bytes) each none = each
-tagged_after shape right value replies slice log bank (Evict2 block mask bytes) each none = each
+tagged_after shape right value replies slice log bank (Evict2 block masks bytes) each none = each
+tagged_after shape right value replies slice log bank (SecondMerge block register) each none = each
+tagged_after shape right value replies slice log bank Fence each none = each
 
 -- a bank that keeps a state that a run may reach keeps one after each answer
-pub keeps_after : {A : Type 0} (old new : Kept) (log : ℕ) (e : Event) (result : Result A BankFault) → Keeps old → new.shape ≡ old.shape → IsAnswer old new log e result → Keeps new
-keeps_after old new log e result keeps same answer = go result (answer 0 keeps.now.slice.waiting keeps.now.slice.regs2 keeps.shows.registers)
+pub keeps_after : {A : Type 0} (old new : Kept) (log : ℕ) (e : Event) (result : Result A BankFault) → IsShape old.shape → Keeps old → new.shape ≡ old.shape → IsAnswer old new log e result → Keeps new
+keeps_after old new log e result in_range keeps same answer = go result (answer 0 keeps.now.slice.waiting keeps.now.slice.regs2 keeps.shows.registers)
   where
     here : Local
     here = local_of old keeps.now.slice.waiting keeps.now.slice.regs2
@@ -72,7 +76,7 @@ keeps_after old new log e result keeps same answer = go result (answer 0 keeps.n
       now = after_event old.shape here log e;
       shows = a.1;
       reached = subst (λ (s : Shape). IsReached s (after_event old.shape here log e)) (sym same) (record {
-        stands = stands_after old.shape (carries old.shape here.memory here.slice e) (value_at here.memory (accepts here.slice e)) (replies_at here.slice e) here.slice log 0 e reached.stands a.0;
+        stands = stands_after old.shape (carries old.shape here.memory here.slice e) (value_at here.memory (accepts here.slice e)) (replies_at here.slice e) here.slice log 0 (factor_some old.shape.factor in_range.factor) keeps.shows.registers.home reached.stands e a.0;
         tagged = tagged_after old.shape (carries old.shape here.memory here.slice e) (value_at here.memory (accepts here.slice e)) (replies_at here.slice e) here.slice log 0 e reached.tagged a.0;
       });
     }
@@ -86,7 +90,7 @@ same_after old new log e (Err fault) keeps answer = (answer 0 keeps.now.slice.wa
 -- ---- the opening state
 
 pub opening_reached : (shape : Shape) (memory : FlatMemory) → IsReached shape (first_local memory)
-opening_reached shape memory = record { stands = λ block. refl; tagged = λ port. tt }
+opening_reached shape memory = record { stands = record { blocks = λ block. refl; fetched = λ second. refl }; tagged = λ port. tt }
 
 -- a bank whose registers are free keeps the opening state
 pub opens : (kept : Kept) (memory : FlatMemory) (organisation1 organisation2 : OrgShape) (destinations1 destinations2 : ℕ) → kept.waiting ≡ empty_file organisation1 destinations1 → kept.regs2 ≡ empty_file organisation2 destinations2
@@ -94,7 +98,8 @@ pub opens : (kept : Kept) (memory : FlatMemory) (organisation1 organisation2 : O
 opens kept memory organisation1 organisation2 destinations1 destinations2 free1 free2 rest = record {
   registers = record {
     level1 = subst (λ (f : RegisterFile Request1). AreAlike (Tells kept.shape) f.held []) (sym free1) tt;
-    level2 = subst (λ (f : RegisterFile Request2). AreAlike TellsRegister f.held []) (sym free2) tt;
+    level2 = subst (λ (f : RegisterFile Request2). AreAlike (TellsAsked kept.shape) f.held []) (sym free2) tt;
+    home = tt;
   };
   rest = rest;
 }

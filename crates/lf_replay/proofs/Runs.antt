@@ -9,7 +9,7 @@ use Rattle.std.proofs.lemmas.List.FromFn.{get_or-range_with_len}
 use Rattle.lf_model.specs.declared.shape.Shape.{Shape}
 use Rattle.lf_model.specs.declared.event.Record.{Record}
 use Rattle.lf_model.specs.declared.rule.Rule as model
-use Rattle.lf_model.specs.Address.{FlatMemory}
+use Rattle.lf_model.specs.Address.{FlatMemory, bank_of}
 use Rattle.lf_model.specs.Numbers.{numbers_of}
 use Rattle.lf_model.specs.Outcomes.{first_local, IsBankOutcome}
 use Rattle.lf_model.specs.State.{Request, Local}
@@ -161,13 +161,13 @@ module _ (shape : Shape) (bank : ℕ) where
             (subst (λ (k : ℕ). SameBank shape k (bank_effect shape a r) (bank_effect shape b r)) named.0 (bank_effect_same shape a b r here alike)) breaks.1,
       )
 
-  part_does : (memory : FlatMemory) → SameBank shape bank (first_local (bank_part shape.banks bank memory)) (first_local memory)
+  part_does : (memory : FlatMemory) → SameBank shape bank (first_local (bank_part shape bank memory)) (first_local memory)
   part_does memory = record {
     slice = refl;
-    memory = λ x ours. fun_ext (λ place. ap (λ b. cond b (memory x place) 0) (eq-eqb (x % shape.banks) bank ours));
+    memory = λ x ours. fun_ext (λ place. ap (λ b. cond b (memory x place) 0) (eq-eqb (bank_of shape x) bank ours));
   }
 
-  pub outcome_same : (memory : FlatMemory) (rs : List Record) → IsBankOrder shape bank rs → (told : Outcome) → IsBankOutcome shape (bank_part shape.banks bank memory) rs told → IsBankOutcome shape memory rs told
-  outcome_same memory rs order outcome.Passed run = run_same (first_local (bank_part shape.banks bank memory)) (first_local memory) rs order.fit order.named (λ port. tt) (part_does memory) run
-  outcome_same memory rs order (outcome.Broken n rule) breaks = breaks_same (first_local (bank_part shape.banks bank memory)) (first_local memory) rs n rule order.fit order.named (λ port. tt) (part_does memory) breaks
+  pub outcome_same : (memory : FlatMemory) (rs : List Record) → IsBankOrder shape bank rs → (told : Outcome) → IsBankOutcome shape (bank_part shape bank memory) rs told → IsBankOutcome shape memory rs told
+  outcome_same memory rs order outcome.Passed run = run_same (first_local (bank_part shape bank memory)) (first_local memory) rs order.fit order.named (λ port. tt) (part_does memory) run
+  outcome_same memory rs order (outcome.Broken n rule) breaks = breaks_same (first_local (bank_part shape bank memory)) (first_local memory) rs n rule order.fit order.named (λ port. tt) (part_does memory) breaks
   outcome_same memory rs order outcome.NoMemory none = tt

@@ -1,5 +1,5 @@
 -- Three clauses of a bank that all hold, and a free way.
-use Rattle.std.proofs.Common.{◌≡◌, ℕ, Bool, true, false, not, [], ◌∷◌, None, refl, sym, ◌∙◌}
+use Rattle.std.proofs.Common.{◌≡◌, ℕ, Bool, true, false, not, [], ◌∷◌, Some, None, refl, sym, ◌∙◌}
 use Rattle.lf_levels.specs.LineTable.{LineTable, is_full}
 use Rattle.lf_model.specs.Lines.{has_way}
 use Rattle.lf_model.specs.declared.rule.Rule.{Rule}
@@ -13,12 +13,19 @@ three_hold first second third false b c p q r = absurd (cc p)
 three_hold first second third true false c p q r = absurd (cc q)
 three_hold first second third true true false p q r = absurd (cc r)
 
+pub third_fails : (first second third : Rule) (a b c : Bool) → a ≡ true → b ≡ true → c ≡ false
+    → first_failing OfBank (bank_wants first a ∷ bank_wants second b ∷ bank_wants third c ∷ []) ≡ Some third
+third_fails first second third true true false p q r = refl
+third_fails first second third false b c p q r = absurd (cc p)
+third_fails first second third true false c p q r = absurd (cc q)
+third_fails first second third true true true p q r = absurd (cc r)
+
 is_so : (b : Bool) → false ≡ not b → b ≡ true
 is_so true e = refl
 is_so false e = absurd (cc e)
 
-pub free_way : (table : LineTable) (banks sets ways block : ℕ) → table.banks ≡ banks → table.sets ≡ sets → table.ways ≡ ways → false ≡ is_full table block
-    → has_way banks sets ways table.lines block ≡ true
-free_way table banks sets ways block b s w e =
-    let same : has_way table.banks table.sets table.ways table.lines block ≡ has_way banks sets ways table.lines block = λ i. has_way (b i) (s i) (w i) table.lines block in
-    sym same ∙ is_so (has_way table.banks table.sets table.ways table.lines block) e
+pub free_way : {M : Type 0} (set : ℕ → ℕ → ℕ → ℕ → ℕ) (table : LineTable M) (banks factor sets ways block : ℕ) → table.banks ≡ banks → table.factor ≡ factor → table.sets ≡ sets → table.ways ≡ ways
+    → false ≡ is_full set table block → has_way (set banks factor sets) ways table.lines block ≡ true
+free_way set table banks factor sets ways block b f s w e =
+    let same : has_way (set table.banks table.factor table.sets) table.ways table.lines block ≡ has_way (set banks factor sets) ways table.lines block = λ i. has_way (set (b i) (f i) (s i)) (w i) table.lines block in
+    sym same ∙ is_so (has_way (set table.banks table.factor table.sets) table.ways table.lines block) e

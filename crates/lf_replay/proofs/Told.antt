@@ -2,15 +2,15 @@
 use Rattle.std.proofs.Common.{◌≡◌, ℕ, List, ◌∙◌}
 use Rattle.lf_model.specs.declared.shape.Shape.{Shape}
 use Rattle.lf_model.specs.Registers.{Held, has_room, primary_clauses, merge_clauses}
-use Rattle.lf_model.specs.State.{Missed}
-use Rattle.lf_model.specs.Table.{destinations, destinations2, only_position, position}
+use Rattle.lf_model.specs.State.{Missed, Asked}
+use Rattle.lf_model.specs.Table.{destinations, destinations2, position, position2}
 use Rattle.lf_mshr.specs.Alike.{AreAlike}
 use Rattle.lf_mshr.specs.RegisterFile.{RegisterFile}
 use Rattle.lf_mshr.specs.declared.level_one.Request1.{Request1}
 use Rattle.lf_mshr.specs.declared.level_two.Request2.{Request2}
 use Rattle.lf_mshr.proofs.Alike.{primary_clauses-alike, merge_clauses-alike, has_room-alike}
 use Rattle.lf_replay.specs.Kept.{IsFile1, IsFile2}
-use Rattle.lf_replay.specs.Tells.{Tells, TellsRegister}
+use Rattle.lf_replay.specs.Tells.{Tells, TellsAsked}
 
 -- ---- level one
 
@@ -36,15 +36,22 @@ module _ (shape : Shape) (file : RegisterFile Request1) (of_shape : IsFile1 shap
 
 -- ---- level two
 
-module _ (shape : Shape) (file : RegisterFile Request2) (of_shape : IsFile2 shape file) (fetched : List (Held ℕ)) (alike : AreAlike TellsRegister file.held fetched) where
-  pub second_primary_told : (block register d : ℕ)
-      → primary_clauses file.organisation file.destinations file.held block d register ≡ primary_clauses shape.level2.organisation (destinations2 shape) fetched block d register
-  second_primary_told block register d =
-      (λ i. primary_clauses (of_shape.organisation i) (of_shape.destinations i) file.held block d register)
-      ∙ primary_clauses-alike TellsRegister file.held fetched alike shape.level2.organisation (destinations2 shape) block d register
+module _ (shape : Shape) (file : RegisterFile Request2) (of_shape : IsFile2 shape file) (fetched : List (Held Asked)) (alike : AreAlike (TellsAsked shape) file.held fetched) where
+  pub second_primary_told : (second register d : ℕ)
+      → primary_clauses file.organisation file.destinations file.held second d register ≡ primary_clauses shape.level2.organisation (destinations2 shape) fetched second d register
+  second_primary_told second register d =
+      (λ i. primary_clauses (of_shape.organisation i) (of_shape.destinations i) file.held second d register)
+      ∙ primary_clauses-alike (TellsAsked shape) file.held fetched alike shape.level2.organisation (destinations2 shape) second d register
 
-  pub second_room_told : (block d at : ℕ) → at ≡ 0
-      → has_room file.organisation file.destinations (λ (r : Request2). r.position) file.held block d at ≡ has_room shape.level2.organisation (destinations2 shape) only_position fetched block d 0
-  second_room_told block d at there =
-      (λ i. has_room (of_shape.organisation i) (of_shape.destinations i) (λ (r : Request2). r.position) file.held block d (there i))
-      ∙ has_room-alike TellsRegister file.held fetched alike (λ (r : Request2). r.position) only_position (λ a b tells. tells.position) shape.level2.organisation (destinations2 shape) block d 0
+  pub second_merge_told : (second register d at : ℕ)
+      → merge_clauses file.organisation file.destinations (λ (r : Request2). r.position) file.held second d at register
+      ≡ merge_clauses shape.level2.organisation (destinations2 shape) (position2 shape) fetched second d at register
+  second_merge_told second register d at =
+      (λ i. merge_clauses (of_shape.organisation i) (of_shape.destinations i) (λ (r : Request2). r.position) file.held second d at register)
+      ∙ merge_clauses-alike (TellsAsked shape) file.held fetched alike (λ (r : Request2). r.position) (position2 shape) (λ a b tells. tells.position) shape.level2.organisation (destinations2 shape) second d at register
+
+  pub second_room_told : (second d at : ℕ)
+      → has_room file.organisation file.destinations (λ (r : Request2). r.position) file.held second d at ≡ has_room shape.level2.organisation (destinations2 shape) (position2 shape) fetched second d at
+  second_room_told second d at =
+      (λ i. has_room (of_shape.organisation i) (of_shape.destinations i) (λ (r : Request2). r.position) file.held second d at)
+      ∙ has_room-alike (TellsAsked shape) file.held fetched alike (λ (r : Request2). r.position) (position2 shape) (λ a b tells. tells.position) shape.level2.organisation (destinations2 shape) second d at

@@ -1,9 +1,10 @@
 -- The bytes of a bank's memory.
-use Rattle.std.specs.Prelude.{◌≡◌, ℕ, ◌+◌, ◌-◌, ◌%◌, ◌==◌, ◌<◌, ◌≤◌, true, ◌&&◌, nat_le, nat_lt, List, [], length, slice_index, unwrap_or, if◌then◌else◌}
+use Rattle.std.specs.Prelude.{◌≡◌, ℕ, ◌+◌, ◌-◌, ◌==◌, ◌<◌, ◌≤◌, true, ◌&&◌, nat_le, nat_lt, List, [], length, slice_index, unwrap_or, if◌then◌else◌}
 use Rattle.std.specs.Map.{lookup}
 use Rattle.std.specs.BTreeMap.{is_at}
 use Rattle.std.specs.Ordering.{nat_cmp}
-use Rattle.lf_model.specs.Address.{FlatMemory}
+use Rattle.lf_model.specs.declared.shape.Shape.{Shape}
+use Rattle.lf_model.specs.Address.{FlatMemory, bank_of}
 use Rattle.lf_model.specs.State.{Request}
 use Rattle.lf_model.specs.Table.{is_store}
 
@@ -12,8 +13,8 @@ abbrev pub flat_of : List (ℕ × List ℕ) → FlatMemory
 flat_of blocks block place = slice_index (unwrap_or (lookup (is_at (nat_cmp block)) blocks) []) place
 
 -- the memory on the blocks of one bank, and zeros elsewhere
-abbrev pub bank_part : ℕ → ℕ → FlatMemory → FlatMemory
-bank_part banks bank memory block place = if block % banks == bank then memory block place else 0
+abbrev pub bank_part : Shape → ℕ → FlatMemory → FlatMemory
+bank_part shape bank memory block place = if bank_of shape block == bank then memory block place else 0
 
 -- the bytes with new ones from a place on
 abbrev pub put : (ℕ → ℕ) → ℕ → List ℕ → ℕ → ℕ

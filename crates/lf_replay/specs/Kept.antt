@@ -2,8 +2,9 @@
 use Rattle.std.specs.Prelude.{◌≡◌, ℕ, List, [], length, slice_index_or}
 use Rattle.lf_model.specs.declared.shape.Shape.{Shape}
 use Rattle.lf_model.specs.InRange.{IsShape}
+use Rattle.lf_model.specs.Address.{Masks}
 use Rattle.lf_model.specs.Registers.{Held}
-use Rattle.lf_model.specs.State.{Request, Missed, Ready, Slice, Local, idle}
+use Rattle.lf_model.specs.State.{Request, Missed, Ready, Asked, Slice, Local, idle}
 use Rattle.lf_model.specs.declared.event.Event.{Event}
 use Rattle.lf_model.specs.Table.{memory_after, slice_after, value_at, accepts, replies_at, destinations, destinations2}
 use Rattle.lf_levels.specs.LineTable.{LineTable}
@@ -16,11 +17,11 @@ pub record Kept : Type 0 where
   pub shape : Shape
   pub memory : List (ℕ × List ℕ)
   pub queues : List (List Request)  -- one for each port
-  pub lines1 : LineTable
-  pub lines2 : LineTable
+  pub lines1 : LineTable ℕ
+  pub lines2 : LineTable Masks
   pub waiting : RegisterFile Request1  -- the level-one registers
   pub regs2 : RegisterFile Request2  -- those of level two
-  pub asked : List (ℕ × ℕ)
+  pub asked : List Asked
   pub supplied : List ℕ
   pub ready : List Ready
 
@@ -29,7 +30,7 @@ abbrev pub queue_at : List (List Request) → ℕ → List Request
 queue_at queues port = slice_index_or queues port []
 
 -- the bank's slice, where these requests wait in its registers
-abbrev pub slice_of : Kept → List (Held Missed) → List (Held ℕ) → Slice
+abbrev pub slice_of : Kept → List (Held Missed) → List (Held Asked) → Slice
 slice_of kept waiting regs2 = record {
   queue = queue_at kept.queues;
   lines1 = kept.lines1.lines;
@@ -42,19 +43,21 @@ slice_of kept waiting regs2 = record {
 }
 
 -- what the bank sees of the whole, busy tags aside
-abbrev pub local_of : Kept → List (Held Missed) → List (Held ℕ) → Local
+abbrev pub local_of : Kept → List (Held Missed) → List (Held Asked) → Local
 local_of kept waiting regs2 = record { busy = idle; memory = flat_of kept.memory; slice = slice_of kept waiting regs2 }
 
 -- there is a queue for each port, and the lines are those of the shape's levels
-pub record IsFramed (shape : Shape) (queues : List (List Request)) (lines1 lines2 : LineTable) : Type 0 where
+pub record IsFramed (shape : Shape) (queues : List (List Request)) (lines1 : LineTable ℕ) (lines2 : LineTable Masks) : Type 0 where
   pub in_range : IsShape shape
   pub ports : length queues ≡ shape.ports
   pub sets1 : lines1.sets ≡ shape.level1.sets
   pub ways1 : lines1.ways ≡ shape.level1.ways
   pub banks1 : lines1.banks ≡ shape.banks
+  pub factor1 : lines1.factor ≡ shape.factor
   pub sets2 : lines2.sets ≡ shape.level2.sets
   pub ways2 : lines2.ways ≡ shape.level2.ways
   pub banks2 : lines2.banks ≡ shape.banks
+  pub factor2 : lines2.factor ≡ shape.factor
 
 -- a register file of the shape's level one
 pub record IsFile1 {T : Type 0} (shape : Shape) (file : RegisterFile T) : Type 0 where

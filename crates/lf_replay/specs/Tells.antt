@@ -2,9 +2,9 @@
 use Rattle.std.specs.Prelude.{◌≡◌, ℕ, ◌<◌, List, take, length, if◌then◌else◌}
 use Rattle.std.specs.Int.{to_le_bytes, w64}
 use Rattle.lf_model.specs.declared.shape.Shape.{Shape}
-use Rattle.lf_model.specs.Address.{FlatMemory, mask_of}
+use Rattle.lf_model.specs.Address.{FlatMemory, mask_of, place_of}
 use Rattle.lf_model.specs.Registers.{Held}
-use Rattle.lf_model.specs.State.{Request, Missed, Ready}
+use Rattle.lf_model.specs.State.{Request, Missed, Ready, Asked}
 use Rattle.lf_model.specs.Table.{destination, is_store, position, value_of}
 use Rattle.lf_mshr.specs.declared.level_one.Request1.{Request1}
 use Rattle.lf_mshr.specs.declared.level_two.Request2.{Request2}
@@ -32,10 +32,10 @@ IsTold shape target = (missed : Missed) × Tells shape target missed
 abbrev pub reply_to : Missed → Ready
 reply_to missed = record { port = missed.port; tag = missed.request.tag; value = missed.value }
 
--- A level-two target tells which level-one register asked; it has the only position that there is.
-pub record TellsRegister (target : Request2) (register : ℕ) : Type 0 where
-  pub position : target.position ≡ 0
-  pub destination : target.destination ≡ register
+-- A level-two target tells the place of a block in its second-level block, and which level-one register asked for it.
+pub record TellsAsked (shape : Shape) (target : Request2) (asked : Asked) : Type 0 where
+  pub position : target.position ≡ place_of shape asked.0
+  pub destination : target.destination ≡ asked.1
 
 -- what a level-one register holds of a port's request that misses now
 abbrev pub miss_of : ℕ → ℕ → FlatMemory → Request → Held Missed

@@ -41,7 +41,7 @@ impl AnyBank {
         bank: u32,
     ) -> Result<AnyBank, NoMemory>
         requires { IsShape shape.now }
-        ensures opening { IfOk result (λ state. Shows (kept_of state) (first_local (bank_part shape.now.banks bank (flat_memory memory.now)))) }
+        ensures opening { IfOk result (λ state. Shows (kept_of state) (first_local (bank_part shape.now bank (flat_memory memory.now)))) }
         ensures sound { IfOk result (λ state. IsSound (kept_of state)) }
         ensures shape { IfOk result (λ state. (kept_of state).shape ≡ shape.now) }
     {

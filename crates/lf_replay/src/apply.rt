@@ -60,9 +60,16 @@ impl Bank {
             }
             Event::SecondStall { block } => self.second_stall::<O2>(regs2, *block),
             Event::Fill2 { block, bytes } => { self.fill2::<O1, O2>(waiting, regs2, *block, bytes) }
-            Event::Evict2 { block, mask, bytes } => {
-                self.evict2::<O1>(waiting, *block, *mask, bytes)
+            Event::Evict2 {
+                block,
+                masks,
+                bytes,
+            } => self.evict2::<O1>(waiting, *block, masks, bytes),
+            Event::SecondMerge { block, register } => {
+                self.second_merge::<O2>(regs2, *block, *register)
             }
+            // It names no bank, and no rule of a bank judges it.
+            Event::Fence => Ok(()),
         }
     }
 }

@@ -3,9 +3,9 @@
 ghost use Rattle.std.specs.Prelude.{◌≡◌, ℕ, ◌&&◌, nat_lt, Bool, true, false, [], length, IfOk, MatchOption, option_copied, ◌==◌};
 ghost use Rattle.std.specs.List.{find, list_any};
 ghost use Rattle.lf_model.specs.Table.{is_head, oldest, is_asked, is_among, asked_register, is_ready_for, first_ready};
-ghost use Rattle.lf_model.specs.Address.{flat_memory};
+ghost use Rattle.lf_model.specs.Address.{flat_memory, place_of};
 ghost use Rattle.lf_model.specs.InRange.{IsShape};
-ghost use Rattle.lf_model.specs.Lines.{dirty_mask};
+ghost use Rattle.lf_model.specs.Lines.{dirty_mask, dirty_masks, same_masks};
 ghost use Rattle.lf_replay.specs.Bytes.{bank_part};
 ghost use Rattle.lf_mshr.specs.RegisterFile.{RegisterFile};
 ghost use Rattle.lf_mshr.specs.declared.level_one.Request1.{Request1};
@@ -17,8 +17,9 @@ ghost use Rattle.lf_replay.specs.View.{kept, IsBankFramed};
 use crate::memory::FlatMemory;
 use crate::queue::Queue;
 use crate::request::Ready;
-use lf_levels::{Lines, One, Two};
-use lf_model::{Block, NoMemory, Shape};
+use crate::wide::place_of;
+use lf_levels::{Lines, One, Two, same_masks};
+use lf_model::{Block, Masks, NoMemory, Shape};
 use lf_mshr::{Request1, Request2, Targets};
 use std::alloc::Global;
 
@@ -64,7 +65,7 @@ impl Bank {
         bank: u32,
     ) -> Result<Bank, NoMemory>
         requires { IsShape shape.now }
-        ensures opening { IfOk result (λ empty. (waiting : RegisterFile Request1) (regs2 : RegisterFile Request2) → local_of (kept empty waiting regs2) [] [] ≡ first_local (bank_part shape.now.banks bank (flat_memory memory.now))) }
+        ensures opening { IfOk result (λ empty. (waiting : RegisterFile Request1) (regs2 : RegisterFile Request2) → local_of (kept empty waiting regs2) [] [] ≡ first_local (bank_part shape.now bank (flat_memory memory.now))) }
         ensures framed { IfOk result (λ empty. IsBankFramed empty) }
         ensures shape { IfOk result (λ empty. empty.shape ≡ shape.now) }
     {
@@ -72,10 +73,10 @@ impl Bank {
         let level2 = shape.level2;
         Ok(Bank {
             shape: *shape,
-            memory: FlatMemory::new(alloc, memory, shape.banks, bank)?,
+            memory: FlatMemory::new(alloc, memory, shape, bank)?,
             queues: empty_queues(alloc, shape.ports)?,
-            lines1: Lines::new(alloc, level1.sets, level1.ways, shape.banks)?,
-            lines2: Lines::new(alloc, level2.sets, level2.ways, shape.banks)?,
+            lines1: Lines::new(alloc, level1.sets, level1.ways, shape.banks, shape.factor)?,
+            lines2: Lines::new(alloc, level2.sets, level2.ways, shape.banks, shape.factor)?,
             asked: Vec::new(alloc),
             supplied: Vec::new(alloc),
             ready: Vec::new(alloc),
@@ -137,23 +138,27 @@ impl Bank {
         }
     }
 
-    /// The same of level two.
-    pub fn dirty2(&self, block: u32) -> u64
-        ensures { result ≡ dirty_mask self.now.lines2.lines block }
+    /// Whether these are the dirty masks of the second-level block's line; where there is none, it has
+    /// none.
+    pub fn are_dirty2(&self, second: u32, masks: &Masks) -> bool
+        ensures { result ≡ same_masks self.now.shape.factor masks.now (dirty_masks self.now.lines2.lines second) }
     {
-        match self.lines2.dirty(block) {
-            Some(mask) => mask.0,
-            None => 0,
-        }
+        let none = Masks::new();
+        let dirty = match self.lines2.dirty(second) {
+            Some(dirty) => dirty,
+            None => &none,
+        };
+        same_masks(self.shape.factor, masks, dirty)
     }
 
     /// What a level-two register keeps of a block that level one asked for.
     pub fn fetch(&self, block: u32) -> Request2
-        ensures position { result.position ≡ 0 }
+        requires { IsBankFramed self.now }
+        ensures position { result.position ≡ place_of self.now.shape block }
         ensures destination { result.destination ≡ asked_register self.now.asked.items block }
     {
         Request2 {
-            position: 0,
+            position: place_of(&self.shape, block) as u8,
             destination: self.asked_register(block),
         }
     }

@@ -42,7 +42,7 @@ impl Step {
     pub fn new(alloc: Global, shape: &Shape, memory: &Memory, bank: u32) -> Result<Step, NoMemory>
         requires in_range { IsShape shape.now }
         requires bank { bank < shape.now.banks }
-        ensures { IfOk result (λ step. StandsAfter step shape.now (bank_part shape.now.banks bank (flat_memory memory.now.items)) bank []) }
+        ensures { IfOk result (λ step. StandsAfter step shape.now (bank_part shape.now bank (flat_memory memory.now.items)) bank []) }
     {
         let state = AnyBank::new(alloc, shape, memory, bank)?;
         Ok(Step { bank, state })

@@ -1,21 +1,72 @@
 //! Whether the bytes that an event carries are those of flat memory.
 
-ghost use Rattle.std.specs.Prelude.{◌≡◌, bytes_eq, length};
-ghost use Rattle.lf_model.specs.Address.{agree_off, block_bytes, masked};
+ghost use Rattle.std.specs.Prelude.{◌≡◌, ◌<◌, ◌≤◌, ◌+◌, ◌*◌, ◌/◌, ◌^◌, List, bytes_eq, length};
+ghost use Rattle.std.specs.List.{list_all};
+ghost use Rattle.lf_model.specs.Address.{agree_off, block_bytes, masked, part_at, sub_block, places, wide_masked};
+ghost use Rattle.lf_model.specs.Registers.{Held};
+ghost use Rattle.lf_model.specs.State.{Missed};
+ghost use Rattle.lf_model.specs.Table.{store_bytes};
+ghost use Rattle.lf_mshr.specs.Alike.{AreAlike};
 ghost use Rattle.lf_replay.specs.Bytes.{flat_of};
+ghost use Rattle.lf_replay.specs.Tells.{Tells};
 ghost use Rattle.lf_replay.specs.View.{IsBankFramed};
 
 use crate::bank::Bank;
-use lf_model::{Block, Mask};
+use crate::registers::store_bytes;
+use crate::wide::sub_block;
+use lf_model::{Block, Mask, Masks, WideBlock};
+use lf_mshr::{Organisation, Request1};
 
 impl Bank {
     /// Whether a fill carries memory's bytes, off those of a mask.
-    pub fn agrees_off(&self, block: u32, bytes: &Block, mask: u64) -> bool
+    pub fn agrees_off(&self, block: u32, bytes: &[u8], mask: u64) -> bool
         requires framed { IsBankFramed self.now }
-        requires whole { length bytes.now.items ≡ self.now.shape.block }
-        ensures { result ≡ agree_off self.now.shape.block bytes.now.items (block_bytes self.now.shape (flat_of self.now.memory) block) mask }
+        requires whole { length bytes.now ≡ self.now.shape.block }
+        ensures { result ≡ agree_off self.now.shape.block bytes.now (block_bytes self.now.shape (flat_of self.now.memory) block) mask }
     {
         self.memory.agrees_off(block, bytes, mask)
+    }
+
+    /// Whether the part of the block at this place is memory's, off the bytes of waiting stores.
+    fn part_agrees<O: Organisation<Target = Request1>>(
+        &self,
+        waiting: &O::File,
+        second: u32,
+        bytes: &WideBlock,
+        place: u32,
+    ) -> bool
+        requires framed { IsBankFramed self.now }
+        requires fits { second < 0x1_0000_0000 / self.now.shape.factor }
+        requires inside { place < self.now.shape.factor }
+        requires whole { length bytes.now.items ≡ self.now.shape.factor * self.now.shape.block }
+        ensures { (missed : List (Held Missed)) → AreAlike (Tells self.now.shape) (O.seen waiting.now).held missed
+            → let block = sub_block self.now.shape second place in result ≡ agree_off self.now.shape.block (part_at self.now.shape.block bytes.now.items place) (block_bytes self.now.shape (flat_of self.now.memory) block) (store_bytes missed block) }
+    {
+        let block = sub_block(&self.shape, second, place);
+        let part = part_at(self.shape.block as usize, bytes, place as usize);
+        self.agrees_off(block, part, store_bytes::<O>(waiting, block))
+    }
+
+    /// Whether a fill of level two carries memory's bytes, off those that waiting stores of its blocks
+    /// write.
+    pub fn wide_agrees<O: Organisation<Target = Request1>>(
+        &self,
+        waiting: &O::File,
+        second: u32,
+        bytes: &WideBlock,
+    ) -> bool
+        requires framed { IsBankFramed self.now }
+        requires fits { second < 0x1_0000_0000 / self.now.shape.factor }
+        requires whole { length bytes.now.items ≡ self.now.shape.factor * self.now.shape.block }
+        ensures { (missed : List (Held Missed)) → AreAlike (Tells self.now.shape) (O.seen waiting.now).held missed
+            → result ≡ list_all (λ place. let block = sub_block self.now.shape second place in agree_off self.now.shape.block (part_at self.now.shape.block bytes.now.items place) (block_bytes self.now.shape (flat_of self.now.memory) block) (store_bytes missed block)) (places self.now.shape) }
+    {
+        for place in 0..self.shape.factor {
+            if !self.part_agrees::<O>(waiting, second, bytes, place) {
+                return false;
+            }
+        }
+        true
     }
 
     /// Whether an eviction carries memory's bytes under its mask.
@@ -26,4 +77,45 @@ impl Bank {
         let masked = self.memory.masked(block, self.shape.block, mask.0);
         bytes.as_slice() == masked.as_slice()
     }
+
+    /// The bytes of a second-level block under its masks, block by block.
+    fn wide_masked(&self, second: u32, masks: &Masks) -> WideBlock
+        requires framed { IsBankFramed self.now }
+        requires fits { second < 0x1_0000_0000 / self.now.shape.factor }
+        requires count { length masks.now.items ≡ self.now.shape.factor }
+        ensures { result.items ≡ wide_masked self.now.shape (flat_of self.now.memory) second masks.now }
+    {
+        let mut all = WideBlock::new();
+        for place in 0..self.shape.factor {
+            let block = sub_block(&self.shape, second, place);
+            let part = self
+                .memory
+                .masked(block, self.shape.block, masks[place as usize].0);
+            let Ok(()) = all.try_extend_from_slice(&part) else {
+                unreachable!()
+            };
+        }
+        all
+    }
+
+    /// Whether an eviction of level two carries memory's bytes under its masks.
+    pub fn wide_carries(&self, second: u32, masks: &Masks, bytes: &WideBlock) -> bool
+        requires framed { IsBankFramed self.now }
+        requires fits { second < 0x1_0000_0000 / self.now.shape.factor }
+        requires count { length masks.now.items ≡ self.now.shape.factor }
+        ensures { result ≡ bytes_eq bytes.now.items (wide_masked self.now.shape (flat_of self.now.memory) second masks.now) }
+    {
+        let all = self.wide_masked(second, masks);
+        bytes.as_slice() == all.as_slice()
+    }
+}
+
+/// Of the bytes of a second-level block those of the block at this place.
+fn part_at(size: usize, bytes: &[u8], place: usize) -> &[u8]
+    requires within { place * size + size ≤ length bytes.now }
+    requires small { place * size < 2 ^ 32 }
+    ensures { result.now ≡ part_at size bytes.now place }
+{
+    let at = place * size;
+    &bytes[at..at + size]
 }

@@ -7,7 +7,7 @@ ghost use Rattle.arrayvec.specs.ArrayVec.{ArrayVec};
 ghost use Rattle.lf_model.specs.declared.event.Event.TheVariants as event;
 ghost use Rattle.lf_model.specs.declared.event.Op.{Op};
 ghost use Rattle.lf_model.specs.Registers.{Held};
-ghost use Rattle.lf_model.specs.State.{Missed};
+ghost use Rattle.lf_model.specs.State.{Missed, Asked};
 ghost use Rattle.lf_model.specs.Table.{request_of, is_head, oldest};
 ghost use Rattle.lf_mshr.specs.RegisterFile.{RegisterFile};
 ghost use Rattle.lf_mshr.specs.declared.level_one.Request1.{Request1};
@@ -27,11 +27,12 @@ use crate::registers::{has_room1, merge_rule, primary_rule, store_bytes};
 use crate::replies::add_replies;
 use crate::request::{Ready, Request};
 use crate::target::missed;
+use crate::wide::{mark_at, place_of, second_of};
 use lf_model::{Block, Mask, NoMemory, Rule};
 use lf_mshr::{Organisation, Request1};
 
 /// No more targets than these wait for one block.
-const MOST_TARGETS: usize = 1024;
+pub const MOST_TARGETS: usize = 1024;
 
 impl Bank {
     /// The port's queue takes the request.
@@ -139,7 +140,7 @@ impl Bank {
     fn accept_primary(&mut self, port: u8, tag: u8, register: u16) -> Result<(), NoMemory>
         requires framed { IsBankFramed self.old }
         requires next { (nat_lt port self.old.shape.ports && is_head (queue_at self.old.queues.items port) tag) ≡ true }
-        ensures ok { (waiting : RegisterFile Request1) (regs2 : RegisterFile Request2) (missed : List (Held Missed)) (fetched : List (Held ℕ)) (log : ℕ)
+        ensures ok { (waiting : RegisterFile Request1) (regs2 : RegisterFile Request2) (missed : List (Held Missed)) (fetched : List (Held Asked)) (log : ℕ)
             → OnOk result (local_of (kept self.new waiting regs2) (missed ++ miss_of port register (flat_of self.old.memory) (oldest (queue_at self.old.queues.items port)) ∷ []) fetched
             ≡ after_event self.old.shape (local_of (kept self.old waiting regs2) missed fetched) log (event.Primary port tag register)) }
         ensures err { (waiting : RegisterFile Request1) (regs2 : RegisterFile Request2) → OnErr result (kept self.new waiting regs2 ≡ kept self.old waiting regs2) }
@@ -195,7 +196,7 @@ impl Bank {
     fn accept_merge(&mut self, port: u8, tag: u8) -> Result<(), NoMemory>
         requires framed { IsBankFramed self.old }
         requires next { (nat_lt port self.old.shape.ports && is_head (queue_at self.old.queues.items port) tag) ≡ true }
-        ensures ok { (waiting : RegisterFile Request1) (regs2 : RegisterFile Request2) (missed : List (Held Missed)) (fetched : List (Held ℕ)) (log register : ℕ)
+        ensures ok { (waiting : RegisterFile Request1) (regs2 : RegisterFile Request2) (missed : List (Held Missed)) (fetched : List (Held Asked)) (log register : ℕ)
             → OnOk result (local_of (kept self.new waiting regs2) (missed ++ miss_of port register (flat_of self.old.memory) (oldest (queue_at self.old.queues.items port)) ∷ []) fetched
             ≡ after_event self.old.shape (local_of (kept self.old waiting regs2) missed fetched) log (event.Merge port tag register)) }
         ensures err { (waiting : RegisterFile Request1) (regs2 : RegisterFile Request2) → OnErr result (kept self.new waiting regs2 ≡ kept self.old waiting regs2) }
@@ -293,7 +294,9 @@ impl Bank {
         if self.lines1.evict(block, mask).is_err() {
             unreachable!()
         }
-        self.lines2.mark(block, mask);
+        let second = second_of(&self.shape, block);
+        let place = place_of(&self.shape, block);
+        mark_at(&mut self.lines2, &self.shape, second, place, mask);
         Ok(())
     }
 }

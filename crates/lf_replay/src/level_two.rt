@@ -1,29 +1,36 @@
 //! The events of level two, as those of level one.
 
-ghost use Rattle.std.specs.Prelude.{◌≡◌, ℕ, List, false, length, OnOk, OnErr};
-ghost use Rattle.arrayvec.specs.ArrayVec.{ArrayVec};
-ghost use Rattle.lf_levels.specs.LineTable.{is_full};
+ghost use Rattle.std.specs.Prelude.{◌≡◌, ◌<◌, ◌*◌, ◌/◌, ◌&&◌, not, ℕ, List, length};
+ghost use Rattle.std.specs.List.{list_all};
+ghost use Rattle.lf_model.specs.Address.{places, sub_block};
 ghost use Rattle.lf_model.specs.Lines.{has_line};
-ghost use Rattle.lf_model.specs.Registers.{Held, released};
+ghost use Rattle.lf_model.specs.Registers.{Held, holds};
 ghost use Rattle.lf_model.specs.State.{Missed};
 ghost use Rattle.lf_model.specs.declared.event.Event.TheVariants as event;
+ghost use Rattle.lf_mshr.specs.Alike.{AreAlike};
 ghost use Rattle.lf_mshr.specs.RegisterFile.{RegisterFile};
 ghost use Rattle.lf_mshr.specs.declared.level_one.Request1.{Request1};
 ghost use Rattle.lf_mshr.specs.declared.level_two.Request2.{Request2};
 ghost use Rattle.lf_replay.specs.Answers.{IsBankAnswer};
-ghost use Rattle.lf_replay.specs.Kept.{IsFile2, local_of, after_event};
+ghost use Rattle.lf_replay.specs.Kept.{IsFile2};
 ghost use Rattle.lf_replay.specs.Shows.{IsAnswer, Keeps};
+ghost use Rattle.lf_replay.specs.Tells.{Tells};
 ghost use Rattle.lf_replay.specs.View.{kept, IsBankFramed};
 
 use crate::bank::Bank;
 use crate::fault::BankFault;
+use crate::level_one::MOST_TARGETS;
 use crate::lists::{drop_asked, push};
-use crate::registers::{has_room2, is_fetched, is_waited_for, second_primary_rule, store_bytes};
-use lf_model::{Block, Mask, NoMemory, Rule};
+use crate::registers::{
+    has_room2, is_fetched, is_waited_for, second_merge_rule, second_primary_rule,
+};
+use crate::supply::add_blocks;
+use crate::wide::{clean_masks, second_of};
+use lf_model::{Masks, Rule, WideBlock};
 use lf_mshr::{Organisation, Request1, Request2};
 
 impl Bank {
-    /// The block that level one asks for is in level two.
+    /// The block that level one asks for is in level two, in its second-level block.
     pub fn second_hit(&mut self, block: u32) -> Result<(), BankFault>
         requires { IsBankFramed self.old }
         ensures answer { (log : ℕ) → IsBankAnswer self.old self.new log (event.SecondHit block) result }
@@ -33,7 +40,7 @@ impl Bank {
         if !self.has_asked(block) {
             return Err(BankFault::Rule(Rule::NotAsked));
         }
-        if !self.lines2.has(block) {
+        if !self.lines2.has(second_of(&self.shape, block)) {
             return Err(BankFault::Rule(Rule::SecondAbsent));
         }
         if push(&mut self.supplied, block).is_err() {
@@ -60,14 +67,48 @@ impl Bank {
         if !self.has_asked(block) {
             return Err(BankFault::Rule(Rule::NotAsked));
         }
-        if self.lines2.has(block) {
+        let second = second_of(&self.shape, block);
+        if self.lines2.has(second) {
             return Err(BankFault::Rule(Rule::SecondPresent));
         }
         let target = self.fetch(block);
-        if let Some(rule) = second_primary_rule::<O>(regs2, &self.shape, block, &target, register) {
+        if let Some(rule) = second_primary_rule::<O>(regs2, &self.shape, second, &target, register) {
             return Err(BankFault::Rule(rule));
         }
-        let Ok(()) = O::primary(regs2, register, block, target) else {
+        let Ok(()) = O::primary(regs2, register, second, target) else {
+            unreachable!()
+        };
+        drop_asked(&mut self.asked, block);
+        Ok(())
+    }
+
+    /// The block that level one asks for misses in level two and joins a register that waits for its
+    /// second-level block.
+    pub fn second_merge<O: Organisation<Target = Request2>>(
+        &mut self,
+        regs2: &mut O::File,
+        block: u32,
+        register: u16,
+    ) -> Result<(), BankFault>
+        requires framed { IsBankFramed self.old }
+        requires file { IsFile2 self.old.shape (O.seen regs2.old) }
+        ensures answer { (log : ℕ) (waiting : RegisterFile Request1) → IsAnswer (kept self.old waiting (O.seen regs2.old)) (kept self.new waiting (O.seen regs2.new)) log (event.SecondMerge block register) result }
+        ensures framed { IsBankFramed self.new }
+        ensures file { IsFile2 self.new.shape (O.seen regs2.new) }
+        ensures shape { self.new.shape ≡ self.old.shape }
+    {
+        if !self.has_asked(block) {
+            return Err(BankFault::Rule(Rule::NotAsked));
+        }
+        let second = second_of(&self.shape, block);
+        if self.lines2.has(second) {
+            return Err(BankFault::Rule(Rule::SecondPresent));
+        }
+        let target = self.fetch(block);
+        if let Some(rule) = second_merge_rule::<O>(regs2, &self.shape, second, &target, register) {
+            return Err(BankFault::Rule(rule));
+        }
+        let Ok(()) = O::merge(regs2, register, second, target) else {
             unreachable!()
         };
         drop_asked(&mut self.asked, block);
@@ -87,95 +128,98 @@ impl Bank {
         if !self.has_asked(block) {
             return Err(BankFault::Rule(Rule::NotAsked));
         }
-        if self.lines2.has(block) {
+        let second = second_of(&self.shape, block);
+        if self.lines2.has(second) {
             return Err(BankFault::Rule(Rule::SecondPresent));
         }
         let target = self.fetch(block);
-        if has_room2::<O>(regs2, &self.shape, block, &target) {
+        if has_room2::<O>(regs2, &self.shape, second, &target) {
             return Err(BankFault::Rule(Rule::NeedlessStall));
         }
         Ok(())
     }
 
-    /// The block comes into level two.
+    /// The second-level block comes into level two, and each block of it that was fetched is supplied.
     pub fn fill2<O1: Organisation<Target = Request1>, O2: Organisation<Target = Request2>>(
         &mut self,
         waiting: &O1::File,
         regs2: &mut O2::File,
-        block: u32,
-        bytes: &Block,
+        second: u32,
+        bytes: &WideBlock,
     ) -> Result<(), BankFault>
         requires framed { IsBankFramed self.old }
         requires file { IsFile2 self.old.shape (O2.seen regs2.old) }
         requires keeps { Keeps (kept self.old (O1.seen waiting.now) (O2.seen regs2.old)) }
-        requires whole { length bytes.now.items ≡ self.old.shape.block }
-        ensures answer { (log : ℕ) → IsAnswer (kept self.old (O1.seen waiting.now) (O2.seen regs2.old)) (kept self.new (O1.seen waiting.now) (O2.seen regs2.new)) log (event.Fill2 block bytes.now) result }
+        requires fits { second < 0x1_0000_0000 / self.old.shape.factor }
+        requires whole { length bytes.now.items ≡ self.old.shape.factor * self.old.shape.block }
+        ensures answer { (log : ℕ) → IsAnswer (kept self.old (O1.seen waiting.now) (O2.seen regs2.old)) (kept self.new (O1.seen waiting.now) (O2.seen regs2.new)) log (event.Fill2 second bytes.now) result }
         ensures framed { IsBankFramed self.new }
         ensures file { IsFile2 self.new.shape (O2.seen regs2.new) }
         ensures shape { self.new.shape ≡ self.old.shape }
     {
-        if !is_fetched::<O2>(regs2, block) {
+        if !is_fetched::<O2>(regs2, second) {
             return Err(BankFault::Rule(Rule::NotFetched));
         }
-        if self.lines2.full(block) {
+        if self.lines2.full(second) {
             return Err(BankFault::Rule(Rule::SetFull));
         }
-        if !self.agrees_off(block, bytes, store_bytes::<O1>(waiting, block)) {
+        if !self.wide_agrees::<O1>(waiting, second, bytes) {
             return Err(BankFault::Rule(Rule::FillData));
         }
-        let Ok(()) = self.supply(block) else {
+        if self.supplied.reserve(MOST_TARGETS).is_err() {
             return Err(BankFault::NoMemory);
-        };
-        O2::release(regs2, block, &mut self.fetched);
-        Ok(())
-    }
-
-    /// What a fill of level two changes beside the registers: the block has a line, and is supplied.
-    fn supply(&mut self, block: u32) -> Result<(), NoMemory>
-        requires framed { IsBankFramed self.old }
-        requires absent { has_line self.old.lines2.lines block ≡ false }
-        requires way { is_full self.old.lines2 block ≡ false }
-        ensures ok { (waiting : RegisterFile Request1) (regs2 : RegisterFile Request2) (missed : List (Held Missed)) (fetched : List (Held ℕ)) (log : ℕ) (bytes : ArrayVec ℕ)
-            → OnOk result (local_of (kept self.new waiting regs2) missed (released fetched block) ≡ after_event self.old.shape (local_of (kept self.old waiting regs2) missed fetched) log (event.Fill2 block bytes)) }
-        ensures err { (waiting : RegisterFile Request1) (regs2 : RegisterFile Request2) → OnErr result (kept self.new waiting regs2 ≡ kept self.old waiting regs2) }
-        ensures framed { IsBankFramed self.new }
-        ensures shape { self.new.shape ≡ self.old.shape }
-    {
-        push(&mut self.supplied, block)?;
-        if self.lines2.fill(block, Mask(0)).is_err() {
-            self.supplied.pop();
-            return Err(NoMemory);
         }
+        if self
+            .lines2
+            .fill(second, clean_masks(self.shape.factor))
+            .is_err()
+        {
+            return Err(BankFault::NoMemory);
+        }
+        O2::release(regs2, second, &mut self.fetched);
+        add_blocks(&mut self.supplied, &self.shape, second, self.fetched.as_slice());
         Ok(())
     }
 
-    /// Level two gives the block up, with the bytes of its dirty mask.
+    /// Whether level one has neither a line nor a register on any block of the second-level block.
+    fn may_leave<O: Organisation<Target = Request1>>(&self, waiting: &O::File, second: u32) -> bool
+        requires framed { IsBankFramed self.now }
+        requires fits { second < 0x1_0000_0000 / self.now.shape.factor }
+        ensures { (missed : List (Held Missed)) → AreAlike (Tells self.now.shape) (O.seen waiting.now).held missed
+            → result ≡ list_all (λ place. let block = sub_block self.now.shape second place in not (has_line self.now.lines1.lines block) && not (holds missed block)) (places self.now.shape) }
+    {
+        let in_register = is_waited_for::<O>(waiting, &self.shape, second);
+        self.lines2.may_leave(second, &self.lines1, in_register)
+    }
+
+    /// Level two gives the second-level block up, with the bytes of its dirty masks.
     pub fn evict2<O: Organisation<Target = Request1>>(
         &mut self,
         waiting: &O::File,
-        block: u32,
-        mask: Mask,
-        bytes: &Block,
+        second: u32,
+        masks: &Masks,
+        bytes: &WideBlock,
     ) -> Result<(), BankFault>
-        requires { IsBankFramed self.old }
-        ensures answer { (log : ℕ) (regs2 : RegisterFile Request2) → IsAnswer (kept self.old (O.seen waiting.now) regs2) (kept self.new (O.seen waiting.now) regs2) log (event.Evict2 block mask bytes.now) result }
+        requires framed { IsBankFramed self.old }
+        requires fits { second < 0x1_0000_0000 / self.old.shape.factor }
+        requires count { length masks.now.items ≡ self.old.shape.factor }
+        ensures answer { (log : ℕ) (regs2 : RegisterFile Request2) → IsAnswer (kept self.old (O.seen waiting.now) regs2) (kept self.new (O.seen waiting.now) regs2) log (event.Evict2 second masks.now bytes.now) result }
         ensures framed { IsBankFramed self.new }
         ensures shape { self.new.shape ≡ self.old.shape }
     {
-        if !self.lines2.has(block) {
+        if !self.lines2.has(second) {
             return Err(BankFault::Rule(Rule::EvictAbsent));
         }
-        let in_register = is_waited_for::<O>(waiting, block);
-        if !self.lines2.may_leave(block, &self.lines1, in_register) {
+        if !self.may_leave::<O>(waiting, second) {
             return Err(BankFault::Rule(Rule::Inclusion));
         }
-        if mask.0 != self.dirty2(block) {
+        if !self.are_dirty2(second, masks) {
             return Err(BankFault::Rule(Rule::EvictMask));
         }
-        if !self.carries(block, mask, bytes) {
+        if !self.wide_carries(second, masks, bytes) {
             return Err(BankFault::Rule(Rule::EvictData));
         }
-        if self.lines2.evict(block, mask).is_err() {
+        if self.lines2.evict(second, masks).is_err() {
             unreachable!()
         }
         Ok(())

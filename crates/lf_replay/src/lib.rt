@@ -23,7 +23,9 @@ mod replays;
 mod replies;
 mod request;
 mod state;
+mod supply;
 mod target;
+mod wide;
 
 pub use bank_step::Step;
 pub use fault::BankFault;

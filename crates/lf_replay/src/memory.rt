@@ -3,12 +3,14 @@
 ghost use Rattle.std.specs.Prelude.{◌≡◌, ℕ, ◌+◌, ◌-◌, ◌<◌, ◌≤◌, ◌||◌, ◌==◌, map, length, slice_index, IfOk, OnOk, OnErr, if◌then◌else◌};
 ghost use Rattle.std.specs.List.{range_with_len, list_all, filter};
 ghost use Rattle.lf_model.specs.Address.{flat_memory, is_under};
+ghost use Rattle.lf_model.specs.InRange.{IsShape};
 ghost use Rattle.lf_model.specs.State.{update};
 ghost use Rattle.lf_model.specs.Table.{value_of, accepted};
 ghost use Rattle.lf_replay.specs.Bytes.{flat_of, bank_part, put, IsSound};
 
 use crate::request::{Data, Request};
-use lf_model::{Block, NoMemory, Op};
+use crate::wide::bank_of;
+use lf_model::{Block, NoMemory, Op, Shape};
 use std::alloc::Global;
 use std::collections::BTreeMap;
 use std::marker::Model;
@@ -67,11 +69,11 @@ impl FlatMemory {
     pub fn new(
         alloc: Global,
         memory: &[(u32, Block)],
-        banks: u32,
+        shape: &Shape,
         bank: u32,
     ) -> Result<FlatMemory, NoMemory>
-        requires { 0 < banks }
-        ensures { IfOk result (λ flat. flat_of flat ≡ bank_part banks bank (flat_memory memory.now)) }
+        requires { IsShape shape.now }
+        ensures { IfOk result (λ flat. flat_of flat ≡ bank_part shape.now bank (flat_memory memory.now)) }
     {
         let mut flat = FlatMemory {
             blocks: BTreeMap::new(alloc),
@@ -80,7 +82,7 @@ impl FlatMemory {
         while left > 0 {
             left -= 1;
             let (block, bytes) = &memory[left];
-            if *block % banks == bank {
+            if bank_of(shape, *block) == bank {
                 flat.set(*block, padded(bytes))?;
             }
         }

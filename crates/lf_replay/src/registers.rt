@@ -1,18 +1,22 @@
 //! What the registers of both levels say of the requests that they tell of.
 
-ghost use Rattle.std.specs.Prelude.{◌≡◌, ℕ, List};
+ghost use Rattle.std.specs.Prelude.{◌≡◌, ◌<◌, ◌/◌, ℕ, List};
+ghost use Rattle.std.specs.List.{list_any};
+ghost use Rattle.lf_model.specs.Address.{places, sub_block};
+ghost use Rattle.lf_model.specs.InRange.{IsShape};
 ghost use Rattle.lf_model.specs.Registers.{Held, holds, has_room, primary_clauses, merge_clauses};
 ghost use Rattle.lf_model.specs.Run.{first_failing};
-ghost use Rattle.lf_model.specs.State.{Missed};
-ghost use Rattle.lf_model.specs.Table.{OfBank, destinations, destinations2, only_position, position, store_bytes};
+ghost use Rattle.lf_model.specs.State.{Missed, Asked};
+ghost use Rattle.lf_model.specs.Table.{OfBank, destinations, destinations2, position, position2, store_bytes};
 ghost use Rattle.lf_model.specs.declared.shape.Shape.{Shape};
 ghost use Rattle.lf_mshr.specs.Alike.{AreAlike};
 ghost use Rattle.lf_mshr.specs.RegisterFile.{primary_wants, merge_wants};
 ghost use Rattle.lf_mshr.specs.declared.level_one.Request1.{Request1};
 ghost use Rattle.lf_mshr.specs.declared.level_two.Request2.{Request2};
 ghost use Rattle.lf_replay.specs.Kept.{IsFile1, IsFile2};
-ghost use Rattle.lf_replay.specs.Tells.{Tells, TellsRegister};
+ghost use Rattle.lf_replay.specs.Tells.{Tells, TellsAsked};
 
+use crate::wide::sub_block;
 use lf_model::{Rule, Shape};
 use lf_mshr::{Organisation, Request1, Request2};
 
@@ -68,13 +72,6 @@ pub fn has_room1<O: Organisation<Target = Request1>>(
     O::room(waiting, block, target)
 }
 
-/// Whether a request waits for the block in a level-one register.
-pub fn is_waited_for<O: Organisation<Target = Request1>>(waiting: &O::File, block: u32) -> bool
-    ensures { (shape : Shape) (missed : List (Held Missed)) → AreAlike (Tells shape) (O.seen waiting.now).held missed → result ≡ holds missed block }
-{
-    O::holds(waiting, block)
-}
-
 /// The bytes that waiting stores of the block write.
 pub fn store_bytes<O: Organisation<Target = Request1>>(waiting: &O::File, block: u32) -> u64
     ensures { (shape : Shape) (missed : List (Held Missed)) → AreAlike (Tells shape) (O.seen waiting.now).held missed → result ≡ store_bytes missed block }
@@ -82,44 +79,80 @@ pub fn store_bytes<O: Organisation<Target = Request1>>(waiting: &O::File, block:
     O::store_bytes(waiting, block).0
 }
 
-/// Whether a level-two register fetches the block.
-pub fn is_fetched<O: Organisation<Target = Request2>>(regs2: &O::File, block: u32) -> bool
-    ensures held { result ≡ holds (O.seen regs2.now).held block }
-    ensures told { (fetched : List (Held ℕ)) → AreAlike TellsRegister (O.seen regs2.now).held fetched → result ≡ holds fetched block }
+/// Whether a request waits for any block of the second-level block in a level-one register.
+pub fn is_waited_for<O: Organisation<Target = Request1>>(
+    waiting: &O::File,
+    shape: &Shape,
+    second: u32,
+) -> bool
+    requires in_range { IsShape shape.now }
+    requires fits { second < 0x1_0000_0000 / shape.now.factor }
+    ensures { (s : Shape) (missed : List (Held Missed)) → AreAlike (Tells s) (O.seen waiting.now).held missed → result ≡ list_any (λ place. holds missed (sub_block shape.now second place)) (places shape.now) }
 {
-    O::holds(regs2, block)
+    for place in 0..shape.factor {
+        if O::holds(waiting, sub_block(shape, second, place)) {
+            return true;
+        }
+    }
+    false
 }
 
-/// The first rule that the block breaks as a primary miss of the level-two register.
+/// Whether a level-two register fetches the second-level block.
+pub fn is_fetched<O: Organisation<Target = Request2>>(regs2: &O::File, second: u32) -> bool
+    ensures held { result ≡ holds (O.seen regs2.now).held second }
+    ensures told { (shape : Shape) (fetched : List (Held Asked)) → AreAlike (TellsAsked shape) (O.seen regs2.now).held fetched → result ≡ holds fetched second }
+{
+    O::holds(regs2, second)
+}
+
+/// The first rule that the target breaks as a primary miss of the level-two register.
 pub fn second_primary_rule<O: Organisation<Target = Request2>>(
     regs2: &O::File,
     shape: &Shape,
-    block: u32,
+    second: u32,
     target: &Request2,
     register: u16,
 ) -> Option<Rule>
     requires { IsFile2 shape.now (O.seen regs2.now) }
-    ensures held { result ≡ first_failing OfBank (primary_wants (λ (r : Request2). r.position) (λ (r : Request2). r.destination) (O.seen regs2.now) register block target.now) }
-    ensures told { (fetched : List (Held ℕ)) → AreAlike TellsRegister (O.seen regs2.now).held fetched
-        → result ≡ first_failing OfBank (primary_clauses shape.now.level2.organisation (destinations2 shape.now) fetched block target.now.destination register) }
+    ensures held { result ≡ first_failing OfBank (primary_wants (λ (r : Request2). r.position) (λ (r : Request2). r.destination) (O.seen regs2.now) register second target.now) }
+    ensures told { (fetched : List (Held Asked)) → AreAlike (TellsAsked shape.now) (O.seen regs2.now).held fetched
+        → result ≡ first_failing OfBank (primary_clauses shape.now.level2.organisation (destinations2 shape.now) fetched second target.now.destination register) }
 {
-    match O::primary_fault(regs2, register, block, target) {
+    match O::primary_fault(regs2, register, second, target) {
         Some(fault) => Some(fault.rule()),
         None => None,
     }
 }
 
-/// Whether some level-two register takes the block.
+/// The first rule that the target breaks as a merge into the level-two register.
+pub fn second_merge_rule<O: Organisation<Target = Request2>>(
+    regs2: &O::File,
+    shape: &Shape,
+    second: u32,
+    target: &Request2,
+    register: u16,
+) -> Option<Rule>
+    requires { IsFile2 shape.now (O.seen regs2.now) }
+    ensures held { result ≡ first_failing OfBank (merge_wants (λ (r : Request2). r.position) (λ (r : Request2). r.destination) (O.seen regs2.now) register second target.now) }
+    ensures told { (fetched : List (Held Asked)) → AreAlike (TellsAsked shape.now) (O.seen regs2.now).held fetched
+        → result ≡ first_failing OfBank (merge_clauses shape.now.level2.organisation (destinations2 shape.now) (position2 shape.now) fetched second target.now.destination target.now.position register) }
+{
+    match O::merge_fault(regs2, register, second, target) {
+        Some(fault) => Some(fault.rule()),
+        None => None,
+    }
+}
+
+/// Whether some level-two register takes the target.
 pub fn has_room2<O: Organisation<Target = Request2>>(
     regs2: &O::File,
     shape: &Shape,
-    block: u32,
+    second: u32,
     target: &Request2,
 ) -> bool
-    requires file { IsFile2 shape.now (O.seen regs2.now) }
-    requires position { target.now.position ≡ 0 }
-    ensures { (fetched : List (Held ℕ)) → AreAlike TellsRegister (O.seen regs2.now).held fetched
-        → result ≡ has_room shape.now.level2.organisation (destinations2 shape.now) only_position fetched block target.now.destination 0 }
+    requires { IsFile2 shape.now (O.seen regs2.now) }
+    ensures { (fetched : List (Held Asked)) → AreAlike (TellsAsked shape.now) (O.seen regs2.now).held fetched
+        → result ≡ has_room shape.now.level2.organisation (destinations2 shape.now) (position2 shape.now) fetched second target.now.destination target.now.position }
 {
-    O::room(regs2, block, target)
+    O::room(regs2, second, target)
 }

@@ -99,7 +99,7 @@ fn replay_part<O1: Organisation<Target = Request1>, O2: Organisation<Target = Re
     requires level2 { O2.names shape.now.level2.organisation ≡ true }
     requires bank { bank < shape.now.banks }
     requires records { IsBankOrder shape.now bank records.now }
-    ensures { IsBankOutcome shape.now (bank_part shape.now.banks bank (flat_memory memory.now.items)) records.now result }
+    ensures { IsBankOutcome shape.now (bank_part shape.now bank (flat_memory memory.now.items)) records.now result }
 {
     let Ok(mut state) = BankState::<O1, O2>::new(alloc, shape, memory, bank) else {
         return Outcome::NoMemory;

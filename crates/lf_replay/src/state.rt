@@ -72,7 +72,7 @@ impl<O1: Organisation<Target = Request1>, O2: Organisation<Target = Request2>> B
         requires in_range { IsShape shape.now }
         requires level1 { O1.names shape.now.level1.organisation ≡ true }
         requires level2 { O2.names shape.now.level2.organisation ≡ true }
-        ensures opening { IfOk result (λ state. Shows state (first_local (bank_part shape.now.banks bank (flat_memory memory.now)))) }
+        ensures opening { IfOk result (λ state. Shows state (first_local (bank_part shape.now bank (flat_memory memory.now)))) }
         ensures sound { IfOk result (λ state. IsSound state) }
         ensures shape { IfOk result (λ state. state.shape ≡ shape.now) }
     {

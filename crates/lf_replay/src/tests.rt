@@ -2,12 +2,13 @@
 //! numbered in the order in which they are listed.
 
 ghost use Rattle.std.specs.Prelude.{◌≡◌, ◌≤◌, true, length};
-ghost use Rattle.lf_model.specs.InRange.{IsShape, IsOrganisation};
+ghost use Rattle.lf_model.specs.InRange.{IsShape, IsOrganisation, IsFrom};
 ghost use Rattle.lf_replay.specs.Step.{IsBankOrder};
 
 use crate::{Step, bank_replay, replay};
 use lf_model::{
-    Block, Event, Level, Mask, Memory, Op, OrgShape, Outcome, Record, Rule, Shape, fits,
+    Block, Event, Level, Mask, Masks, Memory, Op, OrgShape, Outcome, Record, Rule, Shape, WideBlock,
+    fits,
 };
 use lf_mshr::{Explicit, Implicit, Inverted, Organisation, Request1, Request2};
 use std::alloc::Global;
@@ -28,6 +29,7 @@ fn shape_with(level1: OrgShape) -> Shape
         banks: 1,
         block: 8,
         tags: 4,
+        factor: 1,
         level1: Level {
             sets: 1,
             ways: 1,
@@ -62,6 +64,22 @@ fn two_registers() -> Shape
         registers: 2,
         entries: 2,
     })
+}
+
+/// Second-level blocks of two blocks; level one has two lines and two registers, level two one register
+/// with so many entries.
+fn wide(entries: u32) -> Shape
+    requires { IsFrom 1 8 entries }
+    ensures { IsShape result }
+{
+    let mut shape = two_registers();
+    shape.factor = 2;
+    shape.level1.ways = 2;
+    shape.level2.organisation = OrgShape::Explicit {
+        registers: 1,
+        entries,
+    };
+    shape
 }
 
 fn block_of(bytes: &[u8]) -> Block {
@@ -151,18 +169,34 @@ fn second_stall(block: u32) -> Event {
     Event::SecondStall { block }
 }
 
+fn second_merge(block: u32, register: u16) -> Event {
+    Event::SecondMerge { block, register }
+}
+
+fn wide_of(bytes: &[u8]) -> WideBlock {
+    let mut block = WideBlock::new();
+    for byte in bytes {
+        let _ = block.try_push(*byte);
+    }
+    block
+}
+
 fn fill2(block: u32, bytes: &[u8]) -> Event {
     Event::Fill2 {
         block,
-        bytes: block_of(bytes),
+        bytes: wide_of(bytes),
     }
 }
 
-fn evict2(block: u32, mask: u64, bytes: &[u8]) -> Event {
+fn evict2(block: u32, bits: &[u64], bytes: &[u8]) -> Event {
+    let mut masks = Masks::new();
+    for mask in bits {
+        let _ = masks.try_push(Mask(*mask));
+    }
     Event::Evict2 {
         block,
-        mask: Mask(mask),
-        bytes: block_of(bytes),
+        masks,
+        bytes: wide_of(bytes),
     }
 }
 
@@ -196,7 +230,7 @@ fn is_bank_order(shape: &Shape, bank: u32, records: &[Record]) -> bool
     ensures { result ≡ true → IsBankOrder shape.now bank records.now }
 {
     for (at, item) in records.iter().enumerate() {
-        if !fits(shape.ports, shape.banks, shape.block, item) {
+        if !fits(shape.ports, shape.banks, shape.block, shape.factor, item) {
             return false;
         }
         if u32::from(item.bank) != bank || item.number as usize != at {
@@ -241,7 +275,7 @@ fn refused_by_step(alloc: Global, shape: &Shape, events: Vec<Event>) -> Result<u
         return Err(Fail::from("no memory"));
     };
     for item in &records {
-        if !fits(shape.ports, shape.banks, shape.block, item) || item.bank != 0 {
+        if !fits(shape.ports, shape.banks, shape.block, shape.factor, item) || item.bank != 0 {
             return Err(Fail::from("this is no record of the bank"));
         }
         if step.apply(item).is_err() {
@@ -397,7 +431,7 @@ fn inverted_two_registers_by_replay(rt: HostRuntime) -> Result<(), Fail> {
 #[test]
 fn inclusion_by_replay(rt: HostRuntime) -> Result<(), Fail> {
     let mut under_line = load_filled(rt.alloc())?;
-    under_line.push(evict2(0, 0, &[]))?;
+    under_line.push(evict2(0, &[0], &[]))?;
     assert_eq!(rt;
         judged(rt.alloc(), &plain(), under_line)?,
         Outcome::Broken(5, Rule::Inclusion)
@@ -406,7 +440,7 @@ fn inclusion_by_replay(rt: HostRuntime) -> Result<(), Fail> {
     under_register.push(evict1(0, 0, &[]))?;
     under_register.push(load(0, 8, 0))?;
     under_register.push(primary(0, 0))?;
-    under_register.push(evict2(0, 0, &[]))?;
+    under_register.push(evict2(0, &[0], &[]))?;
     assert_eq!(rt;
         judged(rt.alloc(), &plain(), under_register)?,
         Outcome::Broken(9, Rule::Inclusion)
@@ -433,7 +467,7 @@ fn eviction_mask_and_data_by_replay(rt: HostRuntime) -> Result<(), Fail> {
     assert_eq!(rt; judged(rt.alloc(), &plain(), right)?, Outcome::Passed);
     let mut unmarked = store_filled(rt.alloc())?;
     unmarked.push(evict1(0, 3, &[0xaa, 0xbb]))?;
-    unmarked.push(evict2(0, 0, &[]))?;
+    unmarked.push(evict2(0, &[0], &[]))?;
     assert_eq!(rt;
         judged(rt.alloc(), &plain(), unmarked)?,
         Outcome::Broken(6, Rule::EvictMask)
@@ -452,7 +486,7 @@ fn written_back_and_fetched_again_by_replay(rt: HostRuntime) -> Result<(), Fail>
     ] {
         let mut events = store_filled(rt.alloc())?;
         events.push(evict1(0, 3, &[0xaa, 0xbb]))?;
-        events.push(evict2(0, 3, &[0xaa, 0xbb]))?;
+        events.push(evict2(0, &[3], &[0xaa, 0xbb]))?;
         events.push(load(1, 8, 0))?;
         events.push(primary(1, 0))?;
         events.push(second_primary(0, 0))?;
@@ -581,7 +615,7 @@ fn a_step_goes_on_after_a_fault(rt: HostRuntime) -> Result<(), Fail> {
     events.push(second_primary(0, 0))?;
     events.push(fill2(0, &[1; 8]))?;
     events.push(fill2(0, &ZEROS))?;
-    events.push(evict2(0, 0, &[]))?;
+    events.push(evict2(0, &[0], &[]))?;
     events.push(fill1(0, &ZEROS))?;
     events.push(reply(0, 8, &[1; 8]))?;
     events.push(reply(0, 8, &ZEROS))?;
@@ -670,4 +704,93 @@ fn each_pair_of_organisations(rt: HostRuntime) -> Result<(), Fail> {
     drive::<Inverted1, Implicit2>(&rt, alloc, &shape_of(inverted, implicit))?;
     drive::<Inverted1, Explicit2>(&rt, alloc, &shape_of(inverted, explicit))?;
     drive::<Inverted1, Inverted2>(&rt, alloc, &shape_of(inverted, inverted))
+}
+
+/// Two loads of the two blocks of one second-level block, up to the primary miss of level two.
+fn two_blocks(alloc: Global) -> Result<Vec<Event>, Fail> {
+    let events = vec![in alloc;
+        load(0, 8, 0),
+        primary(0, 0),
+        load(1, 8, 8),
+        primary(1, 1),
+        second_primary(0, 0),
+    ]?;
+    Ok(events)
+}
+
+/// The same to the replies.
+fn two_blocks_filled(alloc: Global) -> Result<Vec<Event>, Fail> {
+    let mut events = two_blocks(alloc)?;
+    events.push(second_merge(1, 0))?;
+    events.push(fill2(0, &[0; 16]))?;
+    events.push(fill1(0, &ZEROS))?;
+    events.push(fill1(1, &ZEROS))?;
+    events.push(reply(0, 8, &ZEROS))?;
+    events.push(reply(1, 8, &ZEROS))?;
+    Ok(events)
+}
+
+#[test]
+fn second_level_merge_by_replay(rt: HostRuntime) -> Result<(), Fail> {
+    let events = two_blocks_filled(rt.alloc())?;
+    assert_eq!(rt; judged(rt.alloc(), &wide(2), events)?, Outcome::Passed);
+    let mut primary = two_blocks(rt.alloc())?;
+    primary.push(second_primary(1, 0))?;
+    assert_eq!(rt;
+        judged(rt.alloc(), &wide(2), primary)?,
+        Outcome::Broken(5, Rule::PrimaryInFlight)
+    );
+    let mut needless = two_blocks(rt.alloc())?;
+    needless.push(second_stall(1))?;
+    assert_eq!(rt;
+        judged(rt.alloc(), &wide(2), needless)?,
+        Outcome::Broken(5, Rule::NeedlessStall)
+    );
+    let mut full = two_blocks(rt.alloc())?;
+    full.push(second_merge(1, 0))?;
+    assert_eq!(rt;
+        judged(rt.alloc(), &wide(1), full)?,
+        Outcome::Broken(5, Rule::MergeFull)
+    );
+    let mut stalled = two_blocks(rt.alloc())?;
+    stalled.push(second_stall(1))?;
+    assert_eq!(rt; judged(rt.alloc(), &wide(1), stalled)?, Outcome::Passed);
+    Ok(())
+}
+
+#[test]
+fn inclusion_of_every_sub_block_by_replay(rt: HostRuntime) -> Result<(), Fail> {
+    let mut one = two_blocks_filled(rt.alloc())?;
+    one.push(evict1(0, 0, &[]))?;
+    one.push(evict2(0, &[0, 0], &[]))?;
+    assert_eq!(rt;
+        judged(rt.alloc(), &wide(2), one)?,
+        Outcome::Broken(12, Rule::Inclusion)
+    );
+    let mut both = two_blocks_filled(rt.alloc())?;
+    both.push(evict1(0, 0, &[]))?;
+    both.push(evict1(1, 0, &[]))?;
+    both.push(evict2(0, &[0, 0], &[]))?;
+    assert_eq!(rt; judged(rt.alloc(), &wide(2), both)?, Outcome::Passed);
+    Ok(())
+}
+
+#[test]
+fn sub_block_masks_by_replay(rt: HostRuntime) -> Result<(), Fail> {
+    for (masks, answer) in [
+        ([0, 1], Outcome::Passed),
+        ([1, 0], Outcome::Broken(6, Rule::EvictMask)),
+    ] {
+        let mut events = vec![in rt.alloc();
+            store(0, 1, 8, &[0xaa]),
+            primary(0, 0),
+            second_primary(1, 0),
+        ]?;
+        events.push(fill2(0, &[0; 16]))?;
+        events.push(fill1(1, &ZEROS))?;
+        events.push(evict1(1, 1, &[0xaa]))?;
+        events.push(evict2(0, &masks, &[0xaa]))?;
+        assert_eq!(rt; judged(rt.alloc(), &wide(2), events)?, answer);
+    }
+    Ok(())
 }

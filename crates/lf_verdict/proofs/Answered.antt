@@ -1,5 +1,5 @@
 -- From the logs of a trace to the verdict of its bytes.
-use Rattle.std.proofs.Common.{◌≡◌, ℕ, ◌+◌, ◌<◌, ◌≤◌, ◌^◌, List, [], ◌∷◌, length, get_or, sym, ◌∙◌, ap, subst, arith}
+use Rattle.std.proofs.Common.{◌≡◌, ℕ, ◌+◌, ◌<◌, ◌≤◌, ◌^◌, ◌==◌, true, false, cond, List, [], ◌∷◌, length, get_or, sym, ◌∙◌, ap, subst, arith}
 use Rattle.std.specs.List.{AllByRecursion, All}
 use Rattle.std.specs.Global.{Vec}
 use Rattle.std.proofs.lemmas.List.{length-map}
@@ -8,13 +8,13 @@ use Rattle.std.proofs.lemmas.List.FromFn.{length-map-range_with_len}
 use Rattle.lf_model.specs.declared.shape.Shape.{Shape}
 use Rattle.lf_model.specs.declared.event.Record.{Record}
 use Rattle.lf_model.specs.declared.event.Event.{Event}
-use Rattle.lf_model.specs.declared.event.Event.TheVariants.{Issue, Reply}
+use Rattle.lf_model.specs.declared.event.Event.TheVariants.{Issue, Reply, Fence}
 use Rattle.lf_model.specs.Address.{flat_memory}
-use Rattle.lf_model.specs.Fits.{Bytes, FitsLog, Fits}
+use Rattle.lf_model.specs.Fits.{Bytes, FitsLog, FitsBank, Fits}
 use Rattle.lf_model.specs.Order.{log_at}
 use Rattle.lf_model.specs.Run.{of_log}
 use Rattle.lf_codec.specs.declared.header.Header.{Header}
-use Rattle.lf_codec.specs.Trace.{IsTrace}
+use Rattle.lf_codec.specs.Trace.{log_limit, IsTrace}
 use Rattle.lf_logs.specs.Lists.{lists_of, logs_of}
 use Rattle.lf_verdict.specs.declared.answer.Verdict.{Verdict}
 use Rattle.lf_verdict.specs.declared.answer.Verdict.TheVariants.{Yes, No, Refused}
@@ -31,14 +31,15 @@ use Rattle.lf_verdict.proofs.Outcomes.{list_of}
 
 -- ---- the logs of a trace that agrees with the shape
 
-pub log_below : (ports bank log banks : ℕ) (event : Event) → bank < banks → FitsLog ports bank log event → log < ports + banks
-log_below ports bank log banks (Issue op tag size address bytes) lt fits = omega arith
-log_below ports bank log banks (Reply tag size bytes) lt fits = omega arith
-log_below ports bank log banks _ lt fits = omega arith
+pub log_below : (ports bank number log banks : ℕ) (event : Event) → FitsBank banks bank number event → FitsLog ports bank log event → log < ports + banks
+log_below ports bank number log banks (Issue op tag size address bytes) named fits = omega arith
+log_below ports bank number log banks (Reply tag size bytes) named fits = omega arith
+log_below ports bank number log banks Fence named fits = omega arith
+log_below ports bank number log banks _ named fits = omega arith
 
 all_below : (shape : Shape) (rs : List Record) → AllByRecursion (Fits shape) rs → AllByRecursion (λ r. r.log < shape.ports + shape.banks) rs
 all_below shape [] fits = tt
-all_below shape (r ∷ rs) fits = (log_below shape.ports r.bank r.log shape.banks r.event fits.0.bank fits.0.log, all_below shape rs fits.1)
+all_below shape (r ∷ rs) fits = (log_below shape.ports r.bank r.number r.log shape.banks r.event fits.0.bank fits.0.log, all_below shape rs fits.1)
 
 pub logs_below : (shape : Shape) (rs : List Record) → AllByRecursion (Fits shape) rs → All (λ r. r.log < shape.ports + shape.banks) rs
 logs_below shape rs fits = All-from_recursion (λ r. r.log < shape.ports + shape.banks) rs (all_below shape rs fits)
@@ -47,13 +48,16 @@ pub logs_count : (vecs : Vec (Vec Record)) (count : ℕ) (rs : List Record) → 
 logs_count vecs count rs e =
     sym (length-map vecs.items (λ (v : Vec Record). v.items)) ∙ ap length e ∙ length-map-range_with_len (λ log. of_log log rs) 0 count
 
-pub logs_short : (vecs : Vec (Vec Record)) (count : ℕ) (rs : List Record) → lists_of vecs ≡ logs_of count rs → ((log : ℕ) → length (of_log log rs) ≤ 1048576)
-    → All (λ (v : Vec Record). length v.items ≤ 2 ^ 20) vecs.items
-logs_short vecs count rs e short log d lt =
+limit_is_small : (version : ℕ) → log_limit version ≤ 2 ^ 24
+limit_is_small version = elim (version == 1) as (λ b. cond b 1048576 16777216 ≤ 2 ^ 24) [ true ↦ omega arith | false ↦ omega arith ]
+
+pub logs_short : (version : ℕ) (vecs : Vec (Vec Record)) (count : ℕ) (rs : List Record) → lists_of vecs ≡ logs_of count rs → ((log : ℕ) → length (of_log log rs) ≤ log_limit version)
+    → All (λ (v : Vec Record). length v.items ≤ 2 ^ 24) vecs.items
+logs_short version vecs count rs e short log d lt =
     let within : log < count = omega (arith, logs_count vecs count rs e) in
     let here : (get_or vecs.items log d).items ≡ of_log log rs =
     sym (list_of vecs log d lt) ∙ ap (λ (logs : List (List Record)). log_at logs log) e ∙ log_of_logs count log rs within in
-    omega (arith, ap length here, short log)
+    omega (arith, ap length here, short log, limit_is_small version)
 
 pub logs_fit_shape : (shape : Shape) (vecs : Vec (Vec Record)) (count : ℕ) (rs : List Record) → lists_of vecs ≡ logs_of count rs → AllByRecursion (Fits shape) rs → LogsFit shape (lists_of vecs)
 logs_fit_shape shape vecs count rs e fits = subst (LogsFit shape) (sym e) (logs_fit shape count rs fits)

@@ -1,5 +1,5 @@
 -- The skeletons of the logs: whole numbers, and how long an order is.
-use Rattle.std.proofs.Common.{◌≡◌, ℕ, suc, ◌+◌, ◌*◌, ◌≤◌, Bool, true, false, cond, List, [], ◌∷◌, ◌++◌, map, length, drop, refl, sym, ◌∙◌, ap, subst, arith, inl, inr, eqb-true, sum_by}
+use Rattle.std.proofs.Common.{◌≡◌, ℕ, suc, ◌+◌, ◌*◌, ◌<◌, ◌≤◌, Bool, true, false, cond, List, [], ◌∷◌, ◌++◌, map, length, drop, refl, sym, ◌∙◌, ap, subst, arith, inl, inr, eqb-true, sum_by}
 use Rattle.std.specs.Prelude.{◌==◌}
 use Rattle.std.specs.List.{flat_map, AllByRecursion, All}
 use Rattle.std.proofs.lemmas.Bool.{cases_lt}
@@ -12,7 +12,10 @@ use Rattle.std.proofs.Math.Nat.{mul-le-mul_right}
 use Rattle.lf_logs.specs.Lists.{lists_of}
 use Rattle.lf_model.specs.declared.shape.Shape.{Shape}
 use Rattle.lf_model.specs.declared.event.Record.{Record}
-use Rattle.lf_model.specs.Fits.{Fits}
+use Rattle.lf_model.specs.declared.event.Event.{Event}
+use Rattle.lf_model.specs.declared.event.Event.TheVariants.{Fence}
+use Rattle.lf_model.specs.Address.{no_bank}
+use Rattle.lf_model.specs.Fits.{FitsBank, Fits}
 use Rattle.lf_model.specs.Run.{of_bank}
 use Rattle.lf_model.specs.Order.{log_at, after_next, Takes, entries_of}
 use Rattle.lf_model.specs.Numbers.{all_records, numbers_of, bank_numbers, IsWhole}
@@ -40,9 +43,9 @@ entries_numbers bank (r ∷ rs) = go (r.bank == bank) (entries_numbers bank rs)
     go false e = e
 
 pub banks_whole : (logs : List (List Record)) → AllAreWhole logs → BanksAreWhole (skeletons_of logs)
-banks_whole logs whole bank =
+banks_whole logs whole bank lt =
     let e = ap (λ (xs : List (ℕ × ℕ)). map (λ (entry : ℕ × ℕ). entry.1) (entries_of bank xs)) (all_entries logs) ∙ entries_numbers bank (all_records logs) in
-    subst IsWhole (sym e) (whole bank)
+    subst IsWhole (sym e) (whole bank lt)
 
 -- ---- no record names a bank that the shape does not have
 
@@ -55,20 +58,27 @@ all_of_logs P [] each = tt
 all_of_logs P (rs ∷ logs) each =
     subst (AllByRecursion P) (sym (flat_map-cons (λ (xs : List Record). xs) rs logs)) (all_append P rs (all_records logs) (each 0) (all_of_logs P logs (λ log. each (suc log))))
 
-none_of_bank : (shape : Shape) (bank : ℕ) (rs : List Record) → shape.banks ≤ bank → AllByRecursion (Fits shape) rs → of_bank bank rs ≡ []
-none_of_bank shape bank [] le fits = refl
-none_of_bank shape bank (r ∷ rs) le fits = go (r.bank == bank) refl (none_of_bank shape bank rs le fits.1)
+-- a record that names a bank names one of these
+names_bank : (banks bank number : ℕ) (event : Event) → FitsBank banks bank number event → bank < no_bank → bank < banks
+names_bank banks bank number Fence fits lt = absurd (omega (arith, fits.0, lt))
+names_bank banks bank number _ fits lt = fits
+
+none_of_bank : (shape : Shape) (bank : ℕ) (rs : List Record) → bank < no_bank → shape.banks ≤ bank → AllByRecursion (Fits shape) rs → of_bank bank rs ≡ []
+none_of_bank shape bank [] lt le fits = refl
+none_of_bank shape bank (r ∷ rs) lt le fits = go (r.bank == bank) refl (none_of_bank shape bank rs lt le fits.1)
   where
     go : (b : Bool) → (r.bank == bank) ≡ b → of_bank bank rs ≡ [] → cond b (r ∷ of_bank bank rs) (of_bank bank rs) ≡ []
-    go true e rest = absurd (omega (arith, eqb-true r.bank bank e, fits.0.bank))
+    go true e rest =
+        let same = eqb-true r.bank bank e in
+        absurd (omega (arith, same, names_bank shape.banks r.bank r.number r.event fits.0.bank (omega (arith, same, lt))))
     go false e rest = rest
 
 pub all_whole : (shape : Shape) (logs : List (List Record)) → LogsFit shape logs → AreWholeBelow logs shape.banks → AllAreWhole logs
-all_whole shape logs fits below bank =
+all_whole shape logs fits below bank is_bank =
     elim (cases_lt bank shape.banks) [
       | inl lt ↦ below bank lt
       | inr le ↦
-          let none : bank_numbers logs bank ≡ [] = ap numbers_of (none_of_bank shape bank (all_records logs) le (all_of_logs (Fits shape) logs fits)) in
+          let none : bank_numbers logs bank ≡ [] = ap numbers_of (none_of_bank shape bank (all_records logs) is_bank le (all_of_logs (Fits shape) logs fits)) in
           subst IsWhole (sym none) (λ k lt. absurd (omega arith))
     ]
 

@@ -193,11 +193,19 @@ one_field shape h fields.Banks fields.Block a b = absurd (a.1 b.1)
 one_field shape h fields.Block fields.Ports a b = absurd (b a.0)
 one_field shape h fields.Block fields.Banks a b = absurd (b.1 a.1)
 one_field shape h fields.Block fields.Block a b = refl
+one_field shape h fields.Ports fields.Factor a b = absurd (a b.0)
+one_field shape h fields.Banks fields.Factor a b = absurd (a.1 b.1)
+one_field shape h fields.Block fields.Factor a b = absurd (a.2 b.2)
+one_field shape h fields.Factor fields.Ports a b = absurd (b a.0)
+one_field shape h fields.Factor fields.Banks a b = absurd (b.1 a.1)
+one_field shape h fields.Factor fields.Block a b = absurd (b.2 a.2)
+one_field shape h fields.Factor fields.Factor a b = refl
 
 agrees_or_differs : (shape : Shape) (h : Header) (field : HeaderField) → Agrees shape h → Differs shape h field → ⊥
 agrees_or_differs shape h fields.Ports agrees differs = differs agrees.ports
 agrees_or_differs shape h fields.Banks agrees differs = differs.1 agrees.banks
 agrees_or_differs shape h fields.Block agrees differs = differs.2 agrees.block
+agrees_or_differs shape h fields.Factor agrees differs = differs.3 agrees.factor
 
 module _ (laws : Laws) (shape : Shape) (bytes : List ℕ) (fit : (i : ℕ) → slice_index bytes i < 256) where
   fault_or_trace : (fault : CodecFault) (h : Header) (memory : List (ℕ × Bytes)) (rs : List Record) → trace_fault bytes ≡ Some fault → IsTrace bytes h memory rs → ⊥

@@ -51,7 +51,7 @@ none_of_log shape log [] fit past = refl
 none_of_log shape log (r ∷ rs) fit past = go (r.log == log) refl (none_of_log shape log rs fit.1 past)
   where
     go : (b : Bool) → (r.log == log) ≡ b → of_log log rs ≡ [] → cond b (r ∷ of_log log rs) (of_log log rs) ≡ []
-    go true e rest = absurd (omega (arith, eqb-true r.log log e, log_below shape.ports r.bank r.log shape.banks r.event fit.0.bank fit.0.log))
+    go true e rest = absurd (omega (arith, eqb-true r.log log e, log_below shape.ports r.bank r.number r.log shape.banks r.event fit.0.bank fit.0.log))
     go false e rest = rest
 
 interleaves : (shape : Shape) (rs : List Record) → AllByRecursion (Fits shape) rs → Interleaves (logs_so_far shape rs) rs

@@ -106,7 +106,7 @@ all_push P (x ∷ rs) r all p = (all.0, all_push P rs r all.1 p)
 
 module _ (shape : Shape) (memory : FlatMemory) (records : List Record) (s : Standing) (stands : StandsAfterAll shape memory records s) (r : Record) (may : MayCome shape records r) where
   pub log_below_all : r.log < shape.ports + shape.banks
-  log_below_all = log_below shape.ports r.bank r.log shape.banks r.event may.fits.bank may.fits.log
+  log_below_all = log_below shape.ports r.bank r.number r.log shape.banks r.event may.fits.bank may.fits.log
 
   pub log_length : (i : ℕ) (v : Vec (ℕ × ℕ)) → i ≡ r.log → v ≡ get_or s.logs.items i v → length v.items ≡ length (of_log r.log records)
   log_length i v at read =

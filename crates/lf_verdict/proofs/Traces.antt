@@ -1,5 +1,5 @@
 -- The logs of a trace: which records they have, and that those fit the shape.
-use Rattle.std.proofs.Common.{◌≡◌, ℕ, ◌+◌, ◌<◌, ◌≤◌, Bool, true, false, List, [], ◌∷◌, length, sym, subst, refl, inl, inr, eqb-true, arith}
+use Rattle.std.proofs.Common.{◌≡◌, ℕ, zero, suc, ◌+◌, ◌<◌, ◌≤◌, Bool, true, false, List, [], ◌∷◌, length, sym, subst, refl, inl, inr, eqb-true, arith}
 use Rattle.std.specs.Prelude.{◌==◌, cond}
 use Rattle.std.specs.List.{AllByRecursion}
 use Rattle.std.proofs.lemmas.Bool.{cases_lt}
@@ -7,7 +7,7 @@ use Rattle.std.proofs.lemmas.List.FromFn.{get_or-map-range_with_len, length-map-
 use Rattle.std.proofs.lemmas.List.{get_or_past}
 use Rattle.lf_model.specs.declared.shape.Shape.{Shape}
 use Rattle.lf_model.specs.declared.event.Record.{Record}
-use Rattle.lf_model.specs.Fits.{Bytes, FitsRecord, Fits}
+use Rattle.lf_model.specs.Fits.{Bytes, FitsRecord, Fits, is_factor}
 use Rattle.lf_model.specs.Run.{of_log, NameTheirLogs}
 use Rattle.lf_model.specs.Order.{log_at}
 use Rattle.lf_codec.specs.declared.header.Header.{Header}
@@ -47,16 +47,17 @@ logs_name count rs log =
       | inr le ↦ subst (AllByRecursion (λ r. r.log ≡ log)) (sym (no_log count log rs le)) tt
     ]
 
-fits_shape : (shape : Shape) (h : Header) (r : Record) → Agrees shape h → FitsRecord h.ports h.banks h.block r → Fits shape r
+fits_shape : (shape : Shape) (h : Header) (r : Record) → Agrees shape h → FitsRecord h.ports h.banks h.block h.factor r → Fits shape r
 fits_shape shape h r agrees fits =
-    subst (λ n. FitsRecord shape.ports shape.banks n r) agrees.block
-    (subst (λ n. FitsRecord shape.ports n h.block r) agrees.banks
-    (subst (λ n. FitsRecord n h.banks h.block r) agrees.ports fits))
+    subst (λ n. FitsRecord shape.ports shape.banks shape.block n r) agrees.factor
+    (subst (λ n. FitsRecord shape.ports shape.banks n h.factor r) agrees.block
+    (subst (λ n. FitsRecord shape.ports n h.block h.factor r) agrees.banks
+    (subst (λ n. FitsRecord n h.banks h.block h.factor r) agrees.ports fits)))
 
 -- the records of a trace for the shape fit the shape
 pub records_fit : (shape : Shape) (h : Header) (memory : List (ℕ × Bytes)) (rs : List Record) → FitsTrace h memory rs → Agrees shape h → AllByRecursion (Fits shape) rs
 records_fit shape h memory rs fits agrees =
-    all_weaker (FitsRecord h.ports h.banks h.block) (Fits shape) rs (λ r. fits_shape shape h r agrees) fits.each
+    all_weaker (FitsRecord h.ports h.banks h.block h.factor) (Fits shape) rs (λ r. fits_shape shape h r agrees) fits.each
 
 pub logs_fit : (shape : Shape) (count : ℕ) (rs : List Record) → AllByRecursion (Fits shape) rs → (log : ℕ) → AllByRecursion (Fits shape) (log_at (logs_of count rs) log)
 logs_fit shape count rs all log =
@@ -74,3 +75,15 @@ pub trace_fits : (shape : Shape) (bytes : List ℕ) (memory : List (ℕ × Bytes
 trace_fits shape bytes memory logs t log =
     subst (λ (ls : List (List Record)). AllByRecursion (Fits shape) (log_at ls log)) (sym t.are_logs)
     (logs_fit shape (shape.ports + shape.banks) t.records (records_fit shape t.header memory t.records t.trace.fits t.agrees) log)
+
+-- the shape of a trace has few banks
+pub trace_banks : (shape : Shape) (bytes : List ℕ) (memory : List (ℕ × Bytes)) (logs : List (List Record)) → IsTraceFor shape bytes memory logs → shape.banks ≤ 16
+trace_banks shape bytes memory logs t = omega (arith, t.agrees.banks, t.trace.fits.header.banks)
+
+some_factor : (n : ℕ) → is_factor n ≡ true → 0 < n
+some_factor zero is = cc
+some_factor (suc n) is = omega arith
+
+-- and some block of level one in each of level two
+pub trace_factor : (shape : Shape) (bytes : List ℕ) (memory : List (ℕ × Bytes)) (logs : List (List Record)) → IsTraceFor shape bytes memory logs → 0 < shape.factor
+trace_factor shape bytes memory logs t = some_factor shape.factor (subst (λ n. is_factor n ≡ true) t.agrees.factor t.trace.fits.header.factor)

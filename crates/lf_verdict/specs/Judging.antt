@@ -4,7 +4,7 @@ use Rattle.lf_model.specs.declared.shape.Shape.{Shape}
 use Rattle.lf_model.specs.declared.event.Record.{Record}
 use Rattle.lf_model.specs.declared.outcome.Outcome.{Outcome}
 use Rattle.lf_model.specs.declared.outcome.Outcome.TheVariants as outcomes
-use Rattle.lf_model.specs.Address.{FlatMemory}
+use Rattle.lf_model.specs.Address.{FlatMemory, no_bank}
 use Rattle.std.specs.List.{AllByRecursion}
 use Rattle.lf_model.specs.Fits.{Fits}
 use Rattle.lf_model.specs.Order.{log_at, IsLeastOrder}
@@ -82,9 +82,9 @@ IsOrderHalt skeletons (halts.Found (faults.Cycle ring)) = IsStuckRing skeletons 
 IsOrderHalt skeletons halts.NoMemory = Unit {0}
 IsOrderHalt skeletons _ = ⊥
 
--- each bank's numbers are whole, however great the bank's number is
+-- each bank's numbers are whole, however great the bank's number is; records that name no bank have none
 abbrev pub AllAreWhole : List (List Record) → Type 0
-AllAreWhole logs = (bank : ℕ) → HasWholeNumbers logs bank
+AllAreWhole logs = (bank : ℕ) → bank < no_bank → HasWholeNumbers logs bank
 
 -- each log's records fit the shape
 abbrev pub LogsFit : Shape → List (List Record) → Type 0

@@ -18,11 +18,12 @@ use Rattle.lf_logs.specs.Lists.{logs_of}
 abbrev pub joined : List (Bor (List ℕ)) → List ℕ
 joined pieces = flat_map (λ p. p.now) pieces
 
--- the header has the ports, the banks and the block size of the shape
+-- the header has the ports, the banks, the block size and the factor of the shape
 pub record Agrees (shape : Shape) (h : Header) : Type 0 where
   pub ports : h.ports ≡ shape.ports
   pub banks : h.banks ≡ shape.banks
   pub block : h.block ≡ shape.block
+  pub factor : h.factor ≡ shape.factor
 
 -- The bytes are a trace that agrees with the shape, of this memory and these logs: those of the ports, then those of the banks.
 pub record IsTraceFor (shape : Shape) (bytes : List ℕ) (memory : List (ℕ × Bytes)) (logs : List (List Record)) : Type 0 where

@@ -35,6 +35,7 @@ abbrev pub Differs : Shape → Header → HeaderField → Type 0
 Differs shape h fields.Ports = ¬ (h.ports ≡ shape.ports)
 Differs shape h fields.Banks = (h.ports ≡ shape.ports) × ¬ (h.banks ≡ shape.banks)
 Differs shape h fields.Block = (h.ports ≡ shape.ports) × (h.banks ≡ shape.banks) × ¬ (h.block ≡ shape.block)
+Differs shape h fields.Factor = (h.ports ≡ shape.ports) × (h.banks ≡ shape.banks) × (h.block ≡ shape.block) × ¬ (h.factor ≡ shape.factor)
 
 pub record IsOfAnother (shape : Shape) (bytes : List ℕ) (field : HeaderField) : Type 0 where
   pub header : Header

@@ -55,4 +55,6 @@ pub enum HeaderField {
     Ports,
     Banks,
     Block,
+    /// First-level blocks in a block of level two.
+    Factor,
 }

@@ -20,7 +20,7 @@ use std::alloc::Global;
 fn judged_order(alloc: Global, shape: &Shape, memory: &Memory, logs: &Logs) -> Result<Vec<u8>, Halt>
     requires shape { IsShape shape.now }
     requires count { length logs.now.items ≡ shape.now.ports + shape.now.banks }
-    requires short { All (λ log. length log.items ≤ 2 ^ 20) logs.now.items }
+    requires short { All (λ log. length log.items ≤ 2 ^ 24) logs.now.items }
     requires fit { LogsFit shape.now (lists_of logs.now) }
     ensures order { IfOk result (λ order.
         IsOrderOf shape.now (flat_memory memory.now.items) (lists_of logs.now) order.items) }
@@ -35,7 +35,7 @@ fn judged_order(alloc: Global, shape: &Shape, memory: &Memory, logs: &Logs) -> R
 pub fn logs_verdict(alloc: Global, shape: &Shape, memory: &Memory, logs: &Logs) -> Verdict
     requires shape { IsShape shape.now }
     requires count { length logs.now.items ≡ shape.now.ports + shape.now.banks }
-    requires short { All (λ log. length log.items ≤ 2 ^ 20) logs.now.items }
+    requires short { All (λ log. length log.items ≤ 2 ^ 24) logs.now.items }
     requires fit { LogsFit shape.now (lists_of logs.now) }
     ensures { IsLogsVerdict shape.now (flat_memory memory.now.items) (lists_of logs.now) result }
 {

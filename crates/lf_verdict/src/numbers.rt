@@ -51,7 +51,7 @@ fn records_at(alloc: Global, logs: &Logs, places: &[Place]) -> Result<Vec<Record
 /// The bank's records in the order of their numbers, or the least number that is missing or double.
 fn number_bank(alloc: Global, logs: &Logs, bank: u8) -> Result<Vec<Record>, NumberFault>
     requires few { length logs.now.items ≤ 32 }
-    requires short { All (λ log. length log.items ≤ 2 ^ 20) logs.now.items }
+    requires short { All (λ log. length log.items ≤ 2 ^ 24) logs.now.items }
     ensures numbered { IfOk result (λ rs. IsNumbered (lists_of logs.now) bank rs.items) }
     ensures whole { OnOk result (HasWholeNumbers (lists_of logs.now) bank) }
     ensures fault { IfErr result (IsNumberFault (bank_numbers (lists_of logs.now) bank)) }
@@ -78,7 +78,7 @@ pub fn number_halt(bank: u8, fault: NumberFault) -> Halt
 pub fn number_banks(alloc: Global, shape: &Shape, logs: &Logs) -> Result<Vec<Vec<Record>>, Halt>
     requires banks { shape.now.banks ≤ 16 }
     requires few { length logs.now.items ≤ 32 }
-    requires short { All (λ log. length log.items ≤ 2 ^ 20) logs.now.items }
+    requires short { All (λ log. length log.items ≤ 2 ^ 24) logs.now.items }
     ensures numbered { IfOk result (λ all.
         AreNumbered (lists_of logs.now) shape.now.banks (lists_of all)) }
     ensures whole { OnOk result (AreWholeBelow (lists_of logs.now) shape.now.banks) }

@@ -18,7 +18,7 @@ use std::alloc::Global;
 /// one another.
 pub fn order_of(alloc: Global, logs: &Logs) -> Result<Vec<u8>, Halt>
     requires few { length logs.now.items ≤ 32 }
-    requires short { All (λ log. length log.items ≤ 2 ^ 20) logs.now.items }
+    requires short { All (λ log. length log.items ≤ 2 ^ 24) logs.now.items }
     requires whole { AllAreWhole (lists_of logs.now) }
     ensures order { IfOk result (λ order. IsLeastOrder (skeletons_of (lists_of logs.now)) order.items) }
     ensures ring { IfErr result (IsOrderHalt (skeletons_of (lists_of logs.now))) }

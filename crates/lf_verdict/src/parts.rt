@@ -29,7 +29,7 @@ pub struct Broken {
 /// The outcome of each port's log.
 fn port_outcomes(alloc: Global, shape: &Shape, logs: &Logs) -> Result<Vec<Outcome>, NoMemory>
     requires few { shape.now.ports ≤ length logs.now.items }
-    requires short { All (λ log. length log.items ≤ 2 ^ 20) logs.now.items }
+    requires short { All (λ log. length log.items ≤ 2 ^ 24) logs.now.items }
     ensures { IfOk result (λ all.
         AreOutcomes (λ port. IsPortOutcome shape.now (log_at (lists_of logs.now) port))
         shape.now.ports all.items) }
@@ -103,7 +103,7 @@ pub fn judge_parts(
 ) -> Result<(), Halt>
     requires shape { IsShape shape.now }
     requires count { length logs.now.items ≡ shape.now.ports + shape.now.banks }
-    requires short { All (λ log. length log.items ≤ 2 ^ 20) logs.now.items }
+    requires short { All (λ log. length log.items ≤ 2 ^ 24) logs.now.items }
     requires fit { LogsFit shape.now (lists_of logs.now) }
     requires whole { AreWholeBelow (lists_of logs.now) shape.now.banks }
     requires numbered { AreNumbered (lists_of logs.now) shape.now.banks (lists_of banks.now) }

@@ -31,6 +31,9 @@ pub fn differing(shape: &Shape, header: Header) -> Option<HeaderField>
     if u32::from(header.block) != shape.block {
         return Some(HeaderField::Block);
     }
+    if u32::from(header.factor) != shape.factor {
+        return Some(HeaderField::Factor);
+    }
     None
 }
 

@@ -1,6 +1,6 @@
 //! The worked examples, whose answers come from the description of the rules.
 
-ghost use Rattle.std.specs.Prelude.{◌<◌};
+ghost use Rattle.std.specs.Prelude.{◌<◌, ◌≤◌};
 ghost use Rattle.lf_model.specs.InRange.{IsFrom, IsShape};
 
 use super::*;
@@ -52,6 +52,7 @@ fn hierarchy(ports: u32, banks: u32) -> Shape
         banks,
         block: 8,
         tags: 4,
+        factor: 1,
         level1: Level {
             sets: 1,
             ways: 1,
@@ -147,6 +148,57 @@ fn one_load_is_legal(rt: HostRuntime) -> Result<(), Fail> {
     let none = check_shape(&rt, &hierarchy(1, 1), &[&empty], 1);
     assert_eq!(rt; none, yes(rt.alloc(), &[])?);
     Ok(())
+}
+
+/// The same load as version 2, with a fence before what stands at this place of the file.
+fn load_with_a_fence(alloc: Global, place: usize) -> Result<Vec<u8>, AllocError>
+    requires { (5 ≤ place) × (place ≤ 128) }
+{
+    let load = &LOAD_MISSES_BOTH_LEVELS;
+    let mut bytes = Vec::from_slice(alloc, &load[..4])?;
+    bytes.extend_from_slice(&[2])?;
+    bytes.extend_from_slice(&load[5..place])?;
+    bytes.extend_from_slice(&[0x0e, 0, 0xff, 0, 0, 0, 0, 0])?;
+    bytes.extend_from_slice(&load[place..128])?;
+    bytes.extend_from_slice(&[7, 0, 0, 0])?;
+    Ok(bytes)
+}
+
+#[test]
+fn fences_are_judged(rt: HostRuntime) -> Result<(), Fail> {
+    let last = load_with_a_fence(rt.alloc(), 124)?;
+    assert_eq!(rt; last.len(), 140);
+    let verdict = check_shape(&rt, &hierarchy(1, 1), &[&last], 1);
+    assert_eq!(rt; verdict, yes(rt.alloc(), &[0, 1, 1, 1, 1, 0, 0])?);
+    let first = load_with_a_fence(rt.alloc(), 16)?;
+    let verdict = check_shape(&rt, &hierarchy(1, 1), &[&first], 1);
+    assert_eq!(rt; verdict, yes(rt.alloc(), &[0, 0, 1, 1, 1, 1, 0])?);
+    let between = load_with_a_fence(rt.alloc(), 104)?;
+    let verdict = check_shape(&rt, &hierarchy(1, 1), &[&between], 1);
+    let fault = Fault::Port {
+        port: 0,
+        at: 1,
+        rule: Rule::FenceBusy,
+    };
+    assert_eq!(rt; verdict, Verdict::No(fault));
+    Ok(())
+}
+
+#[test]
+fn factor_in_header(rt: HostRuntime) {
+    let mut bytes = [
+        0x4c, 0x46, 0x54, 0x53, 3, 0, 1, 1, 8, 0, 2, 0, 0, 0, 0, 0, 0, 0, 0, 0, 0, 0, 0, 0,
+    ];
+    let verdict = check_shape(&rt, &hierarchy(1, 1), &[&bytes], 1);
+    let field = HeaderField::Factor;
+    assert_eq!(rt; verdict, Verdict::Refused(Refusal::Header(field)));
+    bytes[10] = 3;
+    let verdict = check_shape(&rt, &hierarchy(1, 1), &[&bytes], 1);
+    let fault = CodecFault {
+        cause: CodecCause::HeaderRange,
+        offset: 0,
+    };
+    assert_eq!(rt; verdict, Verdict::Refused(Refusal::Format(fault)));
 }
 
 #[test]

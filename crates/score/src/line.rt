@@ -39,6 +39,7 @@ fn name_of_rule(rule: Rule) -> &'static str
         Rule::SecondPresent => "SecondPresent",
         Rule::NotFetched => "NotFetched",
         Rule::Inclusion => "Inclusion",
+        Rule::FenceBusy => "FenceBusy",
     }
 }
 
@@ -75,6 +76,7 @@ fn name_of_field(field: HeaderField) -> &'static str
         HeaderField::Ports => "Ports",
         HeaderField::Banks => "Banks",
         HeaderField::Block => "Block",
+        HeaderField::Factor => "Factor",
     }
 }
 

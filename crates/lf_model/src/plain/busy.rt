@@ -1,10 +1,10 @@
 //! The tags of the requests that are not replied to.
 
-ghost use Rattle.std.specs.Prelude.{◌≡◌, ◌&&◌, ◌==◌, Some, None, OnOk, option_copied, is_none};
+ghost use Rattle.std.specs.Prelude.{◌≡◌, ◌≤◌, ◌&&◌, ◌==◌, Some, None, OnOk, option_copied, is_none};
 ghost use Rattle.std.specs.List.{find};
 ghost use Rattle.lf_model.specs.State.{update};
 ghost use Rattle.lf_model.specs.Plain.{busy_of, IsTagFree};
-ghost use Rattle.lf_model.specs.Table.{is_at, busy_after};
+ghost use Rattle.lf_model.specs.Table.{is_at, busy_after, none_busy};
 
 use crate::event::{Event, Record};
 use crate::outcome::NoMemory;
@@ -47,6 +47,19 @@ pub(crate) fn is_owed(busy: &[BusyTag], port: u8, tag: u8, bank: u8) -> bool
         Some(owing) => owing == bank,
         None => false,
     }
+}
+
+/// Whether none of so many tags of the port is busy.
+pub(crate) fn none_busy(tags: u32, busy: &[BusyTag], port: u8) -> bool
+    requires { tags ≤ 256 }
+    ensures { result ≡ none_busy tags (busy_of busy.now port) }
+{
+    for tag in 0..tags {
+        if !is_free(busy, port, tag as u8) {
+            return false;
+        }
+    }
+    true
 }
 
 /// An issue makes its tag busy, a reply frees it.

@@ -8,14 +8,20 @@ ghost use Rattle.lf_model.specs.Lines.{with_line, mark};
 ghost use Rattle.lf_model.specs.Registers.{targets_of};
 ghost use Rattle.lf_model.specs.declared.shape.Shape.{Shape};
 ghost use Rattle.lf_model.specs.declared.event.Op.{Op};
-ghost use Rattle.lf_model.specs.declared.mask.Mask.{Mask as MaskBits};
+ghost use Rattle.lf_model.specs.Address.{Masks as MaskList};
+ghost use Rattle.lf_model.specs.InRange.{IsShape};
 ghost use Rattle.lf_model.specs.declared.event.Event.TheVariants as event;
-ghost use Rattle.lf_model.specs.Table.{without_asked, without, without_ready, is_head, is_ready_for, reply_of, request_of, memory_after};
+ghost use Rattle.lf_model.specs.Table.{block_asked, without_asked, without, without_ready, is_head, is_ready_for, reply_of, request_of, memory_after};
 ghost use Rattle.lf_model.specs.Plain.{flat_of, queue_at, slice_of, slice_next};
 
 use crate::mask::Mask;
 use crate::outcome::NoMemory;
-use crate::plain::lines::{LineMap, dirty_mask, drop_line};
+use crate::event::Masks;
+use crate::plain::judge::{place_of, second_of};
+use crate::plain::lines::{
+    LineMap, WideLineMap, clean_masks, dirty_mask, drop_line, marked_masks,
+};
+use crate::shape::Shape;
 use crate::plain::memory::PlainMemory;
 use crate::plain::queue::{drop_head, enqueue, head};
 use crate::plain::registers::{Held, release, store_bytes};
@@ -58,6 +64,16 @@ fn mark(lines: &mut LineMap, block: u32, mask: u64) -> Result<(), NoMemory>
     ensures { OnOk result (lines.new.entries ≡ mark lines.old.entries block mask) }
 {
     put_line(lines, block, dirty_mask(lines, block) | mask)
+}
+
+/// The second-level block's line has these masks.
+fn put_wide_line(lines: &mut WideLineMap, second: u32, masks: Masks) -> Result<(), NoMemory>
+    ensures { OnOk result (lines.new.entries ≡ with_line lines.old.entries second masks) }
+{
+    match lines.insert(second, masks) {
+        Ok(_) => Ok(()),
+        Err(_) => Err(NoMemory),
+    }
 }
 
 impl PlainSlice {
@@ -156,12 +172,20 @@ impl PlainSlice {
         Ok(())
     }
 
-    pub(crate) fn evict1(&mut self, block: u32, mask: Mask) -> Result<(), NoMemory>
-        ensures slice { (shape : Shape) (memory : FlatMemory) (log : ℕ) (bytes : ArrayVec ℕ) → OnOk result (slice_of self.new ≡ slice_next shape memory (slice_of self.old) log (event.Evict1 block mask bytes)) }
+    pub(crate) fn evict1(
+        &mut self,
+        shape: &Shape,
+        block: u32,
+        mask: Mask,
+    ) -> Result<(), NoMemory>
+        requires { IsShape shape.now }
+        ensures slice { (memory : FlatMemory) (log : ℕ) (bytes : ArrayVec ℕ) → OnOk result (slice_of self.new ≡ slice_next shape.now memory (slice_of self.old) log (event.Evict1 block mask bytes)) }
         ensures ports { OnOk result (self.new.queues ≡ self.old.queues) }
     {
         drop_line(&mut self.lines1, block);
-        mark(&mut self.lines2, block, mask.0)
+        let second = second_of(shape, block);
+        let masks = marked_masks(&self.lines2, second, place_of(shape, block), mask.0);
+        put_wide_line(&mut self.lines2, second, masks)
     }
 
     pub(crate) fn second_hit(&mut self, block: u32) -> Result<(), NoMemory>
@@ -173,14 +197,22 @@ impl PlainSlice {
         Ok(())
     }
 
-    pub(crate) fn second_primary(&mut self, block: u32, register: u16) -> Result<(), NoMemory>
-        ensures slice { (shape : Shape) (memory : FlatMemory) (log : ℕ) → OnOk result (slice_of self.new ≡ slice_next shape memory (slice_of self.old) log (event.SecondPrimary block register)) }
+    /// A miss of level two is placed, and no longer asked.
+    pub(crate) fn second_miss(
+        &mut self,
+        shape: &Shape,
+        block: u32,
+        register: u16,
+    ) -> Result<(), NoMemory>
+        requires { IsShape shape.now }
+        ensures primary { (memory : FlatMemory) (log : ℕ) → OnOk result (slice_of self.new ≡ slice_next shape.now memory (slice_of self.old) log (event.SecondPrimary block register)) }
+        ensures merge { (memory : FlatMemory) (log : ℕ) → OnOk result (slice_of self.new ≡ slice_next shape.now memory (slice_of self.old) log (event.SecondMerge block register)) }
         ensures ports { OnOk result (self.new.queues ≡ self.old.queues) }
     {
-        let target = self.asked_register(block);
+        let target = (block, self.asked_register(block));
         let held = Held {
             register,
-            block,
+            block: second_of(shape, block),
             target,
         };
         push(&mut self.regs2, held)?;
@@ -188,22 +220,39 @@ impl PlainSlice {
         Ok(())
     }
 
-    pub(crate) fn fill2(&mut self, block: u32) -> Result<(), NoMemory>
-        ensures slice { (shape : Shape) (memory : FlatMemory) (log : ℕ) (bytes : ArrayVec ℕ) → OnOk result (slice_of self.new ≡ slice_next shape memory (slice_of self.old) log (event.Fill2 block bytes)) }
+    pub(crate) fn fill2(&mut self, shape: &Shape, second: u32) -> Result<(), NoMemory>
+        requires { IsShape shape.now }
+        ensures slice { (memory : FlatMemory) (log : ℕ) (bytes : ArrayVec ℕ) → OnOk result (slice_of self.new ≡ slice_next shape.now memory (slice_of self.old) log (event.Fill2 second bytes)) }
         ensures ports { OnOk result (self.new.queues ≡ self.old.queues) }
     {
-        push(&mut self.supplied, block)?;
-        put_line(&mut self.lines2, block, 0)?;
-        release(&mut self.regs2, block);
+        add_supplied(&mut self.supplied, &self.regs2, second)?;
+        put_wide_line(&mut self.lines2, second, clean_masks(shape.factor))?;
+        release(&mut self.regs2, second);
         Ok(())
     }
 
-    pub(crate) fn evict2(&mut self, block: u32)
-        ensures slice { (shape : Shape) (memory : FlatMemory) (log : ℕ) (mask : MaskBits) (bytes : ArrayVec ℕ) → slice_of self.new ≡ slice_next shape memory (slice_of self.old) log (event.Evict2 block mask bytes) }
+    pub(crate) fn evict2(&mut self, second: u32)
+        ensures slice { (shape : Shape) (memory : FlatMemory) (log : ℕ) (masks : MaskList) (bytes : ArrayVec ℕ) → slice_of self.new ≡ slice_next shape memory (slice_of self.old) log (event.Evict2 second masks bytes) }
         ensures ports { self.new.queues ≡ self.old.queues }
     {
-        drop_line(&mut self.lines2, block);
+        drop_line(&mut self.lines2, second);
     }
+}
+
+/// The blocks that the second-level block's targets asked for are supplied.
+fn add_supplied(
+    supplied: &mut Vec<u32>,
+    regs2: &[Held<(u32, u16)>],
+    second: u32,
+) -> Result<(), NoMemory>
+    ensures { OnOk result (supplied.new.items ≡ supplied.old.items ++ map block_asked (targets_of regs2.now second)) }
+{
+    for held in regs2 {
+        if held.block() == second {
+            push(supplied, held.target().0)?;
+        }
+    }
+    Ok(())
 }
 
 /// The first reply that is ready for the port and tag leaves.

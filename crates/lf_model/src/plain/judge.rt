@@ -1,19 +1,21 @@
 //! Which rule a record breaks first. Nothing changes here.
 
-ghost use Rattle.std.specs.Prelude.{◌≡◌, ℕ, ◌<◌, true, Bool, Option, length, is_none};
+ghost use Rattle.std.specs.Prelude.{◌≡◌, ℕ, ◌<◌, ◌/◌, true, Bool, Option, length, is_none};
 ghost use Rattle.lf_model.specs.declared.event.Event.TheVariants as event;
 ghost use Rattle.lf_model.specs.declared.event.Op.{Op};
 ghost use Rattle.arrayvec.specs.ArrayVec.{ArrayVec};
-ghost use Rattle.lf_model.specs.Address.{block_bytes, agree_off, masked};
+ghost use Rattle.lf_model.specs.Address.{block_bytes, agree_off, masked, second_of, place_of, sub_block, places};
+ghost use Rattle.std.specs.List.{list_all};
+ghost use Rattle.lf_model.specs.Registers.{has_room as model_room};
 ghost use Rattle.lf_model.specs.InRange.{IsShape};
 ghost use Rattle.lf_model.specs.Plain.{slice_of, IsFramed};
 ghost use Rattle.lf_model.specs.State.{Slice};
-ghost use Rattle.lf_model.specs.Table.{OfBoth, rules_of, destination, destinations, destinations2, is_at};
+ghost use Rattle.lf_model.specs.Table.{OfBoth, is_apart, asked_register, position2, rules_of, destination, destinations, destinations2, is_at};
 ghost use Rattle.lf_model.specs.Run.{first_failing};
 
-use crate::event::Block;
+use crate::event::{Block, Masks};
 use crate::mask::Mask;
-use crate::plain::lines::{dirty_mask, has_line, has_way};
+use crate::plain::lines::{are_dirty, dirty_mask, has_line, has_way1, has_way2};
 use crate::plain::registers::{
     has_room, holds, is_free, registers_of, right_for_merge, right_for_primary, takes,
 };
@@ -42,6 +44,29 @@ fn destinations2(shape: &Shape) -> u32
     ensures { result ≡ destinations2 shape.now }
 {
     registers_of(shape.level1.organisation, destinations(shape))
+}
+
+pub(crate) fn second_of(shape: &Shape, block: u32) -> u32
+    requires { IsShape shape.now }
+    ensures { result ≡ second_of shape.now block }
+{
+    block / shape.factor
+}
+
+pub(crate) fn place_of(shape: &Shape, block: u32) -> u32
+    requires { IsShape shape.now }
+    ensures { result ≡ place_of shape.now block }
+{
+    block % shape.factor
+}
+
+pub(crate) fn sub_block(shape: &Shape, second: u32, place: u32) -> u32
+    requires in_range { IsShape shape.now }
+    requires fits { second < 0x1_0000_0000 / shape.now.factor }
+    requires inside { place < shape.now.factor }
+    ensures { result ≡ sub_block shape.now second place }
+{
+    second * shape.factor + place
 }
 
 impl PlainSlice {
@@ -163,7 +188,7 @@ impl PlainSlice {
         ) {
             return Some(Rule::WrongRegister);
         }
-        if !takes(organisation, &self.waiting, register, word) {
+        if !takes(organisation, shape.factor, &self.waiting, register, word) {
             return Some(Rule::MergeFull);
         }
         None
@@ -181,6 +206,7 @@ impl PlainSlice {
         }
         if has_room(
             shape.level1.organisation,
+            shape.factor,
             destinations(shape),
             &self.waiting,
             request.block(),
@@ -200,7 +226,7 @@ impl PlainSlice {
         if !self.has_supplied(block) {
             return Some(Rule::NotSupplied);
         }
-        if !has_way(shape, &shape.level1, &self.lines1, block) {
+        if !has_way1(shape, &self.lines1, block) {
             return Some(Rule::SetFull);
         }
         if agrees { None } else { Some(Rule::FillData) }
@@ -233,7 +259,7 @@ impl PlainSlice {
         if !self.has_asked(block) {
             return Some(Rule::NotAsked);
         }
-        if !has_line(&self.lines2, block) {
+        if !has_line(&self.lines2, second_of(shape, block)) {
             return Some(Rule::SecondAbsent);
         }
         None
@@ -250,13 +276,14 @@ impl PlainSlice {
     {
         let organisation = shape.level2.organisation;
         let register = u32::from(register);
+        let second = second_of(shape, block);
         if !self.has_asked(block) {
             return Some(Rule::NotAsked);
         }
-        if has_line(&self.lines2, block) {
+        if has_line(&self.lines2, second) {
             return Some(Rule::SecondPresent);
         }
-        if holds(&self.regs2, block) {
+        if holds(&self.regs2, second) {
             return Some(Rule::PrimaryInFlight);
         }
         if register >= registers_of(organisation, destinations2(shape)) {
@@ -275,41 +302,111 @@ impl PlainSlice {
         None
     }
 
+    pub(crate) fn judge_second_merge(
+        &self,
+        shape: &Shape,
+        block: u32,
+        register: u16,
+    ) -> Option<Rule>
+        requires { IsFramed shape.now self.now }
+        ensures { (busy : ℕ → Option ℕ) (log bank : ℕ) → result ≡ first_failing OfBoth (rules_of shape.now true busy (slice_of self.now) log bank (event.SecondMerge block register)) }
+    {
+        let organisation = shape.level2.organisation;
+        let register = u32::from(register);
+        let second = second_of(shape, block);
+        if !self.has_asked(block) {
+            return Some(Rule::NotAsked);
+        }
+        if has_line(&self.lines2, second) {
+            return Some(Rule::SecondPresent);
+        }
+        if !holds(&self.regs2, second) {
+            return Some(Rule::NotInFlight);
+        }
+        if register >= registers_of(organisation, destinations2(shape)) {
+            return Some(Rule::RegisterRange);
+        }
+        if !right_for_merge(
+            organisation,
+            &self.regs2,
+            second,
+            u32::from(self.asked_register(block)),
+            register,
+        ) {
+            return Some(Rule::WrongRegister);
+        }
+        if !takes(
+            organisation,
+            shape.factor,
+            &self.regs2,
+            register,
+            place_of(shape, block),
+        ) {
+            return Some(Rule::MergeFull);
+        }
+        None
+    }
+
+    /// Whether some level-two register takes the miss of a block that level one asks for.
+    fn has_room2(&self, shape: &Shape, block: u32) -> bool
+        requires { IsShape shape.now }
+        ensures { let slice = slice_of self.now in result ≡ model_room shape.now.level2.organisation (destinations2 shape.now) (position2 shape.now) slice.regs2 (second_of shape.now block) (asked_register slice.asked block) (place_of shape.now block) }
+    {
+        has_room(
+            shape.level2.organisation,
+            shape.factor,
+            destinations2(shape),
+            &self.regs2,
+            second_of(shape, block),
+            u32::from(self.asked_register(block)),
+            place_of(shape, block),
+        )
+    }
+
     pub(crate) fn judge_second_stall(&self, shape: &Shape, block: u32) -> Option<Rule>
         requires { IsFramed shape.now self.now }
         ensures { (busy : ℕ → Option ℕ) (log bank : ℕ) → result ≡ first_failing OfBoth (rules_of shape.now true busy (slice_of self.now) log bank (event.SecondStall block)) }
     {
+        let second = second_of(shape, block);
         if !self.has_asked(block) {
             return Some(Rule::NotAsked);
         }
-        if has_line(&self.lines2, block) {
+        if has_line(&self.lines2, second) {
             return Some(Rule::SecondPresent);
         }
-        if has_room(
-            shape.level2.organisation,
-            destinations2(shape),
-            &self.regs2,
-            block,
-            u32::from(self.asked_register(block)),
-            0,
-        ) {
+        if self.has_room2(shape, block) {
             return Some(Rule::NeedlessStall);
         }
         None
     }
 
     /// `agrees` as for a fill of level one.
-    pub(crate) fn judge_fill2(&self, shape: &Shape, agrees: bool, block: u32) -> Option<Rule>
+    pub(crate) fn judge_fill2(&self, shape: &Shape, agrees: bool, second: u32) -> Option<Rule>
         requires { IsFramed shape.now self.now }
-        ensures { (busy : ℕ → Option ℕ) (log bank : ℕ) (bytes : ArrayVec ℕ) → result ≡ first_failing OfBoth (rules_of shape.now agrees busy (slice_of self.now) log bank (event.Fill2 block bytes)) }
+        ensures { (busy : ℕ → Option ℕ) (log bank : ℕ) (bytes : ArrayVec ℕ) → result ≡ first_failing OfBoth (rules_of shape.now agrees busy (slice_of self.now) log bank (event.Fill2 second bytes)) }
     {
-        if !holds(&self.regs2, block) {
+        if !holds(&self.regs2, second) {
             return Some(Rule::NotFetched);
         }
-        if !has_way(shape, &shape.level2, &self.lines2, block) {
+        if !has_way2(shape, &self.lines2, second) {
             return Some(Rule::SetFull);
         }
         if agrees { None } else { Some(Rule::FillData) }
+    }
+
+    /// Whether level one has neither a line nor a register on any block of the second-level block.
+    fn is_apart(&self, shape: &Shape, second: u32) -> bool
+        requires in_range { IsShape shape.now }
+        requires fits { second < 0x1_0000_0000 / shape.now.factor }
+        ensures { result ≡ list_all (is_apart shape.now (slice_of self.now) second) (places shape.now) }
+    {
+        for place in 0..shape.factor {
+            let block = sub_block(shape, second, place);
+            if has_line(&self.lines1, block) || holds(&self.waiting, block) {
+                return false;
+            }
+        }
+        true
     }
 
     /// `agrees` as for an eviction of level one.
@@ -317,19 +414,20 @@ impl PlainSlice {
         &self,
         shape: &Shape,
         agrees: bool,
-        block: u32,
-        mask: Mask,
+        second: u32,
+        masks: &Masks,
     ) -> Option<Rule>
-        requires { IsFramed shape.now self.now }
-        ensures { (busy : ℕ → Option ℕ) (log bank : ℕ) (bytes : ArrayVec ℕ) → result ≡ first_failing OfBoth (rules_of shape.now agrees busy (slice_of self.now) log bank (event.Evict2 block mask bytes)) }
+        requires framed { IsFramed shape.now self.now }
+        requires fits { second < 0x1_0000_0000 / shape.now.factor }
+        ensures { (busy : ℕ → Option ℕ) (log bank : ℕ) (bytes : ArrayVec ℕ) → result ≡ first_failing OfBoth (rules_of shape.now agrees busy (slice_of self.now) log bank (event.Evict2 second masks.now bytes)) }
     {
-        if !has_line(&self.lines2, block) {
+        if !has_line(&self.lines2, second) {
             return Some(Rule::EvictAbsent);
         }
-        if has_line(&self.lines1, block) || holds(&self.waiting, block) {
+        if !self.is_apart(shape, second) {
             return Some(Rule::Inclusion);
         }
-        if mask.0 != dirty_mask(&self.lines2, block) {
+        if !are_dirty(shape.factor, &self.lines2, second, masks) {
             return Some(Rule::EvictMask);
         }
         if agrees { None } else { Some(Rule::EvictData) }

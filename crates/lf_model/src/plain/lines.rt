@@ -1,40 +1,65 @@
-//! The lines of one level of a bank: a map from each block that is there to its dirty mask.
+//! The lines of one level of a bank: a map from each block that is there to what is dirty of it.
 
-ghost use Rattle.std.specs.Prelude.{◌≡◌, ◌<◌};
-ghost use Rattle.lf_model.specs.Address.{set_of};
-ghost use Rattle.lf_model.specs.Lines.{dirty_mask, has_line, has_way, without_line};
+ghost use Rattle.std.specs.Prelude.{◌≡◌, ℕ, ◌≤◌};
+ghost use Rattle.lf_model.specs.Address.{Masks as MaskList, mask_at, set1_of, set2_of};
+ghost use Rattle.lf_model.specs.InRange.{IsShape};
+ghost use Rattle.lf_model.specs.Lines.{dirty_mask, dirty_masks, has_line, has_way, line_at, marked, clean_masks, same_masks, without_line};
 
-use crate::shape::{Level, Shape};
+use crate::event::Masks;
+use crate::mask::Mask;
+use crate::shape::Shape;
 use std::collections::BTreeMap;
 
+/// Level one: a mask for each block.
 pub(crate) type LineMap = BTreeMap<u32, u64>;
 
-fn set_of(shape: &Shape, level: &Level, block: u32) -> u32
-    requires banks { 0 < shape.now.banks }
-    requires sets { 0 < level.now.sets }
-    ensures { result ≡ set_of shape.now.banks level.now.sets block }
+/// Level two: the masks of each second-level block.
+pub(crate) type WideLineMap = BTreeMap<u32, Masks>;
+
+fn set1_of(shape: &Shape, block: u32) -> u32
+    requires { IsShape shape.now }
+    ensures { result ≡ set1_of shape.now.banks shape.now.factor shape.now.level1.sets block }
 {
-    block / shape.banks % level.sets
+    (block / shape.factor / shape.banks * shape.factor + block % shape.factor) % shape.level1.sets
 }
 
-pub(crate) fn has_line(lines: &LineMap, block: u32) -> bool
+fn set2_of(shape: &Shape, second: u32) -> u32
+    requires { IsShape shape.now }
+    ensures { result ≡ set2_of shape.now.banks shape.now.level2.sets second }
+{
+    second / shape.banks % shape.level2.sets
+}
+
+pub(crate) fn has_line<M>(lines: &BTreeMap<u32, M>, block: u32) -> bool
     ensures { result ≡ has_line lines.now.entries block }
 {
     lines.contains_key(&block)
 }
 
 /// Whether the block's set has a free way.
-pub(crate) fn has_way(shape: &Shape, level: &Level, lines: &LineMap, block: u32) -> bool
-    requires banks { 0 < shape.now.banks }
-    requires sets { 0 < level.now.sets }
-    ensures { result ≡ has_way shape.now.banks level.now.sets level.now.ways lines.now.entries block }
+pub(crate) fn has_way1(shape: &Shape, lines: &LineMap, block: u32) -> bool
+    requires { IsShape shape.now }
+    ensures { result ≡ has_way (set1_of shape.now.banks shape.now.factor shape.now.level1.sets) shape.now.level1.ways lines.now.entries block }
 {
-    let set = set_of(shape, level, block);
+    let set = set1_of(shape, block);
     let count = lines
         .iter()
-        .filter(|line| *line.0 / shape.banks % level.sets == set)
+        .filter(|line| set1_of(shape, *line.0) == set)
         .count();
-    count < level.ways as usize
+    count < shape.level1.ways as usize
+}
+
+/// Whether the second-level block's set has a free way.
+pub(crate) fn has_way2(shape: &Shape, lines: &WideLineMap, second: u32) -> bool
+    requires { IsShape shape.now }
+    ensures { result ≡ has_way (set2_of shape.now.banks shape.now.level2.sets) shape.now.level2.ways lines.now.entries second }
+{
+    let set = set2_of(shape, second);
+    let count = lines
+        .iter()
+        .filter(|line| set2_of(shape, *line.0) == set)
+        .count();
+    count < shape.level2.ways as usize
 }
 
 /// The dirty mask of the block's line, and 0 where there is none.
@@ -44,8 +69,74 @@ pub(crate) fn dirty_mask(lines: &LineMap, block: u32) -> u64
     lines.get(&block).copied().unwrap_or(0)
 }
 
+/// The mask at the place, and 0 where there is none.
+pub(crate) fn mask_at(masks: &Masks, place: u32) -> u64
+    ensures { result ≡ mask_at masks.now place }
+{
+    match masks.get(place as usize) {
+        Some(mask) => mask.0,
+        None => 0,
+    }
+}
+
+/// Whether these are the dirty masks of the second-level block's line; where there is none, it has none.
+pub(crate) fn are_dirty(factor: u32, lines: &WideLineMap, second: u32, masks: &Masks) -> bool
+    ensures { result ≡ same_masks factor masks.now (dirty_masks lines.now.entries second) }
+{
+    let none = Masks::new();
+    let dirty = match lines.get(&second) {
+        Some(dirty) => dirty,
+        None => &none,
+    };
+    same_masks(factor, masks, dirty)
+}
+
+fn same_masks(factor: u32, a: &Masks, b: &Masks) -> bool
+    ensures { result ≡ same_masks factor a.now b.now }
+{
+    (0..factor).all(|place| mask_at(a, place) == mask_at(b, place))
+}
+
+/// So many masks of no bytes.
+pub(crate) fn clean_masks(factor: u32) -> Masks
+    requires { factor ≤ 4 }
+    ensures { result ≡ clean_masks factor }
+{
+    let mut masks = Masks::new();
+    for place in 0..factor {
+        let _ = place;
+        masks.push(Mask(0));
+    }
+    masks
+}
+
+/// The masks of the second-level block's line, where the one at this place gains these bytes.
+pub(crate) fn marked_masks(lines: &WideLineMap, second: u32, place: u32, mask: u64) -> Masks
+    ensures { result ≡ marked (dirty_masks lines.now.entries second) place mask }
+{
+    match lines.get(&second) {
+        Some(dirty) => marked(dirty, place, mask),
+        None => Masks::new(),
+    }
+}
+
+fn marked(masks: &Masks, place: u32, mask: u64) -> Masks
+    ensures { result ≡ marked masks.now place mask }
+{
+    let mut new = Masks::new();
+    for i in 0..masks.len() {
+        let old = masks[i].0;
+        if i == place as usize {
+            new.push(Mask(old | mask));
+        } else {
+            new.push(Mask(old));
+        }
+    }
+    new
+}
+
 /// The block's line leaves.
-pub(crate) fn drop_line(lines: &mut LineMap, block: u32)
+pub(crate) fn drop_line<M: Drop>(lines: &mut BTreeMap<u32, M>, block: u32)
     ensures { lines.new.entries ≡ without_line lines.old.entries block }
 {
     lines.retain(|b, _| *b != block);

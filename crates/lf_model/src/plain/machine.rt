@@ -1,19 +1,20 @@
 //! The state of the whole system, and the step of one record.
 
-ghost use Rattle.std.specs.Prelude.{◌≡◌, ℕ, length, None, IfOk, OnOk};
+ghost use Rattle.std.specs.Prelude.{◌≡◌, ℕ, Bool, length, None, IfOk, OnOk};
 ghost use Rattle.lf_model.specs.Fits.{Fits};
 ghost use Rattle.std.specs.List.{All};
 ghost use Rattle.lf_model.specs.Address.{flat_memory};
 ghost use Rattle.lf_model.specs.InRange.{IsShape};
-ghost use Rattle.lf_model.specs.State.{empty_slice, opening, seen_by};
+ghost use Rattle.lf_model.specs.State.{Slice, empty_slice, opening, seen_by};
 ghost use Rattle.lf_model.specs.Table.{OfBoth, rules_of, carries, clauses, memory_after};
+ghost use Rattle.lf_model.specs.declared.event.Event.TheVariants as event;
 ghost use Rattle.lf_model.specs.Run.{first_failing, state_after};
 ghost use Rattle.lf_model.specs.Plain.{busy_of, flat_of, slice_of, slice_next, slices_of, state_of, FindsRequest, IsFramed, IsMachine, IsTagFree};
 
 use crate::event::{Event, Memory, Record};
 use crate::outcome::NoMemory;
-use crate::plain::busy::{BusyTag, apply_busy, is_free, is_owed};
-use crate::plain::carried::{evict_agrees, fill_agrees};
+use crate::plain::busy::{BusyTag, apply_busy, is_free, is_owed, none_busy};
+use crate::plain::carried::{evict1_agrees, evict2_agrees, fill1_agrees, fill2_agrees};
 use crate::plain::memory::PlainMemory;
 use crate::plain::request::Request;
 use crate::plain::slice::PlainSlice;
@@ -29,6 +30,17 @@ pub(crate) struct Machine {
     pub(crate) busy: Vec<BusyTag>,
     /// One for each bank.
     pub(crate) slices: Vec<PlainSlice>,
+}
+
+fn judge_fence(shape: &Shape, busy: &[BusyTag], log: u8) -> Option<Rule>
+    requires { IsShape shape.now }
+    ensures { (right : Bool) (slice : Slice) (bank : ℕ) → result ≡ first_failing OfBoth (rules_of shape.now right (busy_of busy.now log) slice log bank event.Fence) }
+{
+    if none_busy(shape.tags, busy, log) {
+        None
+    } else {
+        Some(Rule::FenceBusy)
+    }
 }
 
 fn judge_event(
@@ -62,11 +74,11 @@ fn judge_event(
         } => slice.judge_merge(shape, *port, *tag, *register),
         Event::Stall { port, tag } => slice.judge_stall(shape, *port, *tag),
         Event::Fill1 { block, bytes } => {
-            let agrees = fill_agrees(shape, memory, slice, *block, bytes);
+            let agrees = fill1_agrees(shape, memory, slice, *block, bytes);
             slice.judge_fill1(shape, agrees, *block)
         }
         Event::Evict1 { block, mask, bytes } => {
-            let agrees = evict_agrees(shape, memory, *block, *mask, bytes);
+            let agrees = evict1_agrees(shape, memory, *block, *mask, bytes);
             slice.judge_evict1(shape, agrees, *block, *mask)
         }
         Event::SecondHit { block } => slice.judge_second_hit(shape, *block),
@@ -75,13 +87,21 @@ fn judge_event(
         }
         Event::SecondStall { block } => slice.judge_second_stall(shape, *block),
         Event::Fill2 { block, bytes } => {
-            let agrees = fill_agrees(shape, memory, slice, *block, bytes);
+            let agrees = fill2_agrees(shape, memory, slice, *block, bytes);
             slice.judge_fill2(shape, agrees, *block)
         }
-        Event::Evict2 { block, mask, bytes } => {
-            let agrees = evict_agrees(shape, memory, *block, *mask, bytes);
-            slice.judge_evict2(shape, agrees, *block, *mask)
+        Event::Evict2 {
+            block,
+            masks,
+            bytes,
+        } => {
+            let agrees = evict2_agrees(shape, memory, *block, masks, bytes);
+            slice.judge_evict2(shape, agrees, *block, masks)
         }
+        Event::SecondMerge { block, register } => {
+            slice.judge_second_merge(shape, *block, *register)
+        }
+        Event::Fence => judge_fence(shape, busy, log),
     }
 }
 
@@ -126,14 +146,18 @@ fn apply_event(
         } => slice.merge(memory, *port, *tag, *register),
         Event::Stall { .. } | Event::SecondStall { .. } => Ok(()),
         Event::Fill1 { block, .. } => slice.fill1(*block),
-        Event::Evict1 { block, mask, .. } => slice.evict1(*block, *mask),
+        Event::Evict1 { block, mask, .. } => slice.evict1(shape, *block, *mask),
         Event::SecondHit { block } => slice.second_hit(*block),
-        Event::SecondPrimary { block, register } => slice.second_primary(*block, *register),
-        Event::Fill2 { block, .. } => slice.fill2(*block),
+        Event::SecondPrimary { block, register } => {
+            slice.second_miss(shape, *block, *register)
+        }
+        Event::SecondMerge { block, register } => slice.second_miss(shape, *block, *register),
+        Event::Fill2 { block, .. } => slice.fill2(shape, *block),
         Event::Evict2 { block, .. } => {
             slice.evict2(*block);
             Ok(())
         }
+        Event::Fence => Ok(()),
     }
 }
 
@@ -175,8 +199,17 @@ impl Machine {
         requires fits { Fits self.now.shape item.now }
         ensures { result ≡ first_failing OfBoth (clauses self.now.shape (seen_by item.now.log item.now.bank (state_of self.now)) item.now) }
     {
-        let slice = &self.slices[usize::from(item.bank)];
-        judge_event(&self.shape, &self.memory, &self.busy, slice, item)
+        let bank = usize::from(item.bank);
+        if bank >= self.slices.len() {
+            return judge_fence(&self.shape, &self.busy, item.log);
+        }
+        judge_event(
+            &self.shape,
+            &self.memory,
+            &self.busy,
+            &self.slices[bank],
+            item,
+        )
     }
 
     /// The record takes effect.
@@ -189,7 +222,11 @@ impl Machine {
         ensures shape { OnOk result (self.new.shape ≡ self.old.shape) }
     {
         apply_busy(&mut self.busy, item)?;
-        let slice = &mut self.slices[usize::from(item.bank)];
+        let bank = usize::from(item.bank);
+        if bank >= self.slices.len() {
+            return Ok(());
+        }
+        let slice = &mut self.slices[bank];
         apply_event(&self.shape, &mut self.memory, slice, item)
     }
 

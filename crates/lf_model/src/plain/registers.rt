@@ -1,9 +1,9 @@
 //! The registers of one level: what they hold, in the order of acceptance.
 
-ghost use Rattle.std.specs.Prelude.{◌≡◌, ℕ, ◌+◌, ◌<◌, ◌≤◌, ◌↔◌, ◌==◌, ◌&&◌, length, count_by};
+ghost use Rattle.std.specs.Prelude.{◌≡◌, ℕ, ◌+◌, ◌<◌, ◌≤◌, ◌↔◌, ◌==◌, ◌&&◌, ◌%◌, length, count_by};
 ghost use Rattle.std.specs.List.{list_any, range_with_len};
 ghost use Rattle.lf_model.specs.Registers as model;
-ghost use Rattle.lf_model.specs.Table.{position, only_position, store_bytes, store_mask};
+ghost use Rattle.lf_model.specs.Table.{position, store_bytes, store_mask};
 ghost use Rattle.lf_model.specs.Registers.{holds, is_free, holds_in, registers_of, right_for_primary, right_for_merge, takes, has_room, released};
 
 use crate::plain::request::Missed;
@@ -48,27 +48,29 @@ impl<T> Held<T> {
 
 /// What a register holds for a request.
 pub(crate) trait Target: Drop {
-    ghost position: { Self → ℕ };
+    ghost position: { ℕ → Self → ℕ };
 
-    /// The field of an implicitly addressed register that the target takes.
-    fn position(&self) -> u32
-        ensures { result ≡ position self.now };
+    /// The field of an implicitly addressed register that the target takes, where a second-level
+    /// block has so many blocks.
+    fn position(&self, factor: u32) -> u32
+        requires { 0 < factor }
+        ensures { result ≡ position factor self.now };
 }
 
 impl Target for Missed {
-    ghost position = { position };
+    ghost position = { λ factor. position };
 
-    fn position(&self) -> u32 {
+    fn position(&self, _factor: u32) -> u32 {
         self.word()
     }
 }
 
-/// A level-two register's target is the level-one register that asked.
-impl Target for u16 {
-    ghost position = { only_position };
+/// A level-two register's target is a block that level one asked for, and the register that asked.
+impl Target for (u32, u16) {
+    ghost position = { λ factor asked. asked.0 % factor };
 
-    fn position(&self) -> u32 {
-        0
+    fn position(&self, factor: u32) -> u32 {
+        self.0 % factor
     }
 }
 
@@ -105,23 +107,31 @@ fn targets_in<T>(held: &[Held<T>], register: u32) -> usize
 }
 
 /// Whether the register's field at this position is in use.
-fn is_field_used<T: Target>(held: &[Held<T>], register: u32, at: u32) -> bool
-    ensures { result ≡ list_any (λ h. h.register == register && T.position h.target == at) held.now }
+fn is_field_used<T: Target>(factor: u32, held: &[Held<T>], register: u32, at: u32) -> bool
+    requires { 0 < factor }
+    ensures { result ≡ list_any (λ h. h.register == register && T.position factor h.target == at) held.now }
 {
-    held.iter().any(|h| h.register() == register && h.target().position() == at)
+    for h in held {
+        if h.register() == register && h.target().position(factor) == at {
+            return true;
+        }
+    }
+    false
 }
 
 /// Whether a further target at this position has a place in the register.
 pub(crate) fn takes<T: Target>(
     organisation: OrgShape,
+    factor: u32,
     held: &[Held<T>],
     register: u32,
     at: u32,
 ) -> bool
-    ensures { result ≡ takes organisation T.position held.now register at }
+    requires { 0 < factor }
+    ensures { result ≡ takes organisation (T.position factor) held.now register at }
 {
     match organisation {
-        OrgShape::Implicit { .. } => !is_field_used(held, register, at),
+        OrgShape::Implicit { .. } => !is_field_used(factor, held, register, at),
         OrgShape::Explicit { entries, .. } => targets_in(held, register) < entries as usize,
         OrgShape::Inverted => is_free(held, register),
     }
@@ -163,16 +173,38 @@ pub(crate) fn right_for_merge<T>(
     }
 }
 
+/// Whether the register holds the block and has a place for a further target at this position.
+fn takes_block<T: Target>(
+    organisation: OrgShape,
+    factor: u32,
+    held: &[Held<T>],
+    block: u32,
+    register: u32,
+    at: u32,
+) -> bool
+    requires { 0 < factor }
+    ensures { result ≡ (holds_in held.now register block && takes organisation (T.position factor) held.now register at) }
+{
+    holds_in(held, register, block) && takes(organisation, factor, held, register, at)
+}
+
 fn some_takes<T: Target>(
     organisation: OrgShape,
+    factor: u32,
     registers: u32,
     held: &[Held<T>],
     block: u32,
     at: u32,
 ) -> bool
-    ensures { result ≡ list_any (λ r. holds_in held.now r block && takes organisation T.position held.now r at) (range_with_len 0 registers) }
+    requires { 0 < factor }
+    ensures { result ≡ list_any (λ r. holds_in held.now r block && takes organisation (T.position factor) held.now r at) (range_with_len 0 registers) }
 {
-    (0..registers).any(|r| holds_in(held, r, block) && takes(organisation, held, r, at))
+    for r in 0..registers {
+        if takes_block(organisation, factor, held, block, r, at) {
+            return true;
+        }
+    }
+    false
 }
 
 fn some_is_free<T>(registers: u32, held: &[Held<T>]) -> bool
@@ -184,18 +216,20 @@ fn some_is_free<T>(registers: u32, held: &[Held<T>]) -> bool
 /// Whether some register takes a target of this block, destination and position.
 pub(crate) fn has_room<T: Target>(
     organisation: OrgShape,
+    factor: u32,
     destinations: u32,
     held: &[Held<T>],
     block: u32,
     destination: u32,
     at: u32,
 ) -> bool
-    ensures { result ≡ has_room organisation destinations T.position held.now block destination at }
+    requires { 0 < factor }
+    ensures { result ≡ has_room organisation destinations (T.position factor) held.now block destination at }
 {
     match organisation {
         OrgShape::Implicit { registers } | OrgShape::Explicit { registers, .. } => {
             if holds(held, block) {
-                some_takes(organisation, registers, held, block, at)
+                some_takes(organisation, factor, registers, held, block, at)
             } else {
                 some_is_free(registers, held)
             }

@@ -122,7 +122,7 @@ impl Request {
         bytes: &Block,
     ) -> Request
         requires in_range { IsShape shape.now }
-        requires fits { (bank : ℕ) × FitsIssue shape.now.banks shape.now.block bank op tag size address bytes.now }
+        requires fits { (bank : ℕ) × FitsIssue shape.now.banks shape.now.block shape.now.factor bank op tag size address bytes.now }
         ensures { result ≡ request_of shape.now tag op size address bytes.now.items }
     {
         let block = u64::from(shape.block);

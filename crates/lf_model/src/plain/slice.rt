@@ -7,7 +7,7 @@ ghost use Rattle.lf_model.specs.State.{empty_slice};
 ghost use Rattle.lf_model.specs.Plain.{queue_at, slice_of};
 
 use crate::outcome::NoMemory;
-use crate::plain::lines::LineMap;
+use crate::plain::lines::{LineMap, WideLineMap};
 use crate::plain::queue::Queue;
 use crate::plain::registers::Held;
 use crate::plain::request::{Missed, Ready, Request};
@@ -19,11 +19,11 @@ pub(crate) struct PlainSlice {
     /// One for each port.
     pub(crate) queues: Vec<Queue>,
     pub(crate) lines1: LineMap,
-    pub(crate) lines2: LineMap,
+    pub(crate) lines2: WideLineMap,
     /// The targets in level-one registers.
     pub(crate) waiting: Vec<Held<Missed>>,
-    /// Those in level-two registers: a level-one register each.
-    pub(crate) regs2: Vec<Held<u16>>,
+    /// Those in level-two registers: a block each, and the level-one register that asked.
+    pub(crate) regs2: Vec<Held<(u32, u16)>>,
     /// Blocks, each with the level-one register of its primary miss.
     pub(crate) asked: Vec<(u32, u16)>,
     pub(crate) supplied: Vec<u32>,
@@ -52,7 +52,7 @@ impl PlainSlice {
         Ok(PlainSlice {
             queues: new_queues(alloc, ports)?,
             lines1: LineMap::new(alloc),
-            lines2: LineMap::new(alloc),
+            lines2: WideLineMap::new(alloc),
             waiting: Vec::new(alloc),
             regs2: Vec::new(alloc),
             asked: Vec::new(alloc),

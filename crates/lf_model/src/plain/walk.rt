@@ -5,7 +5,7 @@ ghost use Rattle.std.specs.List.{All, Contains, list_all};
 ghost use Rattle.lf_model.specs.Fits.{Fits};
 ghost use Rattle.lf_model.specs.Order.{log_at};
 ghost use Rattle.lf_model.specs.declared.plain.walk.Taken.TheVariants.{Next};
-ghost use Rattle.lf_model.specs.Plain.{count_left, is_empty, left_of, IsWalk, decided, recheck_of, walked};
+ghost use Rattle.lf_model.specs.Plain.{count_left, is_empty, is_numbered, next_after, left_of, IsWalk, NamesBankBelow, decided, recheck_of, walked};
 ghost use Rattle.lf_model.specs.Address.{flat_memory};
 ghost use Rattle.lf_model.specs.InRange.{IsShape};
 ghost use Rattle.lf_model.specs.Recheck.{lists_of};
@@ -56,6 +56,31 @@ fn first_numbers(alloc: Global, count: u32) -> Result<Vec<u32>, NoMemory>
     }
 }
 
+/// Whether the record carries its bank's next number, where it names a bank.
+fn is_numbered(next: &[u32], item: &Record) -> bool
+    requires { NamesBankBelow (length next.now) item.now }
+    ensures { result ≡ is_numbered (slice_index next.now) item.now }
+{
+    match next.get(usize::from(item.bank)) {
+        Some(number) => item.number == *number,
+        None => true,
+    }
+}
+
+/// The number of the record's bank is taken.
+fn count(next: &mut Vec<u32>, item: &Record)
+    requires names { NamesBankBelow (length next.old.items) item.now }
+    requires few { slice_index next.old.items item.now.bank + 1 < 2 ^ 32 }
+    ensures next { slice_index next.new.items ≡ next_after (slice_index next.old.items) item.now }
+    ensures len { length next.new.items ≡ length next.old.items }
+    ensures rises { (bank : ℕ) → slice_index next.new.items bank ≤ slice_index next.old.items bank + 1 }
+{
+    let bank = usize::from(item.bank);
+    if bank < next.len() {
+        next[bank] += 1;
+    }
+}
+
 impl Walk {
     /// A walk before its first place.
     pub(crate) fn new(
@@ -83,7 +108,7 @@ impl Walk {
         requires walk { IsWalk self (lists_of logs.now) }
         requires fits { All (λ log. All (Fits self.machine.shape) log.items) logs.now.items }
         requires short { (log : ℕ) → length (log_at (lists_of logs.now) log) < 2 ^ 32 }
-        requires few { count_left (left_of self.places.items (lists_of logs.now)) ≤ 2 ^ 25 }
+        requires few { count_left (left_of self.places.items (lists_of logs.now)) ≤ 2 ^ 29 }
         requires next { (bank : ℕ) → slice_index self.next.items bank ≡ 0 }
         ensures { IfOk result (λ answer. answer ≡ walked self (lists_of logs.now) 0 order.now) }
     {
@@ -142,14 +167,13 @@ impl Walk {
         let Some(item) = self.record(logs, log) else {
             return Ok(Taken::NotNext);
         };
-        let bank = usize::from(item.bank);
-        if item.number != self.next[bank] {
+        if !is_numbered(&self.next, item) {
             return Ok(Taken::NotNext);
         }
         if let Some(rule) = self.machine.step(item)? {
             return Ok(Taken::Breaks(rule));
         }
-        self.next[bank] += 1;
+        count(&mut self.next, item);
         self.places[log] += 1;
         Ok(Taken::Next)
     }

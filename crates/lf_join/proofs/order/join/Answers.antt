@@ -11,7 +11,7 @@ use Rattle.lf_join.proofs.order.join.Goals as goal
 pub ring-requires-clause-waits : goal.ring-requires-clause-waits
 ring-requires-clause-waits c =
     let heads = c.in-Ok.merged.1 in
-    all_wait (lists_of c.args.skeletons.now) c.in-Ok.merged.0.items heads.places heads.next c.in-Ok.ensures.is_at c.requires.whole
+    all_wait (lists_of c.args.skeletons.now) c.in-Ok.merged.0.items heads.places heads.next c.in-Ok.ensures.is_at c.requires.whole c.in-Ok.ensures.nothing_goes
 
 pub returns-in-Some-clause-ring : goal.returns-in-Some-clause-ring
 returns-in-Some-clause-ring c =

@@ -6,4 +6,4 @@ use Rattle.lf_replay.specs.Step.{KeptAfter}
 use Rattle.lf_replay.proofs.replays.replay_part.Given as goal
 
 abbrev pub invariant-loop-item : goal.invariant-loop-item
-invariant-loop-item g l = IsSound l.state × KeptAfter l.state l.shape (bank_part l.shape.banks l.bank (flat_memory l.memory.items)) (take l.item-index l.records)
+invariant-loop-item g l = IsSound l.state × KeptAfter l.state l.shape (bank_part l.shape l.bank (flat_memory l.memory.items)) (take l.item-index l.records)

@@ -14,4 +14,4 @@ join-requires-clause-whole c =
 pub join-requires-clause-short : goal.join-requires-clause-short
 join-requires-clause-short c =
     let same = ap joins.lists_of c.deref.ensures.value ∙ c.in_ok-all.ensures in
-    subst (All (λ (entries : List (ℕ × ℕ)). length entries ≤ 2 ^ 20)) (sym same) (skeletons_short c.args.logs.now (2 ^ 20) c.requires.short)
+    subst (All (λ (entries : List (ℕ × ℕ)). length entries ≤ 2 ^ 24)) (sym same) (skeletons_short c.args.logs.now (2 ^ 24) c.requires.short)

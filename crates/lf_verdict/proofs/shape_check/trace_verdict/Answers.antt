@@ -12,7 +12,7 @@ pub logs_verdict-requires-clause-count : goal.logs_verdict-requires-clause-count
 logs_verdict-requires-clause-count c = logs_count c.in-Ok.logs _ _ c.in-Ok.ensures
 
 pub logs_verdict-requires-clause-short : goal.logs_verdict-requires-clause-short
-logs_verdict-requires-clause-short c = logs_short c.in-Ok.logs _ _ c.in-Ok.ensures c.requires.fits.logs
+logs_verdict-requires-clause-short c = logs_short c.args.trace.header.version c.in-Ok.logs _ _ c.in-Ok.ensures c.requires.fits.logs
 
 pub logs_verdict-requires-clause-fit : goal.logs_verdict-requires-clause-fit
 logs_verdict-requires-clause-fit c =

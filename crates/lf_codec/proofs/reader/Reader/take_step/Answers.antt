@@ -21,3 +21,6 @@ returns-then-is_err c =
         header = rw c.advance-found.ensures.next (header_kept c.self.inside.progress.stage c.self.inside.progress c.args.bytes.now some);
       })),
     )
+
+pub advance-found-requires-clause-checked : goal.advance-found-requires-clause-checked
+advance-found-requires-clause-checked c = sym c.check.ensures.cause ∙ passed_from_no_error _ c.in_default.not-Err

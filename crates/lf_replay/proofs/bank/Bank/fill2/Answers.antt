@@ -1,41 +1,54 @@
-use Rattle.std.proofs.Common.{◌≡◌, true, sym, subst}
-use Rattle.lf_model.specs.Address.{agree_off, block_bytes}
-use Rattle.lf_model.specs.declared.shape.Shape.{Shape}
-use Rattle.lf_mshr.specs.Alike.{AreAlike}
+use Rattle.std.proofs.Common.{◌≡◌, true, ◌∙◌, sym, refl, rules}
 use Rattle.lf_model.specs.declared.rule.Rule.TheVariants.{NotFetched, SetFull, FillData}
-use Rattle.lf_replay.specs.Bytes.{flat_of}
-use Rattle.lf_replay.specs.Tells.{Tells}
+use Rattle.lf_levels.specs.LineTable.{wide_set}
 use Rattle.lf_replay.specs.View.{kept}
 use Rattle.lf_replay.proofs.Keeping.{absent2}
-use Rattle.lf_replay.proofs.Placed.{released2}
-use Rattle.lf_replay.proofs.Three.{free_way, three_hold}
+use Rattle.lf_replay.proofs.Placed.{released2, home_released}
+use Rattle.lf_replay.proofs.Three.{free_way, three_hold, third_fails}
 use Rattle.lf_replay.proofs.bank.Bank.fill2.Goals as goal
 
-pub supply-requires-clause-absent : goal.supply-requires-clause-absent
-supply-requires-clause-absent g c = absent2 (kept c.args.self.now (g.O1.Organisation.seen c.args.waiting.now) (g.O2.Organisation.seen c.args.regs2.now)) c.requires.keeps c.args.block (sym c.if-not-is_fetched.ensures.held)
+pub fill-requires : goal.fill-requires
+fill-requires g c = absent2 (kept c.args.self.now (g.O1.Organisation.seen c.args.waiting.now) (g.O2.Organisation.seen c.args.regs2.now)) c.requires.keeps c.args.second (sym c.if-not-is_fetched.ensures.held)
 
-pub returns-in_default-clause-answer : goal.returns-in_default-clause-answer
-returns-in_default-clause-answer g c = λ log bank waiting fetched wait.
-    let there = c.if-not-is_fetched.ensures.told fetched wait.level2 in
-    let stores = c.store_bytes.ensures c.args.self.now.shape waiting wait.level1 in
-    let way = free_way c.args.self.now.lines2 c.args.self.now.shape.banks c.args.self.now.shape.level2.sets c.args.self.now.shape.level2.ways c.args.block c.requires.framed.banks2 c.requires.framed.sets2 c.requires.framed.ways2 c.if-full.ensures.value in (
-      three_hold NotFetched SetFull FillData _ _ _ (sym there) way
-          (subst (λ m. agree_off c.args.self.now.shape.block c.args.bytes.now.items (block_bytes c.args.self.now.shape (flat_of c.args.self.now.memory) c.args.block) m ≡ true) stores (sym c.if-not-agrees_off.ensures)),
-      c.in_default.ensures.err (g.O1.Organisation.seen c.args.waiting.now) (g.O2.Organisation.seen c.args.regs2.now),
-    )
+pub add_blocks-requires-clause-told : goal.add_blocks-requires-clause-told
+add_blocks-requires-clause-told g c =
+    ((g.O2.Organisation.seen c.args.regs2.now).held, c.requires.keeps.now.slice.regs2, c.requires.keeps.shows.registers.level2, c.as_slice.ensures.value ∙ c.release.ensures.targets)
+
+pub returns-then-not-wide_agrees-clause-answer : goal.returns-then-not-wide_agrees-clause-answer
+returns-then-not-wide_agrees-clause-answer g c = λ log bank waiting fetched wait.
+    let there = c.if-not-is_fetched.ensures.told c.args.self.now.shape fetched wait.level2 in
+    let agrees = c.if-not-wide_agrees.ensures waiting wait.level1 in
+    let way = free_way wide_set c.args.self.now.lines2 c.args.self.now.shape.banks c.args.self.now.shape.factor c.args.self.now.shape.level2.sets c.args.self.now.shape.level2.ways c.args.second c.requires.framed.banks2 c.requires.framed.factor2 c.requires.framed.sets2
+    c.requires.framed.ways2 c.if-full.ensures.value in (third_fails NotFetched SetFull FillData _ _ _ (sym there) way (sym agrees), refl)
+
+pub returns-then-is_err-clause-answer : goal.returns-then-is_err-clause-answer
+returns-then-is_err-clause-answer g c = λ log bank waiting fetched wait.
+    let there = c.if-not-is_fetched.ensures.told c.args.self.now.shape fetched wait.level2 in
+    let agrees = c.if-not-wide_agrees.ensures waiting wait.level1 in
+    let way = free_way wide_set c.args.self.now.lines2 c.args.self.now.shape.banks c.args.self.now.shape.factor c.args.self.now.shape.level2.sets c.args.self.now.shape.level2.ways c.args.second c.requires.framed.banks2 c.requires.framed.factor2 c.requires.framed.sets2
+    c.requires.framed.ways2 c.if-full.ensures.value in (three_hold NotFetched SetFull FillData _ _ _ (sym there) way (sym agrees), search rules)
+
+pub returns-then-is_err-2-clause-answer : goal.returns-then-is_err-2-clause-answer
+returns-then-is_err-2-clause-answer g c = λ log bank waiting fetched wait.
+    let there = c.if-not-is_fetched.ensures.told c.args.self.now.shape fetched wait.level2 in
+    let agrees = c.if-not-wide_agrees.ensures waiting wait.level1 in
+    let way = free_way wide_set c.args.self.now.lines2 c.args.self.now.shape.banks c.args.self.now.shape.factor c.args.self.now.shape.level2.sets c.args.self.now.shape.level2.ways c.args.second c.requires.framed.banks2 c.requires.framed.factor2 c.requires.framed.sets2
+    c.requires.framed.ways2 c.if-full.ensures.value in (three_hold NotFetched SetFull FillData _ _ _ (sym there) way (sym agrees), search rules)
 
 pub returns-clause-answer : goal.returns-clause-answer
 returns-clause-answer g c = λ log bank waiting fetched wait.
-    let there = c.if-not-is_fetched.ensures.told fetched wait.level2 in
-    let stores = c.store_bytes.ensures c.args.self.now.shape waiting wait.level1 in
-    let way = free_way c.args.self.now.lines2 c.args.self.now.shape.banks c.args.self.now.shape.level2.sets c.args.self.now.shape.level2.ways c.args.block c.requires.framed.banks2 c.requires.framed.sets2 c.requires.framed.ways2 c.if-full.ensures.value in (
-      three_hold NotFetched SetFull FillData _ _ _ (sym there) way
-          (subst (λ m. agree_off c.args.self.now.shape.block c.args.bytes.now.items (block_bytes c.args.self.now.shape (flat_of c.args.self.now.memory) c.args.block) m ≡ true) stores (sym c.if-not-agrees_off.ensures)),
+    let there = c.if-not-is_fetched.ensures.told c.args.self.now.shape fetched wait.level2 in
+    let agrees = c.if-not-wide_agrees.ensures waiting wait.level1 in
+    let supplied = c.add_blocks.ensures (g.O2.Organisation.seen c.args.regs2.now).held fetched wait.level2 wait.home (c.as_slice.ensures.value ∙ c.release.ensures.targets) in
+    let way = free_way wide_set c.args.self.now.lines2 c.args.self.now.shape.banks c.args.self.now.shape.factor c.args.self.now.shape.level2.sets c.args.self.now.shape.level2.ways c.args.second c.requires.framed.banks2 c.requires.framed.factor2 c.requires.framed.sets2
+    c.requires.framed.ways2 c.if-full.ensures.value in (
+      three_hold NotFetched SetFull FillData _ _ _ (sym there) way (sym agrees),
       record {
         registers = record {
-          level1 = subst (λ (s : Shape). AreAlike (Tells s) (g.O1.Organisation.seen c.args.waiting.now).held waiting) (sym c.supply.ensures.shape) wait.level1;
-          level2 = released2 (g.O2.Organisation.seen c.args.regs2.now) (g.O2.Organisation.seen c.release.new.file) fetched c.args.block wait.level2 c.release.ensures.others;
+          level1 = wait.level1;
+          level2 = released2 c.args.self.now.shape (g.O2.Organisation.seen c.args.regs2.now) (g.O2.Organisation.seen c.release.new.file) fetched c.args.second wait.level2 c.release.ensures.others;
+          home = home_released c.args.self.now.shape fetched c.args.second wait.home;
         };
-        rest = c.in-Ok.ensures.ok (g.O1.Organisation.seen c.args.waiting.now) (g.O2.Organisation.seen c.release.new.file) waiting fetched log c.args.bytes.now;
+        rest = search rules;
       },
     )

@@ -4,7 +4,7 @@ use Rattle.lf_replay.specs.Bytes.{flat_of, bank_part}
 use Rattle.lf_replay.proofs.memory.FlatMemory.new.Given as goal
 
 abbrev pub invariant-loop-left : goal.invariant-loop-left
-invariant-loop-left l = record { within : l.left ≤ length l.memory; held : flat_of l.flat ≡ bank_part l.banks l.bank (flat_memory (drop l.left l.memory)) }
+invariant-loop-left l = record { within : l.left ≤ length l.memory; held : flat_of l.flat ≡ bank_part l.shape l.bank (flat_memory (drop l.left l.memory)) }
 
 abbrev pub decreases-loop-left : goal.decreases-loop-left
 decreases-loop-left l = l.left

@@ -21,5 +21,5 @@ returns-clause-sound g c = record {
   framed = c.apply.ensures.framed;
   file1 = c.apply.ensures.file1;
   file2 = c.apply.ensures.file2;
-  keeps = keeps_after (kept c.self.inside.bank (g.O1.Organisation.seen c.self.inside.waiting) (g.O2.Organisation.seen c.self.inside.regs2)) _ c.args.item.now.log c.args.item.now.event c.apply.result (rw (← c.self.view_is) at c.requires.sound.keeps) c.apply.ensures.shape c.apply.ensures.answer;
+  keeps = keeps_after (kept c.self.inside.bank (g.O1.Organisation.seen c.self.inside.waiting) (g.O2.Organisation.seen c.self.inside.regs2)) _ c.args.item.now.log c.args.item.now.event c.apply.result (rw (← c.self.view_is) at c.requires.sound.framed).in_range (rw (← c.self.view_is) at c.requires.sound.keeps) c.apply.ensures.shape c.apply.ensures.answer;
 }

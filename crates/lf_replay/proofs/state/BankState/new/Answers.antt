@@ -7,7 +7,7 @@ use Rattle.lf_replay.proofs.state.BankState.new.Goals as goal
 pub returns-clause-opening : goal.returns-clause-opening
 returns-clause-opening g c =
     opens (kept c.in_ok-new.field-0 (g.O1.Organisation.seen c.in_ok-new-2.field-0) (g.O2.Organisation.seen c.in_ok-new-3.field-0))
-    (bank_part c.args.shape.now.banks c.args.bank (flat_memory c.args.memory.now)) _ _ _ _ c.in_ok-new-2.ensures c.in_ok-new-3.ensures
+    (bank_part c.args.shape.now c.args.bank (flat_memory c.args.memory.now)) _ _ _ _ c.in_ok-new-2.ensures c.in_ok-new-3.ensures
     (c.in_ok-new.ensures.opening (g.O1.Organisation.seen c.in_ok-new-2.field-0) (g.O2.Organisation.seen c.in_ok-new-3.field-0))
 
 pub returns-clause-sound : goal.returns-clause-sound

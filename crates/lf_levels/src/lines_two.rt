@@ -1,0 +1,121 @@
+//! The lines of level two, each with a mask for every first-level block of its block.
+
+ghost use Rattle.std.specs.Prelude.{◌≡◌, ◌≤◌, ◌<◌, ◌/◌, ◌&&◌, true, false, not, length, Option, Some, None, option_copied, IfOk, IfErr, OnErr};
+ghost use Rattle.lf_model.specs.Address.{mask_at};
+ghost use Rattle.lf_model.specs.Fits.{is_factor};
+ghost use Rattle.lf_model.specs.Lines.{line_at, has_line, dirty_masks, same_masks};
+ghost use Rattle.lf_levels.specs.LineTable.{IsLineTable, ChangesOnly, is_full, wide_set, after_fill, after_evict, joined, joined2, are_absent};
+ghost use Rattle.lf_levels.specs.Refusals.{FillRefusal, WideEvictRefusal};
+
+use crate::fault::LineFault;
+use crate::level::{One, Two};
+use crate::lines::Lines;
+use lf_model::{Mask, Masks};
+
+/// The mask at the place, and 0 where there is none.
+fn mask_at(masks: &Masks, place: u32) -> u64
+    ensures { result ≡ mask_at masks.now place }
+{
+    match masks.get(place as usize) {
+        Some(mask) => mask.0,
+        None => 0,
+    }
+}
+
+/// Whether so many masks are the same.
+pub fn same_masks(factor: u32, a: &Masks, b: &Masks) -> bool
+    ensures { result ≡ same_masks factor a.now b.now }
+{
+    (0..factor).all(|place| mask_at(a, place) == mask_at(b, place))
+}
+
+/// Each mask with the bytes of the other that stands beside it.
+fn joined(masks: &Masks, others: &Masks) -> Masks
+    ensures { result.items ≡ joined masks.now.items others.now.items }
+{
+    let mut all = Masks::new();
+    for i in 0..masks.len() {
+        all.push(Mask(masks[i].0 | mask_at(others, i as u32)));
+    }
+    all
+}
+
+impl Lines<Two> {
+    /// The dirty masks of the second-level block's line.
+    pub fn dirty(&self, second: u32) -> Option<&Masks>
+        ensures value { option_copied result ≡ line_at self.now.lines second }
+        ensures table { IsLineTable wide_set self.now }
+    {
+        self.line(second)
+    }
+
+    /// A line comes to a second-level block that has none, with these dirty masks. `SetFull` where each
+    /// way of the block's set has a line; `NoMemory` where there is a free way and a growth was refused.
+    pub fn fill(&mut self, second: u32, masks: Masks) -> Result<(), LineFault>
+        requires { has_line self.old.lines second ≡ false }
+        ensures free_way { IfOk result (λ _. is_full wide_set self.old second ≡ false) }
+        ensures filled { IfOk result (λ _. self.new ≡ after_fill self.old second masks) }
+        ensures here { IfOk result (λ _. ChangesOnly self.old self.new second (Some masks)) }
+        ensures refused { IfErr result (λ fault. FillRefusal wide_set self.old second fault) }
+        ensures unchanged { OnErr result (self.new ≡ self.old) }
+    {
+        self.put(second, masks)
+    }
+
+    /// The dirty masks of the second-level block's line gain these bytes.
+    pub fn mark(&mut self, second: u32, masks: &Masks)
+        requires { has_line self.old.lines second ≡ true }
+        ensures marked { self.new ≡ after_fill self.old second (joined2 self.old second masks.now) }
+        ensures here { ChangesOnly self.old self.new second (Some (joined2 self.old second masks.now)) }
+    {
+        let Some(dirty) = self.line(second) else {
+            unreachable!()
+        };
+        let all = joined(dirty, masks);
+        self.set(second, all);
+    }
+
+    /// The second-level block's line goes, where the masks are its dirty masks. `EvictAbsent` where no
+    /// line is on the block; `EvictMask` where there is one with another mask at some place.
+    pub fn evict(&mut self, second: u32, masks: &Masks) -> Result<(), LineFault>
+        ensures there { IfOk result (λ _. has_line self.old.lines second ≡ true) }
+        ensures same_mask { IfOk result (λ _. same_masks self.old.factor masks.now (dirty_masks self.old.lines second) ≡ true) }
+        ensures evicted { IfOk result (λ _. self.new ≡ after_evict self.old second) }
+        ensures here { IfOk result (λ _. ChangesOnly self.old self.new second None) }
+        ensures refused { IfErr result (λ fault. WideEvictRefusal self.old second masks.now fault) }
+        ensures unchanged { OnErr result (self.new ≡ self.old) }
+    {
+        let factor = self.factor();
+        let Some(dirty) = self.line(second) else {
+            return Err(LineFault::EvictAbsent);
+        };
+        if !same_masks(factor, masks, dirty) {
+            return Err(LineFault::EvictMask);
+        }
+        self.take_out(second);
+        Ok(())
+    }
+
+    /// Whether the second level may give up its line on the block: where the first level has no line
+    /// on any block of it, and no register of the first level holds one.
+    pub fn may_leave(&self, second: u32, inner: &Lines<One>, in_register: bool) -> bool
+        requires fits { second < 0x1_0000_0000 / self.now.factor }
+        ensures { result ≡ (are_absent self.now.factor inner.now second && not in_register) }
+    {
+        are_absent(self.factor(), inner, second) && !in_register
+    }
+}
+
+/// Whether level one has no line on any block of the second-level block.
+fn are_absent(factor: u32, inner: &Lines<One>, second: u32) -> bool
+    requires factor { is_factor factor ≡ true }
+    requires fits { second < 0x1_0000_0000 / factor }
+    ensures { result ≡ are_absent factor inner.now second }
+{
+    for place in 0..factor {
+        if inner.has(second * factor + place) {
+            return false;
+        }
+    }
+    true
+}

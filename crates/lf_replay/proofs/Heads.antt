@@ -1,0 +1,64 @@
+-- Why an accepted miss of level one breaks no rule.
+use Rattle.std.proofs.Common.{◌≡◌, ℕ, zero, suc, ◌+◌, ◌/◌, ◌<◌, Bool, true, false, not, ◌&&◌, nat_lt, List, [], ◌∷◌, length, None, refl, sym, ap, ◌∙◌, subst, eqb-true, arith}
+use Rattle.std.proofs.lemmas.Bool.{lt-ltb}
+use mathlib.Core.Path.{ap₂}
+use Rattle.lf_model.specs.declared.rule.Rule.{Rule}
+use Rattle.lf_model.specs.declared.rule.Rule.TheVariants.{NotHead, Present}
+use Rattle.lf_model.specs.declared.shape.Shape.{Shape}
+use Rattle.lf_model.specs.Clauses.{Clause, OfBank, bank_wants}
+use Rattle.lf_model.specs.Lines.{Lines, has_line}
+use Rattle.lf_model.specs.Registers.{Held, primary_clauses, merge_clauses}
+use Rattle.lf_model.specs.Run.{first_failing}
+use Rattle.lf_model.specs.State.{Request, Missed}
+use Rattle.lf_model.specs.Table.{is_head, oldest, destination, destinations, position}
+use Rattle.lf_replay.specs.Kept.{queue_at}
+
+one_holds : (rule : Rule) (a : Bool) (rest : List Clause) → a ≡ true → first_failing OfBank rest ≡ None → first_failing OfBank (bank_wants rule a ∷ rest) ≡ None
+one_holds rule true rest e none = none
+one_holds rule false rest e none = absurd (cc e)
+
+head_tag : (queue : List Request) (tag : ℕ) → is_head queue tag ≡ true → (oldest queue).tag ≡ tag
+head_tag [] tag e = absurd (cc e)
+head_tag (request ∷ queue) tag e = eqb-true request.tag tag e
+
+queue_there : (queues : List (List Request)) (port tag : ℕ) → is_head (queue_at queues port) tag ≡ true → port < length queues
+queue_there [] zero tag e = absurd (cc e)
+queue_there [] (suc port) tag e = absurd (cc e)
+queue_there (queue ∷ queues) zero tag e = omega arith
+queue_there (queue ∷ queues) (suc port) tag e = let rest = queue_there queues port tag e in omega (arith, rest)
+
+module _ (shape : Shape) (queues : List (List Request)) (port tag : ℕ) (request : Request) (long : length queues ≡ shape.ports) (head : is_head (queue_at queues port) tag ≡ true) (same : request ≡ oldest (queue_at queues port)) where
+  pub is_next : (nat_lt port shape.ports && is_head (queue_at queues port) tag) ≡ true
+  is_next =
+      let lt : port < shape.ports = omega (arith, long, queue_there queues port tag head) in
+      ap₂ (λ a b. a && b) (lt-ltb port shape.ports lt) head
+
+  named : (d : ℕ) → d ≡ destination shape port request.tag → destination shape port tag ≡ d
+  named d is = sym (is ∙ ap (λ (r : Request). destination shape port r.tag) same ∙ ap (destination shape port) (head_tag (queue_at queues port) tag head))
+
+  here : (block : ℕ) → block ≡ request.block → (oldest (queue_at queues port)).block ≡ block
+  here block is = sym (is ∙ ap (λ (r : Request). r.block) same)
+
+  pub primary_none : (lines : Lines) (waiting : List (Held Missed)) (register block d : ℕ) → has_line lines request.block ≡ false → block ≡ request.block → d ≡ destination shape port request.tag
+      → None ≡ first_failing OfBank (primary_clauses shape.level1.organisation (destinations shape) waiting block d register)
+      → first_failing OfBank (
+        bank_wants NotHead (nat_lt port shape.ports && is_head (queue_at queues port) tag)
+            ∷ bank_wants Present (not (has_line lines (oldest (queue_at queues port)).block))
+            ∷ primary_clauses shape.level1.organisation (destinations shape) waiting (oldest (queue_at queues port)).block (destination shape port tag) register
+      ) ≡ None
+  primary_none lines waiting register block d absent at dest told =
+      let last : List Clause = primary_clauses shape.level1.organisation (destinations shape) waiting (oldest (queue_at queues port)).block (destination shape port tag) register in
+      one_holds NotHead _ (bank_wants Present (not (has_line lines (oldest (queue_at queues port)).block)) ∷ last) is_next (one_holds Present _ last (ap (λ (r : Request). not (has_line lines r.block)) (sym same) ∙ ap not absent)
+      ((λ i. first_failing OfBank (primary_clauses shape.level1.organisation (destinations shape) waiting (here block at i) (named d dest i) register)) ∙ sym told))
+
+  pub merge_none : (waiting : List (Held Missed)) (register block d word : ℕ) → block ≡ request.block → d ≡ destination shape port request.tag → word ≡ request.offset / 8
+      → None ≡ first_failing OfBank (merge_clauses shape.level1.organisation (destinations shape) position waiting block d word register)
+      → first_failing OfBank (
+        bank_wants NotHead (nat_lt port shape.ports && is_head (queue_at queues port) tag)
+            ∷ merge_clauses shape.level1.organisation (destinations shape) position waiting (oldest (queue_at queues port)).block (destination shape port tag) ((oldest (queue_at queues port)).offset / 8) register
+      ) ≡ None
+  merge_none waiting register block d word at dest is told =
+      let word_is : (oldest (queue_at queues port)).offset / 8 ≡ word = sym (is ∙ ap (λ (r : Request). r.offset / 8) same) in
+      let last : List Clause = merge_clauses shape.level1.organisation (destinations shape) position waiting (oldest (queue_at queues port)).block (destination shape port tag) ((oldest (queue_at queues port)).offset / 8) register in
+      one_holds NotHead _ last is_next
+      ((λ i. first_failing OfBank (merge_clauses shape.level1.organisation (destinations shape) position waiting (here block at i) (named d dest i) (word_is i) register)) ∙ sym told)

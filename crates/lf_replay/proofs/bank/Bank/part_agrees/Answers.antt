@@ -1,0 +1,20 @@
+use Rattle.std.proofs.Common.{◌≡◌, ℕ, List, map, length, sym, ap, ◌∙◌, subst}
+use Rattle.std.specs.List.{range_with_len}
+use Rattle.lf_model.specs.Address.{part_at, agree_off, block_bytes}
+use Rattle.lf_model.specs.Table.{store_bytes}
+use Rattle.lf_model.proofs.Wide.{part_len}
+use Rattle.lf_replay.specs.Bytes.{flat_of}
+use Rattle.lf_replay.proofs.bank.Bank.part_agrees.Goals as goal
+
+pub agrees_off-requires-clause-whole : goal.agrees_off-requires-clause-whole
+agrees_off-requires-clause-whole g c =
+    ap length (c.part_at-part.ensures ∙ ap (λ (xs : List ℕ). part_at c.args.self.now.shape.block xs c.args.place) c.deref.ensures.0)
+    ∙ part_len c.args.bytes.now.items c.args.self.now.shape.block c.args.place c.args.self.now.shape.factor c.requires.inside c.requires.whole
+
+pub returns : goal.returns
+returns g c = λ missed alike.
+    let size = c.args.self.now.shape.block in
+    let part : c.part_at-part.result.now ≡ part_at size c.args.bytes.now.items c.args.place = c.part_at-part.ensures ∙ ap (λ (xs : List ℕ). part_at size xs c.args.place) c.deref.ensures.0 in
+    let stores = c.store_bytes.ensures c.args.self.now.shape missed alike in
+    subst (λ b. c.agrees_off.result ≡ agree_off size (part_at size c.args.bytes.now.items c.args.place) (block_bytes c.args.self.now.shape (flat_of c.args.self.now.memory) b) (store_bytes missed b)) c.sub_block-block.ensures
+    (c.agrees_off.ensures ∙ (λ i. agree_off size (part i) (block_bytes c.args.self.now.shape (flat_of c.args.self.now.memory) c.sub_block-block.result) (stores i)))

@@ -1,0 +1,26 @@
+use Rattle.std.proofs.Common.{ℕ, Bool, List, sym, ap, ◌∙◌, inl, inr, arith}
+use Rattle.std.proofs.lemmas.Bool.{cases_eq}
+use Rattle.lf_model.specs.Address.{sub_block, part_at, block_bytes, agree_off}
+use Rattle.lf_model.specs.Registers.{Held}
+use Rattle.lf_model.specs.State.{Missed}
+use Rattle.lf_model.specs.Table.{store_bytes}
+use Rattle.lf_model.proofs.Masks.{all_range}
+use Rattle.lf_model.proofs.BusyTags.{not_all}
+use Rattle.lf_replay.specs.Bytes.{flat_of}
+use Rattle.lf_replay.proofs.bank.Bank.wide_agrees.Goals as goal
+
+pub returns : goal.returns
+returns g c = λ missed alike. sym (all_range _ 0 c.args.self.now.shape.factor (λ i le lt. c.loop-place.invariant missed alike i (omega (arith, lt, c.loop-place-test.false))))
+
+pub returns-then-not-part_agrees : goal.returns-then-not-part_agrees
+returns-then-not-part_agrees g c = λ missed alike.
+    not_all _ 0 c.args.self.now.shape.factor c.loop-place.place (omega arith) (omega (arith, c.loop-place-test.true)) (sym c.if-not-part_agrees.true ∙ c.part_agrees.ensures missed alike)
+
+pub loop-place-preserved : goal.loop-place-preserved
+loop-place-preserved g c = λ missed alike k lt.
+    let agree : ℕ → Bool = λ p. agree_off c.args.self.now.shape.block (part_at c.args.self.now.shape.block c.args.bytes.now.items p) (block_bytes c.args.self.now.shape (flat_of c.args.self.now.memory) (sub_block c.args.self.now.shape c.args.second p))
+    (store_bytes missed (sub_block c.args.self.now.shape c.args.second p)) in
+    (elim (cases_eq k c.loop-place.place) [
+      | inl same ↦ ap agree same ∙ (sym (c.part_agrees.ensures missed alike) ∙ c.if-not-part_agrees.false)
+      | inr apart ↦ c.loop-place.invariant missed alike k (omega (arith, lt, apart))
+    ])
