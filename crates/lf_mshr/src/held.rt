@@ -134,7 +134,7 @@ fn list_targets<T: Target>(held: &[Held<T>], block: u32, targets: &mut Targets<T
 }
 
 /// Moves the targets of the block into a list, in place of what it had. The others keep their order.
-pub fn release<T: Target>(held: &mut Vec<Held<T>>, block: u32, targets: &mut Targets<T>)
+pub fn release_into<T: Target>(held: &mut Vec<Held<T>>, block: u32, targets: &mut Targets<T>)
     requires { length held.old.items ≤ 1024 }
     ensures targets { targets.new.items ≡ map released_pair (targets_of held.old.items block) }
     ensures others { held.new.items ≡ released held.old.items block }

@@ -10,7 +10,7 @@ ghost use Rattle.lf_mshr.specs.RegisterFile.{held_item};
 
 use crate::fault::RegisterFault;
 use crate::held::{
-    Held, Targets, holds, holds_in, is_field_used, is_free, release, some_is_free, store_bytes,
+    Held, Targets, holds, holds_in, is_field_used, is_free, release_into, some_is_free, store_bytes,
 };
 use crate::organisation::Organisation;
 use crate::target::Target;
@@ -189,8 +189,8 @@ impl<T: Target> Organisation for Implicit<T> {
         Ok(())
     }
 
-    fn release(file: &mut ImplicitFile<T>, block: u32, targets: &mut Targets<T>) {
-        release(&mut file.held, block, targets);
+    fn release_into(file: &mut ImplicitFile<T>, block: u32, targets: &mut Targets<T>) {
+        release_into(&mut file.held, block, targets);
     }
 
     fn store_bytes(file: &ImplicitFile<T>, block: u32) -> Mask {

@@ -6,7 +6,7 @@ ghost use Rattle.lf_mshr.specs.RegisterFile.{held_item};
 ghost use Rattle.lf_mshr.specs.Bounds.{IsWithin};
 
 use crate::fault::RegisterFault;
-use crate::held::{Held, Targets, holds, is_free, release, store_bytes};
+use crate::held::{Held, Targets, holds, is_free, release_into, store_bytes};
 use crate::organisation::Organisation;
 use crate::target::Target;
 use lf_model::{Mask, NoMemory, OrgShape};
@@ -147,8 +147,8 @@ impl<T: Target> Organisation for Inverted<T> {
         Ok(())
     }
 
-    fn release(file: &mut InvertedFile<T>, block: u32, targets: &mut Targets<T>) {
-        release(&mut file.held, block, targets);
+    fn release_into(file: &mut InvertedFile<T>, block: u32, targets: &mut Targets<T>) {
+        release_into(&mut file.held, block, targets);
     }
 
     fn store_bytes(file: &InvertedFile<T>, block: u32) -> Mask {

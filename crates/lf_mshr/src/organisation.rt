@@ -105,9 +105,19 @@ pub trait Organisation {
 
     /// Takes out every target of the block, each once, in the order of acceptance. The others stay. The
     /// list gets them in place of what it had, so that it can be used again.
-    fn release(file: &mut Self::File, block: u32, targets: &mut Targets<Self::Target>)
+    fn release_into(file: &mut Self::File, block: u32, targets: &mut Targets<Self::Target>)
         ensures targets { targets.new.items ≡ map released_pair (targets_of (seen file.old).held block) }
         ensures others { seen file.new ≡ without_block (seen file.old) block };
+
+    /// Takes out every target of the block as `release_into`, and gives them in a new list.
+    fn release(file: &mut Self::File, block: u32) -> Targets<Self::Target>
+        ensures targets { result.items ≡ map released_pair (targets_of (seen file.old).held block) }
+        ensures others { seen file.new ≡ without_block (seen file.old) block }
+    {
+        let mut targets = Targets::new();
+        Self::release_into(file, block, &mut targets);
+        targets
+    }
 
     /// The bytes that the block's waiting stores write.
     fn store_bytes(file: &Self::File, block: u32) -> Mask

@@ -268,7 +268,7 @@ impl Bank {
         if self.lines1.fill(block, Mask(stores)).is_err() {
             return Err(BankFault::NoMemory);
         }
-        O::release(waiting, block, &mut self.replied);
+        O::release_into(waiting, block, &mut self.replied);
         add_replies(&mut self.ready, &self.shape, self.replied.as_slice());
         drop_block(&mut self.supplied, block);
         Ok(())

@@ -72,7 +72,13 @@ impl Bank {
             return Err(BankFault::Rule(Rule::SecondPresent));
         }
         let target = self.fetch(block);
-        if let Some(rule) = second_primary_rule::<O>(regs2, &self.shape, second, &target, register) {
+        if let Some(rule) = second_primary_rule::<O>(
+            regs2,
+            &self.shape,
+            second,
+            &target,
+            register,
+        ) {
             return Err(BankFault::Rule(rule));
         }
         let Ok(()) = O::primary(regs2, register, second, target) else {
@@ -176,8 +182,13 @@ impl Bank {
         {
             return Err(BankFault::NoMemory);
         }
-        O2::release(regs2, second, &mut self.fetched);
-        add_blocks(&mut self.supplied, &self.shape, second, self.fetched.as_slice());
+        O2::release_into(regs2, second, &mut self.fetched);
+        add_blocks(
+            &mut self.supplied,
+            &self.shape,
+            second,
+            self.fetched.as_slice(),
+        );
         Ok(())
     }
 

@@ -7,8 +7,8 @@ ghost use Rattle.lf_replay.specs.Step.{IsBankOrder};
 
 use crate::{Step, bank_replay, replay};
 use lf_model::{
-    Block, Event, Level, Mask, Masks, Memory, Op, OrgShape, Outcome, Record, Rule, Shape, WideBlock,
-    fits,
+    Block, Event, Level, Mask, Masks, Memory, Op, OrgShape, Outcome, Record, Rule, Shape,
+    WideBlock, fits,
 };
 use lf_mshr::{Explicit, Implicit, Inverted, Organisation, Request1, Request2};
 use std::alloc::Global;
