@@ -81,21 +81,26 @@ module _ (o : Reordering) (put gave : List Record) (has : HasOrdered o put gave)
   given_whole whole drained =
       let long = length-map put (λ (r : Record). r.number) in
       let many : length put ≤ length gave = ⊎_elim
-          (λ (h : length gave < length put). absurd (omega (arith, whole (length gave) (omega arith), times-none (length gave) put drained)))
-          (λ (h : length put ≤ length gave). h)
-          (below_or (length gave) (length put)) in
+      (λ (h : length gave < length put). absurd (omega (arith, whole (length gave) (omega arith), times-none (length gave) put drained)))
+      (λ (h : length put ≤ length gave). h)
+      (below_or (length gave) (length put)) in
       let few : length gave ≤ length put = ⊎_elim
-          (λ (h : length put < length gave).
-          let numbers = numbers_of put in
-          absurd (omega (arith, times-is_some (length put) put (given-there o put gave has (length put) h), count_by-below-suc (length put) numbers,
-          once_below (length put) numbers (λ k h. whole k (omega arith)), count_by-le-length (λ m. ltb m (length put + 1)) numbers)))
-          (λ (h : length gave ≤ length put). h)
-          (below_or (length put) (length gave)) in
+      (λ (h : length put < length gave).
+      let numbers = numbers_of put in
+      absurd (omega (
+        arith,
+        times-is_some (length put) put (given-there o put gave has (length put) h),
+        count_by-below-suc (length put) numbers,
+        once_below (length put) numbers (λ k h. whole k (omega arith)),
+        count_by-le-length (λ m. ltb m (length put + 1)) numbers,
+      )))
+      (λ (h : length gave ≤ length put). h)
+      (below_or (length put) (length gave)) in
       let same : length gave ≡ length put = omega arith in
       let is : gave ≡ by_number (length put) put =
-          one_by_one (λ k. with_number k put) 0 gave (λ k h.
-          let first = first_given k h in
-          let at : 0 + k ≡ k = omega arith in
-          ap option_to_list (has.given k h ∙ first.1) ∙ sym (first_with-only k put first.0 first.1 (whole k (omega arith))) ∙ ap (λ n. with_number n put) (sym at))
-          ∙ ap (λ n. by_number n put) same in
+      one_by_one (λ k. with_number k put) 0 gave (λ k h.
+      let first = first_given k h in
+      let at : 0 + k ≡ k = omega arith in
+      ap option_to_list (has.given k h ∙ first.1) ∙ sym (first_with-only k put first.0 first.1 (whole k (omega arith))) ∙ ap (λ n. with_number n put) (sym at))
+      ∙ ap (λ n. by_number n put) same in
       subst (λ xs. IsPermutation xs put) (sym is) (IsPermutation-sym put (by_number (length put) put) (whole_by_number put (λ k h. whole k (omega arith))))

@@ -300,23 +300,23 @@ module _ (o : Reordering) (put gave : List Record) (has : HasOrdered o put gave)
       let more : k < m = missing.1.1 in
       let there : is_some (first_with m put) ≡ true = came-times m missing.1.2 in
       let here : 0 < times k (numbers_of put) = occurs k (λ from.
-          let apart : m ≡ o.next → ⊥ = λ e. omega arith in
-          let waits : early_at o m ≡ first_with m put =
-              sym (cond-false (eqb m o.next) (ready_or o.ready (early_at o m)) (early_at o m) (ne_eqb m o.next apart)) ∙ has.waits m (omega (arith, has.next)) in
-          below k from (omega (arith, above m (ap is_some waits ∙ there)))) in
+      let apart : m ≡ o.next → ⊥ = λ e. omega arith in
+      let waits : early_at o m ≡ first_with m put =
+      sym (cond-false (eqb m o.next) (ready_or o.ready (early_at o m)) (early_at o m) (ne_eqb m o.next apart)) ∙ has.waits m (omega (arith, has.next)) in
+      below k from (omega (arith, above m (ap is_some waits ∙ there)))) in
       omega (arith, missing.0)
 
   pub first_missing : (k n : ℕ) → o.next ≤ k → ((j : ℕ) → o.next ≤ j → j < k → is_some (waiting_at o j) ≡ true) → is_some (waiting_at o k) ≡ false → k < n → is_some (early_at o n) ≡ true
       → IsMissing (numbers_of put) k × ((j : ℕ) → j < k → 0 < times j (numbers_of put))
   first_missing k n from below none more early =
       let absent : first_with k put ≡ None =
-          ⊎_elim (λ (e : first_with k put ≡ None). e)
-          (λ (some : (x : Record) × (first_with k put ≡ Some x)).
-          let there : is_some (waiting_at o k) ≡ true = ap is_some (has.waits k (omega (arith, has.next)) ∙ some.1) in absurd (cc))
-          (none_or_some (first_with k put)) in
+      ⊎_elim (λ (e : first_with k put ≡ None). e)
+      (λ (some : (x : Record) × (first_with k put ≡ Some x)).
+      let there : is_some (waiting_at o k) ≡ true = ap is_some (has.waits k (omega (arith, has.next)) ∙ some.1) in absurd (cc))
+      (none_or_some (first_with k put)) in
       let apart : n ≡ o.next → ⊥ = λ e. omega arith in
       let greater : first_with n put ≡ early_at o n =
-          sym (has.waits n (omega (arith, has.next))) ∙ cond-false (eqb n o.next) (ready_or o.ready (early_at o n)) (early_at o n) (ne_eqb n o.next apart) in
+      sym (has.waits n (omega (arith, has.next))) ∙ cond-false (eqb n o.next) (ready_or o.ready (early_at o n)) (early_at o n) (ne_eqb n o.next apart) in
       ((times-none k put absent, (n, more, times-is_some n put (ap is_some greater ∙ early))), λ j h. occurs j (λ at. below j at h))
 
 -- numbers that all occur and of which none is double are fine
@@ -333,9 +333,9 @@ whole_from_none numbers missing double k h = below (length numbers) (omega arith
     here n h once = ⊎_elim
         (λ (e : times n numbers ≡ 0). absurd (missing n (missing_at numbers n h once e)))
         (λ (other : times n numbers ≡ 0 → ⊥). ⊎_elim
-            (λ (e : times n numbers ≡ 1). e)
-            (λ (more : times n numbers ≡ 1 → ⊥). absurd (double n (omega arith)))
-            (cases_eq (times n numbers) 1))
+        (λ (e : times n numbers ≡ 1). e)
+        (λ (more : times n numbers ≡ 1 → ⊥). absurd (double n (omega arith)))
+        (cases_eq (times n numbers) 1))
         (cases_eq (times n numbers) 0)
 
     below : (n : ℕ) → n ≤ length numbers → (k : ℕ) → k < n → times k numbers ≡ 1

@@ -3,7 +3,8 @@
 ghost use Rattle.std.specs.Prelude.{◌≡◌};
 
 use crate::{
-    NumberFault, Place, bank_order, bank_records, port_replay, record_at, skeletons, split,
+    NumberFault, Place, PortStep, Reorder, bank_order, bank_records, port_replay, record_at,
+    skeletons, split,
 };
 use lf_model::{
     Block, Event, Level, NO_BANK, Op, OrgShape, Outcome, Record, Rule, Shape, WideBlock,
@@ -37,7 +38,9 @@ fn of_bank(number: u32, event: Event) -> Record
 }
 
 /// A fence of port 0.
-fn fence() -> Record {
+fn fence() -> Record
+    ensures { result.log ≡ 0 }
+{
     Record {
         log: 0,
         bank: NO_BANK,
@@ -289,4 +292,129 @@ fn encode_and_skeletons(rt: HostRuntime) -> Result<(), Fail> {
         [(0, 1), (0, 2), (0, 3), (0, 4)].as_slice()
     );
     Ok(())
+}
+
+#[test]
+fn records_come_out_by_number(rt: HostRuntime) -> Result<(), Fail> {
+    let mut order = Reorder::new(rt.alloc(), 0);
+    assert_eq!(rt; order.next(), None);
+    order.put(load(2, 2))?;
+    order.put(load(1, 1))?;
+    assert_eq!(rt; order.next(), None);
+    order.put(load(0, 0))?;
+    assert_eq!(rt; order.next(), Some(load(0, 0)));
+    assert_eq!(rt; order.next(), Some(load(1, 1)));
+    assert_eq!(rt; order.next(), Some(load(2, 2)));
+    assert_eq!(rt; order.next(), None);
+    assert_eq!(rt; order.fault(), None);
+    Ok(())
+}
+
+#[test]
+fn records_in_their_turn_pass(rt: HostRuntime) -> Result<(), Fail> {
+    let mut order = Reorder::new(rt.alloc(), 0);
+    assert!(rt; !order.pass(&load(1, 1)));
+    assert!(rt; order.pass(&load(0, 0)));
+    assert!(rt; !order.pass(&load(2, 0)));
+    order.put(load(1, 1))?;
+    assert!(rt; !order.pass(&load(2, 1)));
+    assert_eq!(rt; order.next(), Some(load(1, 1)));
+    assert_eq!(rt; order.fault(), None);
+    Ok(())
+}
+
+#[test]
+fn first_of_a_double_is_used(rt: HostRuntime) -> Result<(), Fail> {
+    let mut order = Reorder::new(rt.alloc(), 0);
+    order.put(load(1, 1))?;
+    order.put(load(2, 1))?;
+    order.put(load(0, 0))?;
+    order.put(load(3, 0))?;
+    assert_eq!(rt; order.fault(), Some(NumberFault::Double(0)));
+    assert_eq!(rt; order.next(), Some(load(0, 0)));
+    assert_eq!(rt; order.next(), Some(load(1, 1)));
+    assert_eq!(rt; order.next(), None);
+    order.put(load(0, 0))?;
+    assert_eq!(rt; order.fault(), Some(NumberFault::Double(0)));
+    assert_eq!(rt; order.next(), None);
+    Ok(())
+}
+
+#[test]
+fn gaps_and_doubles_as_they_come(rt: HostRuntime) -> Result<(), Fail> {
+    for (numbers, fault) in [
+        ([0, 1, 2], None),
+        ([2, 0, 1], None),
+        ([0, 1, 3], Some(NumberFault::Missing(2))),
+        ([0, 1, 1], Some(NumberFault::Double(1))),
+        ([0, 2, 2], Some(NumberFault::Missing(1))),
+        ([2, 0, 0], Some(NumberFault::Double(0))),
+        ([0, 1, u32::MAX], Some(NumberFault::Missing(2))),
+    ] {
+        let [a, b, c] = numbers;
+        let mut order = Reorder::new(rt.alloc(), 0);
+        order.put(load(0, a))?;
+        order.put(load(1, b))?;
+        order.put(load(2, c))?;
+        assert_eq!(rt; order.fault(), fault);
+    }
+    Ok(())
+}
+
+/// How many records wait at once in the test of many.
+const MANY: u32 = 3000;
+
+#[test]
+fn many_records_before_their_turn(rt: HostRuntime) -> Result<(), Fail> {
+    let mut order = Reorder::new(rt.alloc(), 0);
+    for number in (1..MANY).rev() {
+        order.put(load(0, number))?;
+    }
+    assert_eq!(rt; order.next(), None);
+    assert_eq!(rt; order.fault(), Some(NumberFault::Missing(0)));
+    order.put(load(0, 0))?;
+    for number in 0..MANY {
+        assert_eq!(rt; order.next(), Some(load(0, number)));
+    }
+    assert_eq!(rt; order.next(), None);
+    Ok(())
+}
+
+#[test]
+fn records_far_apart(rt: HostRuntime) -> Result<(), Fail> {
+    let mut order = Reorder::new(rt.alloc(), 0);
+    for k in 1..=100_u32 {
+        order.put(load(0, k * 65536))?;
+        order.put(load(0, k))?;
+    }
+    assert_eq!(rt; order.fault(), Some(NumberFault::Missing(0)));
+    order.put(load(0, 0))?;
+    for number in 0..=100 {
+        assert_eq!(rt; order.next(), Some(load(0, number)));
+    }
+    assert_eq!(rt; order.next(), None);
+    assert_eq!(rt; order.fault(), Some(NumberFault::Missing(101)));
+    Ok(())
+}
+
+/// A record that breaks a rule leaves all as it was.
+#[test]
+fn tags_of_a_port_as_they_come(rt: HostRuntime) {
+    let mut step = PortStep::new(&shape(), 0);
+    assert_eq!(rt; step.apply(&load(0, 0)), Ok(()));
+    assert_eq!(rt; step.apply(&load(0, 1)), Err(Rule::TagBusy));
+    assert_eq!(rt; step.apply(&reply(0, 5)), Ok(()));
+    assert_eq!(rt; step.apply(&reply(0, 6)), Err(Rule::NotOutstanding));
+    assert_eq!(rt; step.apply(&load(0, 6)), Ok(()));
+    assert_eq!(rt; step.apply(&load(4, 7)), Err(Rule::TagRange));
+}
+
+#[test]
+fn fences_of_a_port_as_they_come(rt: HostRuntime) {
+    let mut step = PortStep::new(&shape(), 0);
+    assert_eq!(rt; step.apply(&fence()), Ok(()));
+    assert_eq!(rt; step.apply(&load(0, 0)), Ok(()));
+    assert_eq!(rt; step.apply(&fence()), Err(Rule::FenceBusy));
+    assert_eq!(rt; step.apply(&reply(0, 5)), Ok(()));
+    assert_eq!(rt; step.apply(&fence()), Ok(()));
 }
