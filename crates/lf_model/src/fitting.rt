@@ -74,7 +74,9 @@ fn fits_issue(
         Op::Load => 0,
         Op::Store => usize::from(size),
     };
-    number < 0x1_0000_0000 && is_of_bank(banks, bank, number / u64::from(factor)) && is_data(len, bytes)
+    number < 0x1_0000_0000
+        && is_of_bank(banks, bank, number / u64::from(factor))
+        && is_data(len, bytes)
 }
 
 fn mask_fits(size: u32, mask: u64) -> bool

@@ -8,8 +8,8 @@ ghost use Rattle.lf_model.specs.Recheck.{lists_of};
 ghost use Rattle.lf_model.specs.Run.{NameTheirLogs};
 
 use crate::{
-    Block, Event, Level, Logs, Mask, Memory, Op, OrgShape, Recheck, Record, Rule, Shape, agree_off,
-    fits, overlay, recheck,
+    Block, Event, Level, Logs, Mask, Masks, Memory, NO_BANK, Op, OrgShape, Recheck, Record, Rule,
+    Shape, WideBlock, agree_off, fits, overlay, recheck,
 };
 use std::alloc::{AllocError, Global};
 
@@ -66,6 +66,31 @@ fn records_that_fit(rt: HostRuntime) {
     assert!(rt; fits(1, 1, 8, 1, &item));
     assert!(rt; !fits(1, 2, 8, 1, &item));
     assert!(rt; fits(1, 2, 16, 1, &item));
+    assert!(rt; fits(1, 2, 8, 2, &item));
+}
+
+/// A fence names no bank, and an eviction of level two has a mask for each of its blocks.
+#[test]
+fn fences_and_wide_evictions_that_fit(rt: HostRuntime) {
+    assert!(rt; fits(1, 1, 8, 1, &fence()));
+    let mut numbered = fence();
+    numbered.number = 1;
+    assert!(rt; !fits(1, 1, 8, 1, &numbered));
+    assert!(rt; !fits(1, 1, 8, 1, &event_of(0, 0, Event::Fence)));
+    let mut masks = Masks::new();
+    masks.push(Mask(0));
+    masks.push(Mask(1));
+    let mut bytes = WideBlock::new();
+    bytes.push(0xaa);
+    let event = Event::Evict2 {
+        block: 0,
+        masks,
+        bytes,
+    };
+    let item = event_of(1, 0, event);
+    assert!(rt; fits(1, 1, 8, 2, &item));
+    assert!(rt; !fits(1, 1, 8, 1, &item));
+    assert!(rt; !fits(1, 1, 8, 4, &item));
 }
 
 /// One port, one bank, blocks of eight bytes, one explicit register per level.
@@ -106,6 +131,14 @@ fn eight(first: u8) -> Block {
     block
 }
 
+fn wide_eight() -> WideBlock {
+    let mut block = WideBlock::new();
+    for _ in 0..8 {
+        let _ = block.try_push(0);
+    }
+    block
+}
+
 fn event_of(log: u8, number: u32, event: Event) -> Record {
     Record {
         log,
@@ -115,15 +148,44 @@ fn event_of(log: u8, number: u32, event: Event) -> Record {
     }
 }
 
-/// A load that misses both levels; its reply begins with this byte.
-fn load_misses_both_levels(alloc: Global, first: u8) -> Result<Logs, AllocError> {
-    let issue = Event::Issue {
+fn fence() -> Record {
+    Record {
+        log: 0,
+        bank: NO_BANK,
+        number: 0,
+        event: Event::Fence,
+    }
+}
+
+/// The port's load.
+fn issue() -> Record {
+    let event = Event::Issue {
         op: Op::Load,
         tag: 0,
         size: 8,
         address: 0,
         bytes: Block::new(),
     };
+    event_of(0, 0, event)
+}
+
+/// Its reply, which begins with this byte.
+fn reply(first: u8) -> Record {
+    let event = Event::Reply {
+        tag: 0,
+        size: 8,
+        bytes: eight(first),
+    };
+    event_of(0, 5, event)
+}
+
+/// A load that misses both levels; its reply begins with this byte.
+fn load_misses_both_levels(alloc: Global, first: u8) -> Result<Logs, AllocError> {
+    beside_the_bank(alloc, vec![in alloc; issue(), reply(first)]?)
+}
+
+/// The port's records, and those of the bank for a load that misses both levels.
+fn beside_the_bank(alloc: Global, port: Vec<Record>) -> Result<Logs, AllocError> {
     let primary = Event::Primary {
         port: 0,
         tag: 0,
@@ -133,14 +195,6 @@ fn load_misses_both_levels(alloc: Global, first: u8) -> Result<Logs, AllocError>
         block: 0,
         register: 0,
     };
-    let reply = Event::Reply {
-        tag: 0,
-        size: 8,
-        bytes: eight(first),
-    };
-    let mut port = Vec::new(alloc);
-    port.push(event_of(0, 0, issue))?;
-    port.push(event_of(0, 5, reply))?;
     let mut bank = Vec::new(alloc);
     bank.push(event_of(1, 1, primary))?;
     bank.push(event_of(1, 2, second))?;
@@ -149,7 +203,7 @@ fn load_misses_both_levels(alloc: Global, first: u8) -> Result<Logs, AllocError>
         3,
         Event::Fill2 {
             block: 0,
-            bytes: eight(0),
+            bytes: wide_eight(),
         },
     ))?;
     bank.push(event_of(
@@ -172,7 +226,9 @@ fn log_is_sound(shape: &Shape, log: usize, records: &[Record]) -> bool
     ensures named { IsTrue result → All (λ r. r.log ≡ log) records.now }
 {
     for item in records {
-        if usize::from(item.log) != log || !fits(shape.ports, shape.banks, shape.block, item) {
+        if usize::from(item.log) != log
+            || !fits(shape.ports, shape.banks, shape.block, shape.factor, item)
+        {
             return false;
         }
     }
@@ -211,5 +267,27 @@ fn recheck_orders(rt: HostRuntime) -> Result<(), AllocError> {
     assert!(rt; answer == Ok(Recheck::NotAnOrder(2)));
     let answer = recheck(alloc, &shape, &memory, &wrong, &[0, 1, 1, 1, 1, 0]);
     assert!(rt; answer == Ok(Recheck::Broken(5, Rule::ReplyData)));
+    Ok(())
+}
+
+/// A fence at the end or at the start stands where no tag of its port is busy; between the load and its
+/// reply one is.
+#[test]
+fn fences_by_recheck(rt: HostRuntime) -> Result<(), AllocError> {
+    let alloc = rt.alloc();
+    let shape = c1();
+    let memory: Memory = Vec::new(alloc);
+    let last = beside_the_bank(alloc, vec![in alloc; issue(), reply(0), fence()]?)?;
+    let first = beside_the_bank(alloc, vec![in alloc; fence(), issue(), reply(0)]?)?;
+    let between = beside_the_bank(alloc, vec![in alloc; issue(), fence(), reply(0)]?)?;
+    assert!(rt; are_sound(&shape, &last));
+    assert!(rt; are_sound(&shape, &first));
+    assert!(rt; are_sound(&shape, &between));
+    let answer = recheck(alloc, &shape, &memory, &last, &[0, 1, 1, 1, 1, 0, 0]);
+    assert!(rt; answer == Ok(Recheck::Accepted));
+    let answer = recheck(alloc, &shape, &memory, &first, &[0, 0, 1, 1, 1, 1, 0]);
+    assert!(rt; answer == Ok(Recheck::Accepted));
+    let answer = recheck(alloc, &shape, &memory, &between, &[0, 0, 1, 1, 1, 1, 0]);
+    assert!(rt; answer == Ok(Recheck::Broken(1, Rule::FenceBusy)));
     Ok(())
 }

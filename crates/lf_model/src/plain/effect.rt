@@ -14,19 +14,17 @@ ghost use Rattle.lf_model.specs.declared.event.Event.TheVariants as event;
 ghost use Rattle.lf_model.specs.Table.{block_asked, without_asked, without, without_ready, is_head, is_ready_for, reply_of, request_of, memory_after};
 ghost use Rattle.lf_model.specs.Plain.{flat_of, queue_at, slice_of, slice_next};
 
+use crate::event::Masks;
 use crate::mask::Mask;
 use crate::outcome::NoMemory;
-use crate::event::Masks;
 use crate::plain::judge::{place_of, second_of};
-use crate::plain::lines::{
-    LineMap, WideLineMap, clean_masks, dirty_mask, drop_line, marked_masks,
-};
-use crate::shape::Shape;
+use crate::plain::lines::{LineMap, WideLineMap, clean_masks, dirty_mask, drop_line, marked_masks};
 use crate::plain::memory::PlainMemory;
 use crate::plain::queue::{drop_head, enqueue, head};
 use crate::plain::registers::{Held, release, store_bytes};
 use crate::plain::request::{Missed, Ready, Request};
 use crate::plain::slice::PlainSlice;
+use crate::shape::Shape;
 
 fn push<T: Drop>(items: &mut Vec<T>, item: T) -> Result<(), NoMemory>
     ensures { OnOk result (items.new.items ≡ items.old.items ++ item ∷ []) }
@@ -172,12 +170,7 @@ impl PlainSlice {
         Ok(())
     }
 
-    pub(crate) fn evict1(
-        &mut self,
-        shape: &Shape,
-        block: u32,
-        mask: Mask,
-    ) -> Result<(), NoMemory>
+    pub(crate) fn evict1(&mut self, shape: &Shape, block: u32, mask: Mask) -> Result<(), NoMemory>
         requires { IsShape shape.now }
         ensures slice { (memory : FlatMemory) (log : ℕ) (bytes : ArrayVec ℕ) → OnOk result (slice_of self.new ≡ slice_next shape.now memory (slice_of self.old) log (event.Evict1 block mask bytes)) }
         ensures ports { OnOk result (self.new.queues ≡ self.old.queues) }

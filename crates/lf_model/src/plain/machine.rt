@@ -148,9 +148,7 @@ fn apply_event(
         Event::Fill1 { block, .. } => slice.fill1(*block),
         Event::Evict1 { block, mask, .. } => slice.evict1(shape, *block, *mask),
         Event::SecondHit { block } => slice.second_hit(*block),
-        Event::SecondPrimary { block, register } => {
-            slice.second_miss(shape, *block, *register)
-        }
+        Event::SecondPrimary { block, register } => { slice.second_miss(shape, *block, *register) }
         Event::SecondMerge { block, register } => slice.second_miss(shape, *block, *register),
         Event::Fill2 { block, .. } => slice.fill2(shape, *block),
         Event::Evict2 { block, .. } => {
