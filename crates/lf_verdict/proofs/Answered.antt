@@ -49,7 +49,7 @@ pub logs_count : (vecs : Vec (Vec Record)) (count : ℕ) (rs : List Record) → 
 logs_count vecs count rs e =
     sym (length-map vecs.items (λ (v : Vec Record). v.items)) ∙ ap length e ∙ length-map-range_with_len (λ log. of_log log rs) 0 count
 
-limit_is_small : (version : ℕ) → log_limit version ≤ 2 ^ 24
+pub limit_is_small : (version : ℕ) → log_limit version ≤ 2 ^ 24
 limit_is_small version = elim (version == 1) as (λ b. cond b 1048576 16777216 ≤ 2 ^ 24) [ true ↦ omega arith | false ↦ omega arith ]
 
 pub logs_short : (version : ℕ) (vecs : Vec (Vec Record)) (count : ℕ) (rs : List Record) → lists_of vecs ≡ logs_of count rs → ((log : ℕ) → length (of_log log rs) ≤ log_limit version)

@@ -14,15 +14,17 @@ last_of xs x d n e = rw e (get_or-append_seam xs x [] d)
 -- one more at the end, of which the same holds
 pub each_more : {X : Type 0} (P : ℕ → X → Type 0) (xs ys : List X) (n : ℕ) (x : X) → length xs ≡ n → ys ≡ xs ++ x ∷ [] → ((k : ℕ) (d : X) → k < n → P k (get_or xs k d)) → P n x
     → (length ys ≡ n + 1) × ((k : ℕ) (d : X) → k < n + 1 → P k (get_or ys k d))
-each_more {X = X} P xs ys n x long is each here =
-    (ap length is ∙ length-append xs (x ∷ []) ∙ ap (λ m. m + 1) long, λ k d lt. elim (cases_lt k n) [
-      | inl below ↦
-          let short : k < length xs = omega (arith, long) in
-          subst (P k) (sym (ap (λ (zs : List X). get_or zs k d) is ∙ get_or_append_left xs (x ∷ []) d k short)) (each k d below)
-      | inr above ↦
-          let same : k ≡ n = omega arith in
-          subst (λ m. P m (get_or ys k d)) (sym same) (subst (P n) (sym (ap (λ (zs : List X). get_or zs k d) is ∙ last_of xs x d k (same ∙ sym long))) here)
-    ])
+each_more {X = X} P xs ys n x long is each here = (
+  ap length is ∙ length-append xs (x ∷ []) ∙ ap (λ m. m + 1) long,
+  λ k d lt. elim (cases_lt k n) [
+    | inl below ↦
+        let short : k < length xs = omega (arith, long) in
+        subst (P k) (sym (ap (λ (zs : List X). get_or zs k d) is ∙ get_or_append_left xs (x ∷ []) d k short)) (each k d below)
+    | inr above ↦
+        let same : k ≡ n = omega arith in
+        subst (λ m. P m (get_or ys k d)) (sym same) (subst (P n) (sym (ap (λ (zs : List X). get_or zs k d) is ∙ last_of xs x d k (same ∙ sym long))) here)
+  ],
+)
 
 pub no_entries : (a n : ℕ) → replicate {A = List (ℕ × ℕ)} n [] ≡ skeletons_of (map (λ log. of_log log []) (range_with_len a n))
 no_entries a zero = refl

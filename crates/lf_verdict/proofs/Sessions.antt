@@ -8,7 +8,7 @@ use Rattle.std.proofs.lemmas.Bool.{cond-true, eq-eqb}
 use Rattle.lf_model.specs.declared.shape.Shape.{Shape}
 use Rattle.lf_model.specs.declared.event.Record.{Record}
 use Rattle.lf_model.specs.Address.{flat_memory}
-use Rattle.lf_model.specs.Fits.{Bytes, FitsRecord, Fits}
+use Rattle.lf_model.specs.Fits.{Bytes, Fits}
 use Rattle.lf_model.specs.Run.{of_log}
 use Rattle.lf_codec.specs.declared.header.Header.{Header}
 use Rattle.lf_codec.specs.declared.fault.CodecFault.{CodecFault}
@@ -19,9 +19,11 @@ use Rattle.lf_codec.specs.declared.fault.CodecCause.TheVariants.{NoMemory}
 use Rattle.std.proofs.Common.{take}
 use Rattle.std.proofs.lemmas.Bool.{cases_lt}
 use Rattle.lf_verdict.proofs.Pieces.{fault_told}
+use Rattle.lf_verdict.proofs.Traces.{fits_shape}
+use Rattle.lf_verdict.proofs.Answered.{limit_is_small}
 use Rattle.lf_codec.specs.Reading.{Reading, nothing_read, reading_of, fault_of, fault_so_far, trace_fault, header_now, header_of}
 use Rattle.lf_codec.specs.Reader.{HasRead, RanOut, told}
-use Rattle.lf_codec.specs.Trace.{IsTrace}
+use Rattle.lf_codec.specs.Trace.{IsTrace, FitsIn}
 use Rattle.lf_verdict.specs.declared.answer.Verdict.TheVariants.{Refused}
 use Rattle.lf_verdict.specs.declared.answer.HeaderField.{HeaderField}
 use Rattle.lf_verdict.specs.declared.intake.Intake.{Intake}
@@ -53,21 +55,14 @@ one_of_log xs r ys =
     let own = cond-true (r.log == r.log) (r ∷ of_log r.log ys) (of_log r.log ys) (eq-eqb r.log r.log refl) in
     omega (arith, ap length whole, length-append (of_log r.log xs) (of_log r.log (r ∷ ys)), ap length own)
 
-fits_here : (shape : Shape) (h : Header) (r : Record) → Agrees shape h → FitsRecord h.ports h.banks h.block r → Fits shape r
-fits_here shape h r agrees fits =
-    subst (λ n. FitsRecord shape.ports shape.banks n r) agrees.block
-    (subst (λ n. FitsRecord shape.ports n h.block r) agrees.banks
-    (subst (λ n. FitsRecord n h.banks h.block r) agrees.ports fits))
-
 pub may_come : WhatIsReadFits → (shape : Shape) (bytes : List ℕ) (memory : List (ℕ × Bytes)) (records : List Record) (r : Reading) (running : Standing) (item : Record) (rest : List Record)
     → HasRead r bytes memory records → IsRunning shape bytes memory records running → r.records ≡ item ∷ rest → MayCome shape records item
 may_come law shape bytes memory records r running item rest read run next =
     let fits = law bytes run.header read.are_bytes run.read in
     let all : (reading_of bytes).records ≡ records ++ item ∷ rest = ap (λ (q : Reading). q.records) read.same ∙ ap (λ (xs : List Record). records ++ xs) next in
     record {
-      fits = fits_here shape run.header item run.agrees
-          (middle (FitsRecord run.header.ports run.header.banks run.header.block) records item rest (subst (AllByRecursion (FitsRecord run.header.ports run.header.banks run.header.block)) all fits.each));
-      room = omega (arith, one_of_log records item rest, ap (λ (xs : List Record). length (of_log item.log xs)) all, fits.logs item.log);
+      fits = fits_shape shape run.header item run.agrees (middle (FitsIn run.header) records item rest (subst (AllByRecursion (FitsIn run.header)) all fits.each)).fits;
+      room = omega (arith, limit_is_small run.header.version, one_of_log records item rest, ap (λ (xs : List Record). length (of_log item.log xs)) all, fits.logs item.log);
     }
 
 -- ---- what a session answers
@@ -120,7 +115,7 @@ module _ (exact : ReadingIsExact) (shape : Shape) (bytes : List ℕ) (are_bytes 
     }
 
     pub short_logs : IsShape shape → IsShort shape records
-    short_logs in_range = record { in_range = in_range; short = whole_trace.fits.logs }
+    short_logs in_range = record { in_range = in_range; short = λ log. omega (arith, limit_is_small h.version, whole_trace.fits.logs log) }
 
 -- while the session waits, no memory matters
 pub waiting_any : (shape : Shape) (bytes : List ℕ) (a b : List (ℕ × Bytes)) (records : List Record) (judging : Judging) → judging ≡ Waiting → IsJudging shape bytes a records judging → IsJudging shape bytes b records judging

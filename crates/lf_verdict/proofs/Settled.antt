@@ -113,10 +113,10 @@ bank_outcome shape memory bank rs step outcomes.NoMemory at = absurd at
 module _ (shape : Shape) (memory : FlatMemory) (records : List Record) (s : Standing) (stands : StandsAfterAll shape memory records s) where
   -- the bank at a place, whatever stands past the end
   bank_here : (bank : ℕ) → bank < shape.banks → (judge : BankJudge) × ((outcome_at (map (λ (j : BankJudge). j.outcome) s.banks.items) bank ≡ judge.outcome)
-      × IsBankSettled shape (bank_part shape.banks bank memory) bank (of_bank bank records) (log_at stands.given bank) judge)
+      × IsBankSettled shape (bank_part shape bank memory) bank (of_bank bank records) (log_at stands.given bank) judge)
   bank_here bank lt =
       let at = map_at (λ (j : BankJudge). j.outcome) s.banks.items bank (omega (arith, stands.count_banks)) in
-      (at.0, (at.1.1, subst (λ (j : BankJudge). IsBankSettled shape (bank_part shape.banks bank memory) bank (of_bank bank records) (log_at stands.given bank) j) (at.1.0 at.0) (stands.banks bank at.0 lt)))
+      (at.0, (at.1.1, subst (λ (j : BankJudge). IsBankSettled shape (bank_part shape bank memory) bank (of_bank bank records) (log_at stands.given bank) j) (at.1.0 at.0) (stands.banks bank at.0 lt)))
 
   port_here : (port : ℕ) → port < shape.ports → (judge : PortJudge) × ((outcome_at (map (λ (j : PortJudge). j.outcome) s.ports.items) port ≡ judge.outcome) × IsPortJudged shape port (of_log port records) judge)
   port_here port lt =
@@ -125,9 +125,9 @@ module _ (shape : Shape) (memory : FlatMemory) (records : List Record) (s : Stan
 
   -- what the loop over the banks reads
   pub bank_read : (bank : ℕ) (items : List BankJudge) (judge : BankJudge) → items ≡ s.banks.items → judge ≡ get_or items bank judge → bank < shape.banks
-      → IsBankSettled shape (bank_part shape.banks bank memory) bank (of_bank bank records) (log_at stands.given bank) judge
+      → IsBankSettled shape (bank_part shape bank memory) bank (of_bank bank records) (log_at stands.given bank) judge
   bank_read bank items judge same read lt =
-      subst (λ (j : BankJudge). IsBankSettled shape (bank_part shape.banks bank memory) bank (of_bank bank records) (log_at stands.given bank) j)
+      subst (λ (j : BankJudge). IsBankSettled shape (bank_part shape bank memory) bank (of_bank bank records) (log_at stands.given bank) j)
       (sym (read ∙ ap (λ (js : List BankJudge). get_or js bank judge) same)) (stands.banks bank judge lt)
 
   pub bank_whole : (bank : ℕ) → IsWhole (numbers_of (of_bank bank records)) → HasWholeNumbers (logs_so_far shape records) bank
@@ -190,7 +190,7 @@ module _ (shape : Shape) (memory : FlatMemory) (records : List Record) (s : Stan
               let gave = log_at stands.given bank in
               subst (IsBankOutcome shape memory gave) (sym here.1.0)
               (outcome_same shape bank memory gave (bank_order bank lt) here.0.outcome
-              (bank_outcome shape (bank_part shape.banks bank memory) bank gave here.0.step here.0.outcome here.1.1.bank_judged.judged).0);
+              (bank_outcome shape (bank_part shape bank memory) bank gave here.0.step here.0.outcome here.1.1.bank_judged.judged).0);
         };
         ports_had = λ port h.
             let here = port_here port (omega (arith, long_ports, stands.count_ports)) in
@@ -198,7 +198,7 @@ module _ (shape : Shape) (memory : FlatMemory) (records : List Record) (s : Stan
         banks_had = λ bank h.
             let lt : bank < shape.banks = omega (arith, long_banks, stands.count_banks) in
             let here = bank_here bank lt in
-            λ e. (bank_outcome shape (bank_part shape.banks bank memory) bank (log_at stands.given bank) here.0.step here.0.outcome here.1.1.bank_judged.judged).1 (sym here.1.0 ∙ e);
+            λ e. (bank_outcome shape (bank_part shape bank memory) bank (log_at stands.given bank) here.0.step here.0.outcome here.1.1.bank_judged.judged).1 (sym here.1.0 ∙ e);
       }
 
 -- no judge below the next place is broken
@@ -223,24 +223,24 @@ module _ (shape : Shape) (memory : FlatMemory) (records : List Record) (s : Stan
   pub few_logs : length s.logs.items ≤ 32
   few_logs = omega (arith, entries_count (shape.ports + shape.banks) records s.logs.items stands.logs, short.in_range.ports.1, short.in_range.banks.1)
 
-  pub skeletons_short : All (λ (entries : List (ℕ × ℕ)). length entries ≤ 2 ^ 20) (skeletons_of (logs_so_far shape records))
+  pub skeletons_short : All (λ (entries : List (ℕ × ℕ)). length entries ≤ 2 ^ 24) (skeletons_of (logs_so_far shape records))
   skeletons_short k d lt =
       let logs = logs_so_far shape records in
       let within : k < length logs = omega (arith, length-map logs (map entry_of)) in
       let count = length-map-range_with_len (λ log. of_log log records) 0 (shape.ports + shape.banks) in
       let here : get_or (skeletons_of logs) k d ≡ map entry_of (of_log k records) =
-          get_or-map (map entry_of) logs k [] d within ∙ ap (map entry_of) (log_of_logs (shape.ports + shape.banks) k records (omega arith)) in
+      get_or-map (map entry_of) logs k [] d within ∙ ap (map entry_of) (log_of_logs (shape.ports + shape.banks) k records (omega arith)) in
       omega (arith, ap length here, length-map (of_log k records) entry_of, short.short k)
 
   pub skeletons_whole : AreWholeBelow (logs_so_far shape records) shape.banks → BanksAreWhole (skeletons_of (logs_so_far shape records))
   skeletons_whole below =
       banks_whole (logs_so_far shape records) (all_whole shape (logs_so_far shape records) (logs_fit shape (shape.ports + shape.banks) records stands.fit) below)
 
-  pub order_fits : (order : List ℕ) (entries : List (ℕ × ℕ)) → Takes (skeletons_of (logs_so_far shape records)) order entries → length order ≤ 32 * 2 ^ 20
+  pub order_fits : (order : List ℕ) (entries : List (ℕ × ℕ)) → Takes (skeletons_of (logs_so_far shape records)) order entries → length order ≤ 32 * 2 ^ 24
   order_fits order entries taken =
       let skeletons = skeletons_of (logs_so_far shape records) in
       let count = length-map-range_with_len (λ log. of_log log records) 0 (shape.ports + shape.banks) in
       let len : length skeletons ≤ 32 = omega (arith, length-map (logs_so_far shape records) (map entry_of), count, short.in_range.ports.1, short.in_range.banks.1) in
-      let sum = sum_by-le length (2 ^ 20) skeletons skeletons_short in
-      let more : length skeletons * 2 ^ 20 ≤ 32 * 2 ^ 20 = mul-le-mul_right (2 ^ 20) len in
+      let sum = sum_by-le length (2 ^ 24) skeletons skeletons_short in
+      let more : length skeletons * 2 ^ 24 ≤ 32 * 2 ^ 24 = mul-le-mul_right (2 ^ 24) len in
       omega (arith, order_len skeletons order entries taken, sum, more)

@@ -2,6 +2,7 @@
 use Rattle.std.proofs.Common.{◌≡◌, ℕ, ◌+◌, ◌<◌, ◌≤◌, List, [], ◌∷◌, ◌++◌, map, length, get_or, set, refl, sym, ap, ◌∙◌, subst, ⊎_elim, arith}
 use Rattle.std.specs.List.{AllByRecursion}
 use Rattle.std.specs.Global.{Vec}
+use Rattle.std.specs.Vec.{with_item}
 use Rattle.std.proofs.lemmas.List.{length-map, length-set, map-set, map-append, get_or-map, get_or-set_same, get_or-set_other}
 use Rattle.std.proofs.lemmas.Bool.{cases_eq}
 use Rattle.lf_model.specs.declared.shape.Shape.{Shape}
@@ -18,9 +19,8 @@ use Rattle.lf_replay.specs.Bytes.{bank_part}
 use Rattle.lf_verdict.specs.declared.port_judge.PortJudge.{PortJudge}
 use Rattle.lf_verdict.specs.declared.bank_judge.BankJudge.{BankJudge}
 use Rattle.lf_verdict.specs.declared.standing.Standing.{Standing}
-use Rattle.lf_verdict.specs.Standing.{IsPortJudged, IsBankSettled, MayCome, StandsAfterAll}
+use Rattle.lf_verdict.specs.Standing.{IsPortJudged, IsBankSettled, MayCome, IsEntered, StandsAfterAll}
 use Rattle.lf_verdict.proofs.Answered.{log_below}
-
 
 -- ---- the entries of the logs
 
@@ -29,7 +29,7 @@ pub entries_at : (count : ℕ) (rs : List Record) (xs : List (Vec (ℕ × ℕ)))
     → (get_or xs i d).items ≡ map entry_of (of_log i rs)
 entries_at count rs xs i d are within =
     let long : length xs ≡ count =
-        sym (length-map xs (λ (v : Vec (ℕ × ℕ)). v.items)) ∙ ap length are ∙ length-map (logs_of count rs) (map entry_of) ∙ length-parts_of (λ r. r.log) count rs in
+    sym (length-map xs (λ (v : Vec (ℕ × ℕ)). v.items)) ∙ ap length are ∙ length-map (logs_of count rs) (map entry_of) ∙ length-parts_of (λ r. r.log) count rs in
     sym (get_or-map (λ (v : Vec (ℕ × ℕ)). v.items) xs i d [] (omega arith))
     ∙ ap (λ (ls : List (List (ℕ × ℕ))). get_or ls i []) are
     ∙ get_or-map (map entry_of) (logs_of count rs) i [] [] (omega (arith, length-parts_of (λ r. r.log) count rs))
@@ -45,9 +45,9 @@ pub entries_more : (count : ℕ) (rs : List Record) (r : Record) (xs : List (Vec
 entries_more count rs r xs v w within are read pushed =
     let log = of_log r.log rs in
     let here : w.items ≡ map entry_of (log ++ r ∷ []) =
-        pushed
-        ∙ ap (λ (es : List (ℕ × ℕ)). es ++ (r.bank, r.number) ∷ []) (ap (λ (u : Vec (ℕ × ℕ)). u.items) read ∙ entries_at count rs xs r.log v are within)
-        ∙ sym (map-append entry_of log (r ∷ [])) in
+    pushed
+    ∙ ap (λ (es : List (ℕ × ℕ)). es ++ (r.bank, r.number) ∷ []) (ap (λ (u : Vec (ℕ × ℕ)). u.items) read ∙ entries_at count rs xs r.log v are within)
+    ∙ sym (map-append entry_of log (r ∷ [])) in
     map-set (λ (u : Vec (ℕ × ℕ)). u.items) xs r.log w
     ∙ ap (λ (ls : List (List (ℕ × ℕ))). set ls r.log w.items) are
     ∙ ap (λ (es : List (ℕ × ℕ)). set (skeletons_of (logs_of count rs)) r.log es) here
@@ -82,20 +82,20 @@ ports_same shape rs r judges each past port d lt =
 
 pub banks_more : (shape : Shape) (memory : FlatMemory) (rs : List Record) (r : Record) (judges : List BankJudge) (given : List (List Record)) (new : BankJudge) (more : List Record)
     → length judges ≡ shape.banks → length given ≡ shape.banks
-    → ((bank : ℕ) (d : BankJudge) → bank < shape.banks → IsBankSettled shape (bank_part shape.banks bank memory) bank (of_bank bank rs) (log_at given bank) (get_or judges bank d))
-    → r.bank < shape.banks → IsBankSettled shape (bank_part shape.banks r.bank memory) r.bank (of_bank r.bank rs ++ r ∷ []) more new
+    → ((bank : ℕ) (d : BankJudge) → bank < shape.banks → IsBankSettled shape (bank_part shape bank memory) bank (of_bank bank rs) (log_at given bank) (get_or judges bank d))
+    → r.bank < shape.banks → IsBankSettled shape (bank_part shape r.bank memory) r.bank (of_bank r.bank rs ++ r ∷ []) more new
     → (bank : ℕ) (d : BankJudge) → bank < shape.banks
-    → IsBankSettled shape (bank_part shape.banks bank memory) bank (of_bank bank (rs ++ r ∷ [])) (log_at (set given r.bank more) bank) (get_or (set judges r.bank new) bank d)
+    → IsBankSettled shape (bank_part shape bank memory) bank (of_bank bank (rs ++ r ∷ [])) (log_at (set given r.bank more) bank) (get_or (set judges r.bank new) bank d)
 banks_more shape memory rs r judges given new more count count_given each within here bank d lt = ⊎_elim
     (λ (own : bank ≡ r.bank).
-    subst (λ b. IsBankSettled shape (bank_part shape.banks b memory) b (of_bank b (rs ++ r ∷ [])) (log_at (set given r.bank more) b) (get_or (set judges r.bank new) b d)) (sym own)
-    (subst (λ (j : BankJudge). IsBankSettled shape (bank_part shape.banks r.bank memory) r.bank (of_bank r.bank (rs ++ r ∷ [])) (log_at (set given r.bank more) r.bank) j) (sym (get_or-set_same judges r.bank new d (omega arith)))
-    (subst (λ (g : List Record). IsBankSettled shape (bank_part shape.banks r.bank memory) r.bank (of_bank r.bank (rs ++ r ∷ [])) g new) (sym (get_or-set_same given r.bank more [] (omega arith)))
-    (subst (λ (came : List Record). IsBankSettled shape (bank_part shape.banks r.bank memory) r.bank came more new) (sym (of_key-push_own (λ r. r.bank) r.bank rs r refl)) here))))
+    subst (λ b. IsBankSettled shape (bank_part shape b memory) b (of_bank b (rs ++ r ∷ [])) (log_at (set given r.bank more) b) (get_or (set judges r.bank new) b d)) (sym own)
+    (subst (λ (j : BankJudge). IsBankSettled shape (bank_part shape r.bank memory) r.bank (of_bank r.bank (rs ++ r ∷ [])) (log_at (set given r.bank more) r.bank) j) (sym (get_or-set_same judges r.bank new d (omega arith)))
+    (subst (λ (g : List Record). IsBankSettled shape (bank_part shape r.bank memory) r.bank (of_bank r.bank (rs ++ r ∷ [])) g new) (sym (get_or-set_same given r.bank more [] (omega arith)))
+    (subst (λ (came : List Record). IsBankSettled shape (bank_part shape r.bank memory) r.bank came more new) (sym (of_key-push_own (λ r. r.bank) r.bank rs r refl)) here))))
     (λ (other : bank ≡ r.bank → ⊥).
-    subst (λ (j : BankJudge). IsBankSettled shape (bank_part shape.banks bank memory) bank (of_bank bank (rs ++ r ∷ [])) (log_at (set given r.bank more) bank) j) (sym (get_or-set_other judges r.bank bank new d other))
-    (subst (λ (g : List Record). IsBankSettled shape (bank_part shape.banks bank memory) bank (of_bank bank (rs ++ r ∷ [])) g (get_or judges bank d)) (sym (get_or-set_other given r.bank bank more [] other))
-    (subst (λ (came : List Record). IsBankSettled shape (bank_part shape.banks bank memory) bank came (log_at given bank) (get_or judges bank d)) (sym (of_key-push_other (λ r. r.bank) bank rs r (λ e. other (sym e)))) (each bank d lt))))
+    subst (λ (j : BankJudge). IsBankSettled shape (bank_part shape bank memory) bank (of_bank bank (rs ++ r ∷ [])) (log_at (set given r.bank more) bank) j) (sym (get_or-set_other judges r.bank bank new d other))
+    (subst (λ (g : List Record). IsBankSettled shape (bank_part shape bank memory) bank (of_bank bank (rs ++ r ∷ [])) g (get_or judges bank d)) (sym (get_or-set_other given r.bank bank more [] other))
+    (subst (λ (came : List Record). IsBankSettled shape (bank_part shape bank memory) bank came (log_at given bank) (get_or judges bank d)) (sym (of_key-push_other (λ r. r.bank) bank rs r (λ e. other (sym e)))) (each bank d lt))))
     (cases_eq bank r.bank)
 
 -- ---- one record more
@@ -124,29 +124,48 @@ module _ (shape : Shape) (memory : FlatMemory) (records : List Record) (s : Stan
   port_before i v at read lt =
       subst (λ (j : PortJudge). IsPortJudged shape r.log (of_log r.log records) j) (sym (read ∙ ap (λ n. get_or s.ports.items n v) at)) (stands.ports r.log v (omega arith))
 
-  pub bank_before : (i : ℕ) (v : BankJudge) → i ≡ r.bank → v ≡ get_or s.banks.items i v
-      → IsBankSettled shape (bank_part shape.banks r.bank memory) r.bank (of_bank r.bank records) (log_at stands.given r.bank) v
-  bank_before i v at read =
-      subst (λ (j : BankJudge). IsBankSettled shape (bank_part shape.banks r.bank memory) r.bank (of_bank r.bank records) (log_at stands.given r.bank) j)
-      (sym (read ∙ ap (λ n. get_or s.banks.items n v) at)) (stands.banks r.bank v may.fits.bank)
+  pub bank_before : (i : ℕ) (v : BankJudge) → i ≡ r.bank → v ≡ get_or s.banks.items i v → r.bank < shape.banks
+      → IsBankSettled shape (bank_part shape r.bank memory) r.bank (of_bank r.bank records) (log_at stands.given r.bank) v
+  bank_before i v at read lt =
+      subst (λ (j : BankJudge). IsBankSettled shape (bank_part shape r.bank memory) r.bank (of_bank r.bank records) (log_at stands.given r.bank) j)
+      (sym (read ∙ ap (λ n. get_or s.banks.items n v) at)) (stands.banks r.bank v lt)
 
-  pub stands_more : (after : Standing) (i : ℕ) (new : BankJudge) → joins.lists_of after.logs.items ≡ skeletons_of (logs_of (shape.ports + shape.banks) (records ++ r ∷ []))
-      → length after.ports.items ≡ shape.ports
-      → ((port : ℕ) (d : PortJudge) → port < shape.ports → IsPortJudged shape port (of_log port (records ++ r ∷ [])) (get_or after.ports.items port d))
-      → i ≡ r.bank → after.banks.items ≡ set s.banks.items i new
-      → (more : List Record) × IsBankSettled shape (bank_part shape.banks r.bank memory) r.bank (of_bank r.bank records ++ r ∷ []) more new
+  -- its bank has judged it too
+  pub stands_more : (entered after : Standing) (i : ℕ) (new : BankJudge) → IsEntered shape records r s entered → r.bank < shape.banks
+      → after ≡ record entered { banks = with_item entered.banks i new } → i ≡ r.bank
+      → (more : List Record) × IsBankSettled shape (bank_part shape r.bank memory) r.bank (of_bank r.bank records ++ r ∷ []) more new
       → StandsAfterAll shape memory (records ++ r ∷ []) after
-  stands_more after i new logs count_ports ports at banks settled =
-      let changed : after.banks.items ≡ set s.banks.items r.bank new = banks ∙ ap (λ n. set s.banks.items n new) at in
+  stands_more entered after i new is within same at settled =
+      let banks : after.banks.items ≡ set s.banks.items r.bank new =
+      ap (λ (t : Standing). t.banks.items) same ∙ ap (λ (v : Vec BankJudge). set v.items i new) is.banks ∙ ap (λ n. set s.banks.items n new) at in
       record {
         fit = all_push (Fits shape) records r stands.fit may.fits;
-        logs = logs;
-        count_ports = count_ports;
-        count_banks = ap length changed ∙ length-set s.banks.items r.bank new ∙ stands.count_banks;
-        ports = ports;
+        logs = ap (λ (t : Standing). joins.lists_of t.logs.items) same ∙ is.logs;
+        count_ports = ap (λ (t : Standing). length t.ports.items) same ∙ is.count_ports;
+        count_banks = ap length banks ∙ length-set s.banks.items r.bank new ∙ stands.count_banks;
+        ports = λ port d lt.
+            subst (λ (js : List PortJudge). IsPortJudged shape port (of_log port (records ++ r ∷ [])) (get_or js port d)) (sym (ap (λ (t : Standing). t.ports.items) same)) (is.ports port d lt);
         given = set stands.given r.bank settled.0;
         count_given = length-set stands.given r.bank settled.0 ∙ stands.count_given;
         banks = λ bank d lt.
-            subst (λ (js : List BankJudge). IsBankSettled shape (bank_part shape.banks bank memory) bank (of_bank bank (records ++ r ∷ [])) (log_at (set stands.given r.bank settled.0) bank) (get_or js bank d)) (sym changed)
-            (banks_more shape memory records r s.banks.items stands.given new settled.0 stands.count_banks stands.count_given stands.banks may.fits.bank settled.1 bank d lt);
+            subst (λ (js : List BankJudge). IsBankSettled shape (bank_part shape bank memory) bank (of_bank bank (records ++ r ∷ [])) (log_at (set stands.given r.bank settled.0) bank) (get_or js bank d)) (sym banks)
+            (banks_more shape memory records r s.banks.items stands.given new settled.0 stands.count_banks stands.count_given stands.banks within settled.1 bank d lt);
+      }
+
+  -- it names no bank
+  pub stands_fenced : (after : Standing) → IsEntered shape records r s after → shape.banks ≤ r.bank → StandsAfterAll shape memory (records ++ r ∷ []) after
+  stands_fenced after is past =
+      let banks : after.banks.items ≡ s.banks.items = ap (λ (v : Vec BankJudge). v.items) is.banks in
+      record {
+        fit = all_push (Fits shape) records r stands.fit may.fits;
+        logs = is.logs;
+        count_ports = is.count_ports;
+        count_banks = ap length banks ∙ stands.count_banks;
+        ports = is.ports;
+        given = stands.given;
+        count_given = stands.count_given;
+        banks = λ bank d lt.
+            subst (λ (js : List BankJudge). IsBankSettled shape (bank_part shape bank memory) bank (of_bank bank (records ++ r ∷ [])) (log_at stands.given bank) (get_or js bank d)) (sym banks)
+            (subst (λ (came : List Record). IsBankSettled shape (bank_part shape bank memory) bank came (log_at stands.given bank) (get_or s.banks.items bank d))
+            (sym (of_key-push_other (λ r. r.bank) bank records r (λ e. omega arith))) (stands.banks bank d lt));
       }

@@ -47,7 +47,7 @@ logs_name count rs log =
       | inr le ↦ subst (AllByRecursion (λ r. r.log ≡ log)) (sym (no_log count log rs le)) tt
     ]
 
-fits_shape : (shape : Shape) (h : Header) (r : Record) → Agrees shape h → FitsRecord h.ports h.banks h.block h.factor r → Fits shape r
+pub fits_shape : (shape : Shape) (h : Header) (r : Record) → Agrees shape h → FitsRecord h.ports h.banks h.block h.factor r → Fits shape r
 fits_shape shape h r agrees fits =
     subst (λ n. FitsRecord shape.ports shape.banks shape.block n r) agrees.factor
     (subst (λ n. FitsRecord shape.ports shape.banks n h.factor r) agrees.block

@@ -1,5 +1,5 @@
 -- How the parts of a trace stand while its records come.
-use Rattle.std.specs.Prelude.{◌≡◌, ℕ, ◌+◌, ◌<◌, ◌≤◌, ◌^◌, List, [], map, length, slice_index_or, None}
+use Rattle.std.specs.Prelude.{◌≡◌, ℕ, ◌+◌, ◌<◌, ◌≤◌, ◌^◌, ◌++◌, List, [], ◌∷◌, map, length, slice_index_or, None}
 use Rattle.std.specs.List.{AllByRecursion}
 use Rattle.lf_model.specs.declared.shape.Shape.{Shape}
 use Rattle.lf_model.specs.declared.event.Record.{Record}
@@ -64,7 +64,7 @@ pub record IsBankSettled (shape : Shape) (memory : FlatMemory) (bank : ℕ) (cam
 -- The record may come next: it fits, and its log has room for it.
 pub record MayCome (shape : Shape) (records : List Record) (r : Record) : Type 0 where
   pub fits : Fits shape r
-  pub room : length (of_log r.log records) < 2 ^ 20
+  pub room : length (of_log r.log records) < 2 ^ 24
 
 -- These records of the trace came: each log's entries are kept, each port and each bank was judged as far as its records go.
 pub record StandsAfterAll (shape : Shape) (memory : FlatMemory) (records : List Record) (s : Standing) : Type 0 where
@@ -77,7 +77,14 @@ pub record StandsAfterAll (shape : Shape) (memory : FlatMemory) (records : List 
   pub given : List (List Record)
   pub count_given : length given ≡ shape.banks
   pub banks : (bank : ℕ) (d : BankJudge) → bank < shape.banks
-      → IsBankSettled shape (bank_part shape.banks bank memory) bank (of_bank bank records) (log_at given bank) (slice_index_or s.banks.items bank d)
+      → IsBankSettled shape (bank_part shape bank memory) bank (of_bank bank records) (log_at given bank) (slice_index_or s.banks.items bank d)
+
+-- The record came, and its port judged it; its bank has not seen it yet.
+pub record IsEntered (shape : Shape) (records : List Record) (r : Record) (before after : Standing) : Type 0 where
+  pub logs : joins.lists_of after.logs.items ≡ skeletons_of (logs_of (shape.ports + shape.banks) (records ++ r ∷ []))
+  pub count_ports : length after.ports.items ≡ shape.ports
+  pub ports : (port : ℕ) (d : PortJudge) → port < shape.ports → IsPortJudged shape port (of_log port (records ++ r ∷ [])) (slice_index_or after.ports.items port d)
+  pub banks : after.banks ≡ before.banks
 
 -- the logs of the records that came
 abbrev pub logs_so_far : Shape → List Record → List (List Record)
@@ -86,4 +93,4 @@ logs_so_far shape records = logs_of (shape.ports + shape.banks) records
 -- The shape is in range, and no log has more records than a trace may have.
 pub record IsShort (shape : Shape) (records : List Record) : Type 0 where
   pub in_range : IsShape shape
-  pub short : (log : ℕ) → length (of_log log records) ≤ 2 ^ 20
+  pub short : (log : ℕ) → length (of_log log records) ≤ 2 ^ 24

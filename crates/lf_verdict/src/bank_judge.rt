@@ -24,10 +24,15 @@ pub struct BankJudge {
 }
 
 impl BankJudge {
-    pub fn new(alloc: Global, shape: &Shape, memory: &Memory, bank: u8) -> Result<BankJudge, NoMemory>
+    pub fn new(
+        alloc: Global,
+        shape: &Shape,
+        memory: &Memory,
+        bank: u8,
+    ) -> Result<BankJudge, NoMemory>
         requires in_range { IsShape shape.now }
         requires bank { bank < shape.now.banks }
-        ensures { IfOk result (IsBankSettled shape.now (bank_part shape.now.banks bank (flat_memory memory.now.items)) bank [] []) }
+        ensures { IfOk result (IsBankSettled shape.now (bank_part shape.now bank (flat_memory memory.now.items)) bank [] []) }
     {
         Ok(BankJudge {
             order: Reorder::new(alloc, bank),

@@ -15,7 +15,9 @@ use crate::answer::{HeaderField, Refusal, Verdict};
 use crate::halt::push;
 use crate::shape_check::differing;
 use crate::standing::Standing;
-use lf_codec::{CodecCause, CodecFault, Reader, Told, exact_reading, faults_stand, header_of_bytes, read_so_far};
+use lf_codec::{
+    CodecCause, CodecFault, Reader, Told, exact_reading, faults_stand, header_of_bytes, read_so_far,
+};
 use lf_model::{Memory, NoMemory, Shape};
 use std::alloc::Global;
 

@@ -5,7 +5,7 @@ ghost use Rattle.lf_model.specs.declared.shape.Shape.{Shape};
 ghost use Rattle.lf_model.specs.declared.event.Record.{Record};
 ghost use Rattle.lf_model.specs.Address.{FlatMemory, flat_memory};
 ghost use Rattle.lf_model.specs.InRange.{IsShape};
-ghost use Rattle.lf_verdict.specs.Standing.{MayCome, StandsAfterAll};
+ghost use Rattle.lf_verdict.specs.Standing.{MayCome, IsEntered, StandsAfterAll};
 
 use crate::bank_judge::BankJudge;
 use crate::halt::push;
@@ -21,18 +21,32 @@ pub struct Standing {
 }
 
 impl Standing {
-    /// Takes the next record of the trace.
-    pub fn take(&mut self, item: Record) -> Result<(), NoMemory>
-        requires { (shape : Shape) × ((memory : FlatMemory) × ((records : List Record) × (MayCome shape records item × StandsAfterAll shape memory records self.old))) }
-        ensures { (shape : Shape) (memory : FlatMemory) (records : List Record) → MayCome shape records item → StandsAfterAll shape memory records self.old
-            → OnOk result (StandsAfterAll shape memory (records ++ item ∷ []) self.new) }
+    /// Keeps the entry of the next record, and judges it by its port where it stands in a port's log.
+    fn enter(&mut self, item: &Record) -> Result<(), NoMemory>
+        requires { (shape : Shape) × ((memory : FlatMemory) × ((records : List Record) × (MayCome shape records item.now × StandsAfterAll shape memory records self.old))) }
+        ensures { (shape : Shape) (memory : FlatMemory) (records : List Record) → MayCome shape records item.now → StandsAfterAll shape memory records self.old
+            → OnOk result (IsEntered shape records item.now self.old self.new) }
     {
         let log = usize::from(item.log);
         let at = self.logs[log].len() as u32;
         push(&mut self.logs[log], (item.bank, item.number))?;
         if log < self.ports.len() {
-            self.ports[log].take(at, &item);
+            self.ports[log].take(at, item);
         }
-        self.banks[usize::from(item.bank)].take(item)
+        Ok(())
+    }
+
+    /// Takes the next record of the trace. A fence names no bank.
+    pub fn take(&mut self, item: Record) -> Result<(), NoMemory>
+        requires { (shape : Shape) × ((memory : FlatMemory) × ((records : List Record) × (MayCome shape records item × StandsAfterAll shape memory records self.old))) }
+        ensures { (shape : Shape) (memory : FlatMemory) (records : List Record) → MayCome shape records item → StandsAfterAll shape memory records self.old
+            → OnOk result (StandsAfterAll shape memory (records ++ item ∷ []) self.new) }
+    {
+        self.enter(&item)?;
+        let bank = usize::from(item.bank);
+        if bank >= self.banks.len() {
+            return Ok(());
+        }
+        self.banks[bank].take(item)
     }
 }

@@ -43,7 +43,7 @@ fn bank_judges(alloc: Global, shape: &Shape, memory: &Memory) -> Result<Vec<Bank
     requires { IsShape shape.now }
     ensures count { IfOk result (λ judges. length judges.items ≡ shape.now.banks) }
     ensures each { IfOk result (λ judges. (bank : ℕ) (d : BankJudge) → bank < shape.now.banks
-        → IsBankSettled shape.now (bank_part shape.now.banks bank (flat_memory memory.now.items)) bank [] [] (slice_index_or judges.items bank d)) }
+        → IsBankSettled shape.now (bank_part shape.now bank (flat_memory memory.now.items)) bank [] [] (slice_index_or judges.items bank d)) }
 {
     let mut judges = Vec::new(alloc);
     for bank in 0..shape.banks {

@@ -406,7 +406,10 @@ fn a_session_answers_as_one_piece(rt: HostRuntime) -> Result<(), Fail> {
     let verdict = check_shape(&rt, &hierarchy(1, 1), &[&mixed], 1);
     assert_eq!(rt; verdict, yes(rt.alloc(), &order)?);
     let verdict = fed_by_bytes(&rt, &hierarchy(2, 1), bytes);
-    assert_eq!(rt; verdict, Verdict::Refused(Refusal::Header(HeaderField::Ports)));
+    assert_eq!(rt;
+        verdict,
+        Verdict::Refused(Refusal::Header(HeaderField::Ports))
+    );
     Ok(())
 }
 
@@ -419,8 +422,17 @@ fn a_session_after_a_refusal(rt: HostRuntime) -> Result<(), Fail> {
     };
     let mut session = Session::for_shape(rt.alloc(), &hierarchy(1, 1));
     assert_eq!(rt; session.feed(&empty), Ok(()));
-    assert_eq!(rt; session.feed(&[0]), Err(Told::Fault(Refusal::Format(trailing))));
-    assert_eq!(rt; session.feed(&[0]), Err(Told::Failed(Refusal::Format(trailing))));
-    assert_eq!(rt; session.finish(), Verdict::Refused(Refusal::Format(trailing)));
+    assert_eq!(rt;
+        session.feed(&[0]),
+        Err(Told::Fault(Refusal::Format(trailing)))
+    );
+    assert_eq!(rt;
+        session.feed(&[0]),
+        Err(Told::Failed(Refusal::Format(trailing)))
+    );
+    assert_eq!(rt;
+        session.finish(),
+        Verdict::Refused(Refusal::Format(trailing))
+    );
     Ok(())
 }

@@ -7,4 +7,4 @@ use Rattle.lf_verdict.proofs.standing_new.bank_judges.Given as goal
 
 abbrev pub invariant-loop-bank : goal.invariant-loop-bank
 invariant-loop-bank l = (length l.judges.items ≡ l.bank) × ((bank : ℕ) (d : BankJudge) → bank < l.bank
-    → IsBankSettled l.shape (bank_part l.shape.banks bank (flat_memory l.memory.items)) bank [] [] (get_or l.judges.items bank d))
+    → IsBankSettled l.shape (bank_part l.shape bank (flat_memory l.memory.items)) bank [] [] (get_or l.judges.items bank d))

@@ -12,11 +12,13 @@ judge-requires c =
 pub loop-item-preserved : goal.loop-item-preserved
 loop-item-preserved c shape memory bank came gave judged =
     let m = c.loop-item.invariant shape memory bank came gave judged in
-    let item = c.in-Some.item in
-    (m.0 ++ item ∷ [], judged_more shape memory bank came m.0 c.loop-item.self m.1 item c.judge.new.self (c.in-Some.ensures.there came m.0 m.1.ordered)
-        (subst (λ (o : Reordering). HasOrdered o came (m.0 ++ item ∷ [])) (sym c.in_ok-judge.ensures.order) (c.in-Some.ensures.gives came m.0 m.1.ordered))
-        (ap (λ (o : Reordering). o.bank) c.in_ok-judge.ensures.order ∙ c.in-Some.ensures.bank)
-        c.in_ok-judge.ensures.bank c.in_ok-judge.ensures.shape (λ number at. c.in_ok-judge.ensures.judged shape memory bank m.0 number at))
+    let item = c.in-Some.item in (
+      m.0 ++ item ∷ [],
+      judged_more shape memory bank came m.0 c.loop-item.self m.1 item c.judge.new.self (c.in-Some.ensures.there came m.0 m.1.ordered)
+          (subst (λ (o : Reordering). HasOrdered o came (m.0 ++ item ∷ [])) (sym c.in_ok-judge.ensures.order) (c.in-Some.ensures.gives came m.0 m.1.ordered))
+          (ap (λ (o : Reordering). o.bank) c.in_ok-judge.ensures.order ∙ c.in-Some.ensures.bank)
+          c.in_ok-judge.ensures.bank c.in_ok-judge.ensures.shape (λ number at. c.in_ok-judge.ensures.judged shape memory bank m.0 number at),
+    )
 
 pub returns : goal.returns
 returns c shape memory bank came gave judged =

@@ -32,9 +32,19 @@ verdict-requires c =
     let m = fed.0 in
     let trace = (c.finish.ensures.trace bytes s.memory.items m.0 m.1.read c.in_default-finish.field-0).0 c.in_default-finish.is in
     let run = subst (λ (j : Judging). IsJudging s.shape bytes s.memory.items m.0 j) c.in-Running.is m.1.judging in
-    let drained = subst (λ (j : Judging). IsDrained j s.reader s.memory.items) c.in-Running.is fed.1 in
-    (s.shape, (flat_memory s.memory.items, (m.0, (run.stands,
-        short_logs c.exact_reading.ensures s.shape bytes m.1.read.are_bytes c.in_default-finish.field-0 s.memory.items s.reader.memory m.0 s.reader.records trace c.in-Running.standing run drained m.1.in_range))))
+    let drained = subst (λ (j : Judging). IsDrained j s.reader s.memory.items) c.in-Running.is fed.1 in (
+      s.shape,
+      (
+        flat_memory s.memory.items,
+        (
+          m.0,
+          (
+            run.stands,
+            short_logs c.exact_reading.ensures s.shape bytes m.1.read.are_bytes c.in_default-finish.field-0 s.memory.items s.reader.memory m.0 s.reader.records trace c.in-Running.standing run drained m.1.in_range,
+          ),
+        ),
+      ),
+    )
 
 pub unreachable-requires : goal.unreachable-requires
 unreachable-requires c =

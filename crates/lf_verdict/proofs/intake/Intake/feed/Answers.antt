@@ -23,9 +23,14 @@ pub take_all-requires : goal.take_all-requires
 take_all-requires c =
     let s = c.args.self.now in
     let bytes = c.requires.0 in
-    let m = (going s bytes c.in_default.is c.requires.1).0 in
-    (bytes ++ c.args.piece.now, (m.0, judged_feed c.header_of_bytes.ensures s bytes c.args.piece.now m.0 c.feed.new.self m.1
-        (c.in_default-feed.ensures.ok bytes s.memory.items m.0 m.1.read) (told_fine s.reader.fault c.feed.new.self.fault m.1.fine (sym c.in_default-feed.ensures.told))))
+    let m = (going s bytes c.in_default.is c.requires.1).0 in (
+      bytes ++ c.args.piece.now,
+      (
+        m.0,
+        judged_feed c.header_of_bytes.ensures s bytes c.args.piece.now m.0 c.feed.new.self m.1
+            (c.in_default-feed.ensures.ok bytes s.memory.items m.0 m.1.read) (told_fine s.reader.fault c.feed.new.self.fault m.1.fine (sym c.in_default-feed.ensures.told)),
+      ),
+    )
 
 pub returns-in-Ok-clause-fed : goal.returns-in-Ok-clause-fed
 returns-in-Ok-clause-fed c bytes fed =
@@ -33,6 +38,6 @@ returns-in-Ok-clause-fed c bytes fed =
     let piece = c.args.piece.now in
     let m = (going s bytes c.in_default.is fed).0 in
     let judged = judged_feed c.header_of_bytes.ensures s bytes piece m.0 c.feed.new.self m.1
-        (c.in_default-feed.ensures.ok bytes s.memory.items m.0 m.1.read) (told_fine s.reader.fault c.feed.new.self.fault m.1.fine (sym c.in_default-feed.ensures.told)) in
+    (c.in_default-feed.ensures.ok bytes s.memory.items m.0 m.1.read) (told_fine s.reader.fault c.feed.new.self.fault m.1.fine (sym c.in_default-feed.ensures.told)) in
     subst (λ (stop : Option Stop). IsAt c.take_all.new.self (bytes ++ piece) stop) (sym (c.in-Ok.ensures.stop ∙ c.in_default.is))
     (c.in-Ok.ensures.taken (bytes ++ piece) (m.0, judged), c.in-Ok.ensures.drained)

@@ -27,7 +27,7 @@ pub join-requires-clause-short : goal.join-requires-clause-short
 join-requires-clause-short c =
     let r = c.requires in
     let same = ap joins.lists_of c.deref.ensures.value ∙ r.1.1.1.0.logs in
-    subst (All (λ (entries : List (ℕ × ℕ)). length entries ≤ 2 ^ 20)) (sym same) (skeletons_short r.0 r.1.0 r.1.1.0 c.args.self.now r.1.1.1.0 r.1.1.1.1)
+    subst (All (λ (entries : List (ℕ × ℕ)). length entries ≤ 2 ^ 24)) (sym same) (skeletons_short r.0 r.1.0 r.1.1.0 c.args.self.now r.1.1.1.0 r.1.1.1.1)
 
 pub join-requires-clause-whole : goal.join-requires-clause-whole
 join-requires-clause-whole c =

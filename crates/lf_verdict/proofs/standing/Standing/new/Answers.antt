@@ -21,6 +21,6 @@ returns c =
       given = replicate {A = List Record} shape.banks [];
       count_given = length-nothing Record shape.banks;
       banks = λ bank d lt.
-          subst (λ (gave : List Record). IsBankSettled shape (bank_part shape.banks bank (flat_memory c.args.memory.now.items)) bank [] gave (get_or c.in_ok-banks.banks.items bank d))
+          subst (λ (gave : List Record). IsBankSettled shape (bank_part shape bank (flat_memory c.args.memory.now.items)) bank [] gave (get_or c.in_ok-banks.banks.items bank d))
           (sym (nothing_at {X = Record} shape.banks bank)) (c.in_ok-banks.ensures.each bank d lt);
     }
