@@ -8,8 +8,8 @@ ghost use Rattle.lf_model.specs.Recheck.{lists_of};
 ghost use Rattle.lf_model.specs.Run.{NameTheirLogs};
 
 use crate::{
-    Block, Event, Level, Logs, Mask, Memory, Op, OrgShape, Recheck, Record, Rule, Shape, agree_off,
-    fits, overlay, recheck,
+    Block, Event, Level, Logs, Mask, Masks, Memory, NO_BANK, Op, OrgShape, Recheck, Record, Rule,
+    Shape, WideBlock, agree_off, fits, overlay, recheck,
 };
 use std::alloc::{AllocError, Global};
 
@@ -68,6 +68,44 @@ fn records_that_fit(rt: HostRuntime) {
     assert!(rt; fits(1, 2, 16, 1, &item));
 }
 
+fn fence_of(log: u8, bank: u8, number: u32) -> Record {
+    Record {
+        log,
+        bank,
+        number,
+        event: Event::Fence,
+    }
+}
+
+#[test]
+fn fence_fits(rt: HostRuntime) {
+    assert!(rt; fits(1, 1, 8, 1, &fence_of(0, NO_BANK, 0)));
+    assert!(rt; !fits(1, 1, 8, 1, &fence_of(0, 0, 0)));
+    assert!(rt; !fits(1, 1, 8, 1, &fence_of(0, NO_BANK, 1)));
+    assert!(rt; !fits(1, 1, 8, 1, &fence_of(1, NO_BANK, 0)));
+}
+
+#[test]
+fn wide_eviction_fits(rt: HostRuntime) {
+    for (count, want) in [(2, true), (1, false)] {
+        let event = Event::Evict2 {
+            block: 0,
+            masks: clean(count),
+            bytes: wide(0),
+        };
+        assert_eq!(rt; fits(1, 1, 8, 2, &event_of(1, 0, event)), want);
+    }
+}
+
+#[test]
+fn wide_fill_fits(rt: HostRuntime) {
+    for (block, want) in [(0x7fff_ffff, true), (0x8000_0000, false)] {
+        let bytes = wide(16);
+        let event = Event::Fill2 { block, bytes };
+        assert_eq!(rt; fits(1, 1, 8, 2, &event_of(1, 0, event)), want);
+    }
+}
+
 /// One port, one bank, blocks of eight bytes, one explicit register per level.
 fn c1() -> Shape
     ensures { IsShape result }
@@ -104,6 +142,24 @@ fn eight(first: u8) -> Block {
         let _ = block.try_push(0);
     }
     block
+}
+
+/// So many zeros.
+fn wide(len: usize) -> WideBlock {
+    let mut block = WideBlock::new();
+    for _ in 0..len {
+        let _ = block.try_push(0);
+    }
+    block
+}
+
+/// So many masks of no bytes.
+fn clean(count: usize) -> Masks {
+    let mut masks = Masks::new();
+    for _ in 0..count {
+        let _ = masks.try_push(Mask(0));
+    }
+    masks
 }
 
 fn event_of(log: u8, number: u32, event: Event) -> Record {
@@ -149,7 +205,7 @@ fn load_misses_both_levels(alloc: Global, first: u8) -> Result<Logs, AllocError>
         3,
         Event::Fill2 {
             block: 0,
-            bytes: eight(0),
+            bytes: wide(8),
         },
     ))?;
     bank.push(event_of(
@@ -172,7 +228,9 @@ fn log_is_sound(shape: &Shape, log: usize, records: &[Record]) -> bool
     ensures named { IsTrue result → All (λ r. r.log ≡ log) records.now }
 {
     for item in records {
-        if usize::from(item.log) != log || !fits(shape.ports, shape.banks, shape.block, item) {
+        if usize::from(item.log) != log
+            || !fits(shape.ports, shape.banks, shape.block, shape.factor, item)
+        {
             return false;
         }
     }
@@ -192,6 +250,19 @@ fn are_sound(shape: &Shape, logs: &Logs) -> bool
         }
     }
     logs.len() <= 32
+}
+
+#[test]
+fn fence_last(rt: HostRuntime) -> Result<(), AllocError> {
+    let alloc = rt.alloc();
+    let shape = c1();
+    let memory: Memory = Vec::new(alloc);
+    let mut logs = load_misses_both_levels(alloc, 0)?;
+    logs[0].push(fence_of(0, NO_BANK, 0))?;
+    assert!(rt; are_sound(&shape, &logs));
+    let answer = recheck(alloc, &shape, &memory, &logs, &[0, 1, 1, 1, 1, 0, 0]);
+    assert!(rt; answer == Ok(Recheck::Accepted));
+    Ok(())
 }
 
 #[test]
