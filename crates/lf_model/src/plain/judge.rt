@@ -72,7 +72,8 @@ pub(crate) fn sub_block(shape: &Shape, second: u32, place: u32) -> u32
 impl PlainSlice {
     /// `is_free` says whether the tag is not busy.
     pub(crate) fn judge_issue(shape: &Shape, is_free: bool, tag: u8) -> Option<Rule>
-        ensures { (slice : Slice) (busy : ℕ → Option ℕ) (log bank size address : ℕ) (op : Op) (bytes : ArrayVec ℕ) → is_free ≡ is_none (busy tag) → result ≡ first_failing OfBoth (rules_of shape.now true busy slice log bank (event.Issue op tag size address bytes)) }
+        ensures { (slice : Slice) (busy : ℕ → Option ℕ) (log bank size address : ℕ) (op : Op) (bytes : ArrayVec ℕ) → is_free ≡ is_none (busy tag) →
+            result ≡ first_failing OfBoth (rules_of shape.now true busy slice log bank (event.Issue op tag size address bytes)) }
     {
         if u32::from(tag) >= shape.tags {
             return Some(Rule::TagRange);
@@ -90,7 +91,8 @@ impl PlainSlice {
         size: u8,
         bytes: &Block,
     ) -> Option<Rule>
-        ensures { (busy : ℕ → Option ℕ) (bank : ℕ) → is_owed ≡ is_at (busy tag) bank → result ≡ first_failing OfBoth (rules_of shape.now true busy (slice_of self.now) log bank (event.Reply tag size bytes.now)) }
+        ensures { (busy : ℕ → Option ℕ) (bank : ℕ) → is_owed ≡ is_at (busy tag) bank →
+            result ≡ first_failing OfBoth (rules_of shape.now true busy (slice_of self.now) log bank (event.Reply tag size bytes.now)) }
     {
         if u32::from(tag) >= shape.tags {
             return Some(Rule::TagRange);
@@ -112,7 +114,8 @@ impl PlainSlice {
 
     pub(crate) fn judge_hit(&self, shape: &Shape, port: u8, tag: u8) -> Option<Rule>
         requires { IsFramed shape.now self.now }
-        ensures { (busy : ℕ → Option ℕ) (log bank : ℕ) → result ≡ first_failing OfBoth (rules_of shape.now true busy (slice_of self.now) log bank (event.Hit port tag)) }
+        ensures { (busy : ℕ → Option ℕ) (log bank : ℕ) →
+            result ≡ first_failing OfBoth (rules_of shape.now true busy (slice_of self.now) log bank (event.Hit port tag)) }
     {
         let Some(request) = self.head(port, tag) else {
             return Some(Rule::NotHead);
@@ -131,7 +134,8 @@ impl PlainSlice {
         register: u16,
     ) -> Option<Rule>
         requires { IsFramed shape.now self.now }
-        ensures { (busy : ℕ → Option ℕ) (log bank : ℕ) → result ≡ first_failing OfBoth (rules_of shape.now true busy (slice_of self.now) log bank (event.Primary port tag register)) }
+        ensures { (busy : ℕ → Option ℕ) (log bank : ℕ) →
+            result ≡ first_failing OfBoth (rules_of shape.now true busy (slice_of self.now) log bank (event.Primary port tag register)) }
     {
         let Some(request) = self.head(port, tag) else {
             return Some(Rule::NotHead);
@@ -164,7 +168,8 @@ impl PlainSlice {
         register: u16,
     ) -> Option<Rule>
         requires { IsFramed shape.now self.now }
-        ensures { (busy : ℕ → Option ℕ) (log bank : ℕ) → result ≡ first_failing OfBoth (rules_of shape.now true busy (slice_of self.now) log bank (event.Merge port tag register)) }
+        ensures { (busy : ℕ → Option ℕ) (log bank : ℕ) →
+            result ≡ first_failing OfBoth (rules_of shape.now true busy (slice_of self.now) log bank (event.Merge port tag register)) }
     {
         let Some(request) = self.head(port, tag) else {
             return Some(Rule::NotHead);
@@ -196,7 +201,8 @@ impl PlainSlice {
 
     pub(crate) fn judge_stall(&self, shape: &Shape, port: u8, tag: u8) -> Option<Rule>
         requires { IsFramed shape.now self.now }
-        ensures { (busy : ℕ → Option ℕ) (log bank : ℕ) → result ≡ first_failing OfBoth (rules_of shape.now true busy (slice_of self.now) log bank (event.Stall port tag)) }
+        ensures { (busy : ℕ → Option ℕ) (log bank : ℕ) →
+            result ≡ first_failing OfBoth (rules_of shape.now true busy (slice_of self.now) log bank (event.Stall port tag)) }
     {
         let Some(request) = self.head(port, tag) else {
             return Some(Rule::NotHead);
@@ -221,7 +227,8 @@ impl PlainSlice {
     /// `agrees` says whether the fill's bytes are those of memory off the bytes of waiting stores.
     pub(crate) fn judge_fill1(&self, shape: &Shape, agrees: bool, block: u32) -> Option<Rule>
         requires { IsFramed shape.now self.now }
-        ensures { (busy : ℕ → Option ℕ) (log bank : ℕ) (bytes : ArrayVec ℕ) → result ≡ first_failing OfBoth (rules_of shape.now agrees busy (slice_of self.now) log bank (event.Fill1 block bytes)) }
+        ensures { (busy : ℕ → Option ℕ) (log bank : ℕ) (bytes : ArrayVec ℕ) →
+            result ≡ first_failing OfBoth (rules_of shape.now agrees busy (slice_of self.now) log bank (event.Fill1 block bytes)) }
     {
         if !self.has_supplied(block) {
             return Some(Rule::NotSupplied);
@@ -241,7 +248,8 @@ impl PlainSlice {
         mask: Mask,
     ) -> Option<Rule>
         requires { IsFramed shape.now self.now }
-        ensures { (busy : ℕ → Option ℕ) (log bank : ℕ) (bytes : ArrayVec ℕ) → result ≡ first_failing OfBoth (rules_of shape.now agrees busy (slice_of self.now) log bank (event.Evict1 block mask bytes)) }
+        ensures { (busy : ℕ → Option ℕ) (log bank : ℕ) (bytes : ArrayVec ℕ) →
+            result ≡ first_failing OfBoth (rules_of shape.now agrees busy (slice_of self.now) log bank (event.Evict1 block mask bytes)) }
     {
         if !has_line(&self.lines1, block) {
             return Some(Rule::EvictAbsent);
@@ -254,7 +262,8 @@ impl PlainSlice {
 
     pub(crate) fn judge_second_hit(&self, shape: &Shape, block: u32) -> Option<Rule>
         requires { IsFramed shape.now self.now }
-        ensures { (busy : ℕ → Option ℕ) (log bank : ℕ) → result ≡ first_failing OfBoth (rules_of shape.now true busy (slice_of self.now) log bank (event.SecondHit block)) }
+        ensures { (busy : ℕ → Option ℕ) (log bank : ℕ) →
+            result ≡ first_failing OfBoth (rules_of shape.now true busy (slice_of self.now) log bank (event.SecondHit block)) }
     {
         if !self.has_asked(block) {
             return Some(Rule::NotAsked);
@@ -272,7 +281,8 @@ impl PlainSlice {
         register: u16,
     ) -> Option<Rule>
         requires { IsFramed shape.now self.now }
-        ensures { (busy : ℕ → Option ℕ) (log bank : ℕ) → result ≡ first_failing OfBoth (rules_of shape.now true busy (slice_of self.now) log bank (event.SecondPrimary block register)) }
+        ensures { (busy : ℕ → Option ℕ) (log bank : ℕ) →
+            result ≡ first_failing OfBoth (rules_of shape.now true busy (slice_of self.now) log bank (event.SecondPrimary block register)) }
     {
         let organisation = shape.level2.organisation;
         let register = u32::from(register);
@@ -309,7 +319,8 @@ impl PlainSlice {
         register: u16,
     ) -> Option<Rule>
         requires { IsFramed shape.now self.now }
-        ensures { (busy : ℕ → Option ℕ) (log bank : ℕ) → result ≡ first_failing OfBoth (rules_of shape.now true busy (slice_of self.now) log bank (event.SecondMerge block register)) }
+        ensures { (busy : ℕ → Option ℕ) (log bank : ℕ) →
+            result ≡ first_failing OfBoth (rules_of shape.now true busy (slice_of self.now) log bank (event.SecondMerge block register)) }
     {
         let organisation = shape.level2.organisation;
         let register = u32::from(register);
@@ -350,7 +361,9 @@ impl PlainSlice {
     /// Whether some level-two register takes the miss of a block that level one asks for.
     fn has_room2(&self, shape: &Shape, block: u32) -> bool
         requires { IsShape shape.now }
-        ensures { let slice = slice_of self.now in result ≡ model_room shape.now.level2.organisation (destinations2 shape.now) (position2 shape.now) slice.regs2 (second_of shape.now block) (asked_register slice.asked block) (place_of shape.now block) }
+        ensures { let slice = slice_of self.now in
+            result ≡ model_room shape.now.level2.organisation (destinations2 shape.now) (position2 shape.now) slice.regs2 (second_of shape.now block)
+            (asked_register slice.asked block) (place_of shape.now block) }
     {
         has_room(
             shape.level2.organisation,
@@ -365,7 +378,8 @@ impl PlainSlice {
 
     pub(crate) fn judge_second_stall(&self, shape: &Shape, block: u32) -> Option<Rule>
         requires { IsFramed shape.now self.now }
-        ensures { (busy : ℕ → Option ℕ) (log bank : ℕ) → result ≡ first_failing OfBoth (rules_of shape.now true busy (slice_of self.now) log bank (event.SecondStall block)) }
+        ensures { (busy : ℕ → Option ℕ) (log bank : ℕ) →
+            result ≡ first_failing OfBoth (rules_of shape.now true busy (slice_of self.now) log bank (event.SecondStall block)) }
     {
         let second = second_of(shape, block);
         if !self.has_asked(block) {
@@ -383,7 +397,8 @@ impl PlainSlice {
     /// `agrees` as for a fill of level one.
     pub(crate) fn judge_fill2(&self, shape: &Shape, agrees: bool, second: u32) -> Option<Rule>
         requires { IsFramed shape.now self.now }
-        ensures { (busy : ℕ → Option ℕ) (log bank : ℕ) (bytes : ArrayVec ℕ) → result ≡ first_failing OfBoth (rules_of shape.now agrees busy (slice_of self.now) log bank (event.Fill2 second bytes)) }
+        ensures { (busy : ℕ → Option ℕ) (log bank : ℕ) (bytes : ArrayVec ℕ) →
+            result ≡ first_failing OfBoth (rules_of shape.now agrees busy (slice_of self.now) log bank (event.Fill2 second bytes)) }
     {
         if !holds(&self.regs2, second) {
             return Some(Rule::NotFetched);
@@ -419,7 +434,8 @@ impl PlainSlice {
     ) -> Option<Rule>
         requires framed { IsFramed shape.now self.now }
         requires fits { second < 0x1_0000_0000 / shape.now.factor }
-        ensures { (busy : ℕ → Option ℕ) (log bank : ℕ) (bytes : ArrayVec ℕ) → result ≡ first_failing OfBoth (rules_of shape.now agrees busy (slice_of self.now) log bank (event.Evict2 second masks.now bytes)) }
+        ensures { (busy : ℕ → Option ℕ) (log bank : ℕ) (bytes : ArrayVec ℕ) →
+            result ≡ first_failing OfBoth (rules_of shape.now agrees busy (slice_of self.now) log bank (event.Evict2 second masks.now bytes)) }
     {
         if !has_line(&self.lines2, second) {
             return Some(Rule::EvictAbsent);

@@ -34,7 +34,8 @@ pub(crate) struct Machine {
 
 fn judge_fence(shape: &Shape, busy: &[BusyTag], log: u8) -> Option<Rule>
     requires { IsShape shape.now }
-    ensures { (right : Bool) (slice : Slice) (bank : ℕ) → result ≡ first_failing OfBoth (rules_of shape.now right (busy_of busy.now log) slice log bank event.Fence) }
+    ensures { (right : Bool) (slice : Slice) (bank : ℕ) →
+        result ≡ first_failing OfBoth (rules_of shape.now right (busy_of busy.now log) slice log bank event.Fence) }
 {
     if none_busy(shape.tags, busy, log) {
         None
@@ -52,7 +53,9 @@ fn judge_event(
 ) -> Option<Rule>
     requires framed { IsFramed shape.now slice.now }
     requires fits { Fits shape.now item.now }
-    ensures { result ≡ first_failing OfBoth (rules_of shape.now (carries shape.now (flat_of memory.now) (slice_of slice.now) item.now.event) (busy_of busy.now item.now.log) (slice_of slice.now) item.now.log item.now.bank item.now.event) }
+    ensures { let right = carries shape.now (flat_of memory.now) (slice_of slice.now) item.now.event in
+        let tags = busy_of busy.now item.now.log in
+        result ≡ first_failing OfBoth (rules_of shape.now right tags (slice_of slice.now) item.now.log item.now.bank item.now.event) }
 {
     let log = item.log;
     match &item.event {
@@ -148,9 +151,7 @@ fn apply_event(
         Event::Fill1 { block, .. } => slice.fill1(*block),
         Event::Evict1 { block, mask, .. } => slice.evict1(shape, *block, *mask),
         Event::SecondHit { block } => slice.second_hit(*block),
-        Event::SecondPrimary { block, register } => {
-            slice.second_miss(shape, *block, *register)
-        }
+        Event::SecondPrimary { block, register } => { slice.second_miss(shape, *block, *register) }
         Event::SecondMerge { block, register } => slice.second_miss(shape, *block, *register),
         Event::Fill2 { block, .. } => slice.fill2(shape, *block),
         Event::Evict2 { block, .. } => {
@@ -234,7 +235,8 @@ impl Machine {
     pub(crate) fn step(&mut self, item: &Record) -> Result<Option<Rule>, NoMemory>
         requires machine { IsMachine self.old }
         requires fits { Fits self.old.shape item.now }
-        ensures rule { IfOk result (λ rule. rule ≡ first_failing OfBoth (clauses self.old.shape (seen_by item.now.log item.now.bank (state_of self.old)) item.now)) }
+        ensures rule { IfOk result (λ rule.
+            rule ≡ first_failing OfBoth (clauses self.old.shape (seen_by item.now.log item.now.bank (state_of self.old)) item.now)) }
         ensures state { IfOk result (λ rule. rule ≡ None → state_of self.new ≡ state_after self.old.shape (state_of self.old) item.now) }
         ensures machine { OnOk result (IsMachine self.new) }
         ensures shape { OnOk result (self.new.shape ≡ self.old.shape) }
