@@ -74,7 +74,9 @@ fn fits_issue(
         Op::Load => 0,
         Op::Store => usize::from(size),
     };
-    number < 0x1_0000_0000 && is_of_bank(banks, bank, number / u64::from(factor)) && is_data(len, bytes)
+    number < 0x1_0000_0000
+        && is_of_bank(banks, bank, number / u64::from(factor))
+        && is_data(len, bytes)
 }
 
 fn mask_fits(size: u32, mask: u64) -> bool
@@ -110,8 +112,8 @@ fn is_wide_data(len: usize, bytes: &WideBlock) -> bool
 fn masks_fit(size: u32, masks: &[Mask]) -> bool
     ensures { IsTrue result ↔ ((place : ℕ) → (slice_index_or masks.now place clean_mask).0 < 2 ^ size) }
 {
-    for i in 0..masks.len() {
-        if !mask_fits(size, masks[i].0) {
+    for mask in masks {
+        if !mask_fits(size, mask.0) {
             return false;
         }
     }
