@@ -6,7 +6,7 @@ ghost use Rattle.lf_model.specs.declared.event.Op.{Op};
 ghost use Rattle.arrayvec.specs.ArrayVec.{ArrayVec};
 ghost use Rattle.lf_model.specs.Address.{block_bytes, agree_off, masked, second_of, place_of, sub_block, places};
 ghost use Rattle.std.specs.List.{list_all};
-ghost use Rattle.lf_model.specs.Registers.{has_room as model_room};
+ghost use Rattle.lf_model.specs.Registers.{has_room as model_room, merge_clauses};
 ghost use Rattle.lf_model.specs.InRange.{IsShape};
 ghost use Rattle.lf_model.specs.Plain.{slice_of, IsFramed};
 ghost use Rattle.lf_model.specs.State.{Slice};
@@ -17,7 +17,7 @@ use crate::event::{Block, Masks};
 use crate::mask::Mask;
 use crate::plain::lines::{are_dirty, dirty_mask, has_line, has_way1, has_way2};
 use crate::plain::registers::{
-    has_room, holds, is_free, registers_of, right_for_merge, right_for_primary, takes,
+    has_room, holds, is_free, merge_fault, registers_of, right_for_primary,
 };
 use crate::plain::slice::PlainSlice;
 use crate::rule::Rule;
@@ -174,29 +174,16 @@ impl PlainSlice {
         let Some(request) = self.head(port, tag) else {
             return Some(Rule::NotHead);
         };
-        let organisation = shape.level1.organisation;
-        let register = u32::from(register);
-        let destination = destination(shape, port, tag);
-        let word = u32::from(request.offset()) / 8;
-        if !holds(&self.waiting, request.block()) {
-            return Some(Rule::NotInFlight);
-        }
-        if register >= registers_of(organisation, destinations(shape)) {
-            return Some(Rule::RegisterRange);
-        }
-        if !right_for_merge(
-            organisation,
+        merge_fault(
+            shape.level1.organisation,
+            shape.factor,
+            destinations(shape),
             &self.waiting,
             request.block(),
-            destination,
-            register,
-        ) {
-            return Some(Rule::WrongRegister);
-        }
-        if !takes(organisation, shape.factor, &self.waiting, register, word) {
-            return Some(Rule::MergeFull);
-        }
-        None
+            destination(shape, port, tag),
+            u32::from(request.offset()) / 8,
+            u32::from(register),
+        )
     }
 
     pub(crate) fn judge_stall(&self, shape: &Shape, port: u8, tag: u8) -> Option<Rule>
@@ -312,6 +299,25 @@ impl PlainSlice {
         None
     }
 
+    /// The first rule that a further level-two miss breaks in joining the register.
+    fn merge_fault2(&self, shape: &Shape, block: u32, register: u16) -> Option<Rule>
+        requires { IsShape shape.now }
+        ensures { let slice = slice_of self.now in
+            result ≡ first_failing OfBoth (merge_clauses shape.now.level2.organisation (destinations2 shape.now) (position2 shape.now) slice.regs2
+            (second_of shape.now block) (asked_register slice.asked block) (place_of shape.now block) register) }
+    {
+        merge_fault(
+            shape.level2.organisation,
+            shape.factor,
+            destinations2(shape),
+            &self.regs2,
+            second_of(shape, block),
+            u32::from(self.asked_register(block)),
+            place_of(shape, block),
+            u32::from(register),
+        )
+    }
+
     pub(crate) fn judge_second_merge(
         &self,
         shape: &Shape,
@@ -322,8 +328,6 @@ impl PlainSlice {
         ensures { (busy : ℕ → Option ℕ) (log bank : ℕ) →
             result ≡ first_failing OfBoth (rules_of shape.now true busy (slice_of self.now) log bank (event.SecondMerge block register)) }
     {
-        let organisation = shape.level2.organisation;
-        let register = u32::from(register);
         let second = second_of(shape, block);
         if !self.has_asked(block) {
             return Some(Rule::NotAsked);
@@ -331,31 +335,7 @@ impl PlainSlice {
         if has_line(&self.lines2, second) {
             return Some(Rule::SecondPresent);
         }
-        if !holds(&self.regs2, second) {
-            return Some(Rule::NotInFlight);
-        }
-        if register >= registers_of(organisation, destinations2(shape)) {
-            return Some(Rule::RegisterRange);
-        }
-        if !right_for_merge(
-            organisation,
-            &self.regs2,
-            second,
-            u32::from(self.asked_register(block)),
-            register,
-        ) {
-            return Some(Rule::WrongRegister);
-        }
-        if !takes(
-            organisation,
-            shape.factor,
-            &self.regs2,
-            register,
-            place_of(shape, block),
-        ) {
-            return Some(Rule::MergeFull);
-        }
-        None
+        self.merge_fault2(shape, block, register)
     }
 
     /// Whether some level-two register takes the miss of a block that level one asks for.
