@@ -105,13 +105,13 @@ pub enum Event {
         masks: Masks,
         bytes: WideBlock,
     },
+    /// No tag of the port is busy. It names no bank.
+    Fence,
     /// A level-two miss to a second-level block that a register holds is recorded beside the first.
     SecondMerge {
         block: u32,
         register: u16,
     },
-    /// No tag of the port is busy. It names no bank.
-    Fence,
 }
 
 /// One event, with the log that it stands in and its place in the order of its bank.
