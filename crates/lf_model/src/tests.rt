@@ -1,6 +1,6 @@
 //! Calls of masks, of `fits` and of `recheck`, with answers worked out by hand.
 
-ghost use Rattle.std.specs.Prelude.{◌≡◌, ◌≤◌, ◌^◌, IsTrue, length};
+ghost use Rattle.std.specs.Prelude.{◌≡◌, ◌≤◌, ◌^◌, IfOk, IsTrue, length};
 ghost use Rattle.std.specs.List.{All};
 ghost use Rattle.lf_model.specs.Fits.{Fits};
 ghost use Rattle.lf_model.specs.InRange.{IsShape};
@@ -172,7 +172,9 @@ fn event_of(log: u8, number: u32, event: Event) -> Record {
 }
 
 /// A load that misses both levels; its reply begins with this byte.
-fn load_misses_both_levels(alloc: Global, first: u8) -> Result<Logs, AllocError> {
+fn load_misses_both_levels(alloc: Global, first: u8) -> Result<Logs, AllocError>
+    ensures { IfOk result (λ logs. length logs.items ≡ 2) }
+{
     let issue = Event::Issue {
         op: Op::Load,
         tag: 0,
