@@ -1,5 +1,5 @@
 -- What a table of lines is: a map from each block that is there to what is dirty of it, and the numbers of its sets.
-use Rattle.std.specs.Prelude.{◌≡◌, ℕ, ◌≤◌, ◌*◌, ◌+◌, Bool, not, ◌==◌, ◌&&◌, List, [], ◌∷◌, Option, Some, None, bit_or, if◌then◌else◌}
+use Rattle.std.specs.Prelude.{◌≡◌, ℕ, ◌≤◌, ◌*◌, ◌+◌, Bool, not, ◌==◌, List, [], ◌∷◌, Option, bit_or, if◌then◌else◌}
 use Rattle.std.specs.List.{range_with_len, list_all}
 use Rattle.std.specs.List.Sorted.{IsStrictlySortedBy}
 use Rattle.std.specs.Map.{keys_of}

@@ -75,8 +75,14 @@ fn each_block_of_a_wide_line_has_a_mask(rt: HostRuntime) -> Result<(), Fail> {
     assert!(rt; !inner.has(11));
     assert_eq!(rt; inner.fill(11, Mask(0)), Ok(()));
     assert!(rt; !outer.may_leave(5, &inner, false));
-    assert_eq!(rt; outer.evict(5, &masks_of(&[3, 0])), Err(LineFault::EvictMask));
-    assert_eq!(rt; outer.evict(4, &masks_of(&[0, 0])), Err(LineFault::EvictAbsent));
+    assert_eq!(rt;
+        outer.evict(5, &masks_of(&[3, 0])),
+        Err(LineFault::EvictMask)
+    );
+    assert_eq!(rt;
+        outer.evict(4, &masks_of(&[0, 0])),
+        Err(LineFault::EvictAbsent)
+    );
     assert_eq!(rt; outer.evict(5, &masks_of(&[0, 3])), Ok(()));
     Ok(())
 }

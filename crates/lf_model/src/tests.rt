@@ -1,6 +1,6 @@
 //! Calls of masks, of `fits` and of `recheck`, with answers worked out by hand.
 
-ghost use Rattle.std.specs.Prelude.{◌≡◌, ◌≤◌, ◌^◌, IfOk, IsTrue, length};
+ghost use Rattle.std.specs.Prelude.{◌≡◌, ◌≤◌, ◌^◌, IsTrue, length};
 ghost use Rattle.std.specs.List.{All};
 ghost use Rattle.lf_model.specs.Fits.{Fits};
 ghost use Rattle.lf_model.specs.InRange.{IsShape};
@@ -66,37 +66,42 @@ fn records_that_fit(rt: HostRuntime) {
     assert!(rt; fits(1, 1, 8, 1, &item));
     assert!(rt; !fits(1, 2, 8, 1, &item));
     assert!(rt; fits(1, 2, 16, 1, &item));
+    assert!(rt; fits(1, 2, 8, 2, &item));
 }
 
-fn fence_of(log: u8, bank: u8, number: u32) -> Record {
-    Record {
-        log,
-        bank,
-        number,
-        event: Event::Fence,
-    }
-}
-
+/// A fence names no bank, has no number and stands in a port's log.
 #[test]
 fn fence_fits(rt: HostRuntime) {
-    assert!(rt; fits(1, 1, 8, 1, &fence_of(0, NO_BANK, 0)));
-    assert!(rt; !fits(1, 1, 8, 1, &fence_of(0, 0, 0)));
-    assert!(rt; !fits(1, 1, 8, 1, &fence_of(0, NO_BANK, 1)));
-    assert!(rt; !fits(1, 1, 8, 1, &fence_of(1, NO_BANK, 0)));
+    assert!(rt; fits(1, 1, 8, 1, &fence()));
+    let mut numbered = fence();
+    numbered.number = 1;
+    assert!(rt; !fits(1, 1, 8, 1, &numbered));
+    assert!(rt; !fits(1, 1, 8, 1, &event_of(0, 0, Event::Fence)));
+    let mut elsewhere = fence();
+    elsewhere.log = 1;
+    assert!(rt; !fits(1, 1, 8, 1, &elsewhere));
 }
 
+/// An eviction of level two has a mask for each block of its second-level block.
 #[test]
 fn wide_eviction_fits(rt: HostRuntime) {
-    for (count, want) in [(2, true), (1, false)] {
-        let event = Event::Evict2 {
-            block: 0,
-            masks: clean(count),
-            bytes: wide(0),
-        };
-        assert_eq!(rt; fits(1, 1, 8, 2, &event_of(1, 0, event)), want);
-    }
+    let mut masks = Masks::new();
+    masks.push(Mask(0));
+    masks.push(Mask(1));
+    let mut bytes = WideBlock::new();
+    bytes.push(0xaa);
+    let event = Event::Evict2 {
+        block: 0,
+        masks,
+        bytes,
+    };
+    let item = event_of(1, 0, event);
+    assert!(rt; fits(1, 1, 8, 2, &item));
+    assert!(rt; !fits(1, 1, 8, 1, &item));
+    assert!(rt; !fits(1, 1, 8, 4, &item));
 }
 
+/// A fill of level two names one of the second-level blocks that there are.
 #[test]
 fn wide_fill_fits(rt: HostRuntime) {
     for (block, want) in [(0x7fff_ffff, true), (0x8000_0000, false)] {
@@ -153,15 +158,6 @@ fn wide(len: usize) -> WideBlock {
     block
 }
 
-/// So many masks of no bytes.
-fn clean(count: usize) -> Masks {
-    let mut masks = Masks::new();
-    for _ in 0..count {
-        let _ = masks.try_push(Mask(0));
-    }
-    masks
-}
-
 fn event_of(log: u8, number: u32, event: Event) -> Record {
     Record {
         log,
@@ -171,17 +167,44 @@ fn event_of(log: u8, number: u32, event: Event) -> Record {
     }
 }
 
-/// A load that misses both levels; its reply begins with this byte.
-fn load_misses_both_levels(alloc: Global, first: u8) -> Result<Logs, AllocError>
-    ensures { IfOk result (λ logs. length logs.items ≡ 2) }
-{
-    let issue = Event::Issue {
+fn fence() -> Record {
+    Record {
+        log: 0,
+        bank: NO_BANK,
+        number: 0,
+        event: Event::Fence,
+    }
+}
+
+/// The port's load.
+fn issue() -> Record {
+    let event = Event::Issue {
         op: Op::Load,
         tag: 0,
         size: 8,
         address: 0,
         bytes: Block::new(),
     };
+    event_of(0, 0, event)
+}
+
+/// Its reply, which begins with this byte.
+fn reply(first: u8) -> Record {
+    let event = Event::Reply {
+        tag: 0,
+        size: 8,
+        bytes: eight(first),
+    };
+    event_of(0, 5, event)
+}
+
+/// A load that misses both levels; its reply begins with this byte.
+fn load_misses_both_levels(alloc: Global, first: u8) -> Result<Logs, AllocError> {
+    beside_the_bank(alloc, vec![in alloc; issue(), reply(first)]?)
+}
+
+/// The port's records, and those of the bank for a load that misses both levels.
+fn beside_the_bank(alloc: Global, port: Vec<Record>) -> Result<Logs, AllocError> {
     let primary = Event::Primary {
         port: 0,
         tag: 0,
@@ -191,14 +214,6 @@ fn load_misses_both_levels(alloc: Global, first: u8) -> Result<Logs, AllocError>
         block: 0,
         register: 0,
     };
-    let reply = Event::Reply {
-        tag: 0,
-        size: 8,
-        bytes: eight(first),
-    };
-    let mut port = Vec::new(alloc);
-    port.push(event_of(0, 0, issue))?;
-    port.push(event_of(0, 5, reply))?;
     let mut bank = Vec::new(alloc);
     bank.push(event_of(1, 1, primary))?;
     bank.push(event_of(1, 2, second))?;
@@ -255,19 +270,6 @@ fn are_sound(shape: &Shape, logs: &Logs) -> bool
 }
 
 #[test]
-fn fence_last(rt: HostRuntime) -> Result<(), AllocError> {
-    let alloc = rt.alloc();
-    let shape = c1();
-    let memory: Memory = Vec::new(alloc);
-    let mut logs = load_misses_both_levels(alloc, 0)?;
-    logs[0].push(fence_of(0, NO_BANK, 0))?;
-    assert!(rt; are_sound(&shape, &logs));
-    let answer = recheck(alloc, &shape, &memory, &logs, &[0, 1, 1, 1, 1, 0, 0]);
-    assert!(rt; answer == Ok(Recheck::Accepted));
-    Ok(())
-}
-
-#[test]
 fn recheck_orders(rt: HostRuntime) -> Result<(), AllocError> {
     let alloc = rt.alloc();
     let shape = c1();
@@ -284,5 +286,27 @@ fn recheck_orders(rt: HostRuntime) -> Result<(), AllocError> {
     assert!(rt; answer == Ok(Recheck::NotAnOrder(2)));
     let answer = recheck(alloc, &shape, &memory, &wrong, &[0, 1, 1, 1, 1, 0]);
     assert!(rt; answer == Ok(Recheck::Broken(5, Rule::ReplyData)));
+    Ok(())
+}
+
+/// A fence at the end or at the start stands where no tag of its port is busy; between the load and its
+/// reply one is.
+#[test]
+fn fences_by_recheck(rt: HostRuntime) -> Result<(), AllocError> {
+    let alloc = rt.alloc();
+    let shape = c1();
+    let memory: Memory = Vec::new(alloc);
+    let last = beside_the_bank(alloc, vec![in alloc; issue(), reply(0), fence()]?)?;
+    let first = beside_the_bank(alloc, vec![in alloc; fence(), issue(), reply(0)]?)?;
+    let between = beside_the_bank(alloc, vec![in alloc; issue(), fence(), reply(0)]?)?;
+    assert!(rt; are_sound(&shape, &last));
+    assert!(rt; are_sound(&shape, &first));
+    assert!(rt; are_sound(&shape, &between));
+    let answer = recheck(alloc, &shape, &memory, &last, &[0, 1, 1, 1, 1, 0, 0]);
+    assert!(rt; answer == Ok(Recheck::Accepted));
+    let answer = recheck(alloc, &shape, &memory, &first, &[0, 0, 1, 1, 1, 1, 0]);
+    assert!(rt; answer == Ok(Recheck::Accepted));
+    let answer = recheck(alloc, &shape, &memory, &between, &[0, 0, 1, 1, 1, 1, 0]);
+    assert!(rt; answer == Ok(Recheck::Broken(1, Rule::FenceBusy)));
     Ok(())
 }

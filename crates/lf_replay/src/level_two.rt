@@ -72,7 +72,13 @@ impl Bank {
             return Err(BankFault::Rule(Rule::SecondPresent));
         }
         let target = self.fetch(block);
-        if let Some(rule) = second_primary_rule::<O>(regs2, &self.shape, second, &target, register) {
+        if let Some(rule) = second_primary_rule::<O>(
+            regs2,
+            &self.shape,
+            second,
+            &target,
+            register,
+        ) {
             return Err(BankFault::Rule(rule));
         }
         let Ok(()) = O::primary(regs2, register, second, target) else {

@@ -7,8 +7,8 @@ ghost use Rattle.lf_replay.specs.Step.{IsBankOrder};
 
 use crate::{Step, bank_replay, replay};
 use lf_model::{
-    Block, Event, Level, Mask, Masks, Memory, Op, OrgShape, Outcome, Record, Rule, Shape, WideBlock,
-    fits,
+    Block, Event, Level, Mask, Masks, Memory, Op, OrgShape, Outcome, Record, Rule, Shape,
+    WideBlock, fits,
 };
 use lf_mshr::{Explicit, Implicit, Inverted, Organisation, Request1, Request2};
 use std::alloc::Global;
@@ -734,27 +734,30 @@ fn two_blocks_filled(alloc: Global) -> Result<Vec<Event>, Fail> {
 fn second_level_merge_by_replay(rt: HostRuntime) -> Result<(), Fail> {
     let events = two_blocks_filled(rt.alloc())?;
     assert_eq!(rt; judged(rt.alloc(), &wide(2), events)?, Outcome::Passed);
-    let mut primary = two_blocks(rt.alloc())?;
-    primary.push(second_primary(1, 0))?;
-    assert_eq!(rt;
-        judged(rt.alloc(), &wide(2), primary)?,
-        Outcome::Broken(5, Rule::PrimaryInFlight)
-    );
-    let mut needless = two_blocks(rt.alloc())?;
-    needless.push(second_stall(1))?;
-    assert_eq!(rt;
-        judged(rt.alloc(), &wide(2), needless)?,
-        Outcome::Broken(5, Rule::NeedlessStall)
-    );
-    let mut full = two_blocks(rt.alloc())?;
-    full.push(second_merge(1, 0))?;
-    assert_eq!(rt;
-        judged(rt.alloc(), &wide(1), full)?,
-        Outcome::Broken(5, Rule::MergeFull)
-    );
-    let mut stalled = two_blocks(rt.alloc())?;
-    stalled.push(second_stall(1))?;
-    assert_eq!(rt; judged(rt.alloc(), &wide(1), stalled)?, Outcome::Passed);
+    Ok(())
+}
+
+#[test]
+fn second_level_merge_refused_by_replay(rt: HostRuntime) -> Result<(), Fail> {
+    for (event, rule) in [
+        (second_primary(1, 0), Rule::PrimaryInFlight),
+        (second_stall(1), Rule::NeedlessStall),
+    ] {
+        let mut events = two_blocks(rt.alloc())?;
+        events.push(event)?;
+        assert_eq!(rt;
+            judged(rt.alloc(), &wide(2), events)?,
+            Outcome::Broken(5, rule)
+        );
+    }
+    for (event, answer) in [
+        (second_merge(1, 0), Outcome::Broken(5, Rule::MergeFull)),
+        (second_stall(1), Outcome::Passed),
+    ] {
+        let mut events = two_blocks(rt.alloc())?;
+        events.push(event)?;
+        assert_eq!(rt; judged(rt.alloc(), &wide(1), events)?, answer);
+    }
     Ok(())
 }
 

@@ -14,7 +14,8 @@ use Rattle.lf_model.specs.Fits.{Bytes, FitsLog, FitsBank, Fits}
 use Rattle.lf_model.specs.Order.{log_at}
 use Rattle.lf_model.specs.Run.{of_log}
 use Rattle.lf_codec.specs.declared.header.Header.{Header}
-use Rattle.lf_codec.specs.Trace.{log_limit, IsTrace}
+use Rattle.lf_codec.specs.Checks.{log_limit}
+use Rattle.lf_codec.specs.Trace.{IsTrace}
 use Rattle.lf_logs.specs.Lists.{lists_of, logs_of}
 use Rattle.lf_verdict.specs.declared.answer.Verdict.{Verdict}
 use Rattle.lf_verdict.specs.declared.answer.Verdict.TheVariants.{Yes, No, Refused}

@@ -11,7 +11,7 @@ use Rattle.lf_model.specs.Fits.{Bytes, FitsRecord, Fits, is_factor}
 use Rattle.lf_model.specs.Run.{of_log, NameTheirLogs}
 use Rattle.lf_model.specs.Order.{log_at}
 use Rattle.lf_codec.specs.declared.header.Header.{Header}
-use Rattle.lf_codec.specs.Trace.{FitsTrace}
+use Rattle.lf_codec.specs.Trace.{FitsIn, FitsTrace}
 use Rattle.lf_logs.specs.Lists.{logs_of}
 use Rattle.lf_verdict.specs.Legal.{Agrees, IsTraceFor}
 
@@ -57,7 +57,7 @@ fits_shape shape h r agrees fits =
 -- the records of a trace for the shape fit the shape
 pub records_fit : (shape : Shape) (h : Header) (memory : List (ℕ × Bytes)) (rs : List Record) → FitsTrace h memory rs → Agrees shape h → AllByRecursion (Fits shape) rs
 records_fit shape h memory rs fits agrees =
-    all_weaker (FitsRecord h.ports h.banks h.block h.factor) (Fits shape) rs (λ r. fits_shape shape h r agrees) fits.each
+    all_weaker (FitsIn h) (Fits shape) rs (λ r f. fits_shape shape h r agrees f.fits) fits.each
 
 pub logs_fit : (shape : Shape) (count : ℕ) (rs : List Record) → AllByRecursion (Fits shape) rs → (log : ℕ) → AllByRecursion (Fits shape) (log_at (logs_of count rs) log)
 logs_fit shape count rs all log =

@@ -45,6 +45,7 @@ rule_name rules.SecondAbsent = codes "SecondAbsent"
 rule_name rules.SecondPresent = codes "SecondPresent"
 rule_name rules.NotFetched = codes "NotFetched"
 rule_name rules.Inclusion = codes "Inclusion"
+rule_name rules.FenceBusy = codes "FenceBusy"
 
 abbrev pub cause_name : CodecCause → List ℕ
 cause_name causes.Magic = codes "Magic"
@@ -71,6 +72,7 @@ abbrev pub field_name : HeaderField → List ℕ
 field_name fields.Ports = codes "Ports"
 field_name fields.Banks = codes "Banks"
 field_name fields.Block = codes "Block"
+field_name fields.Factor = codes "Factor"
 
 -- the logs of a ring, each after a comma
 abbrev pub more_logs_text : List Knot → List ℕ

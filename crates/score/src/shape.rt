@@ -9,6 +9,7 @@ pub const SMALL: Shape = Shape {
     banks: 1,
     block: 8,
     tags: 4,
+    factor: 1,
     level1: Level {
         sets: 1,
         ways: 1,

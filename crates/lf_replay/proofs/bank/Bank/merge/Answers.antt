@@ -16,9 +16,11 @@ missed-target-requires-clause-tag g c =
 pub returns-in_default-accept_merge-clause-answer : goal.returns-in_default-accept_merge-clause-answer
 returns-in_default-accept_merge-clause-answer g c = λ log regs2 bank waiting fetched wait.
     let head = rw c.deref.ensures.value at c.in-Some.ensures in
-    let told = c.in_default-merge_rule.ensures.told waiting wait.level1 in
-    ((merge_none c.args.self.now.shape c.args.self.now.queues.items c.args.port c.args.tag c.in-Some.request.now c.requires.framed.ports head.0 head.1 waiting c.args.register c.block-block.result c.missed-target.result.destination c.missed-target.result.position
-          c.block-block.ensures c.missed-target.ensures.destination c.missed-target.ensures.position told), c.in_default-accept_merge.ensures.err (g.O.Organisation.seen c.args.waiting.now) regs2)
+    let told = c.in_default-merge_rule.ensures.told waiting wait.level1 in (
+      (merge_none c.args.self.now.shape c.args.self.now.queues.items c.args.port c.args.tag c.in-Some.request.now c.requires.framed.ports head.0 head.1 waiting c.args.register c.block-block.result c.missed-target.result.destination c.missed-target.result.position
+          c.block-block.ensures c.missed-target.ensures.destination c.missed-target.ensures.position told),
+      c.in_default-accept_merge.ensures.err (g.O.Organisation.seen c.args.waiting.now) regs2,
+    )
 
 pub returns-clause-answer : goal.returns-clause-answer
 returns-clause-answer g c = λ log regs2 bank waiting fetched wait.

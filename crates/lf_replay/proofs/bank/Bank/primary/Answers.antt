@@ -17,9 +17,11 @@ missed-target-requires-clause-tag g c =
 pub returns-in_default-accept_primary-clause-answer : goal.returns-in_default-accept_primary-clause-answer
 returns-in_default-accept_primary-clause-answer g c = λ log regs2 bank waiting fetched wait.
     let head = rw c.deref.ensures.value at c.in-Some.ensures in
-    let told = c.in_default-primary_rule.ensures.told waiting wait.level1 in
-    ((primary_none c.args.self.now.shape c.args.self.now.queues.items c.args.port c.args.tag c.in-Some.request.now c.requires.framed.ports head.0 head.1 c.args.self.now.lines1.lines waiting c.args.register c.block-block.result c.missed-target.result.destination
-          (subst (λ k. has_line c.args.self.now.lines1.lines k ≡ false) c.block.ensures (sym c.if-has.ensures.value)) c.block-block.ensures c.missed-target.ensures.destination told), c.in_default-accept_primary.ensures.err (g.O.Organisation.seen c.args.waiting.now) regs2)
+    let told = c.in_default-primary_rule.ensures.told waiting wait.level1 in (
+      (primary_none c.args.self.now.shape c.args.self.now.queues.items c.args.port c.args.tag c.in-Some.request.now c.requires.framed.ports head.0 head.1 c.args.self.now.lines1.lines waiting c.args.register c.block-block.result c.missed-target.result.destination
+          (subst (λ k. has_line c.args.self.now.lines1.lines k ≡ false) c.block.ensures (sym c.if-has.ensures.value)) c.block-block.ensures c.missed-target.ensures.destination told),
+      c.in_default-accept_primary.ensures.err (g.O.Organisation.seen c.args.waiting.now) regs2,
+    )
 
 pub returns-clause-answer : goal.returns-clause-answer
 returns-clause-answer g c = λ log regs2 bank waiting fetched wait.
