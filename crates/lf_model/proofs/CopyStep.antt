@@ -157,7 +157,7 @@ gone_step false true true any r same e = absurd (both_ways true (sym (same refl)
 gone_step false true false any r same e = refl
 gone_step false false c any r same e = e
 
-asked_among : (shape : Shape) (held : List (Held Asked)) (second y : ℕ) → RegsHome shape held
+pub asked_among : (shape : Shape) (held : List (Held Asked)) (second y : ℕ) → RegsHome shape held
     → is_among (map block_asked (targets_of held second)) y ≡ cond (second == second_of shape y) (asks_for held y) false
 asked_among shape [] second y home = elim (second == second_of shape y) as (λ b. false ≡ cond b false false) [ true ↦ refl | false ↦ refl ]
 asked_among shape (h ∷ held) second y home =
@@ -170,7 +170,7 @@ asked_among shape (h ∷ held) second y home =
     split true = refl
     split false = refl
 
-asks_gone : (shape : Shape) (held : List (Held Asked)) (second y : ℕ) → RegsHome shape held
+pub asks_gone : (shape : Shape) (held : List (Held Asked)) (second y : ℕ) → RegsHome shape held
     → asks_for (released held second) y ≡ cond (second == second_of shape y) false (asks_for held y)
 asks_gone shape [] second y home = elim (second == second_of shape y) as (λ b. false ≡ cond b false false) [ true ↦ refl | false ↦ refl ]
 asks_gone shape (h ∷ held) second y home =

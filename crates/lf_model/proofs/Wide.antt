@@ -1,5 +1,5 @@
 -- Blocks of a second-level block.
-use Rattle.std.proofs.Common.{◌/◌, ◌≡◌, ℕ, zero, suc, ◌+◌, ◌-◌, ◌*◌, ◌%◌, ◌<◌, ◌≤◌, Bool, true, false, ◌&&◌, ◌||◌, List, ◌++◌, length, take, drop, refl, sym, ap, ◌∙◌, subst, inl, inr, ◌^◌, get_or, arith}
+use Rattle.std.proofs.Common.{◌≡◌, ℕ, zero, suc, ◌+◌, ◌-◌, ◌*◌, ◌%◌, ◌<◌, ◌≤◌, Bool, true, false, ◌&&◌, ◌||◌, List, ◌++◌, length, take, drop, refl, sym, ap, ◌∙◌, subst, inl, inr, ◌^◌, get_or, arith}
 use mathlib.Core.Path.{ap₂}
 use Rattle.std.specs.List.{range_with_len, list_all, list_any, flat_map}
 use Rattle.std.proofs.lemmas.Bool.{and_parts, cases_lt, cases_eq}
@@ -7,16 +7,13 @@ use Rattle.std.proofs.Math.Pow.{pow_pos}
 use Rattle.std.proofs.lemmas.List.{get_or_past, append-nil, append_assoc, length-take-le, length-drop}
 use Rattle.std.proofs.Math.Nat.{mul-le-mul_right}
 use Rattle.lf_model.specs.declared.mask.Mask.{Mask}
-use Rattle.std.proofs.lemmas.Nat.{div-mul-add, mod-mul-add, div-add-mod'}
+use Rattle.std.proofs.lemmas.Nat.{div-mul-add, div-add-mod'}
 use Rattle.std.proofs.Math.Seq.{take-append_seam, drop-append-add}
 use Rattle.lf_model.specs.declared.shape.Shape.{Shape}
-use Rattle.lf_model.specs.Address.{second_of, place_of, sub_block, bank_of, set1_of, set2_of, part_at, clean_mask}
+use Rattle.lf_model.specs.Address.{second_of, place_of, sub_block, bank_of, part_at, clean_mask}
 
 pub second_of_sub : (shape : Shape) (second place : ℕ) → place < shape.factor → second_of shape (sub_block shape second place) ≡ second
 second_of_sub shape second place lt = div-mul-add second shape.factor place lt
-
-pub place_of_sub : (shape : Shape) (second place : ℕ) → place < shape.factor → place_of shape (sub_block shape second place) ≡ place
-place_of_sub shape second place lt = mod-mul-add second shape.factor place lt
 
 pub sub_of_block : (shape : Shape) (block : ℕ) → sub_block shape (second_of shape block) (place_of shape block) ≡ block
 sub_of_block shape block = div-add-mod' block shape.factor
@@ -115,29 +112,3 @@ part_len xs size place factor lt long =
   where
     over : (p s : ℕ) → suc p * s ≡ s + p * s
     over p s = omega arith
-
--- ---- where a second-level block is one block: as with no second-level blocks
-
-over_one : (n : ℕ) → n / 1 ≡ n
-over_one n = omega arith
-
-pub second_of_one : (shape : Shape) → shape.factor ≡ 1 → (x : ℕ) → second_of shape x ≡ x
-second_of_one shape e x = ap (λ f. x / f) e ∙ over_one x
-
-pub place_of_one : (shape : Shape) → shape.factor ≡ 1 → (x : ℕ) → place_of shape x ≡ 0
-place_of_one shape e x = ap (λ f. x % f) e ∙ none x
-  where
-    none : (n : ℕ) → n % 1 ≡ 0
-    none n = omega arith
-
-pub bank_of_one : (shape : Shape) → shape.factor ≡ 1 → (x : ℕ) → bank_of shape x ≡ x % shape.banks
-bank_of_one shape e x = ap (λ y. y % shape.banks) (second_of_one shape e x)
-
-pub set_of_one : (banks sets x : ℕ) → set1_of banks 1 sets x ≡ set2_of banks sets x
-set_of_one banks sets x = ap (λ n. n % sets) (joined (x / 1 / banks) (x % 1) (none x) ∙ ap (λ k. k / banks) (over_one x))
-  where
-    none : (n : ℕ) → n % 1 ≡ 0
-    none n = omega arith
-
-    joined : (a b : ℕ) → b ≡ 0 → a * 1 + b ≡ a
-    joined a b e = omega (arith, e)

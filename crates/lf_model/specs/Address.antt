@@ -16,14 +16,14 @@ block_of shape address = address / shape.block
 abbrev pub offset_of : Shape → ℕ → ℕ
 offset_of shape address = address % shape.block
 
--- the second-level block that has a block, and the block's place in it
+-- the second-level block of a block, and which of its sub-blocks the block is
 abbrev pub second_of : Shape → ℕ → ℕ
 second_of shape block = block / shape.factor
 
 abbrev pub place_of : Shape → ℕ → ℕ
 place_of shape block = block % shape.factor
 
--- the blocks of a second-level block, by their places
+-- the sub-blocks of a second-level block, by their places
 abbrev pub sub_block : Shape → ℕ → ℕ → ℕ
 sub_block shape second place = second * shape.factor + place
 
@@ -34,7 +34,7 @@ places shape = range_with_len 0 shape.factor
 abbrev pub bank_of : Shape → ℕ → ℕ
 bank_of shape block = second_of shape block % shape.banks
 
--- the set of a block in level one, of so many banks, blocks in one of level two, and sets
+-- the set of a block in level one: the blocks of a bank, counted in order, go round the sets
 abbrev pub set1_of : ℕ → ℕ → ℕ → ℕ → ℕ
 set1_of banks factor sets block = (block / factor / banks * factor + block % factor) % sets
 
@@ -58,7 +58,7 @@ block_bytes shape memory block = map (memory block) (range_with_len 0 shape.bloc
 abbrev pub wide_bytes : Shape → FlatMemory → ℕ → List ℕ
 wide_bytes shape memory second = flat_map (λ place. block_bytes shape memory (sub_block shape second place)) (places shape)
 
--- of the bytes of a second-level block those of the block at a place, where blocks have so many bytes
+-- the bytes of the sub-block at a place, where blocks have so many bytes
 abbrev pub part_at : ℕ → List ℕ → ℕ → List ℕ
 part_at size bytes place = take size (drop (place * size) bytes)
 
@@ -93,7 +93,8 @@ mask_at masks place = (slice_index_or masks.items place clean_mask).0
 
 -- the bytes of a second-level block whose bit is set, block by block
 abbrev pub wide_masked : Shape → FlatMemory → ℕ → Masks → List ℕ
-wide_masked shape memory second masks = flat_map (λ place. masked (block_bytes shape memory (sub_block shape second place)) (mask_at masks place)) (places shape)
+wide_masked shape memory second masks =
+    flat_map (λ place. masked (block_bytes shape memory (sub_block shape second place)) (mask_at masks place)) (places shape)
 
 -- new where the bit is set, old elsewhere
 abbrev pub overlay : (ℕ → ℕ) → (ℕ → ℕ) → ℕ → ℕ → ℕ

@@ -42,10 +42,14 @@ update_second shape memory second new block = if second == second_of shape block
 -- A hit reads or writes its line, a fill serves the block's targets, an eviction writes to the level below.
 abbrev pub copies_after : Shape → Copies → Slice → Event → Copies
 copies_after shape copies slice (Hit port tag) = record copies { one = accepted copies.one (oldest (slice.queue port)) }
-copies_after shape copies slice (Fill1 block bytes) = record copies { one = update copies.one block (serve (targets_of slice.waiting block) (copies.two block)) }
+copies_after shape copies slice (Fill1 block bytes) =
+    record copies { one = update copies.one block (serve (targets_of slice.waiting block) (copies.two block)) }
 copies_after shape copies slice (Fill2 second bytes) = record copies { two = update_second shape copies.two second copies.below }
-copies_after shape copies slice (Evict1 block mask bytes) = record copies { two = update copies.two block (overlay (copies.two block) (copies.one block) mask.0) }
-copies_after shape copies slice (Evict2 second masks bytes) = record copies { below = update_second shape copies.below second (λ block. overlay (copies.below block) (copies.two block) (mask_at masks (place_of shape block))) }
+copies_after shape copies slice (Evict1 block mask bytes) =
+    record copies { two = update copies.two block (overlay (copies.two block) (copies.one block) mask.0) }
+copies_after shape copies slice (Evict2 second masks bytes) =
+    let new : FlatMemory = λ block. overlay (copies.below block) (copies.two block) (mask_at masks (place_of shape block)) in
+    record copies { below = update_second shape copies.below second new }
 copies_after shape copies slice _ = copies
 
 -- a load's value is fixed at its hit, or else at the fill

@@ -88,9 +88,11 @@ E1 block mask bytes = of_its_bank (Evict1 block (record { 0 = mask }) (data_of b
 abbrev E2 : ℕ → ℕ → List ℕ → Record
 E2 block mask bytes = of_its_bank (Evict2 block (masks_of (mask ∷ [])) (data_of bytes))
 
+-- a fence of the port
 abbrev Z : Record
 Z = record { log = 0; bank = no_bank; number = 0; event = Fence }
 
+-- an eviction of a second-level block of several blocks, with a mask for each
 abbrev E2s : ℕ → List ℕ → List ℕ → Record
 E2s second masks bytes = of_its_bank (Evict2 second (masks_of masks) (data_of bytes))
 
@@ -250,7 +252,9 @@ second_level_inverted = refl
 second_level_inverted_wrong : answer (with_files (Explicit 2 2) Inverted) (L 0 8 0 ∷ P 0 1 ∷ SP 0 0 ∷ []) ≡ Some (2, WrongRegister)
 second_level_inverted_wrong = refl
 
-initial_memory : first_fault c1 (opening (flat_memory ((0, data_of first_words) ∷ []))) 0 (L 0 2 2 ∷ P 0 0 ∷ SP 0 0 ∷ F2 0 first_words ∷ F1 0 first_words ∷ R 0 2 (0x33 ∷ 0x44 ∷ []) ∷ []) ≡ None
+initial_memory :
+    first_fault c1 (opening (flat_memory ((0, data_of first_words) ∷ []))) 0
+    (L 0 2 2 ∷ P 0 0 ∷ SP 0 0 ∷ F2 0 first_words ∷ F1 0 first_words ∷ R 0 2 (0x33 ∷ 0x44 ∷ []) ∷ []) ≡ None
 initial_memory = refl
 
 fence_last : answer c1 (load_run ++ Z ∷ []) ≡ None

@@ -1,5 +1,5 @@
 -- Which records a trace of these ports, banks, block size and factor may have.
-use Rattle.std.specs.Prelude.{◌≡◌, ℕ, ◌+◌, ◌*◌, List, [], ◌∷◌, ◌/◌, ◌%◌, ◌^◌, ◌<◌, Bool, true, ◌||◌, ◌==◌, length, slice_index}
+use Rattle.std.specs.Prelude.{◌≡◌, ℕ, ◌+◌, ◌*◌, List, [], ◌∷◌, ◌/◌, ◌%◌, ◌^◌, ◌<◌, Bool, true, false, ◌||◌, ◌==◌, length, slice_index}
 use Rattle.std.specs.Int.RustNames.{count_ones}
 use Rattle.arrayvec.specs.ArrayVec.{ArrayVec}
 use Rattle.lf_model.specs.declared.event.Op.{Op}
@@ -99,6 +99,15 @@ FitsEvent banks size factor bank (Fill2 second bytes) = FitsSecond banks factor 
 FitsEvent banks size factor bank (Evict2 second masks bytes) = FitsWideEvict banks size factor bank second masks bytes
 FitsEvent banks size factor bank (SecondMerge block register) = FitsBlock banks factor bank block × (register < 0x1_0000)
 FitsEvent banks size factor bank Fence = Unit {0}
+
+abbrev pub is_of_level_two : Event → Bool
+is_of_level_two (SecondHit block) = true
+is_of_level_two (SecondPrimary block register) = true
+is_of_level_two (SecondMerge block register) = true
+is_of_level_two (SecondStall block) = true
+is_of_level_two (Fill2 second bytes) = true
+is_of_level_two (Evict2 second masks bytes) = true
+is_of_level_two _ = false
 
 -- issues, replies and fences stand in the log of a port, all else in that of the bank
 abbrev pub FitsLog : ℕ → ℕ → ℕ → Event → Type 0

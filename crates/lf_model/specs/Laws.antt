@@ -19,5 +19,7 @@ RunsShare = (shape : Shape) (memory : FlatMemory) (rs : List Record) → IsRun s
 abbrev pub RunsAreFlat : Type 0
 RunsAreFlat = (shape : Shape) (memory : FlatMemory) (rs : List Record) → IsRun shape memory rs → IsFlat shape memory rs
 
+-- for a shape with some factor, as each in range has
 abbrev pub CopyRunsAreRuns : Type 0
-CopyRunsAreRuns = (shape : Shape) (memory : FlatMemory) (rs : List Record) → 0 < shape.factor → AllByRecursion (Fits shape) rs → IsCopyRun shape memory rs → IsRun shape memory rs
+CopyRunsAreRuns = (shape : Shape) (memory : FlatMemory) (rs : List Record) → 0 < shape.factor → AllByRecursion (Fits shape) rs →
+    IsCopyRun shape memory rs → IsRun shape memory rs

@@ -51,7 +51,8 @@ InterleavingsFit = (shape : Shape) (logs : List (List Record)) (rs : List Record
 
 -- an interleaving that keeps the numbers has each bank's records of all logs, in the order of their numbers
 abbrev pub InterleavingsAreNumbered : Type 0
-InterleavingsAreNumbered = (logs : List (List Record)) (rs : List Record) → Interleaves logs rs → KeepsNumbers rs → (bank : ℕ) → bank < no_bank → IsNumbered logs bank (of_bank bank rs)
+InterleavingsAreNumbered = (logs : List (List Record)) (rs : List Record) → Interleaves logs rs → KeepsNumbers rs →
+    (bank : ℕ) → bank < no_bank → IsNumbered logs bank (of_bank bank rs)
 
 -- there is only one such order
 abbrev pub NumberedIsOne : Type 0

@@ -28,7 +28,8 @@ entries_of bank entries = filter (λ entry. entry.0 == bank) entries
 
 -- Each bank's entries carry 0, 1, 2, .. in this order.
 abbrev pub EntriesKeepNumbers : List (ℕ × ℕ) → Type 0
-EntriesKeepNumbers entries = (bank : ℕ) → bank < no_bank → map (λ entry. entry.1) (entries_of bank entries) ≡ range_with_len 0 (length (entries_of bank entries))
+EntriesKeepNumbers entries = (bank : ℕ) → bank < no_bank →
+    map (λ entry. entry.1) (entries_of bank entries) ≡ range_with_len 0 (length (entries_of bank entries))
 
 -- The order takes all the skeletons' entries, and they keep the numbers.
 pub record IsOrder (skeletons : List (List (ℕ × ℕ))) (order : List ℕ) : Type 0 where

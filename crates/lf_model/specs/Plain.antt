@@ -117,7 +117,7 @@ is_numbered next r = if nat_lt r.bank no_bank then r.number == next r.bank else 
 abbrev pub next_after : (ℕ → ℕ) → Record → ℕ → ℕ
 next_after next r = if nat_lt r.bank no_bank then update next r.bank (next r.bank + 1) else next
 
--- it names one of so many banks, or none
+-- it names one of so many banks, or none; there are at most 16, so that no bank has the number of none
 abbrev pub NamesBankBelow : ℕ → Record → Type 0
 NamesBankBelow banks r = (banks ≤ 16) × ((r.bank < banks) ⊎ (r.bank ≡ no_bank))
 

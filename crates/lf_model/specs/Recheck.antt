@@ -32,7 +32,8 @@ TakesTo logs (log ∷ order) [] left = ⊥
 TakesTo logs (log ∷ order) (r ∷ rs) left = (log_at logs log ≡ r ∷ drop 1 (log_at logs log)) × TakesTo (after_next logs log) order rs left
 
 -- Before this place all is well: the order takes these records, they keep the numbers and are a run.
-pub record IsRunUpTo (shape : Shape) (memory : FlatMemory) (logs : List (List Record)) (order : List ℕ) (place : ℕ) (records : List Record) (left : List (List Record)) : Type 0 where
+pub record IsRunUpTo (shape : Shape) (memory : FlatMemory) (logs : List (List Record)) (order : List ℕ) (place : ℕ)
+    (records : List Record) (left : List (List Record)) : Type 0 where
   pub inside : place ≤ length order
   pub taken : TakesTo logs (take place order) records left
   pub numbers : KeepsNumbers records
@@ -47,7 +48,9 @@ pub record StopsAt (shape : Shape) (memory : FlatMemory) (logs : List (List Reco
   pub records : List Record
   pub left : List (List Record)
   pub so_far : IsRunUpTo shape memory logs order place records left
-  pub stops : ((place ≡ length order) × (((log : ℕ) → log_at left log ≡ []) → ⊥)) ⊎ ((place < length order) × ((r : Record) → IsNext left (slice_index order place) records r → ⊥))
+  pub stops :
+      ((place ≡ length order) × (((log : ℕ) → log_at left log ≡ []) → ⊥))
+      ⊎ ((place < length order) × ((r : Record) → IsNext left (slice_index order place) records r → ⊥))
 
 -- At the place the next record of the named log breaks this rule first.
 pub record FailsAt (shape : Shape) (memory : FlatMemory) (logs : List (List Record)) (order : List ℕ) (place : ℕ) (rule : Rule) : Type 0 where

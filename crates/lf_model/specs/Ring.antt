@@ -42,4 +42,5 @@ pub record IsRing (skeletons : List (List (ℕ × ℕ))) (ring : List Knot) : Ty
 
 -- where logs wait in a ring, no list of all logs keeps the numbers
 abbrev pub RingsAdmitNone : Type 0
-RingsAdmitNone = (logs : List (List Record)) (ring : List Knot) → IsRing (skeletons_of logs) ring → (rs : List Record) → Interleaves logs rs → KeepsNumbers rs → ⊥
+RingsAdmitNone = (logs : List (List Record)) (ring : List Knot) → IsRing (skeletons_of logs) ring →
+    (rs : List Record) → Interleaves logs rs → KeepsNumbers rs → ⊥

@@ -83,7 +83,9 @@ KeepsNumbers rs = (bank : ℕ) → bank < no_bank → map (λ r. r.number) (of_b
 
 abbrev pub RunsByParts : Type 0
 RunsByParts = (shape : Shape) (memory : FlatMemory) (rs : List Record) → AllByRecursion (Fits shape) rs →
-    IsRun shape memory rs ↔ (((bank : ℕ) → bank < shape.banks → IsSliceRun shape memory (of_bank bank rs)) × ((port : ℕ) → port < shape.ports → IsPortRun shape memory (of_log port rs)))
+    IsRun shape memory rs
+    ↔ (((bank : ℕ) → bank < shape.banks → IsSliceRun shape memory (of_bank bank rs))
+    × ((port : ℕ) → port < shape.ports → IsPortRun shape memory (of_log port rs)))
 
 -- ---- where a list breaks
 

@@ -6,10 +6,10 @@ use arrayvec::ArrayVec;
 /// The bytes of a block, or those that an event carries.
 pub type Block = ArrayVec<u8, 64>;
 
-/// The bytes of a block of level two, or those that its eviction carries.
+/// The bytes of a second-level block, or those that its eviction carries.
 pub type WideBlock = ArrayVec<u8, 256>;
 
-/// Which bytes of a block of level two: a mask for each of its first-level blocks.
+/// Which bytes of a second-level block: a mask for each of its first-level blocks.
 pub type Masks = ArrayVec<Mask, 4>;
 
 /// The blocks that a trace names, by rising number. All others are zero.
@@ -21,9 +21,12 @@ pub type Logs = Vec<Vec<Record>>;
 /// What a record has for a bank where it names none.
 pub const NO_BANK: u8 = 255;
 
+/// What a request asks for.
 #[derive(Clone, Copy, Debug, PartialEq, Eq)]
 pub enum Op {
+    /// It reads bytes.
     Load,
+    /// It writes bytes.
     Store,
 }
 
@@ -77,37 +80,38 @@ pub enum Event {
         mask: Mask,
         bytes: Block,
     },
-    /// Level two has a block that level one asked for.
+    /// Level two has the second-level block of a block that level one asked for.
     SecondHit {
         block: u32,
     },
-    /// A level-two miss takes a register.
+    /// A level-two miss to a second-level block that no register holds takes a register.
     SecondPrimary {
         block: u32,
         register: u16,
     },
-    /// A level-two miss finds no room.
+    /// A level-two miss finds no room in the registers and waits.
     SecondStall {
         block: u32,
     },
-    /// Level two gets a block. It is named by its own number, as in an eviction of level two.
+    /// Level two gets a second-level block, named by its own second-level number.
     Fill2 {
         block: u32,
         bytes: WideBlock,
     },
-    /// Level two gives up a line. `bytes` are those under the masks.
+    /// Level two gives up the line of a second-level block, named by its own second-level number.
+    /// `bytes` are those under the masks.
     Evict2 {
         block: u32,
         masks: Masks,
         bytes: WideBlock,
     },
+    /// No tag of the port is busy. It names no bank.
+    Fence,
     /// A level-two miss to a second-level block that a register holds is recorded beside the first.
     SecondMerge {
         block: u32,
         register: u16,
     },
-    /// No tag of the port is busy. It names no bank.
-    Fence,
 }
 
 /// One event, with the log that it stands in and its place in the order of its bank.
@@ -119,5 +123,6 @@ pub struct Record {
     pub bank: u8,
     /// The bank's number of this event, from 0, and 0 for a fence.
     pub number: u32,
+    /// What happened.
     pub event: Event,
 }

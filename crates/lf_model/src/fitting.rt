@@ -2,7 +2,7 @@
 
 ghost use Rattle.std.specs.Prelude.{◌≡◌, ℕ, ◌+◌, ◌<◌, ◌≤◌, ◌↔◌, ◌^◌, IsTrue, slice_index, slice_index_or, length, true};
 ghost use Rattle.lf_model.specs.Address.{clean_mask};
-ghost use Rattle.lf_model.specs.Fits.{is_size, is_block_size, is_factor, is_of_bank, masks_len, FitsSecond, FitsWideEvict, issue_len, IsData, FitsBank, FitsIssue, FitsReply, FitsRequest, FitsBlock, FitsEvict, FitsEvent, FitsLog, FitsRecord};
+ghost use Rattle.lf_model.specs.Fits.{is_size, is_block_size, is_factor, is_of_bank, masks_len, FitsSecond, FitsWideEvict, issue_len, IsData, FitsBank, FitsIssue, FitsReply, FitsRequest, FitsBlock, FitsEvict, FitsEvent, FitsLog, FitsRecord, is_of_level_two};
 
 use crate::event::{Block, Event, Masks, NO_BANK, Op, Record, WideBlock};
 use crate::mask::Mask;
@@ -112,8 +112,8 @@ fn is_wide_data(len: usize, bytes: &WideBlock) -> bool
 fn masks_fit(size: u32, masks: &[Mask]) -> bool
     ensures { IsTrue result ↔ ((place : ℕ) → (slice_index_or masks.now place clean_mask).0 < 2 ^ size) }
 {
-    for i in 0..masks.len() {
-        if !mask_fits(size, masks[i].0) {
+    for mask in masks {
+        if !mask_fits(size, mask.0) {
             return false;
         }
     }
@@ -194,8 +194,25 @@ fn fits_event(banks: u32, size: u32, factor: u32, bank: u32, event: &Event) -> b
         Event::Evict1 { block, mask, bytes } => {
             fits_evict(banks, size, factor, bank, *block, *mask, bytes)
         }
+        Event::Fence => true,
+        _ => fits_level_two(banks, size, factor, bank, event),
+    }
+}
+
+fn fits_level_two(banks: u32, size: u32, factor: u32, bank: u32, event: &Event) -> bool
+    requires some_bank { 0 < banks }
+    requires small_block { size ≤ 64 }
+    requires some_factor { 0 < factor }
+    requires small_factor { factor ≤ 4 }
+    requires second { is_of_level_two event.now ≡ true }
+    ensures { IsTrue result ↔ FitsEvent banks size factor bank event.now }
+{
+    match event {
         Event::SecondHit { block } => fits_block(banks, factor, bank, *block),
         Event::SecondPrimary { block, register } => {
+            fits_second_miss(banks, factor, bank, *block, *register)
+        }
+        Event::SecondMerge { block, register } => {
             fits_second_miss(banks, factor, bank, *block, *register)
         }
         Event::SecondStall { block } => fits_block(banks, factor, bank, *block),
@@ -208,10 +225,7 @@ fn fits_event(banks: u32, size: u32, factor: u32, bank: u32, event: &Event) -> b
             masks,
             bytes,
         } => fits_wide_evict(banks, size, factor, bank, *block, masks, bytes),
-        Event::SecondMerge { block, register } => {
-            fits_second_miss(banks, factor, bank, *block, *register)
-        }
-        Event::Fence => true,
+        _ => unreachable!(),
     }
 }
 

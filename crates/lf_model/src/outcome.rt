@@ -14,6 +14,7 @@ pub enum Outcome {
     /// The record at this place is the first that does not continue a run, and the rule is its first
     /// that fails. The place counts from 0 in the port's log, or is the bank's number.
     Broken(u32, Rule),
+    /// A growth was refused.
     NoMemory,
 }
 

@@ -43,6 +43,6 @@ pub fn recheck(
     requires fits { All (λ log. All (Fits shape.now) log.items) logs.now.items }
     ensures { IfOk result (λ answer. IsRecheck shape.now (flat_memory memory.now.items) (lists_of logs.now) order.now answer) }
 {
-    let walk = Walk::new(alloc, shape, memory, logs)?;
+    let mut walk = Walk::new(alloc, shape, memory, logs)?;
     walk.follow(logs, order)
 }

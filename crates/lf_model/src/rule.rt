@@ -1,3 +1,5 @@
+//! The rules.
+
 /// The clauses that a record can break, by name.
 #[derive(Clone, Copy, Debug, PartialEq, Eq)]
 pub enum Rule {
@@ -41,19 +43,19 @@ pub enum Rule {
     FillData,
     /// The level has the line.
     EvictAbsent,
-    /// The mask is the line's dirty mask.
+    /// The mask is the line's dirty mask. At level two each mask is that of its block.
     EvictMask,
-    /// The bytes are those of memory under the mask.
+    /// The bytes are those of memory under the mask, or under the masks.
     EvictData,
     /// Level one has asked for the block.
     NotAsked,
-    /// Level two has the block.
+    /// Level two has the block's second-level block.
     SecondAbsent,
-    /// Level two does not have the block.
+    /// Level two does not have the block's second-level block.
     SecondPresent,
-    /// A level-two register holds the block.
+    /// A level-two register holds the second-level block.
     NotFetched,
-    /// Level one has neither a line nor a register on the block.
+    /// Level one has neither a line nor a register on any block of the second-level block.
     Inclusion,
     /// No tag of the port is busy.
     FenceBusy,

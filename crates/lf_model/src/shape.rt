@@ -3,7 +3,8 @@
 /// How the registers of a level name what they hold.
 #[derive(Clone, Copy, Debug, PartialEq, Eq)]
 pub enum OrgShape {
-    /// Each register holds one block and has a field for each word of it.
+    /// Each register holds one block and has a field for each word of it; at level two, for each
+    /// first-level block of it.
     Implicit { registers: u32 },
     /// Each register holds one block and has a number of entries, each with an offset of its own.
     Explicit { registers: u32, entries: u32 },
@@ -18,6 +19,7 @@ pub struct Level {
     pub sets: u32,
     /// Lines per set, 1 to 16.
     pub ways: u32,
+    /// How its registers are organised.
     pub organisation: OrgShape,
 }
 
@@ -32,8 +34,10 @@ pub struct Shape {
     pub block: u32,
     /// Tags per port, 1 to 64.
     pub tags: u32,
-    /// First-level blocks in a block of level two: 1, 2 or 4.
+    /// First-level blocks in a second-level block: 1, 2 or 4.
     pub factor: u32,
+    /// The level that the ports ask.
     pub level1: Level,
+    /// The level that level one asks.
     pub level2: Level,
 }

@@ -69,14 +69,22 @@ fn records_that_fit(rt: HostRuntime) {
     assert!(rt; fits(1, 2, 8, 2, &item));
 }
 
-/// A fence names no bank, and an eviction of level two has a mask for each of its blocks.
+/// A fence names no bank, has no number and stands in a port's log.
 #[test]
-fn fences_and_wide_evictions_that_fit(rt: HostRuntime) {
+fn fence_fits(rt: HostRuntime) {
     assert!(rt; fits(1, 1, 8, 1, &fence()));
     let mut numbered = fence();
     numbered.number = 1;
     assert!(rt; !fits(1, 1, 8, 1, &numbered));
     assert!(rt; !fits(1, 1, 8, 1, &event_of(0, 0, Event::Fence)));
+    let mut elsewhere = fence();
+    elsewhere.log = 1;
+    assert!(rt; !fits(1, 1, 8, 1, &elsewhere));
+}
+
+/// An eviction of level two has a mask for each block of its second-level block.
+#[test]
+fn wide_eviction_fits(rt: HostRuntime) {
     let mut masks = Masks::new();
     masks.push(Mask(0));
     masks.push(Mask(1));
@@ -91,6 +99,16 @@ fn fences_and_wide_evictions_that_fit(rt: HostRuntime) {
     assert!(rt; fits(1, 1, 8, 2, &item));
     assert!(rt; !fits(1, 1, 8, 1, &item));
     assert!(rt; !fits(1, 1, 8, 4, &item));
+}
+
+/// A fill of level two names one of the second-level blocks that there are.
+#[test]
+fn wide_fill_fits(rt: HostRuntime) {
+    for (block, want) in [(0x7fff_ffff, true), (0x8000_0000, false)] {
+        let bytes = wide(16);
+        let event = Event::Fill2 { block, bytes };
+        assert_eq!(rt; fits(1, 1, 8, 2, &event_of(1, 0, event)), want);
+    }
 }
 
 /// One port, one bank, blocks of eight bytes, one explicit register per level.
@@ -131,9 +149,10 @@ fn eight(first: u8) -> Block {
     block
 }
 
-fn wide_eight() -> WideBlock {
+/// So many zeros.
+fn wide(len: usize) -> WideBlock {
     let mut block = WideBlock::new();
-    for _ in 0..8 {
+    for _ in 0..len {
         let _ = block.try_push(0);
     }
     block
@@ -203,7 +222,7 @@ fn beside_the_bank(alloc: Global, port: Vec<Record>) -> Result<Logs, AllocError>
         3,
         Event::Fill2 {
             block: 0,
-            bytes: wide_eight(),
+            bytes: wide(8),
         },
     ))?;
     bank.push(event_of(

@@ -10,6 +10,8 @@ use lf_model::{Knot, Level, OrgShape, Rule, Shape};
 use std::alloc::{AllocError, Global};
 use std::test::Fail;
 
+mod mixtures;
+
 /// One load that misses both levels: a header, six records and the end record.
 const LOAD_MISSES_BOTH_LEVELS: [u8; 132] = [
     0x4c, 0x46, 0x54, 0x53, 0x01, 0x00, 0x01, 0x01, 0x08, 0x00, 0x00, 0x00, 0x00, 0x00, 0x00, 0x00,
@@ -165,11 +167,16 @@ fn load_with_a_fence(alloc: Global, place: usize) -> Result<Vec<u8>, AllocError>
 }
 
 #[test]
-fn fences_are_judged(rt: HostRuntime) -> Result<(), Fail> {
+fn fence_last(rt: HostRuntime) -> Result<(), Fail> {
     let last = load_with_a_fence(rt.alloc(), 124)?;
     assert_eq!(rt; last.len(), 140);
     let verdict = check_shape(&rt, &hierarchy(1, 1), &[&last], 1);
     assert_eq!(rt; verdict, yes(rt.alloc(), &[0, 1, 1, 1, 1, 0, 0])?);
+    Ok(())
+}
+
+#[test]
+fn fence_elsewhere(rt: HostRuntime) -> Result<(), Fail> {
     let first = load_with_a_fence(rt.alloc(), 16)?;
     let verdict = check_shape(&rt, &hierarchy(1, 1), &[&first], 1);
     assert_eq!(rt; verdict, yes(rt.alloc(), &[0, 0, 1, 1, 1, 1, 0])?);

@@ -65,7 +65,8 @@ pub(crate) fn none_busy(tags: u32, busy: &[BusyTag], port: u8) -> bool
 /// An issue makes its tag busy, a reply frees it.
 pub(crate) fn apply_busy(busy: &mut Vec<BusyTag>, item: &Record) -> Result<(), NoMemory>
     requires { IsTagFree (busy_of busy.old.items item.now.log) item.now.event }
-    ensures { OnOk result (busy_of busy.new.items ≡ update (busy_of busy.old.items) item.now.log (busy_after (busy_of busy.old.items item.now.log) item.now.bank item.now.event)) }
+    ensures { OnOk result (busy_of busy.new.items ≡ update (busy_of busy.old.items) item.now.log
+        (busy_after (busy_of busy.old.items item.now.log) item.now.bank item.now.event)) }
 {
     match &item.event {
         Event::Issue { tag, .. } => {
@@ -86,7 +87,8 @@ pub(crate) fn apply_busy(busy: &mut Vec<BusyTag>, item: &Record) -> Result<(), N
 
 fn add_busy(busy: &mut Vec<BusyTag>, item: BusyTag) -> Result<(), NoMemory>
     requires { busy_of busy.old.items item.port item.tag ≡ None }
-    ensures { OnOk result (busy_of busy.new.items ≡ update (busy_of busy.old.items) item.port (update (busy_of busy.old.items item.port) item.tag (Some item.bank))) }
+    ensures { OnOk result (busy_of busy.new.items ≡ update (busy_of busy.old.items) item.port
+        (update (busy_of busy.old.items item.port) item.tag (Some item.bank))) }
 {
     match busy.push(item) {
         Ok(()) => Ok(()),

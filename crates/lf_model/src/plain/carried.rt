@@ -68,7 +68,9 @@ fn part_agrees(
     requires fits { second < 0x1_0000_0000 / shape.now.factor }
     requires inside { place < shape.now.factor }
     requires len { length bytes.now.items ≡ shape.now.factor * shape.now.block }
-    ensures { let block = sub_block shape.now second place in result ≡ agree_off shape.now.block (part_at shape.now.block bytes.now.items place) (block_bytes shape.now (flat_of memory.now) block) (store_bytes (slice_of slice.now).waiting block) }
+    ensures { let block = sub_block shape.now second place in
+        result ≡ agree_off shape.now.block (part_at shape.now.block bytes.now.items place) (block_bytes shape.now (flat_of memory.now) block)
+        (store_bytes (slice_of slice.now).waiting block) }
 {
     let block = sub_block(shape, second, place);
     let part = part_at(shape.block as usize, bytes, place as usize);

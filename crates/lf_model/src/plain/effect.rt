@@ -77,7 +77,8 @@ fn put_wide_line(lines: &mut WideLineMap, second: u32, masks: Masks) -> Result<(
 impl PlainSlice {
     pub(crate) fn issue(&mut self, log: u8, request: Request) -> Result<(), NoMemory>
         requires { log < length self.old.queues.items }
-        ensures slice { (shape : Shape) (memory : FlatMemory) (op : Op) (tag size address : ℕ) (bytes : ArrayVec ℕ) → request ≡ request_of shape tag op size address bytes.items →
+        ensures slice { (shape : Shape) (memory : FlatMemory) (op : Op) (tag size address : ℕ) (bytes : ArrayVec ℕ) →
+            request ≡ request_of shape tag op size address bytes.items →
             OnOk result (slice_of self.new ≡ slice_next shape memory (slice_of self.old) log (event.Issue op tag size address bytes)) }
         ensures ports { OnOk result (length self.new.queues.items ≡ length self.old.queues.items) }
     {
@@ -85,7 +86,8 @@ impl PlainSlice {
     }
 
     pub(crate) fn reply(&mut self, log: u8, tag: u8)
-        ensures slice { (shape : Shape) (memory : FlatMemory) (size : ℕ) (bytes : ArrayVec ℕ) → slice_of self.new ≡ slice_next shape memory (slice_of self.old) log (event.Reply tag size bytes) }
+        ensures slice { (shape : Shape) (memory : FlatMemory) (size : ℕ) (bytes : ArrayVec ℕ) →
+            slice_of self.new ≡ slice_next shape memory (slice_of self.old) log (event.Reply tag size bytes) }
         ensures ports { self.new.queues ≡ self.old.queues }
     {
         drop_ready(&mut self.ready, log, tag);
@@ -99,7 +101,8 @@ impl PlainSlice {
     ) -> Result<(), NoMemory>
         requires inside { port < length self.old.queues.items }
         requires next { is_head (queue_at self.old.queues.items port) tag ≡ true }
-        ensures slice { (shape : Shape) (log : ℕ) → OnOk result (slice_of self.new ≡ slice_next shape (flat_of memory.old) (slice_of self.old) log (event.Hit port tag)) }
+        ensures slice { (shape : Shape) (log : ℕ) →
+            OnOk result (slice_of self.new ≡ slice_next shape (flat_of memory.old) (slice_of self.old) log (event.Hit port tag)) }
         ensures memory { OnOk result (flat_of memory.new ≡ memory_after (flat_of memory.old) (slice_of self.old) (event.Hit port tag)) }
         ensures ports { OnOk result (length self.new.queues.items ≡ length self.old.queues.items) }
     {
@@ -123,7 +126,8 @@ impl PlainSlice {
     ) -> Result<(), NoMemory>
         requires inside { port < length self.old.queues.items }
         requires next { is_head (queue_at self.old.queues.items port) tag ≡ true }
-        ensures slice { (shape : Shape) (log : ℕ) → OnOk result (slice_of self.new ≡ slice_next shape (flat_of memory.old) (slice_of self.old) log (event.Merge port tag register)) }
+        ensures slice { (shape : Shape) (log : ℕ) →
+            OnOk result (slice_of self.new ≡ slice_next shape (flat_of memory.old) (slice_of self.old) log (event.Merge port tag register)) }
         ensures memory { OnOk result (flat_of memory.new ≡ memory_after (flat_of memory.old) (slice_of self.old) (event.Merge port tag register)) }
         ensures ports { OnOk result (length self.new.queues.items ≡ length self.old.queues.items) }
     {
@@ -145,7 +149,8 @@ impl PlainSlice {
     ) -> Result<(), NoMemory>
         requires inside { port < length self.old.queues.items }
         requires next { is_head (queue_at self.old.queues.items port) tag ≡ true }
-        ensures slice { (shape : Shape) (log : ℕ) → OnOk result (slice_of self.new ≡ slice_next shape (flat_of memory.old) (slice_of self.old) log (event.Primary port tag register)) }
+        ensures slice { (shape : Shape) (log : ℕ) →
+            OnOk result (slice_of self.new ≡ slice_next shape (flat_of memory.old) (slice_of self.old) log (event.Primary port tag register)) }
         ensures memory { OnOk result (flat_of memory.new ≡ memory_after (flat_of memory.old) (slice_of self.old) (event.Primary port tag register)) }
         ensures ports { OnOk result (length self.new.queues.items ≡ length self.old.queues.items) }
     {
@@ -160,7 +165,8 @@ impl PlainSlice {
     }
 
     pub(crate) fn fill1(&mut self, block: u32) -> Result<(), NoMemory>
-        ensures slice { (shape : Shape) (memory : FlatMemory) (log : ℕ) (bytes : ArrayVec ℕ) → OnOk result (slice_of self.new ≡ slice_next shape memory (slice_of self.old) log (event.Fill1 block bytes)) }
+        ensures slice { (shape : Shape) (memory : FlatMemory) (log : ℕ) (bytes : ArrayVec ℕ) →
+            OnOk result (slice_of self.new ≡ slice_next shape memory (slice_of self.old) log (event.Fill1 block bytes)) }
         ensures ports { OnOk result (self.new.queues ≡ self.old.queues) }
     {
         add_replies(&mut self.ready, &self.waiting, block)?;
@@ -172,7 +178,8 @@ impl PlainSlice {
 
     pub(crate) fn evict1(&mut self, shape: &Shape, block: u32, mask: Mask) -> Result<(), NoMemory>
         requires { IsShape shape.now }
-        ensures slice { (memory : FlatMemory) (log : ℕ) (bytes : ArrayVec ℕ) → OnOk result (slice_of self.new ≡ slice_next shape.now memory (slice_of self.old) log (event.Evict1 block mask bytes)) }
+        ensures slice { (memory : FlatMemory) (log : ℕ) (bytes : ArrayVec ℕ) →
+            OnOk result (slice_of self.new ≡ slice_next shape.now memory (slice_of self.old) log (event.Evict1 block mask bytes)) }
         ensures ports { OnOk result (self.new.queues ≡ self.old.queues) }
     {
         drop_line(&mut self.lines1, block);
@@ -182,7 +189,8 @@ impl PlainSlice {
     }
 
     pub(crate) fn second_hit(&mut self, block: u32) -> Result<(), NoMemory>
-        ensures slice { (shape : Shape) (memory : FlatMemory) (log : ℕ) → OnOk result (slice_of self.new ≡ slice_next shape memory (slice_of self.old) log (event.SecondHit block)) }
+        ensures slice { (shape : Shape) (memory : FlatMemory) (log : ℕ) →
+            OnOk result (slice_of self.new ≡ slice_next shape memory (slice_of self.old) log (event.SecondHit block)) }
         ensures ports { OnOk result (self.new.queues ≡ self.old.queues) }
     {
         push(&mut self.supplied, block)?;
@@ -198,8 +206,10 @@ impl PlainSlice {
         register: u16,
     ) -> Result<(), NoMemory>
         requires { IsShape shape.now }
-        ensures primary { (memory : FlatMemory) (log : ℕ) → OnOk result (slice_of self.new ≡ slice_next shape.now memory (slice_of self.old) log (event.SecondPrimary block register)) }
-        ensures merge { (memory : FlatMemory) (log : ℕ) → OnOk result (slice_of self.new ≡ slice_next shape.now memory (slice_of self.old) log (event.SecondMerge block register)) }
+        ensures primary { (memory : FlatMemory) (log : ℕ) →
+            OnOk result (slice_of self.new ≡ slice_next shape.now memory (slice_of self.old) log (event.SecondPrimary block register)) }
+        ensures merge { (memory : FlatMemory) (log : ℕ) →
+            OnOk result (slice_of self.new ≡ slice_next shape.now memory (slice_of self.old) log (event.SecondMerge block register)) }
         ensures ports { OnOk result (self.new.queues ≡ self.old.queues) }
     {
         let target = (block, self.asked_register(block));
@@ -215,7 +225,8 @@ impl PlainSlice {
 
     pub(crate) fn fill2(&mut self, shape: &Shape, second: u32) -> Result<(), NoMemory>
         requires { IsShape shape.now }
-        ensures slice { (memory : FlatMemory) (log : ℕ) (bytes : ArrayVec ℕ) → OnOk result (slice_of self.new ≡ slice_next shape.now memory (slice_of self.old) log (event.Fill2 second bytes)) }
+        ensures slice { (memory : FlatMemory) (log : ℕ) (bytes : ArrayVec ℕ) →
+            OnOk result (slice_of self.new ≡ slice_next shape.now memory (slice_of self.old) log (event.Fill2 second bytes)) }
         ensures ports { OnOk result (self.new.queues ≡ self.old.queues) }
     {
         add_supplied(&mut self.supplied, &self.regs2, second)?;
@@ -225,7 +236,8 @@ impl PlainSlice {
     }
 
     pub(crate) fn evict2(&mut self, second: u32)
-        ensures slice { (shape : Shape) (memory : FlatMemory) (log : ℕ) (masks : MaskList) (bytes : ArrayVec ℕ) → slice_of self.new ≡ slice_next shape memory (slice_of self.old) log (event.Evict2 second masks bytes) }
+        ensures slice { (shape : Shape) (memory : FlatMemory) (log : ℕ) (masks : MaskList) (bytes : ArrayVec ℕ) →
+            slice_of self.new ≡ slice_next shape memory (slice_of self.old) log (event.Evict2 second masks bytes) }
         ensures ports { self.new.queues ≡ self.old.queues }
     {
         drop_line(&mut self.lines2, second);

@@ -6,7 +6,7 @@ ghost use Rattle.lf_model.specs.declared.event.Op.{Op};
 ghost use Rattle.arrayvec.specs.ArrayVec.{ArrayVec};
 ghost use Rattle.lf_model.specs.Address.{block_bytes, agree_off, masked, second_of, place_of, sub_block, places};
 ghost use Rattle.std.specs.List.{list_all};
-ghost use Rattle.lf_model.specs.Registers.{has_room as model_room};
+ghost use Rattle.lf_model.specs.Registers.{has_room as model_room, merge_clauses};
 ghost use Rattle.lf_model.specs.InRange.{IsShape};
 ghost use Rattle.lf_model.specs.Plain.{slice_of, IsFramed};
 ghost use Rattle.lf_model.specs.State.{Slice};
@@ -17,7 +17,7 @@ use crate::event::{Block, Masks};
 use crate::mask::Mask;
 use crate::plain::lines::{are_dirty, dirty_mask, has_line, has_way1, has_way2};
 use crate::plain::registers::{
-    has_room, holds, is_free, registers_of, right_for_merge, right_for_primary, takes,
+    has_room, holds, is_free, merge_fault, registers_of, right_for_primary,
 };
 use crate::plain::slice::PlainSlice;
 use crate::rule::Rule;
@@ -72,7 +72,8 @@ pub(crate) fn sub_block(shape: &Shape, second: u32, place: u32) -> u32
 impl PlainSlice {
     /// `is_free` says whether the tag is not busy.
     pub(crate) fn judge_issue(shape: &Shape, is_free: bool, tag: u8) -> Option<Rule>
-        ensures { (slice : Slice) (busy : ℕ → Option ℕ) (log bank size address : ℕ) (op : Op) (bytes : ArrayVec ℕ) → is_free ≡ is_none (busy tag) → result ≡ first_failing OfBoth (rules_of shape.now true busy slice log bank (event.Issue op tag size address bytes)) }
+        ensures { (slice : Slice) (busy : ℕ → Option ℕ) (log bank size address : ℕ) (op : Op) (bytes : ArrayVec ℕ) → is_free ≡ is_none (busy tag) →
+            result ≡ first_failing OfBoth (rules_of shape.now true busy slice log bank (event.Issue op tag size address bytes)) }
     {
         if u32::from(tag) >= shape.tags {
             return Some(Rule::TagRange);
@@ -90,7 +91,8 @@ impl PlainSlice {
         size: u8,
         bytes: &Block,
     ) -> Option<Rule>
-        ensures { (busy : ℕ → Option ℕ) (bank : ℕ) → is_owed ≡ is_at (busy tag) bank → result ≡ first_failing OfBoth (rules_of shape.now true busy (slice_of self.now) log bank (event.Reply tag size bytes.now)) }
+        ensures { (busy : ℕ → Option ℕ) (bank : ℕ) → is_owed ≡ is_at (busy tag) bank →
+            result ≡ first_failing OfBoth (rules_of shape.now true busy (slice_of self.now) log bank (event.Reply tag size bytes.now)) }
     {
         if u32::from(tag) >= shape.tags {
             return Some(Rule::TagRange);
@@ -112,7 +114,8 @@ impl PlainSlice {
 
     pub(crate) fn judge_hit(&self, shape: &Shape, port: u8, tag: u8) -> Option<Rule>
         requires { IsFramed shape.now self.now }
-        ensures { (busy : ℕ → Option ℕ) (log bank : ℕ) → result ≡ first_failing OfBoth (rules_of shape.now true busy (slice_of self.now) log bank (event.Hit port tag)) }
+        ensures { (busy : ℕ → Option ℕ) (log bank : ℕ) →
+            result ≡ first_failing OfBoth (rules_of shape.now true busy (slice_of self.now) log bank (event.Hit port tag)) }
     {
         let Some(request) = self.head(port, tag) else {
             return Some(Rule::NotHead);
@@ -131,7 +134,8 @@ impl PlainSlice {
         register: u16,
     ) -> Option<Rule>
         requires { IsFramed shape.now self.now }
-        ensures { (busy : ℕ → Option ℕ) (log bank : ℕ) → result ≡ first_failing OfBoth (rules_of shape.now true busy (slice_of self.now) log bank (event.Primary port tag register)) }
+        ensures { (busy : ℕ → Option ℕ) (log bank : ℕ) →
+            result ≡ first_failing OfBoth (rules_of shape.now true busy (slice_of self.now) log bank (event.Primary port tag register)) }
     {
         let Some(request) = self.head(port, tag) else {
             return Some(Rule::NotHead);
@@ -164,39 +168,28 @@ impl PlainSlice {
         register: u16,
     ) -> Option<Rule>
         requires { IsFramed shape.now self.now }
-        ensures { (busy : ℕ → Option ℕ) (log bank : ℕ) → result ≡ first_failing OfBoth (rules_of shape.now true busy (slice_of self.now) log bank (event.Merge port tag register)) }
+        ensures { (busy : ℕ → Option ℕ) (log bank : ℕ) →
+            result ≡ first_failing OfBoth (rules_of shape.now true busy (slice_of self.now) log bank (event.Merge port tag register)) }
     {
         let Some(request) = self.head(port, tag) else {
             return Some(Rule::NotHead);
         };
-        let organisation = shape.level1.organisation;
-        let register = u32::from(register);
-        let destination = destination(shape, port, tag);
-        let word = u32::from(request.offset()) / 8;
-        if !holds(&self.waiting, request.block()) {
-            return Some(Rule::NotInFlight);
-        }
-        if register >= registers_of(organisation, destinations(shape)) {
-            return Some(Rule::RegisterRange);
-        }
-        if !right_for_merge(
-            organisation,
+        merge_fault(
+            shape.level1.organisation,
+            shape.factor,
+            destinations(shape),
             &self.waiting,
             request.block(),
-            destination,
-            register,
-        ) {
-            return Some(Rule::WrongRegister);
-        }
-        if !takes(organisation, shape.factor, &self.waiting, register, word) {
-            return Some(Rule::MergeFull);
-        }
-        None
+            destination(shape, port, tag),
+            u32::from(request.offset()) / 8,
+            u32::from(register),
+        )
     }
 
     pub(crate) fn judge_stall(&self, shape: &Shape, port: u8, tag: u8) -> Option<Rule>
         requires { IsFramed shape.now self.now }
-        ensures { (busy : ℕ → Option ℕ) (log bank : ℕ) → result ≡ first_failing OfBoth (rules_of shape.now true busy (slice_of self.now) log bank (event.Stall port tag)) }
+        ensures { (busy : ℕ → Option ℕ) (log bank : ℕ) →
+            result ≡ first_failing OfBoth (rules_of shape.now true busy (slice_of self.now) log bank (event.Stall port tag)) }
     {
         let Some(request) = self.head(port, tag) else {
             return Some(Rule::NotHead);
@@ -221,7 +214,8 @@ impl PlainSlice {
     /// `agrees` says whether the fill's bytes are those of memory off the bytes of waiting stores.
     pub(crate) fn judge_fill1(&self, shape: &Shape, agrees: bool, block: u32) -> Option<Rule>
         requires { IsFramed shape.now self.now }
-        ensures { (busy : ℕ → Option ℕ) (log bank : ℕ) (bytes : ArrayVec ℕ) → result ≡ first_failing OfBoth (rules_of shape.now agrees busy (slice_of self.now) log bank (event.Fill1 block bytes)) }
+        ensures { (busy : ℕ → Option ℕ) (log bank : ℕ) (bytes : ArrayVec ℕ) →
+            result ≡ first_failing OfBoth (rules_of shape.now agrees busy (slice_of self.now) log bank (event.Fill1 block bytes)) }
     {
         if !self.has_supplied(block) {
             return Some(Rule::NotSupplied);
@@ -241,7 +235,8 @@ impl PlainSlice {
         mask: Mask,
     ) -> Option<Rule>
         requires { IsFramed shape.now self.now }
-        ensures { (busy : ℕ → Option ℕ) (log bank : ℕ) (bytes : ArrayVec ℕ) → result ≡ first_failing OfBoth (rules_of shape.now agrees busy (slice_of self.now) log bank (event.Evict1 block mask bytes)) }
+        ensures { (busy : ℕ → Option ℕ) (log bank : ℕ) (bytes : ArrayVec ℕ) →
+            result ≡ first_failing OfBoth (rules_of shape.now agrees busy (slice_of self.now) log bank (event.Evict1 block mask bytes)) }
     {
         if !has_line(&self.lines1, block) {
             return Some(Rule::EvictAbsent);
@@ -254,7 +249,8 @@ impl PlainSlice {
 
     pub(crate) fn judge_second_hit(&self, shape: &Shape, block: u32) -> Option<Rule>
         requires { IsFramed shape.now self.now }
-        ensures { (busy : ℕ → Option ℕ) (log bank : ℕ) → result ≡ first_failing OfBoth (rules_of shape.now true busy (slice_of self.now) log bank (event.SecondHit block)) }
+        ensures { (busy : ℕ → Option ℕ) (log bank : ℕ) →
+            result ≡ first_failing OfBoth (rules_of shape.now true busy (slice_of self.now) log bank (event.SecondHit block)) }
     {
         if !self.has_asked(block) {
             return Some(Rule::NotAsked);
@@ -272,7 +268,8 @@ impl PlainSlice {
         register: u16,
     ) -> Option<Rule>
         requires { IsFramed shape.now self.now }
-        ensures { (busy : ℕ → Option ℕ) (log bank : ℕ) → result ≡ first_failing OfBoth (rules_of shape.now true busy (slice_of self.now) log bank (event.SecondPrimary block register)) }
+        ensures { (busy : ℕ → Option ℕ) (log bank : ℕ) →
+            result ≡ first_failing OfBoth (rules_of shape.now true busy (slice_of self.now) log bank (event.SecondPrimary block register)) }
     {
         let organisation = shape.level2.organisation;
         let register = u32::from(register);
@@ -302,6 +299,25 @@ impl PlainSlice {
         None
     }
 
+    /// The first rule that a further level-two miss breaks in joining the register.
+    fn merge_fault2(&self, shape: &Shape, block: u32, register: u16) -> Option<Rule>
+        requires { IsShape shape.now }
+        ensures { let slice = slice_of self.now in
+            result ≡ first_failing OfBoth (merge_clauses shape.now.level2.organisation (destinations2 shape.now) (position2 shape.now) slice.regs2
+            (second_of shape.now block) (asked_register slice.asked block) (place_of shape.now block) register) }
+    {
+        merge_fault(
+            shape.level2.organisation,
+            shape.factor,
+            destinations2(shape),
+            &self.regs2,
+            second_of(shape, block),
+            u32::from(self.asked_register(block)),
+            place_of(shape, block),
+            u32::from(register),
+        )
+    }
+
     pub(crate) fn judge_second_merge(
         &self,
         shape: &Shape,
@@ -309,10 +325,9 @@ impl PlainSlice {
         register: u16,
     ) -> Option<Rule>
         requires { IsFramed shape.now self.now }
-        ensures { (busy : ℕ → Option ℕ) (log bank : ℕ) → result ≡ first_failing OfBoth (rules_of shape.now true busy (slice_of self.now) log bank (event.SecondMerge block register)) }
+        ensures { (busy : ℕ → Option ℕ) (log bank : ℕ) →
+            result ≡ first_failing OfBoth (rules_of shape.now true busy (slice_of self.now) log bank (event.SecondMerge block register)) }
     {
-        let organisation = shape.level2.organisation;
-        let register = u32::from(register);
         let second = second_of(shape, block);
         if !self.has_asked(block) {
             return Some(Rule::NotAsked);
@@ -320,37 +335,15 @@ impl PlainSlice {
         if has_line(&self.lines2, second) {
             return Some(Rule::SecondPresent);
         }
-        if !holds(&self.regs2, second) {
-            return Some(Rule::NotInFlight);
-        }
-        if register >= registers_of(organisation, destinations2(shape)) {
-            return Some(Rule::RegisterRange);
-        }
-        if !right_for_merge(
-            organisation,
-            &self.regs2,
-            second,
-            u32::from(self.asked_register(block)),
-            register,
-        ) {
-            return Some(Rule::WrongRegister);
-        }
-        if !takes(
-            organisation,
-            shape.factor,
-            &self.regs2,
-            register,
-            place_of(shape, block),
-        ) {
-            return Some(Rule::MergeFull);
-        }
-        None
+        self.merge_fault2(shape, block, register)
     }
 
     /// Whether some level-two register takes the miss of a block that level one asks for.
     fn has_room2(&self, shape: &Shape, block: u32) -> bool
         requires { IsShape shape.now }
-        ensures { let slice = slice_of self.now in result ≡ model_room shape.now.level2.organisation (destinations2 shape.now) (position2 shape.now) slice.regs2 (second_of shape.now block) (asked_register slice.asked block) (place_of shape.now block) }
+        ensures { let slice = slice_of self.now in
+            result ≡ model_room shape.now.level2.organisation (destinations2 shape.now) (position2 shape.now) slice.regs2 (second_of shape.now block)
+            (asked_register slice.asked block) (place_of shape.now block) }
     {
         has_room(
             shape.level2.organisation,
@@ -365,7 +358,8 @@ impl PlainSlice {
 
     pub(crate) fn judge_second_stall(&self, shape: &Shape, block: u32) -> Option<Rule>
         requires { IsFramed shape.now self.now }
-        ensures { (busy : ℕ → Option ℕ) (log bank : ℕ) → result ≡ first_failing OfBoth (rules_of shape.now true busy (slice_of self.now) log bank (event.SecondStall block)) }
+        ensures { (busy : ℕ → Option ℕ) (log bank : ℕ) →
+            result ≡ first_failing OfBoth (rules_of shape.now true busy (slice_of self.now) log bank (event.SecondStall block)) }
     {
         let second = second_of(shape, block);
         if !self.has_asked(block) {
@@ -383,7 +377,8 @@ impl PlainSlice {
     /// `agrees` as for a fill of level one.
     pub(crate) fn judge_fill2(&self, shape: &Shape, agrees: bool, second: u32) -> Option<Rule>
         requires { IsFramed shape.now self.now }
-        ensures { (busy : ℕ → Option ℕ) (log bank : ℕ) (bytes : ArrayVec ℕ) → result ≡ first_failing OfBoth (rules_of shape.now agrees busy (slice_of self.now) log bank (event.Fill2 second bytes)) }
+        ensures { (busy : ℕ → Option ℕ) (log bank : ℕ) (bytes : ArrayVec ℕ) →
+            result ≡ first_failing OfBoth (rules_of shape.now agrees busy (slice_of self.now) log bank (event.Fill2 second bytes)) }
     {
         if !holds(&self.regs2, second) {
             return Some(Rule::NotFetched);
@@ -419,7 +414,8 @@ impl PlainSlice {
     ) -> Option<Rule>
         requires framed { IsFramed shape.now self.now }
         requires fits { second < 0x1_0000_0000 / shape.now.factor }
-        ensures { (busy : ℕ → Option ℕ) (log bank : ℕ) (bytes : ArrayVec ℕ) → result ≡ first_failing OfBoth (rules_of shape.now agrees busy (slice_of self.now) log bank (event.Evict2 second masks.now bytes)) }
+        ensures { (busy : ℕ → Option ℕ) (log bank : ℕ) (bytes : ArrayVec ℕ) →
+            result ≡ first_failing OfBoth (rules_of shape.now agrees busy (slice_of self.now) log bank (event.Evict2 second masks.now bytes)) }
     {
         if !has_line(&self.lines2, second) {
             return Some(Rule::EvictAbsent);

@@ -103,8 +103,7 @@ pub(crate) fn clean_masks(factor: u32) -> Masks
     ensures { result ≡ clean_masks factor }
 {
     let mut masks = Masks::new();
-    for place in 0..factor {
-        let _ = place;
+    for _ in 0..factor {
         masks.push(Mask(0));
     }
     masks
@@ -125,12 +124,12 @@ fn marked(masks: &Masks, place: u32, mask: u64) -> Masks
 {
     let mut new = Masks::new();
     for i in 0..masks.len() {
-        let old = masks[i].0;
-        if i == place as usize {
-            new.push(Mask(old | mask));
+        let old = masks[i];
+        new.push(if i == place as usize {
+            Mask(old.0 | mask)
         } else {
-            new.push(Mask(old));
-        }
+            old
+        });
     }
     new
 }

@@ -1,9 +1,9 @@
 //! The state of the whole system, and the step of one record.
 
-ghost use Rattle.std.specs.Prelude.{◌≡◌, ℕ, Bool, length, None, IfOk, OnOk};
-ghost use Rattle.lf_model.specs.Fits.{Fits};
+ghost use Rattle.std.specs.Prelude.{◌≡◌, ℕ, Bool, true, length, None, Option, IfOk, OnOk};
+ghost use Rattle.lf_model.specs.Fits.{Fits, is_of_level_two};
 ghost use Rattle.std.specs.List.{All};
-ghost use Rattle.lf_model.specs.Address.{flat_memory};
+ghost use Rattle.lf_model.specs.Address.{FlatMemory, flat_memory};
 ghost use Rattle.lf_model.specs.InRange.{IsShape};
 ghost use Rattle.lf_model.specs.State.{Slice, empty_slice, opening, seen_by};
 ghost use Rattle.lf_model.specs.Table.{OfBoth, rules_of, carries, clauses, memory_after};
@@ -34,12 +34,51 @@ pub(crate) struct Machine {
 
 fn judge_fence(shape: &Shape, busy: &[BusyTag], log: u8) -> Option<Rule>
     requires { IsShape shape.now }
-    ensures { (right : Bool) (slice : Slice) (bank : ℕ) → result ≡ first_failing OfBoth (rules_of shape.now right (busy_of busy.now log) slice log bank event.Fence) }
+    ensures { (right : Bool) (slice : Slice) (bank : ℕ) →
+        result ≡ first_failing OfBoth (rules_of shape.now right (busy_of busy.now log) slice log bank event.Fence) }
 {
     if none_busy(shape.tags, busy, log) {
         None
     } else {
         Some(Rule::FenceBusy)
+    }
+}
+
+fn judge_level_two(
+    shape: &Shape,
+    memory: &PlainMemory,
+    slice: &PlainSlice,
+    item: &Record,
+) -> Option<Rule>
+    requires framed { IsFramed shape.now slice.now }
+    requires fits { Fits shape.now item.now }
+    requires second { is_of_level_two item.now.event ≡ true }
+    ensures { (tags : ℕ → Option ℕ) →
+        let right = carries shape.now (flat_of memory.now) (slice_of slice.now) item.now.event in
+        result ≡ first_failing OfBoth (rules_of shape.now right tags (slice_of slice.now) item.now.log item.now.bank item.now.event) }
+{
+    match &item.event {
+        Event::SecondHit { block } => slice.judge_second_hit(shape, *block),
+        Event::SecondPrimary { block, register } => {
+            slice.judge_second_primary(shape, *block, *register)
+        }
+        Event::SecondMerge { block, register } => {
+            slice.judge_second_merge(shape, *block, *register)
+        }
+        Event::SecondStall { block } => slice.judge_second_stall(shape, *block),
+        Event::Fill2 { block, bytes } => {
+            let agrees = fill2_agrees(shape, memory, slice, *block, bytes);
+            slice.judge_fill2(shape, agrees, *block)
+        }
+        Event::Evict2 {
+            block,
+            masks,
+            bytes,
+        } => {
+            let agrees = evict2_agrees(shape, memory, *block, masks, bytes);
+            slice.judge_evict2(shape, agrees, *block, masks)
+        }
+        _ => unreachable!(),
     }
 }
 
@@ -52,7 +91,9 @@ fn judge_event(
 ) -> Option<Rule>
     requires framed { IsFramed shape.now slice.now }
     requires fits { Fits shape.now item.now }
-    ensures { result ≡ first_failing OfBoth (rules_of shape.now (carries shape.now (flat_of memory.now) (slice_of slice.now) item.now.event) (busy_of busy.now item.now.log) (slice_of slice.now) item.now.log item.now.bank item.now.event) }
+    ensures { let right = carries shape.now (flat_of memory.now) (slice_of slice.now) item.now.event in
+        let tags = busy_of busy.now item.now.log in
+        result ≡ first_failing OfBoth (rules_of shape.now right tags (slice_of slice.now) item.now.log item.now.bank item.now.event) }
 {
     let log = item.log;
     match &item.event {
@@ -81,27 +122,30 @@ fn judge_event(
             let agrees = evict1_agrees(shape, memory, *block, *mask, bytes);
             slice.judge_evict1(shape, agrees, *block, *mask)
         }
-        Event::SecondHit { block } => slice.judge_second_hit(shape, *block),
-        Event::SecondPrimary { block, register } => {
-            slice.judge_second_primary(shape, *block, *register)
-        }
-        Event::SecondStall { block } => slice.judge_second_stall(shape, *block),
-        Event::Fill2 { block, bytes } => {
-            let agrees = fill2_agrees(shape, memory, slice, *block, bytes);
-            slice.judge_fill2(shape, agrees, *block)
-        }
-        Event::Evict2 {
-            block,
-            masks,
-            bytes,
-        } => {
-            let agrees = evict2_agrees(shape, memory, *block, masks, bytes);
-            slice.judge_evict2(shape, agrees, *block, masks)
-        }
-        Event::SecondMerge { block, register } => {
-            slice.judge_second_merge(shape, *block, *register)
-        }
         Event::Fence => judge_fence(shape, busy, log),
+        _ => judge_level_two(shape, memory, slice, item),
+    }
+}
+
+fn apply_level_two(shape: &Shape, slice: &mut PlainSlice, item: &Record) -> Result<(), NoMemory>
+    requires framed { IsFramed shape.now slice.old }
+    requires second { is_of_level_two item.now.event ≡ true }
+    ensures slice { (memory : FlatMemory) →
+        OnOk result (slice_of slice.new ≡ slice_next shape.now memory (slice_of slice.old) item.now.log item.now.event) }
+    ensures memory { (memory : FlatMemory) → memory_after memory (slice_of slice.old) item.now.event ≡ memory }
+    ensures framed { OnOk result (IsFramed shape.now slice.new) }
+{
+    match &item.event {
+        Event::SecondHit { block } => slice.second_hit(*block),
+        Event::SecondPrimary { block, register } => slice.second_miss(shape, *block, *register),
+        Event::SecondMerge { block, register } => slice.second_miss(shape, *block, *register),
+        Event::SecondStall { .. } => Ok(()),
+        Event::Fill2 { block, .. } => slice.fill2(shape, *block),
+        Event::Evict2 { block, .. } => {
+            slice.evict2(*block);
+            Ok(())
+        }
+        _ => unreachable!(),
     }
 }
 
@@ -144,18 +188,11 @@ fn apply_event(
             tag,
             register,
         } => slice.merge(memory, *port, *tag, *register),
-        Event::Stall { .. } | Event::SecondStall { .. } => Ok(()),
+        Event::Stall { .. } => Ok(()),
         Event::Fill1 { block, .. } => slice.fill1(*block),
         Event::Evict1 { block, mask, .. } => slice.evict1(shape, *block, *mask),
-        Event::SecondHit { block } => slice.second_hit(*block),
-        Event::SecondPrimary { block, register } => { slice.second_miss(shape, *block, *register) }
-        Event::SecondMerge { block, register } => slice.second_miss(shape, *block, *register),
-        Event::Fill2 { block, .. } => slice.fill2(shape, *block),
-        Event::Evict2 { block, .. } => {
-            slice.evict2(*block);
-            Ok(())
-        }
         Event::Fence => Ok(()),
+        _ => apply_level_two(shape, slice, item),
     }
 }
 
@@ -232,7 +269,8 @@ impl Machine {
     pub(crate) fn step(&mut self, item: &Record) -> Result<Option<Rule>, NoMemory>
         requires machine { IsMachine self.old }
         requires fits { Fits self.old.shape item.now }
-        ensures rule { IfOk result (λ rule. rule ≡ first_failing OfBoth (clauses self.old.shape (seen_by item.now.log item.now.bank (state_of self.old)) item.now)) }
+        ensures rule { IfOk result (λ rule.
+            rule ≡ first_failing OfBoth (clauses self.old.shape (seen_by item.now.log item.now.bank (state_of self.old)) item.now)) }
         ensures state { IfOk result (λ rule. rule ≡ None → state_of self.new ≡ state_after self.old.shape (state_of self.old) item.now) }
         ensures machine { OnOk result (IsMachine self.new) }
         ensures shape { OnOk result (self.new.shape ≡ self.old.shape) }

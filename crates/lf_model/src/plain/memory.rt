@@ -114,7 +114,10 @@ impl PlainMemory {
 
     /// What a register keeps of a request that misses.
     pub(crate) fn missed(&self, port: u8, register: u16, request: &Request) -> Held<Missed>
-        ensures { let value = value_of (flat_of self.now) request.now in let target : model.Missed = record { port = port; request = request.now; value = value } in let held : registers.Held model.Missed = record { register = register; block = request.now.block; target = target } in result ≡ held }
+        ensures { let value = value_of (flat_of self.now) request.now in
+            let target : model.Missed = record { port = port; request = request.now; value = value } in
+            let held : registers.Held model.Missed = record { register = register; block = request.now.block; target = target } in
+            result ≡ held }
     {
         let target = Missed {
             port,

@@ -67,7 +67,8 @@ impl Queue {
 
 /// The oldest request of the port, where it has the tag.
 pub(crate) fn head(queues: &[Queue], port: u8, tag: u8) -> Option<&Request>
-    ensures { let queue = queue_at queues.now port in MatchOption result (is_head queue tag ≡ false) (λ request. (is_head queue tag ≡ true) × (request.now ≡ oldest queue)) }
+    ensures { let queue = queue_at queues.now port in
+        MatchOption result (is_head queue tag ≡ false) (λ request. (is_head queue tag ≡ true) × (request.now ≡ oldest queue)) }
 {
     let queue = queues.get(usize::from(port))?;
     queue.head(tag)

@@ -3,10 +3,12 @@
 ghost use Rattle.std.specs.Prelude.{◌≡◌, ℕ, ◌+◌, ◌<◌, ◌≤◌, ◌↔◌, ◌==◌, ◌&&◌, ◌%◌, length, count_by};
 ghost use Rattle.std.specs.List.{list_any, range_with_len};
 ghost use Rattle.lf_model.specs.Registers as model;
-ghost use Rattle.lf_model.specs.Table.{position, store_bytes, store_mask};
-ghost use Rattle.lf_model.specs.Registers.{holds, is_free, holds_in, registers_of, right_for_primary, right_for_merge, takes, has_room, released};
+ghost use Rattle.lf_model.specs.Run.{first_failing};
+ghost use Rattle.lf_model.specs.Table.{OfBoth, position, store_bytes, store_mask};
+ghost use Rattle.lf_model.specs.Registers.{holds, is_free, holds_in, registers_of, right_for_primary, right_for_merge, takes, has_room, merge_clauses, released};
 
 use crate::plain::request::Missed;
+use crate::rule::Rule;
 use crate::shape::OrgShape;
 use std::marker::Model;
 
@@ -236,6 +238,35 @@ pub(crate) fn has_room<T: Target>(
         }
         OrgShape::Inverted => destination < destinations && is_free(held, destination),
     }
+}
+
+/// The first rule that a further miss to the block breaks in joining the register.
+pub(crate) fn merge_fault<T: Target>(
+    organisation: OrgShape,
+    factor: u32,
+    destinations: u32,
+    held: &[Held<T>],
+    block: u32,
+    destination: u32,
+    at: u32,
+    register: u32,
+) -> Option<Rule>
+    requires { 0 < factor }
+    ensures { result ≡ first_failing OfBoth (merge_clauses organisation destinations (T.position factor) held.now block destination at register) }
+{
+    if !holds(held, block) {
+        return Some(Rule::NotInFlight);
+    }
+    if register >= registers_of(organisation, destinations) {
+        return Some(Rule::RegisterRange);
+    }
+    if !right_for_merge(organisation, held, block, destination, register) {
+        return Some(Rule::WrongRegister);
+    }
+    if !takes(organisation, factor, held, register, at) {
+        return Some(Rule::MergeFull);
+    }
+    None
 }
 
 /// The targets of the block leave; the others keep their order.

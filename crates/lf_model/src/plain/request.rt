@@ -36,7 +36,9 @@ impl Model for Request {
 
     ghost view = { λ r. record { tag = r.tag; op = r.op; block = r.block; offset = r.offset; size = r.size; bytes = r.bytes.items } };
 
-    ghost invariant = { λ r. let request : model.Request = record { tag = r.tag; op = r.op; block = r.block; offset = r.offset; size = r.size; bytes = r.bytes.items } in IsSound request };
+    ghost invariant = { λ r.
+        let request : model.Request = record { tag = r.tag; op = r.op; block = r.block; offset = r.offset; size = r.size; bytes = r.bytes.items } in
+        IsSound request };
 }
 
 /// A request that missed, and its value where it is a load.

@@ -63,7 +63,8 @@ impl PlainSlice {
 
     /// The oldest request of the port, where the port exists and that request has the tag.
     pub(crate) fn head(&self, port: u8, tag: u8) -> Option<&Request>
-        ensures { let queue = queue_at self.now.queues.items port in let is = nat_lt port (length self.now.queues.items) && is_head queue tag in MatchOption result (is ≡ false) (λ request. (is ≡ true) × (request.now ≡ oldest queue)) }
+        ensures { let queue = queue_at self.now.queues.items port in let is = nat_lt port (length self.now.queues.items) && is_head queue tag in
+            MatchOption result (is ≡ false) (λ request. (is ≡ true) × (request.now ≡ oldest queue)) }
     {
         let queue = self.queues.get(port as usize)?;
         queue.head(tag)
@@ -107,7 +108,9 @@ impl PlainSlice {
 
     /// The first reply that is ready for the port and tag.
     pub(crate) fn ready_for(&self, port: u8, tag: u8) -> Option<&Ready>
-        ensures { let ready = self.now.ready.items in MatchOption result (list_any (is_ready_for port tag) ready ≡ false) (λ r. (list_any (is_ready_for port tag) ready ≡ true) × (r.now.value ≡ first_ready ready port tag)) }
+        ensures { let ready = self.now.ready.items in
+            MatchOption result (list_any (is_ready_for port tag) ready ≡ false)
+            (λ r. (list_any (is_ready_for port tag) ready ≡ true) × (r.now.value ≡ first_ready ready port tag)) }
     {
         self.ready_entry(port, tag)
     }

@@ -92,7 +92,8 @@ impl Walk {
         requires { IsShape shape.now }
         ensures walk { IfOk result (λ walk. IsWalk walk (lists_of logs.now)) }
         ensures shape { IfOk result (λ walk. walk.machine.shape ≡ shape.now) }
-        ensures answer { IfOk result (λ walk. (order : List ℕ) → walked walk (lists_of logs.now) 0 order ≡ recheck_of shape.now (flat_memory memory.now.items) (lists_of logs.now) order) }
+        ensures answer { IfOk result (λ walk. (order : List ℕ) →
+            walked walk (lists_of logs.now) 0 order ≡ recheck_of shape.now (flat_memory memory.now.items) (lists_of logs.now) order) }
         ensures left { IfOk result (λ walk. left_of walk.places.items (lists_of logs.now) ≡ lists_of logs.now) }
         ensures next { IfOk result (λ walk. (bank : ℕ) → slice_index walk.next.items bank ≡ 0) }
     {
@@ -104,13 +105,13 @@ impl Walk {
     }
 
     /// The answer to the rest of an order, from its first place on.
-    pub(crate) fn follow(mut self, logs: &Logs, order: &[u8]) -> Result<Recheck, NoMemory>
-        requires walk { IsWalk self (lists_of logs.now) }
-        requires fits { All (λ log. All (Fits self.machine.shape) log.items) logs.now.items }
+    pub(crate) fn follow(&mut self, logs: &Logs, order: &[u8]) -> Result<Recheck, NoMemory>
+        requires walk { IsWalk self.old (lists_of logs.now) }
+        requires fits { All (λ log. All (Fits self.old.machine.shape) log.items) logs.now.items }
         requires short { (log : ℕ) → length (log_at (lists_of logs.now) log) < 2 ^ 32 }
-        requires few { count_left (left_of self.places.items (lists_of logs.now)) ≤ 2 ^ 29 }
-        requires next { (bank : ℕ) → slice_index self.next.items bank ≡ 0 }
-        ensures { IfOk result (λ answer. answer ≡ walked self (lists_of logs.now) 0 order.now) }
+        requires few { count_left (left_of self.old.places.items (lists_of logs.now)) ≤ 2 ^ 29 }
+        requires next { (bank : ℕ) → slice_index self.old.next.items bank ≡ 0 }
+        ensures { IfOk result (λ answer. answer ≡ walked self.old (lists_of logs.now) 0 order.now) }
     {
         let mut place: u32 = 0;
         for log in order {
@@ -130,7 +131,8 @@ impl Walk {
     /// The next record of the log.
     fn record<'a>(&self, logs: &'a Logs, log: usize) -> Option<&'a Record>
         requires { length self.now.places.items ≡ length logs.now.items }
-        ensures { let left = log_at (left_of self.now.places.items (lists_of logs.now)) log in MatchOption result (left ≡ []) (λ item. (left ≡ item.now ∷ drop 1 left) × (log < length logs.now.items)
+        ensures { let left = log_at (left_of self.now.places.items (lists_of logs.now)) log in
+            MatchOption result (left ≡ []) (λ item. (left ≡ item.now ∷ drop 1 left) × (log < length logs.now.items)
             × (slice_index self.now.places.items log < length (log_at (lists_of logs.now) log)) × Contains (log_at (lists_of logs.now) log) item.now) }
     {
         if log >= logs.len() {
@@ -158,8 +160,10 @@ impl Walk {
         requires fits { All (λ log. All (Fits self.old.machine.shape) log.items) logs.now.items }
         requires short { (log : ℕ) → length (log_at (lists_of logs.now) log) < 2 ^ 32 }
         requires few { (bank : ℕ) → slice_index self.old.next.items bank + 1 < 2 ^ 32 }
-        ensures answer { IfOk result (λ taken. (place : ℕ) (order : List ℕ) → walked self.old (lists_of logs.now) place (log ∷ order) ≡ decided taken place (walked self.new (lists_of logs.now) (place + 1) order)) }
-        ensures count { IfOk result (λ taken. taken ≡ Next → count_left (left_of self.new.places.items (lists_of logs.now)) + 1 ≡ count_left (left_of self.old.places.items (lists_of logs.now))) }
+        ensures answer { IfOk result (λ taken. (place : ℕ) (order : List ℕ) →
+            walked self.old (lists_of logs.now) place (log ∷ order) ≡ decided taken place (walked self.new (lists_of logs.now) (place + 1) order)) }
+        ensures count { IfOk result (λ taken. taken ≡ Next →
+            count_left (left_of self.new.places.items (lists_of logs.now)) + 1 ≡ count_left (left_of self.old.places.items (lists_of logs.now))) }
         ensures next { OnOk result ((bank : ℕ) → slice_index self.new.next.items bank ≤ slice_index self.old.next.items bank + 1) }
         ensures walk { OnOk result (IsWalk self.new (lists_of logs.now)) }
         ensures shape { OnOk result (self.new.machine.shape ≡ self.old.machine.shape) }

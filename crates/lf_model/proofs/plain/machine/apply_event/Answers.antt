@@ -22,17 +22,5 @@ returns-in-Fill1-clause-slice c = rw c.in-Fill1.is (c.fill1.ensures.slice c.args
 pub returns-in-Evict1-clause-slice : goal.returns-in-Evict1-clause-slice
 returns-in-Evict1-clause-slice c = rw c.in-Evict1.is (c.evict1.ensures.slice (flat_of c.args.memory.now) c.args.item.now.log c.in-Evict1.bytes)
 
-pub returns-in-Fill2-clause-slice : goal.returns-in-Fill2-clause-slice
-returns-in-Fill2-clause-slice c = rw c.in-Fill2.is (c.fill2.ensures.slice (flat_of c.args.memory.now) c.args.item.now.log c.in-Fill2.bytes)
-
-pub returns-in-SecondHit-clause-slice : goal.returns-in-SecondHit-clause-slice
-returns-in-SecondHit-clause-slice c = rw c.in-SecondHit.is (c.second_hit.ensures.slice c.args.shape.now (flat_of c.args.memory.now) c.args.item.now.log)
-
-pub returns-in-SecondPrimary-clause-slice : goal.returns-in-SecondPrimary-clause-slice
-returns-in-SecondPrimary-clause-slice c = rw c.in-SecondPrimary.is (c.second_miss.ensures.primary (flat_of c.args.memory.now) c.args.item.now.log)
-
-pub returns-in-Evict2-clause-slice : goal.returns-in-Evict2-clause-slice
-returns-in-Evict2-clause-slice c = rw c.in-Evict2.is (c.evict2.ensures.slice c.args.shape.now (flat_of c.args.memory.now) c.args.item.now.log c.in-Evict2.masks c.in-Evict2.bytes)
-
-pub returns-in-SecondMerge-clause-slice : goal.returns-in-SecondMerge-clause-slice
-returns-in-SecondMerge-clause-slice c = rw c.in-SecondMerge.is (c.second_miss-in-SecondMerge.ensures.merge (flat_of c.args.memory.now) c.args.item.now.log)
+pub returns-in_default-clause-slice : goal.returns-in_default-clause-slice
+returns-in_default-clause-slice c = c.apply_level_two.ensures.slice (flat_of c.args.memory.now)

@@ -17,29 +17,14 @@ returns-in-Merge c = rw c.in-Merge.is (c.judge_merge.ensures (busy_of c.args.bus
 pub returns-in-Stall : goal.returns-in-Stall
 returns-in-Stall c = rw c.in-Stall.is (c.judge_stall.ensures (busy_of c.args.busy.now c.args.item.now.log) c.args.item.now.log c.args.item.now.bank)
 
-pub returns-in-SecondHit : goal.returns-in-SecondHit
-returns-in-SecondHit c = rw c.in-SecondHit.is (c.judge_second_hit.ensures (busy_of c.args.busy.now c.args.item.now.log) c.args.item.now.log c.args.item.now.bank)
-
-pub returns-in-SecondPrimary : goal.returns-in-SecondPrimary
-returns-in-SecondPrimary c = rw c.in-SecondPrimary.is (c.judge_second_primary.ensures (busy_of c.args.busy.now c.args.item.now.log) c.args.item.now.log c.args.item.now.bank)
-
-pub returns-in-SecondStall : goal.returns-in-SecondStall
-returns-in-SecondStall c = rw c.in-SecondStall.is (c.judge_second_stall.ensures (busy_of c.args.busy.now c.args.item.now.log) c.args.item.now.log c.args.item.now.bank)
-
 pub returns-in-Fill1 : goal.returns-in-Fill1
 returns-in-Fill1 c = rw c.in-Fill1.is (rw (← c.fill1_agrees-agrees.ensures) (c.judge_fill1.ensures (busy_of c.args.busy.now c.args.item.now.log) c.args.item.now.log c.args.item.now.bank c.in-Fill1.bytes))
-
-pub returns-in-Fill2 : goal.returns-in-Fill2
-returns-in-Fill2 c = rw c.in-Fill2.is (rw (← c.fill2_agrees-agrees.ensures) (c.judge_fill2.ensures (busy_of c.args.busy.now c.args.item.now.log) c.args.item.now.log c.args.item.now.bank c.in-Fill2.bytes))
 
 pub returns-in-Evict1 : goal.returns-in-Evict1
 returns-in-Evict1 c = rw c.in-Evict1.is (rw (← c.evict1_agrees-agrees.ensures (slice_of c.args.slice.now)) (c.judge_evict1.ensures (busy_of c.args.busy.now c.args.item.now.log) c.args.item.now.log c.args.item.now.bank c.in-Evict1.bytes))
 
-pub returns-in-Evict2 : goal.returns-in-Evict2
-returns-in-Evict2 c = rw c.in-Evict2.is (rw (← c.evict2_agrees-agrees.ensures (slice_of c.args.slice.now)) (c.judge_evict2.ensures (busy_of c.args.busy.now c.args.item.now.log) c.args.item.now.log c.args.item.now.bank c.in-Evict2.bytes))
-
 pub returns-in-Fence : goal.returns-in-Fence
 returns-in-Fence c = rw c.in-Fence.is (c.judge_fence.ensures true (slice_of c.args.slice.now) c.args.item.now.bank)
 
-pub returns-in-SecondMerge : goal.returns-in-SecondMerge
-returns-in-SecondMerge c = rw c.in-SecondMerge.is (c.judge_second_merge.ensures (busy_of c.args.busy.now c.args.item.now.log) c.args.item.now.log c.args.item.now.bank)
+pub returns-in_default : goal.returns-in_default
+returns-in_default c = c.judge_level_two.ensures (busy_of c.args.busy.now c.args.item.now.log)
