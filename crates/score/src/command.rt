@@ -29,7 +29,11 @@ The status is 0 for yes, 1 for no and 2 for refused. Ports, banks, places and nu
 
 CONFIG is a TOML document with the keys ports, banks, block (bytes) and tags (of each port), and the
 tables level1 and level2 with the keys sets, ways, organisation (\"implicit\", \"explicit\" or
-\"inverted\"), registers (not for inverted) and entries (only for explicit).";
+\"inverted\"), registers (not for inverted) and entries (only for explicit). level2 may have the key
+blocks (level2.blocks): of how many first-level blocks its blocks are, 1, 2 or 4. Without it that is 1.
+
+TRACE is of version 1, 2 or 3 of the format. Version 2 adds fences and longer logs, version 3 blocks of
+level two that have 2 or 4 blocks.";
 
 /// A command, with the words that it was given.
 #[derive(Clone, Copy, Debug, PartialEq, Eq)]

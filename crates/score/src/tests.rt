@@ -7,3 +7,4 @@ mod hostile;
 mod notation;
 mod program;
 mod streams;
+mod versions;

@@ -31,6 +31,17 @@ const LEVEL2: &str =
 /// The configuration of `SMALL`, in its parts.
 pub const SMALL_TEXT: [&str; 6] = [PORTS, BANKS, BLOCK, TAGS, LEVEL1, LEVEL2];
 
+/// `SMALL_TEXT` with blocks of level two that have two blocks. Level one has two ways and two registers,
+/// level two has two entries in its register.
+pub const WIDE_TEXT: [&str; 6] = [
+    PORTS,
+    BANKS,
+    BLOCK,
+    TAGS,
+    "[level1]\nsets = 1\nways = 2\norganisation = \"explicit\"\nregisters = 2\nentries = 2\n",
+    "[level2]\nsets = 1\nways = 2\norganisation = \"explicit\"\nregisters = 1\nentries = 2\nblocks = 2\n",
+];
+
 /// A text of these parts.
 fn joined(alloc: Global, parts: &[&str]) -> Result<String, AllocError> {
     let mut text = String::new(alloc);
@@ -100,7 +111,9 @@ fn lines_of_configuration_faults(rt: HostRuntime) -> Result<(), Fail> {
     let of_level = [PORTS, BANKS, BLOCK, TAGS, LEVEL1, "size = 1\n", LEVEL2];
     assert_unread(&rt, &of_level, 1, "refused config Unknown level1.size\n")?;
     let level = [PORTS, BANKS, BLOCK, TAGS, LEVEL1, "[level2]\nsets = 1\n"];
-    assert_unread(&rt, &level, 1, "refused config Missing level2.ways\n")
+    assert_unread(&rt, &level, 1, "refused config Missing level2.ways\n")?;
+    let three = [PORTS, BANKS, BLOCK, TAGS, LEVEL1, LEVEL2, "blocks = 3\n"];
+    assert_unread(&rt, &three, 1, "refused config Range level2.blocks\n")
 }
 
 #[test]
@@ -170,7 +183,9 @@ fn headers_of_other_configurations(rt: HostRuntime) -> Result<(), Fail> {
     let banks = [PORTS, "banks = 2\n", BLOCK, TAGS, LEVEL1, LEVEL2];
     assert_configured(&rt, &banks, bytes, 1, "refused header Banks\n")?;
     let ports = ["ports = 2\n", BANKS, "block = 16\n", TAGS, LEVEL1, LEVEL2];
-    assert_configured(&rt, &ports, bytes, 1, "refused header Ports\n")
+    assert_configured(&rt, &ports, bytes, 1, "refused header Ports\n")?;
+    let factor = [PORTS, BANKS, BLOCK, TAGS, LEVEL1, LEVEL2, "blocks = 4\n"];
+    assert_configured(&rt, &factor, bytes, 1, "refused header Factor\n")
 }
 
 #[test]

@@ -36,7 +36,10 @@ fn assert_changed<T: Abort + AllocGlobal>(
 fn changed_inputs(rt: HostRuntime) -> Result<(), Fail> {
     for (at, byte, line) in [
         (0, 0x4d, "refused format Magic at=0\n"),
-        (4, 2, "refused format Version at=0\n"),
+        (4, 0, "refused format Version at=0\n"),
+        (4, 2, "yes events=0\n"),
+        (4, 3, "refused format HeaderRange at=0\n"),
+        (4, 4, "refused format Version at=0\n"),
         (20, 1, "refused format Count at=16\n"),
     ] {
         assert_changed(&rt, &[], at, byte, line)?;

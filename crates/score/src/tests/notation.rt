@@ -6,7 +6,7 @@ ghost use Rattle.lf_model.specs.InRange.{IsShape};
 use crate::counted::Counted;
 use crate::engine::run_shape;
 use crate::tests::streams::Pieces;
-use lf_model::Shape;
+use lf_model::{NO_BANK, Shape};
 use std::alloc::{AllocError, Global};
 use std::process::Abort;
 use std::test::Fail;
@@ -48,6 +48,12 @@ pub enum E {
     F2(u32, Hex),
     /// Eviction from level two: block, mask, bytes.
     E2(u32, u64, Hex),
+    /// Eviction from level two of a block of two blocks: block, the mask of each of them, bytes.
+    E2W(u32, u64, u64, Hex),
+    /// Merge of level two: block, register.
+    SM(u32, u16),
+    /// Fence.
+    F,
 }
 
 /// A trace as bytes.
@@ -55,6 +61,8 @@ pub enum E {
 pub struct Trace {
     bytes: Vec<u8>,
     count: u32,
+    /// How many of `events` have a number.
+    numbered: u32,
 }
 
 fn digit(c: u8) -> u8
@@ -68,7 +76,7 @@ fn digit(c: u8) -> u8
 }
 
 impl Trace {
-    /// The header.
+    /// A header of version 1.
     pub fn new(
         alloc: Global,
         ports: u8,
@@ -76,12 +84,30 @@ impl Trace {
         block: u8,
         memory_count: u8,
     ) -> Result<Self, AllocError> {
+        let rest = [1, 0, ports, banks, block, 0, 0, 0, memory_count, 0, 0, 0];
+        Trace::with_header(alloc, rest)
+    }
+
+    /// A header of any version, with blocks of 8 bytes and no memory.
+    pub fn of_version(
+        alloc: Global,
+        version: u8,
+        ports: u8,
+        banks: u8,
+        factor: u8,
+    ) -> Result<Self, AllocError> {
+        let rest = [version, 0, ports, banks, 8, 0, factor, 0, 0, 0, 0, 0];
+        Trace::with_header(alloc, rest)
+    }
+
+    fn with_header(alloc: Global, rest: [u8; 12]) -> Result<Self, AllocError> {
         let mut trace = Trace {
             bytes: Vec::new(alloc),
             count: 0,
+            numbered: 0,
         };
         trace.put(b"LFTS")?;
-        trace.put(&[1, 0, ports, banks, block, 0, 0, 0, memory_count, 0, 0, 0])?;
+        trace.put(&rest)?;
         Ok(trace)
     }
 
@@ -120,6 +146,12 @@ impl Trace {
         self.hex(bytes)
     }
 
+    fn second(&mut self, block: u32, register: u16) -> Result<(), AllocError> {
+        self.put(&block.to_le_bytes())?;
+        self.put(&register.to_le_bytes())?;
+        self.put(&[0, 0])
+    }
+
     fn parts(&mut self, event: E) -> Result<(), AllocError> {
         match event {
             E::L(tag, size, address) => self.issue(0, tag, size, address),
@@ -143,11 +175,14 @@ impl Trace {
                 self.eviction(block, mask, bytes)
             }
             E::SH(block) | E::SS(block) => self.put(&block.to_le_bytes()),
-            E::SP(block, register) => {
+            E::E2W(block, first, second, bytes) => {
                 self.put(&block.to_le_bytes())?;
-                self.put(&register.to_le_bytes())?;
-                self.put(&[0, 0])
+                self.put(&first.to_le_bytes())?;
+                self.put(&second.to_le_bytes())?;
+                self.hex(bytes)
             }
+            E::SP(block, register) | E::SM(block, register) => self.second(block, register),
+            E::F => Ok(()),
         }
     }
 
@@ -159,14 +194,19 @@ impl Trace {
         self.parts(event)
     }
 
-    /// The events of port 0 and bank 0, in the order of their numbers.
+    /// The events of port 0 and bank 0, in the order of their numbers. A fence has none.
     pub fn events(&mut self, events: &[E]) -> Result<(), AllocError> {
         for event in events {
             let log = match event {
+                E::F => {
+                    self.record(0, NO_BANK, 0, *event)?;
+                    continue;
+                }
                 E::L(..) | E::S(..) | E::R(..) => 0,
                 _ => 1,
             };
-            self.record(log, 0, self.count, *event)?;
+            self.record(log, 0, self.numbered, *event)?;
+            self.numbered = self.numbered.saturating_add(1);
         }
         Ok(())
     }
@@ -176,7 +216,7 @@ impl Trace {
         let count = self.count;
         self.put(&[0, 0, 0, 0])?;
         self.put(&count.to_le_bytes())?;
-        let Trace { bytes, count: _ } = self;
+        let Trace { bytes, .. } = self;
         Ok(bytes)
     }
 }
@@ -195,7 +235,9 @@ fn kind_of(event: E) -> u8 {
         E::SP(..) => 10,
         E::SS(..) => 11,
         E::F2(..) => 12,
-        E::E2(..) => 13,
+        E::E2(..) | E::E2W(..) => 13,
+        E::F => 14,
+        E::SM(..) => 15,
     }
 }
 

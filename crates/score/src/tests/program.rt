@@ -109,6 +109,8 @@ fn help_is_asked_for(rt: HostRuntime) -> Result<(), Fail> {
             text.contains("The status is 0 for yes, 1 for no and 2 for refused."),
             "{line}"
         );
+        assert!(rt; text.contains("blocks (level2.blocks)"), "{line}");
+        assert!(rt; text.contains("version 1, 2 or 3"), "{line}");
     }
     Ok(())
 }

@@ -1,0 +1,45 @@
+//! Worked examples of the later versions.
+
+use super::assert_fault;
+use crate::{CodecCause, Reader};
+use std::test::Fail;
+
+/// A load issue in log 0.
+const LOAD: [u8; 20] = [
+    0x01, 0x00, 0x00, 0x00, 0x00, 0x00, 0x00, 0x00, 0x00, 0x00, 0x08, 0x00, 0x00, 0x00, 0x00, 0x00,
+    0x00, 0x00, 0x00, 0x00,
+];
+
+/// A header of version 2, 2^20 loads, and one more.
+#[test]
+fn longer_logs(rt: HostRuntime) -> Result<(), Fail> {
+    let header = [
+        0x4c, 0x46, 0x54, 0x53, 0x02, 0x00, 0x01, 0x01, 0x08, 0x00, 0x00, 0x00, 0x00, 0x00, 0x00,
+        0x00,
+    ];
+    let mut many = Vec::new(rt.alloc());
+    for _ in 0..1024 {
+        many.extend_from_slice(&LOAD)?;
+    }
+    let mut reader = Reader::new(rt.alloc());
+    reader.feed(&header)?;
+    for _ in 0..1024 {
+        reader.feed(&many)?;
+        for _ in 0..1024 {
+            let _ = reader.take();
+        }
+    }
+    assert_eq!(rt; reader.feed(&LOAD), Ok(()));
+    Ok(())
+}
+
+/// The load's block is the second of a second-level block of bank 0.
+#[test]
+fn bank_by_wide_block(rt: HostRuntime) {
+    let trace = [
+        0x4c, 0x46, 0x54, 0x53, 0x03, 0x00, 0x01, 0x02, 0x08, 0x00, 0x02, 0x00, 0x00, 0x00, 0x00,
+        0x00, 0x01, 0x00, 0x01, 0x00, 0x00, 0x00, 0x00, 0x00, 0x00, 0x00, 0x08, 0x00, 0x08, 0x00,
+        0x00, 0x00, 0x00, 0x00, 0x00, 0x00,
+    ];
+    assert_fault(&rt, rt.alloc(), &trace, CodecCause::WrongBank, 16);
+}
