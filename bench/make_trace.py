@@ -4,6 +4,7 @@ size, for benchmarks and as an example of how a model of your own records a trac
 
     make_trace.py --events 100000 --ports 4 --banks 4 --out big.lfts --config big.toml
     make_trace.py --version 3 --factor 2 --out wide.lfts --config wide.toml
+    make_trace.py --log-by-log --out logs.lfts --config logs.toml
 
 In versions 2 and 3 a port drains its tags now and then and records a fence. In version 3 a block of
 level two may be 2 or 4 blocks of level one. Both levels hold copies of the bytes, as a cache does.
@@ -92,15 +93,17 @@ class Recorder:
         spelled = struct.pack(f"<I{len(masks)}Q", second, *masks)
         self.by_bank(13, bank, spelled + b"".join(masked(data, mask) for data, mask in zip(parts, masks)))
 
-    def write(self, path, memory):
-        """Writes the trace. `memory` has the bytes of each block that is not zero at first."""
+    def write(self, path, memory, log_by_log=False):
+        """Writes the trace. `memory` has the bytes of each block that is not zero at first. The records
+        stand in the order in which they happened, or those of each log together."""
         factor = self.factor if self.version == 3 else 0
         header = b"LFTS" + struct.pack("<HBBHHI", self.version, self.ports, self.banks, self.block, factor, len(memory))
         with open(path, "wb") as out:
             out.write(header)
             for block in sorted(memory):
                 out.write(struct.pack("<I", block) + bytes(memory[block]))
-            out.write(b"".join(self.records))
+            records = sorted(self.records, key=lambda record: record[1]) if log_by_log else self.records
+            out.write(b"".join(records))
             out.write(struct.pack("<BBBBI", 0, 0, 0, 0, len(self.records)))
 
 
@@ -389,6 +392,7 @@ def main():
     parser.add_argument("--factor", type=int, default=1, choices=(1, 2, 4), help="how many blocks a second-level block has")
     parser.add_argument("--fences", type=int, default=50, metavar="N", help="from version 2 on a port records a fence "
                         "after about N issues, and none where N is 0")
+    parser.add_argument("--log-by-log", action="store_true", help="write the records of each log together")
     parser.add_argument("--out", required=True, help="the trace to write")
     parser.add_argument("--config", help="the configuration to write")
     for name, default in (("ports", 4), ("banks", 4), ("block", 32), ("tags", 16)):
@@ -405,7 +409,7 @@ def main():
     if shape.version == 1:
         shape.fences = 0
     recorder, memory = run(shape, shape.events, shape.footprint, shape.seed)
-    recorder.write(shape.out, memory)
+    recorder.write(shape.out, memory, shape.log_by_log)
     if shape.config:
         with open(shape.config, "w") as out:
             out.write(configuration(shape))
