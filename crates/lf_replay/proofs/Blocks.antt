@@ -1,5 +1,5 @@
 -- What each change of a list leaves at a block.
-use Rattle.std.proofs.Common.{◌≡◌, ℕ, Bool, true, false, cond, not, ◌||◌, ◌==◌, List, [], ◌∷◌, ◌++◌, Option, Some, None, is_some, refl, sym, ap, ◌∙◌, eqb-true, eq-eqb, ne_eqb, Ordering, Less, Equal, Greater}
+use Rattle.std.proofs.Common.{◌≡◌, ℕ, Bool, true, false, cond, not, ◌||◌, ◌==◌, List, [], ◌∷◌, ◌++◌, Some, None, is_some, refl, sym, ap, ◌∙◌, eqb-true, eq-eqb, ne_eqb, Ordering, Less, Equal, Greater}
 use mathlib.Core.Path.{ap₂}
 use Rattle.std.specs.Ordering.{nat_cmp, eq_by_cmp, match_ordering}
 use Rattle.std.specs.Cmp.{nat_cmp_total, unsigned_tied, ranked}

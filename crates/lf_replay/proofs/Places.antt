@@ -1,5 +1,5 @@
 -- Targets of level two, and masks of a second-level block.
-use Rattle.std.proofs.Common.{◌≡◌, ℕ, zero, suc, ◌-◌, ◌<◌, Bool, true, false, cond, not, ◌&&◌, ◌+◌, ◌||◌, ◌==◌, List, [], ◌∷◌, ◌++◌, map, length, replicate, get_or, refl, sym, ap, ◌∙◌, eqb-true, eq-eqb, ne_eqb, arith}
+use Rattle.std.proofs.Common.{◌≡◌, ℕ, zero, suc, ◌-◌, ◌<◌, Bool, true, false, cond, not, ◌&&◌, ◌+◌, ◌||◌, ◌==◌, List, [], ◌∷◌, ◌++◌, map, replicate, get_or, refl, sym, ap, ◌∙◌, eqb-true, eq-eqb, ne_eqb, arith}
 use mathlib.Core.Path.{ap₂}
 use Rattle.std.specs.Prelude.{bit_or, slice_set}
 use Rattle.std.specs.List.{range_with_len, list_all, list_any}
@@ -7,7 +7,7 @@ use Rattle.std.specs.Int.Bits.{or_zero_r}
 use Rattle.std.proofs.lemmas.Bool.{both_ways, eqb-false}
 use Rattle.lf_model.specs.declared.mask.Mask.{Mask}
 use Rattle.lf_model.specs.declared.shape.Shape.{Shape}
-use Rattle.lf_model.specs.Address.{Masks, second_of, clean_mask, mask_at}
+use Rattle.lf_model.specs.Address.{Masks, second_of, clean_mask}
 use Rattle.lf_model.specs.Fits.{is_factor}
 use Rattle.lf_model.specs.Lines.{marked}
 use Rattle.lf_model.specs.Registers.{Held, targets_of, released}

@@ -1,5 +1,5 @@
 -- Runs of a bank, one record longer.
-use Rattle.std.proofs.Common.{◌≡◌, ℕ, zero, suc, ◌<◌, List, [], ◌∷◌, ◌++◌, length, get_or, take, drop, drop-cons, ◌+◌, Some, None, Result, Ok, Err, refl, sym, ap, ◌∙◌, subst, arith, cond, eq-eqb, ◌%◌}
+use Rattle.std.proofs.Common.{◌≡◌, ℕ, zero, suc, ◌<◌, List, [], ◌∷◌, ◌++◌, length, get_or, take, drop, drop-cons, ◌+◌, Some, None, Result, Ok, Err, refl, sym, ap, ◌∙◌, subst, arith, cond, eq-eqb}
 use mathlib.Core.Path.{ap₂, fun_ext}
 use Rattle.std.specs.List.{AllByRecursion, range_with_len}
 use Rattle.std.proofs.lemmas.List.{get_or-map, take_more, take-append-drop, length-take-le, length-append, map-append}

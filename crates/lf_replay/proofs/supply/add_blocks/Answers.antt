@@ -1,4 +1,4 @@
-use Rattle.std.proofs.Common.{◌≡◌, ◌<◌, ◌∙◌, sym, ap, refl, subst, length, append-nil, arith}
+use Rattle.std.proofs.Common.{◌<◌, ◌∙◌, sym, ap, refl, subst, length, append-nil, arith}
 use Rattle.std.proofs.lemmas.List.{length_push}
 use Rattle.lf_model.specs.Address.{sub_block}
 use Rattle.lf_replay.proofs.Places.{factor_some}

@@ -1,4 +1,4 @@
-use Rattle.std.proofs.Common.{◌≡◌, ℕ, List, ◌+◌, ◌++◌, take, map, length}
+use Rattle.std.proofs.Common.{◌≡◌, List, ◌+◌, ◌++◌, take, map, length}
 use Rattle.std.specs.Prelude.{vec_capacity}
 use Rattle.lf_model.specs.Registers.{Held, targets_of}
 use Rattle.lf_model.specs.State.{Asked}

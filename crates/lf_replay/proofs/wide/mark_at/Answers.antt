@@ -1,4 +1,4 @@
-use Rattle.std.proofs.Common.{◌≡◌, ◌∙◌, List, ap}
+use Rattle.std.proofs.Common.{◌∙◌, List, ap}
 use Rattle.lf_model.specs.declared.mask.Mask.{Mask}
 use Rattle.lf_model.specs.Address.{Masks}
 use Rattle.lf_model.specs.Lines.{dirty_masks}

@@ -1,4 +1,4 @@
-use Rattle.std.proofs.Common.{◌≡◌, ◌∙◌, true, sym, subst}
+use Rattle.std.proofs.Common.{◌≡◌, true, sym, subst}
 use Rattle.lf_model.specs.Lines.{has_line}
 use Rattle.lf_replay.specs.View.{kept}
 use Rattle.lf_replay.proofs.Keeping.{inner}

@@ -1,4 +1,4 @@
-use Rattle.std.proofs.Common.{◌≡◌, true, ◌∙◌, sym, refl, rules}
+use Rattle.std.proofs.Common.{◌∙◌, sym, refl, rules}
 use Rattle.lf_model.specs.declared.rule.Rule.TheVariants.{NotFetched, SetFull, FillData}
 use Rattle.lf_levels.specs.LineTable.{wide_set}
 use Rattle.lf_replay.specs.View.{kept}

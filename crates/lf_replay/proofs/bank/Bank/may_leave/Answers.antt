@@ -1,4 +1,4 @@
-use Rattle.std.proofs.Common.{◌≡◌, ℕ, Bool, not, ◌&&◌, ◌∙◌, ap, sym}
+use Rattle.std.proofs.Common.{not, ◌&&◌, ◌∙◌}
 use mathlib.Core.Path.{ap₂}
 use Rattle.lf_model.specs.Address.{sub_block}
 use Rattle.lf_model.specs.Lines.{has_line}

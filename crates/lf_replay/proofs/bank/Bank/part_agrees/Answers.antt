@@ -1,5 +1,4 @@
-use Rattle.std.proofs.Common.{◌≡◌, ℕ, List, map, length, sym, ap, ◌∙◌, subst}
-use Rattle.std.specs.List.{range_with_len}
+use Rattle.std.proofs.Common.{◌≡◌, ℕ, List, length, ap, ◌∙◌, subst}
 use Rattle.lf_model.specs.Address.{part_at, agree_off, block_bytes}
 use Rattle.lf_model.specs.Table.{store_bytes}
 use Rattle.lf_model.proofs.Wide.{part_len}

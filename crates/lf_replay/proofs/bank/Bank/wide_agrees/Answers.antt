@@ -1,8 +1,6 @@
-use Rattle.std.proofs.Common.{ℕ, Bool, List, sym, ap, ◌∙◌, inl, inr, arith}
+use Rattle.std.proofs.Common.{ℕ, Bool, sym, ap, ◌∙◌, inl, inr, arith}
 use Rattle.std.proofs.lemmas.Bool.{cases_eq}
 use Rattle.lf_model.specs.Address.{sub_block, part_at, block_bytes, agree_off}
-use Rattle.lf_model.specs.Registers.{Held}
-use Rattle.lf_model.specs.State.{Missed}
 use Rattle.lf_model.specs.Table.{store_bytes}
 use Rattle.lf_model.proofs.Masks.{all_range}
 use Rattle.lf_model.proofs.BusyTags.{not_all}
