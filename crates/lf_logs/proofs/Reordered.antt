@@ -275,10 +275,6 @@ apart_at k q other = grind (arith, nat_tests)
 
 -- ---- what is missing, and what is double
 
-pub nothing_early : {X : Type 0} (es : List (ℕ × X)) → (0 < length es → ⊥) → (m : ℕ) → is_some (lookup (is_at (nat_cmp m)) es) ≡ true → ⊥
-nothing_early [] none m there = absurd (cc)
-nothing_early (e ∷ es) none m there = none (omega arith)
-
 module _ (o : Reordering) (put gave : List Record) (has : HasOrdered o put gave) where
   came-times : (m : ℕ) → 0 < times m (numbers_of put) → is_some (first_with m put) ≡ true
   came-times m some = ⊎_elim
@@ -344,9 +340,6 @@ whole_from_none numbers missing double k h = below (length numbers) (omega arith
         (λ (e : k ≡ n). ap (λ m. times m numbers) e ∙ here n (omega arith) (below n (omega arith)))
         (λ (other : k ≡ n → ⊥). below n (omega arith) k (omega arith))
         (cases_eq k n)
-
-pub not_above : (n m : ℕ) → is_lt (nat_cmp n m) ≡ false → m ≤ n
-not_above n m h = grind (arith, nat_tests)
 
 -- A record in its turn, where none of its number waits, is put in and given out at once.
 pub HasOrdered-pass : (o : Reordering) (put gave : List Record) → HasOrdered o put gave → (r : Record) (after : Reordering) → r.number < 2 ^ 32 → r.number ≡ o.next → o.ready ≡ None
