@@ -1,4 +1,4 @@
-use Rattle.std.proofs.Common.{◌≡◌, ◌*◌, ◌<◌, ◌%◌, ℕ, List, length, get_or, Option, Some, None, replicate, sym, ap, ◌∙◌, subst, rules, arith}
+use Rattle.std.proofs.Common.{◌≡◌, ℕ, List, length, get_or, Option, None, replicate, sym, ap, ◌∙◌, rules}
 use Rattle.std.proofs.lemmas.Bool.{eqb-true}
 use Rattle.lf_logs.proofs.EarlyLookups.{IsTable-first, free_places}
 use Rattle.lf_logs.proofs.early.make_room.Goals as goal

@@ -1,5 +1,5 @@
-use Rattle.std.proofs.Common.{◌≡◌, ◌*◌, ◌<◌, ◌%◌, ℕ, List, length, get_or, Option, Some, None, replicate, sym, ap, ◌∙◌, subst, rules, arith}
-use Rattle.lf_logs.proofs.EarlyLookups.{IsWidened, IsWidened-none, IsWidened-all, IsWidened-skip, IsWidened-more, free_places}
+use Rattle.std.proofs.Common.{◌≡◌, ◌*◌, ◌%◌, ℕ, List, length, get_or, Option, None, replicate, ap, ◌∙◌, rules, arith}
+use Rattle.lf_logs.proofs.EarlyLookups.{IsWidened-none, IsWidened-all, IsWidened-skip, IsWidened-more, free_places}
 use Rattle.lf_logs.proofs.early.widened.Goals as goal
 use Rattle.lf_logs.proofs.early.widened.Goals.{in-Some, in_default-place}
 

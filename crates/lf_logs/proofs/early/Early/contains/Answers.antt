@@ -1,4 +1,4 @@
-use Rattle.std.proofs.Common.{◌≡◌, ◌∙◌, sym, ap, refl, is_some}
+use Rattle.std.proofs.Common.{◌∙◌, sym, ap, is_some}
 use Rattle.lf_logs.proofs.EarlyLookups.{at, key-some, key-none, lookup-first, lookup-rest}
 use Rattle.lf_logs.proofs.early.Early.contains.Goals as goal
 

@@ -1,4 +1,4 @@
-use Rattle.std.proofs.Common.{◌≡◌, ◌<◌, ◌+◌, ◌%◌, ℕ, List, length, get_or, Option, Some, None, ◌∙◌, sym, ap, subst, refl, arith}
+use Rattle.std.proofs.Common.{◌≡◌, ◌+◌, ◌%◌, ℕ, List, length, get_or, Option, Some, None, ◌∙◌, sym, ap, subst, refl, arith}
 use Rattle.std.proofs.lemmas.List.{length-append}
 use Rattle.lf_logs.proofs.EarlyLookups.{at, not_kept, lookup-first, lookup-rest, lookup-parts, lookup-found, IsTable-remove, others-remove, length-numbered}
 use Rattle.lf_logs.specs.EarlyTable.{numbered}

@@ -1,5 +1,5 @@
-use Rattle.std.proofs.Common.{◌≡◌, ℕ, Some, sym, ap, ◌∙◌, subst, refl, arith}
-use Rattle.lf_logs.specs.Reordering.{Reordering, early_at, HasOrdered}
+use Rattle.std.proofs.Common.{◌≡◌, Some, sym, ap, ◌∙◌, arith}
+use Rattle.lf_logs.specs.Reordering.{Reordering, early_at}
 use Rattle.lf_logs.proofs.Reordered.{HasOrdered-double, HasOrdered-ready, HasOrdered-early}
 use Rattle.lf_logs.proofs.reorder.Reorder.put.Goals as goal
 
