@@ -95,7 +95,7 @@ impl Progress {
         self.least = u64::from(block) + 1;
     }
 
-    fn count(&mut self, n: u64, log: u8)
+    pub(crate) fn count(&mut self, n: u64, log: u8)
         requires room { self.old.position + n < 2 ^ 64 }
         requires log { log < 32 }
         requires one_more { self.old.count + 1 < 2 ^ 32 }

@@ -1,5 +1,6 @@
 mod BankLists
 mod Counting
+mod EarlyLookups
 pub mod GivenOut
 mod Joined
 mod Judged

@@ -1,16 +1,15 @@
 -- The records that are put in and given out in the order of their numbers, one more at a time.
-use Rattle.std.proofs.Common.{◌≡◌, ℕ, ◌+◌, ◌<◌, ◌≤◌, ◌^◌, zero, suc, Bool, true, false, cond, eqb, ltb, nat_lt, nat_le, ◌||◌, List, [], ◌∷◌, ◌++◌, map, length, get_or, Option, Some, None, is_some, IsSome, refl, sym, ap, ◌∙◌, subst, ◌⊎◌, inl, inr, ⊎_elim, arith, add-one, option_to_list}
+use Rattle.std.proofs.Common.{◌≡◌, ℕ, ◌+◌, ◌<◌, ◌≤◌, ◌^◌, zero, suc, Bool, true, false, cond, eqb, nat_lt, nat_le, ◌||◌, List, [], ◌∷◌, ◌++◌, length, Option, Some, None, is_some, refl, sym, ap, ◌∙◌, subst, ◌⊎◌, inl, inr, ⊎_elim, arith}
 use Rattle.std.specs.List.{AllByRecursion, slice_get}
 use Rattle.std.proofs.lemmas.Bool.Decides.{nat_tests}
-use Rattle.std.proofs.lemmas.Bool.{cases_eq, cases_Bool, cases_order, cond-true, cond-false, eq-eqb, ne_eqb, lt-ltb, le-ltb, ltb-false, ltb-true}
-use Rattle.std.proofs.lemmas.List.{append-nil, length-append}
+use Rattle.std.proofs.lemmas.Bool.{cases_eq, cases_Bool, cases_order, cond-true, cond-false, eq-eqb, ne_eqb, lt-ltb, le-ltb}
+use Rattle.std.proofs.lemmas.List.{length-append}
 use Rattle.std.specs.BTreeMap.{is_at}
-use Rattle.std.specs.Ordering.{nat_cmp, is_lt}
+use Rattle.std.specs.Ordering.{nat_cmp}
 use Rattle.lf_model.specs.declared.event.Record.{Record}
 use Rattle.lf_model.specs.Numbers.{numbers_of, times, IsMissing, IsDouble, IsWhole, IsFineBelow}
 use Rattle.lf_logs.specs.Reordering.{Reordering, first_with, early_at, ready_or, waiting_at, has_come, least_double, IsLeastDouble, HasOrdered}
-use Rattle.std.specs.Map.{lookup}
-use Rattle.lf_logs.proofs.Counting.{counts, one_if, none_if, times-cons, missing_at}
+use Rattle.lf_logs.proofs.Counting.{one_if, none_if, times-cons, missing_at}
 use Rattle.lf_logs.proofs.Tallying.{times_push}
 
 pub below_or : (a b : ℕ) → (a < b) ⊎ (b ≤ a)
@@ -275,10 +274,6 @@ apart_at k q other = grind (arith, nat_tests)
 
 -- ---- what is missing, and what is double
 
-pub nothing_early : {X : Type 0} (es : List (ℕ × X)) → (0 < length es → ⊥) → (m : ℕ) → is_some (lookup (is_at (nat_cmp m)) es) ≡ true → ⊥
-nothing_early [] none m there = absurd (cc)
-nothing_early (e ∷ es) none m there = none (omega arith)
-
 module _ (o : Reordering) (put gave : List Record) (has : HasOrdered o put gave) where
   came-times : (m : ℕ) → 0 < times m (numbers_of put) → is_some (first_with m put) ≡ true
   came-times m some = ⊎_elim
@@ -344,9 +339,6 @@ whole_from_none numbers missing double k h = below (length numbers) (omega arith
         (λ (e : k ≡ n). ap (λ m. times m numbers) e ∙ here n (omega arith) (below n (omega arith)))
         (λ (other : k ≡ n → ⊥). below n (omega arith) k (omega arith))
         (cases_eq k n)
-
-pub not_above : (n m : ℕ) → is_lt (nat_cmp n m) ≡ false → m ≤ n
-not_above n m h = grind (arith, nat_tests)
 
 -- A record in its turn, where none of its number waits, is put in and given out at once.
 pub HasOrdered-pass : (o : Reordering) (put gave : List Record) → HasOrdered o put gave → (r : Record) (after : Reordering) → r.number < 2 ^ 32 → r.number ≡ o.next → o.ready ≡ None

@@ -2,4 +2,5 @@ pub mod Lists
 pub mod Tags
 pub mod Places
 pub mod Tallies
+pub mod EarlyTable
 pub mod Reordering

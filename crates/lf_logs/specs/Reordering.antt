@@ -1,5 +1,5 @@
 -- The records of a bank, as they are put into the order of their numbers.
-use Rattle.std.specs.Prelude.{◌≡◌, ℕ, ◌<◌, ◌≤◌, ◌+◌, ◌^◌, option_to_list, nat_lt, nat_le, Bool, ◌==◌, ◌||◌, List, [], ◌∷◌, length, Option, Some, None, is_some, IsSome, slice_get, if◌then◌else◌}
+use Rattle.std.specs.Prelude.{◌≡◌, ℕ, ◌<◌, ◌≤◌, ◌+◌, ◌^◌, option_to_list, nat_lt, nat_le, Bool, true, ◌==◌, ◌||◌, List, [], ◌∷◌, length, Option, Some, None, is_some, IsSome, slice_get, if◌then◌else◌}
 use Rattle.std.specs.List.{AllByRecursion}
 use Rattle.std.specs.Map.{lookup}
 use Rattle.std.specs.BTreeMap.{is_at}
@@ -66,3 +66,8 @@ pub record HasOrdered (o : Reordering) (put gave : List Record) : Type 0 where
 pub record IsInTurn (next : ℕ) (ready : Option Record) : Type 0 where
   pub bound : next ≤ 2 ^ 32
   pub fits : IsSome ready → next < 2 ^ 32
+
+-- No number of a record that came before its turn is greater, and that of this number waits unless its turn is near.
+pub record IsGreatestEarly (next : ℕ) (early : List (ℕ × Record)) (greatest : ℕ) : Type 0 where
+  pub above : (m : ℕ) → is_some (lookup (is_at (nat_cmp m)) early) ≡ true → m ≤ greatest
+  pub waits : next < greatest → is_some (lookup (is_at (nat_cmp greatest)) early) ≡ true

@@ -3,6 +3,7 @@
 #![tactic(auto)]
 
 mod banks;
+mod early;
 mod logs;
 mod order;
 mod port;

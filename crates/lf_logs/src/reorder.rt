@@ -6,10 +6,10 @@ ghost use Rattle.lf_model.specs.Numbers.{numbers_of, times, IsMissing, IsWhole};
 ghost use Rattle.lf_logs.specs.Places.{IsNumberFault};
 ghost use Rattle.lf_logs.specs.Reordering.{first_with, early_at, waiting_at, waiting_count, has_come, least_double, HasOrdered};
 
+use crate::early::Early;
 use crate::order::NumberFault;
 use lf_model::{NoMemory, Record};
 use std::alloc::Global;
-use std::collections::BTreeMap;
 use std::marker::Model;
 
 /// Takes a bank's records as they come and gives them in the order of their numbers, each as soon as
@@ -22,19 +22,21 @@ pub struct Reorder {
     /// The record of that number, where it came in its turn.
     ready: Option<Record>,
     /// The records that came before their turn.
-    early: BTreeMap<u32, Record>,
+    early: Early,
+    /// The greatest number of a record that came before its turn.
+    greatest: u32,
     /// The least number that came more than once.
     double: Option<u32>,
 }
 
 impl Model for Reorder {
-    ghost use Rattle.lf_logs.specs.Reordering.{Reordering, IsInTurn};
+    ghost use Rattle.lf_logs.specs.Reordering.{Reordering, IsInTurn, IsGreatestEarly};
 
     ghost Value = { Reordering };
 
-    ghost view = { λ o. record { bank = o.bank; next = o.next; ready = o.ready; early = o.early.entries; double = o.double } };
+    ghost view = { λ o. record { bank = o.bank; next = o.next; ready = o.ready; early = o.early; double = o.double } };
 
-    ghost invariant = { λ o. IsInTurn o.next o.ready };
+    ghost invariant = { λ o. IsInTurn o.next o.ready × IsGreatestEarly o.next o.early o.greatest };
 }
 
 impl Reorder {
@@ -47,7 +49,8 @@ impl Reorder {
             bank,
             next: 0,
             ready: None,
-            early: BTreeMap::new(alloc),
+            early: Early::new(alloc),
+            greatest: 0,
             double: None,
         }
     }
@@ -59,7 +62,7 @@ impl Reorder {
         if u64::from(number) == self.next && self.ready.is_some() {
             return true;
         }
-        self.early.contains_key(&number)
+        self.early.contains(number)
     }
 
     /// Whether a record of this number came.
@@ -113,10 +116,9 @@ impl Reorder {
             self.ready = Some(item);
             return Ok(());
         }
-        match self.early.insert(number, item) {
-            Ok(_) => Ok(()),
-            Err(_) => Err(NoMemory),
-        }
+        self.early.insert(item)?;
+        self.greatest = self.greatest.max(number);
+        Ok(())
     }
 
     /// Takes the record whose turn it is from those that came early.
@@ -131,7 +133,7 @@ impl Reorder {
         if self.next > u64::from(u32::MAX) {
             return None;
         }
-        self.early.remove(&(self.next as u32))
+        self.early.take(self.next as u32)
     }
 
     /// Takes the record whose turn it is.
@@ -170,10 +172,7 @@ impl Reorder {
         ensures none { (put : List Record) (gave : List Record) → HasOrdered self.now put gave
             → IfNone result ((k : ℕ) → ¬ IsMissing (numbers_of put) k) }
     {
-        let Some((greatest, _)) = self.early.last_key_value() else {
-            return None;
-        };
-        for number in self.next..u64::from(*greatest) {
+        for number in self.next..u64::from(self.greatest) {
             if !self.waits(number as u32) {
                 return Some(number as u32);
             }

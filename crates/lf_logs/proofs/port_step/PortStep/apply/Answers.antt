@@ -1,4 +1,4 @@
-use Rattle.std.proofs.Common.{ap, subst, sym, refl}
+use Rattle.std.proofs.Common.{subst, sym, refl}
 use Rattle.lf_logs.specs.Tags.{PortKept, PortStandsAfter}
 use Rattle.lf_logs.proofs.PortSteps.{PortStandsAfter-more, IsPortFaultAfter-here}
 use Rattle.lf_logs.proofs.port_step.PortStep.apply.Goals as goal

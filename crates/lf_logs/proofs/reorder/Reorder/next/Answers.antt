@@ -1,5 +1,5 @@
-use Rattle.std.proofs.Common.{◌≡◌, ◌<◌, ◌≤◌, ◌^◌, ◌+◌, ℕ, Some, None, sym, ap, ◌∙◌, refl, arith, ⊎_elim}
-use Rattle.lf_logs.specs.Reordering.{Reordering, first_with, HasOrdered}
+use Rattle.std.proofs.Common.{◌<◌, ◌≤◌, ◌^◌, ◌+◌, sym, ap, ◌∙◌, ⊎_elim}
+use Rattle.lf_logs.specs.Reordering.{Reordering}
 use Rattle.lf_logs.proofs.Reordered.{HasOrdered-next, none_next, none_past, below_or}
 use Rattle.lf_logs.proofs.reorder.Reorder.next.Goals as goal
 

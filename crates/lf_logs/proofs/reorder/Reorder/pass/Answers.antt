@@ -1,6 +1,5 @@
-use Rattle.std.proofs.Common.{◌≡◌, ℕ, ◌+◌, Option, Some, None, sym, ap, ◌∙◌, subst, refl, arith, rules}
-use Rattle.lf_model.specs.declared.event.Record.{Record}
-use Rattle.lf_logs.specs.Reordering.{Reordering, HasOrdered}
+use Rattle.std.proofs.Common.{◌≡◌, ◌+◌, None, sym, ap, ◌∙◌, arith, rules}
+use Rattle.lf_logs.specs.Reordering.{Reordering}
 use Rattle.lf_logs.proofs.Reordered.{HasOrdered-pass}
 use Rattle.lf_logs.proofs.reorder.Reorder.pass.Goals as goal
 

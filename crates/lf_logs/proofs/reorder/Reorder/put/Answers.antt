@@ -1,8 +1,7 @@
-use Rattle.std.proofs.Common.{◌≡◌, ℕ, Some, sym, ap, ◌∙◌, subst, refl, arith}
-use Rattle.lf_logs.specs.Reordering.{Reordering, early_at, HasOrdered}
-use Rattle.lf_logs.proofs.Reordered.{HasOrdered-double, HasOrdered-ready, HasOrdered-early, apart_at}
+use Rattle.std.proofs.Common.{◌≡◌, Some, sym, ap, ◌∙◌, arith}
+use Rattle.lf_logs.specs.Reordering.{Reordering, early_at}
+use Rattle.lf_logs.proofs.Reordered.{HasOrdered-double, HasOrdered-ready, HasOrdered-early}
 use Rattle.lf_logs.proofs.reorder.Reorder.put.Goals as goal
-use Rattle.lf_logs.proofs.reorder.Reorder.put.Goals.{in-Ok, in-Err}
 
 pub returns-then-has_come-clause-put : goal.returns-then-has_come-clause-put
 returns-then-has_come-clause-put c put gave has =
@@ -15,12 +14,9 @@ returns-then-from-self-clause-put c put gave has =
     (ap (λ (o : Reordering). record o { ready = Some c.args.item }) c.self.view_is)
 
 pub returns-clause-put : goal.returns-clause-put
-returns-clause-put c put gave has = elim c.match-insert.branch [
-  | in-Ok w ↦ rw w.result-is
-      (HasOrdered-early c.args.self.now put gave has c.args.item _ (omega arith) (sym c.has_come.ensures ∙ c.if-has_come.false)
-      (λ e. c.if-from-self.false (c.from.ensures ∙ e ∙ sym (ap (λ (o : Reordering). o.next) c.self.view_is)))
-      (ap (λ (o : Reordering). o.next) c.self.view_is) (ap (λ (o : Reordering). o.double) c.self.view_is) (ap (λ (o : Reordering). o.ready) c.self.view_is)
-      w.in-Ok.ensures.updates.1
-      (λ k other. w.in-Ok.ensures.updates.2 k (apart_at c.args.item.number k other) ∙ ap (λ (o : Reordering). early_at o k) c.self.view_is))
-  | in-Err w ↦ rw w.result-is tt
-]
+returns-clause-put c put gave has =
+    HasOrdered-early c.args.self.now put gave has c.args.item _ (omega arith) (sym c.has_come.ensures ∙ c.if-has_come.false)
+    (λ e. c.if-from-self.false (c.from.ensures ∙ e ∙ sym (ap (λ (o : Reordering). o.next) c.self.view_is)))
+    (ap (λ (o : Reordering). o.next) c.self.view_is) (ap (λ (o : Reordering). o.double) c.self.view_is) (ap (λ (o : Reordering). o.ready) c.self.view_is)
+    c.in_ok-insert.ensures.own
+    (λ k other. c.in_ok-insert.ensures.others k other ∙ ap (λ (o : Reordering). early_at o k) c.self.view_is)

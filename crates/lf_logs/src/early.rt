@@ -1,0 +1,170 @@
+//! The records that came before their turn.
+
+ghost use Rattle.std.specs.Prelude.{◌≡◌, ◌<◌, ◌%◌, ℕ, List, [], length, is_some, None, Some, OnOk, OnErr, IfOk, IfSome, IfNone, slice_index_or, vec_len};
+ghost use Rattle.std.specs.Map.{lookup};
+ghost use Rattle.std.specs.BTreeMap.{is_at};
+ghost use Rattle.std.specs.Ordering.{nat_cmp};
+ghost use Rattle.lf_model.specs.declared.event.Record.{Record};
+ghost use Rattle.lf_logs.specs.EarlyTable.{IsTable};
+
+use lf_model::{NoMemory, Record};
+use slab::Slab;
+use std::alloc::Global;
+use std::collections::BTreeMap;
+use std::marker::Model;
+
+/// How many places a table has at first.
+const FIRST_PLACES: usize = 64;
+
+/// A table that has so many places for each record that it keeps grows no more.
+const PLACES_OF_A_RECORD: usize = 4;
+
+/// The records that came before their turn, by number. A table has the key under which a record is
+/// kept, at the place that is the record's number modulo the count of places. A record whose place
+/// is taken goes into the map. So what is held follows the records that wait, however far apart
+/// their numbers are, and a wider table moves no record.
+#[derive(Drop)]
+pub struct Early {
+    alloc: Global,
+    places: Vec<Option<usize>>,
+    kept: Slab<Record>,
+    rest: BTreeMap<u32, Record>,
+}
+
+impl Model for Early {
+    ghost use Rattle.std.specs.Prelude.{ℕ, List, ◌++◌};
+    ghost use Rattle.lf_model.specs.declared.event.Record.{Record};
+    ghost use Rattle.lf_logs.specs.EarlyTable.{numbered, IsTable};
+
+    ghost Value = { List (ℕ × Record) };
+
+    ghost view = { λ e. numbered e.kept.slots ++ e.rest.entries };
+
+    ghost invariant = { λ e. IsTable e.places.items e.kept.slots };
+}
+
+/// The key of the record of this number, where the table has one.
+fn key_of(places: &[Option<usize>], kept: &Slab<Record>, number: u32) -> Option<usize>
+    requires { IsTable places.now kept.now.slots }
+    ensures some { IfSome result (λ key. slice_index_or places.now (number % length places.now) None ≡ Some key) }
+    ensures number { IfSome result (λ key. (r : Record) × ((slice_index_or kept.now.slots key None ≡ Some r) × (r.number ≡ number))) }
+    ensures none { IfNone result ((key : ℕ) (r : Record) → slice_index_or kept.now.slots key None ≡ Some r → ¬ (r.number ≡ number)) }
+{
+    if places.is_empty() {
+        return None;
+    }
+    let key = places[number as usize % places.len()]?;
+    match kept.get(key) {
+        Some(item) if item.number == number => Some(key),
+        _ => None,
+    }
+}
+
+/// A table of twice as many places for the same records.
+fn widened(
+    alloc: Global,
+    places: &[Option<usize>],
+    kept: &Slab<Record>,
+) -> Result<Vec<Option<usize>>, NoMemory>
+    requires table { IsTable places.now kept.now.slots }
+    requires some { 0 < length places.now }
+    ensures table { IfOk result (λ wider. IsTable wider.items kept.now.slots) }
+    ensures some { IfOk result (λ wider. 0 < vec_len wider) }
+{
+    let Ok(mut wider) = vec![in alloc; None; 2 * places.len()] else {
+        return Err(NoMemory);
+    };
+    for place in places {
+        if let Some(key) = *place {
+            let to = kept[key].number as usize % wider.len();
+            wider[to] = Some(key);
+        }
+    }
+    Ok(wider)
+}
+
+/// Makes the first table, or a wider one where the number's place is taken and there are few places
+/// for what is kept.
+fn make_room(
+    alloc: Global,
+    places: &mut Vec<Option<usize>>,
+    kept: &Slab<Record>,
+    number: u32,
+) -> Result<(), NoMemory>
+    requires { IsTable places.old.items kept.now.slots }
+    ensures table { IsTable places.new.items kept.now.slots }
+    ensures some { OnOk result (0 < vec_len places.new) }
+{
+    if places.is_empty() {
+        let Ok(first) = vec![in alloc; None; FIRST_PLACES] else {
+            return Err(NoMemory);
+        };
+        *places = first;
+        return Ok(());
+    }
+    if places[number as usize % places.len()].is_some()
+        && places.len() / PLACES_OF_A_RECORD < kept.len()
+    {
+        *places = widened(alloc, places, kept)?;
+    }
+    Ok(())
+}
+
+impl Early {
+    /// No record came.
+    pub fn new(alloc: Global) -> Early
+        ensures { result ≡ [] }
+    {
+        Early {
+            alloc,
+            places: Vec::new(alloc),
+            kept: Slab::new(alloc),
+            rest: BTreeMap::new(alloc),
+        }
+    }
+
+    /// Whether a record has this number.
+    pub fn contains(&self, number: u32) -> bool
+        ensures { result ≡ is_some (lookup (is_at (nat_cmp number)) self.now) }
+    {
+        key_of(&self.places, &self.kept, number).is_some() || self.rest.contains_key(&number)
+    }
+
+    /// Adds a record whose number no other has. `NoMemory` where a growth was refused.
+    pub fn insert(&mut self, item: Record) -> Result<(), NoMemory>
+        requires { lookup (is_at (nat_cmp item.number)) self.old ≡ None }
+        ensures unchanged { OnErr result (self.new ≡ self.old) }
+        ensures own { OnOk result (lookup (is_at (nat_cmp item.number)) self.new ≡ Some item) }
+        ensures others { OnOk result ((k : ℕ) → ¬ (k ≡ item.number) → lookup (is_at (nat_cmp k)) self.new ≡ lookup (is_at (nat_cmp k)) self.old) }
+    {
+        let number = item.number;
+        make_room(self.alloc, &mut self.places, &self.kept, number)?;
+        let place = number as usize % self.places.len();
+        if self.places[place].is_none() {
+            let Ok(key) = self.kept.insert(item) else {
+                return Err(NoMemory);
+            };
+            self.places[place] = Some(key);
+            return Ok(());
+        }
+        match self.rest.insert(number, item) {
+            Ok(_) => Ok(()),
+            Err(_) => Err(NoMemory),
+        }
+    }
+
+    /// Takes out the record of this number.
+    pub fn take(&mut self, number: u32) -> Option<Record>
+        ensures value { result ≡ lookup (is_at (nat_cmp number)) self.old }
+        ensures unchanged { IfNone result (self.new ≡ self.old) }
+        ensures others { (k : ℕ) → ¬ (k ≡ number) → lookup (is_at (nat_cmp k)) self.new ≡ lookup (is_at (nat_cmp k)) self.old }
+        ensures fewer { IfSome result (λ _. length self.new < length self.old) }
+    {
+        let Some(key) = key_of(&self.places, &self.kept, number) else {
+            return self.rest.remove(&number);
+        };
+        let place = number as usize % self.places.len();
+        self.places[place] = None;
+        Some(self.kept.remove(key))
+    }
+}
