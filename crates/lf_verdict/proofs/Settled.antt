@@ -36,10 +36,10 @@ use Rattle.lf_verdict.specs.declared.port_judge.PortJudge.{PortJudge}
 use Rattle.lf_verdict.specs.declared.bank_judge.BankJudge.{BankJudge}
 use Rattle.lf_verdict.specs.declared.standing.Standing.{Standing}
 use Rattle.lf_verdict.specs.Parts.{HasWholeNumbers}
-use Rattle.lf_verdict.specs.Judging.{AreWholeBelow, AreNumbered, AreOutcomes, NoneRanOut, NoneBroken, IsBroken, outcome_at}
+use Rattle.lf_verdict.specs.Judging.{AreWholeBelow, NoneBroken, IsBroken, outcome_at}
 use Rattle.lf_verdict.specs.Standing.{IsPortAt, IsBankAt, IsPortJudged, IsBankSettled, StandsAfterAll, IsShort, logs_so_far}
 use Rattle.lf_verdict.proofs.Answered.{log_below}
-use Rattle.lf_verdict.proofs.Outcomes.{Judged}
+use Rattle.lf_verdict.proofs.Outcomes.{AreNumbered, AreOutcomes, NoneRanOut, Judged}
 use Rattle.lf_verdict.proofs.Entries.{banks_whole, all_whole, order_len}
 use Rattle.lf_verdict.proofs.Standings.{entries_count}
 use Rattle.lf_verdict.proofs.Traces.{log_of_logs, no_log, logs_fit}
