@@ -6,7 +6,6 @@ use Rattle.lf_model.specs.declared.event.Event.{Event}
 use Rattle.lf_model.specs.declared.event.Event.TheVariants.{Issue, Reply, Fence}
 use Rattle.lf_model.specs.Address.{flat_memory}
 use Rattle.lf_model.specs.Fits.{Bytes, FitsLog, FitsBank}
-use Rattle.lf_codec.specs.declared.header.Header.{Header}
 use Rattle.lf_codec.specs.Checks.{log_limit}
 use Rattle.lf_verdict.specs.declared.answer.Verdict.{Verdict}
 use Rattle.lf_verdict.specs.declared.answer.Verdict.TheVariants.{Yes, No, Refused}
