@@ -1,9 +1,9 @@
 -- An event record that stands whole in a piece is what its steps read.
-use Rattle.std.proofs.Common.{◌≡◌, ℕ, ◌+◌, ◌<◌, ◌≤◌, true, false, List, [], ◌∷◌, ◌++◌, length, take, Option, None, Ok, refl, sym, ap, subst, ◌∙◌, arith, append_assoc, inl, inr}
-use Rattle.std.specs.Prelude.{◌==◌, slice_index, IfSome}
+use Rattle.std.proofs.Common.{◌≡◌, ℕ, ◌+◌, ◌<◌, ◌≤◌, List, [], ◌∷◌, ◌++◌, length, take, Option, None, Ok, refl, sym, ap, subst, ◌∙◌, arith, append_assoc, inl, inr}
+use Rattle.std.specs.Prelude.{◌==◌}
 use Rattle.std.proofs.lemmas.Bool.{cases_Bool, eqb-true, eqb-false}
 use Rattle.std.proofs.lemmas.List.{append-nil, nil_from_length, length-append, take-append-le}
-use Rattle.std.proofs.Math.Seq.{take-append-add, take-length}
+use Rattle.std.proofs.Math.Seq.{take-length}
 use Rattle.lf_model.specs.Fits.{Bytes}
 use Rattle.lf_model.specs.declared.event.Record.{Record}
 use Rattle.lf_codec.specs.declared.fault.CodecFault.{CodecFault}
@@ -12,7 +12,7 @@ use Rattle.lf_codec.specs.declared.stage.Head.{Head}
 use Rattle.lf_codec.specs.declared.stage.Stage.{Stage}
 use Rattle.lf_codec.specs.declared.stage.Stage.TheVariants as stages
 use Rattle.lf_codec.specs.declared.progress.Progress.{Progress}
-use Rattle.lf_codec.specs.Checks.{judged, byte_at, fixed_checks, stage_checks}
+use Rattle.lf_codec.specs.Checks.{judged, fixed_checks, stage_checks}
 use Rattle.lf_codec.specs.Steps.{fixed_len, data_len, head_at, counted, record_of, past_head, advanced}
 use Rattle.lf_codec.specs.Sound.{IsInRange, HasRoom, IsSoundAt, IsSound, most_data}
 use Rattle.lf_codec.specs.Reading.{Reading, read_on, memory_in, records_in}

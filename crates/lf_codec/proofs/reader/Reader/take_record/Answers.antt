@@ -1,7 +1,6 @@
-use Rattle.std.proofs.Common.{◌≡◌, ◌++◌, ◌∷◌, [], List, ℕ, length, None, refl, sym}
+use Rattle.std.proofs.Common.{◌≡◌, ◌++◌, ◌∷◌, [], None, refl, sym}
 use Rattle.std.proofs.lemmas.Bool.{eqb-true}
 use Rattle.std.proofs.lemmas.List.{nil_from_length}
-use Rattle.lf_model.specs.declared.event.Record.{Record}
 use Rattle.lf_codec.specs.Steps.{counted, record_of}
 use Rattle.lf_codec.specs.Reading.{Reading}
 use Rattle.lf_codec.proofs.Soundness.{sound_reader}
