@@ -2,3 +2,4 @@ pub mod KnownLemmas
 pub mod JudgingLemmas
 pub mod RunLemmas
 pub mod GatheringLemmas
+pub mod ProgramLemmas

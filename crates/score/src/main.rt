@@ -23,6 +23,7 @@ use configuration::text_in;
 use counted::Counted;
 use engine::{are_workers, run};
 use lf_verdict::Verdict;
+use line::{InputFault, Line};
 use std::io;
 use std::io::{ErrorKind, Read};
 use std::process::ExitCode;
@@ -33,8 +34,9 @@ const NO: u8 = 1;
 
 const REFUSED: u8 = 2;
 
-fn refused<T: Print>(rt: &T, why: &str) -> io::Result<ExitCode> {
-    println!(rt; "refused {why}")?;
+fn refused<T: Print>(rt: &T, why: InputFault) -> io::Result<ExitCode> {
+    let line = Line::Refused(why);
+    println!(rt; "{line}")?;
     Ok(ExitCode::from(REFUSED))
 }
 
@@ -82,12 +84,12 @@ where
         Ok(args) => {
             for word in args {
                 if words.push(word).is_err() {
-                    return refused(rt, "memory");
+                    return refused(rt, InputFault::Memory);
                 }
             }
         }
-        Err(e) if e.kind() == ErrorKind::OutOfMemory => return refused(rt, "memory"),
-        Err(_) => return refused(rt, "usage"),
+        Err(e) if e.kind() == ErrorKind::OutOfMemory => return refused(rt, InputFault::Memory),
+        Err(_) => return refused(rt, InputFault::Usage),
     }
     match asked(rt.alloc(), words.as_slice()) {
         Ok(
@@ -101,8 +103,8 @@ where
             print!(rt; "{help}")?;
             Ok(ExitCode::SUCCESS)
         }
-        Err(CommandFault::Usage) => refused(rt, "usage"),
-        Err(CommandFault::Memory) => refused(rt, "memory"),
+        Err(CommandFault::Usage) => refused(rt, InputFault::Usage),
+        Err(CommandFault::Memory) => refused(rt, InputFault::Memory),
     }
 }
 
