@@ -1,0 +1,186 @@
+//! A demonstration from its threads to its trace.
+
+ghost use Rattle.std.specs.Prelude.{All, IfOk, map, ◌≡◌};
+ghost use Rattle.lf_model.specs.InRange.{IsShape};
+ghost use Rattle.lf_demo.specs.Demo.{IsDemo, IsRecording, IsTraceOf, joined as log_after_log};
+ghost use Rattle.lf_demo.specs.Threads.{IsNew, IsRecorded, IsWhole};
+
+use crate::fault::DemoFault;
+use crate::recording::{Recorded, Recording, work};
+use lf_codec::{Header, encode, fits_trace};
+use lf_model::{Logs, Memory, Record, Shape};
+use lf_recorder::{CloseFault, Desk, LogSeat};
+use std::alloc::Global;
+use std::sync::Wait;
+use std::thread;
+use std::thread::{Promise, Scope, Threads};
+
+/// The version of the traces that are written.
+const VERSION: u16 = 3;
+
+/// What the thread of a seat gives.
+#[derive(Clone, Copy)]
+struct RecordedBy<'a> {
+    recording: &'a Recording,
+}
+
+impl<'a> Promise<Recorded> for RecordedBy<'a> {
+    ghost kept_by = { λ p r. IsRecorded p.recording.now.places.shape p.recording.now.desk r };
+}
+
+/// Runs a thread for each seat, and joins them.
+fn run_in<'s, E, R: Threads + Wait + Sync>(
+    rt: &'s R,
+    scope: &Scope<'s, E>,
+    alloc: Global,
+    recording: &'s Recording,
+    seats: Vec<LogSeat>,
+) -> Result<Vec<Recorded>, DemoFault>
+    requires { All (IsNew recording.now.desk) seats.items }
+    ensures { IfOk result (λ v. All (IsRecorded recording.entry.now.places.shape recording.entry.now.desk) v.items) }
+{
+    let mut handles = Vec::with_capacity(alloc, seats.len())?;
+    for seat in seats {
+        match scope.spawn_with(RecordedBy { recording }, move || work(rt, recording, seat)) {
+            Ok(handle) => handles.push(handle)?,
+            Err(_) => {
+                recording.give_up();
+                return Err(DemoFault::Thread);
+            }
+        }
+    }
+    match thread::join_promised(rt, handles) {
+        Ok(all) => Ok(all),
+        Err(_) => Err(DemoFault::Memory),
+    }
+}
+
+/// The same in a scope of its own, which ends when each thread has.
+fn in_threads<R: Threads + Wait + Sync>(
+    rt: &R,
+    alloc: Global,
+    recording: &Recording,
+    seats: Vec<LogSeat>,
+) -> Result<Vec<Recorded>, DemoFault>
+    requires { All (IsNew recording.now.desk) seats.items }
+    ensures { IfOk result (λ v. All (IsRecorded recording.now.places.shape recording.now.desk) v.items) }
+{
+    thread::scope(
+        thread::scope_env(),
+        rt,
+        move |scope| -> Result<Vec<Recorded>, DemoFault>
+            requires { All (IsNew recording.now.desk) seats.items }
+            ensures { IfOk result (λ v. All (IsRecorded recording.entry.now.places.shape recording.entry.now.desk) v.items) }
+        { run_in(rt, scope, alloc, recording, seats) },
+    )
+}
+
+/// The seats of threads that did not give up. Want of memory is told before other causes.
+fn seats_of(
+    alloc: Global,
+    recording: &Recording,
+    all: Vec<Recorded>,
+) -> Result<Vec<LogSeat>, DemoFault>
+    requires { All (IsRecorded recording.now.places.shape recording.now.desk) all.items }
+    ensures { IfOk result (λ v. All (IsWhole recording.now.places.shape recording.now.desk) v.items) }
+{
+    let _ = recording;
+    let memory = Err(DemoFault::Memory);
+    if all.iter().any(|one| one.outcome == memory) {
+        return Err(DemoFault::Memory);
+    }
+    let mut seats = Vec::with_capacity(alloc, all.len())?;
+    for one in all {
+        let Recorded { seat, outcome } = one;
+        outcome?;
+        seats.push(seat)?;
+    }
+    Ok(seats)
+}
+
+/// Runs the design once, and closes the desk.
+fn recorded<R: Threads + Wait + Sync>(
+    rt: &R,
+    alloc: Global,
+    shape: &Shape,
+    turns: u32,
+) -> Result<Logs, DemoFault>
+    requires { IsShape shape.now }
+    ensures { IfOk result (λ logs. IsRecording shape.now (map (λ log. log.items) logs.items)) }
+{
+    let mut desk = Desk::new_version(alloc, u32::from(VERSION), shape.ports, shape.banks)?;
+    let Ok(seats) = desk.open() else {
+        return Err(DemoFault::Memory);
+    };
+    let recording = Recording::new(alloc, desk, shape, turns)?;
+    let all = in_threads(rt, alloc, &recording, seats)?;
+    let seats = seats_of(alloc, &recording, all)?;
+    let Recording {
+        desk,
+        places: _,
+        banks: _,
+        finished: _,
+        has_given_up: _,
+        turns: _,
+    } = recording;
+    match desk.close(seats) {
+        Ok(logs) => Ok(logs),
+        Err(CloseFault::NoMemory(..)) => Err(DemoFault::Memory),
+        Err(CloseFault::Missing(..)) => Err(DemoFault::Turns),
+    }
+}
+
+/// The records of all logs, log after log.
+fn joined(alloc: Global, logs: Logs) -> Result<Vec<Record>, DemoFault>
+    ensures { IfOk result (λ v. v.items ≡ log_after_log (map (λ log. log.items) logs.items)) }
+{
+    let mut all = Vec::new(alloc);
+    for log in logs {
+        let mut log = log;
+        all.append(&mut log)?;
+    }
+    Ok(all)
+}
+
+/// The logs as a trace, and how many records they have.
+fn written(alloc: Global, shape: &Shape, logs: Logs) -> Result<(u32, Vec<u8>), DemoFault>
+    requires { IsShape shape.now }
+    ensures { IfOk result (λ demo. IsTraceOf shape.now (map (λ log. log.items) logs.items) demo.0 demo.1.items) }
+{
+    let records = joined(alloc, logs)?;
+    let header = Header {
+        version: VERSION,
+        ports: shape.ports as u8,
+        banks: shape.banks as u8,
+        block: shape.block as u16,
+        factor: shape.factor as u16,
+        memory_count: 0,
+    };
+    let memory = Memory::new(alloc);
+    let records = records.as_slice();
+    if !fits_trace(&header, &memory, records) {
+        return Err(DemoFault::Turns);
+    }
+    let Ok(count) = u32::try_from(records.len()) else {
+        return Err(DemoFault::Turns);
+    };
+    let bytes = encode(alloc, &header, &memory, records)?;
+    Ok((count, bytes))
+}
+
+/// Runs the design of this shape, a thread for each port and for each bank, and gives the number of
+/// its events and its trace. A thread that makes so many turns without an event gives up, and so do
+/// all others then: with no turns the answer is `Turns`.
+pub fn demo_trace<R: Threads + Wait + AllocGlobal + Sync>(
+    rt: &R,
+    shape: &Shape,
+    turns: u32,
+) -> Result<(u32, Vec<u8>), DemoFault>
+    requires { IsShape shape.now }
+    ensures { IfOk result (λ demo. IsDemo shape.now demo.0 demo.1.items) }
+{
+    let alloc = rt.alloc();
+    let logs = recorded(rt, alloc, shape, turns)?;
+    let (count, bytes) = written(alloc, shape, logs)?;
+    Ok((count, bytes))
+}
