@@ -7,7 +7,7 @@ use Rattle.lf_verdict.specs.declared.answer.Verdict.{Verdict}
 use Rattle.lf_verdict.specs.Verdict.{IsJudged}
 use Rattle.score.specs.declared.counted.Counted.{Counted}
 use Rattle.score.specs.declared.fault.RunFault.{RunFault}
-use Rattle.score.specs.declared.fault.RunFault.TheVariants.{Read, Turns, Write}
+use Rattle.score.specs.declared.fault.RunFault.TheVariants.{Read, Write}
 use Rattle.score.specs.Counted.{failures_of, inner_of}
 use Rattle.score.specs.Run.{GaveSound, IsVerdictOfRead, IsLegalRead, IfYes, IsOutcome, Follows, outcome_line, IsRunOfProgram}
 use Rattle.score.proofs.RunLemmas.{IsKept, IsFreeUnless, HasNoFault, MeansOfNo, MeansNothingElse, outcome_told, told_whole, told_legal, told_runless, whole_runless}

@@ -123,3 +123,7 @@ line_text (lines.Refused fault) = codes "refused " ++ input_text fault
 -- the text and one newline
 abbrev pub line_of : Verdict → List ℕ
 line_of v = verdict_text v ++ 10 ∷ []
+
+-- what is written where the trace was not read
+abbrev pub not_read_line : List ℕ
+not_read_line = codes "refused read trace" ++ 10 ∷ []

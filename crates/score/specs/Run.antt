@@ -16,7 +16,7 @@ use Rattle.score.specs.declared.counted.Counted.{Counted}
 use Rattle.score.specs.declared.fault.RunFault.{RunFault}
 use Rattle.score.specs.declared.fault.RunFault.TheVariants.{Read, Turns, Write}
 use Rattle.score.specs.Counted.{calls_of, failures_of, inner_of}
-use Rattle.score.specs.Line.{line_of}
+use Rattle.score.specs.Line.{line_of, not_read_line}
 use Rattle.score.specs.Gathered.{HasFault}
 
 -- ---- what is read
@@ -110,10 +110,6 @@ Follows (Ok v) (Err e) = ⊥
 Follows (Err e) told = told ≡ Err e
 
 -- ---- what is written
-
--- what is written where the trace was not read
-abbrev pub not_read_line : List ℕ
-not_read_line = codes "refused read trace" ++ 10 ∷ []
 
 -- the line of what a run came to
 abbrev pub outcome_line : Result Verdict RunFault → List ℕ

@@ -18,7 +18,7 @@ ghost use Rattle.score.specs.Run.{outcome_line, IsAsked, IsRefusedFirst, IsOutco
 use crate::counted::Counted;
 use crate::fault::RunFault;
 use crate::gathering::{Stop, gather, zeros};
-use crate::line::Line;
+use crate::line::{Line, no_memory, not_read};
 use crate::output::put;
 use lf_codec::{exact_reading, fault_so_far, faults_stand};
 use lf_config::{ConfigFault, read};
@@ -152,7 +152,7 @@ fn tell<W: Write>(
     let verdict = match outcome {
         Ok(verdict) => verdict,
         Err(fault) => {
-            put(writer, b"refused read trace\n")?;
+            put(writer, not_read())?;
             return Err(fault);
         }
     };
@@ -162,7 +162,7 @@ fn tell<W: Write>(
             Ok(verdict)
         }
         Err(_) => {
-            put(writer, b"refused memory\n")?;
+            put(writer, no_memory())?;
             Ok(Verdict::Refused(Refusal::Memory))
         }
     }

@@ -1,7 +1,9 @@
 //! The lines that the program prints.
 
 ghost use Rattle.std.specs.Prelude.{◌≡◌, Some};
-ghost use Rattle.score.specs.Line.{rule_name, cause_name, field_name, logs_text, fault_text, refusal_text, input_text, line_text};
+ghost use Rattle.lf_verdict.specs.declared.answer.Verdict.{Verdict};
+ghost use Rattle.lf_verdict.specs.declared.answer.Refusal.{Refusal};
+ghost use Rattle.score.specs.Line.{rule_name, cause_name, field_name, logs_text, fault_text, refusal_text, input_text, line_text, line_of, not_read_line};
 
 use lf_codec::CodecCause;
 use lf_model::{Knot, Rule};
@@ -204,4 +206,18 @@ impl fmt::Display for Line<'_> {
             Line::Refused(fault) => write!(f, "refused {fault}"),
         }
     }
+}
+
+/// The line where the trace was not read. It takes no memory.
+pub fn not_read() -> &'static [u8]
+    ensures { result.now ≡ not_read_line }
+{
+    b"refused read trace\n"
+}
+
+/// The line where a growth was refused. It takes no memory.
+pub fn no_memory() -> &'static [u8]
+    ensures { result.now ≡ line_of (Verdict.Refused Refusal.Memory) }
+{
+    b"refused memory\n"
 }

@@ -1,8 +1,5 @@
-use Rattle.std.proofs.Common.{◌≡◌, ◌++◌, length, take, rules, arith, refl, subst, sym}
+use Rattle.std.proofs.Common.{◌++◌, take, rules, arith, refl}
 use Rattle.std.proofs.KnownBytes.{Consumes-kept}
-use Rattle.std.proofs.lemmas.List.{length-take}
-use Rattle.lf_verdict.specs.declared.intake.Intake.{Intake}
-use Rattle.score.proofs.GatheringLemmas.{IsGathering}
 use Rattle.score.proofs.KnownLemmas.{Consumes-next}
 use Rattle.score.proofs.gathering.gather.Goals as goal
 use Rattle.score.proofs.gathering.gather.Goals.{in-Ok+in-Ok-false, in-Err+else-ne}
