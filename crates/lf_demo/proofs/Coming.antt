@@ -1,5 +1,5 @@
 -- A port's log grows by a request, by a reply, and by the fence.
-use Rattle.std.proofs.Common.{◌≡◌, ℕ, ◌+◌, ◌*◌, ◌%◌, ◌<◌, ◌≤◌, ◌≢◌, List, [], ◌∷◌, ◌++◌, replicate, cond, refl, sym, ap, subst, ◌∙◌, arith, length-append}
+use Rattle.std.proofs.Common.{◌≡◌, ℕ, ◌+◌, ◌%◌, ◌<◌, ◌≤◌, ◌≢◌, List, [], ◌∷◌, ◌++◌, replicate, cond, refl, sym, ap, subst, ◌∙◌, arith, length-append}
 use Rattle.std.proofs.lemmas.List.{map_push, append-nil}
 use Rattle.std.proofs.lemmas.List.Elements.{filter-append}
 use Rattle.std.proofs.lemmas.List.FromFn.{map-range_with_len_more}
@@ -7,11 +7,11 @@ use Rattle.std.proofs.lemmas.List.Sums.{sum_by-append}
 use Rattle.lf_model.specs.Fits.{Bytes}
 use Rattle.lf_model.specs.declared.shape.Shape.{Shape}
 use Rattle.lf_model.specs.declared.event.Event.{Event}
-use Rattle.lf_model.specs.declared.event.Event.TheVariants.{Issue, Reply, Fence}
+use Rattle.lf_model.specs.declared.event.Event.TheVariants.{Reply, Fence}
 use Rattle.lf_model.specs.declared.event.Op.{Op}
 use Rattle.lf_recorder.specs.Desk.{SeatView, with_record}
 use Rattle.lf_demo.specs.declared.port.Port.{Port}
-use Rattle.lf_demo.specs.Demo.{op_of, block_of, carried, request_of, is_issue, is_reply, events_of, HasCome, IsPortLog}
+use Rattle.lf_demo.specs.Demo.{op_of, block_of, issue_of, request_of, is_issue, is_reply, events_of, HasCome, IsPortLog}
 use Rattle.lf_demo.specs.Threads.{Counts}
 
 come_issue : (shape : Shape) (port issued replied : ℕ) (events : List Event) → HasCome shape port issued replied events
@@ -32,7 +32,7 @@ come_reply shape port issued replied events tag size bytes h = record {
 
 -- a request as it is made is the port's request of its number
 pub request_made : (shape : Shape) (port i : ℕ) (op : Op) (tag block : ℕ) (bytes : List ℕ) → op ≡ op_of i → tag ≡ i % shape.tags → block ≡ block_of shape port i → bytes ≡ replicate 8 i
-    → Issue op tag 8 (block * shape.block) (record { items = carried op bytes }) ≡ request_of shape port i
+    → issue_of shape op tag block bytes ≡ request_of shape port i
 request_made shape port i op tag block bytes is_op is_tag is_block is_bytes = rw (is_op, is_tag, is_block, is_bytes) refl
 
 -- the events of a seat with one more record

@@ -26,9 +26,13 @@ abbrev pub carried : Op → List ℕ → List ℕ
 carried Load bytes = []
 carried Store bytes = bytes
 
--- the port's request of this number, of the first word of a block; a store writes the number eight times
+-- a request of the first word of a block
+abbrev pub issue_of : Shape → Op → ℕ → ℕ → List ℕ → Event
+issue_of shape op tag block bytes = Issue op tag 8 (block * shape.block) (record { items = carried op bytes })
+
+-- the port's request of this number; a store writes the number eight times
 abbrev pub request_of : Shape → ℕ → ℕ → Event
-request_of shape port i = Issue (op_of i) (i % shape.tags) 8 (block_of shape port i * shape.block) (record { items = carried (op_of i) (replicate 8 i) })
+request_of shape port i = issue_of shape (op_of i) (i % shape.tags) (block_of shape port i) (replicate 8 i)
 
 -- ---- a port's log
 

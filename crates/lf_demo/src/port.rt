@@ -1,8 +1,7 @@
 //! The turns of a port's thread.
 
 ghost use Rattle.std.specs.Prelude.{◌≡◌, ◌+◌, ◌*◌, ◌%◌, ◌<◌, if◌then◌else◌, replicate, IfOk, OnOk};
-ghost use Rattle.lf_model.specs.declared.event.Event.TheVariants as Event;
-ghost use Rattle.lf_demo.specs.Demo.{op_of, block_of, carried, IsPortLog};
+ghost use Rattle.lf_demo.specs.Demo.{op_of, block_of, issue_of, IsPortLog};
 ghost use Rattle.lf_demo.specs.Threads.{Counts, IsNew};
 
 use crate::fault::DemoFault;
@@ -49,7 +48,7 @@ fn request(recording: &Recording, port: u8, i: u32) -> Request
 
 /// The request as it is recorded.
 fn issue_of(shape: &Shape, request: &Request) -> Event
-    ensures { result ≡ Event.Issue request.now.op request.now.tag 8 (request.now.block * shape.now.block) (record { items = carried request.now.op request.now.bytes }) }
+    ensures { result ≡ issue_of shape.now request.now.op request.now.tag request.now.block request.now.bytes }
 {
     let mut bytes = Block::new();
     if request.op == Op::Store {
