@@ -422,8 +422,9 @@ fn cut_to(n: usize) -> &'static [u8] {
     front
 }
 
-#[test]
-fn truncated(rt: HostRuntime) -> Result<(), Fail> {
+/// Fails where the trace of one load, cut anywhere, is refused otherwise than as cut in the header or in
+/// the record in which it ends.
+fn assert_truncated<T: Abort + AllocGlobal>(rt: &T) -> Result<(), Fail> {
     // Where a header or a record begins and ends.
     for (start, end) in [
         (0, 16),
@@ -437,14 +438,15 @@ fn truncated(rt: HostRuntime) -> Result<(), Fail> {
     ] {
         let fault = format_fault(CodecCause::Truncated, start);
         for n in start..end {
-            assert_verdict(&rt, &hierarchy(1, 1), cut_to(n as usize), &fault)?;
+            assert_verdict(rt, &hierarchy(1, 1), cut_to(n as usize), &fault)?;
         }
     }
     Ok(())
 }
 
 #[test]
-fn trailing_and_reserved(rt: HostRuntime) -> Result<(), Fail> {
+fn truncated_and_trailing(rt: HostRuntime) -> Result<(), Fail> {
+    assert_truncated(&rt)?;
     let mut bytes = Vec::from_slice(rt.alloc(), &LOAD_MISSES_BOTH_LEVELS)?;
     bytes.push(0)?;
     let trailing = format_fault(CodecCause::Trailing, 132);
@@ -476,25 +478,31 @@ fn mixed_logs(rt: HostRuntime) -> Result<(), Fail> {
 }
 
 #[test]
+fn session_of_a_configuration(rt: HostRuntime) -> Result<(), Fail> {
+    let Ok(mut session) = Session::new(rt.alloc(), CONFIGURATION) else {
+        return Err(Fail::new("no session"));
+    };
+    assert_eq!(rt; session.feed(&LOAD_MISSES_BOTH_LEVELS), Ok(()));
+    assert_eq!(rt; session.finish(), yes(rt.alloc(), &[0, 1, 1, 1, 1, 0])?);
+    Ok(())
+}
+
+#[test]
 fn session_after_refusal(rt: HostRuntime) -> Result<(), Fail> {
-    let empty = Draft::new(rt.alloc(), 1, 1)?.end()?;
+    let mut bytes = Draft::new(rt.alloc(), 1, 1)?.end()?;
+    bytes.push(0)?;
     let trailing = CodecFault {
         cause: CodecCause::Trailing,
         offset: 24,
     };
-    let refusal = Refusal::Format(trailing);
     let Ok(mut session) = Session::new(rt.alloc(), CONFIGURATION) else {
         return Err(Fail::new("no session"));
     };
-    assert_eq!(rt; session.feed(&empty), Ok(()));
-    assert_eq!(rt;
-        session.feed(&[0]),
-        Err(Told::Fault(Refusal::Format(trailing)))
-    );
-    assert_eq!(rt;
-        session.feed(&[0]),
-        Err(Told::Failed(Refusal::Format(trailing)))
-    );
+    let told = session.feed(&bytes);
+    assert_eq!(rt; told, Err(Told::Fault(Refusal::Format(trailing))));
+    let told = session.feed(&[0]);
+    assert_eq!(rt; told, Err(Told::Failed(Refusal::Format(trailing))));
+    let refusal = Refusal::Format(trailing);
     assert_eq!(rt; session.finish(), Verdict::Refused(refusal));
     Ok(())
 }
