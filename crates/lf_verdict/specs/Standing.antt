@@ -83,7 +83,8 @@ pub record StandsAfterAll (shape : Shape) (memory : FlatMemory) (records : List 
 pub record IsEntered (shape : Shape) (records : List Record) (r : Record) (before after : Standing) : Type 0 where
   pub logs : joins.lists_of after.logs.items ≡ skeletons_of (logs_of (shape.ports + shape.banks) (records ++ r ∷ []))
   pub count_ports : length after.ports.items ≡ shape.ports
-  pub ports : (port : ℕ) (d : PortJudge) → port < shape.ports → IsPortJudged shape port (of_log port (records ++ r ∷ [])) (slice_index_or after.ports.items port d)
+  pub ports : (port : ℕ) (d : PortJudge) → port < shape.ports
+      → IsPortJudged shape port (of_log port (records ++ r ∷ [])) (slice_index_or after.ports.items port d)
   pub banks : after.banks ≡ before.banks
 
 -- the logs of the records that came

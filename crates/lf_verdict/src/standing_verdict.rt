@@ -110,7 +110,8 @@ impl Standing {
     /// The least order of the logs. Numbers are judged first, then the ports, then the banks, then
     /// whether the logs wait for one another.
     fn judged_order(&self, alloc: Global) -> Result<Vec<u8>, Halt>
-        requires { (shape : Shape) × ((memory : FlatMemory) × ((records : List Record) × (StandsAfterAll shape memory records self.now × IsShort shape records))) }
+        requires { (shape : Shape) × ((memory : FlatMemory) × ((records : List Record) ×
+            (StandsAfterAll shape memory records self.now × IsShort shape records))) }
         ensures order { (shape : Shape) (memory : FlatMemory) (records : List Record) → StandsAfterAll shape memory records self.now → IsShort shape records
             → IfOk result (λ order. IsOrderOf shape memory (logs_so_far shape records) order.items) }
         ensures fault { (shape : Shape) (memory : FlatMemory) (records : List Record) → StandsAfterAll shape memory records self.now → IsShort shape records
@@ -131,7 +132,8 @@ impl Standing {
 
     /// The verdict of the records so far, as those of a whole trace.
     pub fn verdict(&self, alloc: Global) -> Verdict
-        requires { (shape : Shape) × ((memory : FlatMemory) × ((records : List Record) × (StandsAfterAll shape memory records self.now × IsShort shape records))) }
+        requires { (shape : Shape) × ((memory : FlatMemory) × ((records : List Record) ×
+            (StandsAfterAll shape memory records self.now × IsShort shape records))) }
         ensures { (shape : Shape) (memory : FlatMemory) (records : List Record) → StandsAfterAll shape memory records self.now → IsShort shape records
             → IsLogsVerdict shape memory (logs_so_far shape records) result }
     {

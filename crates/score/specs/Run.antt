@@ -65,7 +65,8 @@ IsRefusedFirst text workers Memory = Unit {0}
 IsRefusedFirst text workers _ = ⊥
 
 -- The verdict is that of the bytes that the reader gave. Where the trace was not asked for, nothing was read.
-pub record IsVerdictOfRead {R : Type 0} (remaining : R → Option (List ℕ)) (old new : R) (asked : Type 0) (IsVerdict : List ℕ → Verdict → Type 0) (v : Verdict) : Type 0 where
+pub record IsVerdictOfRead {R : Type 0} (remaining : R → Option (List ℕ)) (old new : R) (asked : Type 0)
+    (IsVerdict : List ℕ → Verdict → Type 0) (v : Verdict) : Type 0 where
   pub bytes : List ℕ
   pub reads : asked → Reads remaining old new bytes
   pub verdict : IsVerdict bytes v
@@ -92,7 +93,8 @@ IfYes _ P = Unit {0}
 
 -- What a run came to before it wrote: when the trace is asked for, which orders make it legal and which verdict is
 -- that of some bytes is as it was said.
-pub record IsOutcome {R : Type 0} (remaining : R → Option (List ℕ)) (old new : Counted R) (asked : Type 0) (IsLegal : List ℕ → List ℕ → Type 0) (IsVerdict : List ℕ → Verdict → Type 0) (turns : ℕ) (outcome : Result Verdict RunFault) : Type 0 where
+pub record IsOutcome {R : Type 0} (remaining : R → Option (List ℕ)) (old new : Counted R) (asked : Type 0)
+    (IsLegal : List ℕ → List ℕ → Type 0) (IsVerdict : List ℕ → Verdict → Type 0) (turns : ℕ) (outcome : Result Verdict RunFault) : Type 0 where
   pub reads : calls_of new ≤ turns
   pub unread : ¬ asked → new ≡ old
   pub verdict : IfOk outcome (λ v. IsJudged v → IsVerdictOfRead remaining (inner_of old) (inner_of new) asked IsVerdict v)
