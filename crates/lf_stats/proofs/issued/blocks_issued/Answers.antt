@@ -1,0 +1,44 @@
+use Rattle.std.proofs.Common.{◌≡◌, ℕ, ◌/◌, List, [], ◌∷◌, ◌++◌, map, length, take, set, get_or, eqb, sym, ap, ◌∙◌, arith}
+use Rattle.std.specs.List.{cons_option}
+use Rattle.std.specs.Global.{Vec}
+use Rattle.std.proofs.lemmas.List.{length-set}
+use Rattle.lf_model.specs.Address.{block_of}
+use Rattle.lf_logs.specs.Lists.{lists_of}
+use Rattle.lf_logs.specs.Places.{records_at}
+use Rattle.lf_stats.specs.Statistics.{issued}
+use Rattle.lf_stats.proofs.Blocks.{block_if, issued_same, issued_new, placed}
+use Rattle.lf_stats.proofs.issued.blocks_issued.Goals as goal
+use Rattle.lf_stats.proofs.issued.blocks_issued.Goals.{in-Issue+else-is_err, in_default}
+
+pub loop-place-preserved : goal.loop-place-preserved
+loop-place-preserved c =
+    let logs = lists_of c.args.logs.now in
+    let places = c.args.places.now in
+    let at = c.loop-place.place-index in
+    let item = c.record_at-item.result.now in
+    let vecs : List (Vec ℕ) = c.loop-place.lists.items in
+    elim c.match-item.branch [
+      | in-Issue+else-is_err w ↦
+          let log = w.from-in-Issue.result in
+          let own : log ≡ item.log = w.from-in-Issue.ensures in
+          let block = w.in-Issue.address / w.from.result in
+          let is : block ≡ block_of c.args.shape.now w.in-Issue.address = ap (λ n. w.in-Issue.address / n) w.from.ensures in
+          let pushed : w.push.new.self.items ≡ w.index_mut.result.now.items ++ block ∷ [] = rw w.if-is_err.ensures.negation at w.push.ensures.items in
+          let changed : c.match-item.lists.items ≡ set vecs log w.push.new.self = ap (λ (v : Vec (Vec ℕ)). v.items) w.lists-is in
+          record {
+            len = ap length changed ∙ length-set vecs log w.push.new.self ∙ c.loop-place.invariant.len;
+            issued = λ port h.
+                ap (λ (vs : List (Vec ℕ)). get_or (map (λ (v : Vec ℕ). v.items) vs) port []) changed
+                ∙ placed vecs log w.index_mut.result.now w.push.new.self block w.index_mut.ensures.value pushed (omega (arith, c.loop-place.invariant.len)) port
+                ∙ ap (λ xs. xs ++ cons_option (block_if (eqb log port) block) []) (c.loop-place.invariant.issued port h)
+                ∙ ap (λ n. issued c.args.shape.now port (records_at logs (take at places)) ++ cons_option (block_if (eqb n port) block) []) own
+                ∙ ap (λ b. issued c.args.shape.now port (records_at logs (take at places)) ++ cons_option (block_if (eqb item.log port) b) []) is
+                ∙ sym (issued_new c.args.shape.now logs places at item c.loop-place-test.true c.record_at-item.ensures port _ _ _ _ _ w.in-Issue.is);
+          }
+      | in_default w ↦ record {
+        len = ap (λ (v : Vec (Vec ℕ)). length v.items) w.lists-is ∙ c.loop-place.invariant.len;
+        issued = λ port h.
+            ap (λ (v : Vec (Vec ℕ)). get_or (lists_of v) port []) w.lists-is ∙ c.loop-place.invariant.issued port h
+            ∙ sym (issued_same c.args.shape.now logs places at item c.loop-place-test.true c.record_at-item.ensures port (λ op tag size address bytes e. w.in_default.not-Issue op tag size address bytes e));
+      }
+    ]

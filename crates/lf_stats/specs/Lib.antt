@@ -1,0 +1,5 @@
+pub mod Statistics
+pub mod Answer
+pub mod Text
+pub mod Standing
+pub mod Examples

@@ -1,0 +1,65 @@
+//! The counts of a bank, in the order of its numbers.
+
+ghost use Rattle.std.specs.Prelude.{◌≡◌, ◌<◌, ◌≤◌, ◌^◌, ℕ, List, Option, length, All, OnOk, IfOk, IsSome};
+ghost use Rattle.lf_logs.specs.Lists.{lists_of};
+ghost use Rattle.lf_logs.specs.Places.{record_at, records_at};
+ghost use Rattle.lf_stats.specs.Standing.{next_of, named, AreAlike, IsHeld};
+ghost use Rattle.lf_stats.specs.Statistics.{held_by, bank_stats};
+
+use crate::counts::BankStats;
+use crate::held::Held;
+use crate::issued::{Accepted, blocks_issued};
+use lf_logs::{Place, record_at};
+use lf_model::{Event, Logs, NoMemory, Shape};
+use std::alloc::Global;
+
+/// Changes what is held.
+fn hold(
+    alloc: Global,
+    held: &mut Held,
+    issued: &[Vec<u64>],
+    accepted: &Accepted,
+    event: &Event,
+) -> Result<(), NoMemory>
+    requires issued { length issued.now ≡ 256 }
+    requires few { (register : ℕ) → named held.old register < 2 ^ 29 }
+    ensures { OnOk result ((next : ℕ → Option ℕ) (holds : List (ℕ × ℕ)) → AreAlike next (next_of issued.now accepted.now.counts)
+        → IsHeld held.old holds → IsHeld held.new (held_by next event.now holds)) }
+{
+    match event {
+        Event::Primary { port, register, .. } | Event::Merge { port, register, .. } => {
+            if let Some(block) = accepted.next(issued, *port) {
+                held.hold(alloc, block, *register)?;
+            }
+        }
+        Event::Fill1 { block, .. } => held.release(u64::from(*block)),
+        _ => {}
+    }
+    Ok(())
+}
+
+/// The counts over the records at these places.
+pub(crate) fn bank_stats(
+    alloc: Global,
+    shape: &Shape,
+    logs: &Logs,
+    places: &[Place],
+) -> Result<BankStats, NoMemory>
+    requires block { 0 < shape.now.block }
+    requires named { All (λ place. IsSome (record_at (lists_of logs.now) place)) places.now }
+    requires few { length places.now ≤ 2 ^ 29 }
+    ensures { IfOk result (λ stats. stats ≡ bank_stats shape.now (records_at (lists_of logs.now) places.now)) }
+{
+    let issued = blocks_issued(alloc, shape, logs, places)?;
+    let mut accepted = Accepted::new();
+    let mut held = Held::new(alloc);
+    let mut stats = BankStats::default();
+    for place in places {
+        let event = &record_at(logs, *place).event;
+        hold(alloc, &mut held, issued.as_slice(), &accepted, event)?;
+        accepted.count(event);
+        stats.count(event);
+        stats.peak = stats.peak.max(held.distinct());
+    }
+    Ok(stats)
+}

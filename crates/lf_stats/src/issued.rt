@@ -1,0 +1,91 @@
+//! The blocks of the requests of each port at a bank.
+
+ghost use Rattle.std.specs.Prelude.{◌≡◌, ◌+◌, ◌<◌, ◌≤◌, ◌^◌, ℕ, [], length, All, OnOk, IfOk, IsSome, slice_index, slice_index_or, if◌then◌else◌};
+ghost use Rattle.lf_logs.specs.Lists.{lists_of};
+ghost use Rattle.lf_logs.specs.Places.{record_at, records_at};
+ghost use Rattle.lf_stats.specs.Standing.{next_of};
+ghost use Rattle.lf_stats.specs.Statistics.{accepts, issued};
+
+use lf_logs::{Place, record_at};
+use lf_model::{Event, Logs, NoMemory, Shape};
+use std::alloc::Global;
+
+/// As many as there are numbers of ports.
+const PORTS: usize = 256;
+
+fn no_blocks(alloc: Global) -> Result<Vec<Vec<u64>>, NoMemory>
+    ensures len { IfOk result (λ lists. length lists.items ≡ 256) }
+    ensures empty { IfOk result (λ lists. (port : ℕ) → slice_index_or (lists_of lists) port [] ≡ []) }
+{
+    let mut lists = Vec::new(alloc);
+    for _ in 0..PORTS {
+        if lists.push(Vec::new(alloc)).is_err() {
+            return Err(NoMemory);
+        }
+    }
+    Ok(lists)
+}
+
+/// For each port the blocks of its issues, in the order of the places.
+pub(crate) fn blocks_issued(
+    alloc: Global,
+    shape: &Shape,
+    logs: &Logs,
+    places: &[Place],
+) -> Result<Vec<Vec<u64>>, NoMemory>
+    requires block { 0 < shape.now.block }
+    requires named { All (λ place. IsSome (record_at (lists_of logs.now) place)) places.now }
+    ensures len { IfOk result (λ lists. length lists.items ≡ 256) }
+    ensures issued { IfOk result (λ lists. (port : ℕ) → port < 256
+        → slice_index_or (lists_of lists) port [] ≡ issued shape.now port (records_at (lists_of logs.now) places.now)) }
+{
+    let mut lists = no_blocks(alloc)?;
+    for place in places {
+        let item = record_at(logs, *place);
+        if let Event::Issue { address, .. } = &item.event {
+            let block = *address / u64::from(shape.block);
+            if lists[usize::from(item.log)].push(block).is_err() {
+                return Err(NoMemory);
+            }
+        }
+    }
+    Ok(lists)
+}
+
+/// How many requests of each port were accepted.
+#[derive(Drop)]
+pub(crate) struct Accepted {
+    counts: [u32; PORTS],
+}
+
+impl Accepted {
+    /// None.
+    pub fn new() -> Self
+        ensures { (port : ℕ) → slice_index result.counts port ≡ 0 }
+    {
+        Accepted { counts: [0; PORTS] }
+    }
+
+    /// The block of the port's request that is accepted next.
+    pub fn next(&self, issued: &[Vec<u64>], port: u8) -> Option<u64>
+        requires { length issued.now ≡ 256 }
+        ensures { result ≡ next_of issued.now self.now.counts port }
+    {
+        issued[usize::from(port)]
+            .get(self.counts[usize::from(port)] as usize)
+            .copied()
+    }
+
+    /// Counts the event.
+    pub fn count(&mut self, event: &Event)
+        requires { (port : ℕ) → port < 256 → slice_index self.old.counts port < 2 ^ 29 }
+        ensures { (port : ℕ) → port < 256 → slice_index self.new.counts port ≡ slice_index self.old.counts port + (if accepts port event.now then 1 else 0) }
+    {
+        match event {
+            Event::Hit { port, .. } | Event::Primary { port, .. } | Event::Merge { port, .. } => {
+                self.counts[usize::from(*port)] += 1;
+            }
+            _ => {}
+        }
+    }
+}

@@ -1,0 +1,17 @@
+//! Statistics of a trace: what each bank's requests met in level one, and how many of each port's
+//! requests have no reply.
+#![tactic(auto)]
+
+mod bank;
+mod counts;
+mod held;
+mod issued;
+mod port;
+mod statistics;
+mod text;
+
+pub use counts::{BankStats, Stats};
+pub use statistics::stats;
+
+#[cfg(test)]
+mod tests;

@@ -1,0 +1,54 @@
+//! The statistics of a trace.
+
+ghost use Rattle.std.specs.Prelude.{◌≡◌, ◌+◌, ◌<◌, ◌≤◌, ◌^◌, ℕ, length, All, IfOk};
+ghost use Rattle.lf_model.specs.InRange.{IsShape};
+ghost use Rattle.lf_model.specs.Numbers.{bank_numbers, IsWhole};
+ghost use Rattle.lf_logs.specs.Lists.{lists_of};
+ghost use Rattle.lf_stats.specs.Answer.{IsBankStats, AreStats};
+
+use crate::bank::bank_stats;
+use crate::counts::{BankStats, Stats};
+use crate::port::unanswered;
+use lf_logs::bank_order;
+use lf_model::{Logs, NoMemory, Shape};
+use std::alloc::Global;
+
+fn of_bank(alloc: Global, shape: &Shape, logs: &Logs, bank: u8) -> Result<BankStats, NoMemory>
+    requires block { 0 < shape.now.block }
+    requires few { length logs.now.items ≤ 32 }
+    requires short { All (λ log. length log.items ≤ 2 ^ 24) logs.now.items }
+    requires whole { IsWhole (bank_numbers (lists_of logs.now) bank) }
+    ensures { IfOk result (λ stats. IsBankStats shape.now (lists_of logs.now) bank stats) }
+{
+    let Ok(places) = bank_order(alloc, logs, bank) else {
+        return Err(NoMemory);
+    };
+    bank_stats(alloc, shape, logs, places.as_slice())
+}
+
+/// Counts over the logs of a trace whose banks' numbers are whole.
+pub fn stats(alloc: Global, shape: &Shape, logs: &Logs) -> Result<Stats, NoMemory>
+    requires in_range { IsShape shape.now }
+    requires logs { length logs.now.items ≡ shape.now.ports + shape.now.banks }
+    requires short { All (λ log. length log.items ≤ 2 ^ 24) logs.now.items }
+    requires whole { (bank : ℕ) → bank < shape.now.banks → IsWhole (bank_numbers (lists_of logs.now) bank) }
+    ensures { IfOk result (AreStats shape.now (lists_of logs.now)) }
+{
+    let mut banks = Vec::new(alloc);
+    for bank in 0..shape.banks {
+        let counts = of_bank(alloc, shape, logs, bank as u8)?;
+        if banks.push(counts).is_err() {
+            return Err(NoMemory);
+        }
+    }
+    let mut ports = Vec::new(alloc);
+    for port in 0..shape.ports as usize {
+        if ports.push(unanswered(logs[port].as_slice())).is_err() {
+            return Err(NoMemory);
+        }
+    }
+    Ok(Stats {
+        banks,
+        unanswered: ports,
+    })
+}
