@@ -1,5 +1,5 @@
 -- A port and a bank, judged one record further.
-use Rattle.std.proofs.Common.{◌≡◌, ℕ, zero, suc, List, [], ◌∷◌, ◌++◌, length, Some, None, refl, sym, ap, ◌∙◌, subst}
+use Rattle.std.proofs.Common.{◌≡◌, ℕ, zero, suc, List, [], ◌∷◌, ◌++◌, length, Some, None, refl, sym, ◌∙◌, subst}
 use Rattle.std.specs.List.{AllByRecursion}
 use Rattle.std.proofs.lemmas.List.{append-nil}
 use Rattle.lf_model.specs.declared.shape.Shape.{Shape}
@@ -14,10 +14,10 @@ use Rattle.lf_model.specs.State.{Local}
 use Rattle.lf_model.specs.Run.{BreaksAt, effect}
 use Rattle.lf_model.specs.Table.{Side, OfPort, OfBank}
 use Rattle.lf_logs.specs.Reordering.{Reordering, first_with, HasOrdered}
-use Rattle.lf_logs.specs.Tags.{PortKept, PortStandsAfter}
+use Rattle.lf_logs.specs.Tags.{PortKept}
 use Rattle.lf_logs.proofs.Reordered.{first_with-number, first_with-push_other}
 use Rattle.lf_logs.proofs.GivenOut.{first_with-all}
-use Rattle.lf_replay.specs.Step.{BankKept, StandsAfter, IsForStep}
+use Rattle.lf_replay.specs.Step.{BankKept, IsForStep}
 use Rattle.lf_verdict.specs.declared.bank_judge.BankJudge.{BankJudge}
 use Rattle.lf_verdict.specs.Standing.{IsPortAt, IsBankAt, IsBankJudged, IsBankSettled}
 

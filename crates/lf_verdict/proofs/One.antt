@@ -33,8 +33,7 @@ use Rattle.lf_verdict.specs.declared.answer.Refusal.TheVariants as refusals
 use Rattle.lf_verdict.specs.Laws.{SameVerdict, VerdictsAreOne}
 use Rattle.lf_verdict.specs.Verdict.{Differs, IsFaultOf, IsNo, IsYes, IsOfAnother, IsTraceVerdict, IsVerdictOf, IsWorkerCount}
 use Rattle.lf_verdict.proofs.Traces.{trace_names, trace_fits}
-use Rattle.lf_verdict.proofs.Entries.{banks_whole, all_whole}
-use Rattle.lf_verdict.specs.Judging.{LogsFit}
+use Rattle.lf_verdict.proofs.Entries.{LogsFit, banks_whole, all_whole}
 use Rattle.lf_join.specs.Laws.{LeastOrdersAreOne, StuckRingsAreOne}
 use Rattle.lf_verdict.proofs.Counts.{no_gap, no_double}
 

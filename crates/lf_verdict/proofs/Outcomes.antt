@@ -1,9 +1,5 @@
 -- Outcomes, one for each port or each bank.
-use Rattle.std.proofs.Common.{◌≡◌, ℕ, ◌+◌, ◌<◌, List, [], ◌∷◌, ◌++◌, length, get_or, refl, sym, ◌∙◌, ap, subst, arith, inl, inr}
-use Rattle.std.specs.Global.{Vec}
-use Rattle.std.proofs.Math.Seq.{get_or-append_seam}
-use Rattle.std.proofs.lemmas.Bool.{cases_lt}
-use Rattle.std.proofs.lemmas.List.{length-append, length-map, get_or_append_left, get_or-map}
+use Rattle.std.proofs.Common.{◌≡◌, ℕ, ◌<◌, List, length, refl, subst, arith}
 use Rattle.lf_model.specs.declared.shape.Shape.{Shape}
 use Rattle.lf_model.specs.declared.event.Record.{Record}
 use Rattle.lf_model.specs.declared.outcome.Outcome.{Outcome}
@@ -13,30 +9,24 @@ use Rattle.lf_model.specs.Order.{log_at}
 use Rattle.lf_model.specs.Outcomes.{IsPortOutcome, IsBankOutcome, IsOutcomeOf, first_local}
 use Rattle.lf_model.specs.Run.{IsRunOf}
 use Rattle.lf_model.specs.Table.{Side, OfPort, OfBank}
-use Rattle.lf_logs.specs.Lists.{lists_of}
-use Rattle.lf_verdict.specs.declared.parts.Broken.{Broken}
+use Rattle.lf_verdict.specs.declared.standing_verdict.Broken.{Broken}
+use Rattle.lf_model.specs.Numbers.{IsNumbered}
 use Rattle.lf_verdict.specs.Parts.{PartsRun, PortRuns, BankRuns, IsPortFault, IsBankFault}
-use Rattle.lf_verdict.specs.Judging.{AreWholeBelow, AreNumbered, AreOutcomes, NoneBroken, NoneRanOut, IsFirstBroken, IsBroken, outcome_at}
+use Rattle.lf_verdict.specs.Judging.{AreWholeBelow, NoneBroken, IsFirstBroken, IsBroken, outcome_at}
 
-last_of : (all : List Outcome) (x : Outcome) (n : ℕ) → n ≡ length all → outcome_at (all ++ x ∷ []) n ≡ x
-last_of all x n e = rw e (get_or-append_seam all x [] outcomes.NoMemory)
+-- each bank's records, in the order of their numbers
+pub record AreNumbered (logs : List (List Record)) (banks : ℕ) (lists : List (List Record)) : Type 0 where
+  pub count : length lists ≡ banks
+  pub each : (bank : ℕ) → bank < banks → IsNumbered logs bank (log_at lists bank)
 
-pub outcomes_more : (Is : ℕ → Outcome → Type 0) (n : ℕ) (all new : List Outcome) (x : Outcome) → new ≡ all ++ x ∷ [] → AreOutcomes Is n all → Is n x → AreOutcomes Is (n + 1) new
-outcomes_more Is n all new x e are is = subst (AreOutcomes Is (n + 1)) (sym e) (record {
-  count = length-append all (x ∷ []) ∙ ap (λ m. m + 1) are.count;
-  each = λ part lt. elim (cases_lt part n) [
-    | inl below ↦
-        let short : part < length all = omega (arith, are.count) in
-        subst (Is part) (sym (get_or_append_left all (x ∷ []) outcomes.NoMemory part short)) (are.each part below)
-    | inr above ↦
-        let here : part ≡ n = omega arith in
-        let last : outcome_at (all ++ x ∷ []) part ≡ x = last_of all x part (here ∙ sym are.count) in
-        subst (λ m. Is m (outcome_at (all ++ x ∷ []) part)) (sym here) (subst (Is n) (sym last) is)
-  ];
-})
+-- so many outcomes, each of its part
+pub record AreOutcomes (IsOutcomeAt : ℕ → Outcome → Type 0) (parts : ℕ) (all : List Outcome) : Type 0 where
+  pub count : length all ≡ parts
+  pub each : (part : ℕ) → part < parts → IsOutcomeAt part (outcome_at all part)
 
-pub list_of : (vecs : Vec (Vec Record)) (i : ℕ) (d : Vec Record) → i < length vecs.items → log_at (lists_of vecs) i ≡ (get_or vecs.items i d).items
-list_of vecs i d lt = get_or-map (λ (v : Vec Record). v.items) vecs.items i d [] lt
+-- none ran out of memory
+abbrev pub NoneRanOut : List Outcome → ℕ → Type 0
+NoneRanOut all parts = (part : ℕ) → part < parts → ¬ (outcome_at all part ≡ outcomes.NoMemory)
 
 -- ---- what the outcomes say
 
@@ -93,21 +83,3 @@ module _ (shape : Shape) (memory : FlatMemory) (logs lists : List (List Record))
     ports = λ p lt. port_runs p lt (ports_fine p (omega (arith, j.of_ports.count)));
     banks = λ b lt. bank_runs b lt (banks_fine b (omega (arith, j.of_banks.count, j.numbered.count)));
   }
-
-pub judged : (shape : Shape) (memory : FlatMemory) (logs : List (List Record)) (vecs : Vec (Vec Record)) (ports banks ports' banks' : List Outcome)
-    → AreWholeBelow logs shape.banks → AreNumbered logs shape.banks (lists_of vecs)
-    → AreOutcomes (λ port. IsPortOutcome shape (log_at logs port)) shape.ports ports
-    → AreOutcomes (λ bank. IsBankOutcome shape memory (log_at (lists_of vecs) bank)) (length vecs.items) banks
-    → ports' ≡ ports → banks' ≡ banks → NoneRanOut ports' (length ports') → NoneRanOut banks' (length banks')
-    → Judged shape memory logs (lists_of vecs) ports banks
-judged shape memory logs vecs ports banks ports' banks' whole numbered of_ports of_banks same_ports same_banks had_ports had_banks = record {
-  whole = whole;
-  numbered = numbered;
-  of_ports = of_ports;
-  of_banks = subst (λ n. AreOutcomes (λ bank. IsBankOutcome shape memory (log_at (lists_of vecs) bank)) n banks) (sym (length-map vecs.items (λ (v : Vec Record). v.items))) of_banks;
-  ports_had = subst (λ (all : List Outcome). NoneRanOut all (length all)) same_ports had_ports;
-  banks_had = subst (λ (all : List Outcome). NoneRanOut all (length all)) same_banks had_banks;
-}
-
-pub lists_len : (vecs : Vec (Vec Record)) → length (lists_of vecs) ≡ length vecs.items
-lists_len vecs = length-map vecs.items (λ (v : Vec Record). v.items)

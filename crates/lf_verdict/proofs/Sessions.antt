@@ -1,14 +1,13 @@
 -- What a session takes from its reader, and what it answers.
-use Rattle.std.proofs.Common.{◌≡◌, ℕ, zero, suc, ◌+◌, ◌-◌, ◌<◌, ◌≤◌, ◌^◌, Bool, true, false, cond, List, [], ◌∷◌, ◌++◌, length, Option, Some, None, Result, Ok, Err, refl, sym, ap, ◌∙◌, subst, ◌⊎◌, inl, inr, ⊎_elim, arith}
+use Rattle.std.proofs.Common.{◌≡◌, ℕ, ◌-◌, ◌<◌, ◌≤◌, List, [], ◌∷◌, ◌++◌, length, Option, Some, None, Ok, Err, refl, sym, ap, ◌∙◌, subst, ◌⊎◌, inl, inr, ⊎_elim, arith}
 use Rattle.std.specs.Prelude.{◌==◌, slice_index}
 use Rattle.std.specs.List.{AllByRecursion}
-use Rattle.std.proofs.lemmas.List.{append-nil, append_assoc, length-append, take-append-le, get_or_append_left, get_or-append_right}
+use Rattle.std.proofs.lemmas.List.{append-nil, length-append, take-append-le, get_or_append_left, get_or-append_right}
 use Rattle.std.proofs.lemmas.List.Elements.{filter-append}
 use Rattle.std.proofs.lemmas.Bool.{cond-true, eq-eqb}
 use Rattle.lf_model.specs.declared.shape.Shape.{Shape}
 use Rattle.lf_model.specs.declared.event.Record.{Record}
-use Rattle.lf_model.specs.Address.{flat_memory}
-use Rattle.lf_model.specs.Fits.{Bytes, Fits}
+use Rattle.lf_model.specs.Fits.{Bytes}
 use Rattle.lf_model.specs.Run.{of_log}
 use Rattle.lf_codec.specs.declared.header.Header.{Header}
 use Rattle.lf_codec.specs.declared.fault.CodecFault.{CodecFault}
@@ -21,7 +20,7 @@ use Rattle.std.proofs.lemmas.Bool.{cases_lt}
 use Rattle.lf_verdict.proofs.Pieces.{fault_told}
 use Rattle.lf_verdict.proofs.Traces.{fits_shape}
 use Rattle.lf_verdict.proofs.Answered.{limit_is_small}
-use Rattle.lf_codec.specs.Reading.{Reading, nothing_read, reading_of, fault_of, fault_so_far, trace_fault, header_now, header_of}
+use Rattle.lf_codec.specs.Reading.{Reading, nothing_read, reading_of, fault_of, fault_so_far, header_now, header_of}
 use Rattle.lf_codec.specs.Reader.{HasRead, RanOut, told}
 use Rattle.lf_codec.specs.Trace.{IsTrace, FitsIn}
 use Rattle.lf_verdict.specs.declared.answer.Verdict.TheVariants.{Refused}

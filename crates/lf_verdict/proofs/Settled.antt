@@ -1,5 +1,5 @@
 -- What the parts say of a trace whose records have all come.
-use Rattle.std.proofs.Common.{◌≡◌, ℕ, zero, suc, ◌+◌, ◌*◌, ◌^◌, ◌<◌, ◌≤◌, Bool, true, false, cond, eqb, eqb-true, List, [], ◌∷◌, ◌++◌, map, length, get_or, Option, Some, None, refl, sym, ap, ◌∙◌, subst, inl, inr, ⊎_elim, arith}
+use Rattle.std.proofs.Common.{◌≡◌, ℕ, zero, suc, ◌+◌, ◌*◌, ◌^◌, ◌<◌, ◌≤◌, Bool, true, false, cond, eqb, eqb-true, List, [], ◌∷◌, map, length, get_or, refl, sym, ap, ◌∙◌, subst, inl, inr, ⊎_elim, arith}
 use Rattle.std.specs.Prelude.{◌==◌}
 use Rattle.std.specs.List.{AllByRecursion, All}
 use Rattle.std.specs.List.Sorted.{IsPermutation}
@@ -20,12 +20,11 @@ use Rattle.lf_model.specs.Order.{log_at, Takes}
 use Rattle.lf_model.specs.Ring.{entry_of, skeletons_of}
 use Rattle.lf_join.specs.Join.{BanksAreWhole}
 use Rattle.lf_model.specs.Outcomes.{IsPortOutcome, IsBankOutcome}
-use Rattle.lf_model.specs.Numbers.{all_records, numbers_of, bank_numbers, times, IsMissing, IsDouble, IsFineBelow, IsWhole, IsNumbered}
+use Rattle.lf_model.specs.Numbers.{all_records, numbers_of, bank_numbers, times, IsMissing, IsFineBelow, IsWhole}
 use Rattle.lf_model.specs.Run.{of_log, of_bank, Interleaves}
 use Rattle.lf_model.proofs.Permuted.{interleaving_permutes_bank}
 use Rattle.lf_logs.specs.declared.order.NumberFault.{NumberFault}
 use Rattle.lf_logs.specs.declared.order.NumberFault.TheVariants as numbers
-use Rattle.lf_logs.specs.Lists.{logs_of}
 use Rattle.lf_logs.specs.Places.{IsNumberFault}
 use Rattle.lf_logs.specs.Tags.{PortKept}
 use Rattle.lf_logs.proofs.GivenOut.{given_numbers, given_all, given_whole}
@@ -36,7 +35,7 @@ use Rattle.lf_verdict.specs.declared.port_judge.PortJudge.{PortJudge}
 use Rattle.lf_verdict.specs.declared.bank_judge.BankJudge.{BankJudge}
 use Rattle.lf_verdict.specs.declared.standing.Standing.{Standing}
 use Rattle.lf_verdict.specs.Parts.{HasWholeNumbers}
-use Rattle.lf_verdict.specs.Judging.{AreWholeBelow, AreNumbered, AreOutcomes, NoneRanOut, NoneBroken, IsBroken, outcome_at}
+use Rattle.lf_verdict.specs.Judging.{AreWholeBelow, NoneBroken, IsBroken, outcome_at}
 use Rattle.lf_verdict.specs.Standing.{IsPortAt, IsBankAt, IsPortJudged, IsBankSettled, StandsAfterAll, IsShort, logs_so_far}
 use Rattle.lf_verdict.proofs.Answered.{log_below}
 use Rattle.lf_verdict.proofs.Outcomes.{Judged}

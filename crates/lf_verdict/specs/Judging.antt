@@ -4,18 +4,13 @@ use Rattle.lf_model.specs.declared.shape.Shape.{Shape}
 use Rattle.lf_model.specs.declared.event.Record.{Record}
 use Rattle.lf_model.specs.declared.outcome.Outcome.{Outcome}
 use Rattle.lf_model.specs.declared.outcome.Outcome.TheVariants as outcomes
-use Rattle.lf_model.specs.Address.{FlatMemory, no_bank}
-use Rattle.std.specs.List.{AllByRecursion}
-use Rattle.lf_model.specs.Fits.{Fits}
-use Rattle.lf_model.specs.Order.{log_at, IsLeastOrder}
-use Rattle.lf_model.specs.Ring.{skeletons_of, IsRing}
-use Rattle.lf_join.specs.Join.{IsStuckRing}
-use Rattle.lf_replay.specs.Step.{IsBankOrder}
-use Rattle.lf_model.specs.Numbers.{IsNumbered}
+use Rattle.lf_model.specs.Address.{FlatMemory}
+use Rattle.lf_model.specs.Order.{IsLeastOrder}
+use Rattle.lf_model.specs.Ring.{skeletons_of}
 use Rattle.lf_logs.specs.declared.order.NumberFault.{NumberFault}
 use Rattle.lf_logs.specs.declared.order.NumberFault.TheVariants as numbers
 use Rattle.lf_verdict.specs.declared.answer.Fault.TheVariants as faults
-use Rattle.lf_verdict.specs.declared.parts.Broken.{Broken}
+use Rattle.lf_verdict.specs.declared.standing_verdict.Broken.{Broken}
 use Rattle.lf_verdict.specs.declared.halt.Halt.{Halt}
 use Rattle.lf_verdict.specs.declared.halt.Halt.TheVariants as halts
 use Rattle.lf_verdict.specs.declared.answer.Verdict.{Verdict}
@@ -33,62 +28,29 @@ IsHalt shape memory logs halts.NoMemory = Unit {0}
 abbrev pub AreWholeBelow : List (List Record) → ℕ → Type 0
 AreWholeBelow logs banks = (bank : ℕ) → bank < banks → HasWholeNumbers logs bank
 
--- each bank's records, in the order of their numbers
-pub record AreNumbered (logs : List (List Record)) (banks : ℕ) (lists : List (List Record)) : Type 0 where
-  pub count : length lists ≡ banks
-  pub each : (bank : ℕ) → bank < banks → IsNumbered logs bank (log_at lists bank)
-
 -- what a fault of the bank's numbers says
 abbrev pub number_halt : ℕ → NumberFault → Halt
 number_halt bank (numbers.Missing k) = halts.Found (faults.Missing bank k)
 number_halt bank (numbers.Double k) = halts.Found (faults.Double bank k)
 number_halt bank numbers.NoMemory = halts.NoMemory
 
--- the lists of the banks, each as a bank's replay takes it
-abbrev pub AreBankLists : Shape → List (List Record) → Type 0
-AreBankLists shape lists = (bank : ℕ) → bank < length lists → IsBankOrder shape bank (log_at lists bank)
-
 -- ---- outcomes, one for each port or each bank
 
 abbrev pub outcome_at : List Outcome → ℕ → Outcome
 outcome_at all part = slice_index_or all part outcomes.NoMemory
 
--- so many outcomes, each of its part
-pub record AreOutcomes (IsOutcomeAt : ℕ → Outcome → Type 0) (parts : ℕ) (all : List Outcome) : Type 0 where
-  pub count : length all ≡ parts
-  pub each : (part : ℕ) → part < parts → IsOutcomeAt part (outcome_at all part)
-
 abbrev pub IsBroken : Outcome → Type 0
 IsBroken (outcomes.Broken at rule) = Unit {0}
 IsBroken _ = ⊥
 
--- no part below this one is broken; none ran out of memory
+-- no part below this one is broken
 abbrev pub NoneBroken : List Outcome → ℕ → Type 0
 NoneBroken all parts = (part : ℕ) → part < parts → ¬ IsBroken (outcome_at all part)
-
-abbrev pub NoneRanOut : List Outcome → ℕ → Type 0
-NoneRanOut all parts = (part : ℕ) → part < parts → ¬ (outcome_at all part ≡ outcomes.NoMemory)
 
 pub record IsFirstBroken (all : List Outcome) (broken : Broken) : Type 0 where
   pub within : broken.part < length all
   pub is : outcome_at all broken.part ≡ outcomes.Broken broken.at broken.rule
   pub before : NoneBroken all broken.part
-
--- ---- the order
-
--- the logs that wait for one another, or want of memory
-abbrev pub IsOrderHalt : List (List (ℕ × ℕ)) → Halt → Type 0
-IsOrderHalt skeletons (halts.Found (faults.Cycle ring)) = IsStuckRing skeletons ring.items × IsRing skeletons ring.items
-IsOrderHalt skeletons halts.NoMemory = Unit {0}
-IsOrderHalt skeletons _ = ⊥
-
--- each bank's numbers are whole, however great the bank's number is; records that name no bank have none
-abbrev pub AllAreWhole : List (List Record) → Type 0
-AllAreWhole logs = (bank : ℕ) → bank < no_bank → HasWholeNumbers logs bank
-
--- each log's records fit the shape
-abbrev pub LogsFit : Shape → List (List Record) → Type 0
-LogsFit shape logs = (log : ℕ) → AllByRecursion (Fits shape) (log_at logs log)
 
 -- ---- what is said of the logs
 

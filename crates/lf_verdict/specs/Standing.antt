@@ -1,5 +1,5 @@
 -- How the parts of a trace stand while its records come.
-use Rattle.std.specs.Prelude.{◌≡◌, ℕ, ◌+◌, ◌<◌, ◌≤◌, ◌^◌, ◌++◌, List, [], ◌∷◌, map, length, slice_index_or, None}
+use Rattle.std.specs.Prelude.{◌≡◌, ℕ, ◌+◌, ◌<◌, ◌≤◌, ◌^◌, ◌++◌, List, [], ◌∷◌, length, slice_index_or, None}
 use Rattle.std.specs.List.{AllByRecursion}
 use Rattle.lf_model.specs.declared.shape.Shape.{Shape}
 use Rattle.lf_model.specs.declared.event.Record.{Record}
@@ -14,7 +14,7 @@ use Rattle.lf_model.specs.Ring.{skeletons_of}
 use Rattle.lf_model.specs.Run.{of_log, of_bank, BreaksAt}
 use Rattle.lf_model.specs.Table.{OfPort, OfBank}
 use Rattle.lf_logs.specs.Lists.{logs_of}
-use Rattle.lf_logs.specs.Reordering.{Reordering, first_with, HasOrdered}
+use Rattle.lf_logs.specs.Reordering.{first_with, HasOrdered}
 use Rattle.lf_logs.specs.Tags.{PortKept, PortStandsAfter}
 use Rattle.lf_join.specs.Join as joins
 use Rattle.lf_replay.specs.Bytes.{bank_part}
@@ -83,7 +83,8 @@ pub record StandsAfterAll (shape : Shape) (memory : FlatMemory) (records : List 
 pub record IsEntered (shape : Shape) (records : List Record) (r : Record) (before after : Standing) : Type 0 where
   pub logs : joins.lists_of after.logs.items ≡ skeletons_of (logs_of (shape.ports + shape.banks) (records ++ r ∷ []))
   pub count_ports : length after.ports.items ≡ shape.ports
-  pub ports : (port : ℕ) (d : PortJudge) → port < shape.ports → IsPortJudged shape port (of_log port (records ++ r ∷ [])) (slice_index_or after.ports.items port d)
+  pub ports : (port : ℕ) (d : PortJudge) → port < shape.ports
+      → IsPortJudged shape port (of_log port (records ++ r ∷ [])) (slice_index_or after.ports.items port d)
   pub banks : after.banks ≡ before.banks
 
 -- the logs of the records that came

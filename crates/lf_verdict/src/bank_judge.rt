@@ -65,7 +65,8 @@ impl BankJudge {
 
     /// Judges the records whose turn has come.
     fn settle(&mut self) -> Result<(), NoMemory>
-        requires { (shape : Shape) × ((memory : FlatMemory) × ((bank : ℕ) × ((came : List Record) × ((gave : List Record) × IsBankJudged shape memory bank came gave self.old)))) }
+        requires { (shape : Shape) × ((memory : FlatMemory) × ((bank : ℕ) ×
+            ((came : List Record) × ((gave : List Record) × IsBankJudged shape memory bank came gave self.old)))) }
         ensures { (shape : Shape) (memory : FlatMemory) (bank : ℕ) (came : List Record) (gave : List Record) → IsBankJudged shape memory bank came gave self.old
             → OnOk result ((more : List Record) × IsBankSettled shape memory bank came more self.new) }
     {

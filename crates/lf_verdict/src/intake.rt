@@ -13,7 +13,7 @@ ghost use Rattle.lf_codec.specs.Reader.{HasRead};
 
 use crate::answer::{HeaderField, Refusal, Verdict};
 use crate::halt::push;
-use crate::shape_check::differing;
+use crate::header::differing;
 use crate::standing::Standing;
 use lf_codec::{
     CodecCause, CodecFault, Reader, Told, exact_reading, faults_stand, header_of_bytes, read_so_far,

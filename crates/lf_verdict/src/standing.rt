@@ -23,7 +23,8 @@ pub struct Standing {
 impl Standing {
     /// Keeps the entry of the next record, and judges it by its port where it stands in a port's log.
     fn enter(&mut self, item: &Record) -> Result<(), NoMemory>
-        requires { (shape : Shape) × ((memory : FlatMemory) × ((records : List Record) × (MayCome shape records item.now × StandsAfterAll shape memory records self.old))) }
+        requires { (shape : Shape) × ((memory : FlatMemory) × ((records : List Record) ×
+            (MayCome shape records item.now × StandsAfterAll shape memory records self.old))) }
         ensures { (shape : Shape) (memory : FlatMemory) (records : List Record) → MayCome shape records item.now → StandsAfterAll shape memory records self.old
             → OnOk result (IsEntered shape records item.now self.old self.new) }
     {
@@ -38,7 +39,8 @@ impl Standing {
 
     /// Takes the next record of the trace. A fence names no bank.
     pub fn take(&mut self, item: Record) -> Result<(), NoMemory>
-        requires { (shape : Shape) × ((memory : FlatMemory) × ((records : List Record) × (MayCome shape records item × StandsAfterAll shape memory records self.old))) }
+        requires { (shape : Shape) × ((memory : FlatMemory) × ((records : List Record) ×
+            (MayCome shape records item × StandsAfterAll shape memory records self.old))) }
         ensures { (shape : Shape) (memory : FlatMemory) (records : List Record) → MayCome shape records item → StandsAfterAll shape memory records self.old
             → OnOk result (StandsAfterAll shape memory (records ++ item ∷ []) self.new) }
     {

@@ -1,25 +1,30 @@
 //! The verdict of a trace whose records have all come.
 
-ghost use Rattle.std.specs.Prelude.{◌≡◌, ◌+◌, ◌≤◌, ◌<◌, ◌^◌, ℕ, List, map, length, IfOk, IfErr, OnOk, IfSome, IfNone};
+ghost use Rattle.std.specs.Prelude.{◌≡◌, ◌≤◌, ◌<◌, List, map, length, IfOk, IfErr, OnOk, IfSome, IfNone};
 ghost use Rattle.lf_model.specs.declared.shape.Shape.{Shape};
 ghost use Rattle.lf_model.specs.declared.event.Record.{Record};
 ghost use Rattle.lf_model.specs.Address.{FlatMemory};
-ghost use Rattle.lf_model.specs.Run.{of_log};
-ghost use Rattle.lf_logs.specs.Lists.{logs_of};
 ghost use Rattle.lf_verdict.specs.Parts.{PartsRun};
-ghost use Rattle.lf_verdict.specs.Judging.{IsHalt, AreWholeBelow, IsOrderOf, IsLogsVerdict, IsFirstBroken, NoneBroken};
+ghost use Rattle.lf_verdict.specs.Judging.{IsHalt, number_halt, AreWholeBelow, IsOrderOf, IsLogsVerdict, IsFirstBroken, NoneBroken};
 ghost use Rattle.lf_verdict.specs.Standing.{logs_so_far, IsShort, StandsAfterAll};
 
 use crate::answer::{Fault, Refusal, Verdict};
 use crate::bank_judge::BankJudge;
 use crate::halt::Halt;
-use crate::numbers::number_halt;
-use crate::parts::Broken;
 use crate::port_judge::PortJudge;
 use crate::standing::Standing;
 use lf_join::{JoinFault, join};
-use lf_model::Outcome;
+use lf_logs::NumberFault;
+use lf_model::{Outcome, Rule};
 use std::alloc::Global;
+
+/// A port or a bank that is broken: at a place, by a rule.
+#[derive(Clone, Copy)]
+pub struct Broken {
+    pub part: u8,
+    pub at: u32,
+    pub rule: Rule,
+}
 
 fn first_broken_port(ports: &[PortJudge]) -> Option<Broken>
     requires { length ports.now ≤ 16 }
@@ -53,6 +58,16 @@ fn first_broken_bank(banks: &[BankJudge]) -> Option<Broken>
         }
     }
     None
+}
+
+fn number_halt(bank: u8, fault: NumberFault) -> Halt
+    ensures { result ≡ number_halt bank fault }
+{
+    match fault {
+        NumberFault::Missing(k) => Halt::Found(Fault::Missing { bank, k }),
+        NumberFault::Double(k) => Halt::Found(Fault::Double { bank, k }),
+        NumberFault::NoMemory => Halt::NoMemory,
+    }
 }
 
 impl Standing {
@@ -95,7 +110,8 @@ impl Standing {
     /// The least order of the logs. Numbers are judged first, then the ports, then the banks, then
     /// whether the logs wait for one another.
     fn judged_order(&self, alloc: Global) -> Result<Vec<u8>, Halt>
-        requires { (shape : Shape) × ((memory : FlatMemory) × ((records : List Record) × (StandsAfterAll shape memory records self.now × IsShort shape records))) }
+        requires { (shape : Shape) × ((memory : FlatMemory) × ((records : List Record) ×
+            (StandsAfterAll shape memory records self.now × IsShort shape records))) }
         ensures order { (shape : Shape) (memory : FlatMemory) (records : List Record) → StandsAfterAll shape memory records self.now → IsShort shape records
             → IfOk result (λ order. IsOrderOf shape memory (logs_so_far shape records) order.items) }
         ensures fault { (shape : Shape) (memory : FlatMemory) (records : List Record) → StandsAfterAll shape memory records self.now → IsShort shape records
@@ -116,7 +132,8 @@ impl Standing {
 
     /// The verdict of the records so far, as those of a whole trace.
     pub fn verdict(&self, alloc: Global) -> Verdict
-        requires { (shape : Shape) × ((memory : FlatMemory) × ((records : List Record) × (StandsAfterAll shape memory records self.now × IsShort shape records))) }
+        requires { (shape : Shape) × ((memory : FlatMemory) × ((records : List Record) ×
+            (StandsAfterAll shape memory records self.now × IsShort shape records))) }
         ensures { (shape : Shape) (memory : FlatMemory) (records : List Record) → StandsAfterAll shape memory records self.now → IsShort shape records
             → IsLogsVerdict shape memory (logs_so_far shape records) result }
     {

@@ -6,8 +6,9 @@ ghost use Rattle.lf_model.specs.InRange.{IsFrom, IsShape};
 use super::*;
 use lf_codec::{CodecCause, CodecFault, Told};
 use lf_config::{ConfigFault, Key};
-use lf_model::{Knot, Level, OrgShape, Rule, Shape};
+use lf_model::{Knot, Level, OrgShape, Ring, Rule, Shape};
 use std::alloc::{AllocError, Global};
+use std::process::Abort;
 use std::test::Fail;
 
 mod mixtures;
@@ -90,6 +91,12 @@ impl Draft {
         Ok(Draft { bytes, count: 0 })
     }
 
+    /// One load that misses both levels, and more to come.
+    fn after_the_load(alloc: Global) -> Result<Draft, AllocError> {
+        let bytes = Vec::from_slice(alloc, &LOAD_MISSES_BOTH_LEVELS[..124])?;
+        Ok(Draft { bytes, count: 6 })
+    }
+
     fn head(&mut self, kind: u8, log: u8, bank: u8, number: u32) -> Result<(), AllocError> {
         self.count = self.count.wrapping_add(1);
         self.bytes.extend_from_slice(&[kind, log, bank, 0])?;
@@ -116,6 +123,13 @@ impl Draft {
         self.bytes.extend_from_slice(&[0, 0, 0, 0])
     }
 
+    /// The reply to tag 0 of port 0, by bank 0, of eight zero bytes.
+    fn reply(&mut self, number: u32) -> Result<(), AllocError> {
+        self.head(2, 0, 0, number)?;
+        self.bytes
+            .extend_from_slice(&[0, 8, 0, 0, 0, 0, 0, 0, 0, 0, 0, 0])
+    }
+
     fn end(mut self) -> Result<Vec<u8>, AllocError> {
         self.bytes.extend_from_slice(&[0, 0, 0, 0])?;
         self.bytes.extend_from_slice(&self.count.to_le_bytes())?;
@@ -131,24 +145,54 @@ fn yes(alloc: Global, order: &[u8]) -> Result<Verdict, AllocError> {
     })
 }
 
-fn logs_of(verdict: &Verdict) -> &[Knot] {
-    match verdict {
-        Verdict::No(Fault::Cycle(ring)) => ring,
-        _ => &[],
+fn format_fault(cause: CodecCause, offset: u64) -> Verdict {
+    Verdict::Refused(Refusal::Format(CodecFault { cause, offset }))
+}
+
+/// The answer of a session that is fed pieces of so many bytes.
+fn by_session<T: AllocGlobal>(rt: &T, shape: &Shape, bytes: &[u8], size: usize) -> Verdict
+    requires shape { IsShape shape.now }
+    requires size { 0 < size }
+{
+    let mut session = Session::for_shape(rt.alloc(), shape);
+    for piece in bytes.chunks(size) {
+        let _ = session.feed(piece);
     }
+    session.finish()
+}
+
+/// Fails where another verdict is told of the bytes, by a check of them in one piece, by a session that
+/// is fed one piece or by a session that is fed byte by byte.
+fn assert_verdict<T: Abort + AllocGlobal>(
+    rt: &T,
+    shape: &Shape,
+    bytes: &[u8],
+    verdict: &Verdict,
+) -> Result<(), Fail>
+    requires { IsShape shape.now }
+{
+    let checked = check_shape(rt, shape, &[bytes], 1);
+    assert_eq!(rt; checked, *verdict);
+    for size in [1000usize, 1] {
+        let answer = by_session(rt, shape, bytes, size);
+        assert_eq!(rt; answer, *verdict);
+    }
+    Ok(())
 }
 
 #[test]
-fn one_load_is_legal(rt: HostRuntime) -> Result<(), Fail> {
+fn empty_trace(rt: HostRuntime) -> Result<(), Fail> {
+    let bytes = Draft::new(rt.alloc(), 1, 1)?.end()?;
+    assert_verdict(&rt, &hierarchy(1, 1), &bytes, &yes(rt.alloc(), &[])?)
+}
+
+#[test]
+fn load_misses_both_levels(rt: HostRuntime) -> Result<(), Fail> {
     let bytes: &[u8] = &LOAD_MISSES_BOTH_LEVELS;
-    let order = [0, 1, 1, 1, 1, 0];
-    let whole = check_shape(&rt, &hierarchy(1, 1), &[bytes], 1);
-    assert_eq!(rt; whole, yes(rt.alloc(), &order)?);
+    let legal = yes(rt.alloc(), &[0, 1, 1, 1, 1, 0])?;
+    assert_verdict(&rt, &hierarchy(1, 1), bytes, &legal)?;
     let cut = check_shape(&rt, &hierarchy(1, 1), &[&bytes[..1], &[], &bytes[1..]], 1);
-    assert_eq!(rt; cut, yes(rt.alloc(), &order)?);
-    let empty = Draft::new(rt.alloc(), 1, 1)?.end()?;
-    let none = check_shape(&rt, &hierarchy(1, 1), &[&empty], 1);
-    assert_eq!(rt; none, yes(rt.alloc(), &[])?);
+    assert_eq!(rt; cut, legal);
     Ok(())
 }
 
@@ -170,42 +214,30 @@ fn load_with_a_fence(alloc: Global, place: usize) -> Result<Vec<u8>, AllocError>
 fn fence_last(rt: HostRuntime) -> Result<(), Fail> {
     let last = load_with_a_fence(rt.alloc(), 124)?;
     assert_eq!(rt; last.len(), 140);
-    let verdict = check_shape(&rt, &hierarchy(1, 1), &[&last], 1);
-    assert_eq!(rt; verdict, yes(rt.alloc(), &[0, 1, 1, 1, 1, 0, 0])?);
-    Ok(())
+    let legal = yes(rt.alloc(), &[0, 1, 1, 1, 1, 0, 0])?;
+    assert_verdict(&rt, &hierarchy(1, 1), &last, &legal)
 }
 
 #[test]
 fn fence_elsewhere(rt: HostRuntime) -> Result<(), Fail> {
     let first = load_with_a_fence(rt.alloc(), 16)?;
-    let verdict = check_shape(&rt, &hierarchy(1, 1), &[&first], 1);
-    assert_eq!(rt; verdict, yes(rt.alloc(), &[0, 0, 1, 1, 1, 1, 0])?);
+    let legal = yes(rt.alloc(), &[0, 0, 1, 1, 1, 1, 0])?;
+    assert_verdict(&rt, &hierarchy(1, 1), &first, &legal)?;
     let between = load_with_a_fence(rt.alloc(), 104)?;
-    let verdict = check_shape(&rt, &hierarchy(1, 1), &[&between], 1);
-    let fault = Fault::Port {
-        port: 0,
-        at: 1,
-        rule: Rule::FenceBusy,
-    };
-    assert_eq!(rt; verdict, Verdict::No(fault));
-    Ok(())
+    let busy = port_fault(1, Rule::FenceBusy);
+    assert_verdict(&rt, &hierarchy(1, 1), &between, &busy)
 }
 
 #[test]
-fn factor_in_header(rt: HostRuntime) {
+fn factor_in_header(rt: HostRuntime) -> Result<(), Fail> {
     let mut bytes = [
         0x4c, 0x46, 0x54, 0x53, 3, 0, 1, 1, 8, 0, 2, 0, 0, 0, 0, 0, 0, 0, 0, 0, 0, 0, 0, 0,
     ];
-    let verdict = check_shape(&rt, &hierarchy(1, 1), &[&bytes], 1);
-    let field = HeaderField::Factor;
-    assert_eq!(rt; verdict, Verdict::Refused(Refusal::Header(field)));
+    let factor = Verdict::Refused(Refusal::Header(HeaderField::Factor));
+    assert_verdict(&rt, &hierarchy(1, 1), &bytes, &factor)?;
     bytes[10] = 3;
-    let verdict = check_shape(&rt, &hierarchy(1, 1), &[&bytes], 1);
-    let fault = CodecFault {
-        cause: CodecCause::HeaderRange,
-        offset: 0,
-    };
-    assert_eq!(rt; verdict, Verdict::Refused(Refusal::Format(fault)));
+    let range = format_fault(CodecCause::HeaderRange, 0);
+    assert_verdict(&rt, &hierarchy(1, 1), &bytes, &range)
 }
 
 #[test]
@@ -218,25 +250,26 @@ fn the_configuration_is_read(rt: HostRuntime) -> Result<(), Fail> {
     assert_eq!(rt; verdict, Verdict::Refused(Refusal::Config(fault)));
     let verdict = check(&rt, "", &[bytes], 0);
     assert_eq!(rt; verdict, Verdict::Refused(Refusal::Workers(0)));
+    let fault = ConfigFault::Missing(Key::Ports);
+    let refused = Session::new(rt.alloc(), "").err();
+    assert_eq!(rt; refused, Some(Refusal::Config(fault)));
     Ok(())
 }
 
 #[test]
-fn a_wrong_byte_is_named(rt: HostRuntime) -> Result<(), Fail> {
+fn reply_with_a_wrong_byte(rt: HostRuntime) -> Result<(), Fail> {
     let mut bytes = LOAD_MISSES_BOTH_LEVELS;
     bytes[116] = 1;
-    let verdict = check_shape(&rt, &hierarchy(1, 1), &[&bytes], 1);
-    let fault = Fault::Bank {
+    let fault = Verdict::No(Fault::Bank {
         bank: 0,
         number: 5,
         rule: Rule::ReplyData,
-    };
-    assert_eq!(rt; verdict, Verdict::No(fault));
-    Ok(())
+    });
+    assert_verdict(&rt, &hierarchy(1, 1), &bytes, &fault)
 }
 
 #[test]
-fn numbers_are_judged(rt: HostRuntime) -> Result<(), Fail> {
+fn gaps_and_doubles(rt: HostRuntime) -> Result<(), Fail> {
     let cases = [
         ([0, 1, 3], Fault::Missing { bank: 0, k: 2 }),
         ([0, 1, 1], Fault::Double { bank: 0, k: 1 }),
@@ -248,70 +281,87 @@ fn numbers_are_judged(rt: HostRuntime) -> Result<(), Fail> {
             draft.load(0, 0, number, tag, 0)?;
         }
         let bytes = draft.end()?;
-        let verdict = check_shape(&rt, &hierarchy(1, 1), &[&bytes], 1);
-        assert_eq!(rt; verdict, Verdict::No(fault));
+        assert_verdict(&rt, &hierarchy(1, 1), &bytes, &Verdict::No(fault))?;
     }
     Ok(())
 }
 
+/// A no for port 0.
+fn port_fault(at: u32, rule: Rule) -> Verdict {
+    let port = 0;
+    Verdict::No(Fault::Port { port, at, rule })
+}
+
 #[test]
-fn the_lowest_port_and_bank_are_named(rt: HostRuntime) -> Result<(), Fail> {
+fn tags_of_a_port(rt: HostRuntime) -> Result<(), Fail> {
+    let mut draft = Draft::new(rt.alloc(), 1, 1)?;
+    draft.load(0, 0, 0, 0, 0)?;
+    draft.load(0, 0, 1, 0, 0)?;
+    let busy = port_fault(1, Rule::TagBusy);
+    assert_verdict(&rt, &hierarchy(1, 1), &draft.end()?, &busy)?;
+    let mut draft = Draft::new(rt.alloc(), 1, 1)?;
+    draft.load(0, 0, 0, 4, 0)?;
+    let range = port_fault(0, Rule::TagRange);
+    assert_verdict(&rt, &hierarchy(1, 1), &draft.end()?, &range)
+}
+
+#[test]
+fn tags_of_a_port_after_a_reply(rt: HostRuntime) -> Result<(), Fail> {
+    let mut draft = Draft::after_the_load(rt.alloc())?;
+    draft.load(0, 0, 6, 0, 0)?;
+    let legal = yes(rt.alloc(), &[0, 1, 1, 1, 1, 0, 0])?;
+    assert_verdict(&rt, &hierarchy(1, 1), &draft.end()?, &legal)?;
+    let mut draft = Draft::after_the_load(rt.alloc())?;
+    draft.reply(6)?;
+    let twice = port_fault(2, Rule::NotOutstanding);
+    assert_verdict(&rt, &hierarchy(1, 1), &draft.end()?, &twice)
+}
+
+#[test]
+fn lowest_bank_any_workers(rt: HostRuntime) -> Result<(), Fail> {
     let mut draft = Draft::new(rt.alloc(), 1, 4)?;
     draft.hit(4, 3, 0)?;
     draft.hit(2, 1, 0)?;
     let bytes = draft.end()?;
-    let verdict = check_shape(&rt, &hierarchy(1, 4), &[&bytes], 1);
-    let fault = Fault::Bank {
+    let lowest = Verdict::No(Fault::Bank {
         bank: 1,
         number: 0,
         rule: Rule::NotHead,
-    };
-    assert_eq!(rt; verdict, Verdict::No(fault));
-    let mut draft = Draft::new(rt.alloc(), 1, 1)?;
-    draft.load(0, 0, 0, 0, 0)?;
-    draft.load(0, 0, 1, 0, 0)?;
-    let bytes = draft.end()?;
-    let verdict = check_shape(&rt, &hierarchy(1, 1), &[&bytes], 1);
-    let fault = Fault::Port {
-        port: 0,
-        at: 1,
-        rule: Rule::TagBusy,
-    };
-    assert_eq!(rt; verdict, Verdict::No(fault));
+    });
+    assert_verdict(&rt, &hierarchy(1, 4), &bytes, &lowest)?;
+    // Only one worker is taken yet.
+    for workers in [0, 2, 16, 17] {
+        let verdict = check_shape(&rt, &hierarchy(1, 4), &[&bytes], workers);
+        assert_eq!(rt; verdict, Verdict::Refused(Refusal::Workers(workers)));
+    }
     Ok(())
 }
 
+/// A no for logs that wait for one another, each at its first event.
+fn cycle_of(logs: &[u8]) -> Verdict {
+    let mut ring = Ring::new();
+    for log in logs {
+        let _ = ring.try_push(Knot { log: *log, at: 0 });
+    }
+    Verdict::No(Fault::Cycle(ring))
+}
+
 #[test]
-fn logs_that_wait_are_named(rt: HostRuntime) -> Result<(), Fail> {
+fn cycle_of_two_logs(rt: HostRuntime) -> Result<(), Fail> {
     let mut draft = Draft::new(rt.alloc(), 2, 2)?;
     draft.load(0, 0, 1, 0, 0)?;
     draft.load(0, 1, 0, 1, 8)?;
     draft.load(1, 1, 1, 0, 8)?;
     draft.load(1, 0, 0, 1, 0)?;
-    let bytes = draft.end()?;
-    let verdict = check_shape(&rt, &hierarchy(2, 2), &[&bytes], 1);
-    assert_eq!(rt;
-        logs_of(&verdict),
-        [Knot { log: 0, at: 0 }, Knot { log: 1, at: 0 }].as_slice()
-    );
-    Ok(())
+    assert_verdict(&rt, &hierarchy(2, 2), &draft.end()?, &cycle_of(&[0, 1]))
 }
 
 #[test]
-fn mixed_logs_have_one_verdict(rt: HostRuntime) -> Result<(), Fail> {
-    let mut draft = Draft::new(rt.alloc(), 2, 1)?;
-    draft.load(1, 0, 1, 0, 0)?;
-    draft.load(0, 0, 0, 0, 0)?;
-    let mixed = draft.end()?;
-    let mut draft = Draft::new(rt.alloc(), 2, 1)?;
-    draft.load(0, 0, 0, 0, 0)?;
-    draft.load(1, 0, 1, 0, 0)?;
-    let sorted = draft.end()?;
-    for bytes in [mixed, sorted] {
-        let verdict = check_shape(&rt, &hierarchy(2, 1), &[&bytes], 1);
-        assert_eq!(rt; verdict, yes(rt.alloc(), &[0, 1])?);
-    }
-    Ok(())
+fn cycle_of_one_log(rt: HostRuntime) -> Result<(), Fail> {
+    let mut draft = Draft::new(rt.alloc(), 1, 1)?;
+    draft.load(0, 0, 1, 0, 0)?;
+    draft.load(0, 0, 0, 1, 0)?;
+    assert_verdict(&rt, &hierarchy(1, 1), &draft.end()?, &cycle_of(&[0]))
 }
 
 /// How the loads of four ports stand in a file. Each port sends one to each of four banks, in the order
@@ -366,80 +416,93 @@ fn mixed_logs_of_four_ports_and_banks_in_any_pieces(rt: HostRuntime) -> Result<(
     Ok(())
 }
 
-#[test]
-fn refusals(rt: HostRuntime) -> Result<(), Fail> {
-    let bytes: &[u8] = &LOAD_MISSES_BOTH_LEVELS;
-    for workers in [0, 2, 17] {
-        let verdict = check_shape(&rt, &hierarchy(1, 1), &[bytes], workers);
-        assert_eq!(rt; verdict, Verdict::Refused(Refusal::Workers(workers)));
+/// The trace of one load, cut to so many bytes.
+fn cut_to(n: usize) -> &'static [u8] {
+    let (front, _) = LOAD_MISSES_BOTH_LEVELS.split_at(n.min(132));
+    front
+}
+
+/// Fails where the trace of one load, cut anywhere, is refused otherwise than as cut in the header or in
+/// the record in which it ends.
+fn assert_truncated<T: Abort + AllocGlobal>(rt: &T) -> Result<(), Fail> {
+    // Where a header or a record begins and ends.
+    for (start, end) in [
+        (0, 16),
+        (16, 36),
+        (36, 48),
+        (48, 64),
+        (64, 84),
+        (84, 104),
+        (104, 124),
+        (124, 132),
+    ] {
+        let fault = format_fault(CodecCause::Truncated, start);
+        for n in start..end {
+            assert_verdict(rt, &hierarchy(1, 1), cut_to(n as usize), &fault)?;
+        }
     }
-    let fault = CodecFault {
-        cause: CodecCause::Truncated,
-        offset: 124,
+    Ok(())
+}
+
+#[test]
+fn truncated_and_trailing(rt: HostRuntime) -> Result<(), Fail> {
+    assert_truncated(&rt)?;
+    let mut bytes = Vec::from_slice(rt.alloc(), &LOAD_MISSES_BOTH_LEVELS)?;
+    bytes.push(0)?;
+    let trailing = format_fault(CodecCause::Trailing, 132);
+    assert_verdict(&rt, &hierarchy(1, 1), &bytes, &trailing)?;
+    let mut bytes = LOAD_MISSES_BOTH_LEVELS;
+    bytes[27] = 1;
+    let reserved = format_fault(CodecCause::Reserved, 16);
+    assert_verdict(&rt, &hierarchy(1, 1), &bytes, &reserved)
+}
+
+#[test]
+fn header_of_another_hierarchy(rt: HostRuntime) -> Result<(), Fail> {
+    let bytes = &LOAD_MISSES_BOTH_LEVELS;
+    let ports = Verdict::Refused(Refusal::Header(HeaderField::Ports));
+    assert_verdict(&rt, &hierarchy(2, 2), bytes, &ports)?;
+    let banks = Verdict::Refused(Refusal::Header(HeaderField::Banks));
+    assert_verdict(&rt, &hierarchy(1, 2), bytes, &banks)
+}
+
+#[test]
+fn mixed_logs(rt: HostRuntime) -> Result<(), Fail> {
+    let load = &LOAD_MISSES_BOTH_LEVELS;
+    let mut mixed = Vec::from_slice(rt.alloc(), &load[..16])?;
+    mixed.extend_from_slice(&load[36..104])?;
+    mixed.extend_from_slice(&load[16..36])?;
+    mixed.extend_from_slice(&load[104..])?;
+    let legal = yes(rt.alloc(), &[0, 1, 1, 1, 1, 0])?;
+    assert_verdict(&rt, &hierarchy(1, 1), &mixed, &legal)
+}
+
+#[test]
+fn session_of_a_configuration(rt: HostRuntime) -> Result<(), Fail> {
+    let Ok(mut session) = Session::new(rt.alloc(), CONFIGURATION) else {
+        return Err(Fail::new("no session"));
     };
-    let verdict = check_shape(&rt, &hierarchy(1, 1), &[&bytes[..131]], 1);
-    assert_eq!(rt; verdict, Verdict::Refused(Refusal::Format(fault)));
-    let verdict = check_shape(&rt, &hierarchy(2, 2), &[bytes], 1);
-    assert_eq!(rt;
-        verdict,
-        Verdict::Refused(Refusal::Header(HeaderField::Ports))
-    );
-    Ok(())
-}
-
-/// The answer of a session that is fed a byte at a time.
-fn fed_by_bytes(rt: &HostRuntime, shape: &Shape, bytes: &[u8]) -> Verdict
-    requires { IsShape shape.now }
-{
-    let mut session = Session::for_shape(rt.alloc(), shape);
-    for byte in bytes {
-        let _ = session.feed(&[*byte]);
-    }
-    session.finish()
-}
-
-#[test]
-fn a_session_answers_as_one_piece(rt: HostRuntime) -> Result<(), Fail> {
-    let order = [0, 1, 1, 1, 1, 0];
-    let bytes: &[u8] = &LOAD_MISSES_BOTH_LEVELS;
-    let verdict = fed_by_bytes(&rt, &hierarchy(1, 1), bytes);
-    assert_eq!(rt; verdict, yes(rt.alloc(), &order)?);
-    let mut mixed = Vec::from_slice(rt.alloc(), &LOAD_MISSES_BOTH_LEVELS[..16])?;
-    mixed.extend_from_slice(&LOAD_MISSES_BOTH_LEVELS[36..104])?;
-    mixed.extend_from_slice(&LOAD_MISSES_BOTH_LEVELS[16..36])?;
-    mixed.extend_from_slice(&LOAD_MISSES_BOTH_LEVELS[104..])?;
-    let verdict = fed_by_bytes(&rt, &hierarchy(1, 1), &mixed);
-    assert_eq!(rt; verdict, yes(rt.alloc(), &order)?);
-    let verdict = check_shape(&rt, &hierarchy(1, 1), &[&mixed], 1);
-    assert_eq!(rt; verdict, yes(rt.alloc(), &order)?);
-    let verdict = fed_by_bytes(&rt, &hierarchy(2, 1), bytes);
-    assert_eq!(rt;
-        verdict,
-        Verdict::Refused(Refusal::Header(HeaderField::Ports))
-    );
+    assert_eq!(rt; session.feed(&LOAD_MISSES_BOTH_LEVELS), Ok(()));
+    assert_eq!(rt; session.finish(), yes(rt.alloc(), &[0, 1, 1, 1, 1, 0])?);
     Ok(())
 }
 
 #[test]
-fn a_session_after_a_refusal(rt: HostRuntime) -> Result<(), Fail> {
-    let empty = Draft::new(rt.alloc(), 1, 1)?.end()?;
+fn session_after_refusal(rt: HostRuntime) -> Result<(), Fail> {
+    let mut bytes = Draft::new(rt.alloc(), 1, 1)?.end()?;
+    bytes.push(0)?;
     let trailing = CodecFault {
         cause: CodecCause::Trailing,
         offset: 24,
     };
-    let mut session = Session::for_shape(rt.alloc(), &hierarchy(1, 1));
-    assert_eq!(rt; session.feed(&empty), Ok(()));
-    assert_eq!(rt;
-        session.feed(&[0]),
-        Err(Told::Fault(Refusal::Format(trailing)))
-    );
-    assert_eq!(rt;
-        session.feed(&[0]),
-        Err(Told::Failed(Refusal::Format(trailing)))
-    );
-    assert_eq!(rt;
-        session.finish(),
-        Verdict::Refused(Refusal::Format(trailing))
-    );
+    let Ok(mut session) = Session::new(rt.alloc(), CONFIGURATION) else {
+        return Err(Fail::new("no session"));
+    };
+    let told = session.feed(&bytes);
+    assert_eq!(rt; told, Err(Told::Fault(Refusal::Format(trailing))));
+    let told = session.feed(&[0]);
+    assert_eq!(rt; told, Err(Told::Failed(Refusal::Format(trailing))));
+    let refusal = Refusal::Format(trailing);
+    assert_eq!(rt; session.finish(), Verdict::Refused(refusal));
     Ok(())
 }

@@ -1,18 +1,15 @@
 -- Laws of the bytes that were handed to a session.
-use Rattle.std.proofs.Common.{◌≡◌, ◌≢◌, ℕ, ◌+◌, ◌-◌, ◌<◌, ◌≤◌, List, [], ◌++◌, length, take, Option, None, Some, true, false, sym, ap, ◌∙◌, subst, refl, inl, inr, arith, append-nil}
-use Rattle.std.specs.Prelude.{IsTrue, ◌↔◌}
-use Rattle.std.specs.Io.KnownBytes.{Consumes, IsAtEnd}
+use Rattle.std.proofs.Common.{◌≡◌, ◌≢◌, ℕ, ◌-◌, List, ◌++◌, length, Option, None, Some, sym, ◌∙◌, refl, inl, inr}
+use Rattle.std.specs.Io.KnownBytes.{Consumes}
 use Rattle.std.proofs.lemmas.Bool.{cases_lt}
 use Rattle.std.proofs.lemmas.List.{get_or_append_left, get_or-append_right}
 use Rattle.lf_codec.specs.Laws.{AreBytes, FaultsSoFarAreNotTruncated}
 use Rattle.lf_codec.specs.Reading.{fault_so_far}
-use Rattle.lf_codec.specs.declared.fault.CodecFault.{CodecFault}
 use Rattle.lf_verdict.specs.declared.answer.Refusal.{Refusal}
 use Rattle.lf_verdict.specs.declared.answer.Refusal.TheVariants.{Workers, Config, Format, Header, Memory, Thread}
 use Rattle.lf_verdict.specs.declared.intake.Intake.{Intake}
 use Rattle.lf_verdict.specs.Session.{HasFed, IsRefusalSoFar}
 use Rattle.score.specs.Gathered.{HasFault}
-use Rattle.score.specs.Run.{NoMore, piece_len, Reads, HasGathered}
 
 pub both_bytes : (xs ys : List ℕ) → AreBytes xs → AreBytes ys → AreBytes (xs ++ ys)
 both_bytes xs ys a b i =

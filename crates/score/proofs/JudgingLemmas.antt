@@ -112,10 +112,13 @@ finished remaining old new shape workers turns session v same count few none g l
 -- ---- for a configuration
 
 pub text_runless : NoHasNoRun → (text : List ℕ) (workers : ℕ) → MeansOfNo (IsAsked text workers) (IsVerdictFor text workers) (IsRunlessNoFor text)
-text_runless law text workers bytes (No f) h = ((h.0, (h.1.shape, h.1.configured)), λ shape configured.
-    let same : Ok h.1.shape ≡ Ok shape = sym h.1.configured ∙ configured in
-    let one : h.1.shape ≡ shape = cc in
-    subst (λ (s : Shape). IsRunlessNo s bytes (No f)) one (law h.1.shape bytes f h.1.verdict))
+text_runless law text workers bytes (No f) h = (
+  (h.0, (h.1.shape, h.1.configured)),
+  λ shape configured.
+      let same : Ok h.1.shape ≡ Ok shape = sym h.1.configured ∙ configured in
+      let one : h.1.shape ≡ shape = cc in
+      subst (λ (s : Shape). IsRunlessNo s bytes (No f)) one (law h.1.shape bytes f h.1.verdict),
+)
 text_runless law text workers bytes (Yes events order) h = tt
 text_runless law text workers bytes (Refused f) h = tt
 

@@ -5,3 +5,4 @@ pub mod GatheringLemmas
 pub mod KeepingLemmas
 pub mod ReportLemmas
 pub mod TellingLemmas
+pub mod ProgramLemmas

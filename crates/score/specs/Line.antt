@@ -1,4 +1,4 @@
--- The line of a verdict.
+-- The lines that the program prints.
 use Rattle.std.specs.Prelude.{ℕ, List, [], ◌∷◌, ◌++◌, codes}
 use Rattle.std.specs.Fmt.{decimal}
 use Rattle.std.specs.List.{flat_map}
@@ -8,6 +8,7 @@ use Rattle.lf_model.specs.declared.rule.Rule.TheVariants as rules
 use Rattle.lf_codec.specs.declared.fault.CodecCause.{CodecCause}
 use Rattle.lf_codec.specs.declared.fault.CodecCause.TheVariants as causes
 use Rattle.lf_config.specs.Text as config
+use Rattle.lf_config.specs.declared.fault.ConfigFault.TheVariants as config_faults
 use Rattle.lf_verdict.specs.declared.answer.HeaderField.{HeaderField}
 use Rattle.lf_verdict.specs.declared.answer.HeaderField.TheVariants as fields
 use Rattle.lf_verdict.specs.declared.answer.Fault.{Fault}
@@ -16,6 +17,10 @@ use Rattle.lf_verdict.specs.declared.answer.Refusal.{Refusal}
 use Rattle.lf_verdict.specs.declared.answer.Refusal.TheVariants as refusals
 use Rattle.lf_verdict.specs.declared.answer.Verdict.{Verdict}
 use Rattle.lf_verdict.specs.declared.answer.Verdict.TheVariants.{Yes, No, Refused}
+use Rattle.score.specs.declared.line.InputFault.{InputFault}
+use Rattle.score.specs.declared.line.InputFault.TheVariants as inputs
+use Rattle.score.specs.declared.line.Line.{Line}
+use Rattle.score.specs.declared.line.Line.TheVariants as lines
 
 abbrev pub rule_name : Rule → List ℕ
 rule_name rules.TagRange = codes "TagRange"
@@ -103,6 +108,22 @@ verdict_text (Yes events order) = codes "yes events=" ++ decimal events
 verdict_text (No fault) = codes "no " ++ fault_text fault
 verdict_text (Refused refusal) = codes "refused " ++ refusal_text refusal
 
+-- why what the program was given is not judged
+abbrev pub input_text : InputFault → List ℕ
+input_text inputs.Usage = codes "usage"
+input_text inputs.ReadConfig = codes "read config"
+input_text inputs.NotToml = refusal_text (refusals.Config config_faults.NotToml)
+input_text inputs.Memory = refusal_text refusals.Memory
+
+-- what a line says
+abbrev pub line_text : Line → List ℕ
+line_text (lines.Judged verdict) = verdict_text verdict.now
+line_text (lines.Refused fault) = codes "refused " ++ input_text fault
+
 -- the text and one newline
 abbrev pub line_of : Verdict → List ℕ
 line_of v = verdict_text v ++ 10 ∷ []
+
+-- what is written where the trace was not read
+abbrev pub not_read_line : List ℕ
+not_read_line = codes "refused read trace" ++ 10 ∷ []

@@ -1,6 +1,6 @@
 -- What a run of the engine reads, answers and writes.
-use Rattle.std.specs.Prelude.{◌≡◌, ◌≢◌, ℕ, ◌≤◌, ◌<◌, ◌↔◌, List, [], ◌∷◌, ◌++◌, length, codes, Option, Result, Ok, Err, IfOk, IfErr, ◌⊎◌}
-use Rattle.std.specs.Io.KnownBytes.{Consumes, IsAtEnd}
+use Rattle.std.specs.Prelude.{◌≡◌, ◌≢◌, ℕ, ◌≤◌, ◌<◌, ◌↔◌, List, [], ◌∷◌, ◌++◌, length, take, codes, Option, Result, Ok, Err, IfOk, IfErr, IfSome, IsErrOf, ◌⊎◌}
+use Rattle.std.specs.Io.KnownBytes.{Consumes, IsAtEnd, Appends}
 use Rattle.lf_model.specs.declared.shape.Shape.{Shape}
 use Rattle.lf_codec.specs.Laws.{AreBytes}
 use Rattle.lf_verdict.specs.declared.answer.Verdict.{Verdict}
@@ -16,7 +16,7 @@ use Rattle.score.specs.declared.counted.Counted.{Counted}
 use Rattle.score.specs.declared.fault.RunFault.{RunFault}
 use Rattle.score.specs.declared.fault.RunFault.TheVariants.{Read, Turns, Write}
 use Rattle.score.specs.Counted.{calls_of, failures_of, inner_of}
-use Rattle.score.specs.Line.{line_of}
+use Rattle.score.specs.Line.{line_of, not_read_line}
 use Rattle.score.specs.Gathered.{HasFault}
 
 -- ---- what is read
@@ -65,7 +65,8 @@ IsRefusedFirst text workers Memory = Unit {0}
 IsRefusedFirst text workers _ = ⊥
 
 -- The verdict is that of the bytes that the reader gave. Where the trace was not asked for, nothing was read.
-pub record IsVerdictOfRead {R : Type 0} (remaining : R → Option (List ℕ)) (old new : R) (asked : Type 0) (IsVerdict : List ℕ → Verdict → Type 0) (v : Verdict) : Type 0 where
+pub record IsVerdictOfRead {R : Type 0} (remaining : R → Option (List ℕ)) (old new : R) (asked : Type 0)
+    (IsVerdict : List ℕ → Verdict → Type 0) (v : Verdict) : Type 0 where
   pub bytes : List ℕ
   pub reads : asked → Reads remaining old new bytes
   pub verdict : IsVerdict bytes v
@@ -92,7 +93,8 @@ IfYes _ P = Unit {0}
 
 -- What a run came to before it wrote: when the trace is asked for, which orders make it legal and which verdict is
 -- that of some bytes is as it was said.
-pub record IsOutcome {R : Type 0} (remaining : R → Option (List ℕ)) (old new : Counted R) (asked : Type 0) (IsLegal : List ℕ → List ℕ → Type 0) (IsVerdict : List ℕ → Verdict → Type 0) (turns : ℕ) (outcome : Result Verdict RunFault) : Type 0 where
+pub record IsOutcome {R : Type 0} (remaining : R → Option (List ℕ)) (old new : Counted R) (asked : Type 0)
+    (IsLegal : List ℕ → List ℕ → Type 0) (IsVerdict : List ℕ → Verdict → Type 0) (turns : ℕ) (outcome : Result Verdict RunFault) : Type 0 where
   pub reads : calls_of new ≤ turns
   pub unread : ¬ asked → new ≡ old
   pub verdict : IfOk outcome (λ v. IsJudged v → IsVerdictOfRead remaining (inner_of old) (inner_of new) asked IsVerdict v)
@@ -111,11 +113,40 @@ Follows (Err e) told = told ≡ Err e
 
 -- ---- what is written
 
--- what is written where the trace was not read
-abbrev pub not_read_line : List ℕ
-not_read_line = codes "refused read trace" ++ 10 ∷ []
-
 -- the line of what a run came to
 abbrev pub outcome_line : Result Verdict RunFault → List ℕ
 outcome_line (Ok v) = line_of v
 outcome_line (Err e) = not_read_line
+
+-- ---- a run of the program
+
+-- What a run reads, answers and writes. The words handed in say when the trace is asked for, by which orders bytes are
+-- legal, what a no means of bytes, and which verdict they have. The counts of the reader and of the writer were 0.
+pub record IsRunOfProgram {R W : Type 0} (remaining : R → Option (List ℕ)) (contents : W → Option (List ℕ))
+    (reader reader' : Counted R) (writer writer' : Counted W) (asked : Type 0)
+    (IsLegal : List ℕ → List ℕ → Type 0) (IsRunless IsVerdict : List ℕ → Verdict → Type 0) (turns : ℕ)
+    (answer : Result Verdict RunFault) : Type 0 where
+  -- No more reads than the caller allows, and none where the trace is not asked for.
+  pub reads : calls_of reader' ≤ turns
+  pub unread : ¬ asked → reader' ≡ reader
+  -- A yes means that the bytes that the reader gave are a legal trace, and so are all that it had.
+  pub legal : IfOk answer (λ v. IfYes v (IsLegalRead remaining (inner_of reader) (inner_of reader') IsLegal))
+  pub legal_whole : IfOk answer (λ v. IfSome (remaining (inner_of reader)) (λ bytes. IfYes v (IsLegal bytes)))
+  -- A no means that the bytes that the reader gave have no run, and so with all that it had.
+  pub runless : IfOk answer (λ v. IfNo v (IsRunlessRead remaining (inner_of reader) (inner_of reader') (λ bytes. IsRunless bytes v)))
+  pub runless_whole : IfOk answer (λ v. IfSome (remaining (inner_of reader)) (λ bytes. IsRunless bytes v))
+  -- The verdict is that of the bytes that the reader gave, and of all that it had.
+  pub verdict : IfOk answer (λ v. IsJudged v → IsVerdictOfRead remaining (inner_of reader) (inner_of reader') asked IsVerdict v)
+  pub whole : IfOk answer (λ v. IsJudged v → IfSome (remaining (inner_of reader)) (λ bytes. IsVerdict bytes v))
+  pub thread : answer ≢ Ok (Refused Thread)
+  -- What goes out is the line of the verdict, or that the trace was not read.
+  pub line : answer ≢ Err Write → Appends (contents (inner_of writer)) (contents (inner_of writer')) (outcome_line answer)
+  -- When each fault comes.
+  pub read : IsErrOf answer Read ↔ ((0 < failures_of reader') × (failures_of writer' ≡ 0))
+  pub turns_ran_out : IsErrOf answer Turns → calls_of reader' ≡ turns
+  pub write : IsErrOf answer Write ↔ (0 < failures_of writer')
+  -- Where a read failed or the turns were used up, no fault stood in what was read.
+  pub sound : IfErr answer (λ e. e ≢ Write → GaveSound remaining (inner_of reader) (inner_of reader'))
+  -- Where a write failed, what went out is the beginning of a line that was due.
+  pub prefix : IsErrOf answer Write → (told : Result Verdict RunFault) × IsOutcome remaining reader reader' asked IsLegal IsVerdict turns told × ((n : ℕ) ×
+      Appends (contents (inner_of writer)) (contents (inner_of writer')) (take n (outcome_line told)))

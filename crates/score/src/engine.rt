@@ -1,11 +1,11 @@
 //! Reads the bytes of a trace, judges them and writes the line of the verdict.
 
-ghost use Rattle.std.specs.Prelude.{◌≡◌, ◌≢◌, ◌≤◌, ◌<◌, ◌↔◌, ℕ, List, take, Ok, Err, IfOk, IfErr, IfSome, IsErrOf, IsTrue, Result, string_bytes};
+ghost use Rattle.std.specs.Prelude.{◌≡◌, ◌≢◌, ◌<◌, ◌↔◌, ℕ, List, take, Ok, Err, IfOk, IfErr, IsErrOf, IsTrue, Result, string_bytes};
 ghost use Rattle.std.specs.Io.KnownBytes.{Appends};
 ghost use Rattle.lf_model.specs.InRange.{IsShape};
 ghost use Rattle.lf_config.specs.Configuration.{Tells, configuration_of};
 ghost use Rattle.lf_verdict.specs.declared.answer.Verdict.{Verdict};
-ghost use Rattle.lf_verdict.specs.Verdict.{IsWorkerCount, IsJudged, IsVerdictOf};
+ghost use Rattle.lf_verdict.specs.Verdict.{IsWorkerCount, IsVerdictOf};
 ghost use Rattle.lf_verdict.specs.Legal.{IsLegal};
 ghost use Rattle.lf_verdict.specs.Laws.{IsRunlessNo};
 ghost use Rattle.lf_verdict.specs.Configured.{IsVerdictFor, IsLegalFor, IsRunlessNoFor};
@@ -13,12 +13,12 @@ ghost use Rattle.lf_verdict.specs.declared.answer.Refusal.{Refusal};
 ghost use Rattle.score.specs.Counted.{calls_of, failures_of, inner_of};
 ghost use Rattle.score.specs.declared.fault.RunFault.{RunFault};
 ghost use Rattle.score.specs.Line.{line_of};
-ghost use Rattle.score.specs.Run.{outcome_line, GaveSound, IfYes, IfNo, IsRunlessRead, IsAsked, IsRefusedFirst, IsVerdictOfRead, IsLegalRead, IsOutcome, Follows};
+ghost use Rattle.score.specs.Run.{outcome_line, IsAsked, IsRefusedFirst, IsOutcome, Follows, IsRunOfProgram};
 
 use crate::counted::Counted;
 use crate::fault::RunFault;
 use crate::gathering::{Stop, gather, zeros};
-use crate::line::Line;
+use crate::line::{Line, no_memory, not_read};
 use crate::output::put;
 use lf_codec::{exact_reading, fault_so_far, faults_stand};
 use lf_config::{ConfigFault, read};
@@ -130,7 +130,7 @@ fn decide_configured<T: AllocGlobal, R: Read>(
 fn text_of(alloc: Global, verdict: &Verdict) -> Result<String, AllocError>
     ensures { IfOk result (λ text. string_bytes text ≡ line_of verdict.now) }
 {
-    let line = Line(verdict);
+    let line = Line::Judged(verdict);
     format!(in alloc; "{line}\n")
 }
 
@@ -152,7 +152,7 @@ pub fn tell<W: Write>(
     let verdict = match outcome {
         Ok(verdict) => verdict,
         Err(fault) => {
-            put(writer, b"refused read trace\n")?;
+            put(writer, not_read())?;
             return Err(fault);
         }
     };
@@ -162,7 +162,7 @@ pub fn tell<W: Write>(
             Ok(verdict)
         }
         Err(_) => {
-            put(writer, b"refused memory\n")?;
+            put(writer, no_memory())?;
             Ok(Verdict::Refused(Refusal::Memory))
         }
     }
@@ -187,40 +187,8 @@ pub fn run_shape<T: AllocGlobal, R: Read, W: Write>(
     requires failures { failures_of reader.old ≡ 0 }
     requires writes { failures_of writer.old ≡ 0 }
     requires shape { IsShape shape.now }
-
-    // No more reads than the caller allows, and none where the workers are refused.
-    ensures reads { calls_of reader.new ≤ turns }
-    ensures unread { ¬ IsWorkerCount workers → reader.new ≡ reader.old }
-
-    // A yes means that the bytes that the reader gave are a legal trace, and so are all that it had.
-    ensures legal { IfOk result (λ v. IfYes v (IsLegalRead R.remaining (inner_of reader.old) (inner_of reader.new) (IsLegal shape.now))) }
-    ensures legal_whole { IfOk result (λ v. IfSome (R.remaining (inner_of reader.old)) (λ bytes. IfYes v (IsLegal shape.now bytes))) }
-
-    // A no means that the bytes that the reader gave have no run, and so with all that it had.
-    ensures runless { IfOk result (λ v. IfNo v (IsRunlessRead R.remaining (inner_of reader.old) (inner_of reader.new) (λ bytes. IsRunlessNo shape.now bytes v))) }
-    ensures runless_whole { IfOk result (λ v. IfSome (R.remaining (inner_of reader.old)) (λ bytes. IsRunlessNo shape.now bytes v)) }
-
-    // The verdict is that of the bytes that the reader gave, and of all that it had.
-    ensures verdict { IfOk result (λ v. IsJudged v →
-        IsVerdictOfRead R.remaining (inner_of reader.old) (inner_of reader.new) (IsWorkerCount workers) (IsVerdictOf shape.now workers) v) }
-    ensures whole { IfOk result (λ v. IsJudged v →
-        IfSome (R.remaining (inner_of reader.old)) (λ bytes. IsVerdictOf shape.now workers bytes v)) }
-    ensures thread { result ≢ Ok (Verdict.Refused Refusal.Thread) }
-
-    // What goes out is the line of the verdict, or that the trace was not read.
-    ensures line { result ≢ Err RunFault.Write →
-        Appends (W.contents (inner_of writer.old)) (W.contents (inner_of writer.new)) (outcome_line result) }
-
-    // When each fault comes.
-    ensures read { IsErrOf result RunFault.Read ↔ ((0 < failures_of reader.new) × (failures_of writer.new ≡ 0)) }
-    ensures turns { IsErrOf result RunFault.Turns → calls_of reader.new ≡ turns }
-    ensures write { IsErrOf result RunFault.Write ↔ (0 < failures_of writer.new) }
-    // Where a read failed or the turns were used up, no fault stood in what was read.
-    ensures sound { IfErr result (λ e. e ≢ RunFault.Write → GaveSound R.remaining (inner_of reader.old) (inner_of reader.new)) }
-    // Where a write failed, what went out is the beginning of a line that was due.
-    ensures prefix { IsErrOf result RunFault.Write → (told : Result Verdict RunFault) ×
-        IsOutcome R.remaining reader.old reader.new (IsWorkerCount workers) (IsLegal shape.now) (IsVerdictOf shape.now workers) turns told × ((n : ℕ) ×
-        Appends (W.contents (inner_of writer.old)) (W.contents (inner_of writer.new)) (take n (outcome_line told))) }
+    ensures { IsRunOfProgram R.remaining W.contents reader.old reader.new writer.old writer.new
+        (IsWorkerCount workers) (IsLegal shape.now) (IsRunlessNo shape.now) (IsVerdictOf shape.now workers) turns result }
 {
     exact_reading();
     fault_so_far();
@@ -249,42 +217,8 @@ pub fn run<T: AllocGlobal, R: Read, W: Write>(
     requires calls { calls_of reader.old ≡ 0 }
     requires failures { failures_of reader.old ≡ 0 }
     requires writes { failures_of writer.old ≡ 0 }
-
-    // No more reads than the caller allows, and none where the workers or the configuration are refused.
-    ensures reads { calls_of reader.new ≤ turns }
-    ensures unread { ¬ IsAsked config.now workers → reader.new ≡ reader.old }
-
-    // A yes means that the configuration says a shape for which the bytes that the reader gave are a legal trace, and so
-    // are all that it had.
-    ensures legal { IfOk result (λ v. IfYes v (IsLegalRead R.remaining (inner_of reader.old) (inner_of reader.new) (IsLegalFor config.now))) }
-    ensures legal_whole { IfOk result (λ v. IfSome (R.remaining (inner_of reader.old)) (λ bytes. IfYes v (IsLegalFor config.now bytes))) }
-
-    // A no means that the configuration says a shape for which the bytes that the reader gave have no run, and so with all
-    // that it had.
-    ensures runless { IfOk result (λ v. IfNo v (IsRunlessRead R.remaining (inner_of reader.old) (inner_of reader.new) (λ bytes. IsRunlessNoFor config.now bytes v))) }
-    ensures runless_whole { IfOk result (λ v. IfSome (R.remaining (inner_of reader.old)) (λ bytes. IsRunlessNoFor config.now bytes v)) }
-
-    // The verdict is that of the bytes that the reader gave, and of all that it had.
-    ensures verdict { IfOk result (λ v. IsJudged v →
-        IsVerdictOfRead R.remaining (inner_of reader.old) (inner_of reader.new) (IsAsked config.now workers) (IsVerdictFor config.now workers) v) }
-    ensures whole { IfOk result (λ v. IsJudged v →
-        IfSome (R.remaining (inner_of reader.old)) (λ bytes. IsVerdictFor config.now workers bytes v)) }
-    ensures thread { result ≢ Ok (Verdict.Refused Refusal.Thread) }
-
-    // What goes out is the line of the verdict, or that the trace was not read.
-    ensures line { result ≢ Err RunFault.Write →
-        Appends (W.contents (inner_of writer.old)) (W.contents (inner_of writer.new)) (outcome_line result) }
-
-    // When each fault comes.
-    ensures read { IsErrOf result RunFault.Read ↔ ((0 < failures_of reader.new) × (failures_of writer.new ≡ 0)) }
-    ensures turns { IsErrOf result RunFault.Turns → calls_of reader.new ≡ turns }
-    ensures write { IsErrOf result RunFault.Write ↔ (0 < failures_of writer.new) }
-    // Where a read failed or the turns were used up, no fault stood in what was read.
-    ensures sound { IfErr result (λ e. e ≢ RunFault.Write → GaveSound R.remaining (inner_of reader.old) (inner_of reader.new)) }
-    // Where a write failed, what went out is the beginning of a line that was due.
-    ensures prefix { IsErrOf result RunFault.Write → (told : Result Verdict RunFault) ×
-        IsOutcome R.remaining reader.old reader.new (IsAsked config.now workers) (IsLegalFor config.now) (IsVerdictFor config.now workers) turns told × ((n : ℕ) ×
-        Appends (W.contents (inner_of writer.old)) (W.contents (inner_of writer.new)) (take n (outcome_line told))) }
+    ensures { IsRunOfProgram R.remaining W.contents reader.old reader.new writer.old writer.new
+        (IsAsked config.now workers) (IsLegalFor config.now) (IsRunlessNoFor config.now) (IsVerdictFor config.now workers) turns result }
 {
     exact_reading();
     fault_so_far();

@@ -1,7 +1,9 @@
-//! The line of each verdict.
+//! The lines that the program prints.
 
 ghost use Rattle.std.specs.Prelude.{◌≡◌, Some};
-ghost use Rattle.score.specs.Line.{rule_name, cause_name, field_name, logs_text, fault_text, refusal_text, verdict_text};
+ghost use Rattle.lf_verdict.specs.declared.answer.Verdict.{Verdict};
+ghost use Rattle.lf_verdict.specs.declared.answer.Refusal.{Refusal};
+ghost use Rattle.score.specs.Line.{rule_name, cause_name, field_name, logs_text, fault_text, refusal_text, input_text, line_text, line_of, not_read_line};
 
 use lf_codec::CodecCause;
 use lf_model::{Knot, Rule};
@@ -154,24 +156,68 @@ impl fmt::Display for RefusalText<'_> {
     }
 }
 
-/// What the line of a verdict says.
-#[derive(Clone, Copy)]
-pub struct Line<'a>(pub &'a Verdict);
+/// Why what the program was given is not judged.
+#[derive(Clone, Copy, Debug, PartialEq, Eq)]
+pub enum InputFault {
+    /// The words of the command line are none of a command.
+    Usage,
+    /// The configuration cannot be read.
+    ReadConfig,
+    /// The configuration is no text.
+    NotToml,
+    /// A growth was refused.
+    Memory,
+}
 
-impl fmt::Display for Line<'_> {
-    ghost output = { λ x. Some (verdict_text x.0.now) };
+impl fmt::Display for InputFault {
+    ghost output = { λ x. Some (input_text x) };
 
     fn fmt<W: fmt::Write>(&self, f: &mut fmt::Formatter<W>) -> fmt::Result {
-        match self.0 {
-            Verdict::Yes { events, .. } => write!(f, "yes events={events}"),
-            Verdict::No(fault) => {
+        match self {
+            InputFault::Usage => write!(f, "usage"),
+            InputFault::ReadConfig => write!(f, "read config"),
+            InputFault::NotToml => write!(f, "config NotToml"),
+            InputFault::Memory => write!(f, "memory"),
+        }
+    }
+}
+
+/// What the program prints in one line.
+#[derive(Clone, Copy)]
+pub enum Line<'a> {
+    Judged(&'a Verdict),
+    Refused(InputFault),
+}
+
+impl fmt::Display for Line<'_> {
+    ghost output = { λ x. Some (line_text x) };
+
+    fn fmt<W: fmt::Write>(&self, f: &mut fmt::Formatter<W>) -> fmt::Result {
+        match self {
+            Line::Judged(Verdict::Yes { events, .. }) => write!(f, "yes events={events}"),
+            Line::Judged(Verdict::No(fault)) => {
                 let fault = FaultText(fault);
                 write!(f, "no {fault}")
             }
-            Verdict::Refused(refusal) => {
+            Line::Judged(Verdict::Refused(refusal)) => {
                 let refusal = RefusalText(refusal);
                 write!(f, "refused {refusal}")
             }
+            Line::Refused(fault) => write!(f, "refused {fault}"),
         }
     }
+}
+
+/// The line where the trace was not read. It takes no memory.
+pub fn not_read() -> &'static [u8]
+    ensures { result.now ≡ not_read_line }
+{
+    b"refused read trace\n"
+}
+
+/// The line where a growth was refused. It takes no memory.
+pub fn no_memory() -> &'static [u8]
+    ensures { result.now ≡ line_of (Verdict.Refused Refusal.Memory) }
+{
+    b"refused memory\n"
 }

@@ -27,6 +27,7 @@ use counted::Counted;
 use engine::{are_workers, run};
 use fault::RunFault;
 use lf_verdict::Verdict;
+use line::{InputFault, Line};
 use statistics::run_stats;
 use std::io;
 use std::io::{ErrorKind, Read};
@@ -38,8 +39,9 @@ const NO: u8 = 1;
 
 const REFUSED: u8 = 2;
 
-fn refused<T: Print>(rt: &T, why: &str) -> io::Result<ExitCode> {
-    println!(rt; "refused {why}")?;
+fn refused<T: Print>(rt: &T, why: InputFault) -> io::Result<ExitCode> {
+    let line = Line::Refused(why);
+    println!(rt; "{line}")?;
     Ok(ExitCode::from(REFUSED))
 }
 
@@ -107,12 +109,12 @@ where
         Ok(args) => {
             for word in args {
                 if words.push(word).is_err() {
-                    return refused(rt, "memory");
+                    return refused(rt, InputFault::Memory);
                 }
             }
         }
-        Err(e) if e.kind() == ErrorKind::OutOfMemory => return refused(rt, "memory"),
-        Err(_) => return refused(rt, "usage"),
+        Err(e) if e.kind() == ErrorKind::OutOfMemory => return refused(rt, InputFault::Memory),
+        Err(_) => return refused(rt, InputFault::Usage),
     }
     match asked(rt.alloc(), words.as_slice()) {
         Ok(
@@ -127,8 +129,8 @@ where
             print!(rt; "{help}")?;
             Ok(ExitCode::SUCCESS)
         }
-        Err(CommandFault::Usage) => refused(rt, "usage"),
-        Err(CommandFault::Memory) => refused(rt, "memory"),
+        Err(CommandFault::Usage) => refused(rt, InputFault::Usage),
+        Err(CommandFault::Memory) => refused(rt, InputFault::Memory),
     }
 }
 

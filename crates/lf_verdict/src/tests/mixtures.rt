@@ -287,7 +287,7 @@ fn mixed(
 }
 
 /// Fails where these bytes, cut into pieces of any of some sizes, have another verdict.
-fn assert_verdict<T: Abort + AllocGlobal>(
+fn assert_of_pieces<T: Abort + AllocGlobal>(
     rt: &T,
     shape: &Shape,
     bytes: &[u8],
@@ -326,7 +326,7 @@ fn assert_one_verdict<T: Abort + AllocGlobal>(rt: &T, version: u16, factor: u8) 
     assert_eq!(rt; *events, 64 + 12 * u32::from(factor));
     for mixture in [AS_RECORDED, BANKS_FIRST, LAST_LOG_FIRST] {
         let bytes = mixed(rt.alloc(), &header, &records, mixture)?;
-        assert_verdict(rt, &shape, &bytes, &verdict)?;
+        assert_of_pieces(rt, &shape, &bytes, &verdict)?;
     }
     Ok(())
 }

@@ -4,6 +4,7 @@ use crate::configuration::text_in;
 use crate::counted::Counted;
 use crate::engine::run;
 use crate::fault::RunFault;
+use crate::line::InputFault;
 use crate::tests::examples::{LOAD, LOADED, bytes_of};
 use crate::tests::notation::E::{L, R};
 use crate::tests::notation::{E, Trace};
@@ -206,7 +207,7 @@ fn trace_that_is_not_read(rt: HostRuntime) -> Result<(), Fail> {
 fn assert_text<T: Abort>(
     rt: &T,
     read: &io::Result<Vec<u8>>,
-    text: Result<&str, &str>,
+    text: Result<&str, InputFault>,
 ) -> Result<(), Fail> {
     assert_eq!(rt; text_in(read), text);
     Ok(())
@@ -215,14 +216,18 @@ fn assert_text<T: Abort>(
 #[test]
 fn configuration_files(rt: HostRuntime) -> Result<(), Fail> {
     for kind in [ErrorKind::NotFound, ErrorKind::IsADirectory] {
-        assert_text(&rt, &Err(io::Error::from(kind)), Err("read config"))?;
+        assert_text(
+            &rt,
+            &Err(io::Error::from(kind)),
+            Err(InputFault::ReadConfig),
+        )?;
     }
     let no_memory = Err(io::Error::from(ErrorKind::OutOfMemory));
-    assert_text(&rt, &no_memory, Err("memory"))?;
+    assert_text(&rt, &no_memory, Err(InputFault::Memory))?;
     let mut bytes = Vec::new(rt.alloc());
     bytes.extend_from_slice(b"ports = 1")?;
     bytes.push(0xff)?;
-    assert_text(&rt, &Ok(bytes), Err("config NotToml"))?;
+    assert_text(&rt, &Ok(bytes), Err(InputFault::NotToml))?;
     let mut bytes = Vec::new(rt.alloc());
     bytes.extend_from_slice(b"ports = 1")?;
     assert_text(&rt, &Ok(bytes), Ok("ports = 1"))

@@ -52,6 +52,26 @@ fn turns_run_out(rt: HostRuntime) -> Result<(), Fail> {
     Ok(())
 }
 
+/// The engine stops at the read that shows the header's fault, and at the one that finds the end.
+#[test]
+fn reads_no_further(rt: HostRuntime) -> Result<(), Fail> {
+    let mut bytes = bytes_of(rt.alloc(), &[&LOAD, &[LOADED]])?;
+    let mut whole = Counted::new(Pieces::new(bytes.as_slice(), 1));
+    let mut writer = Counted::new(Vec::new(rt.alloc()));
+    let answer = run_shape(&rt, &mut whole, &mut writer, &SMALL, 1, 1000);
+    assert!(rt; answer.is_ok());
+    assert_eq!(rt; whole.calls(), 133);
+    if let Some(version) = bytes.get_mut(4) {
+        *version = 0;
+    }
+    let mut faulty = Counted::new(Pieces::new(bytes.as_slice(), 1));
+    let mut writer = Counted::new(Vec::new(rt.alloc()));
+    let answer = run_shape(&rt, &mut faulty, &mut writer, &SMALL, 1, 1000);
+    assert!(rt; answer.is_ok());
+    assert_eq!(rt; faulty.calls(), 16);
+    Ok(())
+}
+
 #[test]
 fn read_fails_midway(rt: HostRuntime) -> Result<(), Fail> {
     let bytes = bytes_of(rt.alloc(), &[&LOAD, &[LOADED]])?;

@@ -5,6 +5,7 @@ use crate::configuration::text_in;
 use crate::counted::Counted;
 use crate::engine::run_shape;
 use crate::fault::RunFault;
+use crate::line::{InputFault, Line};
 use crate::shape::SMALL;
 use crate::tests::streams::Pieces;
 use crate::trace::Trace;
@@ -96,6 +97,21 @@ fn refused_usage(rt: HostRuntime) -> Result<(), Fail> {
 }
 
 #[test]
+fn lines_of_input_faults(rt: HostRuntime) -> Result<(), Fail> {
+    for (fault, text) in [
+        (InputFault::Usage, "refused usage"),
+        (InputFault::ReadConfig, "refused read config"),
+        (InputFault::NotToml, "refused config NotToml"),
+        (InputFault::Memory, "refused memory"),
+    ] {
+        let line = Line::Refused(fault);
+        let written = format!(in rt.alloc(); "{line}")?;
+        assert_eq!(rt; written.as_str(), text);
+    }
+    Ok(())
+}
+
+#[test]
 fn help_is_asked_for(rt: HostRuntime) -> Result<(), Fail> {
     for line in ["score --help", "score -h", "score check --help"] {
         let words = words_of(rt.alloc(), line)?;
@@ -135,7 +151,7 @@ fn file_that_cannot_be_opened(rt: HostRuntime) -> Result<(), Fail> {
 fn missing_files_and_directories(rt: HostRuntime) -> Result<(), Fail> {
     for path in ["no such file", "."] {
         let config = std::fs::read(&rt, path);
-        assert_eq!(rt; text_in(&config), Err("read config"), "{path}");
+        assert_eq!(rt; text_in(&config), Err(InputFault::ReadConfig), "{path}");
         let mut reader = Counted::new(Trace::open(&rt, path));
         let mut writer = Counted::new(Vec::new(rt.alloc()));
         let answer = run_shape(&rt, &mut reader, &mut writer, &SMALL, 1, 1000);

@@ -1,4 +1,4 @@
-use Rattle.std.proofs.Common.{ℕ, [], sym, ap, subst}
+use Rattle.std.proofs.Common.{ℕ, []}
 use Rattle.lf_model.specs.Address.{flat_memory}
 use Rattle.lf_replay.specs.Bytes.{bank_part}
 use Rattle.lf_verdict.specs.declared.bank_judge.BankJudge.{BankJudge}

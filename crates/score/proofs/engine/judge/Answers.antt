@@ -1,4 +1,4 @@
-use Rattle.std.proofs.Common.{◌∙◌, rules}
+use Rattle.std.proofs.Common.{◌∙◌}
 use Rattle.score.proofs.JudgingLemmas.{finished}
 use Rattle.score.proofs.engine.judge.Goals as goal
 

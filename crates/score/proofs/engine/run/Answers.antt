@@ -1,22 +1,9 @@
-use Rattle.score.proofs.RunLemmas.{told_whole, told_legal, told_runless, whole_runless, outcome_told}
+use Rattle.score.proofs.ProgramLemmas.{run_of_program}
 use Rattle.score.proofs.JudgingLemmas.{text_no_fault, text_kept, text_free, text_runless, text_nothing}
 use Rattle.score.proofs.engine.run.Goals as goal
 
-pub returns-clause-legal_whole : goal.returns-clause-legal_whole
-returns-clause-legal_whole g c = told_legal _ _ _ _ _ _ (text_no_fault c.exact_reading.ensures _) _ _ _ c.decide_configured-outcome.ensures c.tell.ensures.follows
-
-pub returns-clause-whole : goal.returns-clause-whole
-returns-clause-whole g c =
-    told_whole c.fault_so_far.ensures.other _ _ _ _ _ _ (text_kept c.exact_reading.ensures c.fault_so_far.ensures.other c.faults_stand.ensures _ _) (text_free _ _) _ _ _
-    c.decide_configured-outcome.ensures c.tell.ensures.follows
-
-pub returns-clause-prefix : goal.returns-clause-prefix
-returns-clause-prefix g c = λ failed.
-    let (told, follows, out) = c.tell.ensures.prefix failed in
-    (told, outcome_told _ _ _ _ _ _ _ _ told c.decide_configured-outcome.ensures follows, out)
-
-pub returns-clause-runless : goal.returns-clause-runless
-returns-clause-runless g c = told_runless _ _ _ _ _ _ _ (text_runless c.no_has_no_run.ensures _ _) _ _ _ c.decide_configured-outcome.ensures c.tell.ensures.follows
-
-pub returns-clause-runless_whole : goal.returns-clause-runless_whole
-returns-clause-runless_whole g c = whole_runless _ _ _ (text_runless c.no_has_no_run.ensures _ _) (text_nothing _) _ _ (returns-clause-whole g c)
+pub returns : goal.returns
+returns g c =
+    run_of_program _ _ _ _ _ _ _ _ _ _ _ _ _ c.decide_configured-outcome.ensures c.tell.ensures.write c.tell.ensures.follows c.fault_so_far.ensures.other
+    (text_kept c.exact_reading.ensures c.fault_so_far.ensures.other c.faults_stand.ensures _ _) (text_free _ _) (text_no_fault c.exact_reading.ensures _)
+    (text_runless c.no_has_no_run.ensures _ _) (text_nothing _) c.tell.ensures.whole c.tell.ensures.prefix

@@ -1,7 +1,7 @@
 use Rattle.std.proofs.Common.{rules, ◌≢◌, ◌++◌, refl}
 use Rattle.lf_verdict.specs.declared.answer.Refusal.TheVariants.{Memory}
 use Rattle.lf_verdict.specs.Session.{refusal_in}
-use Rattle.score.proofs.GatheringLemmas.{refused_stands, none_stands, both_bytes}
+use Rattle.score.proofs.GatheringLemmas.{refused_stands}
 use Rattle.score.proofs.gathering.feed.Goals as goal
 use Rattle.score.proofs.gathering.feed.Goals.{in-Memory, in_default}
 

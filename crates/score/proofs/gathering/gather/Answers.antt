@@ -1,8 +1,5 @@
-use Rattle.std.proofs.Common.{◌≡◌, ◌++◌, length, take, rules, arith, refl, subst, sym}
+use Rattle.std.proofs.Common.{◌++◌, take, rules, arith, refl}
 use Rattle.std.proofs.KnownBytes.{Consumes-kept}
-use Rattle.std.proofs.lemmas.List.{length-take}
-use Rattle.lf_verdict.specs.declared.intake.Intake.{Intake}
-use Rattle.score.proofs.GatheringLemmas.{IsGathering}
 use Rattle.score.proofs.KnownLemmas.{Consumes-next}
 use Rattle.score.proofs.gathering.gather.Goals as goal
 use Rattle.score.proofs.gathering.gather.Goals.{in-Ok+in-Ok-false, in-Err+else-ne}
@@ -41,24 +38,24 @@ loop-turn-preserved g c = record {
     | in-Err+else-ne w ↦ search rules
   ];
   gathered =
-    let so_far = c.loop-turn.invariant.gathered in
-    elim c.match-read.branch [
-    | in-Ok+in-Ok-false w ↦
-        let piece = take w.in-Ok.n c.read.new.buf in
-        rw w.session-is (record {
-          bytes = so_far.bytes ++ piece;
-          are_bytes = w.in-Ok-false.ensures.are_bytes so_far.bytes so_far.are_bytes;
-          given = Consumes-next _ _ _ so_far.bytes piece _ so_far.given w.in-Ok.ensures.bytes.0 refl;
-          fed = w.in-Ok-false.ensures.fed so_far.bytes so_far.fed;
-          sound = λ h. let bad = (w.in-Ok-false.ensures.told so_far.bytes so_far.fed).1 h in cc;
-        })
-    | in-Err+else-ne w ↦
-        rw w.session-is (record {
-          bytes = so_far.bytes;
-          are_bytes = so_far.are_bytes;
-          given = Consumes-kept _ _ _ _ so_far.given w.in-Err.ensures.bytes;
-          fed = so_far.fed;
-          sound = so_far.sound;
-        })
-  ];
+      let so_far = c.loop-turn.invariant.gathered in
+      elim c.match-read.branch [
+        | in-Ok+in-Ok-false w ↦
+            let piece = take w.in-Ok.n c.read.new.buf in
+            rw w.session-is (record {
+              bytes = so_far.bytes ++ piece;
+              are_bytes = w.in-Ok-false.ensures.are_bytes so_far.bytes so_far.are_bytes;
+              given = Consumes-next _ _ _ so_far.bytes piece _ so_far.given w.in-Ok.ensures.bytes.0 refl;
+              fed = w.in-Ok-false.ensures.fed so_far.bytes so_far.fed;
+              sound = λ h. let bad = (w.in-Ok-false.ensures.told so_far.bytes so_far.fed).1 h in cc;
+            })
+        | in-Err+else-ne w ↦
+            rw w.session-is (record {
+              bytes = so_far.bytes;
+              are_bytes = so_far.are_bytes;
+              given = Consumes-kept _ _ _ _ so_far.given w.in-Err.ensures.bytes;
+              fed = so_far.fed;
+              sound = so_far.sound;
+            })
+      ];
 }

@@ -1,7 +1,7 @@
-use Rattle.std.proofs.Common.{◌≡◌, ◌++◌, ◌∷◌, [], sym, ap, ◌∙◌, subst, refl}
+use Rattle.std.proofs.Common.{◌++◌, ◌∷◌, [], sym, ap, ◌∙◌, subst, refl}
 use Rattle.lf_logs.specs.Reordering.{Reordering, HasOrdered}
 use Rattle.lf_replay.proofs.Runs.{on_ok}
-use Rattle.lf_verdict.proofs.Judges.{pass_fits, judged_pass, settled_put}
+use Rattle.lf_verdict.proofs.Judges.{judged_pass, settled_put}
 use Rattle.lf_verdict.proofs.bank_judge.BankJudge.take.Goals as goal
 
 pub settle-requires : goal.settle-requires

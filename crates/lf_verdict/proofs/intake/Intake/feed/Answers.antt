@@ -1,4 +1,4 @@
-use Rattle.std.proofs.Common.{◌≡◌, ◌++◌, Option, Some, sym, ◌∙◌, subst, arith}
+use Rattle.std.proofs.Common.{◌++◌, Option, Some, sym, ◌∙◌, subst, arith}
 use Rattle.lf_verdict.specs.declared.intake.Stop.{Stop}
 use Rattle.lf_verdict.specs.Session.{IsAt}
 use Rattle.lf_verdict.proofs.Pieces.{told_fine}

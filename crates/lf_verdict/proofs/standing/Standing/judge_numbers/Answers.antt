@@ -1,4 +1,4 @@
-use Rattle.std.proofs.Common.{◌≡◌, ◌<◌, ◌≤◌, ℕ, sym, ap, ◌∙◌, subst, arith}
+use Rattle.std.proofs.Common.{◌<◌, sym, subst, arith}
 use Rattle.lf_model.specs.Run.{of_bank}
 use Rattle.lf_model.specs.Order.{log_at}
 use Rattle.lf_verdict.specs.Judging.{IsHalt}

@@ -1,13 +1,9 @@
-use Rattle.std.proofs.Common.{◌≡◌, ◌≤◌, ◌^◌, ℕ, List, length, sym, ap, ◌∙◌, subst, arith}
+use Rattle.std.proofs.Common.{◌≤◌, ◌^◌, ℕ, List, length, sym, ap, ◌∙◌, subst, arith}
 use Rattle.std.specs.List.{All}
-use Rattle.lf_model.specs.declared.shape.Shape.{Shape}
-use Rattle.lf_model.specs.declared.event.Record.{Record}
-use Rattle.lf_model.specs.Address.{FlatMemory}
 use Rattle.lf_model.specs.Order.{IsLeastOrder}
-use Rattle.lf_model.specs.Ring.{skeletons_of, IsRing}
+use Rattle.lf_model.specs.Ring.{IsRing}
 use Rattle.lf_join.specs.Join as joins
 use Rattle.lf_join.specs.Join.{BanksAreWhole, IsStuckRing}
-use Rattle.lf_verdict.specs.Standing.{logs_so_far, StandsAfterAll}
 use Rattle.lf_verdict.proofs.Settled.{few_logs, skeletons_short, skeletons_whole}
 use Rattle.lf_verdict.proofs.standing.Standing.judged_order.Goals as goal
 

@@ -1,4 +1,4 @@
-use Rattle.std.proofs.Common.{◌≡◌, ◌<◌, ◌≤◌, ◌+◌, List, ℕ, length, get_or, ap, ◌∙◌, refl, arith}
+use Rattle.std.proofs.Common.{◌<◌, length, get_or, ap, ◌∙◌, refl, arith}
 use Rattle.std.specs.Global.{Vec}
 use Rattle.lf_model.specs.Run.{of_bank}
 use Rattle.lf_model.specs.Order.{log_at}

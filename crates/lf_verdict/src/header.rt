@@ -1,0 +1,29 @@
+//! The header of a trace against the shape that it is judged for.
+
+ghost use Rattle.std.specs.Prelude.{IfSome, IfNone};
+ghost use Rattle.lf_verdict.specs.Legal.{Agrees};
+ghost use Rattle.lf_verdict.specs.Verdict.{Differs};
+
+use crate::answer::HeaderField;
+use lf_codec::Header;
+use lf_model::Shape;
+
+/// The first number of the header that is not that of the shape.
+pub fn differing(shape: &Shape, header: Header) -> Option<HeaderField>
+    ensures some { IfSome result (Differs shape.now header) }
+    ensures none { IfNone result (Agrees shape.now header) }
+{
+    if u32::from(header.ports) != shape.ports {
+        return Some(HeaderField::Ports);
+    }
+    if u32::from(header.banks) != shape.banks {
+        return Some(HeaderField::Banks);
+    }
+    if u32::from(header.block) != shape.block {
+        return Some(HeaderField::Block);
+    }
+    if u32::from(header.factor) != shape.factor {
+        return Some(HeaderField::Factor);
+    }
+    None
+}
