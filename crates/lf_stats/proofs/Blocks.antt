@@ -25,17 +25,20 @@ block_if b block = cond b (Some block) None
 abbrev pub issued_by : Shape → ℕ → ℕ → Event → Option ℕ
 issued_by shape port log event = cond (eqb log port) (block_issued shape event) None
 
-pub issued_push : (shape : Shape) (port : ℕ) (rs : List Record) (r : Record) → issued shape port (rs ++ r ∷ []) ≡ issued shape port rs ++ cons_option (issued_by shape port r.log r.event) []
+pub issued_push : (shape : Shape) (port : ℕ) (rs : List Record) (r : Record)
+    → issued shape port (rs ++ r ∷ []) ≡ issued shape port rs ++ cons_option (issued_by shape port r.log r.event) []
 issued_push shape port rs r =
     let block = λ (r : Record). block_issued shape r.event in
     ap (filter_map block) (filter-append (λ (r : Record). eqb r.log port) rs (r ∷ []))
     ∙ filter_map-append block (of_log port rs) (of_log port (r ∷ []))
-    ∙ ap (λ xs. issued shape port rs ++ xs) (elim (eqb r.log port) as (λ b. filter_map block (cond b (r ∷ []) []) ≡ cons_option (cond b (block r) None) []) [ true ↦ refl | false ↦ refl ])
+    ∙ ap (λ xs. issued shape port rs ++ xs)
+    (elim (eqb r.log port) as (λ b. filter_map block (cond b (r ∷ []) []) ≡ cons_option (cond b (block r) None) []) [ true ↦ refl | false ↦ refl ])
 
 abbrev blocks_at : List (Vec ℕ) → ℕ → List ℕ
 blocks_at vecs port = get_or (map (λ v. v.items) vecs) port []
 
-pub placed : (vecs : List (Vec ℕ)) (i : ℕ) (v w : Vec ℕ) (block : ℕ) → v ≡ get_or vecs i v → w.items ≡ v.items ++ block ∷ [] → i < length vecs → (port : ℕ) →
+pub placed : (vecs : List (Vec ℕ)) (i : ℕ) (v w : Vec ℕ) (block : ℕ) → v ≡ get_or vecs i v → w.items ≡ v.items ++ block ∷ []
+    → i < length vecs → (port : ℕ) →
     blocks_at (set vecs i w) port ≡ blocks_at vecs port ++ cons_option (block_if (eqb i port) block) []
 placed vecs i v w block read pushed inside port =
     let changed = map-set (λ (v : Vec ℕ). v.items) vecs i w in
@@ -55,7 +58,9 @@ placed vecs i v w block read pushed inside port =
     ∙ sym (ap (λ b. blocks_at vecs port ++ cons_option (block_if b block) []) (ne_eqb i port other)))
     (cases_eq i port)
 
-not_issue : (shape : Shape) (event : Event) → ((op : Op) (tag size address : ℕ) (bytes : ArrayVec ℕ) → event ≡ Issue op tag size address bytes → ⊥) → block_issued shape event ≡ None
+not_issue : (shape : Shape) (event : Event)
+    → ((op : Op) (tag size address : ℕ) (bytes : ArrayVec ℕ) → event ≡ Issue op tag size address bytes → ⊥)
+    → block_issued shape event ≡ None
 not_issue shape (Issue op tag size address bytes) never = absurd (never op tag size address bytes refl)
 not_issue shape _ never = refl
 
@@ -68,25 +73,31 @@ none_if false o none = refl
 abbrev pub nowhere : Place
 nowhere = record { log = 0; at = 0 }
 
-pub records_more : (logs : List (List Record)) (places : List Place) (at : ℕ) (r : Record) → at < length places → record_at logs (get_or places at nowhere) ≡ Some r →
+pub records_more : (logs : List (List Record)) (places : List Place) (at : ℕ) (r : Record) → at < length places
+    → record_at logs (get_or places at nowhere) ≡ Some r →
     records_at logs (take (at + 1) places) ≡ records_at logs (take at places) ++ r ∷ []
 records_more logs places at r inside is =
     ap (records_at logs) (take_more places at nowhere inside)
     ∙ filter_map-append (record_at logs) (take at places) (get_or places at nowhere ∷ [])
     ∙ ap (λ o. records_at logs (take at places) ++ cons_option o []) is
 
-module _ (shape : Shape) (logs : List (List Record)) (places : List Place) (at : ℕ) (r : Record) (inside : at < length places) (is : record_at logs (get_or places at nowhere) ≡ Some r) (port : ℕ) where
-  pub issued_more : issued shape port (records_at logs (take (at + 1) places)) ≡ issued shape port (records_at logs (take at places)) ++ cons_option (issued_by shape port r.log r.event) []
+module _ (shape : Shape) (logs : List (List Record)) (places : List Place) (at : ℕ) (r : Record)
+    (inside : at < length places) (is : record_at logs (get_or places at nowhere) ≡ Some r) (port : ℕ) where
+  pub issued_more : issued shape port (records_at logs (take (at + 1) places))
+      ≡ issued shape port (records_at logs (take at places)) ++ cons_option (issued_by shape port r.log r.event) []
   issued_more = ap (issued shape port) (records_more logs places at r inside is) ∙ issued_push shape port (records_at logs (take at places)) r
 
-  pub issued_same : ((op : Op) (tag size address : ℕ) (bytes : ArrayVec ℕ) → r.event ≡ Issue op tag size address bytes → ⊥) → issued shape port (records_at logs (take (at + 1) places)) ≡ issued shape port (records_at logs (take at places))
+  pub issued_same : ((op : Op) (tag size address : ℕ) (bytes : ArrayVec ℕ) → r.event ≡ Issue op tag size address bytes → ⊥)
+      → issued shape port (records_at logs (take (at + 1) places)) ≡ issued shape port (records_at logs (take at places))
   issued_same never =
       issued_more
-      ∙ ap (λ o. issued shape port (records_at logs (take at places)) ++ cons_option o []) (none_if (eqb r.log port) (block_issued shape r.event) (not_issue shape r.event never))
+      ∙ ap (λ o. issued shape port (records_at logs (take at places)) ++ cons_option o [])
+      (none_if (eqb r.log port) (block_issued shape r.event) (not_issue shape r.event never))
       ∙ append-nil (issued shape port (records_at logs (take at places)))
 
   pub issued_new : (op : Op) (tag size address : ℕ) (bytes : ArrayVec ℕ) → r.event ≡ Issue op tag size address bytes →
-      issued shape port (records_at logs (take (at + 1) places)) ≡ issued shape port (records_at logs (take at places)) ++ cons_option (block_if (eqb r.log port) (block_of shape address)) []
+      issued shape port (records_at logs (take (at + 1) places))
+      ≡ issued shape port (records_at logs (take at places)) ++ cons_option (block_if (eqb r.log port) (block_of shape address)) []
   issued_new op tag size address bytes e =
       issued_more
       ∙ ap (λ event. issued shape port (records_at logs (take at places)) ++ cons_option (issued_by shape port r.log event) []) e

@@ -105,13 +105,16 @@ same_middle k (x ∷ xs) ys = same_trans (k ∷ x ∷ (xs ++ ys)) (x ∷ k ∷ (
 abbrev pub others_of : ℕ → List (ℕ × ℕ) → List (ℕ × ℕ)
 others_of block holds = filter (λ h. not (eqb h.0 block)) holds
 
-pub same_split : (block : ℕ) (holds : List (ℕ × ℕ)) → AreSame (registers_of holds) (held_for block holds ++ registers_of (others_of block holds))
+pub same_split : (block : ℕ) (holds : List (ℕ × ℕ))
+    → AreSame (registers_of holds) (held_for block holds ++ registers_of (others_of block holds))
 same_split block [] = same_refl []
 same_split block (h ∷ holds) =
     let mine = held_for block holds in
     let others = registers_of (others_of block holds) in
     let rest = same_cons h.1 (registers_of holds) (mine ++ others) (same_split block holds) in
-    elim (eqb h.0 block) as (λ b. AreSame (h.1 ∷ registers_of holds) (registers_of (cond b (h ∷ filter (λ g. eqb g.0 block) holds) (filter (λ g. eqb g.0 block) holds)) ++ registers_of (cond (not b) (h ∷ others_of block holds) (others_of block holds)))) [
+    elim (eqb h.0 block) as (λ b. AreSame (h.1 ∷ registers_of holds)
+    (registers_of (cond b (h ∷ filter (λ g. eqb g.0 block) holds) (filter (λ g. eqb g.0 block) holds))
+    ++ registers_of (cond (not b) (h ∷ others_of block holds) (others_of block holds)))) [
       | true ↦ rest
       | false ↦ same_trans (h.1 ∷ registers_of holds) (h.1 ∷ (mine ++ others)) (mine ++ h.1 ∷ others) rest (same_middle h.1 mine others)
     ]

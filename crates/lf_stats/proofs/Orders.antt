@@ -1,5 +1,5 @@
 -- One more record of an order, and what is counted of it.
-use Rattle.std.proofs.Common.{◌≡◌, ℕ, zero, suc, ◌+◌, ◌<◌, ◌≤◌, Bool, cond, List, [], ◌∷◌, ◌++◌, map, length, eqb, take, get_or, Option, Some, None, IsSome, not, ◌==◌, max, refl, sym, ap, ◌∙◌, arith, add-one}
+use Rattle.std.proofs.Common.{◌≡◌, ℕ, zero, suc, ◌+◌, ◌<◌, ◌≤◌, Bool, cond, List, [], ◌∷◌, ◌++◌, map, length, eqb, take, get_or, Option, Some, None, IsSome, not, ◌==◌, max, refl, sym, ap, ◌∙◌, subst, arith, add-one}
 use Rattle.std.specs.List.{All, filter_map, cons_option, count_by, slice_get}
 use Rattle.std.proofs.lemmas.Bool.{false≢true}
 use Rattle.std.proofs.lemmas.List.{length-append, length-take, length-map}
@@ -39,7 +39,8 @@ module _ {X Y : Type 0} (f : X → Option Y) where
   length_found [] all = refl
   length_found (x ∷ xs) all = cons_length (f x) (filter_map f xs) (all 0 x (omega arith)) ∙ ap suc (length_found xs (λ k d h. all (suc k) d (omega arith)))
 
-  pub get_found : (xs : List X) (n : ℕ) (d : X) → All (λ x. IsSome (f x)) xs → n < length xs → slice_get (filter_map f xs) n ≡ f (get_or xs n d)
+  pub get_found : (xs : List X) (n : ℕ) (d : X) → All (λ x. IsSome (f x)) xs → n < length xs
+      → slice_get (filter_map f xs) n ≡ f (get_or xs n d)
   get_found [] n d all inside = absurd (omega arith)
   get_found (x ∷ xs) zero d all inside = cons_first (f x) (filter_map f xs) (all 0 x (omega arith))
   get_found (x ∷ xs) (suc n) d all inside =
@@ -52,7 +53,8 @@ take_at (y ∷ ys) (suc n) x e = ap (λ zs. y ∷ zs) (take_at ys n x e)
 
 -- ---- counts
 
-pub count_at : {X : Type 0} (p : X → Bool) (xs : List X) (n : ℕ) (x : X) → slice_get xs n ≡ Some x → count_by p (take (n + 1) xs) ≡ count_by p (take n xs) + cond (p x) 1 0
+pub count_at : {X : Type 0} (p : X → Bool) (xs : List X) (n : ℕ) (x : X) → slice_get xs n ≡ Some x
+    → count_by p (take (n + 1) xs) ≡ count_by p (take n xs) + cond (p x) 1 0
 count_at p xs n x e = ap (λ m. count_by p (take m xs)) (add-one n) ∙ ap (count_by p) (take_at xs n x e) ∙ sum_by_push (λ x. cond (p x) 1 0) (take n xs) x
 
 pub count_le : {X : Type 0} (p : X → Bool) (xs : List X) (n : ℕ) → count_by p (take n xs) ≤ n
@@ -60,7 +62,8 @@ count_le p xs n = omega (arith, count_by-le-length p (take n xs), length-take n 
 
 -- ---- what is held
 
-pub held_at : (shape : Shape) (rs : List Record) (n : ℕ) (r : Record) → slice_get rs n ≡ Some r → held shape rs (n + 1) ≡ held_by (next_block shape rs n) r.event (held shape rs n)
+pub held_at : (shape : Shape) (rs : List Record) (n : ℕ) (r : Record) → slice_get rs n ≡ Some r
+    → held shape rs (n + 1) ≡ held_by (next_block shape rs n) r.event (held shape rs n)
 held_at shape rs n r e = ap (held shape rs) (add-one n) ∙ ap (λ o. held_after (next_block shape rs n) o (held shape rs n)) e
 
 pub greatest_at : (f : ℕ → ℕ) (n : ℕ) → greatest f (n + 1) ≡ max (greatest f n) (f n)
@@ -84,17 +87,24 @@ held_after_le next (Some r) holds = held_by_le next r.event holds
 
 pub held_le : (shape : Shape) (rs : List Record) (n : ℕ) → length (held shape rs n) ≤ n
 held_le shape rs zero = omega arith
-held_le shape rs (suc n) = let step = held_after_le (next_block shape rs n) (slice_get rs n) (held shape rs n) in let before = held_le shape rs n in omega (arith, step, before)
+held_le shape rs (suc n) =
+    let step = held_after_le (next_block shape rs n) (slice_get rs n) (held shape rs n) in
+    omega (arith, step, held_le shape rs n)
 
--- the requests that are accepted next, by the blocks that each port issued and how many were accepted
-pub next_alike : (shape : Shape) (rs : List Record) (n : ℕ) (blocks : List (Vec ℕ)) (counts : List ℕ)
-    → ((port : ℕ) → port < 256 → get_or (map (λ (v : Vec ℕ). v.items) blocks) port [] ≡ issued shape port rs)
-    → ((port : ℕ) → port < 256 → get_or counts port 0 ≡ accepted port (take n rs)) → AreAlike (next_block shape rs n) (next_of blocks counts)
-next_alike shape rs n blocks counts issues told = record {
-  alike = λ port h.
-      ap (slice_get (issued shape port rs)) (sym (told port h))
-      ∙ ap (λ xs. slice_get xs (get_or counts port 0)) (sym (issues port h));
-}
+-- what is kept tells of one more record, by the blocks that each port issued and how many were accepted
+module _ (shape : Shape) (rs : List Record) (n : ℕ) (r : Record) (here : slice_get rs n ≡ Some r) (blocks : List (Vec ℕ)) (counts : List ℕ) where
+  pub held_next : ((port : ℕ) → port < 256 → get_or (map (λ (v : Vec ℕ). v.items) blocks) port [] ≡ issued shape port rs)
+      → ((port : ℕ) → port < 256 → get_or counts port 0 ≡ accepted port (take n rs))
+      → (before after : Held)
+      → ((next : ℕ → Option ℕ) (holds : List (ℕ × ℕ)) → AreAlike next (next_of blocks counts) → IsHeld before holds → IsHeld after (held_by next r.event holds))
+      → IsHeld before (held shape rs n) → IsHeld after (held shape rs (n + 1))
+  held_next issues told before after step now =
+      let alike : AreAlike (next_block shape rs n) (next_of blocks counts) = record {
+        alike = λ port h.
+            ap (slice_get (issued shape port rs)) (sym (told port h))
+            ∙ ap (λ xs. slice_get xs (get_or counts port 0)) (sym (issues port h));
+      } in
+      subst (IsHeld after) (sym (held_at shape rs n r here)) (step (next_block shape rs n) (held shape rs n) alike now)
 
 -- so many registers are held at most
 pub registers_le : (kept : Held) (shape : Shape) (rs : List Record) (n : ℕ) → IsHeld kept (held shape rs n) → btree_map_len kept.times.0 ≤ n
@@ -105,4 +115,10 @@ registers_le kept shape rs n told =
 pub named_le : (kept : Held) (shape : Shape) (rs : List Record) (n register : ℕ) → IsHeld kept (held shape rs n) → named kept register ≤ n
 named_le kept shape rs n register told =
     let holds = held shape rs n in
-    omega (arith, count_is _ _ (told.times.each register), count_by-le-length (λ (r : ℕ). eqb r register) (registers_of holds), length-map holds (λ h. h.1), held_le shape rs n)
+    omega (
+      arith,
+      count_is _ _ (told.times.each register),
+      count_by-le-length (λ (r : ℕ). eqb r register) (registers_of holds),
+      length-map holds (λ h. h.1),
+      held_le shape rs n,
+    )

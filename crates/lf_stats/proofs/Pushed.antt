@@ -11,7 +11,8 @@ at_push : {X : Type 0} (xs : List X) (x d : X) → get_or (xs ++ x ∷ []) (leng
 at_push [] x d = refl
 at_push (y ∷ ys) x d = at_push ys x d
 
-pub each_more : {X : Type 0} (P : ℕ → X → Type 0) (xs : List X) (x : X) (n : ℕ) → length xs ≡ n → ((i : ℕ) (d : X) → i < n → P i (get_or xs i d)) → P n x
+pub each_more : {X : Type 0} (P : ℕ → X → Type 0) (xs : List X) (x : X) (n : ℕ) → length xs ≡ n
+    → ((i : ℕ) (d : X) → i < n → P i (get_or xs i d)) → P n x
     → (i : ℕ) (d : X) → i < n + 1 → P i (get_or (xs ++ x ∷ []) i d)
 each_more P xs x n long before last i d h = ⊎_elim
     (λ (early : i < length xs). subst (P i) (sym (before_push xs (x ∷ []) i d early)) (before i d (omega arith)))

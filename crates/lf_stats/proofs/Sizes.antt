@@ -12,14 +12,16 @@ use Rattle.lf_logs.specs.declared.order.Place.{Place}
 use Rattle.lf_logs.specs.Places.{record_at, records_at, IsOrder}
 use Rattle.lf_stats.proofs.Orders.{length_found}
 
-all_le : (logs : List (Vec Record)) → All (λ log. length log.items ≤ 2 ^ 24) logs → length (all_records (map (λ (v : Vec Record). v.items) logs)) ≤ length logs * 0x100_0000
+all_le : (logs : List (Vec Record)) → All (λ log. length log.items ≤ 2 ^ 24) logs
+    → length (all_records (map (λ (v : Vec Record). v.items) logs)) ≤ length logs * 0x100_0000
 all_le [] short = omega arith
 all_le (log ∷ logs) short =
     let rest = all_le logs (λ k d h. short (suc k) d (omega arith)) in
     let here = short 0 log (omega arith) in
     omega (arith, length-append log.items (all_records (map (λ (v : Vec Record). v.items) logs)), rest, here)
 
-pub order_le : (logs : List (Vec Record)) (bank : ℕ) (places : List Place) → All (λ log. length log.items ≤ 2 ^ 24) logs → IsOrder (map (λ (v : Vec Record). v.items) logs) bank places
+pub order_le : (logs : List (Vec Record)) (bank : ℕ) (places : List Place) → All (λ log. length log.items ≤ 2 ^ 24) logs
+    → IsOrder (map (λ (v : Vec Record). v.items) logs) bank places
     → length places ≤ length logs * 0x100_0000
 order_le logs bank places short order =
     let lists = map (λ (v : Vec Record). v.items) logs in

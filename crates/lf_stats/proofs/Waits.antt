@@ -12,7 +12,8 @@ use Rattle.lf_model.specs.declared.event.Event.TheVariants.{Issue, Reply}
 use Rattle.lf_model.specs.declared.event.Record.{Record}
 use Rattle.lf_stats.specs.Statistics.{waits, waits_after, unanswered}
 
-pub set_at : (ws : List Bool) (t tag : ℕ) (b : Bool) → t < length ws → get_or (set ws t b) tag false ≡ cond (eqb t tag) b (get_or ws tag false)
+pub set_at : (ws : List Bool) (t tag : ℕ) (b : Bool) → t < length ws
+    → get_or (set ws t b) tag false ≡ cond (eqb t tag) b (get_or ws tag false)
 set_at ws t tag b inside = ⊎_elim
     (λ (same : t ≡ tag).
     ap (λ n. get_or (set ws t b) n false) (sym same) ∙ get_or-set_same ws t b false inside
@@ -22,12 +23,14 @@ set_at ws t tag b inside = ⊎_elim
     ∙ sym (ap (λ x. cond x b (get_or ws tag false)) (ne_eqb t tag other)))
     (cases_eq t tag)
 
-pub waits_more : (log : List Record) (at : ℕ) (r : Record) → at < length log → r ≡ get_or log at r → (tag : ℕ) → waits (take (at + 1) log) tag ≡ waits_after tag (waits (take at log) tag) r.event
+pub waits_more : (log : List Record) (at : ℕ) (r : Record) → at < length log → r ≡ get_or log at r → (tag : ℕ)
+    → waits (take (at + 1) log) tag ≡ waits_after tag (waits (take at log) tag) r.event
 waits_more log at r inside read tag =
     fold_more (λ (before : Bool) (r : Record). waits_after tag before r.event) false log at r inside
     ∙ ap (λ (r : Record). waits_after tag (waits (take at log) tag) r.event) (sym read)
 
-pub waits_same : (tag : ℕ) (before : Bool) (event : Event) → ((op : Op) (t size address : ℕ) (bytes : ArrayVec ℕ) → event ≡ Issue op t size address bytes → ⊥)
+pub waits_same : (tag : ℕ) (before : Bool) (event : Event)
+    → ((op : Op) (t size address : ℕ) (bytes : ArrayVec ℕ) → event ≡ Issue op t size address bytes → ⊥)
     → ((t size : ℕ) (bytes : ArrayVec ℕ) → event ≡ Reply t size bytes → ⊥) → waits_after tag before event ≡ before
 waits_same tag before (Issue op t size address bytes) never none = absurd (never op t size address bytes refl)
 waits_same tag before (Reply t size bytes) never none = absurd (none t size bytes refl)
@@ -38,7 +41,8 @@ count_by-map f [] = refl
 count_by-map f (x ∷ xs) =
     sum_by-cons (λ b. cond b 1 0) (f x) (map f xs) ∙ ap (λ n. cond (f x) 1 0 + n) (count_by-map f xs) ∙ sym (sum_by-cons (λ x. cond (f x) 1 0) x xs)
 
-pub waiting_all : (log : List Record) (ws : List Bool) → length ws ≡ 256 → ((tag : ℕ) → tag < 256 → get_or ws tag false ≡ waits log tag) → length (filter (λ w. w) ws) ≡ unanswered log
+pub waiting_all : (log : List Record) (ws : List Bool) → length ws ≡ 256
+    → ((tag : ℕ) → tag < 256 → get_or ws tag false ≡ waits log tag) → length (filter (λ w. w) ws) ≡ unanswered log
 unfolding unanswered
 waiting_all log ws long are =
     length-filter (λ w. w) ws ∙ ap (count_by (λ b. b)) (fill_by_all (waits log) ws 256 false long are) ∙ count_by-map (waits log) (range_with_len 0 256)

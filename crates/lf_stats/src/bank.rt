@@ -38,7 +38,8 @@ fn hold(
     Ok(())
 }
 
-/// The counts over the records at these places.
+/// The counts over the records at these places. The issues are gathered first, since one may stand
+/// behind its acceptance: whole numbers alone make no run.
 pub(crate) fn bank_stats(
     alloc: Global,
     shape: &Shape,

@@ -1,4 +1,4 @@
-use Rattle.std.proofs.Common.{◌≡◌, ℕ, ◌+◌, List, [], Some, cond, max, Bool, map, length, take, get_or, sym, ap, ◌∙◌, subst, arith}
+use Rattle.std.proofs.Common.{◌≡◌, ℕ, ◌+◌, ◌<◌, List, [], Some, cond, max, Bool, map, length, take, get_or, sym, ap, ◌∙◌, arith}
 use Rattle.std.specs.List.{slice_get}
 use Rattle.std.specs.Global.{Vec}
 use Rattle.std.proofs.lemmas.List.{take_all}
@@ -6,11 +6,13 @@ use Rattle.lf_model.specs.declared.event.Event.{Event}
 use Rattle.lf_model.specs.declared.event.Record.{Record}
 use Rattle.lf_logs.specs.Lists.{lists_of}
 use Rattle.lf_logs.specs.Places.{record_at, records_at}
-use Rattle.lf_stats.specs.Standing.{IsHeld}
-use Rattle.lf_stats.specs.Statistics.{accepts, next_block, held, held_count, greatest, kinds, is_hit, is_primary, is_merge, is_stall}
+use Rattle.lf_stats.specs.Statistics.{accepts, held, held_count, greatest, kinds, is_hit, is_primary, is_merge, is_stall}
 use Rattle.lf_stats.proofs.Blocks.{nowhere}
-use Rattle.lf_stats.proofs.Orders.{length_found, get_found, count_at, count_le, held_at, greatest_at, next_alike, named_le, registers_le}
+use Rattle.lf_stats.proofs.Orders.{length_found, get_found, count_at, count_le, greatest_at, held_next, named_le, registers_le}
 use Rattle.lf_stats.proofs.bank.bank_stats.Goals as goal
+
+abbrev lists_in : List (Vec ℕ) → List (List ℕ)
+lists_in vecs = map (λ v. v.items) vecs
 
 pub hold-requires-clause-few : goal.hold-requires-clause-few
 hold-requires-clause-few c register =
@@ -28,13 +30,12 @@ distinct-requires c =
     let rs : List Record = records_at (lists_of c.args.logs.now) c.args.places.now in
     let n = c.loop-place.place-index in
     let item = c.record_at.result.now in
-    let at_rs : slice_get rs n ≡ Some item = get_found (record_at (lists_of c.args.logs.now)) c.args.places.now n nowhere c.requires.named c.loop-place-test.true ∙ c.record_at.ensures in
-    let blocks : List (Vec ℕ) = c.as_slice.result.now in
-    let alike = next_alike shape rs n blocks c.loop-place.accepted.counts
-    (λ port h. ap (λ (vs : List (Vec ℕ)). get_or (map (λ (v : Vec ℕ). v.items) vs) port []) c.as_slice.ensures.value ∙ c.in_ok-issued.ensures.issued port h)
-    c.loop-place.invariant.accepted in
-    let now : IsHeld c.hold.new.held (held shape rs (n + 1)) =
-    subst (IsHeld c.hold.new.held) (sym (held_at shape rs n item at_rs)) (c.in_ok-hold.ensures (next_block shape rs n) (held shape rs n) alike c.loop-place.invariant.held) in
+    let at_rs : slice_get rs n ≡ Some item =
+    get_found (record_at (lists_of c.args.logs.now)) c.args.places.now n nowhere c.requires.named c.loop-place-test.true ∙ c.record_at.ensures in
+    let issues = λ (port : ℕ) (h : port < 256).
+    ap (λ (v : List (Vec ℕ)). get_or (lists_in v) port []) c.as_slice.ensures.value ∙ c.in_ok-issued.ensures.issued port h in
+    let now = held_next shape rs n item at_rs c.as_slice.result.now c.loop-place.accepted.counts issues c.loop-place.invariant.accepted
+    c.loop-place.held c.hold.new.held c.in_ok-hold.ensures c.loop-place.invariant.held in
     record { few = omega (arith, registers_le c.hold.new.held shape rs (n + 1) now) }
 
 pub loop-place-preserved : goal.loop-place-preserved
@@ -43,13 +44,12 @@ loop-place-preserved c =
     let rs : List Record = records_at (lists_of c.args.logs.now) c.args.places.now in
     let n = c.loop-place.place-index in
     let item = c.record_at.result.now in
-    let at_rs : slice_get rs n ≡ Some item = get_found (record_at (lists_of c.args.logs.now)) c.args.places.now n nowhere c.requires.named c.loop-place-test.true ∙ c.record_at.ensures in
-    let blocks : List (Vec ℕ) = c.as_slice.result.now in
-    let alike = next_alike shape rs n blocks c.loop-place.accepted.counts
-    (λ port h. ap (λ (vs : List (Vec ℕ)). get_or (map (λ (v : Vec ℕ). v.items) vs) port []) c.as_slice.ensures.value ∙ c.in_ok-issued.ensures.issued port h)
-    c.loop-place.invariant.accepted in
-    let now : IsHeld c.hold.new.held (held shape rs (n + 1)) =
-    subst (IsHeld c.hold.new.held) (sym (held_at shape rs n item at_rs)) (c.in_ok-hold.ensures (next_block shape rs n) (held shape rs n) alike c.loop-place.invariant.held) in
+    let at_rs : slice_get rs n ≡ Some item =
+    get_found (record_at (lists_of c.args.logs.now)) c.args.places.now n nowhere c.requires.named c.loop-place-test.true ∙ c.record_at.ensures in
+    let issues = λ (port : ℕ) (h : port < 256).
+    ap (λ (v : List (Vec ℕ)). get_or (lists_in v) port []) c.as_slice.ensures.value ∙ c.in_ok-issued.ensures.issued port h in
+    let now = held_next shape rs n item at_rs c.as_slice.result.now c.loop-place.accepted.counts issues c.loop-place.invariant.accepted
+    c.loop-place.held c.hold.new.held c.in_ok-hold.ensures c.loop-place.invariant.held in
     let one_more = λ (kind : Event → Bool). sym (count_at (λ (r : Record). kind r.event) rs n item at_rs) in
     let counted = c.count-in-loop-place.ensures in
     record {

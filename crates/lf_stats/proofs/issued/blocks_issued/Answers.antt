@@ -39,6 +39,7 @@ loop-place-preserved c =
         len = ap (λ (v : Vec (Vec ℕ)). length v.items) w.lists-is ∙ c.loop-place.invariant.len;
         issued = λ port h.
             ap (λ (v : Vec (Vec ℕ)). get_or (lists_of v) port []) w.lists-is ∙ c.loop-place.invariant.issued port h
-            ∙ sym (issued_same c.args.shape.now logs places at item c.loop-place-test.true c.record_at-item.ensures port (λ op tag size address bytes e. w.in_default.not-Issue op tag size address bytes e));
+            ∙ sym (issued_same c.args.shape.now logs places at item c.loop-place-test.true c.record_at-item.ensures port
+            (λ op tag size address bytes e. w.in_default.not-Issue op tag size address bytes e));
       }
     ]

@@ -45,13 +45,17 @@ loop-item-preserved c =
         len = ap length w.waits-is ∙ c.loop-item.invariant.len;
         waits = λ tag h.
             ap (λ bs. get_or bs tag false) w.waits-is ∙ c.loop-item.invariant.waits tag h
-            ∙ sym (more tag ∙ waits_same tag (waits (take at log) tag) item.event (λ op t size address bytes e. w.in_default.not-Issue op t size address bytes e) (λ t size bytes e. w.in_default.not-Reply t size bytes e));
+            ∙ sym (more tag ∙ waits_same tag (waits (take at log) tag) item.event
+            (λ op t size address bytes e. w.in_default.not-Issue op t size address bytes e)
+            (λ t size bytes e. w.in_default.not-Reply t size bytes e));
       }
     ]
 
 pub returns : goal.returns
 returns c =
-    let all = waiting_all c.args.log.now c.loop-item.waits c.loop-item.invariant.len (λ tag h. c.loop-item.invariant.waits tag h ∙ ap (λ log. waits log tag) (take_all c.loop-item.item-index c.args.log.now (omega arith))) in
+    let log = c.args.log.now in
+    let whole = take_all c.loop-item.item-index log (omega arith) in
+    let all = waiting_all log c.loop-item.waits c.loop-item.invariant.len (λ tag h. c.loop-item.invariant.waits tag h ∙ ap (λ log. waits log tag) whole) in
     c.count.ensures ∙ ap (λ bs. length (filter (λ b. b) bs)) c.as_slice.ensures ∙ all
 
 pub overflow_cast-result : goal.overflow_cast-result

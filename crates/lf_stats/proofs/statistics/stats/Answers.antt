@@ -21,7 +21,8 @@ loop-bank-preserved c =
       each_bank = omega (arith, ap length pushed, length-append banks (counts ∷ []), c.loop-bank.invariant.each_bank);
       bank = λ b d h.
           subst (λ xs. IsBankStats c.args.shape.now (lists_of c.args.logs.now) b (get_or xs b d)) (sym pushed)
-          (each_more (IsBankStats c.args.shape.now (lists_of c.args.logs.now)) banks counts c.loop-bank.bank c.loop-bank.invariant.each_bank c.loop-bank.invariant.bank c.in_ok-counts.ensures b d h);
+          (each_more (IsBankStats c.args.shape.now (lists_of c.args.logs.now)) banks counts c.loop-bank.bank
+          c.loop-bank.invariant.each_bank c.loop-bank.invariant.bank c.in_ok-counts.ensures b d h);
     }
 
 pub loop-port-preserved : goal.loop-port-preserved
@@ -31,12 +32,16 @@ loop-port-preserved c =
     let waiting = c.unanswered.result in
     let pushed : c.push-in-loop-port.new.self.items ≡ ports ++ waiting ∷ [] = rw c.if-is_err-2.ensures.negation at c.push-in-loop-port.ensures.items in
     let last : waiting ≡ unanswered (get_or lists c.loop-port.port []) =
-    c.unanswered.ensures ∙ ap unanswered (c.as_slice.ensures.value ∙ ap (λ (v : Vec Record). v.items) c.index.ensures ∙ sym (get_or-map (λ (v : Vec Record). v.items) c.args.logs.now.items c.loop-port.port c.index.result.now [] (omega arith))) in
+    let items = λ (v : Vec Record). v.items in
+    c.unanswered.ensures
+    ∙ ap unanswered (c.as_slice.ensures.value ∙ ap items c.index.ensures
+    ∙ sym (get_or-map items c.args.logs.now.items c.loop-port.port c.index.result.now [] (omega arith))) in
     record {
       each_port = omega (arith, ap length pushed, length-append ports (waiting ∷ []), c.loop-port.invariant.each_port);
       port = λ p d h.
           subst (λ xs. get_or xs p d ≡ unanswered (get_or lists p [])) (sym pushed)
-          (each_more (λ q n. n ≡ unanswered (get_or lists q [])) ports waiting c.loop-port.port c.loop-port.invariant.each_port c.loop-port.invariant.port last p d h);
+          (each_more (λ q n. n ≡ unanswered (get_or lists q [])) ports waiting c.loop-port.port
+          c.loop-port.invariant.each_port c.loop-port.invariant.port last p d h);
     }
 
 pub returns : goal.returns

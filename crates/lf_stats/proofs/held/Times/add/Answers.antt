@@ -13,7 +13,8 @@ returns-in-Ok c registers told =
     let updates = c.in-Ok.ensures.updates in
     let kept : c.unwrap_or-times.result ≡ unwrap_or (before register) 0 = search rules in
     record {
-      each = each_added register registers before after (λ q other. updates.2 q (at_other register q other)) told.each (updates.1 ∙ ap (λ n. Some (n + 1)) kept);
+      each = each_added register registers before after (λ q other. updates.2 q (at_other register q other)) told.each
+          (updates.1 ∙ ap (λ n. Some (n + 1)) kept);
       count =
           c.in-Ok.ensures.len
           ∙ ap (λ o. btree_map_len c.args.self.now.0 + cond (is_some o) 0 1) c.in-Ok.ensures.old

@@ -21,7 +21,8 @@ returns-then-times-lt2 c registers told =
     let there = some_kept (before register) (times register (register ∷ registers)) (omega (arith, all)) (told.each register) in
     let taken : cond (is_some c.remove.result) 1 0 ≡ 1 = ap (λ o. cond {A = ℕ} (is_some o) 1 0) c.remove.ensures.value ∙ ap (λ b. cond {A = ℕ} b 1 0) there in
     record {
-      each = each_taken register registers before after (λ q other. updates.2 q (at_other register q other)) told.each (subst (λ o. IsCount o (times register registers)) (sym updates.1) last);
+      each = each_taken register registers before after (λ q other. updates.2 q (at_other register q other)) told.each
+          (subst (λ o. IsCount o (times register registers)) (sym updates.1) last);
       count = omega (arith, c.remove.ensures.len, taken, told.count, distinct_new registers register last);
     }
 
