@@ -11,9 +11,13 @@ const ABOUT: &str = "Judges recorded traces of a two-level lockup-free (non-bloc
 const ABOUT_CHECK: &str =
     "Judges a trace for the hierarchy that a configuration says, and prints one line.";
 
+/// What the help says of `stats`.
+const ABOUT_STATS: &str =
+    "Judges a trace with one worker, and prints the statistics of one that is legal.";
+
 /// What the help says after the arguments.
 const ANSWERS: &str = "\
-The answer is one line on standard output:
+The answer of check is one line on standard output:
   yes events=6                        some order of all events is a legal run
   no port=0 event=1 rule=TagBusy      the port's event of this place breaks the rule
   no bank=0 number=5 rule=ReplyData   the bank's event of this number breaks the rule
@@ -24,6 +28,19 @@ The answer is one line on standard output:
   refused config Missing tags         the configuration says no hierarchy
   refused read trace                  the file cannot be read (or: read config)
   refused usage, refused workers 17, refused memory, refused thread
+
+Where check says yes, stats prints a line for each bank and then one for each port. Where it does not,
+stats prints that line.
+  bank=0 hits=0 primary=1 merges=0 stalls=0 peak=1
+  port=0 unanswered=0
+Of a bank's level one:
+  hits        requests that found their block there
+  primary     misses that started a fetch of their block
+  merges      misses that joined a fetch of their block, each recorded beside the first
+  stalls      misses that found no room in the registers and waited
+  peak        the greatest number of registers that were held at once
+Of a port:
+  unanswered  tags whose last request has no reply in the trace
 
 The status is 0 for yes, 1 for no and 2 for refused. Ports, banks, places and numbers count from 0.
 
@@ -44,6 +61,11 @@ pub enum Request<'a> {
         trace: &'a str,
         workers: u16,
     },
+    /// Count over the trace in a file, judged for the configuration in a file.
+    Stats {
+        config: &'a str,
+        trace: &'a str,
+    },
 }
 
 /// Why there is no command.
@@ -57,13 +79,19 @@ pub enum CommandFault {
     Help(Error),
 }
 
+fn config_arg<'a>(alloc: Global) -> Arg<'a> {
+    Arg::new(alloc, "CONFIG")
+        .required(true)
+        .help("The configuration of the hierarchy")
+}
+
+fn trace_arg<'a>(alloc: Global) -> Arg<'a> {
+    Arg::new(alloc, "TRACE")
+        .required(true)
+        .help("The recorded trace")
+}
+
 fn check_command<'a>(alloc: Global) -> Result<Command<'a>, AllocError> {
-    let config = Arg::new(alloc, "CONFIG")
-        .required(true)
-        .help("The configuration of the hierarchy");
-    let trace = Arg::new(alloc, "TRACE")
-        .required(true)
-        .help("The recorded trace");
     let workers = Arg::new(alloc, "workers")
         .long("workers")
         .value_name("N")
@@ -73,9 +101,17 @@ fn check_command<'a>(alloc: Global) -> Result<Command<'a>, AllocError> {
     Command::new(alloc, "check")
         .about(ABOUT_CHECK)
         .after_help(ANSWERS)
-        .arg(config)?
-        .arg(trace)?
+        .arg(config_arg(alloc))?
+        .arg(trace_arg(alloc))?
         .arg(workers)
+}
+
+fn stats_command<'a>(alloc: Global) -> Result<Command<'a>, AllocError> {
+    Command::new(alloc, "stats")
+        .about(ABOUT_STATS)
+        .after_help(ANSWERS)
+        .arg(config_arg(alloc))?
+        .arg(trace_arg(alloc))
 }
 
 fn program<'a>(alloc: Global) -> Result<Command<'a>, AllocError> {
@@ -85,7 +121,8 @@ fn program<'a>(alloc: Global) -> Result<Command<'a>, AllocError> {
         .about(ABOUT)
         .after_help(ANSWERS)
         .subcommand_required(true)
-        .subcommand(check_command(alloc)?)
+        .subcommand(check_command(alloc)?)?
+        .subcommand(stats_command(alloc)?)
 }
 
 fn fault_of(error: Error) -> CommandFault {
@@ -104,6 +141,13 @@ fn check_request<'a>(matches: &ArgMatches<'a>) -> Option<Request<'a>> {
     })
 }
 
+fn stats_request<'a>(matches: &ArgMatches<'a>) -> Option<Request<'a>> {
+    Some(Request::Stats {
+        config: matches.get_str("CONFIG")?,
+        trace: matches.get_str("TRACE")?,
+    })
+}
+
 /// What the words ask for, the program's own name first.
 pub fn asked<'a>(alloc: Global, words: &'a [String]) -> Result<Request<'a>, CommandFault> {
     let Ok(command) = program(alloc) else {
@@ -115,6 +159,7 @@ pub fn asked<'a>(alloc: Global, words: &'a [String]) -> Result<Request<'a>, Comm
     };
     let found = match matches.subcommand() {
         Some(("check", inner)) => check_request(inner),
+        Some(("stats", inner)) => stats_request(inner),
         _ => None,
     };
     found.ok_or(CommandFault::Usage)

@@ -28,7 +28,7 @@ use std::alloc::{AllocError, Global};
 use std::io::{Read, Write};
 
 /// The most bytes that one read asks for.
-const PIECE: usize = 65536;
+pub const PIECE: usize = 65536;
 
 /// Whether there can be so many workers.
 pub fn are_workers(workers: u32) -> bool
@@ -93,7 +93,7 @@ fn refusal_of(fault: ConfigFault) -> Refusal
 }
 
 /// The shape that the configuration says, where there can be so many workers.
-fn shape_for(alloc: Global, config: &str, workers: u32) -> Result<Shape, Refusal>
+pub fn shape_for(alloc: Global, config: &str, workers: u32) -> Result<Shape, Refusal>
     ensures workers { IfOk result (λ _. IsWorkerCount workers) }
     ensures configured { IfOk result (λ shape. configuration_of config.now ≡ Ok shape) }
     ensures in_range { IfOk result IsShape }
@@ -135,7 +135,7 @@ fn text_of(alloc: Global, verdict: &Verdict) -> Result<String, AllocError>
 }
 
 /// Writes the line of what a run came to.
-fn tell<W: Write>(
+pub fn tell<W: Write>(
     alloc: Global,
     writer: &mut Counted<W>,
     outcome: Result<Verdict, RunFault>,

@@ -35,7 +35,7 @@ pub fn zeros(alloc: Global, len: usize) -> Result<Vec<u8>, AllocError>
 
 /// Hands the session a piece, and tells whether a fault stands in what it was fed so far. `NoMemory`
 /// says that a growth was refused.
-fn feed(session: &mut Session, piece: &[u8]) -> Result<bool, NoMemory>
+pub fn feed(session: &mut Session, piece: &[u8]) -> Result<bool, NoMemory>
     ensures shape { session.new.shape ≡ session.old.shape }
     ensures fed { (bytes : List ℕ) → HasFed session.old bytes → HasFed session.new (bytes ++ piece.now) }
     ensures told { IfOk result (λ broken. (bytes : List ℕ) → HasFed session.old bytes → (IsTrue broken ↔ HasFault (bytes ++ piece.now))) }

@@ -1,7 +1,7 @@
 //! `score check CONFIG TRACE` judges a recorded trace of a two-level lockup-free cache for the hierarchy
 //! that a configuration says, and prints one line: a yes with the number of events, a no with the fault
-//! and its place, or why the trace is not judged. The status is 0 for a yes, 1 for a no and 2 for a
-//! refusal.
+//! and its place, or why the trace is not judged. `score stats CONFIG TRACE` prints the statistics of a
+//! trace that is legal. The status is 0 for a yes, 1 for a no and 2 for a refusal.
 #![tactic(auto)]
 
 mod command;
@@ -10,10 +10,13 @@ mod counted;
 mod engine;
 mod fault;
 mod gathering;
+mod keeping;
 mod line;
 mod output;
+mod report;
 #[cfg(test)]
 mod shape;
+mod statistics;
 #[cfg(test)]
 mod tests;
 mod trace;
@@ -22,8 +25,10 @@ use command::{CommandFault, Request, asked};
 use configuration::text_in;
 use counted::Counted;
 use engine::{are_workers, run};
+use fault::RunFault;
 use lf_verdict::Verdict;
 use line::{InputFault, Line};
+use statistics::run_stats;
 use std::io;
 use std::io::{ErrorKind, Read};
 use std::process::ExitCode;
@@ -40,6 +45,14 @@ fn refused<T: Print>(rt: &T, why: InputFault) -> io::Result<ExitCode> {
     Ok(ExitCode::from(REFUSED))
 }
 
+fn status_of(answer: &Result<Verdict, RunFault>) -> ExitCode {
+    match answer {
+        Ok(Verdict::Yes { .. }) => ExitCode::SUCCESS,
+        Ok(Verdict::No(_)) => ExitCode::from(NO),
+        _ => ExitCode::from(REFUSED),
+    }
+}
+
 fn judge<T: Print + AllocGlobal, R: Read + Drop>(
     rt: &T,
     config: &str,
@@ -48,11 +61,7 @@ fn judge<T: Print + AllocGlobal, R: Read + Drop>(
 ) -> ExitCode {
     let mut reader = Counted::new(trace);
     let mut writer = Counted::new(io::writer(rt));
-    match run(rt, &mut reader, &mut writer, config, workers, u32::MAX) {
-        Ok(Verdict::Yes { .. }) => ExitCode::SUCCESS,
-        Ok(Verdict::No(_)) => ExitCode::from(NO),
-        _ => ExitCode::from(REFUSED),
-    }
+    status_of(&run(rt, &mut reader, &mut writer, config, workers, u32::MAX))
 }
 
 /// Judges the workers before it opens a file, and the configuration before the trace is read.
@@ -73,6 +82,22 @@ where
         Ok(text) => Ok(judge(rt, text, Trace::open(rt, trace), workers)),
         Err(why) => refused(rt, why),
     }
+}
+
+/// Judges the configuration before the trace is read.
+fn stats<T: Print + Files + AllocGlobal>(rt: &T, config: &str, trace: &str) -> io::Result<ExitCode>
+where
+    T::File: Drop,
+{
+    let read = std::fs::read(rt, config);
+    let text = match text_in(&read) {
+        Ok(text) => text,
+        Err(why) => return refused(rt, why),
+    };
+    let mut reader = Counted::new(Trace::open(rt, trace));
+    let mut writer = Counted::new(io::writer(rt));
+    let answer = run_stats(rt, &mut reader, &mut writer, text, u32::MAX);
+    Ok(status_of(&answer))
 }
 
 fn start<T: Env + Print + Files + AllocGlobal>(rt: &T) -> io::Result<ExitCode>
@@ -99,6 +124,7 @@ where
                 workers,
             },
         ) => check(rt, config, trace, u32::from(workers)),
+        Ok(Request::Stats { config, trace }) => stats(rt, config, trace),
         Err(CommandFault::Help(help)) => {
             print!(rt; "{help}")?;
             Ok(ExitCode::SUCCESS)

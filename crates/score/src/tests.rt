@@ -6,5 +6,6 @@ mod examples;
 mod hostile;
 mod notation;
 mod program;
+mod statistics;
 mod streams;
 mod versions;

@@ -14,7 +14,7 @@ use std::io::ErrorKind;
 use std::process::Abort;
 use std::test::Fail;
 
-fn words_of(alloc: Global, line: &str) -> Result<Vec<String>, AllocError> {
+pub fn words_of(alloc: Global, line: &str) -> Result<Vec<String>, AllocError> {
     let mut words = Vec::new(alloc);
     for word in line.split(' ') {
         words.push(String::from_str(alloc, word)?)?;
@@ -44,7 +44,7 @@ fn is_check<T: Abort + AllocGlobal>(
     Ok(())
 }
 
-fn is_refused<T: Abort + AllocGlobal>(rt: &T, line: &str) -> Result<(), Fail> {
+pub fn is_refused<T: Abort + AllocGlobal>(rt: &T, line: &str) -> Result<(), Fail> {
     let words = words_of(rt.alloc(), line)?;
     let is_usage = match asked(rt.alloc(), words.as_slice()) {
         Err(CommandFault::Usage) => true,
