@@ -3,4 +3,5 @@ pub mod Tags
 pub mod Places
 pub mod Tallies
 pub mod EarlyTable
+pub mod KeptRecord
 pub mod Reordering

@@ -7,6 +7,7 @@ ghost use Rattle.std.specs.Ordering.{nat_cmp};
 ghost use Rattle.lf_model.specs.declared.event.Record.{Record};
 ghost use Rattle.lf_logs.specs.EarlyTable.{IsTable};
 
+use crate::kept::Kept;
 use lf_model::{NoMemory, Record};
 use slab::Slab;
 use std::alloc::Global;
@@ -21,14 +22,14 @@ const PLACES_OF_A_RECORD: usize = 4;
 
 /// The records that came before their turn, by number. A table has the key under which a record is
 /// kept, at the place that is the record's number modulo the count of places. A record whose place
-/// is taken goes into the map. So what is held follows the records that wait, however far apart
+/// is taken, or whose key has more than four bytes, goes into the map. So what is held follows the records that wait, however far apart
 /// their numbers are, and a wider table moves no record.
 #[derive(Drop)]
 pub struct Early {
     alloc: Global,
-    places: Vec<Option<usize>>,
-    kept: Slab<Record>,
-    rest: BTreeMap<u32, Record>,
+    places: Vec<Option<u32>>,
+    kept: Slab<Kept>,
+    rest: BTreeMap<u32, Kept>,
 }
 
 impl Model for Early {
@@ -44,7 +45,7 @@ impl Model for Early {
 }
 
 /// The key of the record of this number, where the table has one.
-fn key_of(places: &[Option<usize>], kept: &Slab<Record>, number: u32) -> Option<usize>
+fn key_of(places: &[Option<u32>], kept: &Slab<Kept>, number: u32) -> Option<usize>
     requires { IsTable places.now kept.now.slots }
     ensures some { IfSome result (λ key. slice_index_or places.now (number % length places.now) None ≡ Some key) }
     ensures number { IfSome result (λ key. (r : Record) × ((slice_index_or kept.now.slots key None ≡ Some r) × (r.number ≡ number))) }
@@ -53,9 +54,9 @@ fn key_of(places: &[Option<usize>], kept: &Slab<Record>, number: u32) -> Option<
     if places.is_empty() {
         return None;
     }
-    let key = places[number as usize % places.len()]?;
+    let key = places[number as usize % places.len()]? as usize;
     match kept.get(key) {
-        Some(item) if item.number == number => Some(key),
+        Some(item) if item.number() == number => Some(key),
         _ => None,
     }
 }
@@ -63,9 +64,9 @@ fn key_of(places: &[Option<usize>], kept: &Slab<Record>, number: u32) -> Option<
 /// A table of twice as many places for the same records.
 fn widened(
     alloc: Global,
-    places: &[Option<usize>],
-    kept: &Slab<Record>,
-) -> Result<Vec<Option<usize>>, NoMemory>
+    places: &[Option<u32>],
+    kept: &Slab<Kept>,
+) -> Result<Vec<Option<u32>>, NoMemory>
     requires table { IsTable places.now kept.now.slots }
     requires some { 0 < length places.now }
     ensures table { IfOk result (λ wider. IsTable wider.items kept.now.slots) }
@@ -76,7 +77,7 @@ fn widened(
     };
     for place in places {
         if let Some(key) = *place {
-            let to = kept[key].number as usize % wider.len();
+            let to = kept[key as usize].number() as usize % wider.len();
             wider[to] = Some(key);
         }
     }
@@ -87,8 +88,8 @@ fn widened(
 /// for what is kept.
 fn make_room(
     alloc: Global,
-    places: &mut Vec<Option<usize>>,
-    kept: &Slab<Record>,
+    places: &mut Vec<Option<u32>>,
+    kept: &Slab<Kept>,
     number: u32,
 ) -> Result<(), NoMemory>
     requires { IsTable places.old.items kept.now.slots }
@@ -139,15 +140,16 @@ impl Early {
     {
         let number = item.number;
         make_room(self.alloc, &mut self.places, &self.kept, number)?;
+        let waiting = Kept::new(self.alloc, item)?;
         let place = number as usize % self.places.len();
-        if self.places[place].is_none() {
-            let Ok(key) = self.kept.insert(item) else {
+        if self.places[place].is_none() && self.kept.vacant_key() <= u32::MAX as usize {
+            let Ok(key) = self.kept.insert(waiting) else {
                 return Err(NoMemory);
             };
-            self.places[place] = Some(key);
+            self.places[place] = Some(key as u32);
             return Ok(());
         }
-        match self.rest.insert(number, item) {
+        match self.rest.insert(number, waiting) {
             Ok(_) => Ok(()),
             Err(_) => Err(NoMemory),
         }
@@ -161,10 +163,10 @@ impl Early {
         ensures fewer { IfSome result (λ _. length self.new < length self.old) }
     {
         let Some(key) = key_of(&self.places, &self.kept, number) else {
-            return self.rest.remove(&number);
+            return Some(self.rest.remove(&number)?.into_record());
         };
         let place = number as usize % self.places.len();
         self.places[place] = None;
-        Some(self.kept.remove(key))
+        Some(self.kept.remove(key).into_record())
     }
 }

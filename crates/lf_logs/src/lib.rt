@@ -4,6 +4,7 @@
 
 mod banks;
 mod early;
+mod kept;
 mod logs;
 mod order;
 mod port;

@@ -15,8 +15,8 @@ loop-place-preserved c = elim c.match-place.branch [
       let len : w.len.result ≡ length c.loop-place.wider.items = w.len.ensures ∙ c.loop-place.wider.ok.0 in
       rw w.wider-is
       (IsWidened-more c.args.places.now c.args.kept.now.slots c.requires.table c.loop-place.wider.items c.loop-place.place-index w.in-Some.key
-      (w.index.result.now.number % w.len.result) w.index.result.now (omega (arith, c.loop-place.invariant.len)) w.in-Some.is w.index.ensures
-      (ap (λ n. w.index.result.now.number % n) len) c.loop-place.invariant)
+      (w.number.result % w.len.result) w.index.result.now (omega (arith, c.loop-place.invariant.len)) w.in-Some.is w.index.ensures
+      (ap (λ n. n % w.len.result) w.number.ensures ∙ ap (λ n. w.index.result.now.number % n) len) c.loop-place.invariant)
   | in_default-place w ↦ rw w.wider-is
       (IsWidened-skip c.args.places.now c.args.kept.now.slots c.requires.table c.loop-place.wider.items c.loop-place.place-index w.in_default-place.is c.loop-place.invariant)
 ]

@@ -1,54 +1,56 @@
-use Rattle.std.proofs.Common.{◌≡◌, ◌<◌, ◌%◌, ℕ, length, get_or, Option, Some, None, is_some, false, not, ◌∙◌, sym, ap, refl, arith}
+use Rattle.std.proofs.Common.{◌≡◌, ◌<◌, ◌%◌, ℕ, length, get_or, Option, Some, None, is_some, false, not, ◌∙◌, sym, ap, subst, refl, arith}
 use Rattle.std.proofs.lemmas.List.{get_or_read}
 use Rattle.std.proofs.lemmas.Nat.{mod_below}
+use Rattle.slab.specs.Slab.{Updates}
+use Rattle.lf_model.specs.declared.event.Record.{Record}
 use Rattle.lf_logs.proofs.EarlyLookups.{at, lookup-first, lookup-rest, lookup-parts, lookup-found, lookup-first_none, IsTable-insert, others-insert}
 use Rattle.lf_logs.proofs.Reordered.{apart_at}
 use Rattle.lf_logs.proofs.early.Early.insert.Goals as goal
-use Rattle.lf_logs.proofs.early.Early.insert.Goals.{in-Ok-insert, in-Err}
 
 nothing : (o : Option ℕ) → is_some o ≡ false → o ≡ None
 nothing None none = refl
 nothing (Some x) none = absurd (cc)
 
-pub invariant_of-self-then-is_none : goal.invariant_of-self-then-is_none
-invariant_of-self-then-is_none c =
+pub invariant_of-self-then-vacant_key : goal.invariant_of-self-then-vacant_key
+invariant_of-self-then-vacant_key c =
     let places = c.make_room.new.places in
     let len : c.len.result ≡ length places.items = c.len.ensures ∙ places.ok.0 in
     let some : 0 < length places.items = omega (arith, c.in_ok-make_room.ensures.some, places.ok.0) in
     let none : c.index.result.now ≡ None = nothing c.index.result.now (c.is_none.ensures ∙ ap not c.if-is_none.true) in
     let below : c.args.item.number % c.len.result < length places.items = omega (arith, mod_below c.args.item.number c.len.result (omega arith)) in
     let free : get_or places.items (c.args.item.number % c.len.result) None ≡ None = sym (get_or_read places.items _ _ below c.index.ensures None) ∙ none in
+    let updates : Updates c.self.inside.kept c.insert.new.self c.in-Ok.key (Some c.args.item) =
+    subst (λ (r : Record). Updates c.self.inside.kept c.insert.new.self c.in-Ok.key (Some r)) c.in_ok-waiting.ensures c.in-Ok.ensures.updates in
     IsTable-insert places.items c.self.inside.kept c.insert.new.self c.in_ok-make_room.ensures.table (c.args.item.number % c.len.result) c.in-Ok.key c.args.item
-    (ap (λ n. c.args.item.number % n) len) some free c.in-Ok.ensures.was_vacant c.in-Ok.ensures.updates
+    (ap (λ n. c.args.item.number % n) len) some free c.in-Ok.ensures.was_vacant updates
 
-pub returns-then-is_none-clause-own : goal.returns-then-is_none-clause-own
-returns-then-is_none-clause-own c =
+pub returns-then-vacant_key-clause-own : goal.returns-then-vacant_key-clause-own
+returns-then-vacant_key-clause-own c =
     lookup-first c.args.item.number c.insert.new.self.slots c.self.inside.rest.entries c.args.item
-    (lookup-found _ c.insert.new.self.slots (invariant_of-self-then-is_none c) c.args.item.number c.in-Ok.key c.args.item c.in-Ok.ensures.updates.changed refl)
+    (lookup-found _ c.insert.new.self.slots (invariant_of-self-then-vacant_key c) c.args.item.number c.in-Ok.key c.args.item
+    (c.in-Ok.ensures.updates.changed ∙ ap Some c.in_ok-waiting.ensures) refl)
 
-pub returns-then-is_none-clause-others : goal.returns-then-is_none-clause-others
-returns-then-is_none-clause-others c k other =
+pub returns-then-vacant_key-clause-others : goal.returns-then-vacant_key-clause-others
+returns-then-vacant_key-clause-others c k other =
     let e = c.self.inside in
+    let updates : Updates e.kept c.insert.new.self c.in-Ok.key (Some c.args.item) =
+    subst (λ (r : Record). Updates e.kept c.insert.new.self c.in-Ok.key (Some r)) c.in_ok-waiting.ensures c.in-Ok.ensures.updates in
     lookup-parts k e.kept.slots c.insert.new.self.slots e.rest.entries e.rest.entries
     (others-insert c.make_room.new.places.items e.kept c.insert.new.self c.in_ok-make_room.ensures.table (c.args.item.number % c.len.result) c.in-Ok.key c.args.item _
-    (invariant_of-self-then-is_none c) c.in-Ok.ensures.was_vacant c.in-Ok.ensures.updates k other)
+    (invariant_of-self-then-vacant_key c) c.in-Ok.ensures.was_vacant updates k other)
     refl
     ∙ ap (at k) c.self.view_is
 
-pub returns-clause-own : goal.returns-clause-own
-returns-clause-own c = elim c.match-insert-2.branch [
-  | in-Ok-insert w ↦ rw w.result-is
-      (lookup-rest c.args.item.number c.self.inside.kept.slots c.insert-2.new.self.entries
-      (lookup-first_none c.args.item.number c.self.inside.kept.slots c.self.inside.rest.entries (ap (at c.args.item.number) c.self.view_is ∙ c.requires))
-      ∙ w.in-Ok-insert.ensures.updates.1)
-  | in-Err w ↦ rw w.result-is tt
-]
+pub returns-in-Ok-insert-clause-own : goal.returns-in-Ok-insert-clause-own
+returns-in-Ok-insert-clause-own c =
+    let e = c.self.inside in
+    lookup-rest c.args.item.number e.kept.slots c.insert-2.new.self.entries
+    (lookup-first_none c.args.item.number e.kept.slots e.rest.entries (ap (at c.args.item.number) c.self.view_is ∙ c.requires))
+    ∙ c.in-Ok-insert.ensures.updates.1
+    ∙ ap Some c.in_ok-waiting.ensures
 
-pub returns-clause-others : goal.returns-clause-others
-returns-clause-others c = elim c.match-insert-2.branch [
-  | in-Ok-insert w ↦ rw w.result-is
-      (λ k other. lookup-parts k c.self.inside.kept.slots c.self.inside.kept.slots c.self.inside.rest.entries c.insert-2.new.self.entries refl
-      (w.in-Ok-insert.ensures.updates.2 k (apart_at c.args.item.number k other))
-      ∙ ap (at k) c.self.view_is)
-  | in-Err w ↦ rw w.result-is tt
-]
+pub returns-in-Ok-insert-clause-others : goal.returns-in-Ok-insert-clause-others
+returns-in-Ok-insert-clause-others c k other =
+    let e = c.self.inside in
+    lookup-parts k e.kept.slots e.kept.slots e.rest.entries c.insert-2.new.self.entries refl (c.in-Ok-insert.ensures.updates.2 k (apart_at c.args.item.number k other))
+    ∙ ap (at k) c.self.view_is

@@ -1,5 +1,6 @@
 use Rattle.std.proofs.Common.{◌≡◌, ◌+◌, ◌%◌, ℕ, List, length, get_or, Option, Some, None, ◌∙◌, sym, ap, subst, refl, arith}
 use Rattle.std.proofs.lemmas.List.{length-append}
+use Rattle.std.specs.ControlFlow.{continue_value}
 use Rattle.lf_logs.proofs.EarlyLookups.{at, not_kept, lookup-first, lookup-rest, lookup-parts, lookup-found, IsTable-remove, others-remove, length-numbered}
 use Rattle.lf_logs.specs.EarlyTable.{numbered}
 use Rattle.lf_logs.proofs.Reordered.{apart_at}
@@ -8,7 +9,17 @@ use Rattle.lf_logs.proofs.early.Early.take.Goals as goal
 pub returns-in_default-clause-value : goal.returns-in_default-clause-value
 returns-in_default-clause-value c =
     let e = c.self.inside in
-    c.remove.ensures.value
+    ap Some c.into_record.ensures
+    ∙ sym (c.branch-remove.ensures ∙ ap continue_value c.in_ok-remove.is)
+    ∙ c.remove.ensures.value
+    ∙ sym (ap (at c.args.number) (sym c.self.view_is) ∙ lookup-rest c.args.number e.kept.slots e.rest.entries (not_kept c.args.number e.kept.slots c.in_default.ensures.none))
+
+pub returns-in_err-remove-clause-value : goal.returns-in_err-remove-clause-value
+returns-in_err-remove-clause-value c =
+    let e = c.self.inside in
+    c.from_residual.ensures
+    ∙ sym (c.branch-remove.ensures ∙ ap continue_value c.in_err-remove.is)
+    ∙ c.remove.ensures.value
     ∙ sym (ap (at c.args.number) (sym c.self.view_is) ∙ lookup-rest c.args.number e.kept.slots e.rest.entries (not_kept c.args.number e.kept.slots c.in_default.ensures.none))
 
 pub returns-in_default-clause-others : goal.returns-in_default-clause-others
@@ -28,7 +39,8 @@ invariant_of-self-2 c =
 pub returns-clause-value : goal.returns-clause-value
 returns-clause-value c =
     let e = c.self.inside in
-    sym c.remove-2.ensures.value
+    ap Some c.into_record-2.ensures
+    ∙ sym c.remove-2.ensures.value
     ∙ c.in-Some.ensures.number.1.0
     ∙ sym (lookup-first c.args.number e.kept.slots e.rest.entries c.in-Some.ensures.number.0
     (lookup-found e.places.items e.kept.slots c.self.invariant c.args.number c.in-Some.key c.in-Some.ensures.number.0 c.in-Some.ensures.number.1.0 c.in-Some.ensures.number.1.1))
