@@ -15,6 +15,9 @@ const ABOUT_CHECK: &str =
 const ABOUT_STATS: &str =
     "Judges a trace with one worker, and prints the statistics of one that is legal.";
 
+/// What the help says of `demo`.
+const ABOUT_DEMO: &str = "Runs a small cache in threads for a configuration, and writes its trace.";
+
 /// What the help says after the arguments.
 const ANSWERS: &str = "\
 The answer of check is one line on standard output:
@@ -42,6 +45,13 @@ Of a bank's level one:
 Of a port:
   unanswered  tags whose last request has no reply in the trace
 
+The answer of demo is one line:
+  demo events=200                     so many events are written
+  refused write                       the file cannot be written
+  refused turns                       a thread came to nothing for too long
+  refused thread                      a thread was refused
+                                      (or as check: read config, config, memory)
+
 The status is 0 for yes, 1 for no and 2 for refused. Ports, banks, places and numbers count from 0.
 
 CONFIG is a TOML document with the keys ports, banks, block (bytes) and tags (of each port), and the
@@ -65,6 +75,11 @@ pub enum Request<'a> {
     Stats {
         config: &'a str,
         trace: &'a str,
+    },
+    /// Run the demonstration for the configuration in a file, and write its trace to another.
+    Demo {
+        config: &'a str,
+        out: &'a str,
     },
 }
 
@@ -114,6 +129,17 @@ fn stats_command<'a>(alloc: Global) -> Result<Command<'a>, AllocError> {
         .arg(trace_arg(alloc))
 }
 
+fn demo_command<'a>(alloc: Global) -> Result<Command<'a>, AllocError> {
+    let out = Arg::new(alloc, "OUT")
+        .required(true)
+        .help("The file that is created or emptied for the trace");
+    Command::new(alloc, "demo")
+        .about(ABOUT_DEMO)
+        .after_help(ANSWERS)
+        .arg(config_arg(alloc))?
+        .arg(out)
+}
+
 fn program<'a>(alloc: Global) -> Result<Command<'a>, AllocError> {
     Command::new(alloc, "score")
         .bin_name("score")?
@@ -122,7 +148,8 @@ fn program<'a>(alloc: Global) -> Result<Command<'a>, AllocError> {
         .after_help(ANSWERS)
         .subcommand_required(true)
         .subcommand(check_command(alloc)?)?
-        .subcommand(stats_command(alloc)?)
+        .subcommand(stats_command(alloc)?)?
+        .subcommand(demo_command(alloc)?)
 }
 
 fn fault_of(error: Error) -> CommandFault {
@@ -148,6 +175,13 @@ fn stats_request<'a>(matches: &ArgMatches<'a>) -> Option<Request<'a>> {
     })
 }
 
+fn demo_request<'a>(matches: &ArgMatches<'a>) -> Option<Request<'a>> {
+    Some(Request::Demo {
+        config: matches.get_str("CONFIG")?,
+        out: matches.get_str("OUT")?,
+    })
+}
+
 /// What the words ask for, the program's own name first.
 pub fn asked<'a>(alloc: Global, words: &'a [String]) -> Result<Request<'a>, CommandFault> {
     let Ok(command) = program(alloc) else {
@@ -160,6 +194,7 @@ pub fn asked<'a>(alloc: Global, words: &'a [String]) -> Result<Request<'a>, Comm
     let found = match matches.subcommand() {
         Some(("check", inner)) => check_request(inner),
         Some(("stats", inner)) => stats_request(inner),
+        Some(("demo", inner)) => demo_request(inner),
         _ => None,
     };
     found.ok_or(CommandFault::Usage)

@@ -1,12 +1,13 @@
 //! `score check CONFIG TRACE` judges a recorded trace of a two-level lockup-free cache for the hierarchy
 //! that a configuration says, and prints one line: a yes with the number of events, a no with the fault
 //! and its place, or why the trace is not judged. `score stats CONFIG TRACE` prints the statistics of a
-//! trace that is legal. The status is 0 for a yes, 1 for a no and 2 for a refusal.
+//! trace that is legal, and `score demo CONFIG OUT` records a small cache in threads. The status is 0 for a yes, 1 for a no and 2 for a refusal.
 #![tactic(auto)]
 
 mod command;
 mod configuration;
 mod counted;
+mod demonstration;
 mod engine;
 mod fault;
 mod gathering;
@@ -24,6 +25,7 @@ mod trace;
 use command::{CommandFault, Request, asked};
 use configuration::text_in;
 use counted::Counted;
+use demonstration::{Demonstration, demonstrate};
 use engine::{are_workers, run};
 use fault::RunFault;
 use lf_verdict::Verdict;
@@ -33,6 +35,8 @@ use std::io;
 use std::io::{ErrorKind, Read};
 use std::process::ExitCode;
 use std::rt::{Env, Files};
+use std::sync::Wait;
+use std::thread::Threads;
 use trace::Trace;
 
 const NO: u8 = 1;
@@ -100,7 +104,28 @@ where
     Ok(status_of(&answer))
 }
 
-fn start<T: Env + Print + Files + AllocGlobal>(rt: &T) -> io::Result<ExitCode>
+/// Reads the configuration before the demonstration runs.
+fn demo<T: Print + Files + AllocGlobal + Threads + Wait + Sync>(
+    rt: &T,
+    config: &str,
+    out: &str,
+) -> io::Result<ExitCode> {
+    let read = std::fs::read(rt, config);
+    let text = match text_in(&read) {
+        Ok(text) => text,
+        Err(why) => return refused(rt, why),
+    };
+    let demonstration = demonstrate(rt, text, out);
+    println!(rt; "{demonstration}")?;
+    match demonstration {
+        Demonstration::Written(_) => Ok(ExitCode::SUCCESS),
+        _ => Ok(ExitCode::from(REFUSED)),
+    }
+}
+
+fn start<T: Env + Print + Files + AllocGlobal + Threads + Wait + Sync>(
+    rt: &T,
+) -> io::Result<ExitCode>
 where
     T::File: Drop,
 {
@@ -125,6 +150,7 @@ where
             },
         ) => check(rt, config, trace, u32::from(workers)),
         Ok(Request::Stats { config, trace }) => stats(rt, config, trace),
+        Ok(Request::Demo { config, out }) => demo(rt, config, out),
         Err(CommandFault::Help(help)) => {
             print!(rt; "{help}")?;
             Ok(ExitCode::SUCCESS)

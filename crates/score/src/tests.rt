@@ -2,6 +2,7 @@
 
 mod configured;
 mod damage;
+mod demonstration;
 mod examples;
 mod hostile;
 mod notation;

@@ -13,7 +13,7 @@ use std::process::Abort;
 use std::test::Fail;
 
 /// One port with four tags and one bank, with one register in each level.
-const SMALL: &str = "ports = 1\nbanks = 1\nblock = 8\ntags = 4\n
+pub const SMALL: &str = "ports = 1\nbanks = 1\nblock = 8\ntags = 4\n
 [level1]\nsets = 1\nways = 1\norganisation = \"explicit\"\nregisters = 1\nentries = 2\n
 [level2]\nsets = 1\nways = 2\norganisation = \"explicit\"\nregisters = 1\nentries = 1\n";
 
