@@ -9,6 +9,7 @@
 
 mod answer;
 mod bank_judge;
+mod collected;
 mod configured;
 mod halt;
 mod header;
@@ -22,6 +23,7 @@ mod standing_new;
 mod standing_verdict;
 
 pub use answer::{Fault, HeaderField, Refusal, Verdict};
+pub use collected::collected_logs_are_in_order;
 pub use configured::check;
 pub use laws::{mixtures_are_alike, no_has_no_run, verdicts_are_one, yes_is_legal};
 pub use session::Session;
