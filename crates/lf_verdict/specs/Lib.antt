@@ -8,3 +8,5 @@ pub mod Judging
 pub mod Configured
 pub mod Session
 pub mod Collected
+pub mod ConfiguredLaws
+pub mod Rechecked
