@@ -1,7 +1,7 @@
 //! A demonstration from its threads to its trace.
 
 ghost use Rattle.std.specs.Prelude.{All, IfOk, map};
-ghost use Rattle.lf_model.specs.InRange.{IsShape};
+ghost use Rattle.lf_rules.specs.InRange.{IsShape};
 ghost use Rattle.lf_demo.specs.Demo.{IsDemo, IsRecording, IsTraceOf};
 ghost use Rattle.lf_demo.specs.Threads.{IsNew, IsRecorded, IsWhole};
 
@@ -9,8 +9,8 @@ use crate::fault::DemoFault;
 use crate::recording::{Recorded, Recording, work};
 use lf_codec::{Header, encode, fits_trace};
 use lf_logs::records;
-use lf_model::{Logs, Memory, Shape};
 use lf_recorder::{CloseFault, Desk, LogSeat};
+use lf_rules::{Logs, Memory, Shape};
 use std::alloc::Global;
 use std::sync::Wait;
 use std::thread;

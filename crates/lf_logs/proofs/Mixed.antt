@@ -4,9 +4,9 @@ use Rattle.std.specs.List.{AllByRecursion}
 use Rattle.std.proofs.lemmas.Bool.{eq-eqb, ne_eqb, cond-true, cond-false}
 use Rattle.std.proofs.lemmas.List.{same_lists, append-nil, get_or_default}
 use Rattle.std.proofs.lemmas.List.Elements.{filter-append}
-use Rattle.lf_model.specs.declared.event.Record.{Record}
-use Rattle.lf_model.specs.Numbers.{all_records}
-use Rattle.lf_model.specs.Run.{of_log}
+use Rattle.lf_rules.specs.declared.event.Record.{Record}
+use Rattle.lf_rules.specs.Numbers.{all_records}
+use Rattle.lf_rules.specs.Run.{of_log}
 use Rattle.lf_logs.specs.Mixtures.{LogAfterLogIsAMixture, MixturesHaveTheirLogs}
 use Rattle.lf_logs.proofs.Splitting.{length-parts_of, get_or-parts_of}
 

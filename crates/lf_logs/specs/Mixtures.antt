@@ -1,8 +1,8 @@
 -- Lists of the records of logs, in any mixture that keeps each log's order.
 use Rattle.std.specs.Prelude.{◌≡◌, List, length}
-use Rattle.lf_model.specs.declared.event.Record.{Record}
-use Rattle.lf_model.specs.Numbers.{all_records}
-use Rattle.lf_model.specs.Run.{NameTheirLogs, Interleaves}
+use Rattle.lf_rules.specs.declared.event.Record.{Record}
+use Rattle.lf_rules.specs.Numbers.{all_records}
+use Rattle.lf_rules.specs.Run.{NameTheirLogs, Interleaves}
 use Rattle.lf_logs.specs.Lists.{logs_of}
 
 -- Log after log is such a mixture.

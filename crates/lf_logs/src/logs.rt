@@ -2,10 +2,10 @@
 
 ghost use Rattle.std.specs.Prelude.{◌≡◌, ◌+◌, ◌<◌, ◌≤◌, [], IfOk};
 ghost use Rattle.std.specs.List.{All};
-ghost use Rattle.lf_model.specs.Numbers.{all_records};
+ghost use Rattle.lf_rules.specs.Numbers.{all_records};
 ghost use Rattle.lf_logs.specs.Lists.{lists_of, logs_of};
 
-use lf_model::{Logs, NoMemory, Record};
+use lf_rules::{Logs, NoMemory, Record};
 use std::alloc::Global;
 
 /// So many logs with no record.

@@ -1,14 +1,14 @@
 -- A bank's records over the bank's blocks of the memory, and over all of it.
 use Rattle.std.specs.Prelude.{◌≡◌, ◌↔◌, ℕ, List}
 use Rattle.std.specs.List.{AllByRecursion}
-use Rattle.lf_model.specs.declared.shape.Shape.{Shape}
-use Rattle.lf_model.specs.declared.event.Record.{Record}
-use Rattle.lf_model.specs.declared.rule.Rule.{Rule}
-use Rattle.lf_model.specs.Address.{FlatMemory}
-use Rattle.lf_model.specs.Fits.{Fits}
-use Rattle.lf_model.specs.Outcomes.{first_local}
-use Rattle.lf_model.specs.Run.{IsSliceRun, BreaksAt}
-use Rattle.lf_model.specs.Table.{OfBank}
+use Rattle.lf_rules.specs.declared.shape.Shape.{Shape}
+use Rattle.lf_rules.specs.declared.event.Record.{Record}
+use Rattle.lf_rules.specs.declared.rule.Rule.{Rule}
+use Rattle.lf_rules.specs.Address.{FlatMemory}
+use Rattle.lf_rules.specs.Fits.{Fits}
+use Rattle.lf_rules.specs.Outcomes.{first_local}
+use Rattle.lf_rules.specs.Run.{IsSliceRun, BreaksAt}
+use Rattle.lf_rules.specs.Table.{OfBank}
 use Rattle.lf_replay.specs.Bytes.{bank_part}
 
 -- records of the bank that a trace of the shape may have

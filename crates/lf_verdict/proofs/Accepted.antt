@@ -1,11 +1,11 @@
 -- The plain machine accepts the order of a yes.
 use Rattle.std.proofs.Common.{◌≡◌, ℕ, ◌+◌, List, sym, ap, ◌∙◌, subst}
-use Rattle.lf_model.specs.declared.shape.Shape.{Shape}
-use Rattle.lf_model.specs.declared.event.Record.{Record}
+use Rattle.lf_rules.specs.declared.shape.Shape.{Shape}
+use Rattle.lf_rules.specs.declared.event.Record.{Record}
 use Rattle.lf_model.specs.declared.outcome.Recheck.TheVariants.{Accepted}
-use Rattle.lf_model.specs.Address.{flat_memory}
-use Rattle.lf_model.specs.Fits.{Bytes}
-use Rattle.lf_model.specs.Order.{OrdersInterleave}
+use Rattle.lf_rules.specs.Address.{flat_memory}
+use Rattle.lf_rules.specs.Fits.{Bytes}
+use Rattle.lf_rules.specs.Order.{OrdersInterleave}
 use Rattle.lf_model.specs.Recheck.{IsNamedRun, IsRecheck, RechecksAreOne}
 use Rattle.lf_codec.specs.Laws.{BytesAreOfOneTrace}
 use Rattle.lf_logs.specs.Lists.{logs_of}

@@ -1,12 +1,12 @@
 -- A trace of collected logs is never out of order.
 use Rattle.std.proofs.Common.{ℕ, ◌<◌, List, sym, ap, ◌∙◌, arith}
-use Rattle.lf_model.specs.declared.shape.Shape.{Shape}
-use Rattle.lf_model.specs.declared.event.Record.{Record}
-use Rattle.lf_model.specs.Address.{FlatMemory, flat_memory}
-use Rattle.lf_model.specs.CommonOrder.{HasCommonOrder, CollectedLogsAreFree}
-use Rattle.lf_model.specs.Fits.{Bytes}
-use Rattle.lf_model.specs.Order.{log_at}
-use Rattle.lf_model.specs.Run.{of_log}
+use Rattle.lf_rules.specs.declared.shape.Shape.{Shape}
+use Rattle.lf_rules.specs.declared.event.Record.{Record}
+use Rattle.lf_rules.specs.Address.{FlatMemory, flat_memory}
+use Rattle.lf_rules.specs.CommonOrder.{HasCommonOrder, CollectedLogsAreFree}
+use Rattle.lf_rules.specs.Fits.{Bytes}
+use Rattle.lf_rules.specs.Order.{log_at}
+use Rattle.lf_rules.specs.Run.{of_log}
 use Rattle.lf_codec.specs.Laws.{BytesAreOfOneTrace}
 use Rattle.lf_verdict.specs.declared.answer.Fault.{Fault}
 use Rattle.lf_verdict.specs.declared.answer.Fault.TheVariants.{Missing, Double, Port, Bank, Cycle}

@@ -1,7 +1,7 @@
 -- The laws for a shape hold for the shape that a text says.
 use Rattle.std.proofs.Common.{◌≡◌, ℕ, ◌<◌, List, Some, Ok, Err, refl, sym, ◌∙◌, ap, subst, ◌⊎◌, inl, inr}
 use Rattle.std.specs.Prelude.{slice_index, string_bytes}
-use Rattle.lf_model.specs.declared.shape.Shape.{Shape}
+use Rattle.lf_rules.specs.declared.shape.Shape.{Shape}
 use Rattle.lf_config.specs.declared.fault.ConfigFault.{ConfigFault}
 use Rattle.lf_config.specs.declared.fault.ConfigFault.TheVariants as told
 use Rattle.lf_config.specs.Configuration.{Fault, not_toml, unknown, missing, kind, range, configuration_of}

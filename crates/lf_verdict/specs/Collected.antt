@@ -1,10 +1,10 @@
 -- Traces of logs that were recorded together.
 use Rattle.std.specs.Prelude.{ℕ, List}
-use Rattle.lf_model.specs.declared.shape.Shape.{Shape}
-use Rattle.lf_model.specs.declared.event.Record.{Record}
-use Rattle.lf_model.specs.CommonOrder.{HasCommonOrder}
-use Rattle.lf_model.specs.Fits.{Bytes}
-use Rattle.lf_model.specs.Run.{Interleaves}
+use Rattle.lf_rules.specs.declared.shape.Shape.{Shape}
+use Rattle.lf_rules.specs.declared.event.Record.{Record}
+use Rattle.lf_rules.specs.CommonOrder.{HasCommonOrder}
+use Rattle.lf_rules.specs.Fits.{Bytes}
+use Rattle.lf_rules.specs.Run.{Interleaves}
 use Rattle.lf_codec.specs.declared.header.Header.{Header}
 use Rattle.lf_codec.specs.Trace.{IsTrace}
 use Rattle.lf_verdict.specs.declared.answer.Fault.TheVariants.{Missing, Double, Cycle}

@@ -1,11 +1,11 @@
 -- What the plain machine answers to the order of a yes.
 use Rattle.std.specs.Prelude.{◌≡◌, ◌↔◌, ℕ, List}
-use Rattle.lf_model.specs.declared.shape.Shape.{Shape}
-use Rattle.lf_model.specs.declared.event.Record.{Record}
+use Rattle.lf_rules.specs.declared.shape.Shape.{Shape}
+use Rattle.lf_rules.specs.declared.event.Record.{Record}
 use Rattle.lf_model.specs.declared.outcome.Recheck.{Recheck}
 use Rattle.lf_model.specs.declared.outcome.Recheck.TheVariants.{Accepted}
-use Rattle.lf_model.specs.Address.{flat_memory}
-use Rattle.lf_model.specs.Fits.{Bytes}
+use Rattle.lf_rules.specs.Address.{flat_memory}
+use Rattle.lf_rules.specs.Fits.{Bytes}
 use Rattle.lf_model.specs.Recheck.{IsRecheck}
 use Rattle.lf_verdict.specs.Legal.{IsTraceFor}
 use Rattle.lf_verdict.specs.Verdict.{IsYes}

@@ -3,7 +3,7 @@
 ghost use Rattle.lf_verdict.specs.Collected.{CollectedLogsAreInOrder, CollectedLogsAreInOrderFor};
 
 use lf_codec::one_trace;
-use lf_model::collected_logs_are_free;
+use lf_rules::collected_logs_are_free;
 
 /// Logs with a common order, written in any mixture that keeps each log's order, are never told that
 /// a bank's number is missing or double or that logs wait for one another.
