@@ -8,9 +8,9 @@ use Rattle.std.proofs.lemmas.List.{nil_from_length, length-append, length-drop, 
 use Rattle.std.proofs.lemmas.List.Concat.{flat_map-cons}
 use Rattle.std.proofs.lemmas.Nat.{ones-le, pow_pos}
 use Rattle.std.proofs.Math.Pow.{pow_mono}
-use Rattle.lf_model.specs.declared.mask.Mask.{Mask}
-use Rattle.lf_model.specs.Address.{clean_mask}
-use Rattle.lf_model.specs.Fits.{masks_len}
+use Rattle.lf_rules.specs.declared.mask.Mask.{Mask}
+use Rattle.lf_rules.specs.Address.{clean_mask}
+use Rattle.lf_rules.specs.Fits.{masks_len}
 use Rattle.lf_codec.specs.Layout.{u64_bytes, mask_bytes}
 use Rattle.lf_codec.specs.Checks.{u64_at, masks_at, mask_fits}
 use Rattle.lf_codec.proofs.Numbers.{IsBytes, IsBytes-drop, length-u64_bytes, u64_again, u64_stands}

@@ -1,8 +1,8 @@
 -- What stands before a fault is spelled as the beginning of a trace.
 use Rattle.std.proofs.Common.{◌≡◌, ℕ, ◌≤◌, List, [], ◌∷◌, length, take, drop, Option, Some, None, refl, sym, ap, subst, ◌∙◌, arith, inl, inr, ◌⊎◌}
 use Rattle.std.proofs.lemmas.List.{take-append-le, take-append-drop}
-use Rattle.lf_model.specs.Fits.{Bytes}
-use Rattle.lf_model.specs.declared.event.Record.{Record}
+use Rattle.lf_rules.specs.Fits.{Bytes}
+use Rattle.lf_rules.specs.declared.event.Record.{Record}
 use Rattle.lf_codec.specs.declared.header.Header.{Header}
 use Rattle.lf_codec.specs.declared.fault.CodecCause.TheVariants.{Truncated}
 use Rattle.lf_codec.specs.declared.fault.CodecFault.{CodecFault}

@@ -4,8 +4,8 @@ use Rattle.std.specs.Prelude.{◌==◌}
 use Rattle.std.proofs.lemmas.Bool.{cases_Bool, eqb-true, eqb-false}
 use Rattle.std.proofs.lemmas.List.{append-nil, nil_from_length, length-append, take-append-le}
 use Rattle.std.proofs.Math.Seq.{take-length}
-use Rattle.lf_model.specs.Fits.{Bytes}
-use Rattle.lf_model.specs.declared.event.Record.{Record}
+use Rattle.lf_rules.specs.Fits.{Bytes}
+use Rattle.lf_rules.specs.declared.event.Record.{Record}
 use Rattle.lf_codec.specs.declared.fault.CodecFault.{CodecFault}
 use Rattle.lf_codec.specs.declared.stage.Found.{Found}
 use Rattle.lf_codec.specs.declared.stage.Head.{Head}

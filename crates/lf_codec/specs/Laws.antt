@@ -1,8 +1,8 @@
 -- The laws between the bytes of a trace and what they are read as.
 use Rattle.std.specs.Prelude.{◌≡◌, ◌⊎◌, ℕ, ◌<◌, ◌≤◌, List, [], ◌++◌, length, take, slice_index, Option, Some, None, Result, Ok, Err, ◌↔◌, ◌∷◌}
 use Rattle.std.specs.List.{flat_map, AllByRecursion}
-use Rattle.lf_model.specs.Fits.{Bytes}
-use Rattle.lf_model.specs.declared.event.Record.{Record}
+use Rattle.lf_rules.specs.Fits.{Bytes}
+use Rattle.lf_rules.specs.declared.event.Record.{Record}
 use Rattle.lf_codec.specs.declared.header.Header.{Header}
 use Rattle.lf_codec.specs.declared.fault.CodecCause.{CodecCause}
 use Rattle.lf_codec.specs.declared.fault.CodecCause.TheVariants.{Truncated, Trailing, NoMemory}

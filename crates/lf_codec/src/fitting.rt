@@ -2,14 +2,14 @@
 
 ghost use Rattle.std.specs.Prelude.{◌≡◌, ℕ, ◌≤◌, ◌<◌, ◌↔◌, IsTrue, length, slice_index};
 ghost use Rattle.std.specs.List.{AllByRecursion};
-ghost use Rattle.lf_model.specs.Fits.{IsData};
+ghost use Rattle.lf_rules.specs.Fits.{IsData};
 ghost use Rattle.lf_codec.specs.Checks.{log_limit};
 ghost use Rattle.lf_codec.specs.Trace.{FitsHeader, FitsMemory, FitsIn, FitsTrace, log_len};
 
 use crate::checks::{is_factor, last_kind, log_limit};
 use crate::header::Header;
 use crate::writing::code_of;
-use lf_model::{Block, Memory, Record, fits};
+use lf_rules::{Block, Memory, Record, fits};
 
 fn header_fits(header: &Header) -> bool
     ensures { IsTrue result ↔ FitsHeader header.now }

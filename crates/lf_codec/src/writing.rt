@@ -7,7 +7,7 @@ ghost use Rattle.lf_codec.specs.Layout.{u16_bytes, u32_bytes, u64_bytes, factor_
 
 use crate::header::Header;
 use byteorder::{ByteOrder, LittleEndian};
-use lf_model::{Block, Event, Masks, Memory, NoMemory, Op, Record};
+use lf_rules::{Block, Event, Masks, Memory, NoMemory, Op, Record};
 use std::alloc::{AllocError, Global};
 
 #[tactic(auto, unfolding(crate::specs::Layout::u16_bytes))]

@@ -12,18 +12,18 @@ use Rattle.lf_config.specs.declared.key.Part.{Part}
 use Rattle.lf_config.specs.declared.key.Part.TheVariants.{Sets, Ways, Organisation, Registers, Entries}
 use Rattle.lf_config.specs.declared.key.Key.{Key}
 use Rattle.lf_config.specs.declared.key.Key.TheVariants.{Ports, Banks, Block, Tags, Table, Of, Blocks}
-use Rattle.lf_model.specs.declared.shape.OrgShape.TheVariants.{Implicit, Explicit, Inverted}
+use Rattle.lf_rules.specs.declared.shape.OrgShape.TheVariants.{Implicit, Explicit, Inverted}
 use Rattle.lf_config.specs.declared.key.Need.TheVariants.{UnlessInverted, IfExplicit}
-use Rattle.lf_model.specs.declared.shape.Shape.{Shape}
+use Rattle.lf_rules.specs.declared.shape.Shape.{Shape}
 use Rattle.lf_config.specs.Key.{all_keys, level_keys, level_name, need_of}
 use Rattle.lf_config.specs.Unknown.{first_unknown}
-use Rattle.lf_model.specs.Fits.{is_block_size, is_factor}
+use Rattle.lf_rules.specs.Fits.{is_block_size, is_factor}
 use Rattle.lf_config.specs.Lookup.{level_at, value_at}
 use Rattle.lf_config.specs.Rules.{is_between, is_size_of_block, is_number_of_blocks, is_missing, is_misfit, is_out_of_range, is_required, is_needed, organisation_at, first_missing, first_misfit, first_out_of_range}
 use Rattle.lf_config.specs.Told.{number_of, number_at, organisation_named, level_of, shape_of}
 use Rattle.lf_config.specs.declared.fault.ConfigFault.{ConfigFault}
 use Rattle.lf_config.specs.Configuration.{unknown, missing, kind, range, ◌otherwise◌, judged, Gives}
-use Rattle.lf_model.specs.InRange.{IsFrom, IsOrganisation, IsLevel, IsShape}
+use Rattle.lf_rules.specs.InRange.{IsFrom, IsOrganisation, IsLevel, IsShape}
 
 -- what is not found holds of no key
 none_found : (p : Key → Bool) (ks : List Key) → find p ks ≡ None → AllByRecursion (λ k. p k ≡ false) ks

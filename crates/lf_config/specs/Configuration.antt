@@ -3,7 +3,7 @@ use Rattle.std.specs.Prelude.{◌≡◌, ℕ, List, Option, Some, None, Result, 
 use Rattle.std.specs.Option.{option_map}
 use Rattle.toml.specs.Data.{Members}
 use Rattle.toml.specs.Parse.{parse_document}
-use Rattle.lf_model.specs.declared.shape.Shape.{Shape}
+use Rattle.lf_rules.specs.declared.shape.Shape.{Shape}
 use Rattle.lf_config.specs.declared.fault.ConfigFault.{ConfigFault}
 use Rattle.lf_config.specs.declared.fault.ConfigFault.TheVariants as told
 use Rattle.lf_config.specs.declared.key.Key.{Key}

@@ -3,7 +3,7 @@ use Rattle.std.specs.Prelude.{ℕ, ℤ, pos, negsuc, nat_le, List, codes, Bool, 
 use Rattle.std.specs.Option.{option_map_or}
 use Rattle.std.specs.Str.{bytes_eq}
 use Rattle.toml.specs.Data.{Data, Members, as_integer, as_str, as_table}
-use Rattle.lf_model.specs.Fits.{is_block_size, is_factor}
+use Rattle.lf_rules.specs.Fits.{is_block_size, is_factor}
 use Rattle.lf_config.specs.declared.key.Which.{Which}
 use Rattle.lf_config.specs.declared.key.Part.TheVariants.{Organisation}
 use Rattle.lf_config.specs.declared.key.Key.{Key}

@@ -8,10 +8,10 @@ use Rattle.lf_config.specs.declared.key.Which.TheVariants.{One, Two}
 use Rattle.lf_config.specs.declared.key.Part.TheVariants.{Sets, Ways, Registers, Entries}
 use Rattle.lf_config.specs.declared.key.Key.{Key}
 use Rattle.lf_config.specs.declared.key.Key.TheVariants.{Ports, Banks, Block, Tags, Of, Blocks}
-use Rattle.lf_model.specs.declared.shape.OrgShape.{OrgShape}
-use Rattle.lf_model.specs.declared.shape.OrgShape.TheVariants.{Implicit, Explicit, Inverted}
-use Rattle.lf_model.specs.declared.shape.Level.{Level}
-use Rattle.lf_model.specs.declared.shape.Shape.{Shape}
+use Rattle.lf_rules.specs.declared.shape.OrgShape.{OrgShape}
+use Rattle.lf_rules.specs.declared.shape.OrgShape.TheVariants.{Implicit, Explicit, Inverted}
+use Rattle.lf_rules.specs.declared.shape.Level.{Level}
+use Rattle.lf_rules.specs.declared.shape.Shape.{Shape}
 use Rattle.lf_config.specs.Lookup.{value_at}
 use Rattle.lf_config.specs.Rules.{organisation_at}
 

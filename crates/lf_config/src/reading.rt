@@ -1,7 +1,7 @@
 //! Reads a configuration.
 
 ghost use Rattle.std.specs.Prelude.{◌≡◌, IfOk};
-ghost use Rattle.lf_model.specs.InRange.{IsShape};
+ghost use Rattle.lf_rules.specs.InRange.{IsShape};
 ghost use Rattle.toml.specs.View.{table_view};
 ghost use Rattle.lf_config.specs.Configuration.{Gives, configuration_of, judged};
 
@@ -9,7 +9,7 @@ use crate::fault::ConfigFault;
 use crate::rules::{first_misfit, first_missing, first_out_of_range};
 use crate::told::shape;
 use crate::unknown::first_unknown;
-use lf_model::Shape;
+use lf_rules::Shape;
 use std::alloc::Global;
 use toml::Table;
 

@@ -1,7 +1,7 @@
 //! Texts and what they say.
 
 use crate::{ConfigFault, Key, Part, Which, read};
-use lf_model::{Level, OrgShape, Shape};
+use lf_rules::{Level, OrgShape, Shape};
 use std::process::Abort;
 use std::test::Fail;
 

@@ -10,7 +10,7 @@ ghost use Rattle.lf_config.specs.Told.{number_of, number_at, factor_at, organisa
 use crate::key::{Key, Part, Which};
 use crate::lookup::value;
 use crate::rules::organisation;
-use lf_model::{Level, OrgShape, Shape};
+use lf_rules::{Level, OrgShape, Shape};
 use toml::{Table, Value};
 
 fn number_of(value: &Value) -> u32

@@ -4,11 +4,11 @@ use Rattle.std.proofs.lemmas.List.{map_push, append-nil}
 use Rattle.std.proofs.lemmas.List.Elements.{filter-append}
 use Rattle.std.proofs.lemmas.List.FromFn.{map-range_with_len_more}
 use Rattle.std.proofs.lemmas.List.Sums.{sum_by-append}
-use Rattle.lf_model.specs.Fits.{Bytes}
-use Rattle.lf_model.specs.declared.shape.Shape.{Shape}
-use Rattle.lf_model.specs.declared.event.Event.{Event}
-use Rattle.lf_model.specs.declared.event.Event.TheVariants.{Reply, Fence}
-use Rattle.lf_model.specs.declared.event.Op.{Op}
+use Rattle.lf_rules.specs.Fits.{Bytes}
+use Rattle.lf_rules.specs.declared.shape.Shape.{Shape}
+use Rattle.lf_rules.specs.declared.event.Event.{Event}
+use Rattle.lf_rules.specs.declared.event.Event.TheVariants.{Reply, Fence}
+use Rattle.lf_rules.specs.declared.event.Op.{Op}
 use Rattle.lf_recorder.specs.Desk.{SeatView, with_record}
 use Rattle.lf_demo.specs.declared.port.Port.{Port}
 use Rattle.lf_demo.specs.Demo.{op_of, block_of, issue_of, request_of, is_issue, is_reply, events_of, HasCome, IsPortLog}

@@ -5,12 +5,12 @@ use Rattle.std.specs.PromisedHandle.{KeepsAt, KeepsEach}
 use Rattle.std.specs.declared.thread.PromisedHandle.{PromisedHandle}
 use Rattle.std.specs.declared.thread.Promise as Promise
 use Rattle.std.proofs.lemmas.Option.{get_or_from_slice_get}
-use Rattle.lf_model.specs.declared.shape.Shape.{Shape}
-use Rattle.lf_model.specs.declared.event.Record.{Record}
+use Rattle.lf_rules.specs.declared.shape.Shape.{Shape}
+use Rattle.lf_rules.specs.declared.event.Record.{Record}
 use Rattle.lf_recorder.specs.Desk.{DeskView, SeatView, AreNewSeats, HasSeat, HoldSeats, new_seat, opened, logs_of}
 use Rattle.lf_demo.specs.declared.demo.RecordedBy.{RecordedBy}
 use Rattle.lf_demo.specs.declared.recording.Recorded.{Recorded}
-use Rattle.lf_model.specs.CommonOrder.{HasCommonOrder}
+use Rattle.lf_rules.specs.CommonOrder.{HasCommonOrder}
 use Rattle.lf_demo.specs.Demo.{IsPortLog, IsRecording}
 use Rattle.lf_demo.specs.Threads.{IsNew, IsRecorded, IsWhole}
 

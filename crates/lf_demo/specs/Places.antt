@@ -1,7 +1,7 @@
 -- What the numbers of a shape are to be where the cache computes with them.
 use Rattle.std.specs.Prelude.{◌≡◌, ◌<◌, ◌≤◌, true}
-use Rattle.lf_model.specs.declared.shape.Shape.{Shape}
-use Rattle.lf_model.specs.Fits.{is_factor}
+use Rattle.lf_rules.specs.declared.shape.Shape.{Shape}
+use Rattle.lf_rules.specs.Fits.{is_factor}
 
 pub record AreInRange (shape : Shape) : Type 0 where
   pub ports : shape.ports ≤ 16

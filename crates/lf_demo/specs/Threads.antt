@@ -1,6 +1,6 @@
 -- What the threads of a demonstration take and give.
 use Rattle.std.specs.Prelude.{◌≡◌, ◌<◌, ◌≤◌, [], OnOk}
-use Rattle.lf_model.specs.declared.shape.Shape.{Shape}
+use Rattle.lf_rules.specs.declared.shape.Shape.{Shape}
 use Rattle.lf_recorder.specs.Desk.{DeskView, SeatView}
 use Rattle.lf_demo.specs.declared.port.Port.{Port}
 use Rattle.lf_demo.specs.declared.recording.Recorded.{Recorded}

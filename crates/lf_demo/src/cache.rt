@@ -1,12 +1,12 @@
 //! The design: one bank of a two-level lockup-free cache, with the memory below it.
 
-ghost use Rattle.lf_model.specs.InRange.{IsShape};
+ghost use Rattle.lf_rules.specs.InRange.{IsShape};
 
 use crate::line::{Line, Lines};
 use crate::places::Places;
 use crate::registers::{Registers, count_of};
 use crate::request::{Queue, Reply, Request};
-use lf_model::{Event, Masks, Shape, WideBlock};
+use lf_rules::{Event, Masks, Shape, WideBlock};
 use std::alloc::{AllocError, Global};
 
 /// The position of the first word of a block, of which all requests are.

@@ -1,15 +1,15 @@
 //! A demonstration from its threads to its trace.
 
 ghost use Rattle.std.specs.Prelude.{All, IfOk, map, ◌≡◌};
-ghost use Rattle.lf_model.specs.InRange.{IsShape};
+ghost use Rattle.lf_rules.specs.InRange.{IsShape};
 ghost use Rattle.lf_demo.specs.Demo.{IsDemo, IsRecording, IsTraceOf, joined as log_after_log};
 ghost use Rattle.lf_demo.specs.Threads.{IsNew, IsRecorded, IsWhole};
 
 use crate::fault::DemoFault;
 use crate::recording::{Recorded, Recording, work};
 use lf_codec::{Header, encode, fits_trace};
-use lf_model::{Logs, Memory, Record, Shape};
 use lf_recorder::{CloseFault, Desk, LogSeat};
+use lf_rules::{Logs, Memory, Record, Shape};
 use std::alloc::Global;
 use std::sync::Wait;
 use std::thread;

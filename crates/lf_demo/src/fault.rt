@@ -1,7 +1,7 @@
 //! Why there is no trace of a demonstration.
 
-use lf_model::NoMemory;
 use lf_recorder::RecordFault;
+use lf_rules::NoMemory;
 use std::alloc::{AllocError, AllocFailed};
 use thiserror::Error;
 

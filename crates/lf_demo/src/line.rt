@@ -1,7 +1,7 @@
 //! Copies of blocks, as a level or the memory holds them.
 
 use crate::request::{Reply, Request, WORD};
-use lf_model::{Block, Mask, Op, overlay};
+use lf_rules::{Block, Mask, Op, overlay};
 use std::alloc::{AllocError, Global};
 
 /// A block's bytes, and which of them were written since it came.

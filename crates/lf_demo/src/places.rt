@@ -3,7 +3,7 @@
 ghost use Rattle.lf_demo.specs.Places.{AreInRange};
 
 use crate::request::Request;
-use lf_model::Shape;
+use lf_rules::Shape;
 
 /// The shape, by which a block's places are told.
 #[derive(Clone, Copy)]
@@ -14,7 +14,7 @@ pub struct Places {
 
 impl Places {
     ghost use Rattle.std.specs.Prelude.{◌≡◌};
-    ghost use Rattle.lf_model.specs.InRange.{IsShape};
+    ghost use Rattle.lf_rules.specs.InRange.{IsShape};
 
     pub fn new(shape: &Shape) -> Places
         requires { IsShape shape.now }

@@ -1,15 +1,15 @@
 //! What the threads share, and the turns of a bank's thread.
 
 ghost use Rattle.std.specs.Prelude.{◌≡◌, IfOk};
-ghost use Rattle.lf_model.specs.InRange.{IsShape};
+ghost use Rattle.lf_rules.specs.InRange.{IsShape};
 ghost use Rattle.lf_demo.specs.Threads.{IsNew, IsRecorded};
 
 use crate::cache::BankCache;
 use crate::fault::DemoFault;
 use crate::places::Places;
 use crate::port::run_port;
-use lf_model::Shape;
 use lf_recorder::{Desk, LogSeat};
+use lf_rules::Shape;
 use std::alloc::Global;
 use std::sync::atomic::{AtomicBool, AtomicU32, Ordering};
 use std::sync::{Mutex, Wait};

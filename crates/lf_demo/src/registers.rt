@@ -1,8 +1,8 @@
 //! The registers of one level of one bank, in which misses wait.
 
-ghost use Rattle.lf_model.specs.InRange.{IsOrganisation};
+ghost use Rattle.lf_rules.specs.InRange.{IsOrganisation};
 
-use lf_model::OrgShape;
+use lf_rules::OrgShape;
 use std::alloc::{AllocError, Global};
 
 /// What waits in a register for a block.

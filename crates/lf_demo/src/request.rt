@@ -1,6 +1,6 @@
 //! What a port asks of a bank, and what it gets.
 
-use lf_model::{Block, Op};
+use lf_rules::{Block, Op};
 use std::alloc::{AllocError, Global};
 use std::collections::VecDeque;
 

@@ -1,7 +1,7 @@
 use crate::demo::demo_trace;
 use crate::fault::DemoFault;
 use lf_codec::{Header, Reader};
-use lf_model::{Level, OrgShape, Shape};
+use lf_rules::{Level, OrgShape, Shape};
 
 const C1: Shape = Shape {
     ports: 1,

@@ -1,9 +1,9 @@
 -- However the logs go, where nothing more can go the same is left.
 use Rattle.std.proofs.Common.{◌≡◌, ◌≢◌, ℕ, zero, suc, ◌+◌, ◌<◌, ◌≤◌, Bool, true, false, cond, ◌==◌, inl, inr, List, [], ◌∷◌, length, drop, Some, refl, sym, ap, ◌∙◌, subst, eq-eqb, arith}
 use Rattle.std.proofs.lemmas.Bool.{cases_eq, and_from}
-use Rattle.lf_model.specs.Address.{no_bank}
-use Rattle.lf_model.specs.Order.{log_at, after_next, entries_of}
-use Rattle.lf_model.specs.Ring.{entry_at}
+use Rattle.lf_rules.specs.Address.{no_bank}
+use Rattle.lf_rules.specs.Order.{log_at, after_next, entries_of}
+use Rattle.lf_rules.specs.Ring.{entry_at}
 use Rattle.lf_join.specs.Join.{TakesUpTo, next_number, HasGone, NothingGoes, BanksAreWhole}
 use Rattle.lf_join.specs.Heads.{is_next}
 use Rattle.lf_join.proofs.Merge.{count, count-append, count-after, joined}

@@ -1,7 +1,7 @@
 -- Which entries may go.
 use Rattle.std.proofs.Common.{◌≡◌, ℕ, ◌<◌, ◌≤◌, true, false, not, ◌==◌, ◌||◌, inl, inr, List, slice_index, sym, ap, ◌∙◌, eqb-true, eq-eqb}
 use Rattle.std.proofs.lemmas.Bool.{cases_lt, lt-ltb, le-ltb}
-use Rattle.lf_model.specs.Address.{no_bank}
+use Rattle.lf_rules.specs.Address.{no_bank}
 use Rattle.lf_join.specs.Heads.{is_due}
 
 module _ (next : List ℕ) (x : ℕ × ℕ) where

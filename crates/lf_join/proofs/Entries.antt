@@ -8,10 +8,10 @@ use Rattle.std.proofs.lemmas.Bool.{and_parts, lt-ltb, ltb-true}
 use Rattle.std.proofs.lemmas.List.{get_or-map, get_or_past, get_or-drop, length-drop, length-map}
 use Rattle.std.proofs.lemmas.List.Folds.{Any-from_list_any, list_any-from_Any}
 use Rattle.std.proofs.lemmas.Option.{slice_get-get_or, slice_get_within, get_or_from_slice_get, slice_get_past}
-use Rattle.lf_model.specs.Address.{no_bank}
-use Rattle.lf_model.specs.Order.{log_at}
-use Rattle.lf_model.specs.declared.ring.Knot.{Knot}
-use Rattle.lf_model.specs.Ring.{entry_at, IsWait}
+use Rattle.lf_rules.specs.Address.{no_bank}
+use Rattle.lf_rules.specs.Order.{log_at}
+use Rattle.lf_rules.specs.declared.ring.Knot.{Knot}
+use Rattle.lf_rules.specs.Ring.{entry_at, IsWait}
 use Rattle.lf_join.specs.Join.{lists_of}
 
 pub entry_at-is : (xs : List (ℕ × ℕ)) (n : ℕ) → entry_at xs n ≡ slice_get xs n

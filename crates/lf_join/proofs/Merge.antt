@@ -5,9 +5,9 @@ use Rattle.std.specs.List.{range_with_len, flat_map}
 use Rattle.std.proofs.lemmas.Bool.{cases_Bool, cases_eq, cases_lt, cond-true, cond-false}
 use Rattle.std.proofs.lemmas.List.{get_or-set_same, get_or-set_other, drop-drop, length-append, map-append, append-nil, append_assoc, length-replicate, length-set}
 use Rattle.std.proofs.lemmas.List.Elements.{filter-append}
-use Rattle.lf_model.specs.Address.{no_bank}
-use Rattle.lf_model.specs.Order.{log_at, after_next, entries_of, EntriesKeepNumbers}
-use Rattle.lf_model.specs.Ring.{entry_at}
+use Rattle.lf_rules.specs.Address.{no_bank}
+use Rattle.lf_rules.specs.Order.{log_at, after_next, entries_of, EntriesKeepNumbers}
+use Rattle.lf_rules.specs.Ring.{entry_at}
 use Rattle.lf_join.specs.Join.{lists_of, TakesUpTo, next_number}
 use Rattle.std.specs.Global.{Vec}
 use Rattle.lf_join.proofs.Entries.{log_at-past}

@@ -4,9 +4,9 @@ use mathlib.Core.Path.{ap₂}
 use Rattle.std.proofs.lemmas.Bool.{cases_eq, cases_lt, and_from}
 use Rattle.std.proofs.lemmas.List.{ext_get_or}
 use Rattle.std.proofs.Math.Nat.{mod-eq_of_lt, mod_self}
-use Rattle.lf_model.specs.declared.ring.Knot.{Knot}
-use Rattle.lf_model.specs.Order.{log_at, IsNotAbove}
-use Rattle.lf_model.specs.Ring.{entry_at, knot_at, no_knot}
+use Rattle.lf_rules.specs.declared.ring.Knot.{Knot}
+use Rattle.lf_rules.specs.Order.{log_at, IsNotAbove}
+use Rattle.lf_rules.specs.Ring.{entry_at, knot_at, no_knot}
 use Rattle.lf_join.specs.Join.{next_number, NothingGoes, WaitsFor, Leads}
 use Rattle.lf_join.specs.Heads.{is_next}
 use Rattle.lf_join.specs.Laws.{LeastOrdersAreOne, StuckRingsAdmitNone, StuckRingsAreOne}

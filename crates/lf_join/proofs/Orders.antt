@@ -4,8 +4,8 @@ use mathlib.Core.Path.{ap₂}
 use Rattle.std.specs.List.{range_with_len}
 use Rattle.std.proofs.lemmas.Bool.{cases_Bool, cases_eq, cases_lt, cond-true, cond-false}
 use Rattle.std.proofs.lemmas.List.{get_or-set_same, get_or-set_other, set_past, get_or_past, set_comm}
-use Rattle.lf_model.specs.Address.{no_bank}
-use Rattle.lf_model.specs.Order.{log_at, after_next, Takes, entries_of, IsOrder, IsNotAbove, IsLeastOrder}
+use Rattle.lf_rules.specs.Address.{no_bank}
+use Rattle.lf_rules.specs.Order.{log_at, after_next, Takes, entries_of, IsOrder, IsNotAbove, IsLeastOrder}
 
 -- ---- what is left of the logs
 

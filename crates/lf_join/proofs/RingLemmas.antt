@@ -4,9 +4,9 @@ use Rattle.std.proofs.lemmas.Bool.{cases_lt}
 use Rattle.std.proofs.lemmas.List.{length-map, length-drop, get_or-map, get_or_append_left, get_or_push}
 use Rattle.std.proofs.Math.Nat.{mod-eq_of_lt, mod_self}
 use Rattle.std.specs.Option.{IsSome}
-use Rattle.lf_model.specs.declared.ring.Knot.{Knot}
-use Rattle.lf_model.specs.Order.{log_at}
-use Rattle.lf_model.specs.Ring.{entry_at, knot_at, no_knot, IsWait, IsRing}
+use Rattle.lf_rules.specs.declared.ring.Knot.{Knot}
+use Rattle.lf_rules.specs.Order.{log_at}
+use Rattle.lf_rules.specs.Ring.{entry_at, knot_at, no_knot, IsWait, IsRing}
 use Rattle.lf_join.specs.Join.{BanksAreWhole, WaitsFor, Leads, NothingGoes, IsStuckRing}
 use Rattle.lf_join.specs.Heads.{next_entry, can_go, IsAt, HeadsWait, IsRound, knot_of}
 use Rattle.lf_join.proofs.Merge.{left_first, none_left, carries_can_go}

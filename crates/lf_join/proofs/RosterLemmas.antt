@@ -2,9 +2,9 @@
 use Rattle.std.proofs.Common.{◌≡◌, ◌≢◌, ℕ, zero, suc, ◌+◌, ◌%◌, ◌<◌, ◌≤◌, Bool, true, false, cond, not, ltb, ◌==◌, ◌&&◌, ◌||◌, inl, inr, ◌⊎◌, List, [], length, replicate, get_or, set, Option, Some, None, slice_index, refl, sym, ap, ◌∙◌, subst, eqb-true, eq-eqb, arith}
 use Rattle.std.proofs.lemmas.Bool.{cases_Bool, cases_eq, cases_lt, cond-true, cond-false, ne_eqb}
 use Rattle.std.proofs.lemmas.List.{get_or-set_same, get_or-set_other, length-set, length-replicate}
-use Rattle.lf_model.specs.Address.{no_bank}
-use Rattle.lf_model.specs.Order.{log_at}
-use Rattle.lf_model.specs.Ring.{entry_at}
+use Rattle.lf_rules.specs.Address.{no_bank}
+use Rattle.lf_rules.specs.Order.{log_at}
+use Rattle.lf_rules.specs.Ring.{entry_at}
 use Rattle.lf_join.specs.declared.log_set.LogSet.{LogSet}
 use Rattle.lf_join.specs.declared.roster.Roster.{Roster}
 use Rattle.lf_join.specs.LogSets.{has, IsEmpty, IsLowest, Changes}

@@ -5,10 +5,10 @@ use Rattle.std.specs.List.{range_with_len}
 use Rattle.std.proofs.lemmas.Bool.{cases_Bool, cases_eq, cases_lt, cond-true, cond-false, and_parts, and_from, ne_eqb}
 use Rattle.std.proofs.lemmas.List.{length-map}
 use Rattle.std.proofs.lemmas.List.Recursion.{is_count_by}
-use Rattle.lf_model.specs.Address.{no_bank}
-use Rattle.lf_model.specs.Order.{log_at, entries_of, EntriesKeepNumbers}
-use Rattle.lf_model.specs.Ring.{entry_at}
-use Rattle.lf_model.specs.Numbers.{times}
+use Rattle.lf_rules.specs.Address.{no_bank}
+use Rattle.lf_rules.specs.Order.{log_at, entries_of, EntriesKeepNumbers}
+use Rattle.lf_rules.specs.Ring.{entry_at}
+use Rattle.lf_rules.specs.Numbers.{times}
 use Rattle.lf_join.specs.Join.{BanksAreWhole, next_number}
 use Rattle.lf_join.specs.Heads.{next_entry, carries_next, can_go, is_next, IsAt, AllWait, HeadsWait}
 use Rattle.lf_join.proofs.Due.{not_due}

@@ -7,8 +7,8 @@ use Rattle.std.specs.Global.{Vec}
 use Rattle.std.proofs.lemmas.Bool.{and_parts, and_from, cases_lt}
 use Rattle.std.proofs.lemmas.List.{get_or-drop, length-drop, length-map}
 use Rattle.std.proofs.lemmas.List.Folds.{Any-from_list_any, list_any-from_Any}
-use Rattle.lf_model.specs.Order.{log_at}
-use Rattle.lf_model.specs.Ring.{entry_at}
+use Rattle.lf_rules.specs.Order.{log_at}
+use Rattle.lf_rules.specs.Ring.{entry_at}
 use Rattle.lf_join.specs.Join.{lists_of}
 use Rattle.lf_join.specs.Heads.{next_entry, is_next, holds_next, HeadsWait, Chain}
 use Rattle.std.specs.Option.{IsSome, is_some}

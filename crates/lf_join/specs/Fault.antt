@@ -1,5 +1,5 @@
 -- What is said of the ring in a fault of the join.
-use Rattle.lf_model.specs.declared.ring.Knot.{Knot}
+use Rattle.lf_rules.specs.declared.ring.Knot.{Knot}
 use Rattle.arrayvec.specs.ArrayVec.{ArrayVec}
 use Rattle.lf_join.specs.declared.order.JoinFault.{JoinFault}
 use Rattle.lf_join.specs.declared.order.JoinFault.TheVariants.{Cycle, NoMemory}

@@ -1,10 +1,10 @@
 -- How far the logs have gone, as the join keeps it: per log the place of its next entry, per bank the number that goes next.
 use Rattle.std.specs.Prelude.{◌≡◌, ◌≢◌, ℕ, ◌+◌, ◌<◌, ◌≤◌, Bool, false, not, nat_lt, ◌==◌, ◌&&◌, ◌||◌, List, [], ◌∷◌, length, map, drop, AllPairs, Option, Some, None, slice_index, slice_set}
 use Rattle.std.specs.List.{list_any}
-use Rattle.lf_model.specs.declared.ring.Knot.{Knot}
-use Rattle.lf_model.specs.Address.{no_bank}
-use Rattle.lf_model.specs.Order.{log_at, EntriesKeepNumbers, IsOrder, IsLeastOrder}
-use Rattle.lf_model.specs.Ring.{entry_at}
+use Rattle.lf_rules.specs.declared.ring.Knot.{Knot}
+use Rattle.lf_rules.specs.Address.{no_bank}
+use Rattle.lf_rules.specs.Order.{log_at, EntriesKeepNumbers, IsOrder, IsLeastOrder}
+use Rattle.lf_rules.specs.Ring.{entry_at}
 use Rattle.lf_join.specs.Join.{TakesUpTo, next_number, Leads}
 
 -- the next entry of a log

@@ -2,11 +2,11 @@
 use Rattle.std.specs.Prelude.{◌≡◌, ◌≢◌, ℕ, ◌+◌, ◌%◌, ◌<◌, List, [], ◌∷◌, map, length, drop, Some}
 use Rattle.std.specs.List.{flat_map}
 use Rattle.std.specs.Global.{Vec}
-use Rattle.lf_model.specs.declared.ring.Knot.{Knot}
-use Rattle.lf_model.specs.Address.{no_bank}
-use Rattle.lf_model.specs.Numbers.{IsWhole}
-use Rattle.lf_model.specs.Order.{log_at, after_next, entries_of, EntriesKeepNumbers, IsOrder}
-use Rattle.lf_model.specs.Ring.{entry_at, knot_at}
+use Rattle.lf_rules.specs.declared.ring.Knot.{Knot}
+use Rattle.lf_rules.specs.Address.{no_bank}
+use Rattle.lf_rules.specs.Numbers.{IsWhole}
+use Rattle.lf_rules.specs.Order.{log_at, after_next, entries_of, EntriesKeepNumbers, IsOrder}
+use Rattle.lf_rules.specs.Ring.{entry_at, knot_at}
 
 -- the skeletons as lists of (bank, number)
 abbrev pub lists_of : List (Vec (ℕ × ℕ)) → List (List (ℕ × ℕ))

@@ -1,7 +1,7 @@
 -- The laws of the join's answers.
 use Rattle.std.specs.Prelude.{◌≡◌, ℕ, List}
-use Rattle.lf_model.specs.declared.ring.Knot.{Knot}
-use Rattle.lf_model.specs.Order.{IsLeastOrder}
+use Rattle.lf_rules.specs.declared.ring.Knot.{Knot}
+use Rattle.lf_rules.specs.Order.{IsLeastOrder}
 use Rattle.lf_join.specs.Join.{BanksAreWhole, HasNoOrder, IsStuckRing}
 
 -- there is one least order at most

@@ -2,11 +2,11 @@
 
 ghost use Rattle.std.specs.Prelude.{◌≡◌, ◌<◌, ◌+◌, ◌%◌, ◌↔◌, ◌==◌, ◌&&◌, IsTrue, drop, nat_lt};
 ghost use Rattle.std.specs.List.{list_any};
-ghost use Rattle.lf_model.specs.Order.{log_at};
-ghost use Rattle.lf_model.specs.Ring.{IsRing, IsWait, entry_at};
+ghost use Rattle.lf_rules.specs.Order.{log_at};
+ghost use Rattle.lf_rules.specs.Ring.{IsRing, IsWait, entry_at};
 ghost use Rattle.lf_join.specs.Join.{lists_of};
 
-use lf_model::{Knot, NO_BANK, Ring, Skeleton};
+use lf_rules::{Knot, NO_BANK, Ring, Skeleton};
 
 /// The entries of a log, none where there is no such log.
 pub(crate) fn entries(skeletons: &[Skeleton], log: usize) -> &[(u8, u32)]

@@ -6,7 +6,7 @@ ghost use Rattle.lf_join.specs.Join.{lists_of};
 
 use crate::check::entries;
 use arrayvec::ArrayVec;
-use lf_model::{Knot, Ring, Skeleton};
+use lf_rules::{Knot, Ring, Skeleton};
 
 /// The most logs that there are.
 pub(crate) const LOGS: usize = 32;

@@ -4,12 +4,12 @@ ghost use Rattle.std.specs.Prelude.{◌≡◌, ◌<◌, ◌≤◌, ◌^◌, ℕ,
 ghost use Rattle.lf_join.specs.Join.{lists_of, BanksAreWhole, HasNoOrder, IsStuckRing};
 ghost use Rattle.lf_join.specs.Fault.{IfCycle};
 ghost use Rattle.lf_join.specs.Heads.{IsMerged};
-ghost use Rattle.lf_model.specs.Order.{IsLeastOrder};
-ghost use Rattle.lf_model.specs.Ring.{IsRing};
+ghost use Rattle.lf_rules.specs.Order.{IsLeastOrder};
+ghost use Rattle.lf_rules.specs.Ring.{IsRing};
 
 use crate::heads::Heads;
 use crate::roster::Roster;
-use lf_model::{Ring, Skeleton};
+use lf_rules::{Ring, Skeleton};
 use std::alloc::{AllocError, Global};
 
 /// Why there is no order.

@@ -7,7 +7,7 @@ ghost use Rattle.lf_join.specs.LogSets.{IsEmpty, IsLowest};
 
 use crate::heads::{BANKS, Heads, LOGS};
 use crate::log_set::LogSet;
-use lf_model::{NO_BANK, Skeleton};
+use lf_rules::{NO_BANK, Skeleton};
 
 /// How many sets of waiting logs a bank has. A log waits in the set of its number's remainder, so
 /// that its number is compared once at most while so many numbers of its bank go by.

@@ -1,7 +1,7 @@
 //! Orders and rings worked out by hand.
 
 use crate::{JoinFault, check_cycle, join, joins_are_one};
-use lf_model::{Knot, Ring};
+use lf_rules::{Knot, Ring};
 use std::test::Fail;
 
 /// The ring of the answer, empty where it has none.

@@ -8,7 +8,7 @@ use Rattle.std.specs.Ordering.{nat_cmp}
 use Rattle.std.proofs.Math.Logic.{⊎_elim}
 use Rattle.std.proofs.lemmas.List.{get_or-set_same, get_or-set_other, get_or_default}
 use Rattle.std.proofs.lemmas.Bool.{cases_eq, eq-eqb, ne_eqb}
-use Rattle.lf_model.specs.Lines.{lines_of_set}
+use Rattle.lf_rules.specs.Lines.{lines_of_set}
 use Rattle.lf_levels.specs.Counts.{IsCounted, IsWhole, count_in_set}
 use Rattle.lf_levels.specs.LineTable.{LineTable, IsLineTable, is_full, set_in}
 use Rattle.lf_levels.proofs.MapLemmas.{passing-insert_entry, passing-remove_entry, passing-set_value}

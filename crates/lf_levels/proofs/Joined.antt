@@ -4,8 +4,8 @@ use Rattle.std.specs.Prelude.{bit_or}
 use Rattle.std.specs.Int.Bits.{or_zero_r}
 use Rattle.std.proofs.lemmas.List.{take_more}
 use Rattle.std.proofs.Math.Seq.{take-length}
-use Rattle.lf_model.specs.declared.mask.Mask.{Mask}
-use Rattle.lf_model.specs.Address.{clean_mask}
+use Rattle.lf_rules.specs.declared.mask.Mask.{Mask}
+use Rattle.lf_rules.specs.Address.{clean_mask}
 use Rattle.lf_levels.specs.LineTable.{joined}
 
 pub length-joined : (ms others : List Mask) → length (joined ms others) ≡ length ms

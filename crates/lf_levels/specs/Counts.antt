@@ -3,7 +3,7 @@ use Rattle.std.specs.Prelude.{◌≡◌, ℕ, ◌<◌, ◌≤◌, ◌==◌, true
 use Rattle.std.specs.List.Sorted.{IsStrictlySortedBy}
 use Rattle.std.specs.Map.{keys_of}
 use Rattle.std.specs.Ordering.{nat_cmp}
-use Rattle.lf_model.specs.Fits.{is_factor}
+use Rattle.lf_rules.specs.Fits.{is_factor}
 
 module _ {M : Type 0} where
   -- how many of the lines are in the set of this number

@@ -4,9 +4,9 @@ use Rattle.std.specs.List.{range_with_len, list_all}
 use Rattle.std.specs.List.Sorted.{IsStrictlySortedBy}
 use Rattle.std.specs.Map.{keys_of}
 use Rattle.std.specs.Ordering.{nat_cmp}
-use Rattle.lf_model.specs.declared.mask.Mask.{Mask}
-use Rattle.lf_model.specs.Address.{Masks, set2_of}
-use Rattle.lf_model.specs.Lines.{line_at, has_line, with_line, without_line, lines_of_set, has_way, dirty_mask, dirty_masks}
+use Rattle.lf_rules.specs.declared.mask.Mask.{Mask}
+use Rattle.lf_rules.specs.Address.{Masks, set2_of}
+use Rattle.lf_rules.specs.Lines.{line_at, has_line, with_line, without_line, lines_of_set, has_way, dirty_mask, dirty_masks}
 
 pub record LineTable (M : Type 0) : Type 0 where
   pub sets : ℕ

@@ -1,15 +1,15 @@
 //! The two levels of the cache, as types.
 
 ghost use Rattle.std.specs.Prelude.{◌≡◌, ◌<◌, true};
-ghost use Rattle.lf_model.specs.Address.{set1_of};
-ghost use Rattle.lf_model.specs.Fits.{is_factor};
+ghost use Rattle.lf_rules.specs.Address.{set1_of};
+ghost use Rattle.lf_rules.specs.Fits.{is_factor};
 
-use lf_model::Masks;
+use lf_rules::Masks;
 
 /// A level of the cache: what is dirty of its lines, and which set a block is in.
 pub trait Level {
     ghost use Rattle.std.specs.Prelude.{◌≡◌, ℕ, ◌<◌, true};
-    ghost use Rattle.lf_model.specs.Fits.{is_factor};
+    ghost use Rattle.lf_rules.specs.Fits.{is_factor};
 
     /// What is dirty of a line.
     type Dirty: Drop;
@@ -38,7 +38,7 @@ pub struct One;
 pub struct Two;
 
 impl Level for One {
-    ghost use Rattle.lf_model.specs.Address.{set1_of};
+    ghost use Rattle.lf_rules.specs.Address.{set1_of};
     ghost use Rattle.std.proofs.lemmas.Nat.{mod_below};
 
     type Dirty = u64;

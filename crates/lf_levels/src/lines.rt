@@ -1,15 +1,15 @@
 //! A table of lines.
 
 ghost use Rattle.std.specs.Prelude.{◌≡◌, true, false, ◌↔◌, IsTrue, Option, Some, None, option_copied, IfOk, IfErr, OnErr};
-ghost use Rattle.lf_model.specs.Fits.{is_factor};
-ghost use Rattle.lf_model.specs.InRange.{IsFrom};
-ghost use Rattle.lf_model.specs.Lines.{line_at, has_line, lines_of_set};
+ghost use Rattle.lf_rules.specs.Fits.{is_factor};
+ghost use Rattle.lf_rules.specs.InRange.{IsFrom};
+ghost use Rattle.lf_rules.specs.Lines.{line_at, has_line, lines_of_set};
 ghost use Rattle.lf_levels.specs.LineTable.{IsLineTable, ChangesOnly, set_in, empty_table, is_full, after_fill, after_evict};
 ghost use Rattle.lf_levels.specs.Refusals.{FillRefusal};
 
 use crate::fault::LineFault;
 use crate::level::Level;
-use lf_model::NoMemory;
+use lf_rules::NoMemory;
 use std::alloc::Global;
 use std::collections::BTreeMap;
 use std::marker::Model;

@@ -1,15 +1,15 @@
 //! The lines of level one, each with one mask.
 
 ghost use Rattle.std.specs.Prelude.{◌≡◌, true, false, Option, Some, None, option_map, IfOk, IfErr, OnErr, bit_or};
-ghost use Rattle.lf_model.specs.Address.{set1_of};
-ghost use Rattle.lf_model.specs.Lines.{line_at, has_line, dirty_mask};
+ghost use Rattle.lf_rules.specs.Address.{set1_of};
+ghost use Rattle.lf_rules.specs.Lines.{line_at, has_line, dirty_mask};
 ghost use Rattle.lf_levels.specs.LineTable.{IsLineTable, ChangesOnly, is_full, after_fill, after_evict, joined1};
 ghost use Rattle.lf_levels.specs.Refusals.{FillRefusal, EvictRefusal};
 
 use crate::fault::LineFault;
 use crate::level::One;
 use crate::lines::Lines;
-use lf_model::Mask;
+use lf_rules::Mask;
 
 impl Lines<One> {
     /// The dirty mask of the block's line.

@@ -1,16 +1,16 @@
 //! The lines of level two, each with a mask for every first-level block of its block.
 
 ghost use Rattle.std.specs.Prelude.{◌≡◌, ◌≤◌, ◌<◌, ◌/◌, ◌&&◌, true, false, not, length, Option, Some, None, option_copied, IfOk, IfErr, OnErr};
-ghost use Rattle.lf_model.specs.Address.{mask_at};
-ghost use Rattle.lf_model.specs.Fits.{is_factor};
-ghost use Rattle.lf_model.specs.Lines.{line_at, has_line, dirty_masks, same_masks};
+ghost use Rattle.lf_rules.specs.Address.{mask_at};
+ghost use Rattle.lf_rules.specs.Fits.{is_factor};
+ghost use Rattle.lf_rules.specs.Lines.{line_at, has_line, dirty_masks, same_masks};
 ghost use Rattle.lf_levels.specs.LineTable.{IsLineTable, ChangesOnly, is_full, wide_set, after_fill, after_evict, joined, joined2, are_absent};
 ghost use Rattle.lf_levels.specs.Refusals.{FillRefusal, WideEvictRefusal};
 
 use crate::fault::LineFault;
 use crate::level::{One, Two};
 use crate::lines::Lines;
-use lf_model::{Mask, Masks};
+use lf_rules::{Mask, Masks};
 
 /// The mask at the place, and 0 where there is none.
 fn mask_at(masks: &Masks, place: u32) -> u64

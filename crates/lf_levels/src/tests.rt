@@ -1,7 +1,7 @@
 //! A happy call of each function, at both levels, and each refusal.
 
 use crate::{LineFault, Lines, One, Two};
-use lf_model::{Mask, Masks};
+use lf_rules::{Mask, Masks};
 use std::test::Fail;
 
 fn masks_of(bits: &[u64]) -> Masks {

@@ -5,9 +5,9 @@ use Rattle.std.specs.Global.{Vec}
 use Rattle.std.proofs.lemmas.List.{length-map, length-set, map-set, get_or-map, get_or-set_same, get_or-set_other}
 use Rattle.std.proofs.lemmas.List.Sorted.{IsPermutation-sym}
 use Rattle.std.proofs.lemmas.Bool.{cases_eq}
-use Rattle.lf_model.specs.declared.event.Record.{Record}
-use Rattle.lf_model.specs.Run.{of_bank}
-use Rattle.lf_model.specs.Numbers.{all_records, numbers_of, bank_numbers, IsWhole, IsNumbered}
+use Rattle.lf_rules.specs.declared.event.Record.{Record}
+use Rattle.lf_rules.specs.Run.{of_bank}
+use Rattle.lf_rules.specs.Numbers.{all_records, numbers_of, bank_numbers, IsWhole, IsNumbered}
 use Rattle.lf_logs.specs.Lists.{banks_of}
 use Rattle.lf_logs.proofs.Splitting.{length-parts_of, get_or-parts_of}
 

@@ -4,7 +4,7 @@ use Rattle.std.proofs.Common.{◌≡◌, ℕ, ◌+◌, ◌<◌, ◌≤◌, zero,
 use Rattle.std.specs.List.{filter, sum_by, count_by}
 use Rattle.std.proofs.lemmas.List.Sums.{sum_by-cons, count_by-le-length}
 use Rattle.std.proofs.lemmas.Bool.{cases_order, cases_Bool, lt-ltb, le-ltb, ltb-false, eq-eqb, ne_eqb, cond-true, cond-false}
-use Rattle.lf_model.specs.Numbers.{times, IsMissing, IsFineBelow}
+use Rattle.lf_rules.specs.Numbers.{times, IsMissing, IsFineBelow}
 
 sum_by-plus : {X : Type 0} (f g h : X → ℕ) → ((x : X) → f x ≡ g x + h x) → (xs : List X) → sum_by f xs ≡ sum_by g xs + sum_by h xs
 sum_by-plus f g h each [] = refl

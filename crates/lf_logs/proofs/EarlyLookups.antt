@@ -10,7 +10,7 @@ use Rattle.std.proofs.lemmas.Nat.{mod_below}
 use Rattle.std.proofs.lemmas.Bool.{cases_eq, cond-true, cond-false}
 use Rattle.std.proofs.lemmas.Bool.Decides.{nat_tests}
 use Rattle.slab.specs.Slab.{Slab, Updates}
-use Rattle.lf_model.specs.declared.event.Record.{Record}
+use Rattle.lf_rules.specs.declared.event.Record.{Record}
 use Rattle.lf_logs.specs.EarlyTable.{numbered, IsTable}
 use Rattle.lf_logs.specs.Reordering.{ready_or}
 use Rattle.lf_logs.proofs.Reordered.{below_or, none_or_some, apart_at}

@@ -6,9 +6,9 @@ use Rattle.std.proofs.lemmas.List.{append-nil, length-append, map_more, take_all
 use Rattle.std.proofs.lemmas.List.Concat.{flat_map-append}
 use Rattle.std.proofs.lemmas.List.Elements.{filter-append}
 use Rattle.std.proofs.lemmas.List.Sums.{length-filter, count_by-le-length}
-use Rattle.lf_model.specs.declared.event.Record.{Record}
-use Rattle.lf_model.specs.Run.{of_bank, names}
-use Rattle.lf_model.specs.Numbers.{all_records}
+use Rattle.lf_rules.specs.declared.event.Record.{Record}
+use Rattle.lf_rules.specs.Run.{of_bank, names}
+use Rattle.lf_rules.specs.Numbers.{all_records}
 
 -- the records of the first n logs
 abbrev pub of_first : ℕ → List (Vec Record) → List Record

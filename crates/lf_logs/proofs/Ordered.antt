@@ -9,9 +9,9 @@ use Rattle.std.proofs.lemmas.List.FromFn.{length-range_with_len, map-range_with_
 use Rattle.std.proofs.lemmas.List.Sorted.{IsPermutation-refl, IsPermutation-trans, IsPermutation-sym, IsPermutation-append_left, IsPermutation-filter_both}
 use Rattle.std.proofs.lemmas.List.Sums.{length-filter}
 use Rattle.std.proofs.lemmas.Bool.{cases_order, cases_Bool, cond-true, cond-false, lt-ltb, le-ltb, ltb-false, eq-eqb, ne_eqb}
-use Rattle.lf_model.specs.declared.event.Record.{Record}
-use Rattle.lf_model.specs.Run.{of_bank, names}
-use Rattle.lf_model.specs.Numbers.{all_records, numbers_of, bank_numbers, times}
+use Rattle.lf_rules.specs.declared.event.Record.{Record}
+use Rattle.lf_rules.specs.Run.{of_bank, names}
+use Rattle.lf_rules.specs.Numbers.{all_records, numbers_of, bank_numbers, times}
 use Rattle.lf_logs.specs.declared.order.Place.{Place}
 use Rattle.lf_logs.specs.Places.{record_at, records_at, IsOrder}
 use Rattle.lf_logs.specs.Tallies.{Names}

@@ -9,9 +9,9 @@ use Rattle.std.proofs.lemmas.List.FromFn.{fill_by_all}
 use Rattle.std.proofs.lemmas.List.Sorted.{IsPermutation-refl, IsPermutation-map, IsPermutation-swap, IsPermutation-trans, length_permutation, sum_by-IsPermutation}
 use Rattle.std.proofs.lemmas.List.Sums.{sum_by-set, get_or-le-sum_by}
 use Rattle.std.proofs.lemmas.Bool.{cases_eq, eq-eqb, ne_eqb, ltb-true}
-use Rattle.lf_model.specs.declared.event.Record.{Record}
-use Rattle.lf_model.specs.declared.event.Event.TheVariants.{Stall}
-use Rattle.lf_model.specs.Numbers.{numbers_of, IsWhole}
+use Rattle.lf_rules.specs.declared.event.Record.{Record}
+use Rattle.lf_rules.specs.declared.event.Event.TheVariants.{Stall}
+use Rattle.lf_rules.specs.Numbers.{numbers_of, IsWhole}
 use Rattle.lf_logs.proofs.Counting.{counts, one_if, none_if, once_below, filter-all}
 
 -- ---- whole numbers

@@ -1,12 +1,12 @@
 -- A run of a port goes on where the loop stands.
 use Rattle.std.proofs.Common.{◌≡◌, ℕ, ◌+◌, ◌<◌, ◌≤◌, suc, List, ◌∷◌, length, get_or, drop, Some, None, sym, ap, ◌∙◌, subst, arith}
 use Rattle.std.proofs.lemmas.List.{drop_more, drop_all}
-use Rattle.lf_model.specs.declared.shape.Shape.{Shape}
-use Rattle.lf_model.specs.declared.event.Record.{Record}
-use Rattle.lf_model.specs.declared.rule.Rule.{Rule}
-use Rattle.lf_model.specs.State.{Local}
-use Rattle.lf_model.specs.Table.{OfPort, clauses}
-use Rattle.lf_model.specs.Run.{first_failing, effect, IsRunOf, BreaksAt}
+use Rattle.lf_rules.specs.declared.shape.Shape.{Shape}
+use Rattle.lf_rules.specs.declared.event.Record.{Record}
+use Rattle.lf_rules.specs.declared.rule.Rule.{Rule}
+use Rattle.lf_rules.specs.State.{Local}
+use Rattle.lf_rules.specs.Table.{OfPort, clauses}
+use Rattle.lf_rules.specs.Run.{first_failing, effect, IsRunOf, BreaksAt}
 
 -- what the records from place `at` on do, seen from `now`, all of them do, seen from `start`
 pub record GoesOn (shape : Shape) (start now : Local) (rs : List Record) (at : ℕ) : Type 0 where

@@ -1,12 +1,12 @@
 -- Runs of a port, one record longer.
 use Rattle.std.proofs.Common.{◌≡◌, List, [], ◌∷◌, ◌++◌, length, Some, None, refl, sym, ap, ◌∙◌}
-use Rattle.lf_model.specs.declared.shape.Shape.{Shape}
-use Rattle.lf_model.specs.declared.event.Record.{Record}
-use Rattle.lf_model.specs.declared.rule.Rule.{Rule}
-use Rattle.lf_model.specs.State.{Local}
-use Rattle.lf_model.specs.Outcomes.{first_local}
-use Rattle.lf_model.specs.Table.{OfPort, clauses, port_effect}
-use Rattle.lf_model.specs.Run.{first_failing, IsRunOf, BreaksAt}
+use Rattle.lf_rules.specs.declared.shape.Shape.{Shape}
+use Rattle.lf_rules.specs.declared.event.Record.{Record}
+use Rattle.lf_rules.specs.declared.rule.Rule.{Rule}
+use Rattle.lf_rules.specs.State.{Local}
+use Rattle.lf_rules.specs.Outcomes.{first_local}
+use Rattle.lf_rules.specs.Table.{OfPort, clauses, port_effect}
+use Rattle.lf_rules.specs.Run.{first_failing, IsRunOf, BreaksAt}
 use Rattle.lf_logs.specs.Tags.{PortKept, with_tags, port_after, PortStandsAfter, IsPortFaultAfter}
 
 module _ (shape : Shape) where

@@ -6,8 +6,8 @@ use Rattle.std.proofs.lemmas.Bool.{cases_eq, cases_Bool, cases_order, cond-true,
 use Rattle.std.proofs.lemmas.List.{length-append}
 use Rattle.std.specs.BTreeMap.{is_at}
 use Rattle.std.specs.Ordering.{nat_cmp}
-use Rattle.lf_model.specs.declared.event.Record.{Record}
-use Rattle.lf_model.specs.Numbers.{numbers_of, times, IsMissing, IsDouble, IsWhole, IsFineBelow}
+use Rattle.lf_rules.specs.declared.event.Record.{Record}
+use Rattle.lf_rules.specs.Numbers.{numbers_of, times, IsMissing, IsDouble, IsWhole, IsFineBelow}
 use Rattle.lf_logs.specs.Reordering.{Reordering, first_with, early_at, ready_or, waiting_at, has_come, least_double, IsLeastDouble, HasOrdered}
 use Rattle.lf_logs.proofs.Counting.{one_if, none_if, times-cons, missing_at}
 use Rattle.lf_logs.proofs.Tallying.{times_push}

@@ -6,9 +6,9 @@ use Rattle.std.proofs.lemmas.List.{append-nil, map_push, length-map, length-set,
 use Rattle.std.proofs.lemmas.List.Elements.{filter-append}
 use Rattle.std.proofs.lemmas.List.Sums.{sum_by_push, count_by-le-length}
 use Rattle.std.proofs.lemmas.Bool.{cases_eq, eq-eqb, ne_eqb, cond-true, cond-false}
-use Rattle.lf_model.specs.declared.event.Record.{Record}
-use Rattle.lf_model.specs.Run.{of_bank, names}
-use Rattle.lf_model.specs.Numbers.{all_records, numbers_of, bank_numbers, times, IsWhole}
+use Rattle.lf_rules.specs.declared.event.Record.{Record}
+use Rattle.lf_rules.specs.Run.{of_bank, names}
+use Rattle.lf_rules.specs.Numbers.{all_records, numbers_of, bank_numbers, times, IsWhole}
 use Rattle.lf_logs.specs.declared.order.Place.{Place}
 use Rattle.lf_logs.specs.declared.order.Tally.{Tally}
 use Rattle.lf_logs.specs.declared.order.NumberFault.{NumberFault}

@@ -1,6 +1,6 @@
 -- The records that came before their turn, and the table that leads from a number to its record.
 use Rattle.std.specs.Prelude.{◌≡◌, ℕ, ◌%◌, List, [], ◌∷◌, length, Option, Some, None, slice_index_or}
-use Rattle.lf_model.specs.declared.event.Record.{Record}
+use Rattle.lf_rules.specs.declared.event.Record.{Record}
 
 -- the records that are kept, each with its number
 abbrev pub numbered : List (Option Record) → List (ℕ × Record)

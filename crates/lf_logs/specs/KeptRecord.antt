@@ -1,7 +1,7 @@
 -- The record that is kept in little room.
-use Rattle.lf_model.specs.declared.event.Event.{Event}
-use Rattle.lf_model.specs.declared.event.Event.TheVariants as events
-use Rattle.lf_model.specs.declared.event.Record.{Record}
+use Rattle.lf_rules.specs.declared.event.Event.{Event}
+use Rattle.lf_rules.specs.declared.event.Event.TheVariants as events
+use Rattle.lf_rules.specs.declared.event.Record.{Record}
 use Rattle.lf_logs.specs.declared.kept.SmallEvent.{SmallEvent}
 use Rattle.lf_logs.specs.declared.kept.SmallEvent.TheVariants as small
 use Rattle.lf_logs.specs.declared.kept.SmallRecord.{SmallRecord}

@@ -2,9 +2,9 @@
 use Rattle.std.specs.Prelude.{◌≡◌, ℕ, ◌<◌, List, [], map, length, slice_index_or}
 use Rattle.std.specs.List.{range_with_len}
 use Rattle.std.specs.Global.{Vec}
-use Rattle.lf_model.specs.declared.event.Record.{Record}
-use Rattle.lf_model.specs.Run.{of_log, of_bank}
-use Rattle.lf_model.specs.Numbers.{IsNumbered}
+use Rattle.lf_rules.specs.declared.event.Record.{Record}
+use Rattle.lf_rules.specs.Run.{of_log, of_bank}
+use Rattle.lf_rules.specs.Numbers.{IsNumbered}
 
 -- the lists that the vectors hold
 abbrev pub lists_of : {T : Type 0} → Vec (Vec T) → List (List T)

@@ -1,8 +1,8 @@
 -- Places of records, and the order that the numbers of a bank give.
 use Rattle.std.specs.Prelude.{ℕ, List, [], Option, slice_get, slice_index_or, IsSome}
 use Rattle.std.specs.List.{All, filter_map}
-use Rattle.lf_model.specs.declared.event.Record.{Record}
-use Rattle.lf_model.specs.Numbers.{IsMissing, IsDouble, IsFineBelow, IsNumbered}
+use Rattle.lf_rules.specs.declared.event.Record.{Record}
+use Rattle.lf_rules.specs.Numbers.{IsMissing, IsDouble, IsFineBelow, IsNumbered}
 use Rattle.lf_logs.specs.declared.order.Place.{Place}
 use Rattle.lf_logs.specs.declared.order.NumberFault.{NumberFault}
 use Rattle.lf_logs.specs.declared.order.NumberFault.TheVariants.{Missing, Double, NoMemory}

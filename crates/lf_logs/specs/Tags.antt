@@ -1,13 +1,13 @@
 -- What the rules of a port look at.
 use Rattle.std.specs.Prelude.{◌≡◌, ℕ, List, [], ◌∷◌, ◌++◌, length, Option, None, slice_index_or}
-use Rattle.lf_model.specs.declared.shape.Shape.{Shape}
-use Rattle.lf_model.specs.declared.event.Record.{Record}
-use Rattle.lf_model.specs.declared.rule.Rule.{Rule}
-use Rattle.lf_model.specs.Address.{FlatMemory}
-use Rattle.lf_model.specs.State.{Local}
-use Rattle.lf_model.specs.Outcomes.{first_local}
-use Rattle.lf_model.specs.Table.{OfPort, port_effect}
-use Rattle.lf_model.specs.Run.{IsRunOf, BreaksAt}
+use Rattle.lf_rules.specs.declared.shape.Shape.{Shape}
+use Rattle.lf_rules.specs.declared.event.Record.{Record}
+use Rattle.lf_rules.specs.declared.rule.Rule.{Rule}
+use Rattle.lf_rules.specs.Address.{FlatMemory}
+use Rattle.lf_rules.specs.State.{Local}
+use Rattle.lf_rules.specs.Outcomes.{first_local}
+use Rattle.lf_rules.specs.Table.{OfPort, port_effect}
+use Rattle.lf_rules.specs.Run.{IsRunOf, BreaksAt}
 
 -- the same, with these busy tags: for each tag the bank that owes its reply
 abbrev pub with_tags : Local → List (Option ℕ) → Local

@@ -1,8 +1,8 @@
 -- What is counted of the numbers of a bank.
 use Rattle.std.specs.Prelude.{◌≡◌, ℕ, ◌<◌, List, length, Some, slice_index_or}
-use Rattle.lf_model.specs.declared.event.Record.{Record}
-use Rattle.lf_model.specs.Run.{of_bank}
-use Rattle.lf_model.specs.Numbers.{numbers_of, times}
+use Rattle.lf_rules.specs.declared.event.Record.{Record}
+use Rattle.lf_rules.specs.Run.{of_bank}
+use Rattle.lf_rules.specs.Numbers.{numbers_of, times}
 use Rattle.lf_logs.specs.declared.order.Place.{Place}
 use Rattle.lf_logs.specs.declared.order.Tally.{Tally}
 use Rattle.lf_logs.specs.declared.order.NumberFault.{NumberFault}

@@ -2,12 +2,12 @@
 
 ghost use Rattle.std.specs.Prelude.{◌≡◌, ℕ, ◌<◌, ◌≤◌, ◌^◌, List, ◌++◌, length, IfOk, OnOk, IsPermutation};
 ghost use Rattle.std.specs.List.{range_with_len};
-ghost use Rattle.lf_model.specs.declared.event.Record.{Record};
-ghost use Rattle.lf_model.specs.Numbers.{all_records, numbers_of, bank_numbers, IsWhole};
+ghost use Rattle.lf_rules.specs.declared.event.Record.{Record};
+ghost use Rattle.lf_rules.specs.Numbers.{all_records, numbers_of, bank_numbers, IsWhole};
 ghost use Rattle.lf_logs.specs.Lists.{lists_of, banks_of, AreNumbered};
 
 use crate::logs::empty_logs;
-use lf_model::{Logs, NoMemory, Record};
+use lf_rules::{Logs, NoMemory, Record};
 use std::alloc::Global;
 
 /// Moves each record of a log to the end of its bank's list. One that names none of these banks is

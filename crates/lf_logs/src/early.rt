@@ -4,11 +4,11 @@ ghost use Rattle.std.specs.Prelude.{◌≡◌, ◌<◌, ◌%◌, ℕ, List, [], 
 ghost use Rattle.std.specs.Map.{lookup};
 ghost use Rattle.std.specs.BTreeMap.{is_at};
 ghost use Rattle.std.specs.Ordering.{nat_cmp};
-ghost use Rattle.lf_model.specs.declared.event.Record.{Record};
+ghost use Rattle.lf_rules.specs.declared.event.Record.{Record};
 ghost use Rattle.lf_logs.specs.EarlyTable.{IsTable};
 
 use crate::kept::Kept;
-use lf_model::{NoMemory, Record};
+use lf_rules::{NoMemory, Record};
 use slab::Slab;
 use std::alloc::Global;
 use std::collections::BTreeMap;
@@ -34,7 +34,7 @@ pub struct Early {
 
 impl Model for Early {
     ghost use Rattle.std.specs.Prelude.{ℕ, List, ◌++◌};
-    ghost use Rattle.lf_model.specs.declared.event.Record.{Record};
+    ghost use Rattle.lf_rules.specs.declared.event.Record.{Record};
     ghost use Rattle.lf_logs.specs.EarlyTable.{numbered, IsTable};
 
     ghost Value = { List (ℕ × Record) };

@@ -4,7 +4,7 @@ ghost use Rattle.std.specs.Prelude.{◌≡◌, ◌<◌, length, IfOk, IfSome, If
 ghost use Rattle.lf_logs.specs.KeptRecord.{event_of, small_record};
 
 use arrayvec::ArrayVec;
-use lf_model::{Block, Event, NoMemory, Op, Record};
+use lf_rules::{Block, Event, NoMemory, Op, Record};
 use std::alloc::Global;
 use std::marker::Model;
 
@@ -85,7 +85,7 @@ pub struct Kept {
 }
 
 impl Model for Kept {
-    ghost use Rattle.lf_model.specs.declared.event.Record.{Record};
+    ghost use Rattle.lf_rules.specs.declared.event.Record.{Record};
     ghost use Rattle.lf_logs.specs.KeptRecord.{record_of};
 
     ghost Value = { Record };

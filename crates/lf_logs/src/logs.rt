@@ -4,7 +4,7 @@ ghost use Rattle.std.specs.Prelude.{◌≡◌, ◌+◌, ◌<◌, ◌≤◌, [], 
 ghost use Rattle.std.specs.List.{All};
 ghost use Rattle.lf_logs.specs.Lists.{lists_of, logs_of};
 
-use lf_model::{Logs, NoMemory, Record};
+use lf_rules::{Logs, NoMemory, Record};
 use std::alloc::Global;
 
 /// So many logs with no record.

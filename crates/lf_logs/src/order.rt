@@ -2,14 +2,14 @@
 
 ghost use Rattle.std.specs.Prelude.{◌≡◌, ℕ, ◌+◌, ◌*◌, ◌<◌, ◌≤◌, ◌^◌, length, List, map, ◌++◌, [], IfOk, IfErr, OnOk, IsSome, Some, slice_index_or};
 ghost use Rattle.std.specs.List.{All};
-ghost use Rattle.lf_model.specs.declared.event.Record.{Record};
-ghost use Rattle.lf_model.specs.Run.{of_bank};
-ghost use Rattle.lf_model.specs.Numbers.{all_records, bank_numbers, IsWhole};
+ghost use Rattle.lf_rules.specs.declared.event.Record.{Record};
+ghost use Rattle.lf_rules.specs.Run.{of_bank};
+ghost use Rattle.lf_rules.specs.Numbers.{all_records, bank_numbers, IsWhole};
 ghost use Rattle.lf_logs.specs.Lists.{lists_of};
 ghost use Rattle.lf_logs.specs.Places.{record_at, IsOrder, IsNumberFault};
 ghost use Rattle.lf_logs.specs.Tallies.{AreTallies, AreOnceBelow, IsFirstFault};
 
-use lf_model::{Logs, Record};
+use lf_rules::{Logs, Record};
 use std::alloc::Global;
 
 /// A record's place: a log, and the place in it, from 0.

@@ -1,14 +1,14 @@
 //! The rules of a port's log. They look at nothing but which tags are busy.
 
 ghost use Rattle.std.specs.Prelude.{◌≡◌, ◌≢◌, ◌≤◌, ◌^◌, length, None, slice_index_or};
-ghost use Rattle.lf_model.specs.declared.outcome.Outcome.{Outcome};
-ghost use Rattle.lf_model.specs.Outcomes.{IsPortOutcome};
-ghost use Rattle.lf_model.specs.State.{Local, idle};
-ghost use Rattle.lf_model.specs.Table.{OfPort, clauses, none_busy};
-ghost use Rattle.lf_model.specs.Run.{first_failing, effect};
+ghost use Rattle.lf_rules.specs.declared.outcome.Outcome.{Outcome};
+ghost use Rattle.lf_rules.specs.Outcomes.{IsPortOutcome};
+ghost use Rattle.lf_rules.specs.State.{Local, idle};
+ghost use Rattle.lf_rules.specs.Table.{OfPort, clauses, none_busy};
+ghost use Rattle.lf_rules.specs.Run.{first_failing, effect};
 ghost use Rattle.lf_logs.specs.Tags.{with_tags};
 
-use lf_model::{Event, Outcome, Record, Rule, Shape};
+use lf_rules::{Event, Outcome, Record, Rule, Shape};
 
 /// A tag is a byte, whatever the shape allows of it.
 const TAGS: usize = 256;

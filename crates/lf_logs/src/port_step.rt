@@ -1,12 +1,12 @@
 //! The rules of a port's log, a record at a time.
 
 ghost use Rattle.std.specs.Prelude.{◌≡◌, List, [], ◌∷◌, ◌++◌, OnOk, OnErr, IfErr};
-ghost use Rattle.lf_model.specs.declared.shape.Shape.{Shape};
-ghost use Rattle.lf_model.specs.declared.event.Record.{Record};
+ghost use Rattle.lf_rules.specs.declared.shape.Shape.{Shape};
+ghost use Rattle.lf_rules.specs.declared.event.Record.{Record};
 ghost use Rattle.lf_logs.specs.Tags.{PortStandsAfter, IsPortFaultAfter};
 
 use crate::port::BusyTags;
-use lf_model::{Record, Rule, Shape};
+use lf_rules::{Record, Rule, Shape};
 use std::marker::Model;
 
 /// Judges the log of one port, a record at a time.

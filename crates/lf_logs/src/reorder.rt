@@ -1,14 +1,14 @@
 //! A bank's records, put into the order of their numbers as they come.
 
 ghost use Rattle.std.specs.Prelude.{◌≡◌, ◌≢◌, ◌≤◌, ◌<◌, ◌^◌, ℕ, List, [], ◌∷◌, ◌++◌, length, option_to_list, is_some, IsTrue, None, Some, OnOk, OnErr, IfSome, IfNone};
-ghost use Rattle.lf_model.specs.declared.event.Record.{Record};
-ghost use Rattle.lf_model.specs.Numbers.{numbers_of, times, IsMissing, IsWhole};
+ghost use Rattle.lf_rules.specs.declared.event.Record.{Record};
+ghost use Rattle.lf_rules.specs.Numbers.{numbers_of, times, IsMissing, IsWhole};
 ghost use Rattle.lf_logs.specs.Places.{IsNumberFault};
 ghost use Rattle.lf_logs.specs.Reordering.{first_with, early_at, waiting_at, waiting_count, has_come, least_double, HasOrdered};
 
 use crate::early::Early;
 use crate::order::NumberFault;
-use lf_model::{NoMemory, Record};
+use lf_rules::{NoMemory, Record};
 use std::alloc::Global;
 use std::marker::Model;
 

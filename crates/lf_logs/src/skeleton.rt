@@ -1,10 +1,10 @@
 //! What the order of a trace depends on.
 
 ghost use Rattle.std.specs.Prelude.{◌≡◌, map, IfOk};
-ghost use Rattle.lf_model.specs.Ring.{entry_of, skeletons_of};
+ghost use Rattle.lf_rules.specs.Ring.{entry_of, skeletons_of};
 ghost use Rattle.lf_logs.specs.Lists.{lists_of};
 
-use lf_model::{Logs, NoMemory, Record, Skeleton};
+use lf_rules::{Logs, NoMemory, Record, Skeleton};
 use std::alloc::Global;
 
 fn skeleton(alloc: Global, log: &[Record]) -> Result<Skeleton, NoMemory>

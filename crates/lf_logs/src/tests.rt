@@ -6,7 +6,7 @@ use crate::{
     NumberFault, Place, PortStep, Reorder, bank_order, bank_records, port_replay, record_at,
     skeletons, split,
 };
-use lf_model::{
+use lf_rules::{
     Block, Event, Level, NO_BANK, Op, OrgShape, Outcome, Record, Rule, Shape, WideBlock,
 };
 use std::test::Fail;

@@ -1,13 +1,13 @@
 -- A list of busy tags as a function of port and tag.
-use Rattle.std.proofs.Common.{◌≡◌, ℕ, zero, suc, ◌+◌, ◌<◌, ◌≤◌, Bool, true, false, cond, not, ◌&&◌, ◌||◌, ◌==◌, List, [], ◌∷◌, ◌++◌, Option, Some, None, is_none, inl, inr, refl, sym, ap, ◌∙◌, eqb-true, arith}
+use Rattle.std.proofs.Common.{◌≡◌, ℕ, ◌<◌, Bool, true, false, cond, not, ◌&&◌, ◌||◌, ◌==◌, List, [], ◌∷◌, ◌++◌, Option, Some, None, is_none, refl, sym, ap, ◌∙◌, eqb-true, arith}
 use mathlib.Core.Path.{ap₂, fun_ext}
-use Rattle.std.specs.List.{find, filter, list_all, range_with_len}
-use Rattle.std.proofs.lemmas.Bool.{cond-false, cases_eq}
+use Rattle.std.specs.List.{find, filter}
+use Rattle.std.proofs.lemmas.Bool.{cond-false}
 use Rattle.lf_model.specs.declared.plain.busy.BusyTag.{BusyTag}
-use Rattle.lf_model.specs.State.{update}
+use Rattle.lf_rules.specs.State.{update}
 use Rattle.lf_model.specs.Plain.{busy_of}
-use Rattle.lf_model.specs.Table.{none_busy}
-use Rattle.lf_model.proofs.Masks.{all_range}
+use Rattle.lf_rules.specs.Table.{none_busy}
+use Rattle.lf_rules.proofs.Masks.{all_range, not_all}
 
 abbrev pub bank_in : Option BusyTag → Option ℕ
 bank_in None = None
@@ -104,18 +104,6 @@ none_if (Some x) e = cc
 
 pub all_free : (tags : ℕ) (busy : List BusyTag) (port : ℕ) → ((k : ℕ) → k < tags → busy_of busy port k ≡ None) → true ≡ none_busy tags (busy_of busy port)
 all_free tags busy port free = sym (all_range (λ tag. is_none (busy_of busy port tag)) 0 tags (λ i le lt. is_none_if (busy_of busy port i) (free i (omega (arith, lt)))))
-
-pub not_all : (p : ℕ → Bool) (a n k : ℕ) → a ≤ k → k < a + n → false ≡ p k → false ≡ list_all p (range_with_len a n)
-not_all p a zero k le lt e = absurd (omega (arith, le, lt))
-not_all p a (suc n) k le lt e =
-    (elim (cases_eq a k) [
-      | inl same ↦ ap (λ b. b && list_all p (range_with_len (a + 1) n)) (e ∙ ap p (sym same))
-      | inr apart ↦ both (p a) (not_all p (a + 1) n k (omega (arith, le, apart)) (omega (arith, lt)) e)
-    ])
-  where
-    both : (b : Bool) {c : Bool} → false ≡ c → false ≡ (b && c)
-    both true e = e
-    both false e = refl
 
 pub one_taken : (tags : ℕ) (busy : List BusyTag) (port k : ℕ) → k < tags → false ≡ is_none (busy_of busy port k) → false ≡ none_busy tags (busy_of busy port)
 one_taken tags busy port k lt e = not_all (λ tag. is_none (busy_of busy port tag)) 0 tags k (omega arith) (omega (arith, lt)) e

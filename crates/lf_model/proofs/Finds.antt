@@ -6,8 +6,8 @@ use Rattle.std.proofs.lemmas.List.{take_all, drop_all}
 use Rattle.std.specs.Prelude.{MatchOption, option_copied}
 use denote.Bor.{Bor}
 use Rattle.std.specs.List.{find, list_any, position, position_or_len, remove}
-use Rattle.lf_model.specs.State.{Ready}
-use Rattle.lf_model.specs.Table.{asked_register, is_ready_for, first_ready, without_ready}
+use Rattle.lf_rules.specs.State.{Ready}
+use Rattle.lf_rules.specs.Table.{asked_register, is_ready_for, first_ready, without_ready}
 
 abbrev pub register_in : Option (ℕ × ℕ) → ℕ
 register_in None = 0

@@ -5,14 +5,14 @@ use Rattle.std.specs.Prelude.{slice_index}
 use Rattle.std.proofs.lemmas.Bool.{cases_lt, le-ltb, cond-true, cond-false}
 use Rattle.std.proofs.lemmas.List.{get_or_past, drop_more}
 use Rattle.arrayvec.specs.ArrayVec.{ArrayVec}
-use Rattle.lf_model.specs.declared.event.Record.{Record}
+use Rattle.lf_rules.specs.declared.event.Record.{Record}
 use Rattle.lf_model.specs.declared.plain.slice.PlainSlice.{PlainSlice}
-use Rattle.lf_model.specs.Registers.{Held}
-use Rattle.lf_model.specs.Lines.{Lines, WideLines}
-use Rattle.lf_model.specs.State.{Asked, update, Request, Missed, Ready, Slice, State, empty_slice, opening}
-use Rattle.lf_model.specs.Address.{FlatMemory, flat_memory}
+use Rattle.lf_rules.specs.Registers.{Held}
+use Rattle.lf_rules.specs.Lines.{Lines, WideLines}
+use Rattle.lf_rules.specs.State.{Asked, update, Request, Missed, Ready, Slice, State, empty_slice, opening}
+use Rattle.lf_rules.specs.Address.{FlatMemory, flat_memory}
 use Rattle.lf_model.specs.Plain.{flat_of, put, queue_at, slice_of, slices_of, left_of, busy_of}
-use Rattle.lf_model.proofs.Bytes.{zeros}
+use Rattle.lf_model.proofs.PlainBytes.{zeros}
 
 pub padded_at : (new xs : List ℕ) → new ≡ xs → (place : ℕ) → put (slice_index (replicate 64 0)) 0 new place ≡ slice_index xs place
 padded_at new xs same place =

@@ -6,15 +6,15 @@ use Rattle.std.proofs.lemmas.Bool.{eqb-false}
 use Rattle.std.proofs.lemmas.List.{map-set, length-map}
 use Rattle.lf_model.specs.declared.plain.busy.BusyTag.{BusyTag}
 use Rattle.lf_model.specs.declared.plain.slice.PlainSlice.{PlainSlice}
-use Rattle.lf_model.specs.declared.shape.Shape.{Shape}
-use Rattle.lf_model.specs.declared.event.Record.{Record}
-use Rattle.lf_model.specs.declared.rule.Rule.{Rule}
-use Rattle.lf_model.specs.declared.event.Event.{Event}
-use Rattle.lf_model.specs.declared.event.Event.TheVariants.{Issue, Fence}
-use Rattle.lf_model.specs.Fits.{Fits, FitsBank}
-use Rattle.lf_model.specs.State.{update, Slice, State, Local, empty_slice}
-use Rattle.lf_model.specs.Table.{OfBoth, rules_of, carries, clauses, busy_after, memory_after}
-use Rattle.lf_model.specs.Run.{first_failing, state_after}
+use Rattle.lf_rules.specs.declared.shape.Shape.{Shape}
+use Rattle.lf_rules.specs.declared.event.Record.{Record}
+use Rattle.lf_rules.specs.declared.rule.Rule.{Rule}
+use Rattle.lf_rules.specs.declared.event.Event.{Event}
+use Rattle.lf_rules.specs.declared.event.Event.TheVariants.{Issue, Fence}
+use Rattle.lf_rules.specs.Fits.{Fits, FitsBank}
+use Rattle.lf_rules.specs.State.{update, Slice, State, Local, empty_slice}
+use Rattle.lf_rules.specs.Table.{OfBoth, rules_of, carries, clauses, busy_after, memory_after}
+use Rattle.lf_rules.specs.Run.{first_failing, state_after}
 use Rattle.lf_model.specs.Plain.{flat_of, busy_of, slice_of, slice_next, slices_of}
 
 pub on_both : {X E A B C : Type 0} (r : Result X E) → OnOk r A → OnOk r B → (A → B → C) → OnOk r C

@@ -6,20 +6,20 @@ use Rattle.std.specs.Global.{Vec}
 use Rattle.std.specs.List.{All, list_all, range_with_len}
 use Rattle.std.proofs.lemmas.Bool.{cond-true, cond-false, both_ways, cases_Bool}
 use Rattle.std.proofs.lemmas.List.Elements.{All-head, All-tail}
-use Rattle.lf_model.specs.declared.shape.Shape.{Shape}
-use Rattle.lf_model.specs.declared.event.Record.{Record}
-use Rattle.lf_model.specs.declared.rule.Rule.{Rule}
+use Rattle.lf_rules.specs.declared.shape.Shape.{Shape}
+use Rattle.lf_rules.specs.declared.event.Record.{Record}
+use Rattle.lf_rules.specs.declared.rule.Rule.{Rule}
 use Rattle.lf_model.specs.declared.outcome.Recheck.{Recheck}
 use Rattle.lf_model.specs.declared.outcome.Recheck.TheVariants.{Accepted, NotAnOrder, Broken}
-use Rattle.lf_model.specs.Address.{FlatMemory, no_bank}
-use Rattle.lf_model.specs.State.{State, opening, seen_by}
-use Rattle.lf_model.specs.Table.{OfBoth, clauses}
-use Rattle.lf_model.specs.Run.{first_failing, state_after, IsRunFrom, of_bank, NameTheirLogs}
-use Rattle.lf_model.specs.Sharing.{state_after_all}
-use Rattle.lf_model.specs.Order.{log_at, after_next, Takes}
+use Rattle.lf_rules.specs.Address.{FlatMemory, no_bank}
+use Rattle.lf_rules.specs.State.{State, opening, seen_by}
+use Rattle.lf_rules.specs.Table.{OfBoth, clauses}
+use Rattle.lf_rules.specs.Run.{first_failing, state_after, IsRunFrom, of_bank, NameTheirLogs}
+use Rattle.lf_rules.specs.Sharing.{state_after_all}
+use Rattle.lf_rules.specs.Order.{log_at, after_next, Takes}
 use Rattle.lf_model.specs.Plain.{is_empty, is_numbered, next_after, finished, judged, recheck_from, recheck_of, count_left}
 use Rattle.lf_model.specs.Recheck.{TakesTo, IsRecheck, RechecksAreOne}
-use Rattle.lf_model.proofs.Orders.{orders_interleave}
+use Rattle.lf_rules.proofs.Orders.{orders_interleave}
 use Rattle.lf_model.proofs.Walks.{items_of, numbered_if, if_numbered, next_at, none_next, wrong_number, right_number, rule_broken}
 
 -- ---- how many records there are

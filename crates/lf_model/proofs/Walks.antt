@@ -4,24 +4,24 @@ use mathlib.Core.Path.{ap₂, fun_ext}
 use Rattle.std.specs.Prelude.{nat_lt, slice_index, MatchOption}
 use Rattle.std.specs.List.{All, Contains, HoldsAt, list_all}
 use Rattle.std.proofs.lemmas.List.Elements.{All-contains, All-head, All-tail}
-use Rattle.lf_model.specs.Fits.{Fits, FitsBank}
-use Rattle.lf_model.specs.InRange.{IsShape}
-use Rattle.lf_model.specs.declared.event.Event.{Event}
-use Rattle.lf_model.specs.declared.event.Event.TheVariants.{Issue, Fence}
+use Rattle.lf_rules.specs.Fits.{Fits, FitsBank}
+use Rattle.lf_rules.specs.InRange.{IsShape}
+use Rattle.lf_rules.specs.declared.event.Event.{Event}
+use Rattle.lf_rules.specs.declared.event.Event.TheVariants.{Issue, Fence}
 use Rattle.std.specs.Global.{Vec}
 use denote.Bor.{Bor}
 use Rattle.std.proofs.lemmas.Bool.{lt-ltb, eqb-false, cond-true, cond-false, both_ways}
 use Rattle.std.proofs.lemmas.List.{drop-drop, drop_more, drop_all, length-map, get_or_past, get_or_default}
-use Rattle.lf_model.specs.declared.event.Record.{Record}
-use Rattle.lf_model.specs.declared.rule.Rule.{Rule}
-use Rattle.lf_model.specs.declared.shape.Shape.{Shape}
+use Rattle.lf_rules.specs.declared.event.Record.{Record}
+use Rattle.lf_rules.specs.declared.rule.Rule.{Rule}
+use Rattle.lf_rules.specs.declared.shape.Shape.{Shape}
 use Rattle.lf_model.specs.declared.outcome.Recheck.{Recheck}
 use Rattle.lf_model.specs.declared.outcome.Recheck.TheVariants.{NotAnOrder, Broken}
-use Rattle.lf_model.specs.State.{update, State, seen_by}
-use Rattle.lf_model.specs.Table.{OfBoth, clauses}
-use Rattle.lf_model.specs.Run.{first_failing, state_after}
-use Rattle.lf_model.specs.Address.{no_bank}
-use Rattle.lf_model.specs.Order.{log_at, after_next}
+use Rattle.lf_rules.specs.State.{update, State, seen_by}
+use Rattle.lf_rules.specs.Table.{OfBoth, clauses}
+use Rattle.lf_rules.specs.Run.{first_failing, state_after}
+use Rattle.lf_rules.specs.Address.{no_bank}
+use Rattle.lf_rules.specs.Order.{log_at, after_next}
 use Rattle.lf_model.specs.Plain.{count_left, is_empty, is_numbered, next_after, NamesBankBelow, left_of, judged, recheck_from}
 
 -- ---- what is left behind the places

@@ -6,23 +6,23 @@ use Rattle.std.specs.BTreeMap.{is_at}
 use Rattle.std.specs.Ordering.{nat_cmp}
 use Rattle.lf_model.specs.declared.plain.slice.PlainSlice.{PlainSlice}
 use Rattle.lf_model.specs.declared.plain.busy.BusyTag.{BusyTag}
-use Rattle.lf_model.specs.declared.shape.Shape.{Shape}
+use Rattle.lf_rules.specs.declared.shape.Shape.{Shape}
 use Rattle.lf_model.specs.declared.plain.machine.Machine.{Machine}
-use Rattle.lf_model.specs.declared.event.Event.{Event}
-use Rattle.lf_model.specs.declared.event.Event.TheVariants.{Issue, Hit, Primary, Merge}
-use Rattle.lf_model.specs.Address.{FlatMemory, no_bank}
-use Rattle.lf_model.specs.InRange.{IsShape}
-use Rattle.lf_model.specs.Order.{log_at, after_next}
-use Rattle.lf_model.specs.Run.{first_failing, state_after}
-use Rattle.lf_model.specs.declared.event.Record.{Record}
-use Rattle.lf_model.specs.declared.rule.Rule.{Rule}
+use Rattle.lf_rules.specs.declared.event.Event.{Event}
+use Rattle.lf_rules.specs.declared.event.Event.TheVariants.{Issue, Hit, Primary, Merge}
+use Rattle.lf_rules.specs.Address.{FlatMemory, no_bank}
+use Rattle.lf_rules.specs.InRange.{IsShape}
+use Rattle.lf_rules.specs.Order.{log_at, after_next}
+use Rattle.lf_rules.specs.Run.{first_failing, state_after}
+use Rattle.lf_rules.specs.declared.event.Record.{Record}
+use Rattle.lf_rules.specs.declared.rule.Rule.{Rule}
 use Rattle.lf_model.specs.declared.outcome.Recheck.{Recheck}
 use Rattle.lf_model.specs.declared.outcome.Recheck.TheVariants.{Accepted, NotAnOrder, Broken}
 use Rattle.lf_model.specs.declared.plain.walk.Walk.{Walk}
 use Rattle.lf_model.specs.declared.plain.walk.Taken.{Taken}
 use Rattle.lf_model.specs.declared.plain.walk.Taken.TheVariants.{Next, NotNext, Breaks}
-use Rattle.lf_model.specs.State.{update, Request, Slice, State, empty_slice, opening, seen_by}
-use Rattle.lf_model.specs.Table.{OfBoth, clauses, is_store, is_head, accepts, value_at, replies_at, slice_after}
+use Rattle.lf_rules.specs.State.{update, Request, Slice, State, empty_slice, opening, seen_by}
+use Rattle.lf_rules.specs.Table.{OfBoth, clauses, is_store, is_head, accepts, value_at, replies_at, slice_after}
 
 -- the memory that has these bytes at these blocks, and zeros elsewhere
 abbrev pub flat_of : List (ℕ × List ℕ) → FlatMemory

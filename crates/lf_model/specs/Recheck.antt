@@ -1,17 +1,17 @@
 -- What `recheck` answers to an order of the logs.
 use Rattle.std.specs.Prelude.{◌≡◌, ℕ, ◌<◌, ◌≤◌, ◌⊎◌, List, [], ◌∷◌, map, length, take, drop, slice_index, Some}
 use Rattle.std.specs.Global.{Vec}
-use Rattle.lf_model.specs.declared.shape.Shape.{Shape}
-use Rattle.lf_model.specs.declared.event.Record.{Record}
-use Rattle.lf_model.specs.declared.rule.Rule.{Rule}
+use Rattle.lf_rules.specs.declared.shape.Shape.{Shape}
+use Rattle.lf_rules.specs.declared.event.Record.{Record}
+use Rattle.lf_rules.specs.declared.rule.Rule.{Rule}
 use Rattle.lf_model.specs.declared.outcome.Recheck.{Recheck}
 use Rattle.lf_model.specs.declared.outcome.Recheck.TheVariants.{Accepted, NotAnOrder, Broken}
-use Rattle.lf_model.specs.Address.{FlatMemory, no_bank}
-use Rattle.lf_model.specs.State.{opening, seen_by}
-use Rattle.lf_model.specs.Table.{OfBoth, clauses}
-use Rattle.lf_model.specs.Run.{first_failing, IsRun, Interleaves, KeepsNumbers, NameTheirLogs, of_bank}
-use Rattle.lf_model.specs.Sharing.{state_after_all}
-use Rattle.lf_model.specs.Order.{log_at, after_next}
+use Rattle.lf_rules.specs.Address.{FlatMemory, no_bank}
+use Rattle.lf_rules.specs.State.{opening, seen_by}
+use Rattle.lf_rules.specs.Table.{OfBoth, clauses}
+use Rattle.lf_rules.specs.Run.{first_failing, IsRun, Interleaves, KeepsNumbers, NameTheirLogs, of_bank}
+use Rattle.lf_rules.specs.Sharing.{state_after_all}
+use Rattle.lf_rules.specs.Order.{log_at, after_next}
 
 abbrev pub lists_of : {T : Type 0} → Vec (Vec T) → List (List T)
 lists_of logs = map (λ log. log.items) logs.items

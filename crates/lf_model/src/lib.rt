@@ -1,32 +1,23 @@
-//! The vocabulary of Wudzark: the types of a trace and of a configured hierarchy, and, in `specs/`,
-//! what they mean. There the rules of a two-level lockup-free cache are written as one table over
-//! one state of the whole system with one flat memory, and every other crate is proved against it.
+//! The plain machine: the rules of `lf_rules` over one state of the whole system, kept as lists and
+//! maps, and `recheck`, which walks it along an order of the logs. It is made to be read beside the table
+//! of rules, not to be fast.
 //!
-//! The laws of those definitions are functions with an empty body, whose contract is the law.
+//! The types, the definitions and their laws stand in `lf_rules`, and are offered here again.
 #![tactic(auto)]
 
-mod event;
-mod fitting;
 mod laws;
-mod mask;
 mod outcome;
 mod plain;
-mod ring;
-mod rule;
-mod shape;
 #[cfg(test)]
 mod tests;
 
-pub use event::{Block, Event, Logs, Masks, Memory, NO_BANK, Op, Record, WideBlock};
-pub use fitting::fits;
-pub use laws::{
-    collected_logs_are_free, copies_are_flat, gaps_admit_none, interleavings_are_numbered,
-    numbers_are_whole, orders_interleave, outcomes_are_one, rechecks_are_one, rings_admit_none,
-    runs_are_right, runs_by_parts, skeletons_follow,
+pub use laws::rechecks_are_one;
+pub use lf_rules::{
+    Block, Event, Knot, Level, Logs, Mask, Masks, Memory, NO_BANK, NoMemory, Op, OrgShape, Outcome,
+    Record, Ring, Rule, Shape, Skeleton, WideBlock, agree_off, collected_logs_are_free,
+    copies_are_flat, fits, gaps_admit_none, interleavings_are_numbered, numbers_are_whole,
+    orders_interleave, outcomes_are_one, overlay, rings_admit_none, runs_are_right, runs_by_parts,
+    skeletons_follow,
 };
-pub use mask::{Mask, agree_off, overlay};
-pub use outcome::{NoMemory, Outcome, Recheck};
+pub use outcome::Recheck;
 pub use plain::recheck;
-pub use ring::{Knot, Ring, Skeleton};
-pub use rule::Rule;
-pub use shape::{Level, OrgShape, Shape};

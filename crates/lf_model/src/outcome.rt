@@ -1,22 +1,6 @@
-//! What a part of the check answers.
+//! What the plain machine answers.
 
-use crate::rule::Rule;
-
-/// A growth was refused.
-#[derive(Clone, Copy, Debug, PartialEq, Eq)]
-pub struct NoMemory;
-
-/// What the replay of one port or of one bank found.
-#[derive(Clone, Copy, Debug, PartialEq, Eq)]
-pub enum Outcome {
-    /// The records are a run.
-    Passed,
-    /// The record at this place is the first that does not continue a run, and the rule is its first
-    /// that fails. The place counts from 0 in the port's log, or is the bank's number.
-    Broken(u32, Rule),
-    /// A growth was refused.
-    NoMemory,
-}
+use lf_rules::Rule;
 
 /// What the plain machine answers to an order of the logs.
 #[derive(Clone, Copy, Debug, PartialEq, Eq)]

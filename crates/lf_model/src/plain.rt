@@ -2,16 +2,15 @@
 
 ghost use Rattle.std.specs.Prelude.{◌≡◌, ◌≤◌, ◌^◌, IfOk, length};
 ghost use Rattle.std.specs.List.{All};
-ghost use Rattle.lf_model.specs.Address.{flat_memory};
-ghost use Rattle.lf_model.specs.Fits.{Fits};
-ghost use Rattle.lf_model.specs.InRange.{IsShape};
+ghost use Rattle.lf_rules.specs.Address.{flat_memory};
+ghost use Rattle.lf_rules.specs.Fits.{Fits};
+ghost use Rattle.lf_rules.specs.InRange.{IsShape};
 ghost use Rattle.lf_model.specs.Recheck.{lists_of, IsRecheck};
-ghost use Rattle.lf_model.specs.Run.{NameTheirLogs};
+ghost use Rattle.lf_rules.specs.Run.{NameTheirLogs};
 
-use crate::event::{Logs, Memory};
-use crate::outcome::{NoMemory, Recheck};
+use crate::outcome::Recheck;
 use crate::plain::walk::Walk;
-use crate::shape::Shape;
+use lf_rules::{Logs, Memory, NoMemory, Shape};
 use std::alloc::Global;
 
 mod busy;

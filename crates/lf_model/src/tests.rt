@@ -2,10 +2,10 @@
 
 ghost use Rattle.std.specs.Prelude.{◌≡◌, ◌≤◌, ◌^◌, IsTrue, length};
 ghost use Rattle.std.specs.List.{All};
-ghost use Rattle.lf_model.specs.Fits.{Fits};
-ghost use Rattle.lf_model.specs.InRange.{IsShape};
+ghost use Rattle.lf_rules.specs.Fits.{Fits};
+ghost use Rattle.lf_rules.specs.InRange.{IsShape};
 ghost use Rattle.lf_model.specs.Recheck.{lists_of};
-ghost use Rattle.lf_model.specs.Run.{NameTheirLogs};
+ghost use Rattle.lf_rules.specs.Run.{NameTheirLogs};
 
 use crate::{
     Block, Event, Level, Logs, Mask, Masks, Memory, NO_BANK, Op, OrgShape, Recheck, Record, Rule,

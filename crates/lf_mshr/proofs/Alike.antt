@@ -2,9 +2,9 @@
 use Rattle.std.proofs.Common.{◌≡◌, ℕ, Bool, true, false, cond, not, ◌&&◌, ◌||◌, ◌==◌, nat_lt, List, [], ◌∷◌, ◌++◌, refl, ap, ◌∙◌, arith}
 use Rattle.std.specs.Prelude.{count_by, filter}
 use Rattle.std.specs.List.{list_any, range_with_len}
-use Rattle.lf_model.specs.declared.shape.OrgShape.{OrgShape}
-use Rattle.lf_model.specs.declared.shape.OrgShape.TheVariants.{Implicit, Explicit, Inverted}
-use Rattle.lf_model.specs.Registers.{Held, holds, is_free, holds_in, right_for_merge, takes, has_room, targets_of, released, primary_clauses, merge_clauses}
+use Rattle.lf_rules.specs.declared.shape.OrgShape.{OrgShape}
+use Rattle.lf_rules.specs.declared.shape.OrgShape.TheVariants.{Implicit, Explicit, Inverted}
+use Rattle.lf_rules.specs.Registers.{Held, holds, is_free, holds_in, right_for_merge, takes, has_room, targets_of, released, primary_clauses, merge_clauses}
 use Rattle.lf_mshr.specs.Alike.{IsAlike, AreAlike}
 use Rattle.lf_mshr.proofs.Counts.{count_cons}
 

@@ -6,7 +6,7 @@ use Rattle.std.proofs.lemmas.List.{length_push}
 use Rattle.std.specs.List.{list_any}
 use Rattle.std.proofs.lemmas.List.Sums.{length-filter}
 use Rattle.std.proofs.lemmas.List.Filters.{length-filter_both}
-use Rattle.lf_model.specs.Registers.{Held, is_free}
+use Rattle.lf_rules.specs.Registers.{Held, is_free}
 use Rattle.lf_mshr.specs.Bounds.{IsWithin}
 use Rattle.lf_mshr.proofs.Counts.{count_cons, count_push_yes, count_push_no, count_filter_le, none_passes}
 

@@ -4,7 +4,7 @@ use Rattle.std.specs.Prelude.{count_by, filter}
 use Rattle.std.proofs.Common.{take, map, length-take}
 use Rattle.std.proofs.lemmas.List.{length-map}
 use Rattle.std.proofs.lemmas.List.Sums.{length-filter, count_by-le-length}
-use Rattle.lf_model.specs.Registers.{Held, targets_of}
+use Rattle.lf_rules.specs.Registers.{Held, targets_of}
 use Rattle.lf_mshr.specs.RegisterFile.{released_pair}
 use Rattle.std.specs.List.{list_any}
 use Rattle.std.proofs.lemmas.Bool.{or_parts}

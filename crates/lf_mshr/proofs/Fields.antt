@@ -4,8 +4,8 @@ use Rattle.std.specs.Prelude.{count_by, filter}
 use Rattle.std.specs.List.{list_any}
 use Rattle.std.proofs.lemmas.Bool.{cases_Bool, and_parts, not-true}
 use Rattle.std.proofs.lemmas.List.Sums.{length-filter}
-use Rattle.lf_model.specs.Registers.{Held, is_free, takes}
-use Rattle.lf_model.specs.declared.shape.OrgShape.TheVariants.{Implicit}
+use Rattle.lf_rules.specs.Registers.{Held, is_free, takes}
+use Rattle.lf_rules.specs.declared.shape.OrgShape.TheVariants.{Implicit}
 use Rattle.lf_mshr.specs.Bounds.{IsBelow, IsWithin, HasFields}
 use Rattle.lf_mshr.proofs.Counts.{count_push_yes, count_push_no, count_filter_le, count-filter, none_passes, none_both, none-counted}
 use Rattle.lf_mshr.proofs.Bounds.{length_by_keys}

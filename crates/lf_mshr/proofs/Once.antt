@@ -1,8 +1,8 @@
 -- No two registers hold one block, as targets come and go.
 use Rattle.std.proofs.Common.{◌≡◌, ℕ, Bool, true, false, cond, not, ◌&&◌, ◌==◌, List, [], ◌∷◌, ◌++◌, ◌⊎◌, inl, inr, refl, sym, ◌∙◌, subst, eqb-true}
 use Rattle.std.proofs.lemmas.Bool.{and_parts, or_cases, both_ways, or_left, or_right}
-use Rattle.lf_model.specs.Registers.{Held, holds, holds_in, released}
-use Rattle.lf_model.specs.Sharing.{HoldsOnce}
+use Rattle.lf_rules.specs.Registers.{Held, holds, holds_in, released}
+use Rattle.lf_rules.specs.Sharing.{HoldsOnce}
 
 module _ {T : Type 0} where
   holds_in_push : (held : List (Held T)) (h : Held T) (register block : ℕ) → holds_in (held ++ h ∷ []) register block ≡ true

@@ -2,12 +2,12 @@
 use Rattle.std.proofs.Common.{◌≡◌, ℕ, [], ◌∷◌, Bool, true, false, not, ◌↔◌, inl, inr, nat_lt, None, refl, sym, ap, ◌∙◌, lt-ltb, ltb-true}
 use Rattle.std.proofs.lemmas.Bool.{not-true}
 use Rattle.std.specs.Bool.{IsTrue}
-use Rattle.lf_model.specs.declared.rule.Rule.{Rule}
-use Rattle.lf_model.specs.declared.rule.Rule.TheVariants.{PrimaryInFlight, NotInFlight, RegisterRange, WrongRegister, RegisterBusy, MergeFull}
-use Rattle.lf_model.specs.Clauses.{OfBank, bank_wants}
-use Rattle.lf_model.specs.Registers.{registers_of, holds, is_free, right_for_primary, right_for_merge, takes}
-use Rattle.lf_model.specs.Run.{first_failing}
-use Rattle.lf_model.proofs.Room.{room_is}
+use Rattle.lf_rules.specs.declared.rule.Rule.{Rule}
+use Rattle.lf_rules.specs.declared.rule.Rule.TheVariants.{PrimaryInFlight, NotInFlight, RegisterRange, WrongRegister, RegisterBusy, MergeFull}
+use Rattle.lf_rules.specs.Clauses.{OfBank, bank_wants}
+use Rattle.lf_rules.specs.Registers.{registers_of, holds, is_free, right_for_primary, right_for_merge, takes}
+use Rattle.lf_rules.specs.Run.{first_failing}
+use Rattle.lf_rules.proofs.Room.{room_is}
 use Rattle.lf_mshr.specs.RegisterFile.{RegisterFile, primary_wants, has_room_for, SomeTakes}
 
 -- four clauses hold

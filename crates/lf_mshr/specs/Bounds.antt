@@ -1,6 +1,6 @@
 -- How much a register file may hold.
 use Rattle.std.specs.Prelude.{◌≡◌, ℕ, ◌≤◌, ◌==◌, ◌&&◌, List, count_by}
-use Rattle.lf_model.specs.Registers.{Held}
+use Rattle.lf_rules.specs.Registers.{Held}
 
 -- there are only so many registers
 abbrev pub IsBelow : {T : Type 0} → ℕ → List (Held T) → Type 0

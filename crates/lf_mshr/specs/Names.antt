@@ -1,7 +1,7 @@
 -- Which organisation a shape names.
 use Rattle.std.specs.Prelude.{Bool, true, false}
-use Rattle.lf_model.specs.declared.shape.OrgShape.{OrgShape}
-use Rattle.lf_model.specs.declared.shape.OrgShape.TheVariants.{Implicit, Explicit, Inverted}
+use Rattle.lf_rules.specs.declared.shape.OrgShape.{OrgShape}
+use Rattle.lf_rules.specs.declared.shape.OrgShape.TheVariants.{Implicit, Explicit, Inverted}
 
 abbrev pub is_implicit : OrgShape → Bool
 is_implicit (Implicit registers) = true

@@ -2,12 +2,12 @@
 -- it holds, in the order of acceptance.
 use Rattle.std.specs.Prelude.{◌≡◌, ℕ, Bool, List, [], ◌∷◌, ◌++◌, None, ◌⊎◌, bit_or, if◌then◌else◌}
 use Rattle.std.specs.List.{fold}
-use Rattle.lf_model.specs.declared.shape.OrgShape.{OrgShape}
-use Rattle.lf_model.specs.declared.shape.OrgShape.TheVariants.{Implicit, Explicit, Inverted}
-use Rattle.lf_model.specs.Clauses.{Clause, OfBank}
-use Rattle.lf_model.specs.Registers.{Held, has_room, primary_clauses, merge_clauses, targets_of, released}
-use Rattle.lf_model.specs.declared.mask.Mask.{Mask}
-use Rattle.lf_model.specs.Run.{first_failing}
+use Rattle.lf_rules.specs.declared.shape.OrgShape.{OrgShape}
+use Rattle.lf_rules.specs.declared.shape.OrgShape.TheVariants.{Implicit, Explicit, Inverted}
+use Rattle.lf_rules.specs.Clauses.{Clause, OfBank}
+use Rattle.lf_rules.specs.Registers.{Held, has_room, primary_clauses, merge_clauses, targets_of, released}
+use Rattle.lf_rules.specs.declared.mask.Mask.{Mask}
+use Rattle.lf_rules.specs.Run.{first_failing}
 
 pub record RegisterFile (T : Type 0) : Type 0 where
   pub organisation : OrgShape

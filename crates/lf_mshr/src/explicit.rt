@@ -2,9 +2,9 @@
 
 ghost use Rattle.std.specs.Prelude.{◌≡◌, ◌⊎◌, ◌*◌, ◌<◌, ◌≤◌, ◌++◌, ◌∷◌, [], vec_capacity, count_by, ◌==◌, ◌&&◌, nat_lt, true, false, ℕ};
 ghost use Rattle.std.specs.List.{list_any, range_with_len};
-ghost use Rattle.lf_model.specs.Registers.{holds, holds_in, has_room};
-ghost use Rattle.lf_model.specs.declared.shape.OrgShape.TheVariants as shape;
-ghost use Rattle.lf_model.specs.Sharing.{HoldsOnce};
+ghost use Rattle.lf_rules.specs.Registers.{holds, holds_in, has_room};
+ghost use Rattle.lf_rules.specs.declared.shape.OrgShape.TheVariants as shape;
+ghost use Rattle.lf_rules.specs.Sharing.{HoldsOnce};
 ghost use Rattle.lf_mshr.specs.Bounds.{IsWithin};
 ghost use Rattle.lf_mshr.specs.RegisterFile.{held_item};
 
@@ -14,7 +14,7 @@ use crate::held::{
 };
 use crate::organisation::Organisation;
 use crate::target::Target;
-use lf_model::{Mask, NoMemory, OrgShape};
+use lf_rules::{Mask, NoMemory, OrgShape};
 use std::alloc::Global;
 use std::marker::PhantomData;
 

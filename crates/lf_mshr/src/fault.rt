@@ -3,7 +3,7 @@
 ghost use Rattle.std.specs.Prelude.{◌≡◌};
 ghost use Rattle.lf_mshr.specs.Faults.{rule_of};
 
-use lf_model::Rule;
+use lf_rules::Rule;
 
 /// Why a register does not take a target, in the order in which the causes are looked at.
 #[derive(Clone, Copy, Debug, PartialEq, Eq)]

@@ -2,12 +2,12 @@
 
 ghost use Rattle.std.specs.Prelude.{◌≡◌, ℕ, ◌≤◌, ◌==◌, ◌&&◌, length, map, count_by, vec_capacity, bit_or};
 ghost use Rattle.std.specs.List.{list_any, range_with_len, fold};
-ghost use Rattle.lf_model.specs.Registers.{holds, is_free, holds_in, targets_of, released};
+ghost use Rattle.lf_rules.specs.Registers.{holds, is_free, holds_in, targets_of, released};
 ghost use Rattle.lf_mshr.specs.RegisterFile.{released_pair, store_mask};
 
 use crate::target::Target;
 use arrayvec::ArrayVec;
-use lf_model::Mask;
+use lf_rules::Mask;
 use std::marker::Model;
 
 /// The targets of a block, each with the register that held it, in the order of acceptance.
@@ -22,7 +22,7 @@ pub struct Held<T> {
 }
 
 impl<T> Model for Held<T> {
-    ghost use Rattle.lf_model.specs.Registers as model;
+    ghost use Rattle.lf_rules.specs.Registers as model;
 
     ghost Value = { model.Held T };
 

@@ -1,7 +1,7 @@
 //! Inverted files: a register for each destination.
 
 ghost use Rattle.std.specs.Prelude.{◌≡◌, ◌<◌, ◌≤◌, ◌++◌, ◌∷◌, [], vec_capacity, true};
-ghost use Rattle.lf_model.specs.Registers.{is_free};
+ghost use Rattle.lf_rules.specs.Registers.{is_free};
 ghost use Rattle.lf_mshr.specs.RegisterFile.{held_item};
 ghost use Rattle.lf_mshr.specs.Bounds.{IsWithin};
 
@@ -9,7 +9,7 @@ use crate::fault::RegisterFault;
 use crate::held::{Held, Targets, holds, is_free, release_into, store_bytes};
 use crate::organisation::Organisation;
 use crate::target::Target;
-use lf_model::{Mask, NoMemory, OrgShape};
+use lf_rules::{Mask, NoMemory, OrgShape};
 use std::alloc::Global;
 use std::marker::PhantomData;
 

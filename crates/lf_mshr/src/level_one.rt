@@ -3,7 +3,7 @@
 ghost use Rattle.std.specs.Prelude.{◌<◌};
 
 use crate::target::Target;
-use lf_model::Mask;
+use lf_rules::Mask;
 
 /// A target at level one.
 #[derive(Clone, Copy, Debug, PartialEq, Eq)]

@@ -3,7 +3,7 @@
 ghost use Rattle.std.specs.Prelude.{◌<◌};
 
 use crate::target::Target;
-use lf_model::Mask;
+use lf_rules::Mask;
 
 /// A target at level two: a block that level one asked for. It is never a store.
 #[derive(Clone, Copy, Debug, PartialEq, Eq)]

@@ -1,19 +1,19 @@
 //! How the registers of a file name what they hold.
 
 ghost use Rattle.std.specs.Prelude.{◌≡◌, Bool, true, false, ◌≤◌, ◌↔◌, IsTrue, IfOk, OnOk, OnErr, map};
-ghost use Rattle.lf_model.specs.Clauses.{OfBank};
-ghost use Rattle.lf_model.specs.InRange.{IsOrganisation};
-ghost use Rattle.lf_model.specs.Registers.{holds, shares, targets_of};
-ghost use Rattle.lf_model.specs.Run.{first_failing};
-ghost use Rattle.lf_model.specs.Sharing.{HoldsOnce};
-ghost use Rattle.lf_model.specs.declared.shape.OrgShape.{OrgShape};
+ghost use Rattle.lf_rules.specs.Clauses.{OfBank};
+ghost use Rattle.lf_rules.specs.InRange.{IsOrganisation};
+ghost use Rattle.lf_rules.specs.Registers.{holds, shares, targets_of};
+ghost use Rattle.lf_rules.specs.Run.{first_failing};
+ghost use Rattle.lf_rules.specs.Sharing.{HoldsOnce};
+ghost use Rattle.lf_rules.specs.declared.shape.OrgShape.{OrgShape};
 ghost use Rattle.lf_mshr.specs.Faults.{refusal_of, broken_rule};
 ghost use Rattle.lf_mshr.specs.RegisterFile.{RegisterFile, empty_file, with_target, without_block, released_pair, primary_wants, merge_wants, has_room_for, store_bytes, SomeTakes};
 
 use crate::fault::RegisterFault;
 use crate::held::Targets;
 use crate::target::Target;
-use lf_model::{Mask, NoMemory, OrgShape};
+use lf_rules::{Mask, NoMemory, OrgShape};
 use std::alloc::Global;
 
 /// A way to organise the registers of one level of one bank.

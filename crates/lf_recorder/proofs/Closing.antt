@@ -11,13 +11,13 @@ use Rattle.std.proofs.lemmas.List.{get_or_past, length-replicate, length-map, se
 use Rattle.std.proofs.lemmas.Option.{slice_get-get_or, slice_get-map}
 use Rattle.std.specs.Option.{option_map}
 use Rattle.atomic_table.specs.Table.{Final, Seen}
-use Rattle.lf_model.specs.declared.event.Record.{Record}
+use Rattle.lf_rules.specs.declared.event.Record.{Record}
 use Rattle.lf_recorder.specs.declared.rule.View.TheVariants.{Collector, Log, Spent}
-use Rattle.lf_model.specs.Run.{of_log}
+use Rattle.lf_rules.specs.Run.{of_log}
 use Rattle.lf_recorder.specs.Rule.{DeskState, Mine, IsListOf, Kept, with_log}
 use Rattle.lf_recorder.proofs.Places.{at_within}
 use Rattle.lf_recorder.specs.Desk.{SeatView, entry_of, placed, HasSeat, HoldSeats}
-use Rattle.lf_model.specs.CommonOrder.{HasCommonOrder}
+use Rattle.lf_rules.specs.CommonOrder.{HasCommonOrder}
 use Rattle.lf_recorder.proofs.Numbered.{keeps_numbers}
 
 pub placed_snoc : (logs : List (List Record)) (ss : List SeatView) (s : SeatView) → placed logs (ss ++ s ∷ []) ≡ set (placed logs ss) s.log s.records

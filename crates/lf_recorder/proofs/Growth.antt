@@ -7,9 +7,9 @@ use Rattle.std.proofs.lemmas.List.{append-nil}
 use Rattle.std.proofs.lemmas.Option.{slice_get_within}
 use Rattle.std.proofs.lemmas.List.Elements.{filter-append, All-filter, All-nil, All-cons}
 use Rattle.std.proofs.lemmas.List.Filters.{length-filter_both}
-use Rattle.lf_model.specs.declared.event.Record.{Record}
-use Rattle.lf_model.specs.Address.{no_bank}
-use Rattle.lf_model.specs.Run.{of_log, of_bank}
+use Rattle.lf_rules.specs.declared.event.Record.{Record}
+use Rattle.lf_rules.specs.Address.{no_bank}
+use Rattle.lf_rules.specs.Run.{of_log, of_bank}
 use Rattle.lf_recorder.specs.Rule.{CountsUp}
 use Rattle.lf_recorder.proofs.Places.{slice_get_snoc, filter_no_longer, filter_out}
 

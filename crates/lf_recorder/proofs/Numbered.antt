@@ -3,8 +3,8 @@ use Rattle.std.proofs.Common.{◌≡◌, ℕ, suc, ◌+◌, List, [], ◌∷◌,
 use Rattle.std.specs.Prelude.{slice_get}
 use Rattle.std.specs.List.{range_with_len}
 use mathlib.Core.Path.{ap₂}
-use Rattle.lf_model.specs.declared.event.Record.{Record}
-use Rattle.lf_model.specs.Run.{of_bank, KeepsNumbers}
+use Rattle.lf_rules.specs.declared.event.Record.{Record}
+use Rattle.lf_rules.specs.Run.{of_bank, KeepsNumbers}
 use Rattle.lf_recorder.specs.Rule.{CountsUp}
 
 counts_from : (start : ℕ) (rs : List Record) → ((k : ℕ) (r : Record) → slice_get rs k ≡ Some r → r.number ≡ start + k)

@@ -8,12 +8,12 @@ use lib.ListN.{get_elem?}
 use Rattle.atomic_table.specs.Table.{step, keeps, stepped, opening, Allows, Splits, Joins}
 use Rattle.atomic_table.proofs.Lists.{at_set, at_longer, set_here, set_else}
 use Rattle.std.proofs.lemmas.List.Filters.{length-filter_both}
-use Rattle.lf_model.specs.declared.event.Record.{Record}
-use Rattle.lf_model.specs.declared.event.Event.{Event}
+use Rattle.lf_rules.specs.declared.event.Record.{Record}
+use Rattle.lf_rules.specs.declared.event.Event.{Event}
 use Rattle.lf_recorder.specs.declared.rule.View.{View}
 use Rattle.lf_recorder.specs.declared.rule.View.TheVariants.{Collector, Log, Spent}
-use Rattle.lf_model.specs.Address.{no_bank}
-use Rattle.lf_model.specs.Run.{of_log, of_bank}
+use Rattle.lf_rules.specs.Address.{no_bank}
+use Rattle.lf_rules.specs.Run.{of_log, of_bank}
 use Rattle.lf_recorder.specs.Rule.{DeskState, Fits, IsListOf, Kept, IsAbove, Draws, fence_of, Passes, new_collector}
 use Rattle.lf_recorder.proofs.Places.{slice_get_snoc, at_snoc_place, at_within}
 use Rattle.lf_recorder.proofs.Growth.{of_log_own, of_log_other, of_bank_own, of_bank_other, size_bound, log_below, keeps_more}

@@ -1,10 +1,10 @@
 -- What contracts see of a desk and of a seat, and what they say.
 use Rattle.std.specs.Prelude.{◌≡◌, ◌==◌, ◌+◌, ◌^◌, ℕ, Bool, true, false, cond, not, ◌||◌, ◌&&◌, nat_lt, nat_le, List, [], ◌∷◌, ◌++◌, length, slice_get, slice_set, ◌≢◌, Any, All, ◌<◌, Option, None, Some}
 use Rattle.atomic_table.specs.Seated.{TableId}
-use Rattle.lf_model.specs.Address.{no_bank}
-use Rattle.lf_model.specs.declared.event.Record.{Record}
-use Rattle.lf_model.specs.declared.event.Event.{Event}
-use Rattle.lf_model.specs.declared.event.Event.TheVariants.{Issue, Reply, Fence, SecondMerge}
+use Rattle.lf_rules.specs.Address.{no_bank}
+use Rattle.lf_rules.specs.declared.event.Record.{Record}
+use Rattle.lf_rules.specs.declared.event.Event.{Event}
+use Rattle.lf_rules.specs.declared.event.Event.TheVariants.{Issue, Reply, Fence, SecondMerge}
 use Rattle.lf_recorder.specs.declared.fault.RecordFault.{RecordFault}
 use Rattle.lf_recorder.specs.declared.fault.RecordFault.TheVariants.{LogKind, BankRange, LogFull}
 

@@ -3,13 +3,13 @@ use Rattle.std.specs.Prelude.{◌≡◌, ℕ, ◌+◌, ◌^◌, ◌<◌, ◌≤�
 use mathlib.Core.Option.{some}
 use lib.ListN.{get_elem?}
 use Rattle.atomic_table.specs.Table.{State, Me, Step}
-use Rattle.lf_model.specs.declared.event.Record.{Record}
-use Rattle.lf_model.specs.declared.event.Event.{Event}
-use Rattle.lf_model.specs.declared.event.Event.TheVariants.{Fence}
-use Rattle.lf_model.specs.Address.{no_bank}
+use Rattle.lf_rules.specs.declared.event.Record.{Record}
+use Rattle.lf_rules.specs.declared.event.Event.{Event}
+use Rattle.lf_rules.specs.declared.event.Event.TheVariants.{Fence}
+use Rattle.lf_rules.specs.Address.{no_bank}
 use Rattle.lf_recorder.specs.declared.rule.View.{View}
 use Rattle.lf_recorder.specs.declared.rule.View.TheVariants.{Collector, Log, Spent}
-use Rattle.lf_model.specs.Run.{of_log, of_bank}
+use Rattle.lf_rules.specs.Run.{of_log, of_bank}
 
 -- the records of each bank carry 0, 1, 2, .. in their order; those that name no bank are not among them
 abbrev pub CountsUp : List Record → Type 0

@@ -5,15 +5,15 @@ ghost use Rattle.lf_recorder.specs.declared.rule.View.TheVariants.{Collector, Lo
 ghost use Rattle.lf_recorder.specs.Rule.{IsAbove, fence_of};
 ghost use Rattle.lf_recorder.specs.Desk.{with_record, refusal_of, is_port_event, first_version, most_records, is_own_bank, new_seat as new_seat_of, logs_of, opened, entry_of, placed, AreNewSeats, HasSeat, HoldSeats, IsLowestWithout};
 ghost use Rattle.lf_recorder.specs.Closing.{HandsBack};
-ghost use Rattle.lf_model.specs.Address.{no_bank};
-ghost use Rattle.lf_model.specs.declared.event.Event.TheVariants as Event;
-ghost use Rattle.lf_model.specs.CommonOrder.{HasCommonOrder};
+ghost use Rattle.lf_rules.specs.Address.{no_bank};
+ghost use Rattle.lf_rules.specs.declared.event.Event.TheVariants as Event;
+ghost use Rattle.lf_rules.specs.CommonOrder.{HasCommonOrder};
 
 use crate::desk_seat::DeskSeat;
 use crate::fault::{CloseFault, OpenFault, RecordFault};
 use crate::rule::{DeskShared, DeskTable, Draw, NextLog, Noted, Pass, Takes, View};
 use atomic_table::Seat;
-use lf_model::{Event, Logs, NO_BANK, NoMemory, Record};
+use lf_rules::{Event, Logs, NO_BANK, NoMemory, Record};
 use std::alloc::{AllocError, Global};
 use std::marker::{Brand, Model};
 

@@ -4,7 +4,7 @@
 ghost use Rattle.std.specs.Prelude.{ℕ};
 
 use atomic_table::{Join, Play, Shared, Split, Table, TableRule};
-use lf_model::Record;
+use lf_rules::Record;
 use std::alloc::Global;
 use std::collections::LinkedList;
 use std::marker::{Brand, PhantomData};
@@ -32,13 +32,13 @@ impl TableRule<(), View, u64> for Numbering {
 
 /// The event that a draw records.
 pub trait Noted {
-    ghost use Rattle.lf_model.specs.declared.event.Event.{Event};
+    ghost use Rattle.lf_rules.specs.declared.event.Event.{Event};
 
     ghost event: { Event };
 }
 
 impl Noted for Brand {
-    ghost use Rattle.lf_model.specs.declared.event.Event.TheVariants.{Hit};
+    ghost use Rattle.lf_rules.specs.declared.event.Event.TheVariants.{Hit};
 
     ghost event = { Hit 0 0 };
 }

@@ -2,7 +2,7 @@ ghost use Rattle.std.specs.Prelude.{◌≡◌, All, IfOk, IfSome};
 
 use crate::desk::{Desk, LogSeat};
 use crate::fault::{CloseFault, OpenFault, RecordFault};
-use lf_model::{Block, Event, NO_BANK, Op};
+use lf_rules::{Block, Event, NO_BANK, Op};
 use std::alloc::AllocError;
 use std::test::Fail;
 use std::thread;

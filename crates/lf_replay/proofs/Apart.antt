@@ -1,19 +1,19 @@
 -- Each event keeps where the blocks of a bank stand.
 use Rattle.std.proofs.Common.{◌≡◌, ℕ, Bool, true, false, cond, not, ◌&&◌, ◌||◌, ◌==◌, List, [], ◌∷◌, ◌++◌, map, ◌<◌, subst, Some, None, refl, sym, ap, ◌∙◌, eqb-true}
 use Rattle.std.proofs.lemmas.Bool.{both_ways}
-use Rattle.lf_model.specs.declared.shape.Shape.{Shape}
-use Rattle.lf_model.specs.declared.event.Event.{Event}
-use Rattle.lf_model.specs.declared.event.Event.TheVariants.{Issue, Reply, Hit, Primary, Merge, Stall, Fill1, Evict1, SecondHit, SecondPrimary, SecondStall, Fill2, Evict2, SecondMerge, Fence}
-use Rattle.lf_model.specs.Registers.{Held, holds, targets_of}
-use Rattle.lf_model.specs.Address.{second_of}
-use Rattle.lf_model.specs.Lines.{has_line}
-use Rattle.lf_model.specs.State.{Missed, Ready, Asked, Slice, idle}
-use Rattle.lf_model.specs.Table.{OfBank, Clause, rules_of, slice_after, is_asked, is_among, oldest, miss, block_asked}
-use Rattle.lf_model.specs.Run.{judges, first_failing}
-use Rattle.lf_model.proofs.Clauses.{this_holds, others_hold}
+use Rattle.lf_rules.specs.declared.shape.Shape.{Shape}
+use Rattle.lf_rules.specs.declared.event.Event.{Event}
+use Rattle.lf_rules.specs.declared.event.Event.TheVariants.{Issue, Reply, Hit, Primary, Merge, Stall, Fill1, Evict1, SecondHit, SecondPrimary, SecondStall, Fill2, Evict2, SecondMerge, Fence}
+use Rattle.lf_rules.specs.Registers.{Held, holds, targets_of}
+use Rattle.lf_rules.specs.Address.{second_of}
+use Rattle.lf_rules.specs.Lines.{has_line}
+use Rattle.lf_rules.specs.State.{Missed, Ready, Asked, Slice, idle}
+use Rattle.lf_rules.specs.Table.{OfBank, Clause, rules_of, slice_after, is_asked, is_among, oldest, miss, block_asked}
+use Rattle.lf_rules.specs.Run.{judges, first_failing}
+use Rattle.lf_rules.proofs.Clauses.{this_holds, others_hold}
 use Rattle.lf_replay.specs.Apart.{asks_for, AreHome, stands, EachStands}
 use Rattle.lf_replay.proofs.Places.{asked_among, asks_gone}
-use Rattle.lf_model.proofs.CopyStep.{is_apart_at}
+use Rattle.lf_rules.proofs.CopyStep.{is_apart_at}
 use Rattle.lf_replay.proofs.Blocks.{has_put, has_gone, any_push, any_gone}
 
 -- ---- the clauses of a bank, all of which hold

@@ -6,7 +6,7 @@ use Rattle.std.specs.Cmp.{nat_cmp_total, unsigned_tied, ranked}
 use Rattle.std.specs.FinMap.Entries.{find, put, by_order, find-put, find-where_key}
 use Rattle.std.specs.List.{list_any, filter}
 use Rattle.std.proofs.lemmas.Bool.{eqb-false}
-use Rattle.lf_model.specs.Lines.{line_at, has_line, with_line, without_line}
+use Rattle.lf_rules.specs.Lines.{line_at, has_line, with_line, without_line}
 
 flip : (a b : ℕ) → (a == b) ≡ (b == a)
 flip a b = elim (a == b) as (λ t. (a == b) ≡ t → t ≡ (b == a)) [

@@ -15,11 +15,11 @@ use Rattle.std.proofs.Math.Nat.{mod-eq_of_lt, one-le-pow, pow-le-pow_right}
 use Rattle.std.specs.List.{range_with_len, filter, list_all}
 use borrow.Rule.Slice.PartMut.{put_mid}
 use Rattle.arrayvec.specs.ArrayVec.{ArrayVec}
-use Rattle.lf_model.specs.declared.shape.Shape.{Shape}
-use Rattle.lf_model.specs.declared.event.Op.TheVariants.{Load, Store}
-use Rattle.lf_model.specs.Address.{FlatMemory, bank_of, flat_memory, is_under, agree_off, masked}
-use Rattle.lf_model.specs.State.{update, Request}
-use Rattle.lf_model.specs.Table.{value_of}
+use Rattle.lf_rules.specs.declared.shape.Shape.{Shape}
+use Rattle.lf_rules.specs.declared.event.Op.TheVariants.{Load, Store}
+use Rattle.lf_rules.specs.Address.{FlatMemory, bank_of, flat_memory, is_under, agree_off, masked}
+use Rattle.lf_rules.specs.State.{update, Request}
+use Rattle.lf_rules.specs.Table.{value_of}
 use Rattle.lf_replay.specs.Bytes.{flat_of, bank_part, put}
 
 pub zeros : (n place : ℕ) → get_or (replicate {A = ℕ} n 0) place 0 ≡ 0

@@ -2,15 +2,15 @@
 use Rattle.std.proofs.Common.{◌≡◌, ℕ, zero, suc, ◌/◌, ◌<◌, Bool, true, false, not, ◌&&◌, nat_lt, List, [], ◌∷◌, length, None, sym, ap, ◌∙◌, eqb-true, arith}
 use Rattle.std.proofs.lemmas.Bool.{lt-ltb}
 use mathlib.Core.Path.{ap₂}
-use Rattle.lf_model.specs.declared.rule.Rule.{Rule}
-use Rattle.lf_model.specs.declared.rule.Rule.TheVariants.{NotHead, Present}
-use Rattle.lf_model.specs.declared.shape.Shape.{Shape}
-use Rattle.lf_model.specs.Clauses.{Clause, OfBank, bank_wants}
-use Rattle.lf_model.specs.Lines.{Lines, has_line}
-use Rattle.lf_model.specs.Registers.{Held, primary_clauses, merge_clauses}
-use Rattle.lf_model.specs.Run.{first_failing}
-use Rattle.lf_model.specs.State.{Request, Missed}
-use Rattle.lf_model.specs.Table.{is_head, oldest, destination, destinations, position}
+use Rattle.lf_rules.specs.declared.rule.Rule.{Rule}
+use Rattle.lf_rules.specs.declared.rule.Rule.TheVariants.{NotHead, Present}
+use Rattle.lf_rules.specs.declared.shape.Shape.{Shape}
+use Rattle.lf_rules.specs.Clauses.{Clause, OfBank, bank_wants}
+use Rattle.lf_rules.specs.Lines.{Lines, has_line}
+use Rattle.lf_rules.specs.Registers.{Held, primary_clauses, merge_clauses}
+use Rattle.lf_rules.specs.Run.{first_failing}
+use Rattle.lf_rules.specs.State.{Request, Missed}
+use Rattle.lf_rules.specs.Table.{is_head, oldest, destination, destinations, position}
 use Rattle.lf_replay.specs.Kept.{queue_at}
 
 one_holds : (rule : Rule) (a : Bool) (rest : List Clause) → a ≡ true → first_failing OfBank rest ≡ None → first_failing OfBank (bank_wants rule a ∷ rest) ≡ None

@@ -1,11 +1,11 @@
 -- Where the blocks of a bank stand, by what the bank keeps.
 use Rattle.std.proofs.Common.{◌≡◌, ◌<◌, ℕ, List, [], ◌∷◌, Bool, true, false, not, ◌&&◌, ◌||◌, refl, sym, ◌∙◌, subst}
-use Rattle.lf_model.specs.Lines.{has_line}
-use Rattle.lf_model.specs.Address.{second_of}
-use Rattle.lf_model.specs.Registers.{holds}
+use Rattle.lf_rules.specs.Lines.{has_line}
+use Rattle.lf_rules.specs.Address.{second_of}
+use Rattle.lf_rules.specs.Registers.{holds}
 use Rattle.std.specs.List.{AllByRecursion}
-use Rattle.lf_model.specs.State.{Request, Local}
-use Rattle.lf_model.specs.Table.{is_among, is_asked, is_head, oldest}
+use Rattle.lf_rules.specs.State.{Request, Local}
+use Rattle.lf_rules.specs.Table.{is_among, is_asked, is_head, oldest}
 use Rattle.lf_mshr.proofs.Alike.{holds-alike}
 use Rattle.lf_replay.specs.Apart.{asks_for, is_absent_if_fetched, stands, stands_at}
 use Rattle.lf_replay.specs.Kept.{Kept, local_of, queue_at}

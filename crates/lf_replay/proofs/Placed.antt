@@ -1,10 +1,10 @@
 -- Registers after a target was placed or a block released, and the requests that they tell of then.
 use Rattle.std.proofs.Common.{◌≡◌, ◌==◌, not, ℕ, List, [], ◌∷◌, ◌++◌, refl, sym, subst}
-use Rattle.lf_model.specs.declared.shape.Shape.{Shape}
-use Rattle.lf_model.specs.Address.{FlatMemory, second_of, place_of}
-use Rattle.lf_model.specs.Registers.{Held, released}
-use Rattle.lf_model.specs.State.{Request, Missed, Asked}
-use Rattle.lf_model.specs.Table.{block_asked}
+use Rattle.lf_rules.specs.declared.shape.Shape.{Shape}
+use Rattle.lf_rules.specs.Address.{FlatMemory, second_of, place_of}
+use Rattle.lf_rules.specs.Registers.{Held, released}
+use Rattle.lf_rules.specs.State.{Request, Missed, Asked}
+use Rattle.lf_rules.specs.Table.{block_asked}
 use Rattle.lf_mshr.specs.Alike.{IsAlike, AreAlike}
 use Rattle.lf_mshr.specs.RegisterFile.{RegisterFile, held_item, with_target, without_block}
 use Rattle.lf_mshr.specs.declared.level_one.Request1.{Request1}
@@ -12,7 +12,7 @@ use Rattle.lf_mshr.specs.declared.level_two.Request2.{Request2}
 use Rattle.lf_mshr.proofs.Alike.{AreAlike-push, released-alike}
 use Rattle.lf_replay.specs.Tells.{Tells, TellsAsked, miss_of}
 use Rattle.lf_replay.specs.Apart.{AreHome}
-use Rattle.lf_model.proofs.CopyStep.{push_all, filter_all}
+use Rattle.lf_rules.proofs.CopyStep.{push_all, filter_all}
 
 pub placed1 : (shape after : Shape) (old new : RegisterFile Request1) (waiting : List (Held Missed)) (register block port : ℕ) (target : Request1) (memory : FlatMemory) (request oldest : Request)
     → after ≡ shape → AreAlike (Tells shape) old.held waiting → new ≡ with_target old register block target → block ≡ request.block → request ≡ oldest

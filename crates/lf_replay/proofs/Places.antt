@@ -5,14 +5,14 @@ use Rattle.std.specs.Prelude.{bit_or, slice_set}
 use Rattle.std.specs.List.{range_with_len, list_all, list_any}
 use Rattle.std.specs.Int.Bits.{or_zero_r}
 use Rattle.std.proofs.lemmas.Bool.{both_ways, eqb-false}
-use Rattle.lf_model.specs.declared.mask.Mask.{Mask}
-use Rattle.lf_model.specs.declared.shape.Shape.{Shape}
-use Rattle.lf_model.specs.Address.{Masks, second_of, clean_mask}
-use Rattle.lf_model.specs.Fits.{is_factor}
-use Rattle.lf_model.specs.Lines.{marked}
-use Rattle.lf_model.specs.Registers.{Held, targets_of, released}
-use Rattle.lf_model.specs.State.{Asked}
-use Rattle.lf_model.specs.Table.{is_among, block_asked}
+use Rattle.lf_rules.specs.declared.mask.Mask.{Mask}
+use Rattle.lf_rules.specs.declared.shape.Shape.{Shape}
+use Rattle.lf_rules.specs.Address.{Masks, second_of, clean_mask}
+use Rattle.lf_rules.specs.Fits.{is_factor}
+use Rattle.lf_rules.specs.Lines.{marked}
+use Rattle.lf_rules.specs.Registers.{Held, targets_of, released}
+use Rattle.lf_rules.specs.State.{Asked}
+use Rattle.lf_rules.specs.Table.{is_among, block_asked}
 use Rattle.lf_levels.specs.LineTable.{joined}
 use Rattle.lf_replay.specs.Apart.{asks_for, AreHome}
 use Rattle.lf_replay.specs.Places.{alone}

@@ -2,24 +2,24 @@
 use Rattle.std.proofs.Common.{◌≡◌, ◌<◌, ℕ, Bool, true, false, cond, ◌==◌, List, [], ◌∷◌, ◌++◌, drop, Result, Ok, Err, None, refl, sym, ap, ◌∙◌, subst, ltb-true}
 use Rattle.std.specs.List.{AllByRecursion}
 use Rattle.std.specs.Prelude.{OnErr}
-use Rattle.lf_model.specs.declared.shape.Shape.{Shape}
-use Rattle.lf_model.specs.declared.event.Event.{Event}
-use Rattle.lf_model.specs.declared.shape.OrgShape.{OrgShape}
-use Rattle.lf_model.specs.Address.{FlatMemory}
-use Rattle.lf_model.specs.Outcomes.{first_local}
+use Rattle.lf_rules.specs.declared.shape.Shape.{Shape}
+use Rattle.lf_rules.specs.declared.event.Event.{Event}
+use Rattle.lf_rules.specs.declared.shape.OrgShape.{OrgShape}
+use Rattle.lf_rules.specs.Address.{FlatMemory}
+use Rattle.lf_rules.specs.Outcomes.{first_local}
 use Rattle.lf_mshr.specs.Alike.{AreAlike}
 use Rattle.lf_mshr.specs.RegisterFile.{RegisterFile, empty_file}
 use Rattle.lf_mshr.specs.declared.level_one.Request1.{Request1}
 use Rattle.lf_mshr.specs.declared.level_two.Request2.{Request2}
 use Rattle.lf_replay.specs.Tells.{Tells, TellsAsked}
-use Rattle.lf_model.specs.declared.event.Event.TheVariants.{Issue, Reply, Hit, Primary, Merge, Stall, Fill1, Evict1, SecondHit, SecondPrimary, SecondStall, Fill2, Evict2, SecondMerge, Fence}
-use Rattle.lf_model.specs.State.{Request, Ready, Slice, Local, idle, update}
-use Rattle.lf_model.specs.Table.{OfBank, rules_of, slice_after, carries, value_at, accepts, replies_at, request_of, destinations, destinations2}
-use Rattle.lf_model.specs.Run.{first_failing}
+use Rattle.lf_rules.specs.declared.event.Event.TheVariants.{Issue, Reply, Hit, Primary, Merge, Stall, Fill1, Evict1, SecondHit, SecondPrimary, SecondStall, Fill2, Evict2, SecondMerge, Fence}
+use Rattle.lf_rules.specs.State.{Request, Ready, Slice, Local, idle, update}
+use Rattle.lf_rules.specs.Table.{OfBank, rules_of, slice_after, carries, value_at, accepts, replies_at, request_of, destinations, destinations2}
+use Rattle.lf_rules.specs.Run.{first_failing}
 use Rattle.lf_replay.specs.declared.fault.BankFault.{BankFault}
 use Rattle.lf_replay.specs.Kept.{Kept, local_of, after_event, IsFile1, IsFile2}
 use Rattle.lf_replay.specs.Shows.{AreTagged, IsReached, Keeps, Shows, IsAnswer, AnswerOf}
-use Rattle.lf_model.specs.InRange.{IsShape}
+use Rattle.lf_rules.specs.InRange.{IsShape}
 use Rattle.lf_replay.proofs.Places.{factor_some}
 use Rattle.lf_replay.proofs.Apart.{facts, stands_after}
 

@@ -4,23 +4,23 @@ use mathlib.Core.Path.{ap₂, fun_ext}
 use Rattle.std.specs.List.{AllByRecursion, range_with_len}
 use Rattle.std.proofs.lemmas.List.{get_or-map, take_more, take-append-drop, length-take-le, length-append, map-append}
 use Rattle.lf_replay.proofs.Bytes.{range_more}
-use Rattle.lf_model.specs.Fits.{Fits}
+use Rattle.lf_rules.specs.Fits.{Fits}
 use Rattle.std.proofs.lemmas.List.FromFn.{get_or-range_with_len}
-use Rattle.lf_model.specs.declared.shape.Shape.{Shape}
-use Rattle.lf_model.specs.declared.event.Record.{Record}
-use Rattle.lf_model.specs.declared.rule.Rule as model
-use Rattle.lf_model.specs.Address.{FlatMemory, bank_of}
-use Rattle.lf_model.specs.Numbers.{numbers_of}
-use Rattle.lf_model.specs.Outcomes.{first_local, IsBankOutcome}
-use Rattle.lf_model.specs.State.{Request, Local}
-use Rattle.lf_model.specs.Table.{OfBank, clauses, bank_effect, value_at, accepts, replies_at}
-use Rattle.lf_model.specs.Run.{first_failing, IsRunOf, BreaksAt}
+use Rattle.lf_rules.specs.declared.shape.Shape.{Shape}
+use Rattle.lf_rules.specs.declared.event.Record.{Record}
+use Rattle.lf_rules.specs.declared.rule.Rule as model
+use Rattle.lf_rules.specs.Address.{FlatMemory, bank_of}
+use Rattle.lf_rules.specs.Numbers.{numbers_of}
+use Rattle.lf_rules.specs.Outcomes.{first_local, IsBankOutcome}
+use Rattle.lf_rules.specs.State.{Request, Local}
+use Rattle.lf_rules.specs.Table.{OfBank, clauses, bank_effect, value_at, accepts, replies_at}
+use Rattle.lf_rules.specs.Run.{first_failing, IsRunOf, BreaksAt}
 use Rattle.lf_replay.specs.declared.fault.BankFault.{BankFault}
 use Rattle.lf_replay.specs.declared.fault.BankFault.TheVariants.{Rule, NoMemory}
-use Rattle.lf_model.specs.declared.outcome.Outcome.{Outcome}
-use Rattle.lf_model.specs.declared.outcome.Outcome.TheVariants as outcome
-use Rattle.lf_model.proofs.FitFacts.{names_home}
-use Rattle.lf_model.proofs.Locality.{SameBank, IsHome, bank_clauses_same, bank_effect_same, home_after}
+use Rattle.lf_rules.specs.declared.outcome.Outcome.{Outcome}
+use Rattle.lf_rules.specs.declared.outcome.Outcome.TheVariants as outcome
+use Rattle.lf_rules.proofs.FitFacts.{names_home}
+use Rattle.lf_rules.proofs.Locality.{SameBank, IsHome, bank_clauses_same, bank_effect_same, home_after}
 use Rattle.lf_replay.specs.Bytes.{bank_part}
 use Rattle.std.specs.Prelude.{OnOk, IfErr}
 use Rattle.lf_replay.specs.Kept.{Kept, after_event}

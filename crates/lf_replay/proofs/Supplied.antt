@@ -3,12 +3,12 @@ use Rattle.std.proofs.Common.{◌≡◌, ℕ, zero, suc, ◌+◌, ◌<◌, ◌�
 use mathlib.Core.Path.{ap₂}
 use Rattle.std.specs.List.{AllByRecursion}
 use Rattle.std.proofs.lemmas.List.{take_all, take_more, map-append}
-use Rattle.lf_model.specs.declared.shape.Shape.{Shape}
-use Rattle.lf_model.specs.Address.{second_of, place_of, sub_block}
-use Rattle.lf_model.specs.Registers.{Held, targets_of}
-use Rattle.lf_model.specs.State.{Asked}
-use Rattle.lf_model.specs.Table.{block_asked}
-use Rattle.lf_model.proofs.Wide.{sub_of_block}
+use Rattle.lf_rules.specs.declared.shape.Shape.{Shape}
+use Rattle.lf_rules.specs.Address.{second_of, place_of, sub_block}
+use Rattle.lf_rules.specs.Registers.{Held, targets_of}
+use Rattle.lf_rules.specs.State.{Asked}
+use Rattle.lf_rules.specs.Table.{block_asked}
+use Rattle.lf_rules.proofs.Wide.{sub_of_block}
 use Rattle.lf_mshr.specs.declared.level_two.Request2.{Request2}
 use Rattle.lf_mshr.specs.Alike.{AreAlike}
 use Rattle.lf_mshr.specs.RegisterFile.{released_pair}

@@ -1,10 +1,10 @@
 -- Three clauses of a bank that all hold, and a free way.
 use Rattle.std.proofs.Common.{◌≡◌, ℕ, Bool, true, false, not, [], ◌∷◌, Some, None, refl, sym, ◌∙◌}
 use Rattle.lf_levels.specs.LineTable.{LineTable, is_full}
-use Rattle.lf_model.specs.Lines.{has_way}
-use Rattle.lf_model.specs.declared.rule.Rule.{Rule}
-use Rattle.lf_model.specs.Clauses.{OfBank, bank_wants}
-use Rattle.lf_model.specs.Run.{first_failing}
+use Rattle.lf_rules.specs.Lines.{has_way}
+use Rattle.lf_rules.specs.declared.rule.Rule.{Rule}
+use Rattle.lf_rules.specs.Clauses.{OfBank, bank_wants}
+use Rattle.lf_rules.specs.Run.{first_failing}
 
 pub three_hold : (first second third : Rule) (a b c : Bool) → a ≡ true → b ≡ true → c ≡ true
     → first_failing OfBank (bank_wants first a ∷ bank_wants second b ∷ bank_wants third c ∷ []) ≡ None

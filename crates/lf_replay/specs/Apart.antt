@@ -1,12 +1,12 @@
 -- Where a block of a bank stands: a fact of each state that a run reaches.
 use Rattle.std.specs.Prelude.{◌≡◌, ℕ, Bool, true, false, not, ◌&&◌, ◌||◌, ◌==◌, List}
 use Rattle.std.specs.List.{list_any, AllByRecursion}
-use Rattle.lf_model.specs.declared.shape.Shape.{Shape}
-use Rattle.lf_model.specs.Address.{second_of}
-use Rattle.lf_model.specs.Registers.{Held, holds}
-use Rattle.lf_model.specs.Lines.{has_line}
-use Rattle.lf_model.specs.State.{Asked, Slice}
-use Rattle.lf_model.specs.Table.{is_asked, is_among, block_asked}
+use Rattle.lf_rules.specs.declared.shape.Shape.{Shape}
+use Rattle.lf_rules.specs.Address.{second_of}
+use Rattle.lf_rules.specs.Registers.{Held, holds}
+use Rattle.lf_rules.specs.Lines.{has_line}
+use Rattle.lf_rules.specs.State.{Asked, Slice}
+use Rattle.lf_rules.specs.Table.{is_asked, is_among, block_asked}
 
 -- some level-two register has a target that asks for the block
 abbrev pub asks_for : List (Held Asked) → ℕ → Bool

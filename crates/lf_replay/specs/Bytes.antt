@@ -3,10 +3,10 @@ use Rattle.std.specs.Prelude.{◌≡◌, ℕ, ◌+◌, ◌-◌, ◌==◌, ◌<�
 use Rattle.std.specs.Map.{lookup}
 use Rattle.std.specs.BTreeMap.{is_at}
 use Rattle.std.specs.Ordering.{nat_cmp}
-use Rattle.lf_model.specs.declared.shape.Shape.{Shape}
-use Rattle.lf_model.specs.Address.{FlatMemory, bank_of}
-use Rattle.lf_model.specs.State.{Request}
-use Rattle.lf_model.specs.Table.{is_store}
+use Rattle.lf_rules.specs.declared.shape.Shape.{Shape}
+use Rattle.lf_rules.specs.Address.{FlatMemory, bank_of}
+use Rattle.lf_rules.specs.State.{Request}
+use Rattle.lf_rules.specs.Table.{is_store}
 
 -- the memory that has these bytes at these blocks, and zeros elsewhere
 abbrev pub flat_of : List (ℕ × List ℕ) → FlatMemory

@@ -1,6 +1,6 @@
 -- What a bank's fault says of a record.
 use Rattle.std.specs.Prelude.{◌≡◌, Option, Some, None}
-use Rattle.lf_model.specs.declared.rule.Rule as model
+use Rattle.lf_rules.specs.declared.rule.Rule as model
 use Rattle.lf_replay.specs.declared.fault.BankFault.{BankFault}
 use Rattle.lf_replay.specs.declared.fault.BankFault.TheVariants.{Rule, NoMemory}
 

@@ -1,12 +1,12 @@
 -- What the replay of a bank keeps.
 use Rattle.std.specs.Prelude.{◌≡◌, ℕ, List, [], length, slice_index_or}
-use Rattle.lf_model.specs.declared.shape.Shape.{Shape}
-use Rattle.lf_model.specs.InRange.{IsShape}
-use Rattle.lf_model.specs.Address.{Masks}
-use Rattle.lf_model.specs.Registers.{Held}
-use Rattle.lf_model.specs.State.{Request, Missed, Ready, Asked, Slice, Local, idle}
-use Rattle.lf_model.specs.declared.event.Event.{Event}
-use Rattle.lf_model.specs.Table.{memory_after, slice_after, value_at, accepts, replies_at, destinations, destinations2}
+use Rattle.lf_rules.specs.declared.shape.Shape.{Shape}
+use Rattle.lf_rules.specs.InRange.{IsShape}
+use Rattle.lf_rules.specs.Address.{Masks}
+use Rattle.lf_rules.specs.Registers.{Held}
+use Rattle.lf_rules.specs.State.{Request, Missed, Ready, Asked, Slice, Local, idle}
+use Rattle.lf_rules.specs.declared.event.Event.{Event}
+use Rattle.lf_rules.specs.Table.{memory_after, slice_after, value_at, accepts, replies_at, destinations, destinations2}
 use Rattle.lf_levels.specs.LineTable.{LineTable}
 use Rattle.lf_mshr.specs.RegisterFile.{RegisterFile}
 use Rattle.lf_mshr.specs.declared.level_one.Request1.{Request1}

@@ -1,15 +1,15 @@
 -- The replay of one bank, step by step, against the runs of that bank.
 use Rattle.std.specs.Prelude.{◌≡◌, ℕ, List, [], ◌∷◌, ◌++◌, length}
 use Rattle.std.specs.List.{range_with_len, AllByRecursion}
-use Rattle.lf_model.specs.declared.shape.Shape.{Shape}
-use Rattle.lf_model.specs.declared.event.Record.{Record}
-use Rattle.lf_model.specs.Address.{FlatMemory}
-use Rattle.lf_model.specs.Fits.{Fits}
-use Rattle.lf_model.specs.Numbers.{numbers_of}
-use Rattle.lf_model.specs.Outcomes.{first_local}
-use Rattle.lf_model.specs.State.{Local}
-use Rattle.lf_model.specs.Table.{OfBank, bank_effect}
-use Rattle.lf_model.specs.Run.{IsRunOf, BreaksAt}
+use Rattle.lf_rules.specs.declared.shape.Shape.{Shape}
+use Rattle.lf_rules.specs.declared.event.Record.{Record}
+use Rattle.lf_rules.specs.Address.{FlatMemory}
+use Rattle.lf_rules.specs.Fits.{Fits}
+use Rattle.lf_rules.specs.Numbers.{numbers_of}
+use Rattle.lf_rules.specs.Outcomes.{first_local}
+use Rattle.lf_rules.specs.State.{Local}
+use Rattle.lf_rules.specs.Table.{OfBank, bank_effect}
+use Rattle.lf_rules.specs.Run.{IsRunOf, BreaksAt}
 use Rattle.lf_replay.specs.declared.fault.BankFault.{BankFault}
 use Rattle.lf_replay.specs.declared.fault.BankFault.TheVariants.{Rule, NoMemory}
 use Rattle.lf_replay.specs.Kept.{Kept}

@@ -1,11 +1,11 @@
 -- What the registers of a bank tell of the requests that wait in them.
 use Rattle.std.specs.Prelude.{◌≡◌, ℕ, ◌<◌, List, take, length, if◌then◌else◌}
 use Rattle.std.specs.Int.{to_le_bytes, w64}
-use Rattle.lf_model.specs.declared.shape.Shape.{Shape}
-use Rattle.lf_model.specs.Address.{FlatMemory, mask_of, place_of}
-use Rattle.lf_model.specs.Registers.{Held}
-use Rattle.lf_model.specs.State.{Request, Missed, Ready, Asked}
-use Rattle.lf_model.specs.Table.{destination, is_store, position, value_of}
+use Rattle.lf_rules.specs.declared.shape.Shape.{Shape}
+use Rattle.lf_rules.specs.Address.{FlatMemory, mask_of, place_of}
+use Rattle.lf_rules.specs.Registers.{Held}
+use Rattle.lf_rules.specs.State.{Request, Missed, Ready, Asked}
+use Rattle.lf_rules.specs.Table.{destination, is_store, position, value_of}
 use Rattle.lf_mshr.specs.declared.level_one.Request1.{Request1}
 use Rattle.lf_mshr.specs.declared.level_two.Request2.{Request2}
 

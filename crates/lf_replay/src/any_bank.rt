@@ -1,12 +1,12 @@
 //! The state of a bank of any shape: one of nine pairs of organisations.
 
 ghost use Rattle.std.specs.Prelude.{◌≡◌, List, [], ◌∷◌, ◌++◌, IfOk, OnOk, OnErr, IfErr};
-ghost use Rattle.lf_model.specs.declared.event.Record.{Record};
-ghost use Rattle.lf_model.specs.declared.shape.Shape.{Shape};
-ghost use Rattle.lf_model.specs.Address.{FlatMemory, flat_memory};
-ghost use Rattle.lf_model.specs.Fits.{Fits};
-ghost use Rattle.lf_model.specs.InRange.{IsShape};
-ghost use Rattle.lf_model.specs.Outcomes.{first_local};
+ghost use Rattle.lf_rules.specs.declared.event.Record.{Record};
+ghost use Rattle.lf_rules.specs.declared.shape.Shape.{Shape};
+ghost use Rattle.lf_rules.specs.Address.{FlatMemory, flat_memory};
+ghost use Rattle.lf_rules.specs.Fits.{Fits};
+ghost use Rattle.lf_rules.specs.InRange.{IsShape};
+ghost use Rattle.lf_rules.specs.Outcomes.{first_local};
 ghost use Rattle.lf_replay.specs.AnyBank.{kept_of};
 ghost use Rattle.lf_replay.specs.Bytes.{bank_part};
 ghost use Rattle.lf_replay.specs.Shows.{IsSound, Shows};
@@ -14,8 +14,8 @@ ghost use Rattle.lf_replay.specs.Step.{KeptAfter, IsFaultAfter};
 
 use crate::fault::BankFault;
 use crate::state::BankState;
-use lf_model::{Block, NoMemory, OrgShape, Record, Shape};
 use lf_mshr::{Explicit, Implicit, Inverted, Request1, Request2};
+use lf_rules::{Block, NoMemory, OrgShape, Record, Shape};
 use std::alloc::Global;
 
 /// A bank, by the organisations of level one and of level two.

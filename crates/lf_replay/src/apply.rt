@@ -1,7 +1,7 @@
 //! One record, judged and carried out.
 
 ghost use Rattle.std.specs.Prelude.{◌≡◌};
-ghost use Rattle.lf_model.specs.Fits.{Fits};
+ghost use Rattle.lf_rules.specs.Fits.{Fits};
 ghost use Rattle.lf_replay.specs.Kept.{IsFile1, IsFile2};
 ghost use Rattle.lf_replay.specs.Shows.{IsAnswer, IsSound};
 ghost use Rattle.lf_replay.specs.View.{kept, IsBankFramed};
@@ -9,8 +9,8 @@ ghost use Rattle.lf_replay.specs.View.{kept, IsBankFramed};
 use crate::bank::Bank;
 use crate::fault::BankFault;
 use crate::request::issued;
-use lf_model::{Event, Record};
 use lf_mshr::{Organisation, Request1, Request2};
+use lf_rules::{Event, Record};
 
 impl Bank {
     /// Judges the record, and carries it out where it breaks no rule of the bank.

@@ -2,15 +2,15 @@
 
 ghost use Rattle.std.specs.Prelude.{◌≡◌, ℕ, ◌&&◌, nat_lt, Bool, true, false, [], length, IfOk, MatchOption, option_copied, ◌==◌};
 ghost use Rattle.std.specs.List.{find, list_any};
-ghost use Rattle.lf_model.specs.Table.{is_head, oldest, is_asked, is_among, asked_register, is_ready_for, first_ready};
-ghost use Rattle.lf_model.specs.Address.{flat_memory, place_of};
-ghost use Rattle.lf_model.specs.InRange.{IsShape};
-ghost use Rattle.lf_model.specs.Lines.{dirty_mask, dirty_masks, same_masks};
+ghost use Rattle.lf_rules.specs.Table.{is_head, oldest, is_asked, is_among, asked_register, is_ready_for, first_ready};
+ghost use Rattle.lf_rules.specs.Address.{flat_memory, place_of};
+ghost use Rattle.lf_rules.specs.InRange.{IsShape};
+ghost use Rattle.lf_rules.specs.Lines.{dirty_mask, dirty_masks, same_masks};
 ghost use Rattle.lf_replay.specs.Bytes.{bank_part};
 ghost use Rattle.lf_mshr.specs.RegisterFile.{RegisterFile};
 ghost use Rattle.lf_mshr.specs.declared.level_one.Request1.{Request1};
 ghost use Rattle.lf_mshr.specs.declared.level_two.Request2.{Request2};
-ghost use Rattle.lf_model.specs.Outcomes.{first_local};
+ghost use Rattle.lf_rules.specs.Outcomes.{first_local};
 ghost use Rattle.lf_replay.specs.Kept.{queue_at, local_of};
 ghost use Rattle.lf_replay.specs.View.{kept, IsBankFramed};
 
@@ -19,8 +19,8 @@ use crate::queue::Queue;
 use crate::request::Ready;
 use crate::wide::place_of;
 use lf_levels::{Lines, One, Two, same_masks};
-use lf_model::{Block, Masks, NoMemory, Shape};
 use lf_mshr::{Request1, Request2, Targets};
+use lf_rules::{Block, Masks, NoMemory, Shape};
 use std::alloc::Global;
 
 /// What a bank of both levels holds beside its registers, and its part of flat memory.

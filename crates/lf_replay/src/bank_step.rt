@@ -1,16 +1,16 @@
 //! The replay of one bank, a record at a time.
 
 ghost use Rattle.std.specs.Prelude.{◌≡◌, ℕ, ◌<◌, List, [], ◌∷◌, ◌++◌, IfOk, OnOk, OnErr, IfErr};
-ghost use Rattle.lf_model.specs.declared.shape.Shape.{Shape};
-ghost use Rattle.lf_model.specs.declared.event.Record.{Record};
-ghost use Rattle.lf_model.specs.Address.{FlatMemory, flat_memory};
-ghost use Rattle.lf_model.specs.InRange.{IsShape};
+ghost use Rattle.lf_rules.specs.declared.shape.Shape.{Shape};
+ghost use Rattle.lf_rules.specs.declared.event.Record.{Record};
+ghost use Rattle.lf_rules.specs.Address.{FlatMemory, flat_memory};
+ghost use Rattle.lf_rules.specs.InRange.{IsShape};
 ghost use Rattle.lf_replay.specs.Bytes.{bank_part};
 ghost use Rattle.lf_replay.specs.Step.{StandsAfter, IsForStep, IsFaultAfter};
 
 use crate::any_bank::AnyBank;
 use crate::fault::BankFault;
-use lf_model::{Memory, NoMemory, Record, Shape};
+use lf_rules::{Memory, NoMemory, Record, Shape};
 use std::alloc::Global;
 use std::marker::Model;
 

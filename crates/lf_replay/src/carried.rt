@@ -2,10 +2,10 @@
 
 ghost use Rattle.std.specs.Prelude.{◌≡◌, ◌<◌, ◌≤◌, ◌+◌, ◌*◌, ◌/◌, ◌^◌, List, bytes_eq, length};
 ghost use Rattle.std.specs.List.{list_all};
-ghost use Rattle.lf_model.specs.Address.{agree_off, block_bytes, masked, part_at, sub_block, places, wide_masked};
-ghost use Rattle.lf_model.specs.Registers.{Held};
-ghost use Rattle.lf_model.specs.State.{Missed};
-ghost use Rattle.lf_model.specs.Table.{store_bytes};
+ghost use Rattle.lf_rules.specs.Address.{agree_off, block_bytes, masked, part_at, sub_block, places, wide_masked};
+ghost use Rattle.lf_rules.specs.Registers.{Held};
+ghost use Rattle.lf_rules.specs.State.{Missed};
+ghost use Rattle.lf_rules.specs.Table.{store_bytes};
 ghost use Rattle.lf_mshr.specs.Alike.{AreAlike};
 ghost use Rattle.lf_replay.specs.Bytes.{flat_of};
 ghost use Rattle.lf_replay.specs.Tells.{Tells};
@@ -14,8 +14,8 @@ ghost use Rattle.lf_replay.specs.View.{IsBankFramed};
 use crate::bank::Bank;
 use crate::registers::store_bytes;
 use crate::wide::sub_block;
-use lf_model::{Block, Mask, Masks, WideBlock};
 use lf_mshr::{Organisation, Request1};
+use lf_rules::{Block, Mask, Masks, WideBlock};
 
 impl Bank {
     /// Whether a fill carries memory's bytes, off those of a mask.

@@ -1,6 +1,6 @@
 //! The faults of a bank.
 
-use lf_model::Rule;
+use lf_rules::Rule;
 
 /// Why a bank does not take a record. Its state is then as it was.
 #[derive(Clone, Copy, Debug, PartialEq, Eq)]

@@ -4,11 +4,11 @@
 
 ghost use Rattle.std.specs.Prelude.{◌≡◌, ◌<◌, ◌*◌, ◌&&◌, nat_lt, ℕ, true, List, [], ◌∷◌, ◌++◌, length, OnOk, OnErr};
 ghost use Rattle.arrayvec.specs.ArrayVec.{ArrayVec};
-ghost use Rattle.lf_model.specs.declared.event.Event.TheVariants as event;
-ghost use Rattle.lf_model.specs.declared.event.Op.{Op};
-ghost use Rattle.lf_model.specs.Registers.{Held};
-ghost use Rattle.lf_model.specs.State.{Missed, Asked};
-ghost use Rattle.lf_model.specs.Table.{request_of, is_head, oldest};
+ghost use Rattle.lf_rules.specs.declared.event.Event.TheVariants as event;
+ghost use Rattle.lf_rules.specs.declared.event.Op.{Op};
+ghost use Rattle.lf_rules.specs.Registers.{Held};
+ghost use Rattle.lf_rules.specs.State.{Missed, Asked};
+ghost use Rattle.lf_rules.specs.Table.{request_of, is_head, oldest};
 ghost use Rattle.lf_mshr.specs.RegisterFile.{RegisterFile};
 ghost use Rattle.lf_mshr.specs.declared.level_one.Request1.{Request1};
 ghost use Rattle.lf_mshr.specs.declared.level_two.Request2.{Request2};
@@ -28,8 +28,8 @@ use crate::replies::add_replies;
 use crate::request::{Ready, Request};
 use crate::target::missed;
 use crate::wide::{mark_at, place_of, second_of};
-use lf_model::{Block, Mask, NoMemory, Rule};
 use lf_mshr::{Organisation, Request1};
+use lf_rules::{Block, Mask, NoMemory, Rule};
 
 /// No more targets than these wait for one block.
 pub const MOST_TARGETS: usize = 1024;

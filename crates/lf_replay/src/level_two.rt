@@ -2,11 +2,11 @@
 
 ghost use Rattle.std.specs.Prelude.{◌≡◌, ◌<◌, ◌*◌, ◌/◌, ◌&&◌, not, ℕ, List, length};
 ghost use Rattle.std.specs.List.{list_all};
-ghost use Rattle.lf_model.specs.Address.{places, sub_block};
-ghost use Rattle.lf_model.specs.Lines.{has_line};
-ghost use Rattle.lf_model.specs.Registers.{Held, holds};
-ghost use Rattle.lf_model.specs.State.{Missed};
-ghost use Rattle.lf_model.specs.declared.event.Event.TheVariants as event;
+ghost use Rattle.lf_rules.specs.Address.{places, sub_block};
+ghost use Rattle.lf_rules.specs.Lines.{has_line};
+ghost use Rattle.lf_rules.specs.Registers.{Held, holds};
+ghost use Rattle.lf_rules.specs.State.{Missed};
+ghost use Rattle.lf_rules.specs.declared.event.Event.TheVariants as event;
 ghost use Rattle.lf_mshr.specs.Alike.{AreAlike};
 ghost use Rattle.lf_mshr.specs.RegisterFile.{RegisterFile};
 ghost use Rattle.lf_mshr.specs.declared.level_one.Request1.{Request1};
@@ -26,8 +26,8 @@ use crate::registers::{
 };
 use crate::supply::add_blocks;
 use crate::wide::{clean_masks, second_of};
-use lf_model::{Masks, Rule, WideBlock};
 use lf_mshr::{Organisation, Request1, Request2};
+use lf_rules::{Masks, Rule, WideBlock};
 
 impl Bank {
     /// The block that level one asks for is in level two, in its second-level block.

@@ -2,10 +2,10 @@
 
 ghost use Rattle.std.specs.Prelude.{◌≡◌, ◌∷◌, [], ◌++◌, OnOk, OnErr};
 ghost use Rattle.std.specs.List.{position};
-ghost use Rattle.lf_model.specs.Table.{without_asked, without, without_ready, is_ready_for};
+ghost use Rattle.lf_rules.specs.Table.{without_asked, without, without_ready, is_ready_for};
 
 use crate::request::Ready;
-use lf_model::NoMemory;
+use lf_rules::NoMemory;
 
 pub fn push<T: Drop>(items: &mut Vec<T>, item: T) -> Result<(), NoMemory>
     ensures ok { OnOk result (items.new.items ≡ items.old.items ++ item ∷ []) }

@@ -2,15 +2,15 @@
 
 ghost use Rattle.std.specs.Prelude.{◌≡◌, ℕ, ◌+◌, ◌-◌, ◌<◌, ◌≤◌, ◌||◌, ◌==◌, map, length, slice_index, IfOk, OnOk, OnErr, if◌then◌else◌};
 ghost use Rattle.std.specs.List.{range_with_len, list_all, filter};
-ghost use Rattle.lf_model.specs.Address.{flat_memory, is_under};
-ghost use Rattle.lf_model.specs.InRange.{IsShape};
-ghost use Rattle.lf_model.specs.State.{update};
-ghost use Rattle.lf_model.specs.Table.{value_of, accepted};
+ghost use Rattle.lf_rules.specs.Address.{flat_memory, is_under};
+ghost use Rattle.lf_rules.specs.InRange.{IsShape};
+ghost use Rattle.lf_rules.specs.State.{update};
+ghost use Rattle.lf_rules.specs.Table.{value_of, accepted};
 ghost use Rattle.lf_replay.specs.Bytes.{flat_of, bank_part, put, IsSound};
 
 use crate::request::{Data, Request};
 use crate::wide::bank_of;
-use lf_model::{Block, NoMemory, Op, Shape};
+use lf_rules::{Block, NoMemory, Op, Shape};
 use std::alloc::Global;
 use std::collections::BTreeMap;
 use std::marker::Model;

@@ -1,12 +1,12 @@
 //! The requests of one port to one bank that are not accepted yet, the oldest first.
 
 ghost use Rattle.std.specs.Prelude.{◌≡◌, ℕ, Bool, true, false, [], ◌∷◌, ◌++◌, ◌<◌, drop, length, OnOk, OnErr, MatchOption};
-ghost use Rattle.lf_model.specs.State.{update};
-ghost use Rattle.lf_model.specs.Table.{is_head, oldest};
+ghost use Rattle.lf_rules.specs.State.{update};
+ghost use Rattle.lf_rules.specs.Table.{is_head, oldest};
 ghost use Rattle.lf_replay.specs.Kept.{queue_at};
 
 use crate::request::Request;
-use lf_model::NoMemory;
+use lf_rules::NoMemory;
 use std::alloc::Global;
 use std::collections::VecDeque;
 use std::marker::Model;
@@ -18,7 +18,7 @@ pub struct Queue {
 
 impl Model for Queue {
     ghost use Rattle.std.specs.Prelude.{List};
-    ghost use Rattle.lf_model.specs.State as model;
+    ghost use Rattle.lf_rules.specs.State as model;
 
     ghost Value = { List model.Request };
 

@@ -2,13 +2,13 @@
 
 ghost use Rattle.std.specs.Prelude.{◌≡◌, ◌<◌, ◌/◌, ℕ, List};
 ghost use Rattle.std.specs.List.{list_any};
-ghost use Rattle.lf_model.specs.Address.{places, sub_block};
-ghost use Rattle.lf_model.specs.InRange.{IsShape};
-ghost use Rattle.lf_model.specs.Registers.{Held, holds, has_room, primary_clauses, merge_clauses};
-ghost use Rattle.lf_model.specs.Run.{first_failing};
-ghost use Rattle.lf_model.specs.State.{Missed, Asked};
-ghost use Rattle.lf_model.specs.Table.{OfBank, destinations, destinations2, position, position2, store_bytes};
-ghost use Rattle.lf_model.specs.declared.shape.Shape.{Shape};
+ghost use Rattle.lf_rules.specs.Address.{places, sub_block};
+ghost use Rattle.lf_rules.specs.InRange.{IsShape};
+ghost use Rattle.lf_rules.specs.Registers.{Held, holds, has_room, primary_clauses, merge_clauses};
+ghost use Rattle.lf_rules.specs.Run.{first_failing};
+ghost use Rattle.lf_rules.specs.State.{Missed, Asked};
+ghost use Rattle.lf_rules.specs.Table.{OfBank, destinations, destinations2, position, position2, store_bytes};
+ghost use Rattle.lf_rules.specs.declared.shape.Shape.{Shape};
 ghost use Rattle.lf_mshr.specs.Alike.{AreAlike};
 ghost use Rattle.lf_mshr.specs.RegisterFile.{primary_wants, merge_wants};
 ghost use Rattle.lf_mshr.specs.declared.level_one.Request1.{Request1};
@@ -17,8 +17,8 @@ ghost use Rattle.lf_replay.specs.Kept.{IsFile1, IsFile2};
 ghost use Rattle.lf_replay.specs.Tells.{Tells, TellsAsked};
 
 use crate::wide::sub_block;
-use lf_model::{Rule, Shape};
 use lf_mshr::{Organisation, Request1, Request2};
+use lf_rules::{Rule, Shape};
 
 /// The first rule that the target breaks as a primary miss of the register.
 pub fn primary_rule<O: Organisation<Target = Request1>>(

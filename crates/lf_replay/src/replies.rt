@@ -1,10 +1,10 @@
 //! The replies that a fill makes ready.
 
 ghost use Rattle.std.specs.Prelude.{◌≡◌, ◌≤◌, ◌+◌, ◌++◌, ℕ, List, map, length, vec_capacity};
-ghost use Rattle.lf_model.specs.InRange.{IsShape};
-ghost use Rattle.lf_model.specs.Registers.{Held, targets_of};
-ghost use Rattle.lf_model.specs.State.{Missed};
-ghost use Rattle.lf_model.specs.Table.{reply_of};
+ghost use Rattle.lf_rules.specs.InRange.{IsShape};
+ghost use Rattle.lf_rules.specs.Registers.{Held, targets_of};
+ghost use Rattle.lf_rules.specs.State.{Missed};
+ghost use Rattle.lf_rules.specs.Table.{reply_of};
 ghost use Rattle.lf_mshr.specs.Alike.{AreAlike};
 ghost use Rattle.lf_mshr.specs.RegisterFile.{released_pair};
 ghost use Rattle.lf_mshr.specs.declared.level_one.Request1.{Request1};
@@ -12,8 +12,8 @@ ghost use Rattle.lf_replay.specs.Tells.{Tells};
 
 use crate::request::Ready;
 use crate::target::reply_of;
-use lf_model::Shape;
 use lf_mshr::Request1;
+use lf_rules::Shape;
 
 /// The requests of which the targets tell may have their replies, in the order of acceptance.
 pub fn add_replies(ready: &mut Vec<Ready>, shape: &Shape, targets: &[(u16, Request1)])

@@ -1,15 +1,15 @@
 //! What a bank keeps of a request before its acceptance, and of its reply.
 
 ghost use Rattle.std.specs.Prelude.{◌≡◌, ℕ, ◌+◌, ◌/◌, ◌%◌, true, ◌<◌, ◌≤◌, ◌↔◌, length};
-ghost use Rattle.lf_model.specs.Address.{mask_of};
-ghost use Rattle.lf_model.specs.Fits.{is_size, issue_len};
-ghost use Rattle.lf_model.specs.InRange.{IsShape};
-ghost use Rattle.lf_model.specs.Table.{position, store_mask, request_of};
-ghost use Rattle.lf_model.specs.State as model;
+ghost use Rattle.lf_rules.specs.Address.{mask_of};
+ghost use Rattle.lf_rules.specs.Fits.{is_size, issue_len};
+ghost use Rattle.lf_rules.specs.InRange.{IsShape};
+ghost use Rattle.lf_rules.specs.Table.{position, store_mask, request_of};
+ghost use Rattle.lf_rules.specs.State as model;
 ghost use Rattle.lf_replay.specs.Bytes.{IsSound};
 
 use arrayvec::ArrayVec;
-use lf_model::{Op, Shape};
+use lf_rules::{Op, Shape};
 use std::marker::Model;
 
 /// The bytes of a request: what a store writes, or a load's value.
@@ -28,7 +28,7 @@ pub struct Request {
 }
 
 impl Model for Request {
-    ghost use Rattle.lf_model.specs.State as model;
+    ghost use Rattle.lf_rules.specs.State as model;
     ghost use Rattle.lf_replay.specs.Bytes.{IsSound};
 
     ghost Value = { model.Request };
@@ -47,7 +47,7 @@ pub struct Ready {
 }
 
 impl Model for Ready {
-    ghost use Rattle.lf_model.specs.State as model;
+    ghost use Rattle.lf_rules.specs.State as model;
 
     ghost Value = { model.Ready };
 

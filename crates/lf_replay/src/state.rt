@@ -1,21 +1,21 @@
 //! The state of a bank with two organisations of registers.
 
 ghost use Rattle.std.specs.Prelude.{◌≡◌, ◌≤◌, true, List, [], ◌∷◌, ◌++◌, IfOk, OnOk, OnErr, IfErr};
-ghost use Rattle.lf_model.specs.declared.event.Record.{Record};
-ghost use Rattle.lf_model.specs.declared.shape.Shape.{Shape};
-ghost use Rattle.lf_model.specs.Address.{FlatMemory, flat_memory};
-ghost use Rattle.lf_model.specs.Fits.{Fits};
-ghost use Rattle.lf_model.specs.InRange.{IsShape};
-ghost use Rattle.lf_model.specs.Outcomes.{first_local};
-ghost use Rattle.lf_model.specs.Table.{destinations, destinations2};
+ghost use Rattle.lf_rules.specs.declared.event.Record.{Record};
+ghost use Rattle.lf_rules.specs.declared.shape.Shape.{Shape};
+ghost use Rattle.lf_rules.specs.Address.{FlatMemory, flat_memory};
+ghost use Rattle.lf_rules.specs.Fits.{Fits};
+ghost use Rattle.lf_rules.specs.InRange.{IsShape};
+ghost use Rattle.lf_rules.specs.Outcomes.{first_local};
+ghost use Rattle.lf_rules.specs.Table.{destinations, destinations2};
 ghost use Rattle.lf_replay.specs.Bytes.{bank_part};
 ghost use Rattle.lf_replay.specs.Shows.{IsSound, Shows};
 ghost use Rattle.lf_replay.specs.Step.{KeptAfter, IsFaultAfter};
 
 use crate::bank::Bank;
 use crate::fault::BankFault;
-use lf_model::{Block, NoMemory, OrgShape, Record, Shape};
 use lf_mshr::{Organisation, Request1, Request2};
+use lf_rules::{Block, NoMemory, OrgShape, Record, Shape};
 use std::alloc::Global;
 use std::marker::Model;
 

@@ -1,10 +1,10 @@
 //! The blocks that a fill of level two supplies.
 
 ghost use Rattle.std.specs.Prelude.{◌≡◌, ◌≤◌, ◌<◌, ◌/◌, ◌+◌, ◌++◌, ℕ, List, map, length, vec_capacity};
-ghost use Rattle.lf_model.specs.InRange.{IsShape};
-ghost use Rattle.lf_model.specs.Registers.{Held, targets_of};
-ghost use Rattle.lf_model.specs.State.{Asked};
-ghost use Rattle.lf_model.specs.Table.{block_asked};
+ghost use Rattle.lf_rules.specs.InRange.{IsShape};
+ghost use Rattle.lf_rules.specs.Registers.{Held, targets_of};
+ghost use Rattle.lf_rules.specs.State.{Asked};
+ghost use Rattle.lf_rules.specs.Table.{block_asked};
 ghost use Rattle.lf_mshr.specs.Alike.{AreAlike};
 ghost use Rattle.lf_mshr.specs.RegisterFile.{released_pair};
 ghost use Rattle.lf_mshr.specs.declared.level_two.Request2.{Request2};
@@ -12,8 +12,8 @@ ghost use Rattle.lf_replay.specs.Apart.{AreHome};
 ghost use Rattle.lf_replay.specs.Tells.{TellsAsked};
 
 use crate::wide::sub_block;
-use lf_model::Shape;
 use lf_mshr::Request2;
+use lf_rules::Shape;
 
 /// The blocks of the second-level block that the targets ask for are supplied, in the order of
 /// acceptance.

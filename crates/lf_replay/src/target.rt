@@ -2,16 +2,16 @@
 
 ghost use Rattle.std.specs.Prelude.{◌≡◌, ℕ, ◌/◌, ◌<◌, ◌≤◌, length, take, if◌then◌else◌};
 ghost use Rattle.std.specs.Int.{to_le_bytes, w64};
-ghost use Rattle.lf_model.specs.InRange.{IsShape};
-ghost use Rattle.lf_model.specs.State as model;
-ghost use Rattle.lf_model.specs.Table.{destination, is_store, value_of};
+ghost use Rattle.lf_rules.specs.InRange.{IsShape};
+ghost use Rattle.lf_rules.specs.State as model;
+ghost use Rattle.lf_rules.specs.Table.{destination, is_store, value_of};
 ghost use Rattle.lf_replay.specs.Bytes.{flat_of};
 ghost use Rattle.lf_replay.specs.Tells.{IsNumberOf, IsTold, Tells, reply_to};
 
 use crate::memory::FlatMemory;
 use crate::request::{Data, Ready, Request};
-use lf_model::{Mask, Op, Shape};
 use lf_mshr::Request1;
+use lf_rules::{Mask, Op, Shape};
 
 /// What a level-one register keeps of a port's request and of the value that a load has.
 fn target_of(shape: &Shape, port: u8, request: &Request, value: &[u8]) -> Request1

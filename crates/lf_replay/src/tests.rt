@@ -2,15 +2,15 @@
 //! numbered in the order in which they are listed.
 
 ghost use Rattle.std.specs.Prelude.{◌≡◌, ◌≤◌, true, length};
-ghost use Rattle.lf_model.specs.InRange.{IsShape, IsOrganisation, IsFrom};
+ghost use Rattle.lf_rules.specs.InRange.{IsShape, IsOrganisation, IsFrom};
 ghost use Rattle.lf_replay.specs.Step.{IsBankOrder};
 
 use crate::{Step, bank_replay, replay};
-use lf_model::{
+use lf_mshr::{Explicit, Implicit, Inverted, Organisation, Request1, Request2};
+use lf_rules::{
     Block, Event, Level, Mask, Masks, Memory, Op, OrgShape, Outcome, Record, Rule, Shape,
     WideBlock, fits,
 };
-use lf_mshr::{Explicit, Implicit, Inverted, Organisation, Request1, Request2};
 use std::alloc::Global;
 use std::process::Abort;
 use std::test::Fail;

@@ -3,13 +3,13 @@
 ghost use Rattle.std.specs.Prelude.{◌≡◌, ◌≤◌, ◌<◌, ◌+◌, ◌/◌, ◌++◌, replicate, true};
 ghost use Rattle.arrayvec.specs.ArrayVec.{array_vec_len};
 ghost use Rattle.lf_levels.specs.LineTable.{after_fill};
-ghost use Rattle.lf_model.specs.Address.{second_of, place_of, sub_block, bank_of, clean_mask};
-ghost use Rattle.lf_model.specs.InRange.{IsShape};
-ghost use Rattle.lf_model.specs.Lines.{has_line, dirty_masks, clean_masks, marked};
+ghost use Rattle.lf_rules.specs.Address.{second_of, place_of, sub_block, bank_of, clean_mask};
+ghost use Rattle.lf_rules.specs.InRange.{IsShape};
+ghost use Rattle.lf_rules.specs.Lines.{has_line, dirty_masks, clean_masks, marked};
 ghost use Rattle.lf_replay.specs.Places.{alone};
 
 use lf_levels::{Lines, Two};
-use lf_model::{Mask, Masks, Shape};
+use lf_rules::{Mask, Masks, Shape};
 
 pub fn second_of(shape: &Shape, block: u32) -> u32
     requires { IsShape shape.now }

@@ -3,7 +3,7 @@ use Rattle.std.proofs.Common.{◌≡◌, ℕ, zero, suc, ◌+◌, ◌<◌, ◌�
 use Rattle.std.specs.List.{filter}
 use Rattle.std.proofs.lemmas.Bool.{cases_eq, eq-eqb, ne_eqb}
 use Rattle.std.proofs.lemmas.List.Sums.{sum_by-cons}
-use Rattle.lf_model.specs.Numbers.{times}
+use Rattle.lf_rules.specs.Numbers.{times}
 use Rattle.lf_stats.specs.Standing.{registers_of, held_for}
 use Rattle.lf_stats.specs.Statistics.{is_among, distinct}
 

@@ -9,7 +9,7 @@ use Rattle.std.proofs.lemmas.Bool.{cases_eq, eq-eqb, ne_eqb}
 use Rattle.std.proofs.lemmas.Bool.Decides.{nat_tests}
 use Rattle.std.proofs.lemmas.List.{append-nil, map_push}
 use Rattle.std.proofs.lemmas.List.Elements.{filter-append}
-use Rattle.lf_model.specs.Numbers.{times}
+use Rattle.lf_rules.specs.Numbers.{times}
 use Rattle.lf_stats.specs.declared.held.Times.{Times}
 use Rattle.lf_stats.specs.Standing.{IsCount, AreTimes, registers_of, held_for, items_in}
 use Rattle.lf_stats.specs.Statistics.{distinct}

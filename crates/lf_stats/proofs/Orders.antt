@@ -6,10 +6,10 @@ use Rattle.std.proofs.lemmas.List.{length-append, length-take, length-map}
 use Rattle.std.proofs.lemmas.List.Sums.{sum_by_push, count_by-le-length, length-filter}
 use Rattle.std.specs.Global.{Vec}
 use Rattle.std.specs.BTreeMap.{btree_map_len}
-use Rattle.lf_model.specs.declared.shape.Shape.{Shape}
-use Rattle.lf_model.specs.declared.event.Record.{Record}
-use Rattle.lf_model.specs.declared.event.Event.{Event}
-use Rattle.lf_model.specs.declared.event.Event.TheVariants.{Primary, Merge, Fill1}
+use Rattle.lf_rules.specs.declared.shape.Shape.{Shape}
+use Rattle.lf_rules.specs.declared.event.Record.{Record}
+use Rattle.lf_rules.specs.declared.event.Event.{Event}
+use Rattle.lf_rules.specs.declared.event.Event.TheVariants.{Primary, Merge, Fill1}
 use Rattle.lf_stats.specs.declared.held.Held.{Held}
 use Rattle.lf_stats.specs.Standing.{AreAlike, IsHeld, named, next_of, registers_of}
 use Rattle.lf_stats.proofs.Distinct.{distinct-le-length}

@@ -6,10 +6,10 @@ use Rattle.std.proofs.lemmas.List.Sums.{fold_more, length-filter, sum_by-cons, c
 use Rattle.std.proofs.lemmas.List.FromFn.{fill_by_all}
 use Rattle.std.proofs.lemmas.Bool.{cases_eq, eq-eqb, ne_eqb}
 use Rattle.arrayvec.specs.ArrayVec.{ArrayVec}
-use Rattle.lf_model.specs.declared.event.Op.{Op}
-use Rattle.lf_model.specs.declared.event.Event.{Event}
-use Rattle.lf_model.specs.declared.event.Event.TheVariants.{Issue, Reply}
-use Rattle.lf_model.specs.declared.event.Record.{Record}
+use Rattle.lf_rules.specs.declared.event.Op.{Op}
+use Rattle.lf_rules.specs.declared.event.Event.{Event}
+use Rattle.lf_rules.specs.declared.event.Event.TheVariants.{Issue, Reply}
+use Rattle.lf_rules.specs.declared.event.Record.{Record}
 use Rattle.lf_stats.specs.Statistics.{waits, waits_after, unanswered}
 
 pub set_at : (ws : List Bool) (t tag : ℕ) (b : Bool) → t < length ws

@@ -1,8 +1,8 @@
 -- What the statistics of a trace are.
 use Rattle.std.specs.Prelude.{◌≡◌, ℕ, ◌<◌, List, [], length, slice_index_or, slice_index}
-use Rattle.lf_model.specs.declared.shape.Shape.{Shape}
-use Rattle.lf_model.specs.declared.event.Record.{Record}
-use Rattle.lf_model.specs.Numbers.{IsNumbered}
+use Rattle.lf_rules.specs.declared.shape.Shape.{Shape}
+use Rattle.lf_rules.specs.declared.event.Record.{Record}
+use Rattle.lf_rules.specs.Numbers.{IsNumbered}
 use Rattle.lf_stats.specs.declared.counts.BankStats.{BankStats}
 use Rattle.lf_stats.specs.declared.counts.Stats.{Stats}
 use Rattle.lf_stats.specs.Statistics.{bank_stats, unanswered}

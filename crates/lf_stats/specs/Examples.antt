@@ -1,14 +1,14 @@
 -- The rows of the worked examples, each with its answer by computation.
 use Rattle.std.specs.Prelude.{◌≡◌, ℕ, [], ◌∷◌, refl}
 use Rattle.arrayvec.specs.ArrayVec.{ArrayVec}
-use Rattle.lf_model.specs.declared.event.Op.TheVariants.{Load, Store}
-use Rattle.lf_model.specs.declared.shape.OrgShape.TheVariants.{Explicit}
-use Rattle.lf_model.specs.declared.shape.Level.{Level}
-use Rattle.lf_model.specs.declared.shape.Shape.{Shape}
-use Rattle.lf_model.specs.declared.event.Record.{Record}
-use Rattle.lf_model.specs.declared.event.Event.{Event}
-use Rattle.lf_model.specs.declared.event.Event.TheVariants.{Issue, Reply, Hit, Primary, Merge, Stall, Fill1, SecondPrimary, Fill2, Fence}
-use Rattle.lf_model.specs.Address.{no_bank}
+use Rattle.lf_rules.specs.declared.event.Op.TheVariants.{Load, Store}
+use Rattle.lf_rules.specs.declared.shape.OrgShape.TheVariants.{Explicit}
+use Rattle.lf_rules.specs.declared.shape.Level.{Level}
+use Rattle.lf_rules.specs.declared.shape.Shape.{Shape}
+use Rattle.lf_rules.specs.declared.event.Record.{Record}
+use Rattle.lf_rules.specs.declared.event.Event.{Event}
+use Rattle.lf_rules.specs.declared.event.Event.TheVariants.{Issue, Reply, Hit, Primary, Merge, Stall, Fill1, SecondPrimary, Fill2, Fence}
+use Rattle.lf_rules.specs.Address.{no_bank}
 use Rattle.lf_stats.specs.declared.counts.BankStats.{BankStats}
 use Rattle.lf_stats.specs.Statistics.{bank_stats, unanswered}
 

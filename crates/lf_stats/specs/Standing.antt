@@ -3,7 +3,7 @@ use Rattle.std.specs.Prelude.{◌≡◌, ℕ, ◌<◌, ◌==◌, List, [], map, 
 use Rattle.std.specs.Global.{Vec}
 use Rattle.std.specs.BTreeMap.{BTreeMap, get, btree_map_len}
 use Rattle.std.specs.Ordering.{nat_cmp}
-use Rattle.lf_model.specs.Numbers.{times}
+use Rattle.lf_rules.specs.Numbers.{times}
 use Rattle.lf_stats.specs.declared.held.Times.{Times}
 use Rattle.lf_stats.specs.declared.held.Held.{Held}
 use Rattle.lf_stats.specs.Statistics.{distinct}

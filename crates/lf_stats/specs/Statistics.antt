@@ -1,12 +1,12 @@
 -- Counts over the records of a bank, in the order of their numbers, and over those of a port.
 use Rattle.std.specs.Prelude.{ℕ, zero, suc, ◌+◌, Bool, true, false, not, ◌==◌, List, [], ◌∷◌, ◌++◌, map, filter, take, length, count_by, fold, max, Option, Some, None, slice_get, if◌then◌else◌}
 use Rattle.std.specs.List.{range_with_len, filter_map, list_any}
-use Rattle.lf_model.specs.declared.shape.Shape.{Shape}
-use Rattle.lf_model.specs.declared.event.Record.{Record}
-use Rattle.lf_model.specs.declared.event.Event.{Event}
-use Rattle.lf_model.specs.declared.event.Event.TheVariants.{Issue, Reply, Hit, Primary, Merge, Stall, Fill1}
-use Rattle.lf_model.specs.Address.{block_of}
-use Rattle.lf_model.specs.Run.{of_log}
+use Rattle.lf_rules.specs.declared.shape.Shape.{Shape}
+use Rattle.lf_rules.specs.declared.event.Record.{Record}
+use Rattle.lf_rules.specs.declared.event.Event.{Event}
+use Rattle.lf_rules.specs.declared.event.Event.TheVariants.{Issue, Reply, Hit, Primary, Merge, Stall, Fill1}
+use Rattle.lf_rules.specs.Address.{block_of}
+use Rattle.lf_rules.specs.Run.{of_log}
 use Rattle.lf_stats.specs.declared.counts.BankStats.{BankStats}
 
 -- ---- kinds of events

@@ -10,7 +10,7 @@ use crate::counts::BankStats;
 use crate::held::Held;
 use crate::issued::{Accepted, blocks_issued};
 use lf_logs::{Place, record_at};
-use lf_model::{Event, Logs, NoMemory, Shape};
+use lf_rules::{Event, Logs, NoMemory, Shape};
 use std::alloc::Global;
 
 /// Changes what is held.

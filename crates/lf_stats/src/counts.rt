@@ -3,7 +3,7 @@
 ghost use Rattle.std.specs.Prelude.{◌≡◌, ◌+◌, ◌<◌, ◌^◌, if◌then◌else◌};
 ghost use Rattle.lf_stats.specs.Statistics.{is_hit, is_primary, is_merge, is_stall};
 
-use lf_model::Event;
+use lf_rules::Event;
 
 /// What happened in level one of a bank.
 #[derive(Clone, Copy, Debug, Default, PartialEq, Eq)]

@@ -6,7 +6,7 @@ ghost use Rattle.std.specs.Ordering.{nat_cmp};
 ghost use Rattle.lf_stats.specs.Standing.{AreTimes, items_at};
 ghost use Rattle.lf_stats.specs.Statistics.{distinct};
 
-use lf_model::NoMemory;
+use lf_rules::NoMemory;
 use std::alloc::Global;
 use std::collections::BTreeMap;
 

@@ -7,7 +7,7 @@ ghost use Rattle.lf_stats.specs.Standing.{next_of};
 ghost use Rattle.lf_stats.specs.Statistics.{accepts, issued};
 
 use lf_logs::{Place, record_at};
-use lf_model::{Event, Logs, NoMemory, Shape};
+use lf_rules::{Event, Logs, NoMemory, Shape};
 use std::alloc::Global;
 
 /// As many as there are numbers of ports.

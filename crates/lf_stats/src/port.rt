@@ -3,7 +3,7 @@
 ghost use Rattle.std.specs.Prelude.{◌≡◌, length, filter};
 ghost use Rattle.lf_stats.specs.Statistics.{unanswered};
 
-use lf_model::{Event, Record};
+use lf_rules::{Event, Record};
 
 /// As many as there are tags.
 const TAGS: usize = 256;

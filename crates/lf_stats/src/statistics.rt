@@ -1,8 +1,8 @@
 //! The statistics of a trace.
 
 ghost use Rattle.std.specs.Prelude.{◌≡◌, ◌+◌, ◌<◌, ◌≤◌, ◌^◌, ℕ, length, All, IfOk};
-ghost use Rattle.lf_model.specs.InRange.{IsShape};
-ghost use Rattle.lf_model.specs.Numbers.{bank_numbers, IsWhole};
+ghost use Rattle.lf_rules.specs.InRange.{IsShape};
+ghost use Rattle.lf_rules.specs.Numbers.{bank_numbers, IsWhole};
 ghost use Rattle.lf_logs.specs.Lists.{lists_of};
 ghost use Rattle.lf_stats.specs.Answer.{IsBankStats, AreStats};
 
@@ -10,7 +10,7 @@ use crate::bank::bank_stats;
 use crate::counts::{BankStats, Stats};
 use crate::port::unanswered;
 use lf_logs::bank_order;
-use lf_model::{Logs, NoMemory, Shape};
+use lf_rules::{Logs, NoMemory, Shape};
 use std::alloc::Global;
 
 fn of_bank(alloc: Global, shape: &Shape, logs: &Logs, bank: u8) -> Result<BankStats, NoMemory>

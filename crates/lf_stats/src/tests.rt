@@ -1,11 +1,11 @@
 //! The worked examples, by the lines that they print.
 
 ghost use Rattle.std.specs.Prelude.{◌≡◌};
-ghost use Rattle.lf_model.specs.InRange.{IsShape};
+ghost use Rattle.lf_rules.specs.InRange.{IsShape};
 
 use crate::stats;
 use lf_logs::bank_order;
-use lf_model::{Block, Event, Level, Logs, NO_BANK, Op, OrgShape, Record, Shape, WideBlock};
+use lf_rules::{Block, Event, Level, Logs, NO_BANK, Op, OrgShape, Record, Shape, WideBlock};
 use std::alloc::Global;
 use std::test::Fail;
 

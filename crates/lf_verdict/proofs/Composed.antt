@@ -1,14 +1,14 @@
 -- A yes by its parts is legal.
 use Rattle.std.proofs.Common.{ℕ, ◌<◌, ◌≤◌, List, sym, subst, arith}
 use Rattle.std.specs.List.{AllByRecursion}
-use Rattle.lf_model.specs.declared.shape.Shape.{Shape}
-use Rattle.lf_model.specs.declared.event.Record.{Record}
-use Rattle.lf_model.specs.Address.{FlatMemory, flat_memory}
-use Rattle.lf_model.specs.Fits.{Fits}
-use Rattle.lf_model.specs.Laws.{RunsAnswerOnce, RunsAreFlat, RunsShare}
-use Rattle.lf_model.specs.Numbers.{InterleavingsAreNumbered, InterleavingsFit, NumberedIsOne}
-use Rattle.lf_model.specs.Order.{EntriesKeepNumbers, EntriesKeepAlike, LogsFollow, OrdersInterleave}
-use Rattle.lf_model.specs.Run.{RunsByParts, of_bank, Interleaves, KeepsNumbers, IsSliceRun, IsPortRun, IsRun}
+use Rattle.lf_rules.specs.declared.shape.Shape.{Shape}
+use Rattle.lf_rules.specs.declared.event.Record.{Record}
+use Rattle.lf_rules.specs.Address.{FlatMemory, flat_memory}
+use Rattle.lf_rules.specs.Fits.{Fits}
+use Rattle.lf_rules.specs.Laws.{RunsAnswerOnce, RunsAreFlat, RunsShare}
+use Rattle.lf_rules.specs.Numbers.{InterleavingsAreNumbered, InterleavingsFit, NumberedIsOne}
+use Rattle.lf_rules.specs.Order.{EntriesKeepNumbers, EntriesKeepAlike, LogsFollow, OrdersInterleave}
+use Rattle.lf_rules.specs.Run.{RunsByParts, of_bank, Interleaves, KeepsNumbers, IsSliceRun, IsPortRun, IsRun}
 use Rattle.lf_verdict.specs.Laws.{YesIsLegal}
 use Rattle.lf_verdict.specs.Parts.{PartsRun}
 use Rattle.lf_verdict.proofs.Traces.{trace_names, trace_fits, trace_banks}

@@ -1,19 +1,19 @@
 -- A no admits no run.
 use Rattle.std.proofs.Common.{◌≡◌, ℕ, ◌+◌, ◌≤◌, List, sym, ◌∙◌, ap, subst, inl, inr, arith}
 use Rattle.std.specs.List.{AllByRecursion}
-use Rattle.lf_model.specs.declared.shape.Shape.{Shape}
-use Rattle.lf_model.specs.declared.event.Record.{Record}
-use Rattle.lf_model.specs.declared.rule.Rule.{Rule}
-use Rattle.lf_model.specs.declared.outcome.Outcome.TheVariants as outcomes
-use Rattle.lf_model.specs.Address.{FlatMemory, flat_memory}
-use Rattle.lf_model.specs.Fits.{Bytes, Fits}
-use Rattle.lf_model.specs.Laws.{CopyRunsAreRuns}
-use Rattle.lf_model.specs.Numbers.{InterleavingsAreNumbered, InterleavingsFit, NumberedIsOne, GapsAdmitNone}
-use Rattle.lf_model.specs.Order.{log_at}
-use Rattle.lf_model.specs.Outcomes.{OutcomesAreOne, first_local}
-use Rattle.lf_model.specs.Ring.{RingsAdmitNone}
-use Rattle.lf_model.specs.Run.{RunsByParts, of_bank, IsRun, IsRunOf, BreaksAt}
-use Rattle.lf_model.specs.Table.{Side, OfPort, OfBank}
+use Rattle.lf_rules.specs.declared.shape.Shape.{Shape}
+use Rattle.lf_rules.specs.declared.event.Record.{Record}
+use Rattle.lf_rules.specs.declared.rule.Rule.{Rule}
+use Rattle.lf_rules.specs.declared.outcome.Outcome.TheVariants as outcomes
+use Rattle.lf_rules.specs.Address.{FlatMemory, flat_memory}
+use Rattle.lf_rules.specs.Fits.{Bytes, Fits}
+use Rattle.lf_rules.specs.Laws.{CopyRunsAreRuns}
+use Rattle.lf_rules.specs.Numbers.{InterleavingsAreNumbered, InterleavingsFit, NumberedIsOne, GapsAdmitNone}
+use Rattle.lf_rules.specs.Order.{log_at}
+use Rattle.lf_rules.specs.Outcomes.{OutcomesAreOne, first_local}
+use Rattle.lf_rules.specs.Ring.{RingsAdmitNone}
+use Rattle.lf_rules.specs.Run.{RunsByParts, of_bank, IsRun, IsRunOf, BreaksAt}
+use Rattle.lf_rules.specs.Table.{Side, OfPort, OfBank}
 use Rattle.lf_codec.specs.Laws.{BytesAreOfOneTrace}
 use Rattle.lf_logs.specs.Lists.{logs_of}
 use Rattle.lf_verdict.specs.declared.answer.Fault.{Fault}

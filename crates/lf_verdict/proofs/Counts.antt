@@ -4,7 +4,7 @@ use Rattle.std.specs.List.{sum_by}
 use Rattle.std.proofs.lemmas.Bool.{cases_lt}
 use Rattle.std.proofs.lemmas.Bool.Decides.{nat_tests}
 use Rattle.std.proofs.lemmas.List.Sums.{sum_by-cons}
-use Rattle.lf_model.specs.Numbers.{times, IsMissing, IsDouble, IsWhole}
+use Rattle.lf_rules.specs.Numbers.{times, IsMissing, IsDouble, IsWhole}
 
 -- how many numbers are below n
 abbrev below : ℕ → List ℕ → ℕ

@@ -6,16 +6,16 @@ use Rattle.std.proofs.lemmas.Bool.{cases_lt}
 use Rattle.std.proofs.lemmas.List.{map-append, get_or_past}
 use Rattle.std.proofs.lemmas.List.Concat.{flat_map-cons}
 use Rattle.std.proofs.lemmas.List.Sums.{sum_by-set}
-use Rattle.lf_model.specs.declared.shape.Shape.{Shape}
-use Rattle.lf_model.specs.declared.event.Record.{Record}
-use Rattle.lf_model.specs.declared.event.Event.{Event}
-use Rattle.lf_model.specs.declared.event.Event.TheVariants.{Fence}
-use Rattle.lf_model.specs.Address.{no_bank}
-use Rattle.lf_model.specs.Fits.{FitsBank, Fits}
-use Rattle.lf_model.specs.Run.{of_bank}
-use Rattle.lf_model.specs.Order.{log_at, after_next, Takes, entries_of}
-use Rattle.lf_model.specs.Numbers.{all_records, numbers_of, bank_numbers, IsWhole}
-use Rattle.lf_model.specs.Ring.{entry_of, skeletons_of}
+use Rattle.lf_rules.specs.declared.shape.Shape.{Shape}
+use Rattle.lf_rules.specs.declared.event.Record.{Record}
+use Rattle.lf_rules.specs.declared.event.Event.{Event}
+use Rattle.lf_rules.specs.declared.event.Event.TheVariants.{Fence}
+use Rattle.lf_rules.specs.Address.{no_bank}
+use Rattle.lf_rules.specs.Fits.{FitsBank, Fits}
+use Rattle.lf_rules.specs.Run.{of_bank}
+use Rattle.lf_rules.specs.Order.{log_at, after_next, Takes, entries_of}
+use Rattle.lf_rules.specs.Numbers.{all_records, numbers_of, bank_numbers, IsWhole}
+use Rattle.lf_rules.specs.Ring.{entry_of, skeletons_of}
 use Rattle.lf_join.specs.Join.{BanksAreWhole}
 use Rattle.lf_verdict.specs.Parts.{HasWholeNumbers}
 use Rattle.lf_verdict.specs.Judging.{AreWholeBelow}

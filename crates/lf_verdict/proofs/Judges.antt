@@ -2,17 +2,17 @@
 use Rattle.std.proofs.Common.{◌≡◌, ℕ, zero, suc, List, [], ◌∷◌, ◌++◌, length, Some, None, refl, sym, ◌∙◌, subst}
 use Rattle.std.specs.List.{AllByRecursion}
 use Rattle.std.proofs.lemmas.List.{append-nil}
-use Rattle.lf_model.specs.declared.shape.Shape.{Shape}
-use Rattle.lf_model.specs.declared.event.Record.{Record}
-use Rattle.lf_model.specs.declared.rule.Rule.{Rule}
-use Rattle.lf_model.specs.declared.outcome.Outcome.{Outcome}
-use Rattle.lf_model.specs.declared.outcome.Outcome.TheVariants as outcomes
-use Rattle.lf_model.specs.Address.{FlatMemory}
-use Rattle.lf_model.specs.Fits.{Fits}
-use Rattle.lf_model.specs.Outcomes.{first_local}
-use Rattle.lf_model.specs.State.{Local}
-use Rattle.lf_model.specs.Run.{BreaksAt, effect}
-use Rattle.lf_model.specs.Table.{Side, OfPort, OfBank}
+use Rattle.lf_rules.specs.declared.shape.Shape.{Shape}
+use Rattle.lf_rules.specs.declared.event.Record.{Record}
+use Rattle.lf_rules.specs.declared.rule.Rule.{Rule}
+use Rattle.lf_rules.specs.declared.outcome.Outcome.{Outcome}
+use Rattle.lf_rules.specs.declared.outcome.Outcome.TheVariants as outcomes
+use Rattle.lf_rules.specs.Address.{FlatMemory}
+use Rattle.lf_rules.specs.Fits.{Fits}
+use Rattle.lf_rules.specs.Outcomes.{first_local}
+use Rattle.lf_rules.specs.State.{Local}
+use Rattle.lf_rules.specs.Run.{BreaksAt, effect}
+use Rattle.lf_rules.specs.Table.{Side, OfPort, OfBank}
 use Rattle.lf_logs.specs.Reordering.{Reordering, first_with, HasOrdered}
 use Rattle.lf_logs.specs.Tags.{PortKept}
 use Rattle.lf_logs.proofs.Reordered.{first_with-number, first_with-push_other}

@@ -2,10 +2,10 @@
 use Rattle.std.proofs.Common.{◌≡◌, ℕ, ◌+◌, ◌<◌, List, [], ◌∷◌, map, refl, sym, ◌∙◌, ap, subst}
 use Rattle.std.specs.Prelude.{slice_index}
 use Rattle.std.specs.List.{range_with_len}
-use Rattle.lf_model.specs.declared.shape.Shape.{Shape}
-use Rattle.lf_model.specs.declared.event.Record.{Record}
-use Rattle.lf_model.specs.Fits.{Bytes}
-use Rattle.lf_model.specs.Run.{of_log}
+use Rattle.lf_rules.specs.declared.shape.Shape.{Shape}
+use Rattle.lf_rules.specs.declared.event.Record.{Record}
+use Rattle.lf_rules.specs.Fits.{Bytes}
+use Rattle.lf_rules.specs.Run.{of_log}
 use Rattle.lf_codec.specs.declared.header.Header.{Header}
 use Rattle.lf_codec.specs.Laws.{BytesAreOfOneTrace, FaultlessBytesAreTraces}
 use Rattle.lf_logs.specs.Lists.{logs_of}

@@ -2,19 +2,19 @@
 use Rattle.std.proofs.Common.{◌≡◌, ℕ, ◌+◌, ◌<◌, ◌≤◌, List, length, Some, refl, sym, ◌∙◌, ap, subst, arith, ◌⊎◌, inl, inr}
 use Rattle.std.specs.Prelude.{slice_index}
 use Rattle.std.proofs.lemmas.Bool.{cases_lt}
-use Rattle.lf_model.specs.declared.shape.Shape.{Shape}
-use Rattle.lf_model.specs.declared.event.Record.{Record}
-use Rattle.lf_model.specs.declared.rule.Rule.{Rule}
-use Rattle.lf_model.specs.declared.outcome.Outcome.TheVariants as outcomes
-use Rattle.lf_model.specs.Address.{FlatMemory, flat_memory}
-use Rattle.lf_model.specs.Fits.{Bytes}
-use Rattle.lf_model.specs.Numbers.{bank_numbers, NumberedIsOne, IsMissing, IsDouble}
-use Rattle.lf_model.specs.Order.{log_at, IsLeastOrder, OrdersInterleave, LogsFollow, EntriesKeepAlike, EntriesKeepNumbers}
-use Rattle.lf_model.specs.Outcomes.{OutcomesAreOne, first_local}
-use Rattle.lf_model.specs.declared.ring.Knot.{Knot}
-use Rattle.lf_model.specs.Ring.{RingsAdmitNone, skeletons_of, IsRing}
-use Rattle.lf_model.specs.Run.{IsRunOf, BreaksAt, NameTheirLogs}
-use Rattle.lf_model.specs.Table.{Side, OfPort, OfBank}
+use Rattle.lf_rules.specs.declared.shape.Shape.{Shape}
+use Rattle.lf_rules.specs.declared.event.Record.{Record}
+use Rattle.lf_rules.specs.declared.rule.Rule.{Rule}
+use Rattle.lf_rules.specs.declared.outcome.Outcome.TheVariants as outcomes
+use Rattle.lf_rules.specs.Address.{FlatMemory, flat_memory}
+use Rattle.lf_rules.specs.Fits.{Bytes}
+use Rattle.lf_rules.specs.Numbers.{bank_numbers, NumberedIsOne, IsMissing, IsDouble}
+use Rattle.lf_rules.specs.Order.{log_at, IsLeastOrder, OrdersInterleave, LogsFollow, EntriesKeepAlike, EntriesKeepNumbers}
+use Rattle.lf_rules.specs.Outcomes.{OutcomesAreOne, first_local}
+use Rattle.lf_rules.specs.declared.ring.Knot.{Knot}
+use Rattle.lf_rules.specs.Ring.{RingsAdmitNone, skeletons_of, IsRing}
+use Rattle.lf_rules.specs.Run.{IsRunOf, BreaksAt, NameTheirLogs}
+use Rattle.lf_rules.specs.Table.{Side, OfPort, OfBank}
 use Rattle.lf_codec.specs.declared.header.Header.{Header}
 use Rattle.lf_codec.specs.declared.fault.CodecFault.{CodecFault}
 use Rattle.lf_codec.specs.Laws.{BytesAreOfOneTrace, FaultlessBytesAreTraces}

@@ -5,8 +5,8 @@ use Rattle.std.specs.List.{range_with_len}
 use Rattle.std.proofs.Math.Seq.{get_or-append_seam}
 use Rattle.std.proofs.lemmas.Bool.{cases_lt}
 use Rattle.std.proofs.lemmas.List.{length-append, get_or_append_left}
-use Rattle.lf_model.specs.Ring.{skeletons_of}
-use Rattle.lf_model.specs.Run.{of_log}
+use Rattle.lf_rules.specs.Ring.{skeletons_of}
+use Rattle.lf_rules.specs.Run.{of_log}
 
 last_of : {X : Type 0} (xs : List X) (x d : X) (n : ℕ) → n ≡ length xs → get_or (xs ++ x ∷ []) n d ≡ x
 last_of xs x d n e = rw e (get_or-append_seam xs x [] d)

@@ -1,16 +1,16 @@
 -- Outcomes, one for each port or each bank.
 use Rattle.std.proofs.Common.{◌≡◌, ℕ, ◌<◌, List, length, refl, subst, arith}
-use Rattle.lf_model.specs.declared.shape.Shape.{Shape}
-use Rattle.lf_model.specs.declared.event.Record.{Record}
-use Rattle.lf_model.specs.declared.outcome.Outcome.{Outcome}
-use Rattle.lf_model.specs.declared.outcome.Outcome.TheVariants as outcomes
-use Rattle.lf_model.specs.Address.{FlatMemory}
-use Rattle.lf_model.specs.Order.{log_at}
-use Rattle.lf_model.specs.Outcomes.{IsPortOutcome, IsBankOutcome, IsOutcomeOf, first_local}
-use Rattle.lf_model.specs.Run.{IsRunOf}
-use Rattle.lf_model.specs.Table.{Side, OfPort, OfBank}
+use Rattle.lf_rules.specs.declared.shape.Shape.{Shape}
+use Rattle.lf_rules.specs.declared.event.Record.{Record}
+use Rattle.lf_rules.specs.declared.outcome.Outcome.{Outcome}
+use Rattle.lf_rules.specs.declared.outcome.Outcome.TheVariants as outcomes
+use Rattle.lf_rules.specs.Address.{FlatMemory}
+use Rattle.lf_rules.specs.Order.{log_at}
+use Rattle.lf_rules.specs.Outcomes.{IsPortOutcome, IsBankOutcome, IsOutcomeOf, first_local}
+use Rattle.lf_rules.specs.Run.{IsRunOf}
+use Rattle.lf_rules.specs.Table.{Side, OfPort, OfBank}
 use Rattle.lf_verdict.specs.declared.standing_verdict.Broken.{Broken}
-use Rattle.lf_model.specs.Numbers.{IsNumbered}
+use Rattle.lf_rules.specs.Numbers.{IsNumbered}
 use Rattle.lf_verdict.specs.Parts.{PartsRun, PortRuns, BankRuns, IsPortFault, IsBankFault}
 use Rattle.lf_verdict.specs.Judging.{AreWholeBelow, NoneBroken, IsFirstBroken, IsBroken, outcome_at}
 

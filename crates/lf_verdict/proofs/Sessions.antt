@@ -5,10 +5,10 @@ use Rattle.std.specs.List.{AllByRecursion}
 use Rattle.std.proofs.lemmas.List.{append-nil, length-append, take-append-le, get_or_append_left, get_or-append_right}
 use Rattle.std.proofs.lemmas.List.Elements.{filter-append}
 use Rattle.std.proofs.lemmas.Bool.{cond-true, eq-eqb}
-use Rattle.lf_model.specs.declared.shape.Shape.{Shape}
-use Rattle.lf_model.specs.declared.event.Record.{Record}
-use Rattle.lf_model.specs.Fits.{Bytes}
-use Rattle.lf_model.specs.Run.{of_log}
+use Rattle.lf_rules.specs.declared.shape.Shape.{Shape}
+use Rattle.lf_rules.specs.declared.event.Record.{Record}
+use Rattle.lf_rules.specs.Fits.{Bytes}
+use Rattle.lf_rules.specs.Run.{of_log}
 use Rattle.lf_codec.specs.declared.header.Header.{Header}
 use Rattle.lf_codec.specs.declared.fault.CodecFault.{CodecFault}
 use Rattle.lf_codec.specs.declared.fault.Told.{Told}
@@ -39,7 +39,7 @@ use Rattle.lf_codec.specs.declared.fault.Told.TheVariants as tolds
 use Rattle.std.specs.Prelude.{IsSome}
 use Rattle.lf_verdict.specs.declared.intake.Judging.{Judging}
 use Rattle.lf_verdict.specs.declared.intake.Judging.TheVariants.{Waiting, Running, Another}
-use Rattle.lf_model.specs.InRange.{IsShape}
+use Rattle.lf_rules.specs.InRange.{IsShape}
 use Rattle.lf_verdict.specs.Verdict.{Differs, IsOfAnother}
 
 -- ---- the next record may come

@@ -9,20 +9,20 @@ use Rattle.std.proofs.lemmas.List.FromFn.{length-map-range_with_len}
 use Rattle.std.proofs.lemmas.List.Sums.{sum_by-le}
 use Rattle.std.proofs.Math.Nat.{mul-le-mul_right}
 use Rattle.std.proofs.lemmas.List.Sorted.{IsPermutation-map, IsPermutation-trans, length_permutation, sum_by-IsPermutation}
-use Rattle.lf_model.specs.declared.shape.Shape.{Shape}
-use Rattle.lf_model.specs.declared.event.Record.{Record}
-use Rattle.lf_model.specs.declared.rule.Rule.{Rule}
-use Rattle.lf_model.specs.declared.outcome.Outcome.{Outcome}
-use Rattle.lf_model.specs.declared.outcome.Outcome.TheVariants as outcomes
-use Rattle.lf_model.specs.Address.{FlatMemory}
-use Rattle.lf_model.specs.Fits.{Fits}
-use Rattle.lf_model.specs.Order.{log_at, Takes}
-use Rattle.lf_model.specs.Ring.{entry_of, skeletons_of}
+use Rattle.lf_rules.specs.declared.shape.Shape.{Shape}
+use Rattle.lf_rules.specs.declared.event.Record.{Record}
+use Rattle.lf_rules.specs.declared.rule.Rule.{Rule}
+use Rattle.lf_rules.specs.declared.outcome.Outcome.{Outcome}
+use Rattle.lf_rules.specs.declared.outcome.Outcome.TheVariants as outcomes
+use Rattle.lf_rules.specs.Address.{FlatMemory}
+use Rattle.lf_rules.specs.Fits.{Fits}
+use Rattle.lf_rules.specs.Order.{log_at, Takes}
+use Rattle.lf_rules.specs.Ring.{entry_of, skeletons_of}
 use Rattle.lf_join.specs.Join.{BanksAreWhole}
-use Rattle.lf_model.specs.Outcomes.{IsPortOutcome, IsBankOutcome}
-use Rattle.lf_model.specs.Numbers.{all_records, numbers_of, bank_numbers, times, IsMissing, IsFineBelow, IsWhole}
-use Rattle.lf_model.specs.Run.{of_log, of_bank, Interleaves}
-use Rattle.lf_model.proofs.Permuted.{interleaving_permutes_bank}
+use Rattle.lf_rules.specs.Outcomes.{IsPortOutcome, IsBankOutcome}
+use Rattle.lf_rules.specs.Numbers.{all_records, numbers_of, bank_numbers, times, IsMissing, IsFineBelow, IsWhole}
+use Rattle.lf_rules.specs.Run.{of_log, of_bank, Interleaves}
+use Rattle.lf_rules.proofs.Permuted.{interleaving_permutes_bank}
 use Rattle.lf_logs.specs.declared.order.NumberFault.{NumberFault}
 use Rattle.lf_logs.specs.declared.order.NumberFault.TheVariants as numbers
 use Rattle.lf_logs.specs.Places.{IsNumberFault}

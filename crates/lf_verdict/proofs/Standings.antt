@@ -5,13 +5,13 @@ use Rattle.std.specs.Global.{Vec}
 use Rattle.std.specs.Vec.{with_item}
 use Rattle.std.proofs.lemmas.List.{length-map, length-set, map-set, map-append, get_or-map, get_or-set_same, get_or-set_other}
 use Rattle.std.proofs.lemmas.Bool.{cases_eq}
-use Rattle.lf_model.specs.declared.shape.Shape.{Shape}
-use Rattle.lf_model.specs.declared.event.Record.{Record}
-use Rattle.lf_model.specs.Address.{FlatMemory}
-use Rattle.lf_model.specs.Fits.{Fits}
-use Rattle.lf_model.specs.Order.{log_at}
-use Rattle.lf_model.specs.Ring.{entry_of, skeletons_of}
-use Rattle.lf_model.specs.Run.{of_log, of_bank}
+use Rattle.lf_rules.specs.declared.shape.Shape.{Shape}
+use Rattle.lf_rules.specs.declared.event.Record.{Record}
+use Rattle.lf_rules.specs.Address.{FlatMemory}
+use Rattle.lf_rules.specs.Fits.{Fits}
+use Rattle.lf_rules.specs.Order.{log_at}
+use Rattle.lf_rules.specs.Ring.{entry_of, skeletons_of}
+use Rattle.lf_rules.specs.Run.{of_log, of_bank}
 use Rattle.lf_logs.specs.Lists.{logs_of}
 use Rattle.lf_logs.proofs.Splitting.{of_key-push_own, of_key-push_other, parts_of-push, length-parts_of, get_or-parts_of}
 use Rattle.lf_join.specs.Join as joins

@@ -5,11 +5,11 @@ use Rattle.std.specs.List.{AllByRecursion}
 use Rattle.std.proofs.lemmas.Bool.{cases_lt}
 use Rattle.std.proofs.lemmas.List.FromFn.{get_or-map-range_with_len, length-map-range_with_len}
 use Rattle.std.proofs.lemmas.List.{get_or_past}
-use Rattle.lf_model.specs.declared.shape.Shape.{Shape}
-use Rattle.lf_model.specs.declared.event.Record.{Record}
-use Rattle.lf_model.specs.Fits.{Bytes, FitsRecord, Fits, is_factor}
-use Rattle.lf_model.specs.Run.{of_log, NameTheirLogs}
-use Rattle.lf_model.specs.Order.{log_at}
+use Rattle.lf_rules.specs.declared.shape.Shape.{Shape}
+use Rattle.lf_rules.specs.declared.event.Record.{Record}
+use Rattle.lf_rules.specs.Fits.{Bytes, FitsRecord, Fits, is_factor}
+use Rattle.lf_rules.specs.Run.{of_log, NameTheirLogs}
+use Rattle.lf_rules.specs.Order.{log_at}
 use Rattle.lf_codec.specs.declared.header.Header.{Header}
 use Rattle.lf_codec.specs.Trace.{FitsIn, FitsTrace}
 use Rattle.lf_logs.specs.Lists.{logs_of}

@@ -1,6 +1,6 @@
 -- Which verdict a trace has for the hierarchy that a text says.
 use Rattle.std.specs.Prelude.{◌≡◌, ℕ, List, length, Ok}
-use Rattle.lf_model.specs.declared.shape.Shape.{Shape}
+use Rattle.lf_rules.specs.declared.shape.Shape.{Shape}
 use Rattle.lf_config.specs.declared.fault.ConfigFault.{ConfigFault}
 use Rattle.lf_config.specs.declared.fault.ConfigFault.TheVariants as told
 use Rattle.lf_config.specs.Configuration.{configuration_of, Tells}

@@ -1,11 +1,11 @@
 -- The laws about verdicts.
 use Rattle.std.specs.Prelude.{◌≡◌, ℕ, ◌<◌, List, slice_index}
-use Rattle.lf_model.specs.declared.shape.Shape.{Shape}
-use Rattle.lf_model.specs.declared.event.Record.{Record}
-use Rattle.lf_model.specs.Address.{FlatMemory, flat_memory}
-use Rattle.lf_model.specs.Fits.{Bytes}
-use Rattle.lf_model.specs.Run.{of_log, Interleaves, KeepsNumbers, IsRun}
-use Rattle.lf_model.specs.Copies.{IsCopyRun}
+use Rattle.lf_rules.specs.declared.shape.Shape.{Shape}
+use Rattle.lf_rules.specs.declared.event.Record.{Record}
+use Rattle.lf_rules.specs.Address.{FlatMemory, flat_memory}
+use Rattle.lf_rules.specs.Fits.{Bytes}
+use Rattle.lf_rules.specs.Run.{of_log, Interleaves, KeepsNumbers, IsRun}
+use Rattle.lf_rules.specs.Copies.{IsCopyRun}
 use Rattle.lf_codec.specs.declared.header.Header.{Header}
 use Rattle.lf_codec.specs.Trace.{IsTrace}
 use Rattle.lf_verdict.specs.declared.answer.Fault.{Fault}

@@ -2,14 +2,14 @@
 use Rattle.std.specs.Prelude.{◌≡◌, ℕ, ◌+◌, List}
 use Rattle.std.specs.Borrow.{Bor}
 use Rattle.std.specs.List.{flat_map}
-use Rattle.lf_model.specs.declared.shape.Shape.{Shape}
-use Rattle.lf_model.specs.declared.event.Record.{Record}
-use Rattle.lf_model.specs.Address.{flat_memory}
-use Rattle.lf_model.specs.Fits.{Bytes}
-use Rattle.lf_model.specs.Run.{Interleaves, KeepsNumbers, IsRun}
-use Rattle.lf_model.specs.Sharing.{IsSharing}
-use Rattle.lf_model.specs.History.{IsOnce, IsFlat}
-use Rattle.lf_model.specs.Order.{Takes}
+use Rattle.lf_rules.specs.declared.shape.Shape.{Shape}
+use Rattle.lf_rules.specs.declared.event.Record.{Record}
+use Rattle.lf_rules.specs.Address.{flat_memory}
+use Rattle.lf_rules.specs.Fits.{Bytes}
+use Rattle.lf_rules.specs.Run.{Interleaves, KeepsNumbers, IsRun}
+use Rattle.lf_rules.specs.Sharing.{IsSharing}
+use Rattle.lf_rules.specs.History.{IsOnce, IsFlat}
+use Rattle.lf_rules.specs.Order.{Takes}
 use Rattle.lf_codec.specs.declared.header.Header.{Header}
 use Rattle.lf_codec.specs.Trace.{IsTrace}
 use Rattle.lf_logs.specs.Lists.{logs_of}

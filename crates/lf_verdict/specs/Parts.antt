@@ -1,14 +1,14 @@
 -- The parts of a trace, each judged by itself.
 use Rattle.std.specs.Prelude.{ℕ, ◌<◌, List}
-use Rattle.lf_model.specs.declared.shape.Shape.{Shape}
-use Rattle.lf_model.specs.declared.event.Record.{Record}
-use Rattle.lf_model.specs.declared.rule.Rule.{Rule}
-use Rattle.lf_model.specs.Address.{FlatMemory}
-use Rattle.lf_model.specs.Table.{OfPort, OfBank}
-use Rattle.lf_model.specs.Run.{IsSliceRun, IsPortRun, BreaksAt}
-use Rattle.lf_model.specs.Order.{log_at}
-use Rattle.lf_model.specs.Numbers.{bank_numbers, IsWhole, IsNumbered, IsFineBelow}
-use Rattle.lf_model.specs.Outcomes.{first_local}
+use Rattle.lf_rules.specs.declared.shape.Shape.{Shape}
+use Rattle.lf_rules.specs.declared.event.Record.{Record}
+use Rattle.lf_rules.specs.declared.rule.Rule.{Rule}
+use Rattle.lf_rules.specs.Address.{FlatMemory}
+use Rattle.lf_rules.specs.Table.{OfPort, OfBank}
+use Rattle.lf_rules.specs.Run.{IsSliceRun, IsPortRun, BreaksAt}
+use Rattle.lf_rules.specs.Order.{log_at}
+use Rattle.lf_rules.specs.Numbers.{bank_numbers, IsWhole, IsNumbered, IsFineBelow}
+use Rattle.lf_rules.specs.Outcomes.{first_local}
 
 -- the bank's numbers are 0 to n - 1, each once
 abbrev pub HasWholeNumbers : List (List Record) → ℕ → Type 0

@@ -1,18 +1,18 @@
 -- How the parts of a trace stand while its records come.
 use Rattle.std.specs.Prelude.{◌≡◌, ℕ, ◌+◌, ◌<◌, ◌≤◌, ◌^◌, ◌++◌, List, [], ◌∷◌, length, slice_index_or, None}
 use Rattle.std.specs.List.{AllByRecursion}
-use Rattle.lf_model.specs.declared.shape.Shape.{Shape}
-use Rattle.lf_model.specs.declared.event.Record.{Record}
-use Rattle.lf_model.specs.declared.outcome.Outcome.{Outcome}
-use Rattle.lf_model.specs.declared.outcome.Outcome.TheVariants as outcomes
-use Rattle.lf_model.specs.Address.{FlatMemory}
-use Rattle.lf_model.specs.Fits.{Fits}
-use Rattle.lf_model.specs.InRange.{IsShape}
-use Rattle.lf_model.specs.Order.{log_at}
-use Rattle.lf_model.specs.Outcomes.{first_local}
-use Rattle.lf_model.specs.Ring.{skeletons_of}
-use Rattle.lf_model.specs.Run.{of_log, of_bank, BreaksAt}
-use Rattle.lf_model.specs.Table.{OfPort, OfBank}
+use Rattle.lf_rules.specs.declared.shape.Shape.{Shape}
+use Rattle.lf_rules.specs.declared.event.Record.{Record}
+use Rattle.lf_rules.specs.declared.outcome.Outcome.{Outcome}
+use Rattle.lf_rules.specs.declared.outcome.Outcome.TheVariants as outcomes
+use Rattle.lf_rules.specs.Address.{FlatMemory}
+use Rattle.lf_rules.specs.Fits.{Fits}
+use Rattle.lf_rules.specs.InRange.{IsShape}
+use Rattle.lf_rules.specs.Order.{log_at}
+use Rattle.lf_rules.specs.Outcomes.{first_local}
+use Rattle.lf_rules.specs.Ring.{skeletons_of}
+use Rattle.lf_rules.specs.Run.{of_log, of_bank, BreaksAt}
+use Rattle.lf_rules.specs.Table.{OfPort, OfBank}
 use Rattle.lf_logs.specs.Lists.{logs_of}
 use Rattle.lf_logs.specs.Reordering.{first_with, HasOrdered}
 use Rattle.lf_logs.specs.Tags.{PortKept, PortStandsAfter}

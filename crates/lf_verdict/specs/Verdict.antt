@@ -1,13 +1,13 @@
 -- Which verdict a trace has.
 use Rattle.std.specs.Prelude.{◌≡◌, ℕ, List, length, Some}
-use Rattle.lf_model.specs.declared.shape.Shape.{Shape}
-use Rattle.lf_model.specs.declared.event.Record.{Record}
-use Rattle.lf_model.specs.Address.{FlatMemory, flat_memory}
-use Rattle.lf_model.specs.Fits.{Bytes}
-use Rattle.lf_model.specs.Numbers.{bank_numbers, IsMissing, IsDouble}
-use Rattle.lf_model.specs.Order.{IsLeastOrder}
-use Rattle.lf_model.specs.declared.ring.Knot.{Knot}
-use Rattle.lf_model.specs.Ring.{skeletons_of, IsRing}
+use Rattle.lf_rules.specs.declared.shape.Shape.{Shape}
+use Rattle.lf_rules.specs.declared.event.Record.{Record}
+use Rattle.lf_rules.specs.Address.{FlatMemory, flat_memory}
+use Rattle.lf_rules.specs.Fits.{Bytes}
+use Rattle.lf_rules.specs.Numbers.{bank_numbers, IsMissing, IsDouble}
+use Rattle.lf_rules.specs.Order.{IsLeastOrder}
+use Rattle.lf_rules.specs.declared.ring.Knot.{Knot}
+use Rattle.lf_rules.specs.Ring.{skeletons_of, IsRing}
 use Rattle.lf_join.specs.Join.{IsStuckRing}
 use Rattle.lf_codec.specs.declared.header.Header.{Header}
 use Rattle.lf_codec.specs.Trace.{IsTrace}

@@ -2,7 +2,7 @@
 
 use lf_codec::CodecFault;
 use lf_config::ConfigFault;
-use lf_model::{Ring, Rule};
+use lf_rules::{Ring, Rule};
 
 /// What is said of a trace.
 #[derive(Debug, Drop, PartialEq)]

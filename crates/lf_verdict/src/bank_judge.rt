@@ -1,18 +1,18 @@
 //! A bank, judged while its records come.
 
 ghost use Rattle.std.specs.Prelude.{◌≡◌, ◌<◌, ℕ, List, [], ◌∷◌, ◌++◌, length, IfOk, OnOk};
-ghost use Rattle.lf_model.specs.declared.shape.Shape.{Shape};
-ghost use Rattle.lf_model.specs.declared.event.Record.{Record};
-ghost use Rattle.lf_model.specs.Address.{FlatMemory, flat_memory};
-ghost use Rattle.lf_model.specs.Fits.{Fits};
-ghost use Rattle.lf_model.specs.InRange.{IsShape};
+ghost use Rattle.lf_rules.specs.declared.shape.Shape.{Shape};
+ghost use Rattle.lf_rules.specs.declared.event.Record.{Record};
+ghost use Rattle.lf_rules.specs.Address.{FlatMemory, flat_memory};
+ghost use Rattle.lf_rules.specs.Fits.{Fits};
+ghost use Rattle.lf_rules.specs.InRange.{IsShape};
 ghost use Rattle.lf_replay.specs.Bytes.{bank_part};
 ghost use Rattle.lf_replay.specs.Step.{IsForStep};
 ghost use Rattle.lf_verdict.specs.Standing.{IsBankAt, IsBankJudged, IsBankSettled};
 
 use lf_logs::Reorder;
-use lf_model::{Memory, NoMemory, Outcome, Record, Shape};
 use lf_replay::{BankFault, Step};
+use lf_rules::{Memory, NoMemory, Outcome, Record, Shape};
 use std::alloc::Global;
 
 /// A bank, the records that came before their turn, and the first that broke a rule.

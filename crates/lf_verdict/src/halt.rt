@@ -4,7 +4,7 @@ ghost use Rattle.std.specs.Prelude.{◌≡◌, ◌++◌, ◌∷◌, [], OnOk};
 ghost use Rattle.lf_verdict.specs.declared.halt.Halt.TheVariants as halts;
 
 use crate::answer::Fault;
-use lf_model::NoMemory;
+use lf_rules::NoMemory;
 
 /// What ends the check before a yes.
 #[derive(Drop)]

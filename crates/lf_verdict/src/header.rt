@@ -6,7 +6,7 @@ ghost use Rattle.lf_verdict.specs.Verdict.{Differs};
 
 use crate::answer::HeaderField;
 use lf_codec::Header;
-use lf_model::Shape;
+use lf_rules::Shape;
 
 /// The first number of the header that is not that of the shape.
 pub fn differing(shape: &Shape, header: Header) -> Option<HeaderField>

@@ -1,14 +1,14 @@
 //! What a session keeps of the bytes that it was fed.
 
 ghost use Rattle.std.specs.Prelude.{◌≡◌, ◌++◌, ℕ, List, [], Some, None, IsSome, IfSome, Ok, OnOk};
-ghost use Rattle.lf_model.specs.InRange.{IsShape};
+ghost use Rattle.lf_rules.specs.InRange.{IsShape};
 ghost use Rattle.lf_verdict.specs.Judging.{IsAnswer};
 ghost use Rattle.lf_verdict.specs.Session.{refusal_of, stop_told, IsStopOf, IsRunning, HasTaken, IsLackingIf, IsDrained, HasFed};
 ghost use Rattle.lf_verdict.specs.Reading.{fault_in};
 ghost use Rattle.lf_verdict.specs.declared.intake.Judging.TheVariants.{Waiting};
-ghost use Rattle.lf_model.specs.declared.shape.Shape.{Shape};
-ghost use Rattle.lf_model.specs.declared.event.Record.{Record};
-ghost use Rattle.lf_model.specs.Fits.{Bytes};
+ghost use Rattle.lf_rules.specs.declared.shape.Shape.{Shape};
+ghost use Rattle.lf_rules.specs.declared.event.Record.{Record};
+ghost use Rattle.lf_rules.specs.Fits.{Bytes};
 ghost use Rattle.lf_codec.specs.Reader.{HasRead};
 
 use crate::answer::{HeaderField, Refusal, Verdict};
@@ -18,7 +18,7 @@ use crate::standing::Standing;
 use lf_codec::{
     CodecCause, CodecFault, Reader, Told, exact_reading, faults_stand, header_of_bytes, read_so_far,
 };
-use lf_model::{Memory, NoMemory, Shape};
+use lf_rules::{Memory, NoMemory, Shape};
 use std::alloc::Global;
 
 /// What ended the judging.

@@ -4,7 +4,7 @@ ghost use Rattle.lf_verdict.specs.Laws.{YesIsLegal, NoHasNoRun, VerdictsAreOne, 
 
 use lf_codec::{faultless_bytes, one_trace};
 use lf_join::joins_are_one;
-use lf_model::{
+use lf_rules::{
     copies_are_flat, gaps_admit_none, interleavings_are_numbered, numbers_are_whole,
     orders_interleave, outcomes_are_one, rings_admit_none, runs_are_right, runs_by_parts,
     skeletons_follow,

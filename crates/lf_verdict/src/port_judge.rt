@@ -1,12 +1,12 @@
 //! A port, judged while its records come.
 
 ghost use Rattle.std.specs.Prelude.{◌≡◌, ℕ, List, [], ◌∷◌, ◌++◌, length};
-ghost use Rattle.lf_model.specs.declared.shape.Shape.{Shape};
-ghost use Rattle.lf_model.specs.declared.event.Record.{Record};
+ghost use Rattle.lf_rules.specs.declared.shape.Shape.{Shape};
+ghost use Rattle.lf_rules.specs.declared.event.Record.{Record};
 ghost use Rattle.lf_verdict.specs.Standing.{IsPortJudged};
 
 use lf_logs::PortStep;
-use lf_model::{Outcome, Record, Shape};
+use lf_rules::{Outcome, Record, Shape};
 
 /// A port, and the first of its records that broke a rule.
 #[derive(Drop)]

@@ -1,7 +1,7 @@
 //! The verdict of a trace, judged while its bytes come.
 
 ghost use Rattle.std.specs.Prelude.{◌≡◌, ◌++◌, ℕ, List, [], Ok, None, IfOk, IfErr, IfSome, IsSome, OnOk};
-ghost use Rattle.lf_model.specs.InRange.{IsShape};
+ghost use Rattle.lf_rules.specs.InRange.{IsShape};
 ghost use Rattle.lf_codec.specs.Reading.{fault_so_far};
 ghost use Rattle.lf_config.specs.Configuration.{configuration_of};
 ghost use Rattle.lf_verdict.specs.declared.answer.Verdict.{Verdict};
@@ -15,7 +15,7 @@ use crate::intake::Intake;
 use crate::laws::{no_has_no_run, yes_is_legal};
 use lf_codec::Told;
 use lf_config::{ConfigFault, read};
-use lf_model::Shape;
+use lf_rules::Shape;
 use std::alloc::Global;
 use std::marker::Model;
 

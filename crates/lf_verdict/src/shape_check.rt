@@ -1,14 +1,14 @@
 //! The verdict of bytes that come in pieces.
 
 ghost use Rattle.std.specs.Prelude.{◌≡◌, ◌↔◌, ℕ};
-ghost use Rattle.lf_model.specs.InRange.{IsShape};
+ghost use Rattle.lf_rules.specs.InRange.{IsShape};
 ghost use Rattle.lf_verdict.specs.Legal.{joined};
 ghost use Rattle.lf_verdict.specs.Verdict.{IsWorkerCount, IsVerdictOf, IsLegalYes, IsJudged};
 ghost use Rattle.lf_verdict.specs.Laws.{IsRunlessNo};
 
 use crate::answer::{Refusal, Verdict};
 use crate::session::Session;
-use lf_model::Shape;
+use lf_rules::Shape;
 use std::alloc::Global;
 
 /// The verdict of the bytes in these pieces, by a session that is fed them.

@@ -1,16 +1,16 @@
 //! The parts of a trace, judged while its records come.
 
 ghost use Rattle.std.specs.Prelude.{◌≡◌, ◌<◌, ℕ, List, [], ◌∷◌, ◌++◌, length, IfOk, OnOk};
-ghost use Rattle.lf_model.specs.declared.shape.Shape.{Shape};
-ghost use Rattle.lf_model.specs.declared.event.Record.{Record};
-ghost use Rattle.lf_model.specs.Address.{FlatMemory, flat_memory};
-ghost use Rattle.lf_model.specs.InRange.{IsShape};
+ghost use Rattle.lf_rules.specs.declared.shape.Shape.{Shape};
+ghost use Rattle.lf_rules.specs.declared.event.Record.{Record};
+ghost use Rattle.lf_rules.specs.Address.{FlatMemory, flat_memory};
+ghost use Rattle.lf_rules.specs.InRange.{IsShape};
 ghost use Rattle.lf_verdict.specs.Standing.{MayCome, IsEntered, StandsAfterAll};
 
 use crate::bank_judge::BankJudge;
 use crate::halt::push;
 use crate::port_judge::PortJudge;
-use lf_model::{NoMemory, Record, Skeleton};
+use lf_rules::{NoMemory, Record, Skeleton};
 
 /// Each log's entries so far, and how each port and each bank stands.
 #[derive(Drop)]

@@ -1,8 +1,8 @@
 //! The parts of a trace before its first record.
 
 ghost use Rattle.std.specs.Prelude.{◌≡◌, ◌+◌, ◌≤◌, ◌<◌, ℕ, [], IfOk, length, replicate, slice_index_or};
-ghost use Rattle.lf_model.specs.Address.{flat_memory};
-ghost use Rattle.lf_model.specs.InRange.{IsShape};
+ghost use Rattle.lf_rules.specs.Address.{flat_memory};
+ghost use Rattle.lf_rules.specs.InRange.{IsShape};
 ghost use Rattle.lf_join.specs.Join.{lists_of};
 ghost use Rattle.lf_replay.specs.Bytes.{bank_part};
 ghost use Rattle.lf_verdict.specs.declared.port_judge.PortJudge.{PortJudge};
@@ -13,7 +13,7 @@ use crate::bank_judge::BankJudge;
 use crate::halt::push;
 use crate::port_judge::PortJudge;
 use crate::standing::Standing;
-use lf_model::{Memory, NoMemory, Shape, Skeleton};
+use lf_rules::{Memory, NoMemory, Shape, Skeleton};
 use std::alloc::Global;
 
 fn empty_logs(alloc: Global, count: u32) -> Result<Vec<Skeleton>, NoMemory>

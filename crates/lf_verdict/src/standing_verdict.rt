@@ -1,9 +1,9 @@
 //! The verdict of a trace whose records have all come.
 
 ghost use Rattle.std.specs.Prelude.{◌≡◌, ◌≤◌, ◌<◌, List, map, length, IfOk, IfErr, OnOk, IfSome, IfNone};
-ghost use Rattle.lf_model.specs.declared.shape.Shape.{Shape};
-ghost use Rattle.lf_model.specs.declared.event.Record.{Record};
-ghost use Rattle.lf_model.specs.Address.{FlatMemory};
+ghost use Rattle.lf_rules.specs.declared.shape.Shape.{Shape};
+ghost use Rattle.lf_rules.specs.declared.event.Record.{Record};
+ghost use Rattle.lf_rules.specs.Address.{FlatMemory};
 ghost use Rattle.lf_verdict.specs.Parts.{PartsRun};
 ghost use Rattle.lf_verdict.specs.Judging.{IsHalt, number_halt, AreWholeBelow, IsOrderOf, IsLogsVerdict, IsFirstBroken, NoneBroken};
 ghost use Rattle.lf_verdict.specs.Standing.{logs_so_far, IsShort, StandsAfterAll};
@@ -15,7 +15,7 @@ use crate::port_judge::PortJudge;
 use crate::standing::Standing;
 use lf_join::{JoinFault, join};
 use lf_logs::NumberFault;
-use lf_model::{Outcome, Rule};
+use lf_rules::{Outcome, Rule};
 use std::alloc::Global;
 
 /// A port or a bank that is broken: at a place, by a rule.

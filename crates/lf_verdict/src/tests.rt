@@ -1,12 +1,12 @@
 //! The worked examples, whose answers come from the description of the rules.
 
 ghost use Rattle.std.specs.Prelude.{◌<◌, ◌≤◌};
-ghost use Rattle.lf_model.specs.InRange.{IsFrom, IsShape};
+ghost use Rattle.lf_rules.specs.InRange.{IsFrom, IsShape};
 
 use super::*;
 use lf_codec::{CodecCause, CodecFault, Told};
 use lf_config::{ConfigFault, Key};
-use lf_model::{Knot, Level, OrgShape, Ring, Rule, Shape};
+use lf_rules::{Knot, Level, OrgShape, Ring, Rule, Shape};
 use std::alloc::{AllocError, Global};
 use std::process::Abort;
 use std::test::Fail;

@@ -1,8 +1,8 @@
 -- Laws of the verdicts for a shape and for a configuration.
 use Rattle.std.proofs.Common.{◌≡◌, ◌≢◌, ℕ, ◌<◌, ◌≤◌, List, Option, None, Some, Result, Ok, Err, sym, ◌∙◌, subst, refl, inl, inr, [], arith}
-use Rattle.lf_model.specs.declared.shape.Shape.{Shape}
-use Rattle.lf_model.specs.Fits.{Bytes}
-use Rattle.lf_model.specs.declared.event.Record.{Record}
+use Rattle.lf_rules.specs.declared.shape.Shape.{Shape}
+use Rattle.lf_rules.specs.Fits.{Bytes}
+use Rattle.lf_rules.specs.declared.event.Record.{Record}
 use Rattle.lf_codec.specs.declared.header.Header.{Header}
 use Rattle.lf_codec.specs.Trace.{IsTrace}
 use Rattle.lf_codec.specs.Laws.{AreBytes, ReadingIsExact, FaultsSoFarAreNotTruncated, FaultsStand}

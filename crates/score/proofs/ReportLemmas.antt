@@ -5,12 +5,12 @@ use Rattle.std.specs.Global.{Vec}
 use Rattle.std.proofs.lemmas.List.{length-map, get_or-map}
 use Rattle.std.proofs.lemmas.List.Elements.{All-from_recursion}
 use Rattle.std.proofs.lemmas.List.FromFn.{length-map-range_with_len}
-use Rattle.lf_model.specs.declared.shape.Shape.{Shape}
-use Rattle.lf_model.specs.declared.event.Record.{Record}
-use Rattle.lf_model.specs.Fits.{Fits}
-use Rattle.lf_model.specs.Order.{log_at}
-use Rattle.lf_model.specs.Run.{of_log}
-use Rattle.lf_model.specs.Numbers.{bank_numbers, IsWhole}
+use Rattle.lf_rules.specs.declared.shape.Shape.{Shape}
+use Rattle.lf_rules.specs.declared.event.Record.{Record}
+use Rattle.lf_rules.specs.Fits.{Fits}
+use Rattle.lf_rules.specs.Order.{log_at}
+use Rattle.lf_rules.specs.Run.{of_log}
+use Rattle.lf_rules.specs.Numbers.{bank_numbers, IsWhole}
 use Rattle.lf_codec.specs.Laws.{AreBytes, ReadingIsExact}
 use Rattle.lf_codec.specs.Reading.{reading_of}
 use Rattle.lf_logs.specs.Lists.{lists_of, logs_of}

@@ -1,7 +1,7 @@
 -- Laws of what a run for statistics comes to and tells.
 use Rattle.std.proofs.Common.{◌≡◌, ℕ, List, Option, None, Some, Result, Ok, Err, IfOk, String, string_bytes, sym, ap, ◌∙◌, subst, refl, inl, inr}
 use Rattle.std.specs.Global.{Global}
-use Rattle.lf_model.specs.declared.shape.Shape.{Shape}
+use Rattle.lf_rules.specs.declared.shape.Shape.{Shape}
 use Rattle.lf_verdict.specs.declared.answer.Verdict.{Verdict}
 use Rattle.lf_verdict.specs.declared.answer.Verdict.TheVariants.{Yes, No, Refused}
 use Rattle.lf_verdict.specs.Verdict.{IsJudged, IsVerdictOf}

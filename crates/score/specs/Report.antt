@@ -1,10 +1,10 @@
 -- What a run for statistics answers and writes.
 use Rattle.std.specs.Prelude.{◌≡◌, ℕ, ◌<◌, List, Option, Some, None, Result, Ok, Err, String, string_bytes}
 use Rattle.std.specs.Global.{Global}
-use Rattle.lf_model.specs.declared.shape.Shape.{Shape}
-use Rattle.lf_model.specs.declared.event.Record.{Record}
-use Rattle.lf_model.specs.Fits.{Bytes}
-use Rattle.lf_model.specs.Numbers.{bank_numbers, IsWhole}
+use Rattle.lf_rules.specs.declared.shape.Shape.{Shape}
+use Rattle.lf_rules.specs.declared.event.Record.{Record}
+use Rattle.lf_rules.specs.Fits.{Bytes}
+use Rattle.lf_rules.specs.Numbers.{bank_numbers, IsWhole}
 use Rattle.lf_config.specs.Configuration.{configuration_of}
 use Rattle.lf_stats.specs.declared.counts.Stats.{Stats}
 use Rattle.lf_stats.specs.Answer.{AreStats}

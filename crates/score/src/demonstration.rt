@@ -1,10 +1,10 @@
 //! The demonstration: a small cache that runs in threads, whose trace is written to a file.
 
-ghost use Rattle.lf_model.specs.InRange.{IsShape};
+ghost use Rattle.lf_rules.specs.InRange.{IsShape};
 
 use lf_config::{ConfigFault, read};
 use lf_demo::{DemoFault, demo_trace};
-use lf_model::Shape;
+use lf_rules::Shape;
 use std::fmt;
 use std::rt::Files;
 use std::sync::Wait;

@@ -10,7 +10,7 @@ ghost use Rattle.score.specs.Run.{GaveSound, HasGathered, piece_len};
 
 use crate::counted::Counted;
 use lf_codec::{Told, fault_so_far};
-use lf_model::NoMemory;
+use lf_rules::NoMemory;
 use lf_verdict::{Refusal, Session};
 use std::alloc::{AllocError, Global};
 use std::io::{ErrorKind, Read};

@@ -6,7 +6,7 @@ ghost use Rattle.lf_verdict.specs.declared.answer.Refusal.{Refusal};
 ghost use Rattle.score.specs.Line.{rule_name, cause_name, field_name, logs_text, fault_text, refusal_text, input_text, line_text, line_of, not_read_line};
 
 use lf_codec::CodecCause;
-use lf_model::{Knot, Rule};
+use lf_rules::{Knot, Rule};
 use lf_verdict::{Fault, HeaderField, Refusal, Verdict};
 use std::fmt;
 

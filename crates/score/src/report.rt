@@ -3,13 +3,13 @@
 ghost use Rattle.std.specs.Prelude.{◌≡◌, IfOk, OnOk, string_bytes};
 ghost use Rattle.lf_codec.specs.Laws.{AreBytes};
 ghost use Rattle.lf_codec.specs.Reading.{reading_of};
-ghost use Rattle.lf_model.specs.InRange.{IsShape};
+ghost use Rattle.lf_rules.specs.InRange.{IsShape};
 ghost use Rattle.lf_stats.specs.Text.{stats_text};
 ghost use Rattle.score.specs.Report.{IsCountable, AreStatisticsOf, ArePrintedFor};
 
 use lf_codec::{Reader, exact_reading};
 use lf_logs::split;
-use lf_model::{NoMemory, Record, Shape};
+use lf_rules::{NoMemory, Record, Shape};
 use lf_stats::{Stats, stats};
 use lf_verdict::Verdict;
 use std::alloc::{AllocError, Global};

@@ -1,6 +1,6 @@
 //! The hierarchy that traces are judged for.
 
-use lf_model::{Level, OrgShape, Shape};
+use lf_rules::{Level, OrgShape, Shape};
 
 /// One port with four tags, one bank, blocks of 8 bytes. Each level has one set and one register; level
 /// one has one way and two entries, level two has two ways and one entry.

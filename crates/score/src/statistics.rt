@@ -2,7 +2,7 @@
 
 ghost use Rattle.std.specs.Prelude.{◌≡◌, ◌≢◌, ◌≤◌, ◌<◌, ◌↔◌, ℕ, List, [], take, Ok, Err, IfOk, IfErr, IfSome, IsErrOf, Result};
 ghost use Rattle.std.specs.Io.KnownBytes.{Appends};
-ghost use Rattle.lf_model.specs.InRange.{IsShape};
+ghost use Rattle.lf_rules.specs.InRange.{IsShape};
 ghost use Rattle.lf_config.specs.Configuration.{configuration_of};
 ghost use Rattle.lf_verdict.specs.declared.answer.Verdict.{Verdict};
 ghost use Rattle.lf_verdict.specs.declared.answer.Refusal.{Refusal};
@@ -22,7 +22,7 @@ use crate::keeping::gather_and_keep;
 use crate::output::put;
 use crate::report::{Report, lines_of};
 use lf_codec::{exact_reading, fault_so_far, faults_stand};
-use lf_model::Shape;
+use lf_rules::Shape;
 use lf_verdict::{Refusal, Session, Verdict, no_has_no_run};
 use std::alloc::Global;
 use std::io::{Read, Write};

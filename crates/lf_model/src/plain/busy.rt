@@ -2,12 +2,11 @@
 
 ghost use Rattle.std.specs.Prelude.{◌≡◌, ◌≤◌, ◌&&◌, ◌==◌, Some, None, OnOk, option_copied, is_none};
 ghost use Rattle.std.specs.List.{find};
-ghost use Rattle.lf_model.specs.State.{update};
+ghost use Rattle.lf_rules.specs.State.{update};
 ghost use Rattle.lf_model.specs.Plain.{busy_of, IsTagFree};
-ghost use Rattle.lf_model.specs.Table.{is_at, busy_after, none_busy};
+ghost use Rattle.lf_rules.specs.Table.{is_at, busy_after, none_busy};
 
-use crate::event::{Event, Record};
-use crate::outcome::NoMemory;
+use lf_rules::{Event, NoMemory, Record};
 
 /// A tag of a port, and the bank that owes its reply.
 #[derive(Clone, Copy, Debug, PartialEq, Eq)]

@@ -1,20 +1,18 @@
 //! Whether the bytes that an event carries are those of flat memory.
 
 ghost use Rattle.std.specs.Prelude.{◌≡◌, ◌≤◌, ◌<◌, ◌+◌, ◌*◌, ◌/◌, ◌^◌, length};
-ghost use Rattle.lf_model.specs.Address.{wide_masked, sub_block, part_at, agree_off, block_bytes};
-ghost use Rattle.lf_model.specs.InRange.{IsShape};
-ghost use Rattle.lf_model.specs.declared.event.Event.TheVariants as event;
-ghost use Rattle.lf_model.specs.State.{Slice};
-ghost use Rattle.lf_model.specs.Table.{carries, store_bytes};
+ghost use Rattle.lf_rules.specs.Address.{wide_masked, sub_block, part_at, agree_off, block_bytes};
+ghost use Rattle.lf_rules.specs.InRange.{IsShape};
+ghost use Rattle.lf_rules.specs.declared.event.Event.TheVariants as event;
+ghost use Rattle.lf_rules.specs.State.{Slice};
+ghost use Rattle.lf_rules.specs.Table.{carries, store_bytes};
 ghost use Rattle.lf_model.specs.Plain.{flat_of, slice_of};
 
-use crate::event::{Block, Masks, WideBlock};
-use crate::mask::Mask;
 use crate::plain::judge::sub_block;
 use crate::plain::memory::PlainMemory;
 use crate::plain::registers::store_bytes;
 use crate::plain::slice::PlainSlice;
-use crate::shape::Shape;
+use lf_rules::{Block, Mask, Masks, Shape, WideBlock};
 
 /// Whether a fill carries memory's bytes, off those that waiting stores of the block write.
 pub(crate) fn fill1_agrees(

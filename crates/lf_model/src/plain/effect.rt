@@ -3,20 +3,17 @@
 ghost use Rattle.std.specs.Prelude.{◌≡◌, ℕ, true, ◌∷◌, [], ◌++◌, ◌<◌, map, length, bit_or, OnOk};
 ghost use Rattle.std.specs.List.{position};
 ghost use Rattle.arrayvec.specs.ArrayVec.{ArrayVec};
-ghost use Rattle.lf_model.specs.Address.{FlatMemory};
-ghost use Rattle.lf_model.specs.Lines.{with_line, mark};
-ghost use Rattle.lf_model.specs.Registers.{targets_of};
-ghost use Rattle.lf_model.specs.declared.shape.Shape.{Shape};
-ghost use Rattle.lf_model.specs.declared.event.Op.{Op};
-ghost use Rattle.lf_model.specs.Address.{Masks as MaskList};
-ghost use Rattle.lf_model.specs.InRange.{IsShape};
-ghost use Rattle.lf_model.specs.declared.event.Event.TheVariants as event;
-ghost use Rattle.lf_model.specs.Table.{block_asked, without_asked, without, without_ready, is_head, is_ready_for, reply_of, request_of, memory_after};
+ghost use Rattle.lf_rules.specs.Address.{FlatMemory};
+ghost use Rattle.lf_rules.specs.Lines.{with_line, mark};
+ghost use Rattle.lf_rules.specs.Registers.{targets_of};
+ghost use Rattle.lf_rules.specs.declared.shape.Shape.{Shape};
+ghost use Rattle.lf_rules.specs.declared.event.Op.{Op};
+ghost use Rattle.lf_rules.specs.Address.{Masks as MaskList};
+ghost use Rattle.lf_rules.specs.InRange.{IsShape};
+ghost use Rattle.lf_rules.specs.declared.event.Event.TheVariants as event;
+ghost use Rattle.lf_rules.specs.Table.{block_asked, without_asked, without, without_ready, is_head, is_ready_for, reply_of, request_of, memory_after};
 ghost use Rattle.lf_model.specs.Plain.{flat_of, queue_at, slice_of, slice_next};
 
-use crate::event::Masks;
-use crate::mask::Mask;
-use crate::outcome::NoMemory;
 use crate::plain::judge::{place_of, second_of};
 use crate::plain::lines::{LineMap, WideLineMap, clean_masks, dirty_mask, drop_line, marked_masks};
 use crate::plain::memory::PlainMemory;
@@ -24,7 +21,7 @@ use crate::plain::queue::{drop_head, enqueue, head};
 use crate::plain::registers::{Held, release, store_bytes};
 use crate::plain::request::{Missed, Ready, Request};
 use crate::plain::slice::PlainSlice;
-use crate::shape::Shape;
+use lf_rules::{Mask, Masks, NoMemory, Shape};
 
 fn push<T: Drop>(items: &mut Vec<T>, item: T) -> Result<(), NoMemory>
     ensures { OnOk result (items.new.items ≡ items.old.items ++ item ∷ []) }

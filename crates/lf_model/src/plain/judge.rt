@@ -1,27 +1,24 @@
 //! Which rule a record breaks first. Nothing changes here.
 
 ghost use Rattle.std.specs.Prelude.{◌≡◌, ℕ, ◌<◌, ◌/◌, true, Bool, Option, length, is_none};
-ghost use Rattle.lf_model.specs.declared.event.Event.TheVariants as event;
-ghost use Rattle.lf_model.specs.declared.event.Op.{Op};
+ghost use Rattle.lf_rules.specs.declared.event.Event.TheVariants as event;
+ghost use Rattle.lf_rules.specs.declared.event.Op.{Op};
 ghost use Rattle.arrayvec.specs.ArrayVec.{ArrayVec};
-ghost use Rattle.lf_model.specs.Address.{block_bytes, agree_off, masked, second_of, place_of, sub_block, places};
+ghost use Rattle.lf_rules.specs.Address.{block_bytes, agree_off, masked, second_of, place_of, sub_block, places};
 ghost use Rattle.std.specs.List.{list_all};
-ghost use Rattle.lf_model.specs.Registers.{has_room as model_room, merge_clauses};
-ghost use Rattle.lf_model.specs.InRange.{IsShape};
+ghost use Rattle.lf_rules.specs.Registers.{has_room as model_room, merge_clauses};
+ghost use Rattle.lf_rules.specs.InRange.{IsShape};
 ghost use Rattle.lf_model.specs.Plain.{slice_of, IsFramed};
-ghost use Rattle.lf_model.specs.State.{Slice};
-ghost use Rattle.lf_model.specs.Table.{OfBoth, is_apart, asked_register, position2, rules_of, destination, destinations, destinations2, is_at};
-ghost use Rattle.lf_model.specs.Run.{first_failing};
+ghost use Rattle.lf_rules.specs.State.{Slice};
+ghost use Rattle.lf_rules.specs.Table.{OfBoth, is_apart, asked_register, position2, rules_of, destination, destinations, destinations2, is_at};
+ghost use Rattle.lf_rules.specs.Run.{first_failing};
 
-use crate::event::{Block, Masks};
-use crate::mask::Mask;
 use crate::plain::lines::{are_dirty, dirty_mask, has_line, has_way1, has_way2};
 use crate::plain::registers::{
     has_room, holds, is_free, merge_fault, registers_of, right_for_primary,
 };
 use crate::plain::slice::PlainSlice;
-use crate::rule::Rule;
-use crate::shape::Shape;
+use lf_rules::{Block, Mask, Masks, Rule, Shape};
 
 /// The number by which a register is inverted: one for each port and tag.
 fn destination(shape: &Shape, port: u8, tag: u8) -> u32

@@ -1,13 +1,11 @@
 //! The lines of one level of a bank: a map from each block that is there to what is dirty of it.
 
 ghost use Rattle.std.specs.Prelude.{◌≡◌, ℕ, ◌≤◌};
-ghost use Rattle.lf_model.specs.Address.{Masks as MaskList, mask_at, set1_of, set2_of};
-ghost use Rattle.lf_model.specs.InRange.{IsShape};
-ghost use Rattle.lf_model.specs.Lines.{dirty_mask, dirty_masks, has_line, has_way, line_at, marked, clean_masks, same_masks, without_line};
+ghost use Rattle.lf_rules.specs.Address.{Masks as MaskList, mask_at, set1_of, set2_of};
+ghost use Rattle.lf_rules.specs.InRange.{IsShape};
+ghost use Rattle.lf_rules.specs.Lines.{dirty_mask, dirty_masks, has_line, has_way, line_at, marked, clean_masks, same_masks, without_line};
 
-use crate::event::Masks;
-use crate::mask::Mask;
-use crate::shape::Shape;
+use lf_rules::{Mask, Masks, Shape};
 use std::collections::BTreeMap;
 
 /// Level one: a mask for each block.

@@ -1,25 +1,22 @@
 //! The state of the whole system, and the step of one record.
 
 ghost use Rattle.std.specs.Prelude.{◌≡◌, ℕ, Bool, true, length, None, Option, IfOk, OnOk};
-ghost use Rattle.lf_model.specs.Fits.{Fits, is_of_level_two};
+ghost use Rattle.lf_rules.specs.Fits.{Fits, is_of_level_two};
 ghost use Rattle.std.specs.List.{All};
-ghost use Rattle.lf_model.specs.Address.{FlatMemory, flat_memory};
-ghost use Rattle.lf_model.specs.InRange.{IsShape};
-ghost use Rattle.lf_model.specs.State.{Slice, empty_slice, opening, seen_by};
-ghost use Rattle.lf_model.specs.Table.{OfBoth, rules_of, carries, clauses, memory_after};
-ghost use Rattle.lf_model.specs.declared.event.Event.TheVariants as event;
-ghost use Rattle.lf_model.specs.Run.{first_failing, state_after};
+ghost use Rattle.lf_rules.specs.Address.{FlatMemory, flat_memory};
+ghost use Rattle.lf_rules.specs.InRange.{IsShape};
+ghost use Rattle.lf_rules.specs.State.{Slice, empty_slice, opening, seen_by};
+ghost use Rattle.lf_rules.specs.Table.{OfBoth, rules_of, carries, clauses, memory_after};
+ghost use Rattle.lf_rules.specs.declared.event.Event.TheVariants as event;
+ghost use Rattle.lf_rules.specs.Run.{first_failing, state_after};
 ghost use Rattle.lf_model.specs.Plain.{busy_of, flat_of, slice_of, slice_next, slices_of, state_of, FindsRequest, IsFramed, IsMachine, IsTagFree};
 
-use crate::event::{Event, Memory, Record};
-use crate::outcome::NoMemory;
 use crate::plain::busy::{BusyTag, apply_busy, is_free, is_owed, none_busy};
 use crate::plain::carried::{evict1_agrees, evict2_agrees, fill1_agrees, fill2_agrees};
 use crate::plain::memory::PlainMemory;
 use crate::plain::request::Request;
 use crate::plain::slice::PlainSlice;
-use crate::rule::Rule;
-use crate::shape::Shape;
+use lf_rules::{Event, Memory, NoMemory, Record, Rule, Shape};
 use std::alloc::Global;
 
 /// The state of the whole system.

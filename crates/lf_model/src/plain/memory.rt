@@ -2,17 +2,16 @@
 
 ghost use Rattle.std.specs.Prelude.{◌≡◌, ℕ, ◌+◌, ◌-◌, ◌<◌, ◌≤◌, ◌||◌, ◌==◌, map, length, slice_index, IfOk, OnOk, OnErr, if◌then◌else◌};
 ghost use Rattle.std.specs.List.{range_with_len, list_all, filter};
-ghost use Rattle.lf_model.specs.Address.{flat_memory, is_under};
-ghost use Rattle.lf_model.specs.State as model;
-ghost use Rattle.lf_model.specs.Registers as registers;
-ghost use Rattle.lf_model.specs.State.{update};
-ghost use Rattle.lf_model.specs.Table.{value_of, accepted};
+ghost use Rattle.lf_rules.specs.Address.{flat_memory, is_under};
+ghost use Rattle.lf_rules.specs.State as model;
+ghost use Rattle.lf_rules.specs.Registers as registers;
+ghost use Rattle.lf_rules.specs.State.{update};
+ghost use Rattle.lf_rules.specs.Table.{value_of, accepted};
 ghost use Rattle.lf_model.specs.Plain.{flat_of, put, IsSound};
 
-use crate::event::{Block, Memory, Op};
-use crate::outcome::NoMemory;
 use crate::plain::registers::Held;
 use crate::plain::request::{Data, Missed, Request};
+use lf_rules::{Block, Memory, NoMemory, Op};
 use std::alloc::Global;
 use std::collections::BTreeMap;
 use std::marker::Model;

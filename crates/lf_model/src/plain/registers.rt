@@ -2,14 +2,13 @@
 
 ghost use Rattle.std.specs.Prelude.{◌≡◌, ℕ, ◌+◌, ◌<◌, ◌≤◌, ◌↔◌, ◌==◌, ◌&&◌, ◌%◌, length, count_by};
 ghost use Rattle.std.specs.List.{list_any, range_with_len};
-ghost use Rattle.lf_model.specs.Registers as model;
-ghost use Rattle.lf_model.specs.Run.{first_failing};
-ghost use Rattle.lf_model.specs.Table.{OfBoth, position, store_bytes, store_mask};
-ghost use Rattle.lf_model.specs.Registers.{holds, is_free, holds_in, registers_of, right_for_primary, right_for_merge, takes, has_room, merge_clauses, released};
+ghost use Rattle.lf_rules.specs.Registers as model;
+ghost use Rattle.lf_rules.specs.Run.{first_failing};
+ghost use Rattle.lf_rules.specs.Table.{OfBoth, position, store_bytes, store_mask};
+ghost use Rattle.lf_rules.specs.Registers.{holds, is_free, holds_in, registers_of, right_for_primary, right_for_merge, takes, has_room, merge_clauses, released};
 
 use crate::plain::request::Missed;
-use crate::rule::Rule;
-use crate::shape::OrgShape;
+use lf_rules::{OrgShape, Rule};
 use std::marker::Model;
 
 /// A register's block, and one target of it.
@@ -21,7 +20,7 @@ pub(crate) struct Held<T> {
 }
 
 impl<T> Model for Held<T> {
-    ghost use Rattle.lf_model.specs.Registers as model;
+    ghost use Rattle.lf_rules.specs.Registers as model;
 
     ghost Value = { model.Held T };
 

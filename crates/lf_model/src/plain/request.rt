@@ -1,16 +1,15 @@
 //! What a bank keeps of a request, from its issue to its reply.
 
 ghost use Rattle.std.specs.Prelude.{◌≡◌, ℕ, ◌+◌, ◌<◌, ◌≤◌, ◌↔◌, length};
-ghost use Rattle.lf_model.specs.Address.{mask_of};
-ghost use Rattle.lf_model.specs.Fits.{FitsIssue};
-ghost use Rattle.lf_model.specs.InRange.{IsShape};
-ghost use Rattle.lf_model.specs.Table.{position, request_of, store_mask};
-ghost use Rattle.lf_model.specs.State as model;
+ghost use Rattle.lf_rules.specs.Address.{mask_of};
+ghost use Rattle.lf_rules.specs.Fits.{FitsIssue};
+ghost use Rattle.lf_rules.specs.InRange.{IsShape};
+ghost use Rattle.lf_rules.specs.Table.{position, request_of, store_mask};
+ghost use Rattle.lf_rules.specs.State as model;
 ghost use Rattle.lf_model.specs.Plain.{IsSound};
 
-use crate::event::{Block, Op};
-use crate::shape::Shape;
 use arrayvec::ArrayVec;
+use lf_rules::{Block, Op, Shape};
 use std::marker::Model;
 
 /// The bytes of a request: what a store writes, or a load's value.
@@ -29,7 +28,7 @@ pub(crate) struct Request {
 }
 
 impl Model for Request {
-    ghost use Rattle.lf_model.specs.State as model;
+    ghost use Rattle.lf_rules.specs.State as model;
     ghost use Rattle.lf_model.specs.Plain.{IsSound};
 
     ghost Value = { model.Request };
@@ -50,7 +49,7 @@ pub(crate) struct Missed {
 }
 
 impl Model for Missed {
-    ghost use Rattle.lf_model.specs.State as model;
+    ghost use Rattle.lf_rules.specs.State as model;
 
     ghost Value = { model.Missed };
 
@@ -66,7 +65,7 @@ pub(crate) struct Ready {
 }
 
 impl Model for Ready {
-    ghost use Rattle.lf_model.specs.State as model;
+    ghost use Rattle.lf_rules.specs.State as model;
 
     ghost Value = { model.Ready };
 

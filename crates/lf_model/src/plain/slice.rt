@@ -2,15 +2,15 @@
 
 ghost use Rattle.std.specs.Prelude.{◌≡◌, ℕ, ◌&&◌, nat_lt, [], IfOk, Bool, true, false, length, MatchOption, option_copied, ◌==◌};
 ghost use Rattle.std.specs.List.{find, list_any};
-ghost use Rattle.lf_model.specs.Table.{is_head, oldest, is_asked, is_among, asked_register, is_ready_for, first_ready};
-ghost use Rattle.lf_model.specs.State.{empty_slice};
+ghost use Rattle.lf_rules.specs.Table.{is_head, oldest, is_asked, is_among, asked_register, is_ready_for, first_ready};
+ghost use Rattle.lf_rules.specs.State.{empty_slice};
 ghost use Rattle.lf_model.specs.Plain.{queue_at, slice_of};
 
-use crate::outcome::NoMemory;
 use crate::plain::lines::{LineMap, WideLineMap};
 use crate::plain::queue::Queue;
 use crate::plain::registers::Held;
 use crate::plain::request::{Missed, Ready, Request};
+use lf_rules::NoMemory;
 use std::alloc::Global;
 
 /// What a bank holds of both levels.

@@ -2,19 +2,17 @@
 
 ghost use Rattle.std.specs.Prelude.{◌≡◌, ℕ, ◌+◌, ◌<◌, ◌≤◌, ◌^◌, [], ◌∷◌, List, IfOk, OnOk, MatchOption, drop, replicate, length, slice_index};
 ghost use Rattle.std.specs.List.{All, Contains, list_all};
-ghost use Rattle.lf_model.specs.Fits.{Fits};
-ghost use Rattle.lf_model.specs.Order.{log_at};
+ghost use Rattle.lf_rules.specs.Fits.{Fits};
+ghost use Rattle.lf_rules.specs.Order.{log_at};
 ghost use Rattle.lf_model.specs.declared.plain.walk.Taken.TheVariants.{Next};
 ghost use Rattle.lf_model.specs.Plain.{count_left, is_empty, is_numbered, next_after, left_of, IsWalk, NamesBankBelow, decided, recheck_of, walked};
-ghost use Rattle.lf_model.specs.Address.{flat_memory};
-ghost use Rattle.lf_model.specs.InRange.{IsShape};
+ghost use Rattle.lf_rules.specs.Address.{flat_memory};
+ghost use Rattle.lf_rules.specs.InRange.{IsShape};
 ghost use Rattle.lf_model.specs.Recheck.{lists_of};
 
-use crate::event::{Logs, Memory, Record};
-use crate::outcome::{NoMemory, Recheck};
+use crate::outcome::Recheck;
 use crate::plain::machine::Machine;
-use crate::rule::Rule;
-use crate::shape::Shape;
+use lf_rules::{Logs, Memory, NoMemory, Record, Rule, Shape};
 use std::alloc::Global;
 
 /// What came of one place of an order.

@@ -2,13 +2,13 @@
 //! in several ways.
 
 ghost use Rattle.std.specs.Prelude.{◌≡◌, ◌<◌, true};
-ghost use Rattle.lf_model.specs.Fits.{is_factor};
-ghost use Rattle.lf_model.specs.InRange.{IsFrom, IsShape};
+ghost use Rattle.lf_rules.specs.Fits.{is_factor};
+ghost use Rattle.lf_rules.specs.InRange.{IsFrom, IsShape};
 
 use super::hierarchy;
 use crate::{Verdict, check_shape};
 use lf_codec::{Header, encode, fits_trace};
-use lf_model::{Block, Event, Level, Mask, Masks, NO_BANK, Op, OrgShape, Record, Shape, WideBlock};
+use lf_rules::{Block, Event, Level, Mask, Masks, NO_BANK, Op, OrgShape, Record, Shape, WideBlock};
 use std::alloc::{AllocError, Global};
 use std::process::Abort;
 use std::test::Fail;

@@ -4,7 +4,7 @@ use crate::shape::SMALL;
 use crate::tests::configured::{SMALL_TEXT, assert_configured};
 use crate::tests::examples::{LOAD, LOADED, bytes_of};
 use crate::tests::notation::{E, assert_line};
-use lf_model::Shape;
+use lf_rules::Shape;
 use std::process::Abort;
 use std::test::Fail;
 

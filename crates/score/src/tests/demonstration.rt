@@ -1,6 +1,6 @@
 //! Demonstrations, and what is told of their traces.
 
-ghost use Rattle.lf_model.specs.InRange.{IsShape};
+ghost use Rattle.lf_rules.specs.InRange.{IsShape};
 
 use crate::counted::Counted;
 use crate::demonstration::{DEMO_TURNS, Demonstration, demonstrate};
@@ -10,7 +10,7 @@ use crate::statistics::run_stats;
 use crate::tests::statistics::SMALL as SMALL_TEXT;
 use crate::tests::streams::Pieces;
 use lf_demo::{DemoFault, demo_trace};
-use lf_model::{Level, OrgShape, Shape};
+use lf_rules::{Level, OrgShape, Shape};
 use lf_verdict::{Verdict, check_shape};
 use std::process::Abort;
 use std::sync::Wait;

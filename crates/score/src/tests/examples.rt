@@ -1,11 +1,11 @@
 //! Traces whose verdict is known, each with the line that is written.
 
-ghost use Rattle.lf_model.specs.InRange.{IsShape};
+ghost use Rattle.lf_rules.specs.InRange.{IsShape};
 
 use crate::shape::SMALL;
 use crate::tests::notation::E::{E1, E2, F1, F2, H, L, M, P, R, S, SP, SS, X};
 use crate::tests::notation::{E, Trace, ZEROS, assert_line};
-use lf_model::{Level, OrgShape, Shape};
+use lf_rules::{Level, OrgShape, Shape};
 use std::alloc::{AllocError, Global};
 use std::process::Abort;
 use std::test::Fail;

@@ -1,12 +1,12 @@
 //! Short words for the events of a trace, and their bytes. The words stand for a single port 0.
 
 ghost use Rattle.std.specs.Prelude.{◌<◌};
-ghost use Rattle.lf_model.specs.InRange.{IsShape};
+ghost use Rattle.lf_rules.specs.InRange.{IsShape};
 
 use crate::counted::Counted;
 use crate::engine::run_shape;
 use crate::tests::streams::Pieces;
-use lf_model::{NO_BANK, Shape};
+use lf_rules::{NO_BANK, Shape};
 use std::alloc::{AllocError, Global};
 use std::process::Abort;
 use std::test::Fail;

@@ -1,13 +1,13 @@
 //! Traces of versions 2 and 3: fences, and blocks of level two that have several blocks.
 
-ghost use Rattle.lf_model.specs.InRange.{IsShape};
+ghost use Rattle.lf_rules.specs.InRange.{IsShape};
 
 use crate::shape::SMALL;
 use crate::tests::configured::{SMALL_TEXT, WIDE_TEXT, assert_configured};
 use crate::tests::examples::{LOAD, LOADED, bytes_of};
 use crate::tests::notation::E::{E1, E2W, F, F1, F2, L, P, R, S, SM, SP, SS};
 use crate::tests::notation::{E, Hex, Trace, ZEROS, assert_line};
-use lf_model::{Level, OrgShape, Shape};
+use lf_rules::{Level, OrgShape, Shape};
 use std::alloc::{AllocError, Global};
 use std::process::Abort;
 use std::test::Fail;

@@ -1,6 +1,6 @@
 use Rattle.std.proofs.Common.{ℕ, List, ◌++◌, ◌∷◌, [], sym, ◌∙◌, arith}
 use mathlib.Core.Path.{ap₂}
-use Rattle.lf_model.specs.declared.mask.Mask.{Mask}
+use Rattle.lf_rules.specs.declared.mask.Mask.{Mask}
 use Rattle.lf_codec.proofs.MaskBytes.{masks_more}
 use Rattle.lf_codec.proofs.fields.masks_at.Goals as goal
 

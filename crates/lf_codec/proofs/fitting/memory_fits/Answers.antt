@@ -1,5 +1,5 @@
 use Rattle.std.proofs.Common.{◌≡◌, ℕ, ◌<◌, List, length, take, get_or, true, false, refl, ap, ◌∙◌, arith}
-use Rattle.lf_model.specs.Fits.{Bytes}
+use Rattle.lf_rules.specs.Fits.{Bytes}
 use Rattle.lf_codec.proofs.Backward.{least_after}
 use Rattle.lf_codec.proofs.FitsAt.{FitsNext, memory_at, memory_more}
 use Rattle.lf_codec.proofs.fitting.memory_fits.Goals as goal

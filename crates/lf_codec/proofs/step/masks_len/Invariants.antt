@@ -1,5 +1,5 @@
 use Rattle.std.proofs.Common.{◌≡◌, ◌≤◌, ◌*◌, take}
-use Rattle.lf_model.specs.Fits.{masks_len}
+use Rattle.lf_rules.specs.Fits.{masks_len}
 use Rattle.lf_codec.proofs.step.masks_len.Given as goal
 
 abbrev pub invariant-loop-mask : goal.invariant-loop-mask

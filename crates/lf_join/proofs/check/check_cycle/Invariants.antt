@@ -1,5 +1,5 @@
 use Rattle.std.proofs.Common.{ℕ, ◌+◌, ◌%◌, ◌<◌, length}
-use Rattle.lf_model.specs.Ring.{IsWait, knot_at}
+use Rattle.lf_rules.specs.Ring.{IsWait, knot_at}
 use Rattle.lf_join.specs.Join.{lists_of}
 use Rattle.lf_join.proofs.check.check_cycle.Given as goal
 

@@ -1,9 +1,9 @@
 use Rattle.std.proofs.Common.{◌≡◌, ◌+◌, ◌∙◌, sym, ap, drop, Some, subst, length, ◌≤◌, arith}
 use Rattle.std.proofs.lemmas.Bool.{ltb-true}
-use Rattle.lf_model.specs.Address.{no_bank}
+use Rattle.lf_rules.specs.Address.{no_bank}
 use Rattle.std.specs.List.{list_any}
-use Rattle.lf_model.specs.Order.{log_at}
-use Rattle.lf_model.specs.Ring.{entry_at}
+use Rattle.lf_rules.specs.Order.{log_at}
+use Rattle.lf_rules.specs.Ring.{entry_at}
 use Rattle.lf_join.specs.Join.{lists_of}
 use Rattle.lf_join.proofs.Entries.{entry_at-get_or, wait_from_smaller, smaller_from_wait, no_wait, waits_at_bank, smaller_from_test, test_from_smaller, is_smaller}
 use Rattle.lf_join.proofs.check.waits.Goals as goal

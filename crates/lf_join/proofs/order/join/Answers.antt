@@ -1,6 +1,6 @@
 use Rattle.std.proofs.Common.{List, subst, sym}
-use Rattle.lf_model.specs.declared.ring.Knot.{Knot}
-use Rattle.lf_model.specs.Ring.{IsRing}
+use Rattle.lf_rules.specs.declared.ring.Knot.{Knot}
+use Rattle.lf_rules.specs.Ring.{IsRing}
 use Rattle.lf_join.specs.Join.{lists_of, IsStuckRing}
 use Rattle.lf_join.specs.Heads.{next_entry}
 use Rattle.lf_join.proofs.Stuck.{all_wait}

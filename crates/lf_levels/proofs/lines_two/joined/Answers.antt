@@ -1,8 +1,8 @@
 use Rattle.std.proofs.Common.{List, ◌≡◌, ◌∙◌, sym, ◌++◌, ◌∷◌, [], length, get_or, arith, ◌<◌, rules}
 use mathlib.Core.Path.{ap₂}
 use Rattle.std.specs.Prelude.{bit_or}
-use Rattle.lf_model.specs.declared.mask.Mask.{Mask}
-use Rattle.lf_model.specs.Address.{clean_mask}
+use Rattle.lf_rules.specs.declared.mask.Mask.{Mask}
+use Rattle.lf_rules.specs.Address.{clean_mask}
 use Rattle.lf_levels.proofs.Joined.{both_at, joined_more, joined_all}
 use Rattle.lf_levels.proofs.lines_two.joined.Goals as goal
 

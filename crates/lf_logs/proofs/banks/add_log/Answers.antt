@@ -2,7 +2,7 @@ use Rattle.std.proofs.Common.{◌≡◌, ◌<◌, List, [], ◌∷◌, ◌++◌,
 use Rattle.std.specs.Global.{Vec}
 use Rattle.std.specs.Vec.Iter.{into_iter_items}
 use Rattle.std.proofs.lemmas.List.{append_assoc, length-map, length-set}
-use Rattle.lf_model.specs.declared.event.Record.{Record}
+use Rattle.lf_rules.specs.declared.event.Record.{Record}
 use Rattle.lf_logs.specs.Lists.{banks_of}
 use Rattle.lf_logs.proofs.Splitting.{length-parts_of, parts_of-outside, placed}
 use Rattle.lf_logs.proofs.banks.add_log.Goals as goal

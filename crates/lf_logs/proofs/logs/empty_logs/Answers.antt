@@ -1,7 +1,7 @@
 use Rattle.std.proofs.Common.{◌≡◌, [], ◌∷◌, ◌++◌, map, sym, ap, ◌∙◌, arith}
 use Rattle.std.proofs.lemmas.List.{map_push}
 use Rattle.std.proofs.lemmas.List.FromFn.{map-range_with_len_more}
-use Rattle.lf_model.specs.Run.{of_log}
+use Rattle.lf_rules.specs.Run.{of_log}
 use Rattle.lf_logs.proofs.logs.empty_logs.Goals as goal
 
 pub loop-preserved : goal.loop-preserved

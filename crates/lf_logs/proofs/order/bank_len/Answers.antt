@@ -1,5 +1,5 @@
 use Rattle.std.proofs.Common.{◌≡◌, ◌+◌, ◌<◌, length, get_or, sym, ap, ◌∙◌, arith}
-use Rattle.lf_model.specs.Run.{of_bank}
+use Rattle.lf_rules.specs.Run.{of_bank}
 use Rattle.lf_logs.proofs.Joined.{of_first, of_first-more, of_first-le, of_bank-append}
 use Rattle.lf_logs.proofs.order.bank_len.Goals as goal
 

@@ -1,5 +1,5 @@
 use Rattle.std.proofs.Common.{◌≡◌, length}
-use Rattle.lf_model.specs.Run.{of_bank}
+use Rattle.lf_rules.specs.Run.{of_bank}
 use Rattle.lf_logs.proofs.Joined.{of_first}
 use Rattle.lf_logs.proofs.order.bank_len.Given as goal
 

@@ -4,7 +4,7 @@ use Rattle.lf_logs.specs.Lists.{lists_of}
 use Rattle.lf_logs.specs.Tallies.{AreOnceBelow, IsFirstFault}
 use Rattle.lf_logs.specs.Places.{IsOrder}
 use Rattle.lf_logs.specs.declared.order.Tally.{Tally}
-use Rattle.lf_model.specs.Numbers.{bank_numbers, IsWhole}
+use Rattle.lf_rules.specs.Numbers.{bank_numbers, IsWhole}
 use Rattle.lf_logs.proofs.Joined.{all_records-le}
 use Rattle.lf_logs.proofs.Tallying.{whole_from, fault_from, no_fault_from}
 use Rattle.lf_logs.proofs.Judged.{IsOrder-from_tallies}

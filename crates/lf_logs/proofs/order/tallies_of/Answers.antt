@@ -1,7 +1,7 @@
 use Rattle.std.proofs.Common.{◌≡◌, ◌+◌, ◌<◌, List, [], ◌++◌, length, get_or, sym, ap, ◌∙◌, subst, arith}
 use Rattle.std.proofs.lemmas.List.{with_items_is, get_or-map}
 use Rattle.std.specs.Global.{Vec}
-use Rattle.lf_model.specs.declared.event.Record.{Record}
+use Rattle.lf_rules.specs.declared.event.Record.{Record}
 use Rattle.lf_logs.specs.declared.order.Tally.{Tally}
 use Rattle.lf_logs.specs.Lists.{lists_of}
 use Rattle.lf_logs.specs.Tallies.{AreTallies}

@@ -1,4 +1,4 @@
-use Rattle.lf_model.specs.Outcomes.{first_local}
+use Rattle.lf_rules.specs.Outcomes.{first_local}
 use Rattle.lf_logs.specs.Tags.{with_tags}
 use Rattle.lf_logs.proofs.PortRun.{GoesOn-start, GoesOn-more, GoesOn-broken, GoesOn-all}
 use Rattle.std.proofs.Common.{arith}

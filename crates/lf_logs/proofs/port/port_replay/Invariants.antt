@@ -1,5 +1,5 @@
-use Rattle.lf_model.specs.Address.{FlatMemory}
-use Rattle.lf_model.specs.Outcomes.{first_local}
+use Rattle.lf_rules.specs.Address.{FlatMemory}
+use Rattle.lf_rules.specs.Outcomes.{first_local}
 use Rattle.lf_logs.specs.Tags.{with_tags}
 use Rattle.lf_logs.proofs.PortRun.{GoesOn}
 use Rattle.lf_logs.proofs.port.port_replay.Given as goal

@@ -1,5 +1,5 @@
 use Rattle.std.proofs.Common.{◌≡◌, map, take}
-use Rattle.lf_model.specs.Ring.{skeletons_of}
+use Rattle.lf_rules.specs.Ring.{skeletons_of}
 use Rattle.lf_logs.specs.Lists.{lists_of}
 use Rattle.lf_logs.proofs.skeleton.skeletons.Given as goal
 

@@ -1,5 +1,5 @@
 use Rattle.std.proofs.Common.{◌≡◌, sym, subst, arith}
-use Rattle.lf_model.specs.Numbers.{bank_numbers, IsWhole}
+use Rattle.lf_rules.specs.Numbers.{bank_numbers, IsWhole}
 use Rattle.lf_logs.specs.Lists.{lists_of}
 use Rattle.lf_logs.proofs.tests.fences_have_no_place_in_a_bank.Goals as goal
 

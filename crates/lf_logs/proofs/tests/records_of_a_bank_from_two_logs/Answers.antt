@@ -1,5 +1,5 @@
 use Rattle.std.proofs.Common.{◌≡◌, sym, subst, arith}
-use Rattle.lf_model.specs.Numbers.{bank_numbers, IsWhole}
+use Rattle.lf_rules.specs.Numbers.{bank_numbers, IsWhole}
 use Rattle.lf_logs.specs.Lists.{lists_of}
 use Rattle.lf_logs.proofs.tests.records_of_a_bank_from_two_logs.Goals as goal
 

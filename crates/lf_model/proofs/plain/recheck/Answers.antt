@@ -1,7 +1,7 @@
 use Rattle.std.proofs.Common.{◌≡◌, List, ap, ◌∙◌, arith}
-use Rattle.lf_model.specs.declared.event.Record.{Record}
+use Rattle.lf_rules.specs.declared.event.Record.{Record}
 use Rattle.lf_model.specs.declared.outcome.Recheck.{Recheck}
-use Rattle.lf_model.specs.Address.{flat_memory}
+use Rattle.lf_rules.specs.Address.{flat_memory}
 use Rattle.lf_model.specs.Plain.{count_left, walked}
 use Rattle.lf_model.specs.Recheck.{lists_of, IsRecheck}
 use Rattle.lf_model.proofs.PlainSteps.{if_ok_more}

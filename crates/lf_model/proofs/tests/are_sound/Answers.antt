@@ -4,9 +4,9 @@ use Rattle.std.specs.Global.{Vec}
 use borrow.Author.Count.{below_more}
 use Rattle.std.proofs.lemmas.List.{take_all, get_or_default}
 use Rattle.std.proofs.lemmas.List.Elements.{All-more, recursion_from_All}
-use Rattle.lf_model.specs.declared.event.Record.{Record}
-use Rattle.lf_model.specs.Fits.{Fits}
-use Rattle.lf_model.specs.Order.{log_at}
+use Rattle.lf_rules.specs.declared.event.Record.{Record}
+use Rattle.lf_rules.specs.Fits.{Fits}
+use Rattle.lf_rules.specs.Order.{log_at}
 use Rattle.lf_model.proofs.Walks.{items_of}
 use Rattle.lf_model.proofs.tests.are_sound.Goals as goal
 

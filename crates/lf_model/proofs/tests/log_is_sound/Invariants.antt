@@ -1,6 +1,6 @@
 use Rattle.std.proofs.Common.{◌≡◌, take}
 use Rattle.std.specs.List.{All}
-use Rattle.lf_model.specs.Fits.{Fits}
+use Rattle.lf_rules.specs.Fits.{Fits}
 use Rattle.lf_model.proofs.tests.log_is_sound.Given as goal
 
 abbrev pub invariant-loop-item : goal.invariant-loop-item

@@ -1,5 +1,5 @@
 use Rattle.std.proofs.Common.{◌≡◌, take, map}
-use Rattle.lf_model.specs.Registers.{targets_of}
+use Rattle.lf_rules.specs.Registers.{targets_of}
 use Rattle.lf_mshr.specs.RegisterFile.{released_pair}
 use Rattle.lf_mshr.proofs.held.list_targets.Given as goal
 

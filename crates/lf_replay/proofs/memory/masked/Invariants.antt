@@ -1,7 +1,7 @@
 use Rattle.std.proofs.Common.{◌≡◌, ◌≤◌, map, slice_index}
 use Rattle.std.specs.List.{range_with_len, filter}
 use Rattle.arrayvec.specs.ArrayVec.{array_vec_len}
-use Rattle.lf_model.specs.Address.{is_under}
+use Rattle.lf_rules.specs.Address.{is_under}
 use Rattle.lf_replay.proofs.memory.masked.Given as goal
 
 abbrev pub invariant-loop-i : goal.invariant-loop-i

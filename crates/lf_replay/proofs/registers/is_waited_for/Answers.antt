@@ -1,8 +1,8 @@
 use Rattle.std.proofs.Common.{sym, ap, ◌∙◌, inl, inr, arith}
 use Rattle.std.proofs.lemmas.Bool.{cases_eq}
-use Rattle.lf_model.specs.Address.{sub_block}
-use Rattle.lf_model.specs.Registers.{holds}
-use Rattle.lf_model.proofs.Wide.{any_at, none_at}
+use Rattle.lf_rules.specs.Address.{sub_block}
+use Rattle.lf_rules.specs.Registers.{holds}
+use Rattle.lf_rules.proofs.Wide.{any_at, none_at}
 use Rattle.lf_mshr.proofs.Alike.{holds-alike}
 use Rattle.lf_replay.specs.Tells.{Tells}
 use Rattle.lf_replay.proofs.registers.is_waited_for.Goals as goal

@@ -1,6 +1,6 @@
 use Rattle.std.proofs.Common.{◌≡◌, ℕ, ◌<◌, false}
-use Rattle.lf_model.specs.Address.{sub_block}
-use Rattle.lf_model.specs.Registers.{holds}
+use Rattle.lf_rules.specs.Address.{sub_block}
+use Rattle.lf_rules.specs.Registers.{holds}
 use Rattle.lf_replay.proofs.registers.is_waited_for.Given as goal
 
 abbrev pub invariant-loop-place : goal.invariant-loop-place

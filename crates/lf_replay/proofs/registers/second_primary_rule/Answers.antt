@@ -1,6 +1,6 @@
 use Rattle.std.proofs.Common.{Some, ap, ◌∙◌}
-use Rattle.lf_model.specs.Run.{first_failing}
-use Rattle.lf_model.specs.Table.{OfBank}
+use Rattle.lf_rules.specs.Run.{first_failing}
+use Rattle.lf_rules.specs.Table.{OfBank}
 use Rattle.lf_replay.proofs.Told.{second_primary_told}
 use Rattle.lf_replay.proofs.registers.second_primary_rule.Goals as goal
 

@@ -1,8 +1,8 @@
 use Rattle.std.proofs.Common.{◌≡◌, ℕ, List, ◌+◌, ◌++◌, take, map, length}
 use Rattle.std.specs.Prelude.{vec_capacity}
-use Rattle.lf_model.specs.Registers.{Held, targets_of}
-use Rattle.lf_model.specs.State.{Missed}
-use Rattle.lf_model.specs.Table.{reply_of}
+use Rattle.lf_rules.specs.Registers.{Held, targets_of}
+use Rattle.lf_rules.specs.State.{Missed}
+use Rattle.lf_rules.specs.Table.{reply_of}
 use Rattle.lf_mshr.specs.Alike.{AreAlike}
 use Rattle.lf_mshr.specs.RegisterFile.{released_pair}
 use Rattle.lf_mshr.specs.declared.level_one.Request1.{Request1}

@@ -1,6 +1,6 @@
 use Rattle.std.proofs.Common.{◌<◌, ◌∙◌, sym, ap, refl, subst, length, append-nil, arith}
 use Rattle.std.proofs.lemmas.List.{length_push}
-use Rattle.lf_model.specs.Address.{sub_block}
+use Rattle.lf_rules.specs.Address.{sub_block}
 use Rattle.lf_replay.proofs.Places.{factor_some}
 use Rattle.lf_replay.proofs.Supplied.{place_below, blocks_more, blocks_all}
 use Rattle.lf_replay.proofs.supply.add_blocks.Goals as goal

@@ -1,8 +1,8 @@
 use Rattle.std.proofs.Common.{◌≡◌, List, ◌+◌, ◌++◌, take, map, length}
 use Rattle.std.specs.Prelude.{vec_capacity}
-use Rattle.lf_model.specs.Registers.{Held, targets_of}
-use Rattle.lf_model.specs.State.{Asked}
-use Rattle.lf_model.specs.Table.{block_asked}
+use Rattle.lf_rules.specs.Registers.{Held, targets_of}
+use Rattle.lf_rules.specs.State.{Asked}
+use Rattle.lf_rules.specs.Table.{block_asked}
 use Rattle.lf_mshr.specs.Alike.{AreAlike}
 use Rattle.lf_mshr.specs.RegisterFile.{released_pair}
 use Rattle.lf_mshr.specs.declared.level_two.Request2.{Request2}

@@ -1,6 +1,6 @@
 use Rattle.std.proofs.Common.{◌≡◌, ◌+◌, ◌++◌, replicate}
 use Rattle.arrayvec.specs.ArrayVec.{array_vec_len}
-use Rattle.lf_model.specs.Address.{clean_mask}
+use Rattle.lf_rules.specs.Address.{clean_mask}
 use Rattle.lf_replay.proofs.wide.add_clean.Given as goal
 
 abbrev pub invariant-loop-i : goal.invariant-loop-i

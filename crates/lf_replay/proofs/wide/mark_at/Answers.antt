@@ -1,7 +1,7 @@
 use Rattle.std.proofs.Common.{◌∙◌, List, ap}
-use Rattle.lf_model.specs.declared.mask.Mask.{Mask}
-use Rattle.lf_model.specs.Address.{Masks}
-use Rattle.lf_model.specs.Lines.{dirty_masks}
+use Rattle.lf_rules.specs.declared.mask.Mask.{Mask}
+use Rattle.lf_rules.specs.Address.{Masks}
+use Rattle.lf_rules.specs.Lines.{dirty_masks}
 use Rattle.lf_levels.specs.LineTable.{after_fill, joined}
 use Rattle.lf_replay.proofs.Places.{joined_alone}
 use Rattle.lf_replay.proofs.wide.mark_at.Goals as goal

@@ -2,7 +2,7 @@ use Rattle.std.proofs.Common.{◌≡◌, ℕ, ◌/◌, List, [], ◌∷◌, ◌+
 use Rattle.std.specs.List.{cons_option}
 use Rattle.std.specs.Global.{Vec}
 use Rattle.std.proofs.lemmas.List.{length-set}
-use Rattle.lf_model.specs.Address.{block_of}
+use Rattle.lf_rules.specs.Address.{block_of}
 use Rattle.lf_logs.specs.Lists.{lists_of}
 use Rattle.lf_logs.specs.Places.{records_at}
 use Rattle.lf_stats.specs.Statistics.{issued}

@@ -1,7 +1,7 @@
 use Rattle.std.proofs.Common.{◌≡◌, ℕ, List, [], ◌∷◌, ◌++◌, length, get_or, sym, ap, ◌∙◌, subst, arith}
 use Rattle.std.specs.Global.{Vec}
 use Rattle.std.proofs.lemmas.List.{length-append, get_or-map}
-use Rattle.lf_model.specs.declared.event.Record.{Record}
+use Rattle.lf_rules.specs.declared.event.Record.{Record}
 use Rattle.lf_logs.specs.Lists.{lists_of}
 use Rattle.lf_stats.specs.declared.counts.BankStats.{BankStats}
 use Rattle.lf_stats.specs.Statistics.{unanswered}

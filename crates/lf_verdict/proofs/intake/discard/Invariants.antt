@@ -1,6 +1,6 @@
 use Rattle.std.proofs.Common.{◌≡◌, ℕ, List, length}
-use Rattle.lf_model.specs.declared.event.Record.{Record}
-use Rattle.lf_model.specs.Fits.{Bytes}
+use Rattle.lf_rules.specs.declared.event.Record.{Record}
+use Rattle.lf_rules.specs.Fits.{Bytes}
 use Rattle.lf_codec.specs.Reader.{HasRead}
 use Rattle.lf_verdict.proofs.intake.discard.Given as goal
 

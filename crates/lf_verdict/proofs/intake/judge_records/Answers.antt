@@ -1,7 +1,7 @@
 use Rattle.std.proofs.Common.{◌++◌, ◌∷◌, [], List, ap, ◌∙◌, subst}
 use Rattle.std.proofs.lemmas.List.{append-nil}
-use Rattle.lf_model.specs.declared.event.Record.{Record}
-use Rattle.lf_model.specs.Address.{flat_memory}
+use Rattle.lf_rules.specs.declared.event.Record.{Record}
+use Rattle.lf_rules.specs.Address.{flat_memory}
 use Rattle.lf_codec.specs.Reading.{Reading}
 use Rattle.lf_codec.specs.Reader.{HasRead}
 use Rattle.lf_verdict.proofs.Sessions.{may_come}

@@ -1,7 +1,7 @@
 use Rattle.std.proofs.Common.{◌≡◌, ℕ, List, length}
-use Rattle.lf_model.specs.declared.shape.Shape.{Shape}
-use Rattle.lf_model.specs.declared.event.Record.{Record}
-use Rattle.lf_model.specs.Fits.{Bytes}
+use Rattle.lf_rules.specs.declared.shape.Shape.{Shape}
+use Rattle.lf_rules.specs.declared.event.Record.{Record}
+use Rattle.lf_rules.specs.Fits.{Bytes}
 use Rattle.lf_codec.specs.Reader.{HasRead}
 use Rattle.lf_verdict.specs.Session.{IsRunning}
 use Rattle.lf_verdict.proofs.intake.judge_records.Given as goal

@@ -1,6 +1,6 @@
 use Rattle.std.proofs.Common.{◌≤◌, List, ℕ, [], take, length, ◌∙◌, subst}
 use Rattle.std.specs.Borrow.{Bor}
-use Rattle.lf_model.specs.declared.shape.Shape.{Shape}
+use Rattle.lf_rules.specs.declared.shape.Shape.{Shape}
 use Rattle.lf_verdict.specs.declared.intake.Intake.{Intake}
 use Rattle.lf_verdict.specs.Legal.{joined}
 use Rattle.lf_verdict.specs.Laws.{IsRunlessNo}

@@ -1,5 +1,5 @@
 use Rattle.std.proofs.Common.{◌≡◌, ◌<◌, ℕ, [], length, get_or}
-use Rattle.lf_model.specs.Address.{flat_memory}
+use Rattle.lf_rules.specs.Address.{flat_memory}
 use Rattle.lf_replay.specs.Bytes.{bank_part}
 use Rattle.lf_verdict.specs.declared.bank_judge.BankJudge.{BankJudge}
 use Rattle.lf_verdict.specs.Standing.{IsBankSettled}

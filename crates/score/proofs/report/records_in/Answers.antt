@@ -1,5 +1,5 @@
 use Rattle.std.proofs.Common.{[], ◌++◌, List, sym, ap, ◌∙◌, append-nil}
-use Rattle.lf_model.specs.declared.event.Record.{Record}
+use Rattle.lf_rules.specs.declared.event.Record.{Record}
 use Rattle.lf_codec.specs.Reading.{Reading}
 use Rattle.score.proofs.report.records_in.Goals as goal
 

@@ -1,5 +1,5 @@
 use Rattle.std.proofs.Common.{◌∙◌, rules, subst}
-use Rattle.lf_model.specs.declared.shape.Shape.{Shape}
+use Rattle.lf_rules.specs.declared.shape.Shape.{Shape}
 use Rattle.lf_verdict.specs.Verdict.{IsVerdictOf}
 use Rattle.score.proofs.JudgingLemmas.{finished}
 use Rattle.score.proofs.statistics.judge_and_keep.Goals as goal

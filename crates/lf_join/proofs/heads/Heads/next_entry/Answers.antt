@@ -1,5 +1,5 @@
 use Rattle.std.proofs.Common.{◌<◌, ◌∙◌, ap, subst, slice_index, length, IsSome, arith}
-use Rattle.lf_model.specs.Ring.{entry_at}
+use Rattle.lf_rules.specs.Ring.{entry_at}
 use Rattle.lf_join.proofs.Entries.{read_is, read_within}
 use Rattle.lf_join.proofs.heads.Heads.next_entry.Goals as goal
 

@@ -1,5 +1,5 @@
 use Rattle.std.proofs.Common.{Some, ◌≡◌, ap, sym, ◌∙◌, false}
-use Rattle.lf_model.specs.Lines.{has_line}
+use Rattle.lf_rules.specs.Lines.{has_line}
 use Rattle.lf_levels.specs.LineTable.{LineTable, is_full}
 use Rattle.lf_levels.proofs.CountLemmas.{IsWhole-fill, none-from_is_some, lines_of_set-lt, table_of}
 use Rattle.lf_levels.proofs.MapLemmas.{changes_at}

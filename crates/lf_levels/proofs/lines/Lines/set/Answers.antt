@@ -1,6 +1,6 @@
 use Rattle.std.proofs.Common.{Some, IsSome, ◌≡◌, ap, sym, ◌∙◌, true}
 use Rattle.std.specs.Prelude.{is_some}
-use Rattle.lf_model.specs.Lines.{line_at, has_line}
+use Rattle.lf_rules.specs.Lines.{line_at, has_line}
 use Rattle.lf_levels.proofs.CountLemmas.{IsWhole-mark, table_of}
 use Rattle.lf_levels.proofs.MapLemmas.{set_value-sorted, changes_at}
 use Rattle.lf_levels.proofs.lines.Lines.set.Goals as goal

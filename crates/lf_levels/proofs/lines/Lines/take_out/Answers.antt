@@ -1,5 +1,5 @@
 use Rattle.std.proofs.Common.{None, ◌≡◌, ap, ◌∙◌, true}
-use Rattle.lf_model.specs.Lines.{has_line}
+use Rattle.lf_rules.specs.Lines.{has_line}
 use Rattle.lf_levels.specs.LineTable.{LineTable}
 use Rattle.lf_levels.proofs.CountLemmas.{IsWhole-evict, counts_line-at, table_of}
 use Rattle.lf_levels.proofs.MapLemmas.{remove_entry-sorted, changes_at}

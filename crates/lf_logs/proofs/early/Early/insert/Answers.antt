@@ -2,7 +2,7 @@ use Rattle.std.proofs.Common.{◌≡◌, ◌<◌, ◌%◌, ℕ, length, get_or, 
 use Rattle.std.proofs.lemmas.List.{get_or_read}
 use Rattle.std.proofs.lemmas.Nat.{mod_below}
 use Rattle.slab.specs.Slab.{Updates}
-use Rattle.lf_model.specs.declared.event.Record.{Record}
+use Rattle.lf_rules.specs.declared.event.Record.{Record}
 use Rattle.lf_logs.proofs.EarlyLookups.{at, lookup-first, lookup-rest, lookup-parts, lookup-found, lookup-first_none, IsTable-insert, others-insert}
 use Rattle.lf_logs.proofs.Reordered.{apart_at}
 use Rattle.lf_logs.proofs.early.Early.insert.Goals as goal

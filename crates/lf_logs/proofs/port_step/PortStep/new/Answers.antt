@@ -1,5 +1,5 @@
 use Rattle.std.proofs.Common.{refl, sym}
-use Rattle.lf_model.specs.Outcomes.{first_local}
+use Rattle.lf_rules.specs.Outcomes.{first_local}
 use Rattle.lf_logs.proofs.port_step.PortStep.new.Goals as goal
 
 pub returns-clause-stands : goal.returns-clause-stands

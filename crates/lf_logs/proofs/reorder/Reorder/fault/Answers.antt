@@ -1,6 +1,6 @@
 use Rattle.std.proofs.Common.{◌≡◌, List, ℕ, Option, sym, ap, ◌∙◌, subst, arith}
-use Rattle.lf_model.specs.declared.event.Record.{Record}
-use Rattle.lf_model.specs.Numbers.{numbers_of}
+use Rattle.lf_rules.specs.declared.event.Record.{Record}
+use Rattle.lf_rules.specs.Numbers.{numbers_of}
 use Rattle.lf_logs.specs.Reordering.{Reordering, IsLeastDouble, HasOrdered}
 use Rattle.lf_logs.proofs.Reordered.{fine_from, occurring, whole_from_none}
 use Rattle.lf_logs.proofs.reorder.Reorder.fault.Goals as goal

@@ -1,5 +1,5 @@
 use Rattle.lf_model.specs.Plain.{flat_of}
-use Rattle.lf_model.proofs.Bytes.{evict_agrees}
+use Rattle.lf_rules.proofs.Bytes.{evict_agrees}
 use Rattle.lf_model.proofs.plain.carried.evict1_agrees.Goals as goal
 
 pub returns : goal.returns

@@ -1,9 +1,9 @@
 use Rattle.std.proofs.Common.{List, ap, ◌∙◌}
-use Rattle.lf_model.specs.Registers.{Held}
-use Rattle.lf_model.specs.State.{Missed}
-use Rattle.lf_model.specs.Table.{store_bytes}
+use Rattle.lf_rules.specs.Registers.{Held}
+use Rattle.lf_rules.specs.State.{Missed}
+use Rattle.lf_rules.specs.Table.{store_bytes}
 use Rattle.lf_model.specs.Plain.{flat_of}
-use Rattle.lf_model.proofs.Bytes.{fill_agrees}
+use Rattle.lf_rules.proofs.Bytes.{fill_agrees}
 use Rattle.lf_model.proofs.plain.carried.fill1_agrees.Goals as goal
 
 pub returns : goal.returns

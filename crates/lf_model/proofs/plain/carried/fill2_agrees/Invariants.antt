@@ -1,6 +1,6 @@
 use Rattle.std.proofs.Common.{◌≡◌, ℕ, ◌<◌, true}
-use Rattle.lf_model.specs.Address.{sub_block, part_at, block_bytes, agree_off}
-use Rattle.lf_model.specs.Table.{store_bytes}
+use Rattle.lf_rules.specs.Address.{sub_block, part_at, block_bytes, agree_off}
+use Rattle.lf_rules.specs.Table.{store_bytes}
 use Rattle.lf_model.specs.Plain.{flat_of, slice_of}
 use Rattle.lf_model.proofs.plain.carried.fill2_agrees.Given as goal
 

@@ -1,12 +1,12 @@
 use Rattle.std.proofs.Common.{◌≡◌, ℕ, List, map, ap, ◌∙◌, subst}
 use Rattle.std.specs.List.{range_with_len}
-use Rattle.lf_model.specs.Address.{part_at, agree_off}
-use Rattle.lf_model.specs.Registers.{Held}
-use Rattle.lf_model.specs.State.{Missed}
-use Rattle.lf_model.specs.Table.{store_bytes}
+use Rattle.lf_rules.specs.Address.{part_at, agree_off}
+use Rattle.lf_rules.specs.Registers.{Held}
+use Rattle.lf_rules.specs.State.{Missed}
+use Rattle.lf_rules.specs.Table.{store_bytes}
 use Rattle.lf_model.specs.Plain.{flat_of}
-use Rattle.lf_model.proofs.Bytes.{fill_agrees}
-use Rattle.lf_model.proofs.Wide.{part_len}
+use Rattle.lf_rules.proofs.Bytes.{fill_agrees}
+use Rattle.lf_rules.proofs.Wide.{part_len}
 use Rattle.lf_model.proofs.plain.carried.part_agrees.Goals as goal
 
 pub returns : goal.returns

@@ -1,11 +1,11 @@
 use Rattle.std.proofs.Common.{◌≡◌, ℕ, List, ◌++◌, map, get_or, sym, ap, ◌∙◌, arith}
 use mathlib.Core.Path.{ap₂}
 use Rattle.std.specs.List.{range_with_len, flat_map}
-use Rattle.lf_model.specs.declared.mask.Mask.{Mask}
-use Rattle.lf_model.specs.Address.{sub_block, block_bytes, masked, mask_at, clean_mask}
+use Rattle.lf_rules.specs.declared.mask.Mask.{Mask}
+use Rattle.lf_rules.specs.Address.{sub_block, block_bytes, masked, mask_at, clean_mask}
 use Rattle.lf_model.specs.Plain.{flat_of}
-use Rattle.lf_model.proofs.Bytes.{masked_flat}
-use Rattle.lf_model.proofs.Wide.{flat_next}
+use Rattle.lf_rules.proofs.Bytes.{masked_flat}
+use Rattle.lf_rules.proofs.Wide.{flat_next}
 use Rattle.lf_model.proofs.plain.carried.wide_masked.Goals as goal
 
 pub loop-place-preserved : goal.loop-place-preserved

@@ -1,7 +1,7 @@
 use Rattle.std.proofs.Common.{◌≡◌, ◌≤◌, ◌*◌}
 use Rattle.std.specs.List.{flat_map, range_with_len}
 use Rattle.arrayvec.specs.ArrayVec.{array_vec_len}
-use Rattle.lf_model.specs.Address.{sub_block, block_bytes, masked, mask_at}
+use Rattle.lf_rules.specs.Address.{sub_block, block_bytes, masked, mask_at}
 use Rattle.lf_model.specs.Plain.{flat_of}
 use Rattle.lf_model.proofs.plain.carried.wide_masked.Given as goal
 

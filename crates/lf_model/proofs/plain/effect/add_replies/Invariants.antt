@@ -1,6 +1,6 @@
 use Rattle.std.proofs.Common.{◌≡◌, ◌++◌, take, map}
-use Rattle.lf_model.specs.Registers.{targets_of}
-use Rattle.lf_model.specs.Table.{reply_of}
+use Rattle.lf_rules.specs.Registers.{targets_of}
+use Rattle.lf_rules.specs.Table.{reply_of}
 use Rattle.lf_model.proofs.plain.effect.add_replies.Given as goal
 
 abbrev pub invariant-loop-held : goal.invariant-loop-held

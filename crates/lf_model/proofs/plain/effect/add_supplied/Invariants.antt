@@ -1,6 +1,6 @@
 use Rattle.std.proofs.Common.{◌≡◌, ◌++◌, take, map}
-use Rattle.lf_model.specs.Registers.{targets_of}
-use Rattle.lf_model.specs.Table.{block_asked}
+use Rattle.lf_rules.specs.Registers.{targets_of}
+use Rattle.lf_rules.specs.Table.{block_asked}
 use Rattle.lf_model.proofs.plain.effect.add_supplied.Given as goal
 
 abbrev pub invariant-loop-held : goal.invariant-loop-held

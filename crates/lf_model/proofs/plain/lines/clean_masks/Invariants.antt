@@ -1,6 +1,6 @@
 use Rattle.std.proofs.Common.{◌≡◌, replicate}
 use Rattle.arrayvec.specs.ArrayVec.{array_vec_len}
-use Rattle.lf_model.specs.Address.{clean_mask}
+use Rattle.lf_rules.specs.Address.{clean_mask}
 use Rattle.lf_model.proofs.plain.lines.clean_masks.Given as goal
 
 abbrev pub invariant-loop : goal.invariant-loop

@@ -1,6 +1,6 @@
 use Rattle.std.proofs.Common.{◌≡◌, take}
 use Rattle.arrayvec.specs.ArrayVec.{array_vec_len}
-use Rattle.lf_model.specs.Lines.{marked}
+use Rattle.lf_rules.specs.Lines.{marked}
 use Rattle.lf_model.proofs.plain.lines.marked.Given as goal
 
 abbrev pub invariant-loop-i : goal.invariant-loop-i

@@ -1,6 +1,6 @@
 use Rattle.std.proofs.Common.{◌≡◌, ℕ, length}
 use Rattle.std.specs.List.{All}
-use Rattle.lf_model.specs.State.{empty_slice}
+use Rattle.lf_rules.specs.State.{empty_slice}
 use Rattle.lf_model.specs.Plain.{IsFramed, slices_of}
 use Rattle.lf_model.proofs.plain.machine.new_slices.Given as goal
 

@@ -1,5 +1,5 @@
 use Rattle.std.proofs.Common.{sym, arith, refl}
-use Rattle.lf_model.proofs.Bytes.{taken_more, passed_over}
+use Rattle.lf_rules.proofs.Bytes.{taken_more, passed_over}
 use Rattle.lf_model.proofs.plain.memory.masked.Goals as goal
 use Rattle.lf_model.proofs.plain.memory.masked.Goals.{then-is_under, else-is_under}
 

@@ -1,5 +1,5 @@
 use Rattle.std.proofs.Common.{refl, arith}
-use Rattle.lf_model.proofs.Bytes.{more_read}
+use Rattle.lf_model.proofs.PlainBytes.{more_read}
 use Rattle.lf_model.proofs.plain.memory.part.Goals as goal
 
 pub loop-i-preserved : goal.loop-i-preserved

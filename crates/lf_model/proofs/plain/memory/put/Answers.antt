@@ -1,6 +1,6 @@
 use Rattle.std.proofs.Common.{ℕ, ◌+◌, ◌-◌, length, List, slice_index, ap, ◌∙◌, arith}
 use borrow.Rule.Slice.PartMut.{put_mid}
-use Rattle.lf_model.proofs.Bytes.{put_mid_is}
+use Rattle.lf_model.proofs.PlainBytes.{put_mid_is}
 use Rattle.lf_model.proofs.plain.memory.put.Goals as goal
 
 pub returns : goal.returns

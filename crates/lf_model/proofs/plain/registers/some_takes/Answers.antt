@@ -1,5 +1,5 @@
 use Rattle.std.proofs.Common.{sym, ◌∙◌, arith}
-use Rattle.lf_model.proofs.Wide.{any_at, none_at}
+use Rattle.lf_rules.proofs.Wide.{any_at, none_at}
 use Rattle.lf_model.proofs.plain.registers.some_takes.Goals as goal
 
 pub returns-then-takes_block : goal.returns-then-takes_block

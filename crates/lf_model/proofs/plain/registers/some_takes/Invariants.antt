@@ -1,5 +1,5 @@
 use Rattle.std.proofs.Common.{◌≡◌, ℕ, ◌<◌, ◌&&◌, false}
-use Rattle.lf_model.specs.Registers.{holds_in, takes}
+use Rattle.lf_rules.specs.Registers.{holds_in, takes}
 use Rattle.lf_model.proofs.plain.registers.some_takes.Given as goal
 
 abbrev pub invariant-loop-r : goal.invariant-loop-r

@@ -1,4 +1,4 @@
-use Rattle.lf_model.proofs.Bytes.{mask_whole}
+use Rattle.lf_model.proofs.PlainBytes.{mask_whole}
 use Rattle.lf_model.proofs.plain.request.mask_of.Goals as goal
 
 pub returns : goal.returns

@@ -1,5 +1,5 @@
 use Rattle.std.proofs.Common.{◌≡◌, true, sym, arith}
-use Rattle.lf_model.specs.Registers.{is_free}
+use Rattle.lf_rules.specs.Registers.{is_free}
 use Rattle.lf_mshr.specs.RegisterFile.{explicit_file}
 use Rattle.lf_mshr.proofs.Bounds.{free-count}
 use Rattle.lf_mshr.proofs.Room.{free_for_primary}

@@ -1,5 +1,5 @@
 use Rattle.std.proofs.Common.{ap, ◌∙◌}
-use Rattle.lf_model.specs.Table.{request_of}
+use Rattle.lf_rules.specs.Table.{request_of}
 use Rattle.lf_replay.proofs.bank.Bank.apply.Goals as goal
 
 pub returns-in-Reply-clause-answer : goal.returns-in-Reply-clause-answer

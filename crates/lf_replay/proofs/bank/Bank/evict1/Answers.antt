@@ -1,5 +1,5 @@
 use Rattle.std.proofs.Common.{◌≡◌, true, sym, subst}
-use Rattle.lf_model.specs.Lines.{has_line}
+use Rattle.lf_rules.specs.Lines.{has_line}
 use Rattle.lf_replay.specs.View.{kept}
 use Rattle.lf_replay.proofs.Keeping.{inner}
 use Rattle.lf_replay.proofs.bank.Bank.evict1.Goals as goal

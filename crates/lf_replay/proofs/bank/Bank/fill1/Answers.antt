@@ -1,6 +1,6 @@
 use Rattle.std.proofs.Common.{◌∙◌, sym, rules}
-use Rattle.lf_model.specs.Address.{set1_of, agree_off, block_bytes}
-use Rattle.lf_model.specs.declared.rule.Rule.TheVariants.{NotSupplied, SetFull, FillData}
+use Rattle.lf_rules.specs.Address.{set1_of, agree_off, block_bytes}
+use Rattle.lf_rules.specs.declared.rule.Rule.TheVariants.{NotSupplied, SetFull, FillData}
 use Rattle.lf_replay.specs.Bytes.{flat_of}
 use Rattle.lf_replay.specs.View.{kept}
 use Rattle.lf_replay.proofs.Keeping.{absent1}

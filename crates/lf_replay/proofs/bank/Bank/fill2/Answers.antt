@@ -1,5 +1,5 @@
 use Rattle.std.proofs.Common.{◌∙◌, sym, refl, rules}
-use Rattle.lf_model.specs.declared.rule.Rule.TheVariants.{NotFetched, SetFull, FillData}
+use Rattle.lf_rules.specs.declared.rule.Rule.TheVariants.{NotFetched, SetFull, FillData}
 use Rattle.lf_levels.specs.LineTable.{wide_set}
 use Rattle.lf_replay.specs.View.{kept}
 use Rattle.lf_replay.proofs.Keeping.{absent2}

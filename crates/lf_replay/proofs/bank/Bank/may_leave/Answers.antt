@@ -1,8 +1,8 @@
 use Rattle.std.proofs.Common.{not, ◌&&◌, ◌∙◌}
 use mathlib.Core.Path.{ap₂}
-use Rattle.lf_model.specs.Address.{sub_block}
-use Rattle.lf_model.specs.Lines.{has_line}
-use Rattle.lf_model.specs.Registers.{holds}
+use Rattle.lf_rules.specs.Address.{sub_block}
+use Rattle.lf_rules.specs.Lines.{has_line}
+use Rattle.lf_rules.specs.Registers.{holds}
 use Rattle.lf_levels.specs.LineTable.{are_absent}
 use Rattle.lf_replay.proofs.Places.{all_apart}
 use Rattle.lf_replay.proofs.bank.Bank.may_leave.Goals as goal

@@ -1,5 +1,5 @@
 use Rattle.std.proofs.Common.{◌<◌, sym, subst}
-use Rattle.lf_model.specs.State.{Request}
+use Rattle.lf_rules.specs.State.{Request}
 use Rattle.lf_replay.specs.Bytes.{flat_of}
 use Rattle.lf_replay.specs.View.{kept}
 use Rattle.lf_replay.proofs.Heads.{merge_none}

@@ -1,7 +1,7 @@
 use Rattle.std.proofs.Common.{◌≡◌, ℕ, List, length, ap, ◌∙◌, subst}
-use Rattle.lf_model.specs.Address.{part_at, agree_off, block_bytes}
-use Rattle.lf_model.specs.Table.{store_bytes}
-use Rattle.lf_model.proofs.Wide.{part_len}
+use Rattle.lf_rules.specs.Address.{part_at, agree_off, block_bytes}
+use Rattle.lf_rules.specs.Table.{store_bytes}
+use Rattle.lf_rules.proofs.Wide.{part_len}
 use Rattle.lf_replay.specs.Bytes.{flat_of}
 use Rattle.lf_replay.proofs.bank.Bank.part_agrees.Goals as goal
 

@@ -1,6 +1,6 @@
 use Rattle.std.proofs.Common.{◌≡◌, ◌<◌, false, sym, subst}
-use Rattle.lf_model.specs.Lines.{has_line}
-use Rattle.lf_model.specs.State.{Request}
+use Rattle.lf_rules.specs.Lines.{has_line}
+use Rattle.lf_rules.specs.State.{Request}
 use Rattle.lf_replay.specs.Bytes.{flat_of}
 use Rattle.lf_replay.specs.View.{kept}
 use Rattle.lf_replay.proofs.Heads.{primary_none}

@@ -1,9 +1,9 @@
 use Rattle.std.proofs.Common.{ℕ, Bool, sym, ap, ◌∙◌, inl, inr, arith}
 use Rattle.std.proofs.lemmas.Bool.{cases_eq}
-use Rattle.lf_model.specs.Address.{sub_block, part_at, block_bytes, agree_off}
-use Rattle.lf_model.specs.Table.{store_bytes}
-use Rattle.lf_model.proofs.Masks.{all_range}
-use Rattle.lf_model.proofs.BusyTags.{not_all}
+use Rattle.lf_rules.specs.Address.{sub_block, part_at, block_bytes, agree_off}
+use Rattle.lf_rules.specs.Table.{store_bytes}
+use Rattle.lf_rules.proofs.Masks.{all_range}
+use Rattle.lf_rules.proofs.Masks.{not_all}
 use Rattle.lf_replay.specs.Bytes.{flat_of}
 use Rattle.lf_replay.proofs.bank.Bank.wide_agrees.Goals as goal
 

@@ -1,8 +1,8 @@
 use Rattle.std.proofs.Common.{◌≡◌, ℕ, List, ◌<◌, true}
-use Rattle.lf_model.specs.Address.{sub_block, part_at, block_bytes, agree_off}
-use Rattle.lf_model.specs.Registers.{Held}
-use Rattle.lf_model.specs.State.{Missed}
-use Rattle.lf_model.specs.Table.{store_bytes}
+use Rattle.lf_rules.specs.Address.{sub_block, part_at, block_bytes, agree_off}
+use Rattle.lf_rules.specs.Registers.{Held}
+use Rattle.lf_rules.specs.State.{Missed}
+use Rattle.lf_rules.specs.Table.{store_bytes}
 use Rattle.lf_mshr.specs.Alike.{AreAlike}
 use Rattle.lf_replay.specs.Bytes.{flat_of}
 use Rattle.lf_replay.specs.Tells.{Tells}

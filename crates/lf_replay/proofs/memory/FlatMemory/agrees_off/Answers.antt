@@ -1,6 +1,6 @@
 use Rattle.std.proofs.Common.{ℕ, ◌||◌, ◌==◌, length, slice_index, ap, ◌∙◌}
 use Rattle.std.specs.List.{range_with_len, list_all}
-use Rattle.lf_model.specs.Address.{is_under}
+use Rattle.lf_rules.specs.Address.{is_under}
 use Rattle.lf_replay.proofs.memory.FlatMemory.agrees_off.Goals as goal
 
 pub returns : goal.returns

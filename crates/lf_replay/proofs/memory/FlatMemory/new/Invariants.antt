@@ -1,5 +1,5 @@
 use Rattle.std.proofs.Common.{◌≡◌, drop, length, ◌≤◌}
-use Rattle.lf_model.specs.Address.{flat_memory}
+use Rattle.lf_rules.specs.Address.{flat_memory}
 use Rattle.lf_replay.specs.Bytes.{flat_of, bank_part}
 use Rattle.lf_replay.proofs.memory.FlatMemory.new.Given as goal
 

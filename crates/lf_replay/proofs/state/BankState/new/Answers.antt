@@ -1,4 +1,4 @@
-use Rattle.lf_model.specs.Address.{flat_memory}
+use Rattle.lf_rules.specs.Address.{flat_memory}
 use Rattle.lf_replay.specs.Bytes.{bank_part}
 use Rattle.lf_replay.specs.View.{kept}
 use Rattle.lf_replay.proofs.Reached.{opens, opening_reached, file1_new, file2_new}

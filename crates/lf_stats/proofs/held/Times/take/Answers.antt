@@ -2,7 +2,7 @@ use Rattle.std.proofs.Common.{rules, ◌≡◌, ℕ, ◌-◌, ◌<◌, ◌∷◌
 use Rattle.std.specs.Prelude.{unwrap_or, is_some}
 use Rattle.std.specs.BTreeMap.{get}
 use Rattle.std.specs.Ordering.{nat_cmp}
-use Rattle.lf_model.specs.Numbers.{times}
+use Rattle.lf_rules.specs.Numbers.{times}
 use Rattle.lf_stats.specs.Standing.{IsCount}
 use Rattle.lf_stats.proofs.Distinct.{times_here, distinct_new, distinct_again}
 use Rattle.lf_stats.proofs.Holds.{at_other, count_is, some_kept, each_taken}

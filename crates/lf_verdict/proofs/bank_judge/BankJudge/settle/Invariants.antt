@@ -1,7 +1,7 @@
 use Rattle.std.proofs.Common.{ℕ, List}
-use Rattle.lf_model.specs.declared.shape.Shape.{Shape}
-use Rattle.lf_model.specs.declared.event.Record.{Record}
-use Rattle.lf_model.specs.Address.{FlatMemory}
+use Rattle.lf_rules.specs.declared.shape.Shape.{Shape}
+use Rattle.lf_rules.specs.declared.event.Record.{Record}
+use Rattle.lf_rules.specs.Address.{FlatMemory}
 use Rattle.lf_logs.specs.Reordering.{waiting_count}
 use Rattle.lf_verdict.specs.Standing.{IsBankJudged}
 use Rattle.lf_verdict.proofs.bank_judge.BankJudge.settle.Given as goal

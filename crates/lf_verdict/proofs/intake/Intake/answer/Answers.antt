@@ -1,5 +1,5 @@
 use Rattle.std.proofs.Common.{◌≡◌, None, sym, ap, ◌∙◌, subst}
-use Rattle.lf_model.specs.Address.{flat_memory}
+use Rattle.lf_rules.specs.Address.{flat_memory}
 use Rattle.lf_codec.specs.Reading.{Reading, fault_so_far, trace_fault}
 use Rattle.lf_verdict.specs.declared.answer.Refusal.{Refusal}
 use Rattle.lf_verdict.specs.declared.answer.Verdict.TheVariants.{Refused}

@@ -1,6 +1,6 @@
 use Rattle.std.proofs.Common.{List, ℕ, sym, ap, ◌∙◌, subst}
 use Rattle.std.proofs.lemmas.List.{append-nil}
-use Rattle.lf_model.specs.Fits.{Bytes}
+use Rattle.lf_rules.specs.Fits.{Bytes}
 use Rattle.lf_codec.specs.Reading.{Reading}
 use Rattle.lf_codec.specs.Reader.{HasRead}
 use Rattle.lf_verdict.proofs.Sessions.{waiting_any}

@@ -1,6 +1,6 @@
 use Rattle.std.proofs.Common.{◌≡◌, ◌<◌, ◌≤◌, ◌+◌, ◌++◌, ◌∷◌, [], List, length, get_or, set, sym, ap, ◌∙◌, subst, refl, arith}
 use Rattle.std.proofs.lemmas.List.{length-set}
-use Rattle.lf_model.specs.Run.{of_log}
+use Rattle.lf_rules.specs.Run.{of_log}
 use Rattle.lf_verdict.specs.declared.port_judge.PortJudge.{PortJudge}
 use Rattle.lf_verdict.specs.Standing.{IsPortJudged}
 use Rattle.lf_verdict.proofs.Standings.{entries_count, log_below_all, log_length, logs_more, ports_more, ports_same, port_before}

@@ -1,6 +1,6 @@
 use Rattle.std.proofs.Common.{◌<◌, sym, subst, arith}
-use Rattle.lf_model.specs.Run.{of_bank}
-use Rattle.lf_model.specs.Order.{log_at}
+use Rattle.lf_rules.specs.Run.{of_bank}
+use Rattle.lf_rules.specs.Order.{log_at}
 use Rattle.lf_verdict.specs.Judging.{IsHalt}
 use Rattle.lf_verdict.specs.Standing.{logs_so_far}
 use Rattle.lf_verdict.proofs.Numbering.{first_fault, whole_more}

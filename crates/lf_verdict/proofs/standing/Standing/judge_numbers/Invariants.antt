@@ -1,7 +1,7 @@
 use Rattle.std.proofs.Common.{List}
-use Rattle.lf_model.specs.declared.shape.Shape.{Shape}
-use Rattle.lf_model.specs.declared.event.Record.{Record}
-use Rattle.lf_model.specs.Address.{FlatMemory}
+use Rattle.lf_rules.specs.declared.shape.Shape.{Shape}
+use Rattle.lf_rules.specs.declared.event.Record.{Record}
+use Rattle.lf_rules.specs.Address.{FlatMemory}
 use Rattle.lf_verdict.specs.Judging.{AreWholeBelow}
 use Rattle.lf_verdict.specs.Standing.{logs_so_far, StandsAfterAll}
 use Rattle.lf_verdict.proofs.standing.Standing.judge_numbers.Given as goal

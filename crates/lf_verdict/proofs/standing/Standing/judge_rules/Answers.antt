@@ -2,7 +2,7 @@ use Rattle.std.proofs.Common.{◌≡◌, List, length, map, subst, sym}
 use Rattle.std.proofs.lemmas.List.{length-map}
 use Rattle.lf_verdict.specs.declared.port_judge.PortJudge.{PortJudge}
 use Rattle.lf_verdict.specs.declared.bank_judge.BankJudge.{BankJudge}
-use Rattle.lf_model.specs.declared.outcome.Outcome.{Outcome}
+use Rattle.lf_rules.specs.declared.outcome.Outcome.{Outcome}
 use Rattle.lf_verdict.specs.Judging.{NoneBroken, IsFirstBroken}
 use Rattle.lf_verdict.proofs.Outcomes.{port_fault, bank_fault, parts_run}
 use Rattle.lf_verdict.proofs.Settled.{judged_parts}

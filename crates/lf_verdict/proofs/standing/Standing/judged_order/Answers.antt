@@ -1,7 +1,7 @@
 use Rattle.std.proofs.Common.{◌≤◌, ◌^◌, ℕ, List, length, sym, ap, ◌∙◌, subst, arith}
 use Rattle.std.specs.List.{All}
-use Rattle.lf_model.specs.Order.{IsLeastOrder}
-use Rattle.lf_model.specs.Ring.{IsRing}
+use Rattle.lf_rules.specs.Order.{IsLeastOrder}
+use Rattle.lf_rules.specs.Ring.{IsRing}
 use Rattle.lf_join.specs.Join as joins
 use Rattle.lf_join.specs.Join.{BanksAreWhole, IsStuckRing}
 use Rattle.lf_verdict.proofs.Settled.{few_logs, skeletons_short, skeletons_whole}

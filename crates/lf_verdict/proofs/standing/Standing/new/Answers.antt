@@ -1,7 +1,7 @@
 use Rattle.std.proofs.Common.{◌+◌, List, [], sym, ◌∙◌, subst}
 use Rattle.std.specs.Prelude.{replicate}
-use Rattle.lf_model.specs.declared.event.Record.{Record}
-use Rattle.lf_model.specs.Address.{flat_memory}
+use Rattle.lf_rules.specs.declared.event.Record.{Record}
+use Rattle.lf_rules.specs.Address.{flat_memory}
 use Rattle.lf_replay.specs.Bytes.{bank_part}
 use Rattle.std.proofs.Common.{get_or}
 use Rattle.lf_verdict.specs.Standing.{IsBankSettled}

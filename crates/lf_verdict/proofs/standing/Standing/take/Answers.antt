@@ -1,7 +1,7 @@
 use Rattle.std.proofs.Common.{◌<◌, length, get_or, ap, ◌∙◌, refl, arith}
 use Rattle.std.specs.Global.{Vec}
-use Rattle.lf_model.specs.Run.{of_bank}
-use Rattle.lf_model.specs.Order.{log_at}
+use Rattle.lf_rules.specs.Run.{of_bank}
+use Rattle.lf_rules.specs.Order.{log_at}
 use Rattle.lf_replay.specs.Bytes.{bank_part}
 use Rattle.lf_replay.proofs.Runs.{on_ok}
 use Rattle.lf_verdict.specs.declared.bank_judge.BankJudge.{BankJudge}

@@ -1,5 +1,5 @@
 use Rattle.std.proofs.Common.{arith}
-use Rattle.lf_model.specs.State.{seen_by}
+use Rattle.lf_rules.specs.State.{seen_by}
 use Rattle.lf_model.specs.Plain.{state_of}
 use Rattle.lf_model.proofs.PlainSteps.{fence_if, judged_fence}
 use Rattle.lf_model.proofs.plain.machine.Machine.judge.Goals as goal

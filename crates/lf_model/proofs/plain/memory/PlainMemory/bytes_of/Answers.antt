@@ -4,7 +4,7 @@ use Rattle.std.specs.Prelude.{unwrap_or}
 use Rattle.std.specs.Map.{lookup}
 use Rattle.std.specs.BTreeMap.{is_at}
 use Rattle.std.specs.Ordering.{nat_cmp}
-use Rattle.lf_model.proofs.Bytes.{zeros}
+use Rattle.lf_model.proofs.PlainBytes.{zeros}
 use Rattle.lf_model.proofs.plain.memory.PlainMemory.bytes_of.Goals as goal
 
 pub returns-in-None : goal.returns-in-None

@@ -1,6 +1,6 @@
 use Rattle.std.proofs.Common.{ℕ, map, ap, ◌∙◌}
 use Rattle.std.specs.List.{range_with_len, filter}
-use Rattle.lf_model.specs.Address.{is_under}
+use Rattle.lf_rules.specs.Address.{is_under}
 use Rattle.lf_model.proofs.plain.memory.PlainMemory.masked.Goals as goal
 
 pub returns : goal.returns

@@ -1,5 +1,5 @@
 use Rattle.std.proofs.Common.{◌≡◌, ◌+◌, ◌-◌, sym, ap, ◌∙◌, drop, arith}
-use Rattle.lf_model.specs.Address.{flat_memory}
+use Rattle.lf_rules.specs.Address.{flat_memory}
 use Rattle.lf_model.proofs.PlainStart.{memory_more}
 use Rattle.lf_model.proofs.plain.memory.PlainMemory.new.Goals as goal
 

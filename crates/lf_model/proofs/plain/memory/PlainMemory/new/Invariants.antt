@@ -1,5 +1,5 @@
 use Rattle.std.proofs.Common.{◌≡◌, drop}
-use Rattle.lf_model.specs.Address.{flat_memory}
+use Rattle.lf_rules.specs.Address.{flat_memory}
 use Rattle.lf_model.specs.Plain.{flat_of}
 use Rattle.lf_model.proofs.plain.memory.PlainMemory.new.Given as goal
 

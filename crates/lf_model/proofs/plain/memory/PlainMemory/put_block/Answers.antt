@@ -1,4 +1,4 @@
-use Rattle.lf_model.proofs.Bytes.{flat_put}
+use Rattle.lf_model.proofs.PlainBytes.{flat_put}
 use Rattle.lf_model.proofs.plain.memory.PlainMemory.put_block.Goals as goal
 use Rattle.lf_model.proofs.plain.memory.PlainMemory.put_block.Goals.{in-Ok, in-Err}
 

@@ -1,7 +1,7 @@
 use Rattle.std.proofs.Common.{ap, ◌∙◌}
-use Rattle.lf_model.specs.State.{update}
+use Rattle.lf_rules.specs.State.{update}
 use Rattle.lf_model.specs.Plain.{flat_of, put}
-use Rattle.lf_model.proofs.Bytes.{flat_put}
+use Rattle.lf_model.proofs.PlainBytes.{flat_put}
 use Rattle.lf_model.proofs.plain.memory.PlainMemory.store.Goals as goal
 use Rattle.lf_model.proofs.plain.memory.PlainMemory.store.Goals.{in-Ok, in-Err}
 

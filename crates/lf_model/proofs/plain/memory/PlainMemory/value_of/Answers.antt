@@ -1,6 +1,6 @@
 use Rattle.std.proofs.Common.{◌∙◌}
 use Rattle.lf_model.specs.Plain.{flat_of}
-use Rattle.lf_model.proofs.Bytes.{value_read}
+use Rattle.lf_model.proofs.PlainBytes.{value_read}
 use Rattle.lf_model.proofs.plain.memory.PlainMemory.value_of.Goals as goal
 
 pub returns-in-Load : goal.returns-in-Load

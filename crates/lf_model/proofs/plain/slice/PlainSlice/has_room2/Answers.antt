@@ -1,6 +1,6 @@
 use Rattle.std.proofs.Common.{◌∙◌}
-use Rattle.lf_model.specs.Registers.{has_room}
-use Rattle.lf_model.specs.Table.{position2}
+use Rattle.lf_rules.specs.Registers.{has_room}
+use Rattle.lf_rules.specs.Table.{position2}
 use Rattle.lf_model.proofs.plain.slice.PlainSlice.has_room2.Goals as goal
 
 pub returns : goal.returns

@@ -1,6 +1,6 @@
 use Rattle.std.proofs.Common.{◌≡◌, ℕ, ◌<◌, true}
 use Rattle.lf_model.specs.Plain.{slice_of}
-use Rattle.lf_model.specs.Table.{is_apart}
+use Rattle.lf_rules.specs.Table.{is_apart}
 use Rattle.lf_model.proofs.plain.slice.PlainSlice.is_apart.Given as goal
 
 abbrev pub invariant-loop-place : goal.invariant-loop-place

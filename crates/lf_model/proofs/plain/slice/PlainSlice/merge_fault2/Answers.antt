@@ -1,7 +1,7 @@
 use Rattle.std.proofs.Common.{◌∙◌}
-use Rattle.lf_model.specs.Registers.{merge_clauses}
-use Rattle.lf_model.specs.Run.{first_failing}
-use Rattle.lf_model.specs.Table.{OfBoth, position2}
+use Rattle.lf_rules.specs.Registers.{merge_clauses}
+use Rattle.lf_rules.specs.Run.{first_failing}
+use Rattle.lf_rules.specs.Table.{OfBoth, position2}
 use Rattle.lf_model.proofs.plain.slice.PlainSlice.merge_fault2.Goals as goal
 
 pub returns : goal.returns

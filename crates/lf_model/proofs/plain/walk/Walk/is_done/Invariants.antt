@@ -1,5 +1,5 @@
 use Rattle.std.proofs.Common.{◌≡◌, ℕ, ◌<◌, []}
-use Rattle.lf_model.specs.Order.{log_at}
+use Rattle.lf_rules.specs.Order.{log_at}
 use Rattle.lf_model.specs.Plain.{left_of}
 use Rattle.lf_model.specs.Recheck.{lists_of}
 use Rattle.lf_model.proofs.plain.walk.Walk.is_done.Given as goal

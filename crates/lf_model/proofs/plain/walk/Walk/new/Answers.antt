@@ -2,10 +2,10 @@ use Rattle.std.proofs.Common.{◌≡◌, ℕ, List, length, replicate, ap, ◌�
 use Rattle.std.specs.Prelude.{slice_index}
 use Rattle.std.specs.Global.{Vec}
 use Rattle.std.proofs.lemmas.List.{length-map}
-use Rattle.lf_model.specs.declared.event.Record.{Record}
-use Rattle.lf_model.specs.declared.shape.Shape.{Shape}
-use Rattle.lf_model.specs.Address.{flat_memory}
-use Rattle.lf_model.specs.State.{State, opening}
+use Rattle.lf_rules.specs.declared.event.Record.{Record}
+use Rattle.lf_rules.specs.declared.shape.Shape.{Shape}
+use Rattle.lf_rules.specs.Address.{flat_memory}
+use Rattle.lf_rules.specs.State.{State, opening}
 use Rattle.lf_model.specs.Plain.{left_of, recheck_from, state_of}
 use Rattle.lf_model.specs.Recheck.{lists_of}
 use Rattle.lf_model.proofs.PlainStart.{left_all, all_zero}

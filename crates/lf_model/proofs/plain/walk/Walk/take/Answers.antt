@@ -1,9 +1,9 @@
 use Rattle.std.proofs.Common.{◌≡◌, ◌+◌, ◌<◌, length, List, set, sym, ap, ◌∙◌, subst, ℕ, arith}
-use Rattle.lf_model.specs.declared.event.Record.{Record}
+use Rattle.lf_rules.specs.declared.event.Record.{Record}
 use Rattle.std.specs.Prelude.{slice_index}
 use Rattle.std.proofs.lemmas.List.{get_or_default, length-map}
 use Rattle.std.specs.Global.{Vec}
-use Rattle.lf_model.specs.declared.shape.Shape.{Shape}
+use Rattle.lf_rules.specs.declared.shape.Shape.{Shape}
 use Rattle.lf_model.specs.Plain.{NamesBankBelow, count_left, state_of, left_of, recheck_from}
 use Rattle.lf_model.proofs.Walks.{items_of, left_next, count_next, fits_found, names_below, wrong_number, rule_broken, walked_on}
 use Rattle.lf_model.proofs.plain.walk.Walk.take.Goals as goal

@@ -1,5 +1,0 @@
-use Rattle.lf_model.proofs.CopyRuns.{copy_runs_are_runs}
-use Rattle.lf_model.proofs.laws.copies_are_flat.Goals as goal
-
-pub returns : goal.returns
-returns c = copy_runs_are_runs

@@ -1,5 +1,0 @@
-use Rattle.lf_model.proofs.Numbered.{gaps_admit_none}
-use Rattle.lf_model.proofs.laws.gaps_admit_none.Goals as goal
-
-pub returns : goal.returns
-returns c = gaps_admit_none

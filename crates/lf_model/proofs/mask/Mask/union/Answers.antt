@@ -1,5 +1,0 @@
-use Rattle.lf_model.proofs.MaskBits.{under_union}
-use Rattle.lf_model.proofs.mask.Mask.union.Goals as goal
-
-pub returns-clause-bits : goal.returns-clause-bits
-returns-clause-bits c = under_union c.args.self.0 c.args.other.0

@@ -1,0 +1,288 @@
+//! Which records a trace may have.
+
+ghost use Rattle.std.specs.Prelude.{◌≡◌, ℕ, ◌+◌, ◌<◌, ◌≤◌, ◌↔◌, ◌^◌, IsTrue, slice_index, slice_index_or, length, true};
+ghost use Rattle.lf_rules.specs.Address.{clean_mask};
+ghost use Rattle.lf_rules.specs.Fits.{is_size, is_block_size, is_factor, is_of_bank, masks_len, FitsSecond, FitsWideEvict, issue_len, IsData, FitsBank, FitsIssue, FitsReply, FitsRequest, FitsBlock, FitsEvict, FitsEvent, FitsLog, FitsRecord, is_of_level_two};
+
+use crate::event::{Block, Event, Masks, NO_BANK, Op, Record, WideBlock};
+use crate::mask::Mask;
+
+fn is_size(n: u8) -> bool
+    ensures { result ≡ is_size n }
+{
+    n == 1 || n == 2 || n == 4 || n == 8
+}
+
+fn is_of_bank(banks: u32, bank: u32, second: u64) -> bool
+    requires { 0 < banks }
+    ensures { result ≡ is_of_bank banks bank second }
+{
+    second % u64::from(banks) == u64::from(bank)
+}
+
+fn slice_is_data(len: usize, bytes: &[u8]) -> bool
+    ensures size { IsTrue result ↔ (length bytes.now ≡ len) }
+    ensures bytes_fit { (i : ℕ) → slice_index bytes.now i < 256 }
+{
+    bytes.len() == len
+}
+
+fn is_data(len: usize, bytes: &Block) -> bool
+    ensures { IsTrue result ↔ IsData len bytes.now }
+{
+    slice_is_data(len, bytes)
+}
+
+fn fits_block(banks: u32, factor: u32, bank: u32, block: u32) -> bool
+    requires some_bank { 0 < banks }
+    requires some_factor { 0 < factor }
+    ensures { IsTrue result ↔ FitsBlock banks factor bank block }
+{
+    is_of_bank(banks, bank, u64::from(block / factor))
+}
+
+fn fits_second(banks: u32, factor: u32, bank: u32, second: u32) -> bool
+    requires some_bank { 0 < banks }
+    requires some_factor { 0 < factor }
+    ensures { IsTrue result ↔ FitsSecond banks factor bank second }
+{
+    u64::from(second) < 0x1_0000_0000 / u64::from(factor)
+        && is_of_bank(banks, bank, u64::from(second))
+}
+
+fn fits_issue(
+    banks: u32,
+    block: u32,
+    factor: u32,
+    bank: u32,
+    op: Op,
+    tag: u8,
+    size: u8,
+    address: u64,
+    bytes: &Block,
+) -> bool
+    requires some_bank { 0 < banks }
+    requires some_block { 0 < block }
+    requires some_factor { 0 < factor }
+    ensures { IsTrue result ↔ FitsIssue banks block factor bank op tag size address bytes.now }
+{
+    if !is_size(size) || address % u64::from(size) != 0 {
+        return false;
+    }
+    let number = address / u64::from(block);
+    let len = match op {
+        Op::Load => 0,
+        Op::Store => usize::from(size),
+    };
+    number < 0x1_0000_0000
+        && is_of_bank(banks, bank, number / u64::from(factor))
+        && is_data(len, bytes)
+}
+
+fn mask_fits(size: u32, mask: u64) -> bool
+    ensures { IsTrue result ↔ (mask < 2 ^ size) }
+{
+    size >= 64 || mask < 1 << size
+}
+
+fn fits_evict(
+    banks: u32,
+    size: u32,
+    factor: u32,
+    bank: u32,
+    block: u32,
+    mask: Mask,
+    bytes: &Block,
+) -> bool
+    requires some_bank { 0 < banks }
+    requires some_factor { 0 < factor }
+    ensures { IsTrue result ↔ FitsEvict banks size factor bank block mask.0 bytes.now }
+{
+    fits_block(banks, factor, bank, block)
+        && mask_fits(size, mask.0)
+        && is_data(mask.0.count_ones() as usize, bytes)
+}
+
+fn is_wide_data(len: usize, bytes: &WideBlock) -> bool
+    ensures { IsTrue result ↔ IsData len bytes.now }
+{
+    slice_is_data(len, bytes)
+}
+
+fn masks_fit(size: u32, masks: &[Mask]) -> bool
+    ensures { IsTrue result ↔ ((place : ℕ) → (slice_index_or masks.now place clean_mask).0 < 2 ^ size) }
+{
+    for mask in masks {
+        if !mask_fits(size, mask.0) {
+            return false;
+        }
+    }
+    true
+}
+
+fn masks_len(masks: &Masks) -> usize
+    ensures { result ≡ masks_len masks.now.items }
+{
+    let mut len = 0;
+    for mask in masks.iter() {
+        len += mask.0.count_ones() as usize;
+    }
+    len
+}
+
+fn fits_wide_evict(
+    banks: u32,
+    size: u32,
+    factor: u32,
+    bank: u32,
+    second: u32,
+    masks: &Masks,
+    bytes: &WideBlock,
+) -> bool
+    requires some_bank { 0 < banks }
+    requires some_factor { 0 < factor }
+    ensures { IsTrue result ↔ FitsWideEvict banks size factor bank second masks.now bytes.now }
+{
+    fits_second(banks, factor, bank, second)
+        && masks.len() == factor as usize
+        && masks_fit(size, masks)
+        && is_wide_data(masks_len(masks), bytes)
+}
+
+fn fits_reply(size: u8, tag: u8, bytes: &Block) -> bool
+    ensures { IsTrue result ↔ FitsReply tag size bytes.now }
+{
+    (size == 0 || is_size(size)) && is_data(usize::from(size), bytes)
+}
+
+fn fits_event(banks: u32, size: u32, factor: u32, bank: u32, event: &Event) -> bool
+    requires some_bank { 0 < banks }
+    requires some_block { 0 < size }
+    requires small_block { size ≤ 64 }
+    requires some_factor { 0 < factor }
+    requires small_factor { factor ≤ 4 }
+    ensures { IsTrue result ↔ FitsEvent banks size factor bank event.now }
+{
+    match event {
+        Event::Issue {
+            op,
+            tag,
+            size: len,
+            address,
+            bytes,
+        } => fits_issue(banks, size, factor, bank, *op, *tag, *len, *address, bytes),
+        Event::Reply {
+            tag,
+            size: len,
+            bytes,
+        } => fits_reply(*len, *tag, bytes),
+        Event::Hit { port, tag } => is_request(*port, *tag),
+        Event::Stall { port, tag } => is_request(*port, *tag),
+        Event::Primary {
+            port,
+            tag,
+            register,
+        } => is_miss(*port, *tag, *register),
+        Event::Merge {
+            port,
+            tag,
+            register,
+        } => is_miss(*port, *tag, *register),
+        Event::Fill1 { block, bytes } => {
+            fits_block(banks, factor, bank, *block) && is_data(size as usize, bytes)
+        }
+        Event::Evict1 { block, mask, bytes } => {
+            fits_evict(banks, size, factor, bank, *block, *mask, bytes)
+        }
+        Event::Fence => true,
+        _ => fits_level_two(banks, size, factor, bank, event),
+    }
+}
+
+fn fits_level_two(banks: u32, size: u32, factor: u32, bank: u32, event: &Event) -> bool
+    requires some_bank { 0 < banks }
+    requires small_block { size ≤ 64 }
+    requires some_factor { 0 < factor }
+    requires small_factor { factor ≤ 4 }
+    requires second { is_of_level_two event.now ≡ true }
+    ensures { IsTrue result ↔ FitsEvent banks size factor bank event.now }
+{
+    match event {
+        Event::SecondHit { block } => fits_block(banks, factor, bank, *block),
+        Event::SecondPrimary { block, register } => {
+            fits_second_miss(banks, factor, bank, *block, *register)
+        }
+        Event::SecondMerge { block, register } => {
+            fits_second_miss(banks, factor, bank, *block, *register)
+        }
+        Event::SecondStall { block } => fits_block(banks, factor, bank, *block),
+        Event::Fill2 { block, bytes } => {
+            fits_second(banks, factor, bank, *block)
+                && is_wide_data((factor * size) as usize, bytes)
+        }
+        Event::Evict2 {
+            block,
+            masks,
+            bytes,
+        } => fits_wide_evict(banks, size, factor, bank, *block, masks, bytes),
+        _ => unreachable!(),
+    }
+}
+
+fn is_request(port: u8, tag: u8) -> bool
+    ensures { IsTrue result ↔ FitsRequest port tag }
+{
+    let _ = (port, tag);
+    true
+}
+
+fn is_miss(port: u8, tag: u8, register: u16) -> bool
+    ensures { IsTrue result ↔ (FitsRequest port tag × (register < 0x1_0000)) }
+{
+    let _ = (port, tag, register);
+    true
+}
+
+fn fits_second_miss(banks: u32, factor: u32, bank: u32, block: u32, register: u16) -> bool
+    requires some_bank { 0 < banks }
+    requires some_factor { 0 < factor }
+    ensures { IsTrue result ↔ (FitsBlock banks factor bank block × (register < 0x1_0000)) }
+{
+    let _ = register;
+    fits_block(banks, factor, bank, block)
+}
+
+fn fits_log(ports: u32, bank: u32, log: u32, event: &Event) -> bool
+    requires ports { ports ≤ 16 }
+    requires bank { bank < 256 }
+    ensures { IsTrue result ↔ FitsLog ports bank log event.now }
+{
+    match event {
+        Event::Issue { .. } | Event::Reply { .. } | Event::Fence => log < ports,
+        _ => log == ports + bank,
+    }
+}
+
+fn fits_bank(banks: u32, bank: u8, number: u32, event: &Event) -> bool
+    ensures { IsTrue result ↔ FitsBank banks bank number event.now }
+{
+    match event {
+        Event::Fence => bank == NO_BANK && number == 0,
+        _ => u32::from(bank) < banks,
+    }
+}
+
+/// Whether a trace of these ports, banks, block size and factor may have the record.
+pub fn fits(ports: u32, banks: u32, block: u32, factor: u32, item: &Record) -> bool
+    requires ports { ports ≤ 16 }
+    requires some_bank { 0 < banks }
+    requires banks { banks ≤ 16 }
+    requires block_size { is_block_size block ≡ true }
+    requires factor { is_factor factor ≡ true }
+    ensures { IsTrue result ↔ FitsRecord ports banks block factor item.now }
+{
+    let bank = u32::from(item.bank);
+    fits_bank(banks, item.bank, item.number, &item.event)
+        && fits_log(ports, bank, u32::from(item.log), &item.event)
+        && fits_event(banks, block, factor, bank, &item.event)
+}
