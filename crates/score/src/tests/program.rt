@@ -86,7 +86,7 @@ fn refused_usage(rt: HostRuntime) -> Result<(), Fail> {
         "score check c.toml a.lfts --turns 1",
         "score judge c.toml a.lfts",
         "score c.toml a.lfts",
-        "score --version",
+        "score check --version",
     ] {
         is_refused(&rt, line)?;
     }
@@ -109,6 +109,23 @@ fn help_is_asked_for(rt: HostRuntime) -> Result<(), Fail> {
         );
         assert!(rt; text.contains("blocks (level2.blocks)"), "{line}");
         assert!(rt; text.contains("version 1, 2 or 3"), "{line}");
+    }
+    Ok(())
+}
+
+#[test]
+fn version_is_asked_for(rt: HostRuntime) -> Result<(), Fail> {
+    for line in ["score --version", "score -V"] {
+        let words = words_of(rt.alloc(), line)?;
+        let Err(CommandFault::Help(version)) = asked(rt.alloc(), words.as_slice()) else {
+            return Err(Fail::new("no version"));
+        };
+        assert_eq!(rt; version.exit_code(), 0);
+        let text = format!(in rt.alloc(); "{version}")?;
+        assert_eq!(rt;
+            text.as_str(),
+            "score 0.1.0\nrattle-kit-13b logic dac8208d650f15bf\n"
+        );
     }
     Ok(())
 }
