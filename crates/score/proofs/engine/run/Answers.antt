@@ -1,9 +1,0 @@
-use Rattle.score.proofs.ProgramLemmas.{run_of_program}
-use Rattle.score.proofs.JudgingLemmas.{text_no_fault, text_kept, text_free, text_runless, text_nothing}
-use Rattle.score.proofs.engine.run.Goals as goal
-
-pub returns : goal.returns
-returns g c =
-    run_of_program _ _ _ _ _ _ _ _ _ _ _ _ _ c.decide_configured-outcome.ensures c.tell.ensures.write c.tell.ensures.follows c.fault_so_far.ensures.other
-    (text_kept c.exact_reading.ensures c.fault_so_far.ensures.other c.faults_stand.ensures _ _) (text_free _ _) (text_no_fault c.exact_reading.ensures _)
-    (text_runless c.no_has_no_run.ensures _ _) (text_nothing _) c.tell.ensures.whole c.tell.ensures.prefix

@@ -1,9 +1,0 @@
-use Rattle.score.proofs.ProgramLemmas.{run_of_program}
-use Rattle.score.proofs.JudgingLemmas.{shape_no_fault, shape_kept, shape_free, shape_runless, shape_nothing}
-use Rattle.score.proofs.engine.run_shape.Goals as goal
-
-pub returns : goal.returns
-returns g c =
-    run_of_program _ _ _ _ _ _ _ _ _ _ _ _ _ c.decide-outcome.ensures c.tell.ensures.write c.tell.ensures.follows c.fault_so_far.ensures.other
-    (shape_kept c.exact_reading.ensures c.fault_so_far.ensures.other c.faults_stand.ensures _ _) (shape_free _ _) (shape_no_fault c.exact_reading.ensures _)
-    (shape_runless c.no_has_no_run.ensures _ _) (shape_nothing _) c.tell.ensures.whole c.tell.ensures.prefix
