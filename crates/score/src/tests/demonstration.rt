@@ -5,7 +5,7 @@ ghost use Rattle.lf_rules.specs.InRange.{IsShape};
 use crate::demonstration::{DEMO_TURNS, Demonstration, demonstrate};
 use lf_demo::{DemoFault, demo_trace};
 use lf_engine::{Counted, run, run_stats};
-use lf_model::{Level, OrgShape, Shape};
+use lf_rules::{Level, OrgShape, Shape};
 use lf_verdict::{Verdict, check_shape};
 use std::process::Abort;
 use std::sync::Wait;
