@@ -30,6 +30,3 @@ mod wide;
 pub use bank_step::Step;
 pub use fault::BankFault;
 pub use replays::{bank_replay, replay};
-
-#[cfg(test)]
-mod tests;
