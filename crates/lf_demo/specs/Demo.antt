@@ -1,6 +1,6 @@
 -- What the trace of a demonstration is.
 use Rattle.std.specs.Prelude.{◌≡◌, ℕ, ◌+◌, ◌*◌, ◌%◌, ◌<◌, ◌==◌, Bool, true, false, if◌then◌else◌, List, [], ◌∷◌, ◌++◌, length, map, filter, replicate, slice_index_or}
-use Rattle.std.specs.List.{range_with_len, flat_map, count_by}
+use Rattle.std.specs.List.{range_with_len, count_by}
 use Rattle.lf_rules.specs.declared.shape.Shape.{Shape}
 use Rattle.lf_rules.specs.declared.event.Op.{Op}
 use Rattle.lf_rules.specs.declared.event.Op.TheVariants.{Load, Store}
@@ -8,6 +8,7 @@ use Rattle.lf_rules.specs.declared.event.Event.{Event}
 use Rattle.lf_rules.specs.declared.event.Event.TheVariants.{Issue, Reply, Fence}
 use Rattle.lf_rules.specs.declared.event.Record.{Record}
 use Rattle.lf_rules.specs.CommonOrder.{HasCommonOrder}
+use Rattle.lf_rules.specs.Numbers.{all_records}
 use Rattle.lf_codec.specs.declared.header.Header.{Header}
 use Rattle.lf_codec.specs.Trace.{IsTrace}
 
@@ -70,14 +71,10 @@ pub record IsRecording (shape : Shape) (logs : List (List Record)) : Type 0 wher
 abbrev pub header_of : Shape → Header
 header_of shape = record { version = 3; ports = shape.ports; banks = shape.banks; block = shape.block; factor = shape.factor; memory_count = 0 }
 
--- log after log
-abbrev pub joined : List (List Record) → List Record
-joined logs = flat_map (λ log. log) logs
-
--- the bytes are the trace of these logs, with so many events
+-- the bytes are the trace of these logs, log after log, with so many events
 pub record IsTraceOf (shape : Shape) (logs : List (List Record)) (count : ℕ) (bytes : List ℕ) : Type 0 where
-  pub trace : IsTrace bytes (header_of shape) [] (joined logs)
-  pub events : count ≡ length (joined logs)
+  pub trace : IsTrace bytes (header_of shape) [] (all_records logs)
+  pub events : count ≡ length (all_records logs)
 
 -- the bytes are the trace of a recording, with so many events
 pub record IsDemo (shape : Shape) (count : ℕ) (bytes : List ℕ) : Type 0 where

@@ -2,14 +2,15 @@
 
 ghost use Rattle.std.specs.Prelude.{All, IfOk, map, ◌≡◌};
 ghost use Rattle.lf_rules.specs.InRange.{IsShape};
-ghost use Rattle.lf_demo.specs.Demo.{IsDemo, IsRecording, IsTraceOf, joined as log_after_log};
+ghost use Rattle.lf_demo.specs.Demo.{IsDemo, IsRecording, IsTraceOf};
 ghost use Rattle.lf_demo.specs.Threads.{IsNew, IsRecorded, IsWhole};
 
 use crate::fault::DemoFault;
 use crate::recording::{Recorded, Recording, work};
 use lf_codec::{Header, encode, fits_trace};
+use lf_logs::records;
 use lf_recorder::{CloseFault, Desk, LogSeat};
-use lf_rules::{Logs, Memory, Record, Shape};
+use lf_rules::{Logs, Memory, Shape};
 use std::alloc::Global;
 use std::sync::Wait;
 use std::thread;
@@ -130,24 +131,12 @@ fn recorded<R: Threads + Wait + Sync>(
     }
 }
 
-/// The records of all logs, log after log.
-fn joined(alloc: Global, logs: Logs) -> Result<Vec<Record>, DemoFault>
-    ensures { IfOk result (λ v. v.items ≡ log_after_log (map (λ log. log.items) logs.items)) }
-{
-    let mut all = Vec::new(alloc);
-    for log in logs {
-        let mut log = log;
-        all.append(&mut log)?;
-    }
-    Ok(all)
-}
-
 /// The logs as a trace, and how many records they have.
 fn written(alloc: Global, shape: &Shape, logs: Logs) -> Result<(u32, Vec<u8>), DemoFault>
     requires { IsShape shape.now }
     ensures { IfOk result (λ demo. IsTraceOf shape.now (map (λ log. log.items) logs.items) demo.0 demo.1.items) }
 {
-    let records = joined(alloc, logs)?;
+    let records = records(alloc, logs)?;
     let header = Header {
         version: VERSION,
         ports: shape.ports as u8,

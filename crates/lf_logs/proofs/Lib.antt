@@ -5,6 +5,7 @@ pub mod GivenOut
 mod Joined
 mod Judged
 mod Members
+mod Mixed
 mod NoneBusy
 mod Ordered
 mod Placing

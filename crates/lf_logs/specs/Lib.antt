@@ -5,3 +5,4 @@ pub mod Tallies
 pub mod EarlyTable
 pub mod KeptRecord
 pub mod Reordering
+pub mod Mixtures

@@ -5,6 +5,7 @@
 mod banks;
 mod early;
 mod kept;
+mod laws;
 mod logs;
 mod order;
 mod port;
@@ -13,7 +14,8 @@ mod reorder;
 mod skeleton;
 
 pub use banks::bank_records;
-pub use logs::split;
+pub use laws::mixtures_have_their_logs;
+pub use logs::{records, split};
 pub use order::{NumberFault, Place, bank_order, record_at};
 pub use port::port_replay;
 pub use port_step::PortStep;

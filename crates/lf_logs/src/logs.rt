@@ -2,6 +2,7 @@
 
 ghost use Rattle.std.specs.Prelude.{◌≡◌, ◌+◌, ◌<◌, ◌≤◌, [], IfOk};
 ghost use Rattle.std.specs.List.{All};
+ghost use Rattle.lf_rules.specs.Numbers.{all_records};
 ghost use Rattle.lf_logs.specs.Lists.{lists_of, logs_of};
 
 use lf_rules::{Logs, NoMemory, Record};
@@ -36,4 +37,18 @@ pub fn split(alloc: Global, ports: u32, banks: u32, records: Vec<Record>) -> Res
         }
     }
     Ok(logs)
+}
+
+/// The records of all logs, log after log, as `encode` takes them. Each record is moved.
+pub fn records(alloc: Global, logs: Logs) -> Result<Vec<Record>, NoMemory>
+    ensures { IfOk result (λ records. records.items ≡ all_records (lists_of logs)) }
+{
+    let mut records = Vec::new(alloc);
+    for log in logs {
+        let mut log = log;
+        if records.append(&mut log).is_err() {
+            return Err(NoMemory);
+        }
+    }
+    Ok(records)
 }

@@ -124,6 +124,13 @@ fn records_go_to_their_logs(rt: HostRuntime) -> Result<(), Fail> {
         logs[1].as_slice(),
         [of_bank(1, Event::Stall { port: 0, tag: 0 })].as_slice()
     );
+    let log_after_log = [
+        load(0, 0),
+        load(1, 2),
+        of_bank(1, Event::Stall { port: 0, tag: 0 }),
+    ];
+    let again = crate::records(rt.alloc(), logs).ok().ok_or("no memory")?;
+    assert_eq!(rt; again.as_slice(), log_after_log.as_slice());
     Ok(())
 }
 

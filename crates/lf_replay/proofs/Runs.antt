@@ -134,7 +134,7 @@ module _ (shape : Shape) (bank : ℕ) where
   home_next : (a : Local) (r : Record) → Fits shape r → IsHome shape r.bank a.slice → IsHome shape r.bank (bank_effect shape a r).slice
   home_next a r fits home = home_after shape r.bank (value_at a.memory (accepts a.slice r.event)) (replies_at a.slice r.event) a.slice r.log r.event (names_home shape r fits) home
 
-  run_same : (a b : Local) (rs : List Record) → AllByRecursion (Fits shape) rs → AllByRecursion (λ r. r.bank ≡ bank) rs → IsHome shape bank a.slice → SameBank shape bank a b
+  pub run_same : (a b : Local) (rs : List Record) → AllByRecursion (Fits shape) rs → AllByRecursion (λ r. r.bank ≡ bank) rs → IsHome shape bank a.slice → SameBank shape bank a b
       → IsRunOf OfBank shape a rs → IsRunOf OfBank shape b rs
   run_same a b [] fit named home same run = tt
   run_same a b (r ∷ rs) fit named home same run =
@@ -146,7 +146,7 @@ module _ (shape : Shape) (bank : ℕ) where
             (subst (λ (k : ℕ). SameBank shape k (bank_effect shape a r) (bank_effect shape b r)) named.0 (bank_effect_same shape a b r here alike)) run.1,
       )
 
-  breaks_same : (a b : Local) (rs : List Record) (n : ℕ) (rule : model.Rule) → AllByRecursion (Fits shape) rs → AllByRecursion (λ r. r.bank ≡ bank) rs → IsHome shape bank a.slice → SameBank shape bank a b
+  pub breaks_same : (a b : Local) (rs : List Record) (n : ℕ) (rule : model.Rule) → AllByRecursion (Fits shape) rs → AllByRecursion (λ r. r.bank ≡ bank) rs → IsHome shape bank a.slice → SameBank shape bank a b
       → BreaksAt OfBank shape a rs n rule → BreaksAt OfBank shape b rs n rule
   breaks_same a b [] n rule fit named home same breaks = breaks
   breaks_same a b (r ∷ rs) zero rule fit named home same breaks =
@@ -161,7 +161,7 @@ module _ (shape : Shape) (bank : ℕ) where
             (subst (λ (k : ℕ). SameBank shape k (bank_effect shape a r) (bank_effect shape b r)) named.0 (bank_effect_same shape a b r here alike)) breaks.1,
       )
 
-  part_does : (memory : FlatMemory) → SameBank shape bank (first_local (bank_part shape bank memory)) (first_local memory)
+  pub part_does : (memory : FlatMemory) → SameBank shape bank (first_local (bank_part shape bank memory)) (first_local memory)
   part_does memory = record {
     slice = refl;
     memory = λ x ours. fun_ext (λ place. ap (λ b. cond b (memory x place) 0) (eq-eqb (bank_of shape x) bank ours));

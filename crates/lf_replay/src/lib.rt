@@ -13,6 +13,7 @@ mod bank;
 mod bank_step;
 mod carried;
 mod fault;
+mod laws;
 mod level_one;
 mod level_two;
 mod lists;
@@ -29,4 +30,5 @@ mod wide;
 
 pub use bank_step::Step;
 pub use fault::BankFault;
+pub use laws::bank_parts_are_alike;
 pub use replays::{bank_replay, replay};
