@@ -1,5 +1,5 @@
 use Rattle.std.proofs.Common.{◌≡◌, ◌≤◌, length, map, take, vec_capacity}
-use Rattle.lf_model.specs.Ring.{entry_of}
+use Rattle.lf_rules.specs.Ring.{entry_of}
 use Rattle.lf_logs.proofs.skeleton.skeleton.Given as goal
 
 abbrev pub invariant-loop-item : goal.invariant-loop-item
