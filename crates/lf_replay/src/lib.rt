@@ -31,4 +31,5 @@ mod wide;
 pub use bank_step::Step;
 pub use fault::BankFault;
 pub use laws::bank_parts_are_alike;
+pub use lf_rules::{NoMemory, Outcome};
 pub use replays::{bank_replay, replay};
