@@ -13,6 +13,7 @@ mod bank;
 mod bank_step;
 mod carried;
 mod fault;
+mod lent;
 mod level_one;
 mod level_two;
 mod lists;
@@ -29,6 +30,7 @@ mod wide;
 
 pub use bank_step::Step;
 pub use fault::BankFault;
+pub use lent::replay_lent;
 pub use replays::{bank_replay, replay};
 
 #[cfg(test)]
