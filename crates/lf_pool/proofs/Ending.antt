@@ -14,8 +14,8 @@ use Rattle.std.proofs.lemmas.Bool.{cases_lt}
 use Rattle.std.proofs.lemmas.List.{get_or_append_left}
 use Rattle.atomic_table.specs.Seated.{TableId}
 use Rattle.atomic_table.specs.Table.{Final, Seen}
-use Rattle.lf_model.specs.declared.outcome.Outcome.{Outcome}
-use Rattle.lf_model.specs.declared.outcome.Outcome.TheVariants as told
+use Rattle.lf_rules.specs.declared.outcome.Outcome.{Outcome}
+use Rattle.lf_rules.specs.declared.outcome.Outcome.TheVariants as told
 use Rattle.lf_pool.specs.declared.job.Jobs.{Jobs}
 use Rattle.lf_pool.specs.declared.worker.Worked.{Worked}
 use Rattle.lf_pool.specs.declared.rule.View.TheVariants.{Keeper}

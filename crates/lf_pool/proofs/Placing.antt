@@ -5,7 +5,7 @@ use mathlib.Core.Logic.{dite}
 use mathlib.Core.List.{map-append}
 use native.Mathlib.Decide.{ℕ_discrete, dec_le}
 use Rattle.std.proofs.lemmas.List.{set_past}
-use Rattle.lf_model.specs.declared.outcome.Outcome.{Outcome}
+use Rattle.lf_rules.specs.declared.outcome.Outcome.{Outcome}
 use Rattle.lf_pool.specs.declared.worker.Worked.{Worked}
 use Rattle.lf_pool.specs.declared.rule.View.TheVariants.{Keeper, Worker}
 use Rattle.lf_pool.specs.Rule.{Mine, with_worker}

@@ -6,7 +6,7 @@ use native.Mathlib.Decide.{dec_le}
 use Rattle.std.proofs.lemmas.List.Sums.{sum_by-cons}
 use Rattle.std.proofs.lemmas.List.Elements.{All-head, All-tail, All-cons, All-nil}
 use Rattle.std.proofs.Math.Seq.{get_or-append_seam}
-use Rattle.lf_model.specs.declared.outcome.Outcome.{Outcome}
+use Rattle.lf_rules.specs.declared.outcome.Outcome.{Outcome}
 use Rattle.lf_pool.specs.Rule.{past}
 use Rattle.lf_pool.specs.Worked.{number_of}
 use Rattle.lf_pool.proofs.Totals.{not_past}

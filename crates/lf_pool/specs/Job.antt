@@ -1,14 +1,14 @@
 -- The jobs, and what the outcome of each is.
 use Rattle.std.specs.Prelude.{◌≡◌, ℕ, ◌+◌, ◌<◌, ◌≤◌, ◌^◌, List, [], length, slice_index_or}
 use Rattle.std.specs.List.{All, AllByRecursion}
-use Rattle.lf_model.specs.declared.event.Record.{Record}
-use Rattle.lf_model.specs.declared.outcome.Outcome.{Outcome}
-use Rattle.lf_model.specs.declared.outcome.Outcome.TheVariants.{NoMemory}
-use Rattle.lf_model.specs.Address.{flat_memory}
-use Rattle.lf_model.specs.Fits.{Fits}
-use Rattle.lf_model.specs.InRange.{IsShape}
-use Rattle.lf_model.specs.Order.{log_at}
-use Rattle.lf_model.specs.Outcomes.{IsPortOutcome, IsBankOutcome}
+use Rattle.lf_rules.specs.declared.event.Record.{Record}
+use Rattle.lf_rules.specs.declared.outcome.Outcome.{Outcome}
+use Rattle.lf_rules.specs.declared.outcome.Outcome.TheVariants.{NoMemory}
+use Rattle.lf_rules.specs.Address.{flat_memory}
+use Rattle.lf_rules.specs.Fits.{Fits}
+use Rattle.lf_rules.specs.InRange.{IsShape}
+use Rattle.lf_rules.specs.Order.{log_at}
+use Rattle.lf_rules.specs.Outcomes.{IsPortOutcome, IsBankOutcome}
 use Rattle.lf_logs.specs.declared.order.Place.{Place}
 use Rattle.lf_logs.specs.Lists.{lists_of}
 use Rattle.lf_logs.specs.Places.{records_at, IsOrder}

@@ -2,7 +2,7 @@
 use Rattle.std.specs.Prelude.{◌≡◌, ◌≤◌, ◌<◌, ℕ, List, [], ◌∷◌, ◌++◌, map, All, Option, Some, None, IfSome, slice_set}
 use Rattle.atomic_table.specs.Seated.{TableId}
 use Rattle.lf_pool.specs.declared.job.Jobs.{Jobs}
-use Rattle.lf_model.specs.declared.outcome.Outcome.{Outcome}
+use Rattle.lf_rules.specs.declared.outcome.Outcome.{Outcome}
 use Rattle.lf_pool.specs.declared.worker.Claimer.{Claimer}
 use Rattle.lf_pool.specs.declared.worker.Worked.{Worked}
 use Rattle.lf_pool.specs.declared.worker.WorkedBy.{WorkedBy}

@@ -2,16 +2,16 @@
 
 ghost use Rattle.std.specs.Prelude.{◌≡◌, ◌+◌, ◌<◌, ◌≤◌, IfOk, IsSome};
 ghost use Rattle.std.specs.List.{All};
-ghost use Rattle.lf_model.specs.Address.{flat_memory};
-ghost use Rattle.lf_model.specs.Outcomes.{IsBankOutcome};
+ghost use Rattle.lf_rules.specs.Address.{flat_memory};
+ghost use Rattle.lf_rules.specs.Outcomes.{IsBankOutcome};
 ghost use Rattle.lf_logs.specs.Lists.{lists_of};
 ghost use Rattle.lf_logs.specs.Places.{record_at, records_at};
 ghost use Rattle.lf_replay.specs.Lent.{lent};
 ghost use Rattle.lf_pool.specs.Job.{AreJobs, IsJobOutcome, count_of, records_of};
 
 use lf_logs::{Place, port_replay, record_at};
-use lf_model::{Logs, Memory, NoMemory, Outcome, Record, Shape};
 use lf_replay::replay_lent;
+use lf_rules::{Logs, Memory, NoMemory, Outcome, Record, Shape};
 use std::alloc::Global;
 
 /// The parts of a trace, each of which is replayed by itself. Of P ports and B banks, the jobs 0 to

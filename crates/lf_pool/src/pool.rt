@@ -12,7 +12,7 @@ use crate::job::{Jobs, count};
 use crate::rule::{NextWorker, PoolShared, PoolTable, Takes, View};
 use crate::worker::{Claimer, Worked, WorkedBy, work};
 use atomic_table::Seat;
-use lf_model::Outcome;
+use lf_rules::Outcome;
 use std::alloc::{AllocError, Global};
 use std::sync::Wait;
 use std::thread;

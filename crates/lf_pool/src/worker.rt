@@ -9,7 +9,7 @@ use crate::gate::Gate;
 use crate::job::{Jobs, count, job};
 use crate::rule::{Claim, PoolShared, View};
 use atomic_table::Seat;
-use lf_model::Outcome;
+use lf_rules::Outcome;
 use std::alloc::Global;
 
 /// A worker that has claimed nothing.

@@ -1,17 +1,17 @@
 //! The replay of a bank's records that stand elsewhere, each by a reference.
 
 ghost use Rattle.std.specs.Prelude.{◌≡◌, ◌<◌, true};
-ghost use Rattle.lf_model.specs.Address.{flat_memory};
-ghost use Rattle.lf_model.specs.InRange.{IsShape};
-ghost use Rattle.lf_model.specs.Outcomes.{IsBankOutcome};
+ghost use Rattle.lf_rules.specs.Address.{flat_memory};
+ghost use Rattle.lf_rules.specs.InRange.{IsShape};
+ghost use Rattle.lf_rules.specs.Outcomes.{IsBankOutcome};
 ghost use Rattle.lf_replay.specs.Bytes.{bank_part};
 ghost use Rattle.lf_replay.specs.Lent.{lent};
 ghost use Rattle.lf_replay.specs.Step.{IsBankOrder};
 
 use crate::fault::BankFault;
 use crate::state::BankState;
-use lf_model::{Memory, OrgShape, Outcome, Record, Shape};
 use lf_mshr::{Explicit, Implicit, Inverted, Organisation, Request1, Request2};
+use lf_rules::{Memory, OrgShape, Outcome, Record, Shape};
 use std::alloc::Global;
 
 /// Judges a bank's records as `replay` does, each by a reference, so that none is moved.

@@ -1,8 +1,8 @@
 use Rattle.std.proofs.Common.{◌≡◌, ◌∙◌, ap, sym, subst, length, ◌<◌, arith}
 use Rattle.std.specs.Global.{Vec}
-use Rattle.lf_model.specs.declared.event.Record.{Record}
-use Rattle.lf_model.specs.Order.{log_at}
-use Rattle.lf_model.specs.Outcomes.{IsPortOutcome}
+use Rattle.lf_rules.specs.declared.event.Record.{Record}
+use Rattle.lf_rules.specs.Order.{log_at}
+use Rattle.lf_rules.specs.Outcomes.{IsPortOutcome}
 use Rattle.lf_logs.specs.Lists.{lists_of}
 use Rattle.lf_pool.proofs.Records.{list_of}
 use Rattle.lf_pool.proofs.job.job.Goals as goal

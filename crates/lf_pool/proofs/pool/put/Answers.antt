@@ -1,7 +1,7 @@
 use Rattle.std.proofs.Common.{◌≡◌, ◌≤◌, ℕ, List, [], ◌∷◌, length, set, Option, Some, sym, ap, ◌∙◌, refl, arith, append_assoc, append-nil}
 use Rattle.std.specs.Vec.Iter.{into_iter_items}
 use Rattle.std.proofs.lemmas.List.{set_past}
-use Rattle.lf_model.specs.declared.outcome.Outcome.{Outcome}
+use Rattle.lf_rules.specs.declared.outcome.Outcome.{Outcome}
 use Rattle.lf_pool.specs.Worked.{put_all}
 use Rattle.lf_pool.proofs.Placing.{put_all_snoc}
 use Rattle.lf_pool.proofs.pool.put.Goals as goal

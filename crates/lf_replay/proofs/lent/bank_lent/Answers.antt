@@ -1,4 +1,4 @@
-use Rattle.lf_model.specs.Address.{flat_memory}
+use Rattle.lf_rules.specs.Address.{flat_memory}
 use Rattle.lf_replay.specs.Lent.{lent}
 use Rattle.lf_replay.proofs.Runs.{outcome_same}
 use Rattle.lf_replay.proofs.lent.bank_lent.Goals as goal

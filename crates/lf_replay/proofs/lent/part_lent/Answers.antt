@@ -1,13 +1,13 @@
 use Rattle.std.proofs.Common.{◌≡◌, ◌<◌, take, length, get_or, sym, ap, ◌∙◌, subst, arith, List, ℕ}
 use Rattle.std.proofs.lemmas.List.{length-map, get_or-map, take_all}
 use Rattle.std.specs.Borrow.{Bor}
-use Rattle.lf_model.specs.declared.event.Record.{Record}
-use Rattle.lf_model.specs.declared.shape.Shape.{Shape}
-use Rattle.lf_model.specs.Address.{flat_memory}
-use Rattle.lf_model.specs.Fits.{Fits}
-use Rattle.lf_model.specs.Outcomes.{first_local}
-use Rattle.lf_model.specs.Run.{IsRunOf}
-use Rattle.lf_model.specs.Table.{OfBank}
+use Rattle.lf_rules.specs.declared.event.Record.{Record}
+use Rattle.lf_rules.specs.declared.shape.Shape.{Shape}
+use Rattle.lf_rules.specs.Address.{flat_memory}
+use Rattle.lf_rules.specs.Fits.{Fits}
+use Rattle.lf_rules.specs.Outcomes.{first_local}
+use Rattle.lf_rules.specs.Run.{IsRunOf}
+use Rattle.lf_rules.specs.Table.{OfBank}
 use Rattle.lf_replay.specs.Bytes.{bank_part}
 use Rattle.lf_replay.specs.Lent.{lent}
 use Rattle.lf_replay.proofs.Runs.{stands_next, breaks_at, all_at}
