@@ -210,33 +210,39 @@ impl BankCache {
 
     /// The blocks of level one in the set of a block, the oldest line first.
     fn same_set_at_one(&self, block: u32) -> Result<Vec<u32>, AllocError> {
-        let places = self.places;
-        let set = places.set_at_one(block);
-        let blocks = self.one.lines.iter().map(|line| line.block);
-        blocks
-            .filter(|block| places.set_at_one(*block) == set)
-            .collect(self.alloc)
+        let set = self.places.set_at_one(block);
+        let mut blocks = Vec::new(self.alloc);
+        for line in &self.one.lines {
+            if self.places.set_at_one(line.block) == set {
+                blocks.push(line.block)?;
+            }
+        }
+        Ok(blocks)
     }
 
     /// The second-level blocks of level two in the set of one, the oldest line first.
     fn same_set_at_two(&self, second: u32) -> Result<Vec<u32>, AllocError> {
         let places = self.places;
         let set = places.set_at_two(second);
-        let blocks = self.two.lines.iter().map(|line| line.block);
-        let firsts = blocks.filter(|block| places.place_of(*block) == 0);
-        let seconds = firsts.map(|block| places.second_of(block));
-        seconds
-            .filter(|second| places.set_at_two(*second) == set)
-            .collect(self.alloc)
+        let mut seconds = Vec::new(self.alloc);
+        for line in &self.two.lines {
+            let other = places.second_of(line.block);
+            if places.place_of(line.block) == 0 && places.set_at_two(other) == set {
+                seconds.push(other)?;
+            }
+        }
+        Ok(seconds)
     }
 
     /// The blocks of a second-level block, rising.
     fn blocks_of(&self, second: u32) -> Result<Vec<u32>, AllocError> {
-        let places = self.places;
-        let blocks = self.memory.lines.iter().map(|line| line.block);
-        blocks
-            .filter(|block| places.second_of(*block) == second)
-            .collect(self.alloc)
+        let mut blocks = Vec::new(self.alloc);
+        for line in &self.memory.lines {
+            if self.places.second_of(line.block) == second {
+                blocks.push(line.block)?;
+            }
+        }
+        Ok(blocks)
     }
 
     /// Whether a register of level one holds a block of the second-level block.

@@ -11,6 +11,7 @@ mod roster;
 
 pub use check::check_cycle;
 pub use laws::joins_are_one;
+pub use lf_rules::{Knot, Ring, Skeleton};
 pub use order::{JoinFault, join};
 
 #[cfg(test)]

@@ -16,5 +16,6 @@ mod tests;
 
 pub use fault::LineFault;
 pub use level::{Level, One, Two};
+pub use lf_rules::NoMemory;
 pub use lines::Lines;
 pub use lines_two::same_masks;

@@ -15,6 +15,7 @@ mod skeleton;
 
 pub use banks::bank_records;
 pub use laws::mixtures_have_their_logs;
+pub use lf_rules::{NoMemory, Outcome, Skeleton};
 pub use logs::{records, split};
 pub use order::{NumberFault, Place, bank_order, record_at};
 pub use port::port_replay;

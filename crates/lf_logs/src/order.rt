@@ -114,9 +114,12 @@ fn last_places(alloc: Global, tallies: &[Tally]) -> Result<Vec<Place>, NumberFau
     ensures places { IfOk result (λ places. places.items ≡ map (λ tally. tally.last) tallies.now) }
     ensures memory { IfErr result (λ fault. fault ≡ NumberFault.NoMemory) }
 {
-    let Ok(places) = tallies.iter().map(|tally| tally.last).collect(alloc) else {
+    let Ok(mut places) = Vec::with_capacity(alloc, tallies.len()) else {
         return Err(NumberFault::NoMemory);
     };
+    for tally in tallies {
+        places.push_reserved(tally.last);
+    }
     Ok(places)
 }
 

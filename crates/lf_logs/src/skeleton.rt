@@ -10,13 +10,12 @@ use std::alloc::Global;
 fn skeleton(alloc: Global, log: &[Record]) -> Result<Skeleton, NoMemory>
     ensures { IfOk result (λ entries. entries.items ≡ map entry_of log.now) }
 {
-    let Ok(entries) = log
-        .iter()
-        .map(|item| (item.bank, item.number))
-        .collect(alloc)
-    else {
+    let Ok(mut entries) = Vec::with_capacity(alloc, log.len()) else {
         return Err(NoMemory);
     };
+    for item in log {
+        entries.push_reserved((item.bank, item.number));
+    }
     Ok(entries)
 }
 

@@ -24,5 +24,6 @@ pub use implicit::{Implicit, ImplicitFile};
 pub use inverted::{Inverted, InvertedFile};
 pub use level_one::Request1;
 pub use level_two::Request2;
+pub use lf_rules::NoMemory;
 pub use organisation::Organisation;
 pub use target::Target;

@@ -14,6 +14,7 @@ mod bank_step;
 mod carried;
 mod fault;
 mod laws;
+mod lent;
 mod level_one;
 mod level_two;
 mod lists;
@@ -31,7 +32,6 @@ mod wide;
 pub use bank_step::Step;
 pub use fault::BankFault;
 pub use laws::bank_parts_are_alike;
+pub use lent::replay_lent;
+pub use lf_rules::{NoMemory, Outcome};
 pub use replays::{bank_replay, replay};
-
-#[cfg(test)]
-mod tests;

@@ -11,6 +11,7 @@ mod statistics;
 mod text;
 
 pub use counts::{BankStats, Stats};
+pub use lf_rules::NoMemory;
 pub use statistics::stats;
 
 #[cfg(test)]

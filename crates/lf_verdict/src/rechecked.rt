@@ -4,7 +4,8 @@ ghost use Rattle.lf_verdict.specs.Rechecked.{YesIsRechecked};
 
 use crate::laws::yes_is_legal;
 use lf_codec::one_trace;
-use lf_model::{orders_interleave, rechecks_are_one};
+use lf_model::rechecks_are_one;
+use lf_rules::orders_interleave;
 
 /// `lf_model::recheck` accepts the order of a yes.
 pub fn yes_is_rechecked()

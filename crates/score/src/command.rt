@@ -4,6 +4,10 @@ use clap::error::ErrorKind;
 use clap::{Arg, ArgMatches, Command, Error, value_parser};
 use std::alloc::{AllocError, Global};
 
+/// What `--version` prints after the program's name: the version, and on a line of its own what `rt version`
+/// prints of the kit that proved and built the program. It changes with the kit.
+const VERSION: &str = "0.1.0\nrattle-kit-13b logic dac8208d650f15bf";
+
 /// What the help says of the whole program.
 const ABOUT: &str = "Judges recorded traces of a two-level lockup-free (non-blocking) cache.";
 
@@ -90,7 +94,7 @@ pub enum CommandFault {
     Usage,
     /// A growth was refused.
     Memory,
-    /// The help was asked for, which this prints.
+    /// The help or the version was asked for, which this prints.
     Help(Error),
 }
 
@@ -143,6 +147,7 @@ fn demo_command<'a>(alloc: Global) -> Result<Command<'a>, AllocError> {
 fn program<'a>(alloc: Global) -> Result<Command<'a>, AllocError> {
     Command::new(alloc, "score")
         .bin_name("score")?
+        .version(VERSION)
         .disable_help_subcommand(true)
         .about(ABOUT)
         .after_help(ANSWERS)
@@ -155,7 +160,7 @@ fn program<'a>(alloc: Global) -> Result<Command<'a>, AllocError> {
 fn fault_of(error: Error) -> CommandFault {
     match error.kind() {
         ErrorKind::OutOfMemory => CommandFault::Memory,
-        ErrorKind::DisplayHelp => CommandFault::Help(error),
+        ErrorKind::DisplayHelp | ErrorKind::DisplayVersion => CommandFault::Help(error),
         _ => CommandFault::Usage,
     }
 }

@@ -1,6 +1,6 @@
 //! The text of the configuration.
 
-use crate::line::InputFault;
+use lf_engine::InputFault;
 use std::io;
 use std::io::ErrorKind;
 

@@ -6,31 +6,16 @@
 
 mod command;
 mod configuration;
-mod counted;
 mod demonstration;
-mod engine;
-mod fault;
-mod gathering;
-mod keeping;
-mod line;
-mod output;
-mod report;
-#[cfg(test)]
-mod shape;
-mod statistics;
 #[cfg(test)]
 mod tests;
 mod trace;
 
 use command::{CommandFault, Request, asked};
 use configuration::text_in;
-use counted::Counted;
 use demonstration::{Demonstration, demonstrate};
-use engine::{are_workers, run};
-use fault::RunFault;
+use lf_engine::{Counted, InputFault, Line, RunFault, are_workers, run, run_stats};
 use lf_verdict::Verdict;
-use line::{InputFault, Line};
-use statistics::run_stats;
 use std::io;
 use std::io::{ErrorKind, Read};
 use std::process::ExitCode;

@@ -1,12 +1,4 @@
-//! Worked traces, damaged files, and readers and writers that fail.
+//! The words of the command line, files that cannot be read, and the demonstration.
 
-mod configured;
-mod damage;
 mod demonstration;
-mod examples;
-mod hostile;
-mod notation;
 mod program;
-mod statistics;
-mod streams;
-mod versions;

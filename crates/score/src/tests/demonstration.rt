@@ -2,20 +2,45 @@
 
 ghost use Rattle.lf_rules.specs.InRange.{IsShape};
 
-use crate::counted::Counted;
 use crate::demonstration::{DEMO_TURNS, Demonstration, demonstrate};
-use crate::engine::run;
-use crate::shape::SMALL;
-use crate::statistics::run_stats;
-use crate::tests::statistics::SMALL as SMALL_TEXT;
-use crate::tests::streams::Pieces;
 use lf_demo::{DemoFault, demo_trace};
+use lf_engine::{Counted, run, run_stats};
 use lf_rules::{Level, OrgShape, Shape};
 use lf_verdict::{Verdict, check_shape};
 use std::process::Abort;
 use std::sync::Wait;
 use std::test::Fail;
 use std::thread::Threads;
+
+/// One port with four tags and one bank, with one register in each level.
+pub const SMALL_TEXT: &str = "ports = 1\nbanks = 1\nblock = 8\ntags = 4\n
+[level1]\nsets = 1\nways = 1\norganisation = \"explicit\"\nregisters = 1\nentries = 2\n
+[level2]\nsets = 1\nways = 2\norganisation = \"explicit\"\nregisters = 1\nentries = 1\n";
+
+/// The shape that `SMALL_TEXT` says.
+const SMALL: Shape = Shape {
+    ports: 1,
+    banks: 1,
+    block: 8,
+    tags: 4,
+    factor: 1,
+    level1: Level {
+        sets: 1,
+        ways: 1,
+        organisation: OrgShape::Explicit {
+            registers: 1,
+            entries: 2,
+        },
+    },
+    level2: Level {
+        sets: 1,
+        ways: 2,
+        organisation: OrgShape::Explicit {
+            registers: 1,
+            entries: 1,
+        },
+    },
+};
 
 /// `SMALL` with four ports and four banks, and a register for each tag in level one.
 const FOUR_PORTS: Shape = Shape {
@@ -132,13 +157,13 @@ fn demo_check_and_stats(rt: HostRuntime) -> Result<(), Fail> {
         return Err(Fail::new("no trace"));
     };
     let bytes = std::fs::read(&rt, path)?;
-    let mut reader = Counted::new(Pieces::new(bytes.as_slice(), 50));
+    let mut reader = Counted::new(bytes.as_slice());
     let mut writer = Counted::new(Vec::new(rt.alloc()));
     let answer = run(&rt, &mut reader, &mut writer, SMALL_TEXT, 1, 100_000);
     assert!(rt; answer.is_ok());
     let line = format!(in rt.alloc(); "yes events={events}\n")?;
     assert_eq!(rt; writer.inner().as_slice(), line.as_bytes());
-    let mut reader = Counted::new(Pieces::new(bytes.as_slice(), 50));
+    let mut reader = Counted::new(bytes.as_slice());
     let mut writer = Counted::new(Vec::new(rt.alloc()));
     let answer = run_stats(&rt, &mut reader, &mut writer, SMALL_TEXT, 100_000);
     assert!(rt; answer.is_ok());

@@ -2,19 +2,16 @@
 
 use crate::command::{CommandFault, Request, asked};
 use crate::configuration::text_in;
-use crate::counted::Counted;
-use crate::engine::run_shape;
-use crate::fault::RunFault;
-use crate::line::{InputFault, Line};
-use crate::shape::SMALL;
-use crate::tests::streams::Pieces;
+use crate::tests::demonstration::SMALL_TEXT;
 use crate::trace::Trace;
+use lf_engine::{Counted, InputFault, RunFault, run};
 use std::alloc::{AllocError, Global};
-use std::io::ErrorKind;
+use std::io;
+use std::io::{Empty, ErrorKind};
 use std::process::Abort;
 use std::test::Fail;
 
-pub fn words_of(alloc: Global, line: &str) -> Result<Vec<String>, AllocError> {
+fn words_of(alloc: Global, line: &str) -> Result<Vec<String>, AllocError> {
     let mut words = Vec::new(alloc);
     for word in line.split(' ') {
         words.push(String::from_str(alloc, word)?)?;
@@ -44,7 +41,7 @@ fn is_check<T: Abort + AllocGlobal>(
     Ok(())
 }
 
-pub fn is_refused<T: Abort + AllocGlobal>(rt: &T, line: &str) -> Result<(), Fail> {
+fn is_refused<T: Abort + AllocGlobal>(rt: &T, line: &str) -> Result<(), Fail> {
     let words = words_of(rt.alloc(), line)?;
     let is_usage = match asked(rt.alloc(), words.as_slice()) {
         Err(CommandFault::Usage) => true,
@@ -89,24 +86,9 @@ fn refused_usage(rt: HostRuntime) -> Result<(), Fail> {
         "score check c.toml a.lfts --turns 1",
         "score judge c.toml a.lfts",
         "score c.toml a.lfts",
-        "score --version",
+        "score check --version",
     ] {
         is_refused(&rt, line)?;
-    }
-    Ok(())
-}
-
-#[test]
-fn lines_of_input_faults(rt: HostRuntime) -> Result<(), Fail> {
-    for (fault, text) in [
-        (InputFault::Usage, "refused usage"),
-        (InputFault::ReadConfig, "refused read config"),
-        (InputFault::NotToml, "refused config NotToml"),
-        (InputFault::Memory, "refused memory"),
-    ] {
-        let line = Line::Refused(fault);
-        let written = format!(in rt.alloc(); "{line}")?;
-        assert_eq!(rt; written.as_str(), text);
     }
     Ok(())
 }
@@ -132,11 +114,28 @@ fn help_is_asked_for(rt: HostRuntime) -> Result<(), Fail> {
 }
 
 #[test]
+fn version_is_asked_for(rt: HostRuntime) -> Result<(), Fail> {
+    for line in ["score --version", "score -V"] {
+        let words = words_of(rt.alloc(), line)?;
+        let Err(CommandFault::Help(version)) = asked(rt.alloc(), words.as_slice()) else {
+            return Err(Fail::new("no version"));
+        };
+        assert_eq!(rt; version.exit_code(), 0);
+        let text = format!(in rt.alloc(); "{version}")?;
+        assert_eq!(rt;
+            text.as_str(),
+            "score 0.1.0\nrattle-kit-13b logic dac8208d650f15bf\n"
+        );
+    }
+    Ok(())
+}
+
+#[test]
 fn file_that_cannot_be_opened(rt: HostRuntime) -> Result<(), Fail> {
-    let trace: Trace<Pieces> = Trace::Failed(ErrorKind::NotFound);
+    let trace: Trace<Empty> = Trace::Failed(ErrorKind::NotFound);
     let mut reader = Counted::new(trace);
     let mut writer = Counted::new(Vec::new(rt.alloc()));
-    let answer = run_shape(&rt, &mut reader, &mut writer, &SMALL, 1, 1000);
+    let answer = run(&rt, &mut reader, &mut writer, SMALL_TEXT, 1, 1000);
     assert_eq!(rt; answer.err(), Some(RunFault::Read));
     assert_eq!(rt; reader.calls(), 1);
     assert_eq!(rt;
@@ -154,12 +153,83 @@ fn missing_files_and_directories(rt: HostRuntime) -> Result<(), Fail> {
         assert_eq!(rt; text_in(&config), Err(InputFault::ReadConfig), "{path}");
         let mut reader = Counted::new(Trace::open(&rt, path));
         let mut writer = Counted::new(Vec::new(rt.alloc()));
-        let answer = run_shape(&rt, &mut reader, &mut writer, &SMALL, 1, 1000);
+        let answer = run(&rt, &mut reader, &mut writer, SMALL_TEXT, 1, 1000);
         assert_eq!(rt; answer.err(), Some(RunFault::Read), "{path}");
         assert_eq!(rt;
             writer.inner().as_slice(),
             b"refused read trace\n".as_slice()
         );
+    }
+    Ok(())
+}
+
+/// Fails where the file's bytes, or the error of its reading, come to other words.
+fn assert_text<T: Abort>(
+    rt: &T,
+    read: &io::Result<Vec<u8>>,
+    text: Result<&str, InputFault>,
+) -> Result<(), Fail> {
+    assert_eq!(rt; text_in(read), text);
+    Ok(())
+}
+
+#[test]
+fn configuration_files(rt: HostRuntime) -> Result<(), Fail> {
+    for kind in [ErrorKind::NotFound, ErrorKind::IsADirectory] {
+        assert_text(
+            &rt,
+            &Err(io::Error::from(kind)),
+            Err(InputFault::ReadConfig),
+        )?;
+    }
+    let no_memory = Err(io::Error::from(ErrorKind::OutOfMemory));
+    assert_text(&rt, &no_memory, Err(InputFault::Memory))?;
+    let mut bytes = Vec::new(rt.alloc());
+    bytes.extend_from_slice(b"ports = 1")?;
+    bytes.push(0xff)?;
+    assert_text(&rt, &Ok(bytes), Err(InputFault::NotToml))?;
+    let mut bytes = Vec::new(rt.alloc());
+    bytes.extend_from_slice(b"ports = 1")?;
+    assert_text(&rt, &Ok(bytes), Ok("ports = 1"))
+}
+
+#[test]
+fn words_of_stats(rt: HostRuntime) -> Result<(), Fail> {
+    let words = words_of(rt.alloc(), "score stats c.toml a.lfts")?;
+    let (config, trace) = ("c.toml", "a.lfts");
+    assert_eq!(rt;
+        asked(rt.alloc(), words.as_slice()).ok(),
+        Some(Request::Stats { config, trace })
+    );
+    for line in [
+        "score stats",
+        "score stats c.toml",
+        "score stats c.toml a.lfts b.lfts",
+        "score stats c.toml a.lfts --workers 1",
+    ] {
+        is_refused(&rt, line)?;
+    }
+    Ok(())
+}
+
+#[test]
+fn help_of_stats(rt: HostRuntime) -> Result<(), Fail> {
+    for line in ["score --help", "score stats --help"] {
+        let words = words_of(rt.alloc(), line)?;
+        let Err(CommandFault::Help(help)) = asked(rt.alloc(), words.as_slice()) else {
+            return Err(Fail::new("no help"));
+        };
+        let text = format!(in rt.alloc(); "{help}")?;
+        for counted in [
+            "  hits        requests",
+            "  primary     misses",
+            "  merges      misses",
+            "  stalls      misses",
+            "  peak        the greatest number of registers",
+            "  unanswered  tags",
+        ] {
+            assert!(rt; text.contains(counted), "{line}: {counted}");
+        }
     }
     Ok(())
 }

@@ -1,0 +1,40 @@
+-- Laws of the bytes that were handed to a session.
+use Rattle.std.proofs.Common.{◌≡◌, ◌≢◌, ℕ, ◌-◌, List, ◌++◌, length, Option, None, Some, sym, ◌∙◌, refl, inl, inr}
+use Rattle.std.specs.Io.KnownBytes.{Consumes}
+use Rattle.std.proofs.lemmas.Bool.{cases_lt}
+use Rattle.std.proofs.lemmas.List.{get_or_append_left, get_or-append_right}
+use Rattle.lf_codec.specs.Laws.{AreBytes, FaultsSoFarAreNotTruncated}
+use Rattle.lf_codec.specs.Reading.{fault_so_far}
+use Rattle.lf_verdict.specs.declared.answer.Refusal.{Refusal}
+use Rattle.lf_verdict.specs.declared.answer.Refusal.TheVariants.{Workers, Config, Format, Header, Memory, Thread}
+use Rattle.lf_verdict.specs.declared.intake.Intake.{Intake}
+use Rattle.lf_verdict.specs.Session.{HasFed, IsRefusalSoFar}
+use Rattle.lf_engine.specs.Gathered.{HasFault}
+
+pub both_bytes : (xs ys : List ℕ) → AreBytes xs → AreBytes ys → AreBytes (xs ++ ys)
+both_bytes xs ys a b i =
+    elim (cases_lt i (length xs)) [
+      | inl lt ↦ rw (get_or_append_left xs ys 0 i lt) (a i)
+      | inr le ↦ rw (get_or-append_right xs ys (length xs) i 0 refl le) (b (i - length xs))
+    ]
+
+-- Where no fault so far stands in the bytes, none stands whatever comes after them.
+pub none_stands : FaultsSoFarAreNotTruncated → (bytes : List ℕ) → fault_so_far bytes ≡ None → ¬ HasFault bytes
+none_stands so_far bytes none (fault, is, other) = let bad : None ≡ Some fault = sym none ∙ (so_far bytes fault).1 (is, other) in cc
+
+-- a refusal other than want of memory is a fault that stands
+pub refused_stands : FaultsSoFarAreNotTruncated → (bytes : List ℕ) (r : Refusal) → r ≢ Memory → IsRefusalSoFar bytes r → HasFault bytes
+refused_stands so_far bytes (Format fault) other is = let (whole, not) = (so_far bytes fault).0 is in (fault, whole, not)
+refused_stands so_far bytes (Workers n) other is = absurd is
+refused_stands so_far bytes (Config f) other is = absurd is
+refused_stands so_far bytes (Header f) other is = absurd is
+refused_stands so_far bytes Memory other is = absurd (other refl)
+refused_stands so_far bytes Thread other is = absurd is
+
+-- The session was fed all bytes that the reader gave so far, and no fault stands in them.
+pub record IsGathering {R : Type 0} (remaining : R → Option (List ℕ)) (old new : R) (session : Intake) : Type 0 where
+  pub bytes : List ℕ
+  pub are_bytes : AreBytes bytes
+  pub given : Consumes (remaining old) (remaining new) bytes
+  pub fed : HasFed session bytes
+  pub sound : ¬ HasFault bytes

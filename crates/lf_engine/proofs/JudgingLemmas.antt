@@ -1,0 +1,253 @@
+-- Laws of the verdicts for a shape and for a configuration.
+use Rattle.std.proofs.Common.{◌≡◌, ◌≢◌, ℕ, ◌<◌, ◌≤◌, List, Option, None, Some, Result, Ok, Err, sym, ◌∙◌, subst, refl, inl, inr, [], arith}
+use Rattle.lf_rules.specs.declared.shape.Shape.{Shape}
+use Rattle.lf_rules.specs.Fits.{Bytes}
+use Rattle.lf_rules.specs.declared.event.Record.{Record}
+use Rattle.lf_codec.specs.declared.header.Header.{Header}
+use Rattle.lf_codec.specs.Trace.{IsTrace}
+use Rattle.lf_codec.specs.Laws.{AreBytes, ReadingIsExact, FaultsSoFarAreNotTruncated, FaultsStand}
+use Rattle.lf_config.specs.declared.fault.ConfigFault.{ConfigFault}
+use Rattle.lf_config.specs.declared.fault.ConfigFault.TheVariants as told
+use Rattle.lf_config.specs.Configuration.{configuration_of}
+use Rattle.lf_verdict.specs.declared.answer.Verdict.{Verdict}
+use Rattle.lf_verdict.specs.declared.answer.Verdict.TheVariants.{Yes, No, Refused}
+use Rattle.lf_verdict.specs.declared.answer.Refusal.{Refusal}
+use Rattle.lf_verdict.specs.declared.answer.Refusal.TheVariants.{Workers, Config, Format, Header as OtherHeader, Memory, Thread}
+use Rattle.lf_verdict.specs.Legal.{IsLegal}
+use Rattle.lf_verdict.specs.Laws.{NoHasNoRun, IsRunlessNo}
+use Rattle.lf_verdict.specs.Verdict.{IsWorkerCount, IsJudged, IsTraceVerdict, IsVerdictOf, IsLegalYes}
+use Rattle.lf_verdict.specs.declared.intake.Intake.{Intake}
+use Rattle.lf_verdict.specs.Session.{HasFed}
+use Rattle.lf_verdict.specs.Configured.{IsConfigFault, IsConfiguredVerdict, IsVerdictFor, IsLegalFor, IsRunlessNoFor}
+use Rattle.lf_engine.specs.declared.counted.Counted.{Counted}
+use Rattle.lf_engine.specs.declared.fault.RunFault.{RunFault}
+use Rattle.lf_engine.specs.Counted.{calls_of, failures_of, inner_of}
+use Rattle.lf_engine.specs.Gathered.{HasFault}
+use Rattle.lf_engine.specs.Run.{IsAsked, IsRefusedFirst, IsVerdictOfRead, IsLegalRead, IfYes, IsOutcome, HasGathered}
+use Rattle.lf_engine.proofs.RunLemmas.{IsKept, IsFreeUnless, HasNoFault, MeansOfNo, MeansNothingElse}
+
+-- A trace has no fault.
+trace_has_none : ReadingIsExact → (bytes : List ℕ) (h : Header) (memory : List (ℕ × Bytes)) (records : List Record) → AreBytes bytes → IsTrace bytes h memory records → ¬ HasFault bytes
+trace_has_none exact bytes h memory records are trace (fault, is, other) =
+    let none = ((exact bytes h memory records are).1 trace).0 in
+    let bad : None ≡ Some fault = sym none ∙ is in
+    cc
+
+-- ---- for a shape
+
+pub shape_no_fault : ReadingIsExact → (shape : Shape) → HasNoFault (IsLegal shape)
+shape_no_fault exact shape bytes order are h = trace_has_none exact bytes h.trace.header h.memory h.trace.records are h.trace.trace
+
+trace_kept : ReadingIsExact → FaultsSoFarAreNotTruncated → FaultsStand → (shape : Shape) → IsKept (IsTraceVerdict shape)
+trace_kept exact so_far stand shape bytes more (Refused (Format f)) are (fault, is, other) h =
+    let whole = (stand bytes more fault ((so_far bytes fault).1 (is, other))).whole in
+    whole ∙ sym is ∙ h
+trace_kept exact so_far stand shape bytes more (Refused (OtherHeader field)) are fault h = absurd (trace_has_none exact bytes h.header h.memory h.records are h.trace fault)
+trace_kept exact so_far stand shape bytes more (Refused (Workers n)) are fault h = absurd h
+trace_kept exact so_far stand shape bytes more (Refused (Config f)) are fault h = absurd h
+trace_kept exact so_far stand shape bytes more (Refused Memory) are fault h = absurd h
+trace_kept exact so_far stand shape bytes more (Refused Thread) are fault h = absurd h
+trace_kept exact so_far stand shape bytes more (No wrong) are fault h = absurd (trace_has_none exact bytes h.trace.header h.memory h.trace.records are h.trace.trace fault)
+trace_kept exact so_far stand shape bytes more (Yes events order) are fault h = absurd (trace_has_none exact bytes h.trace.header h.memory h.trace.records are h.trace.trace fault)
+
+pub shape_kept : ReadingIsExact → FaultsSoFarAreNotTruncated → FaultsStand → (shape : Shape) (workers : ℕ) → IsKept (IsVerdictOf shape workers)
+shape_kept exact so_far stand shape workers bytes more (Refused (Workers n)) are fault h = h
+shape_kept exact so_far stand shape workers bytes more (Refused (Config f)) are fault h = absurd h.1
+shape_kept exact so_far stand shape workers bytes more (Refused (Format f)) are fault h = (h.0, trace_kept exact so_far stand shape bytes more (Refused (Format f)) are fault h.1)
+shape_kept exact so_far stand shape workers bytes more (Refused (OtherHeader f)) are fault h = (h.0, trace_kept exact so_far stand shape bytes more (Refused (OtherHeader f)) are fault h.1)
+shape_kept exact so_far stand shape workers bytes more (Refused Memory) are fault h = absurd h.1
+shape_kept exact so_far stand shape workers bytes more (Refused Thread) are fault h = absurd h.1
+shape_kept exact so_far stand shape workers bytes more (No f) are fault h = (h.0, trace_kept exact so_far stand shape bytes more (No f) are fault h.1)
+shape_kept exact so_far stand shape workers bytes more (Yes events order) are fault h = (h.0, trace_kept exact so_far stand shape bytes more (Yes events order) are fault h.1)
+
+pub shape_free : (shape : Shape) (workers : ℕ) → IsFreeUnless (IsWorkerCount workers) (IsVerdictOf shape workers)
+shape_free shape workers bytes all (Refused (Workers n)) h = inr h
+shape_free shape workers bytes all (Refused (Config f)) h = absurd h.1
+shape_free shape workers bytes all (Refused (Format f)) h = inl h.0
+shape_free shape workers bytes all (Refused (OtherHeader f)) h = inl h.0
+shape_free shape workers bytes all (Refused Memory) h = absurd h.1
+shape_free shape workers bytes all (Refused Thread) h = absurd h.1
+shape_free shape workers bytes all (No f) h = inl h.0
+shape_free shape workers bytes all (Yes events order) h = inl h.0
+
+pub shape_runless : NoHasNoRun → (shape : Shape) (workers : ℕ) → MeansOfNo (IsWorkerCount workers) (IsVerdictOf shape workers) (IsRunlessNo shape)
+shape_runless law shape workers bytes (No f) h = (h.0, law shape bytes f h.1)
+shape_runless law shape workers bytes (Yes events order) h = tt
+shape_runless law shape workers bytes (Refused f) h = tt
+
+pub shape_nothing : (shape : Shape) → MeansNothingElse (IsRunlessNo shape)
+shape_nothing shape bytes (No f) h = absurd h
+shape_nothing shape bytes (Yes events order) h = tt
+shape_nothing shape bytes (Refused f) h = tt
+
+legal_read : {R : Type 0} (remaining : R → Option (List ℕ)) (old new : R) (shape : Shape) (session : Intake) (v : Verdict) → (g : HasGathered remaining old new session)
+    → IsLegalYes shape g.bytes v → IfYes v (IsLegalRead remaining old new (IsLegal shape))
+legal_read remaining old new shape session (Yes events order) g h = record { bytes = g.bytes; reads = g.reads; legal = h.0 }
+legal_read remaining old new shape session (No f) g h = tt
+legal_read remaining old new shape session (Refused f) g h = tt
+
+-- What a session says of all that was read is what the run came to.
+pub finished : {R : Type 0} (remaining : R → Option (List ℕ)) (old new : Counted R) (shape : Shape) (workers turns : ℕ) (session : Intake) (v : Verdict)
+    → session.shape ≡ shape → IsWorkerCount workers → calls_of new ≤ turns → ¬ (0 < failures_of new) → HasGathered remaining (inner_of old) (inner_of new) session
+    → ((bytes : List ℕ) → HasFed session bytes → IsLegalYes session.shape bytes v)
+    → ((bytes : List ℕ) → HasFed session bytes → IsJudged v → IsVerdictOf session.shape 1 bytes v)
+    → ¬ (v ≡ Refused Thread)
+    → IsOutcome remaining old new (IsWorkerCount workers) (IsLegal shape) (IsVerdictOf shape workers) turns (Ok v)
+finished remaining old new shape workers turns session v same count few none g legal verdict thread = record {
+  reads = few;
+  unread = λ unasked. absurd (unasked count);
+  verdict = λ judged. record {
+    bytes = g.bytes;
+    reads = λ _. g.reads;
+    verdict = subst (λ n. IsVerdictOf shape n g.bytes v) (sym count) (subst (λ (s : Shape). IsVerdictOf s 1 g.bytes v) same (verdict g.bytes g.fed judged));
+  };
+  legal = legal_read remaining (inner_of old) (inner_of new) shape session v g (subst (λ (s : Shape). IsLegalYes s g.bytes v) same (legal g.bytes g.fed));
+  no_thread = λ e. thread cc;
+  read = (λ e. cc, λ failed. absurd (none failed));
+  turned = λ e. cc;
+  sound = tt;
+  no_write = λ e. cc;
+}
+
+-- ---- for a configuration
+
+pub text_runless : NoHasNoRun → (text : List ℕ) (workers : ℕ) → MeansOfNo (IsAsked text workers) (IsVerdictFor text workers) (IsRunlessNoFor text)
+text_runless law text workers bytes (No f) h = (
+  (h.0, (h.1.shape, h.1.configured)),
+  λ shape configured.
+      let same : Ok h.1.shape ≡ Ok shape = sym h.1.configured ∙ configured in
+      let one : h.1.shape ≡ shape = cc in
+      subst (λ (s : Shape). IsRunlessNo s bytes (No f)) one (law h.1.shape bytes f h.1.verdict),
+)
+text_runless law text workers bytes (Yes events order) h = tt
+text_runless law text workers bytes (Refused f) h = tt
+
+pub text_nothing : (text : List ℕ) → MeansNothingElse (IsRunlessNoFor text)
+text_nothing text bytes (No f) h = absurd h
+text_nothing text bytes (Yes events order) h = λ shape configured. tt
+text_nothing text bytes (Refused f) h = λ shape configured. tt
+
+pub text_no_fault : ReadingIsExact → (text : List ℕ) → HasNoFault (IsLegalFor text)
+text_no_fault exact text bytes order are h = shape_no_fault exact h.shape bytes order are h.legal
+
+configured_kept : ReadingIsExact → FaultsSoFarAreNotTruncated → FaultsStand → (text : List ℕ) → IsKept (IsConfiguredVerdict text)
+configured_kept exact so_far stand text bytes more v are fault h = record {
+  shape = h.shape;
+  configured = h.configured;
+  verdict = trace_kept exact so_far stand h.shape bytes more v are fault h.verdict;
+}
+
+pub text_kept : ReadingIsExact → FaultsSoFarAreNotTruncated → FaultsStand → (text : List ℕ) (workers : ℕ) → IsKept (IsVerdictFor text workers)
+text_kept exact so_far stand text workers bytes more (Refused (Workers n)) are fault h = h
+text_kept exact so_far stand text workers bytes more (Refused (Config f)) are fault h = h
+text_kept exact so_far stand text workers bytes more (Refused (Format f)) are fault h = (h.0, configured_kept exact so_far stand text bytes more (Refused (Format f)) are fault h.1)
+text_kept exact so_far stand text workers bytes more (Refused (OtherHeader f)) are fault h = (h.0, configured_kept exact so_far stand text bytes more (Refused (OtherHeader f)) are fault h.1)
+text_kept exact so_far stand text workers bytes more (Refused Memory) are fault h = absurd h.1.verdict
+text_kept exact so_far stand text workers bytes more (Refused Thread) are fault h = absurd h.1.verdict
+text_kept exact so_far stand text workers bytes more (No f) are fault h = (h.0, configured_kept exact so_far stand text bytes more (No f) are fault h.1)
+text_kept exact so_far stand text workers bytes more (Yes events order) are fault h = (h.0, configured_kept exact so_far stand text bytes more (Yes events order) are fault h.1)
+
+pub text_free : (text : List ℕ) (workers : ℕ) → IsFreeUnless (IsAsked text workers) (IsVerdictFor text workers)
+text_free text workers bytes all (Refused (Workers n)) h = inr h
+text_free text workers bytes all (Refused (Config f)) h = inr h
+text_free text workers bytes all (Refused (Format f)) h = inl (h.0, (h.1.shape, h.1.configured))
+text_free text workers bytes all (Refused (OtherHeader f)) h = inl (h.0, (h.1.shape, h.1.configured))
+text_free text workers bytes all (Refused Memory) h = absurd h.1.verdict
+text_free text workers bytes all (Refused Thread) h = absurd h.1.verdict
+text_free text workers bytes all (No f) h = inl (h.0, (h.1.shape, h.1.configured))
+text_free text workers bytes all (Yes events order) h = inl (h.0, (h.1.shape, h.1.configured))
+
+-- The verdict for a shape is that for each text that says it.
+verdict_for : (text : List ℕ) (shape : Shape) (workers : ℕ) (bytes : List ℕ) (v : Verdict) → configuration_of text ≡ Ok shape → IsVerdictOf shape workers bytes v → IsVerdictFor text workers bytes v
+verdict_for text shape workers bytes (Refused (Workers n)) e h = h
+verdict_for text shape workers bytes (Refused (Config f)) e h = absurd h.1
+verdict_for text shape workers bytes (Refused (Format f)) e h = (h.0, record { shape = shape; configured = e; verdict = h.1 })
+verdict_for text shape workers bytes (Refused (OtherHeader f)) e h = (h.0, record { shape = shape; configured = e; verdict = h.1 })
+verdict_for text shape workers bytes (Refused Memory) e h = absurd h.1
+verdict_for text shape workers bytes (Refused Thread) e h = absurd h.1
+verdict_for text shape workers bytes (No f) e h = (h.0, record { shape = shape; configured = e; verdict = h.1 })
+verdict_for text shape workers bytes (Yes events order) e h = (h.0, record { shape = shape; configured = e; verdict = h.1 })
+
+legal_for : {R : Type 0} (remaining : R → Option (List ℕ)) (old new : R) (text : List ℕ) (shape : Shape) (v : Verdict) → configuration_of text ≡ Ok shape
+    → IfYes v (IsLegalRead remaining old new (IsLegal shape)) → IfYes v (IsLegalRead remaining old new (IsLegalFor text))
+legal_for remaining old new text shape (Yes events order) e h = record {
+  bytes = h.bytes;
+  reads = h.reads;
+  legal = record { shape = shape; configured = e; legal = h.legal };
+}
+legal_for remaining old new text shape (No f) e h = tt
+legal_for remaining old new text shape (Refused f) e h = tt
+
+-- What a run for a shape came to is what one for each text that says it comes to.
+pub outcome_for : {R : Type 0} (remaining : R → Option (List ℕ)) (old new : Counted R) (text : List ℕ) (shape : Shape) (workers turns : ℕ) (outcome : Result Verdict RunFault)
+    → configuration_of text ≡ Ok shape → IsWorkerCount workers
+    → IsOutcome remaining old new (IsWorkerCount workers) (IsLegal shape) (IsVerdictOf shape workers) turns outcome
+    → IsOutcome remaining old new (IsAsked text workers) (IsLegalFor text) (IsVerdictFor text workers) turns outcome
+outcome_for remaining old new text shape workers turns (Ok v) e count h = record {
+  reads = h.reads;
+  unread = λ unasked. absurd (unasked (count, (shape, e)));
+  verdict = λ judged. let is = h.verdict judged in record {
+    bytes = is.bytes;
+    reads = λ _. is.reads count;
+    verdict = verdict_for text shape workers is.bytes v e is.verdict;
+  };
+  legal = legal_for remaining (inner_of old) (inner_of new) text shape v e h.legal;
+  no_thread = h.no_thread;
+  read = h.read;
+  turned = h.turned;
+  sound = h.sound;
+  no_write = h.no_write;
+}
+outcome_for remaining old new text shape workers turns (Err f) e count h = record {
+  reads = h.reads;
+  unread = λ unasked. absurd (unasked (count, (shape, e)));
+  verdict = tt;
+  legal = tt;
+  no_thread = h.no_thread;
+  read = h.read;
+  turned = h.turned;
+  sound = h.sound;
+  no_write = h.no_write;
+}
+
+-- A fault of the text leaves no shape.
+fault_is_none : (text : List ℕ) (shape : Shape) (f : ConfigFault) → IsConfigFault text f → configuration_of text ≡ Ok shape → ⊥
+fault_is_none text shape told.NotToml h e = cc
+fault_is_none text shape (told.Unknown name) h e = cc
+fault_is_none text shape (told.Missing key) h e = cc
+fault_is_none text shape (told.Kind key) h e = cc
+fault_is_none text shape (told.Range key) h e = cc
+fault_is_none text shape told.NoMemory h e = h
+
+-- a refusal that comes before the trace is asked for is the verdict of any bytes
+refused_verdict : {R : Type 0} (remaining : R → Option (List ℕ)) (old new : R) (text : List ℕ) (workers : ℕ) (r : Refusal) → IsRefusedFirst text workers r → IsJudged (Refused r)
+    → IsVerdictOfRead remaining old new (IsAsked text workers) (IsVerdictFor text workers) (Refused r)
+refused_verdict remaining old new text workers (Workers n) h judged = record { bytes = []; reads = λ yes_asked. absurd (h.1 yes_asked.0); verdict = h }
+refused_verdict remaining old new text workers (Config f) h judged = record { bytes = []; reads = λ yes_asked. absurd (fault_is_none text yes_asked.1.0 f h.1 yes_asked.1.1); verdict = h }
+refused_verdict remaining old new text workers (Format f) h judged = absurd h
+refused_verdict remaining old new text workers (OtherHeader f) h judged = absurd h
+refused_verdict remaining old new text workers Memory h judged = absurd judged
+refused_verdict remaining old new text workers Thread h judged = absurd h
+
+not_thread : (text : List ℕ) (workers : ℕ) (r : Refusal) → IsRefusedFirst text workers r → r ≢ Thread
+not_thread text workers (Workers n) h = λ e. cc
+not_thread text workers (Config f) h = λ e. cc
+not_thread text workers (Format f) h = absurd h
+not_thread text workers (OtherHeader f) h = absurd h
+not_thread text workers Memory h = λ e. cc
+not_thread text workers Thread h = absurd h
+
+pub refused_outcome : {R : Type 0} (remaining : R → Option (List ℕ)) (c : Counted R) (text : List ℕ) (workers turns : ℕ) (r : Refusal)
+    → IsRefusedFirst text workers r → calls_of c ≡ 0 → failures_of c ≡ 0
+    → IsOutcome remaining c c (IsAsked text workers) (IsLegalFor text) (IsVerdictFor text workers) turns (Ok (Refused r))
+refused_outcome remaining c text workers turns r h calls failures = record {
+  reads = omega (arith, calls);
+  unread = λ _. refl;
+  verdict = refused_verdict remaining (inner_of c) (inner_of c) text workers r h;
+  legal = tt;
+  no_thread = λ e. not_thread text workers r h cc;
+  read = (λ e. cc, λ failed. let bad = failed in absurd (omega (arith, failures, bad)));
+  turned = λ e. cc;
+  sound = tt;
+  no_write = λ e. cc;
+}

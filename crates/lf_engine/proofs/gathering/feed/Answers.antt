@@ -1,0 +1,14 @@
+use Rattle.std.proofs.Common.{rules, ◌≢◌, ◌++◌, refl}
+use Rattle.lf_verdict.specs.declared.answer.Refusal.TheVariants.{Memory}
+use Rattle.lf_verdict.specs.Session.{refusal_in}
+use Rattle.lf_engine.proofs.GatheringLemmas.{refused_stands}
+use Rattle.lf_engine.proofs.gathering.feed.Goals as goal
+use Rattle.lf_engine.proofs.gathering.feed.Goals.{in-Memory, in_default}
+
+pub returns-after-refusal_in-clause-told : goal.returns-after-refusal_in-clause-told
+returns-after-refusal_in-clause-told c = elim c.match-refusal_in.branch [
+  | in-Memory w ↦ rw w.result-is tt
+  | in_default w ↦
+      let other : refusal_in c.in-Err.told ≢ Memory = search rules in
+      rw w.result-is (λ bytes fed. (λ _. refused_stands c.fault_so_far.ensures.other (bytes ++ c.args.piece.now) (refusal_in c.in-Err.told) other (c.in-Err.ensures.fault bytes fed), λ _. refl))
+]

@@ -1,0 +1,88 @@
+-- What a run for statistics answers and writes.
+use Rattle.std.specs.Prelude.{◌≡◌, ℕ, ◌<◌, List, Option, Some, None, Result, Ok, Err, String, string_bytes}
+use Rattle.std.specs.Global.{Global}
+use Rattle.lf_rules.specs.declared.shape.Shape.{Shape}
+use Rattle.lf_rules.specs.declared.event.Record.{Record}
+use Rattle.lf_rules.specs.Fits.{Bytes}
+use Rattle.lf_rules.specs.Numbers.{bank_numbers, IsWhole}
+use Rattle.lf_config.specs.Configuration.{configuration_of}
+use Rattle.lf_stats.specs.declared.counts.Stats.{Stats}
+use Rattle.lf_stats.specs.Answer.{AreStats}
+use Rattle.lf_stats.specs.Text.{stats_text}
+use Rattle.lf_verdict.specs.declared.answer.Verdict.{Verdict}
+use Rattle.lf_verdict.specs.declared.answer.Verdict.TheVariants.{Yes}
+use Rattle.lf_verdict.specs.Legal.{IsTraceFor}
+use Rattle.lf_engine.specs.declared.fault.RunFault.{RunFault}
+use Rattle.lf_engine.specs.declared.report.Report.{Report}
+use Rattle.lf_engine.specs.Run.{Reads, Follows, outcome_line}
+
+-- The bytes are a trace for the shape, whose banks' numbers are whole.
+pub record IsCountable (shape : Shape) (bytes : List ℕ) : Type 0 where
+  pub memory : List (ℕ × Bytes)
+  pub logs : List (List Record)
+  pub trace : IsTraceFor shape bytes memory logs
+  pub whole : (bank : ℕ) → bank < shape.banks → IsWhole (bank_numbers logs bank)
+
+-- These are the statistics of the logs of the trace in the bytes.
+pub record AreStatisticsOf (shape : Shape) (bytes : List ℕ) (stats : Stats) : Type 0 where
+  pub memory : List (ℕ × Bytes)
+  pub logs : List (List Record)
+  pub trace : IsTraceFor shape bytes memory logs
+  pub counts : AreStats shape logs stats
+
+-- The text has the lines of those statistics.
+pub record ArePrintedFor (shape : Shape) (bytes text : List ℕ) : Type 0 where
+  pub stats : Stats
+  pub statistics : AreStatisticsOf shape bytes stats
+  pub lines : text ≡ stats_text stats
+
+-- The text has the lines of the statistics of the bytes that the reader gave, for the shape that the configuration says.
+pub record ArePrinted {R : Type 0} (remaining : R → Option (List ℕ)) (old new : R) (config text : List ℕ) : Type 0 where
+  pub bytes : List ℕ
+  pub reads : Reads remaining old new bytes
+  pub shape : Shape
+  pub configured : configuration_of config ≡ Ok shape
+  pub printed : ArePrintedFor shape bytes text
+
+-- What is written for this answer: the statistics for a yes, otherwise its line.
+abbrev pub IsWritten : {R : Type 0} → (R → Option (List ℕ)) → R → R → List ℕ → Result Verdict RunFault → List ℕ → Type 0
+IsWritten remaining old new config (Ok (Yes events order)) text = ArePrinted remaining old new config text
+IsWritten remaining old new config answer text = text ≡ outcome_line answer
+
+-- ---- before it is written
+
+abbrev pub IsYesVerdict : Verdict → Type 0
+IsYesVerdict (Yes events order) = Unit {0}
+IsYesVerdict _ = ⊥
+
+-- The lines of the statistics of the bytes are there exactly where the verdict is a yes.
+abbrev pub HasLinesFor : Shape → List ℕ → Verdict → Option (String Global) → Type 0
+HasLinesFor shape bytes verdict (Some text) = IsYesVerdict verdict × ArePrintedFor shape bytes (string_bytes text)
+HasLinesFor shape bytes verdict None = ¬ IsYesVerdict verdict
+
+-- The same of the bytes that the reader gave.
+abbrev pub HasLinesIfYes : {R : Type 0} → (R → Option (List ℕ)) → R → R → List ℕ → Verdict → Option (String Global) → Type 0
+HasLinesIfYes remaining old new config verdict (Some text) = IsYesVerdict verdict × ArePrinted remaining old new config (string_bytes text)
+HasLinesIfYes remaining old new config verdict None = ¬ IsYesVerdict verdict
+
+abbrev pub verdict_in : Result Report RunFault → Result Verdict RunFault
+verdict_in (Ok report) = Ok report.verdict
+verdict_in (Err fault) = Err fault
+
+-- Lines are told as they are; a line may want memory.
+abbrev pub FollowsLines : Option (String Global) → Verdict → Result Verdict RunFault → Type 0
+FollowsLines (Some text) verdict told = told ≡ Ok verdict
+FollowsLines None verdict told = Follows (Ok verdict) told
+
+abbrev pub FollowsReport : Result Report RunFault → Result Verdict RunFault → Type 0
+FollowsReport (Ok report) told = FollowsLines report.lines report.verdict told
+FollowsReport (Err fault) told = told ≡ Err fault
+
+abbrev pub lines_or : Option (String Global) → Result Verdict RunFault → List ℕ
+lines_or (Some text) told = string_bytes text
+lines_or None told = outcome_line told
+
+-- what is written of a report
+abbrev pub report_text : Result Report RunFault → Result Verdict RunFault → List ℕ
+report_text (Ok report) told = lines_or report.lines told
+report_text (Err fault) told = outcome_line told

@@ -1,0 +1,124 @@
+//! A reader or a writer, with a count of the calls made on it and of those that failed.
+ghost use Rattle.std.specs.Prelude.{◌≡◌};
+ghost use Rattle.std.specs.Io.{ReadsAtMost, WritesAtMost};
+ghost use Rattle.std.specs.Io.KnownBytes.{ReadConsumes, WriteAppends, Keeps};
+ghost use Rattle.lf_engine.specs.Counted.{calls_of, failures_of, inner_of, one_more, CountsRead, CountsWrite, CountsFlush};
+
+use std::io;
+use std::io::{ErrorKind, Read, Write};
+
+/// Hands each call on to the inner value once, and answers what that answered. Both counts are 0
+/// at first, and stay at the last number of their type.
+#[derive(Drop)]
+pub struct Counted<T> {
+    inner: T,
+    calls: u64,
+    failures: u64,
+}
+
+impl<T> Counted<T> {
+    /// No call was made yet.
+    pub fn new(inner: T) -> Self
+        ensures inner { inner_of result ≡ inner }
+        ensures calls { calls_of result ≡ 0 }
+        ensures failures { failures_of result ≡ 0 }
+    {
+        Counted {
+            inner,
+            calls: 0,
+            failures: 0,
+        }
+    }
+
+    /// How many calls were made.
+    pub fn calls(&self) -> u64
+        ensures { result ≡ calls_of self.now }
+    {
+        self.calls
+    }
+
+    /// How many of them failed: by an error other than an interrupted read, or by a write that took nothing.
+    pub fn failures(&self) -> u64
+        ensures { result ≡ failures_of self.now }
+    {
+        self.failures
+    }
+
+    /// The reader or the writer that the calls went to.
+    pub fn inner(&self) -> &T
+        ensures { result.now ≡ inner_of self.now }
+    {
+        &self.inner
+    }
+
+    fn count_call(&mut self)
+        ensures { self.new ≡ record self.old { calls = one_more (calls_of self.old) } }
+    {
+        self.calls = next(self.calls);
+    }
+
+    fn count_failure(&mut self)
+        ensures { self.new ≡ record self.old { failures = one_more (failures_of self.old) } }
+    {
+        self.failures = next(self.failures);
+    }
+}
+
+/// One more, up to the last number.
+fn next(count: u64) -> u64
+    ensures { result ≡ one_more count }
+{
+    count.saturating_add(1)
+}
+
+impl<R: Read> Read for Counted<R> {
+    ghost remaining = { λ c. R.remaining (inner_of c) };
+
+    fn read(&mut self, buf: &mut [u8]) -> io::Result<usize>
+        ensures bound { ReadsAtMost result buf.new }
+        ensures bytes { ReadConsumes (R.remaining (inner_of self.old)) (R.remaining (inner_of self.new)) result buf.new }
+        ensures calls { calls_of self.new ≡ one_more (calls_of self.old) }
+        ensures failures { CountsRead (failures_of self.old) (failures_of self.new) result }
+    {
+        self.count_call();
+        let answer = self.inner.read(buf);
+        if let Err(e) = &answer
+            && e.kind() != ErrorKind::Interrupted
+        {
+            self.count_failure();
+        }
+        answer
+    }
+}
+
+impl<W: Write> Write for Counted<W> {
+    ghost contents = { λ c. W.contents (inner_of c) };
+
+    fn write(&mut self, buf: &[u8]) -> io::Result<usize>
+        ensures bound { WritesAtMost result buf.now }
+        ensures bytes { WriteAppends (W.contents (inner_of self.old)) (W.contents (inner_of self.new)) result buf.now }
+        ensures calls { calls_of self.new ≡ one_more (calls_of self.old) }
+        ensures failures { CountsWrite (failures_of self.old) (failures_of self.new) result }
+    {
+        self.count_call();
+        let answer = self.inner.write(buf);
+        match answer {
+            Ok(n) if n > 0 => {}
+            _ => self.count_failure(),
+        }
+        answer
+    }
+
+    fn flush(&mut self) -> io::Result<()>
+        ensures bytes { Keeps (W.contents (inner_of self.old)) (W.contents (inner_of self.new)) }
+        ensures calls { calls_of self.new ≡ one_more (calls_of self.old) }
+        ensures failures { CountsFlush (failures_of self.old) (failures_of self.new) result }
+    {
+        self.count_call();
+        let answer = self.inner.flush();
+        if answer.is_err() {
+            self.count_failure();
+        }
+        answer
+    }
+}

@@ -1,0 +1,72 @@
+//! The statistics of a trace that was kept.
+
+ghost use Rattle.std.specs.Prelude.{◌≡◌, IfOk, OnOk, string_bytes};
+ghost use Rattle.lf_codec.specs.Laws.{AreBytes};
+ghost use Rattle.lf_codec.specs.Reading.{reading_of};
+ghost use Rattle.lf_rules.specs.InRange.{IsShape};
+ghost use Rattle.lf_stats.specs.Text.{stats_text};
+ghost use Rattle.lf_engine.specs.Report.{IsCountable, AreStatisticsOf, ArePrintedFor};
+
+use lf_codec::{Reader, exact_reading};
+use lf_logs::split;
+use lf_rules::{NoMemory, Record, Shape};
+use lf_stats::{Stats, stats};
+use lf_verdict::Verdict;
+use std::alloc::{AllocError, Global};
+
+/// What a run for statistics came to: a verdict, and after a yes the lines of the statistics.
+#[derive(Drop)]
+pub struct Report {
+    pub verdict: Verdict,
+    pub lines: Option<String>,
+}
+
+/// The records that stand in the bytes. A trace has no fault, so a reader refuses it for want of memory
+/// alone.
+fn records_in(alloc: Global, bytes: &[u8]) -> Result<Vec<Record>, NoMemory>
+    ensures read { IfOk result (λ records. records.items ≡ (reading_of bytes.now).records) }
+    ensures are_bytes { OnOk result (AreBytes bytes.now) }
+{
+    let mut reader = Reader::new(alloc);
+    let Ok(()) = reader.feed(bytes) else {
+        return Err(NoMemory);
+    };
+    let mut records = Vec::new(alloc);
+    while let Some(item) = reader.take() {
+        if records.push(item).is_err() {
+            return Err(NoMemory);
+        }
+    }
+    Ok(records)
+}
+
+/// The statistics of the trace in these bytes.
+fn statistics_of(alloc: Global, shape: &Shape, bytes: &[u8]) -> Result<Stats, NoMemory>
+    requires in_range { IsShape shape.now }
+    requires countable { IsCountable shape.now bytes.now }
+    ensures { IfOk result (AreStatisticsOf shape.now bytes.now) }
+{
+    exact_reading();
+    let records = records_in(alloc, bytes)?;
+    let logs = split(alloc, shape.ports, shape.banks, records)?;
+    stats(alloc, shape, &logs)
+}
+
+fn text_of(alloc: Global, counts: &Stats) -> Result<String, AllocError>
+    ensures { IfOk result (λ text. string_bytes text ≡ stats_text counts.now) }
+{
+    format!(in alloc; "{counts}")
+}
+
+/// The lines of the statistics of the trace in these bytes.
+pub fn lines_of(alloc: Global, shape: &Shape, bytes: &[u8]) -> Result<String, NoMemory>
+    requires in_range { IsShape shape.now }
+    requires countable { IsCountable shape.now bytes.now }
+    ensures { IfOk result (λ text. ArePrintedFor shape.now bytes.now (string_bytes text)) }
+{
+    let counts = statistics_of(alloc, shape, bytes)?;
+    match text_of(alloc, &counts) {
+        Ok(text) => Ok(text),
+        Err(_) => Err(NoMemory),
+    }
+}

@@ -1,0 +1,180 @@
+//! Reads the bytes of a trace, judges them and writes their statistics.
+
+ghost use Rattle.std.specs.Prelude.{◌≡◌, ◌≢◌, ◌<◌, ◌↔◌, ℕ, List, [], take, Ok, Err, IfOk, IsErrOf, Result};
+ghost use Rattle.std.specs.Io.KnownBytes.{Appends};
+ghost use Rattle.lf_rules.specs.InRange.{IsShape};
+ghost use Rattle.lf_config.specs.Configuration.{configuration_of};
+ghost use Rattle.lf_verdict.specs.declared.answer.Verdict.{Verdict};
+ghost use Rattle.lf_verdict.specs.Verdict.{IsWorkerCount, IsJudged, IsVerdictOf};
+ghost use Rattle.lf_verdict.specs.Legal.{IsLegal};
+ghost use Rattle.lf_verdict.specs.Configured.{IsVerdictFor, IsLegalFor, IsRunlessNoFor};
+ghost use Rattle.lf_engine.specs.Counted.{calls_of, failures_of, inner_of};
+ghost use Rattle.lf_engine.specs.declared.fault.RunFault.{RunFault};
+ghost use Rattle.lf_engine.specs.Report.{HasLinesFor, HasLinesIfYes, IsWritten, verdict_in, FollowsReport, report_text};
+ghost use Rattle.lf_engine.specs.Run.{IsAsked, IsOutcome, Reads, Follows, IsRunWriting};
+
+use crate::counted::Counted;
+use crate::engine::{PIECE, shape_for, tell};
+use crate::fault::RunFault;
+use crate::gathering::{Stop, zeros};
+use crate::keeping::gather_and_keep;
+use crate::output::put;
+use crate::report::{Report, lines_of};
+use lf_codec::{exact_reading, fault_so_far, faults_stand};
+use lf_rules::Shape;
+use lf_verdict::{Refusal, Session, Verdict, no_has_no_run};
+use std::alloc::Global;
+use std::io::{Read, Write};
+
+/// Reads, keeps what it read, and judges.
+fn judge_and_keep<T: AllocGlobal, R: Read>(
+    rt: &T,
+    reader: &mut Counted<R>,
+    shape: &Shape,
+    bytes: &mut Vec<u8>,
+    turns: u32,
+) -> Result<Verdict, RunFault>
+    requires calls { calls_of reader.old ≡ 0 }
+    requires failures { failures_of reader.old ≡ 0 }
+    requires shape { IsShape shape.now }
+    requires nothing { bytes.old.items ≡ [] }
+    ensures outcome { IsOutcome R.remaining reader.old reader.new (IsWorkerCount 1) (IsLegal shape.now) (IsVerdictOf shape.now 1) turns result }
+    ensures kept { IfOk result (λ v. IsJudged v → Reads R.remaining (inner_of reader.old) (inner_of reader.new) bytes.new.items) }
+    ensures verdict { IfOk result (λ v. IsJudged v → IsVerdictOf shape.now 1 bytes.new.items v) }
+{
+    let Ok(mut buffer) = zeros(rt.alloc(), PIECE) else {
+        return Ok(Verdict::Refused(Refusal::Memory));
+    };
+    let mut session = Session::for_shape(rt.alloc(), shape);
+    match gather_and_keep(reader, buffer.as_mut_slice(), &mut session, bytes, turns) {
+        Ok(()) => Ok(session.finish()),
+        Err(Stop::Memory) => Ok(Verdict::Refused(Refusal::Memory)),
+        Err(Stop::Read) => Err(RunFault::Read),
+        Err(Stop::Turns) => Err(RunFault::Turns),
+    }
+}
+
+/// The lines of the statistics go with a yes. Where they want memory, that is the verdict.
+fn report_of(alloc: Global, shape: &Shape, bytes: &[u8], verdict: Verdict) -> Report
+    requires shape { IsShape shape.now }
+    requires judged { IsJudged verdict → IsVerdictOf shape.now 1 bytes.now verdict }
+    ensures follows { Follows (Ok verdict) (Ok result.verdict) }
+    ensures lines { HasLinesFor shape.now bytes.now result.verdict result.lines }
+{
+    if !matches!(&verdict, Verdict::Yes { .. }) {
+        return Report {
+            verdict,
+            lines: None,
+        };
+    }
+    match lines_of(alloc, shape, bytes) {
+        Ok(text) => Report {
+            verdict,
+            lines: Some(text),
+        },
+        Err(_) => Report {
+            verdict: Verdict::Refused(Refusal::Memory),
+            lines: None,
+        },
+    }
+}
+
+/// Reads, judges and counts for the shape.
+fn report_for<T: AllocGlobal, R: Read>(
+    rt: &T,
+    reader: &mut Counted<R>,
+    shape: &Shape,
+    turns: u32,
+) -> Result<Report, RunFault>
+    requires calls { calls_of reader.old ≡ 0 }
+    requires failures { failures_of reader.old ≡ 0 }
+    requires shape { IsShape shape.now }
+    ensures outcome { IsOutcome R.remaining reader.old reader.new (IsWorkerCount 1) (IsLegal shape.now) (IsVerdictOf shape.now 1) turns (verdict_in result) }
+    ensures lines { (config : List ℕ) → configuration_of config ≡ Ok shape.now → IfOk result (λ r.
+        HasLinesIfYes R.remaining (inner_of reader.old) (inner_of reader.new) config r.verdict r.lines) }
+{
+    let mut bytes = Vec::new(rt.alloc());
+    let verdict = judge_and_keep(rt, reader, shape, &mut bytes, turns)?;
+    Ok(report_of(rt.alloc(), shape, bytes.as_slice(), verdict))
+}
+
+/// Judges the configuration, and only then reads.
+fn report_configured<T: AllocGlobal, R: Read>(
+    rt: &T,
+    reader: &mut Counted<R>,
+    config: &str,
+    turns: u32,
+) -> Result<Report, RunFault>
+    requires calls { calls_of reader.old ≡ 0 }
+    requires failures { failures_of reader.old ≡ 0 }
+    ensures outcome { IsOutcome R.remaining reader.old reader.new (IsAsked config.now 1) (IsLegalFor config.now) (IsVerdictFor config.now 1) turns (verdict_in result) }
+    ensures lines { IfOk result (λ r.
+        HasLinesIfYes R.remaining (inner_of reader.old) (inner_of reader.new) config.now r.verdict r.lines) }
+{
+    match shape_for(rt.alloc(), config, 1) {
+        Ok(shape) => report_for(rt, reader, &shape, turns),
+        Err(refusal) => Ok(Report {
+            verdict: Verdict::Refused(refusal),
+            lines: None,
+        }),
+    }
+}
+
+/// Writes the lines of a report, or else the line of its verdict.
+fn tell_report<W: Write>(
+    alloc: Global,
+    writer: &mut Counted<W>,
+    outcome: Result<Report, RunFault>,
+) -> Result<Verdict, RunFault>
+    requires failures { failures_of writer.old ≡ 0 }
+    requires no_write { verdict_in outcome ≢ Err RunFault.Write }
+    ensures write { IsErrOf result RunFault.Write ↔ (0 < failures_of writer.new) }
+    ensures follows { result ≢ Err RunFault.Write → FollowsReport outcome result }
+    ensures whole { result ≢ Err RunFault.Write →
+        Appends (W.contents (inner_of writer.old)) (W.contents (inner_of writer.new)) (report_text outcome result) }
+    ensures prefix { result ≡ Err RunFault.Write → (told : Result Verdict RunFault) × FollowsReport outcome told × ((n : ℕ) ×
+        Appends (W.contents (inner_of writer.old)) (W.contents (inner_of writer.new)) (take n (report_text outcome told))) }
+{
+    let Report { verdict, lines } = match outcome {
+        Ok(report) => report,
+        Err(fault) => return tell(alloc, writer, Err(fault)),
+    };
+    match lines {
+        Some(text) => {
+            put(writer, text.as_bytes())?;
+            Ok(verdict)
+        }
+        None => tell(alloc, writer, Ok(verdict)),
+    }
+}
+
+/// Reads the trace until the reader is at its end or a fault stands in what it gave, judges it with one
+/// worker for the shape that the configuration says, and writes the statistics of a trace that is legal: a
+/// line for each bank and one for each port. Otherwise it writes the line of the verdict. Each read is a
+/// turn, and there are at most so many turns. Where the text is no configuration, nothing is read.
+///
+/// Where memory runs out after the trace was found legal, the answer is `Refused(Memory)`.
+/// `RunFault::Read` says that a read failed, and `RunFault::Turns` that the turns were used up before
+/// the trace was read: then the line is `refused read trace`. `RunFault::Write` says that a write
+/// failed: what went out is the beginning of what was due.
+pub fn run_stats<T: AllocGlobal, R: Read, W: Write>(
+    rt: &T,
+    reader: &mut Counted<R>,
+    writer: &mut Counted<W>,
+    config: &str,
+    turns: u32,
+) -> Result<Verdict, RunFault>
+    requires calls { calls_of reader.old ≡ 0 }
+    requires failures { failures_of reader.old ≡ 0 }
+    requires writes { failures_of writer.old ≡ 0 }
+    ensures { IsRunWriting R.remaining W.contents reader.old reader.new writer.old writer.new
+        (IsAsked config.now 1) (IsLegalFor config.now) (IsRunlessNoFor config.now) (IsVerdictFor config.now 1)
+        (IsWritten R.remaining (inner_of reader.old) (inner_of reader.new) config.now) turns result }
+{
+    exact_reading();
+    fault_so_far();
+    faults_stand();
+    no_has_no_run();
+    let outcome = report_configured(rt, reader, config, turns);
+    tell_report(rt.alloc(), writer, outcome)
+}

@@ -1,0 +1,4 @@
+pub mod Job
+pub mod Rule
+pub mod Workers
+pub mod Worked

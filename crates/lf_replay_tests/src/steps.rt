@@ -1,0 +1,42 @@
+//! A bank step by step.
+
+ghost use Rattle.lf_rules.specs.InRange.{IsShape};
+
+use lf_replay::Step;
+use lf_rules::{Shape, fits};
+use lf_samples::{C1, records};
+use std::alloc::Global;
+use std::test::Fail;
+
+/// How many of the events a step refuses, where it goes on after each fault.
+pub fn refused_by_step(alloc: Global, shape: &Shape, parts: &[&str]) -> Result<u32, Fail>
+    requires { IsShape shape.now }
+{
+    let memory = Vec::new(alloc);
+    let records = records(alloc, shape, parts)?;
+    let mut refused = 0u32;
+    let Ok(mut step) = Step::new(alloc, shape, &memory, 0) else {
+        return Err(Fail::from("no memory"));
+    };
+    for item in &records {
+        if !fits(shape.ports, shape.banks, shape.block, shape.factor, item) || item.bank != 0 {
+            return Err(Fail::from("this is no record of the bank"));
+        }
+        if step.apply(item).is_err() {
+            refused = refused.saturating_add(1);
+        }
+    }
+    Ok(refused)
+}
+
+/// A fault leaves the state as it was: with the events that break a rule between them, those of a
+/// load that misses both levels are taken as before.
+#[test]
+fn a_step_goes_on_after_a_fault(rt: HostRuntime) -> Result<(), Fail> {
+    let misses = "H 0, L 0 8@0, H 0, P 0 1, P 0 0, F1 0, SH 0, SP 0 0";
+    let fills = "F2 0=0101010101010101, F2 0, E2 0 00, F1 0";
+    let replies = "R 0=0101010101010101, R 0=0000000000000000, R 0=0000000000000000";
+    let refused = refused_by_step(rt.alloc(), &C1, &[misses, fills, replies])?;
+    assert_eq!(rt; refused, 9);
+    Ok(())
+}

@@ -1,0 +1,20 @@
+//! Samples for tests: the notation in which the worked examples are written, the hierarchies that they
+//! are judged for, and their bytes. Nothing is claimed of it but that it is safe.
+#![tactic(auto)]
+
+mod events;
+mod examples;
+mod hex;
+mod lists;
+mod shapes;
+mod writing;
+
+pub use events::event;
+pub use examples::{EMPTY_TRACE, FENCE_LAST, LOAD, LOAD_MISSES_BOTH_LEVELS, LOADED, STORE};
+pub use hex::{block, bytes_of, masks, wide_block};
+pub use lists::{logs, memory, record, records, records_at};
+pub use shapes::{
+    C1, C1_TEXT, C2, C2_ONE_ENTRY, FOUR_BANKS, FOUR_PORTS_FOUR_BANKS, IMPLICIT, INVERTED,
+    INVERTED_BELOW, TWO_PORTS_TWO_BANKS, TWO_REGISTERS,
+};
+pub use writing::{trace, trace_of};

@@ -1,0 +1,213 @@
+#!/usr/bin/env python3
+"""Runs the program and tests of the crates with their first growth refused, then with their second, and so on
+until a run meets no refusal, and tells each run in which a refused growth was not answered as want of memory.
+
+    refused_growth.py [WORD]      only the runs whose name has the word
+
+The programs are those that `rt run` in crates/score and `rt test` in each crate left in out/. It needs a C compiler
+(cc, or the one that CC names), for a library that refuses one call of malloc or of pthread_create. A run of the
+program must print `refused memory`, or `refused thread` where a thread was refused. Of the tests, those of
+`TOLD` must fail and name the want of memory, and those of `KEPT` must pass whichever growth is refused. Runs of
+`demo` are tried at some growths alone, since their number changes from run to run."""
+
+import os
+import re
+import subprocess
+import sys
+import tempfile
+
+TOP = os.path.join(os.path.dirname(os.path.abspath(__file__)), "..")
+EXAMPLES = os.path.join(TOP, "examples")
+
+SHIM = r"""
+#define _GNU_SOURCE
+#include <dlfcn.h>
+#include <errno.h>
+#include <pthread.h>
+#include <stdio.h>
+#include <stdlib.h>
+#include <unistd.h>
+
+extern void *__libc_malloc(size_t);
+static long turn;
+
+static int is_refused(const char *what, size_t size) {
+    static long at = -1;
+    if (at < 0) {
+        const char *word = getenv("REFUSED_GROWTH");
+        at = word ? strtol(word, 0, 10) : 0;
+    }
+    if (__sync_add_and_fetch(&turn, 1) != at)
+        return 0;
+    char line[80];
+    int length = snprintf(line, sizeof line, "refused %s %zu\n", what, size);
+    return write(2, line, length) > 0;
+}
+
+void *malloc(size_t size) {
+    if (is_refused("bytes", size)) {
+        errno = ENOMEM;
+        return 0;
+    }
+    return __libc_malloc(size);
+}
+
+int pthread_create(pthread_t *thread, const pthread_attr_t *how, void *(*start)(void *), void *with) {
+    int (*next)(pthread_t *, const pthread_attr_t *, void *(*)(void *), void *) = dlsym(RTLD_NEXT, "pthread_create");
+    return is_refused("thread", 0) ? EAGAIN : next(thread, how, start, with);
+}
+"""
+
+# Commands of the program, each with what it prints with ample memory.
+COMMANDS = [
+    ("check", "c1.toml", "empty_trace.lfts", "yes events=0"),
+    ("check", "c1.toml", "load_misses_both_levels.lfts", "yes events=6"),
+    ("check", "c1.toml", "load_merges_behind_store.lfts", "yes events=9"),
+    ("check", "c1.toml", "reply_with_a_wrong_byte.lfts", "no bank=0 number=5 rule=ReplyData"),
+    ("check", "c1.toml", "initial_memory.lfts", "yes events=6"),
+    ("check", "two_ports.toml", "cycle_of_two_logs.lfts", "no cycle logs=0,1"),
+    ("check", "four_banks.toml", "lowest_bank.lfts", "no bank=1 number=0 rule=NotHead"),
+    ("check", "four_ports.toml", "four_ports.lfts", "yes events="),
+    ("check", "four_ports_wide.toml", "four_ports_wide.lfts", "yes events="),
+    ("stats", "c1.toml", "load_merges_behind_store.lfts", "bank=0 hits=0 primary=1 merges=1 stalls=0 peak=1"),
+    ("stats", "c1.toml", "explicit_entries_full.lfts", "bank=0 hits=0 primary=1 merges=1 stalls=1 peak=1"),
+    ("stats", "inverted.toml", "inverted_two_registers.lfts", "bank=0 hits=0 primary=1 merges=1 stalls=0 peak=2"),
+]
+
+# Where more workers are taken, the making of a thread is refused too.
+WITH_WORKERS = ("check", "four_banks.toml", "lowest_bank.lfts", "no bank=1 number=0 rule=NotHead")
+
+# Crates, each with tests that fail where a growth is refused.
+TOLD = [
+    ("lf_config", "tests::c1_is_read_whole"),
+    ("lf_model", "tests::recheck_orders"),
+    ("lf_codec", "tests::encode_and_skeletons"),
+    ("lf_codec", "tests::initial_memory"),
+    ("lf_logs", "tests::encode_and_skeletons"),
+    ("lf_logs", "tests::gaps_and_doubles"),
+    ("lf_logs", "tests::many_records_before_their_turn"),
+    ("lf_join", "tests::least_order"),
+    ("lf_replay", "tests::load_merges_behind_store_by_replay"),
+    ("lf_stats", "tests::statistics_of_three"),
+    ("lf_verdict", "tests::empty_trace"),
+    ("lf_verdict", "tests::load_misses_both_levels"),
+    ("lf_verdict", "tests::cycle_of_two_logs"),
+    ("lf_verdict", "tests::lowest_bank_any_workers"),
+    ("lf_verdict", "tests::the_configuration_is_read"),
+    ("score", "tests::examples::load_merges_behind_store"),
+    ("score", "tests::statistics::statistics_of_three"),
+]
+
+# Tests of what is left after a refusal, which pass.
+KEPT = [
+    ("lf_recorder", "tests::growth::refused_growth_of_ten_events"),
+    ("lf_replay", "tests::growth::refused_growth_of_a_step"),
+    ("lf_verdict", "tests::growth::refused_growth_of_a_session"),
+]
+
+
+def shim_in(folder):
+    source, shim = os.path.join(folder, "shim.c"), os.path.join(folder, "shim.so")
+    with open(source, "w", encoding="ascii") as file:
+        file.write(SHIM)
+    subprocess.run([os.environ.get("CC", "cc"), "-O1", "-shared", "-fPIC", "-o", shim, source, "-ldl"], check=True)
+    return shim
+
+
+class Runs:
+    """Runs with one growth refused, and the faults found in them."""
+
+    def __init__(self, shim, word):
+        self.shim, self.word = shim, word
+        self.count = self.faults = self.missing = 0
+
+    def refusing(self, n, words, folder):
+        env = {"LD_PRELOAD": self.shim, "REFUSED_GROWTH": str(n)}
+        ran = subprocess.run(words, env=env, cwd=folder, capture_output=True, timeout=120)
+        self.count += 1
+        told = re.search(rb"^refused (bytes|thread) (\d+)$", ran.stderr, re.M)
+        return ran, told
+
+    def fault(self, name, n, told, text):
+        self.faults += 1
+        what = f"{told[1].decode()} {told[2].decode()}" if told else "none"
+        print(f"  {name}, growth {n} refused ({what}): {text!r}", flush=True)
+
+    def sweep(self, name, words, judge, folder, numbers=None):
+        """Refuses each growth in turn. `judge` says what is wrong with a run, or None."""
+        if self.word not in name:
+            return
+        if not os.path.exists(words[0]):
+            self.missing += 1
+            print(f"{name}: {os.path.relpath(words[0], TOP)} is not built", flush=True)
+            return
+        refused, n = 0, 0
+        while True:
+            n = n + 1 if numbers is None else next(numbers, 0)
+            if not n:
+                break
+            ran, told = self.refusing(n, words, folder)
+            wrong = judge(ran, told)
+            if wrong is not None:
+                self.fault(name, n, told, wrong)
+            if not told and numbers is None:
+                break
+            refused += bool(told)
+        print(f"{name}: {refused} growths refused", flush=True)
+
+
+def judge_line(line):
+    """For a run of the program that prints this line with ample memory."""
+    def judge(ran, told):
+        text = ran.stdout.decode(errors="replace")
+        if not told:
+            return None if text.startswith(line) else text
+        lawful = ["refused memory\n"] + ["refused thread\n"] * (told[1] == b"thread")
+        return None if text in lawful and ran.returncode == 2 else text
+    return judge
+
+
+def judge_told(ran, told):
+    passed = ran.returncode == 0
+    said = ran.stdout.decode(errors="replace") + ran.stderr.decode(errors="replace")
+    if not told:
+        return None if passed else said
+    return None if not passed and re.search(r"memory|Memory|Alloc|Thread", said) else said
+
+
+def judge_kept(ran, _):
+    return None if ran.returncode == 0 else (ran.stdout + ran.stderr).decode(errors="replace")
+
+
+def judge_demo(ran, told):
+    text = ran.stdout.decode(errors="replace")
+    if not told:
+        return None if text.startswith("demo events=") else text
+    return None if text in ("refused memory\n", "refused thread\n") and ran.returncode == 2 else text
+
+
+def main():
+    with tempfile.TemporaryDirectory() as folder:
+        runs = Runs(shim_in(folder), sys.argv[1] if len(sys.argv) > 1 else "")
+        score = os.path.join(TOP, "crates", "score", "out", "score")
+        for command, config, trace, line in COMMANDS:
+            words = [score, command, os.path.join(EXAMPLES, config), os.path.join(EXAMPLES, trace)]
+            runs.sweep(f"score {command} {trace}", words, judge_line(line), folder)
+        command, config, trace, line = WITH_WORKERS
+        words = [score, command, os.path.join(EXAMPLES, config), os.path.join(EXAMPLES, trace), "--workers", "2"]
+        if os.path.exists(score) and subprocess.run(words, capture_output=True).stdout.startswith(line.encode()):
+            runs.sweep(f"score {command} {trace} --workers 2", words, judge_line(line), folder)
+        for shape in ("c1.toml", "two_ports.toml", "four_ports_wide.toml"):
+            words = [score, "demo", os.path.join(EXAMPLES, shape), os.path.join(folder, "demo.lfts")]
+            numbers = iter([*range(1, 150), *range(150, 3000, 37)])
+            runs.sweep(f"score demo {shape}", words, judge_demo, folder, numbers)
+        for tests, judge in ((TOLD, judge_told), (KEPT, judge_kept)):
+            for crate, test in tests:
+                words = [os.path.join(TOP, "crates", crate, "out", f"{crate}_tests"), test]
+                runs.sweep(f"{crate} {test}", words, judge, folder)
+        print(f"runs={runs.count} not_answered={runs.faults} not_built={runs.missing}")
+        return 1 if runs.faults or runs.missing else 0
+
+
+if __name__ == "__main__":
+    sys.exit(main())
