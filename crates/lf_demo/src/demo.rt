@@ -1,6 +1,6 @@
 //! A demonstration from its threads to its trace.
 
-ghost use Rattle.std.specs.Prelude.{All, IfOk, map, ◌≡◌};
+ghost use Rattle.std.specs.Prelude.{All, IfOk, map};
 ghost use Rattle.lf_rules.specs.InRange.{IsShape};
 ghost use Rattle.lf_demo.specs.Demo.{IsDemo, IsRecording, IsTraceOf};
 ghost use Rattle.lf_demo.specs.Threads.{IsNew, IsRecorded, IsWhole};

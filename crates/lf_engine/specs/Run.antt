@@ -118,14 +118,18 @@ abbrev pub outcome_line : Result Verdict RunFault → List ℕ
 outcome_line (Ok v) = line_of v
 outcome_line (Err e) = not_read_line
 
+abbrev pub IsLine : Result Verdict RunFault → List ℕ → Type 0
+IsLine answer text = text ≡ outcome_line answer
+
 -- ---- a run of the program
 
 -- What a run reads, answers and writes. The words handed in say when the trace is asked for, by which orders bytes are
--- legal, what a no means of bytes, and which verdict they have. The counts of the reader and of the writer were 0.
-pub record IsRunOfProgram {R W : Type 0} (remaining : R → Option (List ℕ)) (contents : W → Option (List ℕ))
+-- legal, what a no means of bytes, which verdict they have, and which text is due for an answer. The counts of the
+-- reader and of the writer were 0.
+pub record IsRunWriting {R W : Type 0} (remaining : R → Option (List ℕ)) (contents : W → Option (List ℕ))
     (reader reader' : Counted R) (writer writer' : Counted W) (asked : Type 0)
-    (IsLegal : List ℕ → List ℕ → Type 0) (IsRunless IsVerdict : List ℕ → Verdict → Type 0) (turns : ℕ)
-    (answer : Result Verdict RunFault) : Type 0 where
+    (IsLegal : List ℕ → List ℕ → Type 0) (IsRunless IsVerdict : List ℕ → Verdict → Type 0)
+    (IsDue : Result Verdict RunFault → List ℕ → Type 0) (turns : ℕ) (answer : Result Verdict RunFault) : Type 0 where
   -- No more reads than the caller allows, and none where the trace is not asked for.
   pub reads : calls_of reader' ≤ turns
   pub unread : ¬ asked → reader' ≡ reader
@@ -139,14 +143,20 @@ pub record IsRunOfProgram {R W : Type 0} (remaining : R → Option (List ℕ)) (
   pub verdict : IfOk answer (λ v. IsJudged v → IsVerdictOfRead remaining (inner_of reader) (inner_of reader') asked IsVerdict v)
   pub whole : IfOk answer (λ v. IsJudged v → IfSome (remaining (inner_of reader)) (λ bytes. IsVerdict bytes v))
   pub thread : answer ≢ Ok (Refused Thread)
-  -- What goes out is the line of the verdict, or that the trace was not read.
-  pub line : answer ≢ Err Write → Appends (contents (inner_of writer)) (contents (inner_of writer')) (outcome_line answer)
+  -- What goes out is the text that is due for the answer.
+  pub written : answer ≢ Err Write → (text : List ℕ) × IsDue answer text × Appends (contents (inner_of writer)) (contents (inner_of writer')) text
   -- When each fault comes.
   pub read : IsErrOf answer Read ↔ ((0 < failures_of reader') × (failures_of writer' ≡ 0))
   pub turns_ran_out : IsErrOf answer Turns → calls_of reader' ≡ turns
   pub write : IsErrOf answer Write ↔ (0 < failures_of writer')
   -- Where a read failed or the turns were used up, no fault stood in what was read.
   pub sound : IfErr answer (λ e. e ≢ Write → GaveSound remaining (inner_of reader) (inner_of reader'))
-  -- Where a write failed, what went out is the beginning of a line that was due.
-  pub prefix : IsErrOf answer Write → (told : Result Verdict RunFault) × IsOutcome remaining reader reader' asked IsLegal IsVerdict turns told × ((n : ℕ) ×
-      Appends (contents (inner_of writer)) (contents (inner_of writer')) (take n (outcome_line told)))
+  -- Where a write failed, what went out is the beginning of what was due.
+  pub prefix : IsErrOf answer Write → (told : Result Verdict RunFault) × IsOutcome remaining reader reader' asked IsLegal IsVerdict turns told × ((text : List ℕ) ×
+      IsDue told text × ((n : ℕ) × Appends (contents (inner_of writer)) (contents (inner_of writer')) (take n text)))
+
+-- What goes out is the line of the verdict, or that the trace was not read.
+abbrev pub IsRunOfProgram : {R W : Type 0} → (R → Option (List ℕ)) → (W → Option (List ℕ)) → Counted R → Counted R → Counted W → Counted W
+    → Type 0 → (List ℕ → List ℕ → Type 0) → (List ℕ → Verdict → Type 0) → (List ℕ → Verdict → Type 0) → ℕ → Result Verdict RunFault → Type 0
+IsRunOfProgram remaining contents reader reader' writer writer' asked IsLegal IsRunless IsVerdict turns answer =
+    IsRunWriting remaining contents reader reader' writer writer' asked IsLegal IsRunless IsVerdict IsLine turns answer

@@ -1,18 +1,17 @@
 //! Reads the bytes of a trace, judges them and writes their statistics.
 
-ghost use Rattle.std.specs.Prelude.{◌≡◌, ◌≢◌, ◌≤◌, ◌<◌, ◌↔◌, ℕ, List, [], take, Ok, Err, IfOk, IfErr, IfSome, IsErrOf, Result};
+ghost use Rattle.std.specs.Prelude.{◌≡◌, ◌≢◌, ◌<◌, ◌↔◌, ℕ, List, [], take, Ok, Err, IfOk, IsErrOf, Result};
 ghost use Rattle.std.specs.Io.KnownBytes.{Appends};
 ghost use Rattle.lf_rules.specs.InRange.{IsShape};
 ghost use Rattle.lf_config.specs.Configuration.{configuration_of};
 ghost use Rattle.lf_verdict.specs.declared.answer.Verdict.{Verdict};
-ghost use Rattle.lf_verdict.specs.declared.answer.Refusal.{Refusal};
 ghost use Rattle.lf_verdict.specs.Verdict.{IsWorkerCount, IsJudged, IsVerdictOf};
 ghost use Rattle.lf_verdict.specs.Legal.{IsLegal};
 ghost use Rattle.lf_verdict.specs.Configured.{IsVerdictFor, IsLegalFor, IsRunlessNoFor};
 ghost use Rattle.lf_engine.specs.Counted.{calls_of, failures_of, inner_of};
 ghost use Rattle.lf_engine.specs.declared.fault.RunFault.{RunFault};
 ghost use Rattle.lf_engine.specs.Report.{HasLinesFor, HasLinesIfYes, IsWritten, verdict_in, FollowsReport, report_text};
-ghost use Rattle.lf_engine.specs.Run.{GaveSound, IfYes, IfNo, IsRunlessRead, IsAsked, IsVerdictOfRead, IsLegalRead, IsOutcome, Reads, Follows};
+ghost use Rattle.lf_engine.specs.Run.{IsAsked, IsOutcome, Reads, Follows, IsRunWriting};
 
 use crate::counted::Counted;
 use crate::engine::{PIECE, shape_for, tell};
@@ -168,45 +167,9 @@ pub fn run_stats<T: AllocGlobal, R: Read, W: Write>(
     requires calls { calls_of reader.old ≡ 0 }
     requires failures { failures_of reader.old ≡ 0 }
     requires writes { failures_of writer.old ≡ 0 }
-
-    // No more reads than the caller allows, and none where the configuration is refused.
-    ensures reads { calls_of reader.new ≤ turns }
-    ensures unread { ¬ IsAsked config.now 1 → reader.new ≡ reader.old }
-
-    // A yes means that the configuration says a shape for which the bytes that the reader gave are a legal trace, and so
-    // are all that it had.
-    ensures legal { IfOk result (λ v. IfYes v (IsLegalRead R.remaining (inner_of reader.old) (inner_of reader.new) (IsLegalFor config.now))) }
-    ensures legal_whole { IfOk result (λ v. IfSome (R.remaining (inner_of reader.old)) (λ bytes. IfYes v (IsLegalFor config.now bytes))) }
-
-    // A no means that the configuration says a shape for which the bytes that the reader gave have no run, and so with all
-    // that it had.
-    ensures runless { IfOk result (λ v. IfNo v (IsRunlessRead R.remaining (inner_of reader.old) (inner_of reader.new) (λ bytes. IsRunlessNoFor config.now bytes v))) }
-    ensures runless_whole { IfOk result (λ v. IfSome (R.remaining (inner_of reader.old)) (λ bytes. IsRunlessNoFor config.now bytes v)) }
-
-    // The verdict is that of the bytes that the reader gave, and of all that it had.
-    ensures verdict { IfOk result (λ v. IsJudged v →
-        IsVerdictOfRead R.remaining (inner_of reader.old) (inner_of reader.new) (IsAsked config.now 1) (IsVerdictFor config.now 1) v) }
-    ensures whole { IfOk result (λ v. IsJudged v →
-        IfSome (R.remaining (inner_of reader.old)) (λ bytes. IsVerdictFor config.now 1 bytes v)) }
-    ensures thread { result ≢ Ok (Verdict.Refused Refusal.Thread) }
-
-    // What goes out are the statistics of the bytes that the reader gave, where the answer is yes. Otherwise it is the
-    // line of the verdict, or that the trace was not read.
-    ensures written { result ≢ Err RunFault.Write → (text : List ℕ) ×
-        IsWritten R.remaining (inner_of reader.old) (inner_of reader.new) config.now result text ×
-        Appends (W.contents (inner_of writer.old)) (W.contents (inner_of writer.new)) text }
-
-    // When each fault comes.
-    ensures read { IsErrOf result RunFault.Read ↔ ((0 < failures_of reader.new) × (failures_of writer.new ≡ 0)) }
-    ensures turns { IsErrOf result RunFault.Turns → calls_of reader.new ≡ turns }
-    ensures write { IsErrOf result RunFault.Write ↔ (0 < failures_of writer.new) }
-    // Where a read failed or the turns were used up, no fault stood in what was read.
-    ensures sound { IfErr result (λ e. e ≢ RunFault.Write → GaveSound R.remaining (inner_of reader.old) (inner_of reader.new)) }
-    // Where a write failed, what went out is the beginning of what was due.
-    ensures prefix { IsErrOf result RunFault.Write → (told : Result Verdict RunFault) ×
-        IsOutcome R.remaining reader.old reader.new (IsAsked config.now 1) (IsLegalFor config.now) (IsVerdictFor config.now 1) turns told ×
-        ((text : List ℕ) × IsWritten R.remaining (inner_of reader.old) (inner_of reader.new) config.now told text × ((n : ℕ) ×
-        Appends (W.contents (inner_of writer.old)) (W.contents (inner_of writer.new)) (take n text))) }
+    ensures { IsRunWriting R.remaining W.contents reader.old reader.new writer.old writer.new
+        (IsAsked config.now 1) (IsLegalFor config.now) (IsRunlessNoFor config.now) (IsVerdictFor config.now 1)
+        (IsWritten R.remaining (inner_of reader.old) (inner_of reader.new) config.now) turns result }
 {
     exact_reading();
     fault_so_far();

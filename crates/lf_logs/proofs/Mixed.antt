@@ -6,8 +6,7 @@ use Rattle.std.proofs.lemmas.List.{same_lists, append-nil, get_or_default}
 use Rattle.std.proofs.lemmas.List.Elements.{filter-append}
 use Rattle.lf_rules.specs.declared.event.Record.{Record}
 use Rattle.lf_rules.specs.Numbers.{all_records}
-use Rattle.lf_rules.specs.Run.{of_log, NameTheirLogs, Interleaves}
-use Rattle.lf_logs.specs.Lists.{logs_of}
+use Rattle.lf_rules.specs.Run.{of_log}
 use Rattle.lf_logs.specs.Mixtures.{LogAfterLogIsAMixture, MixturesHaveTheirLogs}
 use Rattle.lf_logs.proofs.Splitting.{length-parts_of, get_or-parts_of}
 

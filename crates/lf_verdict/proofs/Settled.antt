@@ -53,7 +53,7 @@ none_of_log shape log (r ∷ rs) fit past = go (r.log == log) refl (none_of_log 
     go true e rest = absurd (omega (arith, eqb-true r.log log e, log_below shape.ports r.bank r.number r.log shape.banks r.event fit.0.bank fit.0.log))
     go false e rest = rest
 
-interleaves : (shape : Shape) (rs : List Record) → AllByRecursion (Fits shape) rs → Interleaves (logs_so_far shape rs) rs
+pub interleaves : (shape : Shape) (rs : List Record) → AllByRecursion (Fits shape) rs → Interleaves (logs_so_far shape rs) rs
 interleaves shape rs fit = record {
   each = λ log. elim (cases_lt log (shape.ports + shape.banks)) [
     | inl lt ↦ sym (log_of_logs (shape.ports + shape.banks) log rs lt)

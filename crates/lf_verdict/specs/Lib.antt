@@ -7,3 +7,6 @@ pub mod Laws
 pub mod Judging
 pub mod Configured
 pub mod Session
+pub mod Collected
+pub mod ConfiguredLaws
+pub mod Rechecked

@@ -9,12 +9,15 @@
 
 mod answer;
 mod bank_judge;
+mod collected;
 mod configured;
+mod configured_laws;
 mod halt;
 mod header;
 mod intake;
 mod laws;
 mod port_judge;
+mod rechecked;
 mod session;
 mod shape_check;
 mod standing;
@@ -22,8 +25,11 @@ mod standing_new;
 mod standing_verdict;
 
 pub use answer::{Fault, HeaderField, Refusal, Verdict};
+pub use collected::collected_logs_are_in_order;
 pub use configured::check;
+pub use configured_laws::{mixtures_are_alike_for, verdicts_for_are_one};
 pub use laws::{mixtures_are_alike, no_has_no_run, verdicts_are_one, yes_is_legal};
+pub use rechecked::yes_is_rechecked;
 pub use session::Session;
 pub use shape_check::check_shape;
 
