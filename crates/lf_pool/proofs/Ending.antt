@@ -1,5 +1,5 @@
 -- Every job has its outcome at the end.
-use Rattle.std.proofs.Common.{◌≡◌, ℕ, zero, suc, ◌+◌, ◌<◌, ◌≤◌, cond, List, [], ◌∷◌, ◌++◌, length, get_or, map, replicate, Option, Some, None, refl, sym, ap, ◌∙◌, subst, arith, length-append, ne_eqb, true≢false, inl, inr}
+use Rattle.std.proofs.Common.{◌≡◌, ℕ, zero, suc, ◌+◌, ◌<◌, ◌≤◌, cond, List, [], ◌∷◌, ◌++◌, length, get_or, map, replicate, Option, Some, None, refl, sym, ap, ◌∙◌, subst, arith, length-append, ne_eqb, true≢false}
 use Rattle.std.specs.Prelude.{◌==◌, slice_get, All, IfSome, IsSome, sum_by}
 use mathlib.Core.Logic.{dite}
 use mathlib.Core.Option.{some}
@@ -10,8 +10,6 @@ use Rattle.std.proofs.lemmas.List.Sums.{sum_by-cons, sum_by_push}
 use Rattle.std.proofs.lemmas.List.Elements.{All-head, All-tail}
 use Rattle.std.proofs.lemmas.Option.{slice_get_within, get_or_from_slice_get}
 use Rattle.std.proofs.Math.Seq.{get_or-append_seam}
-use Rattle.std.proofs.lemmas.Bool.{cases_lt}
-use Rattle.std.proofs.lemmas.List.{get_or_append_left}
 use Rattle.atomic_table.specs.Seated.{TableId}
 use Rattle.atomic_table.specs.Table.{Final, Seen}
 use Rattle.lf_rules.specs.declared.outcome.Outcome.{Outcome}
@@ -128,16 +126,3 @@ taken_out jobs outcomes all count each same out = record {
       let has = each x lt in
       subst (IsJobOutcome jobs x) (sym (get_or_from_slice_get all x has.outcome told.NoMemory (out x (omega arith) ∙ has.there))) has.is;
 }
-
--- one more job is done
-pub outcome_more : (jobs : Jobs) (n : ℕ) (old new : List Outcome) (o : Outcome) → new ≡ old ++ o ∷ [] → length old ≡ n
-    → ((k : ℕ) → k < n → IsJobOutcome jobs k (get_or old k told.NoMemory)) → IsJobOutcome jobs n o → (k : ℕ) → k < n + 1 → IsJobOutcome jobs k (get_or new k told.NoMemory)
-outcome_more jobs n old new o pushed count each here k lt =
-    subst (λ (l : List Outcome). IsJobOutcome jobs k (get_or l k told.NoMemory)) (sym pushed)
-    (elim (cases_lt k n) [
-      | inl less ↦ subst (IsJobOutcome jobs k) (sym (get_or_append_left old (o ∷ []) told.NoMemory k (omega arith))) (each k less)
-      | inr le ↦
-          let same : k ≡ length old = omega arith in
-          let last : get_or (old ++ o ∷ []) k told.NoMemory ≡ o = ap (λ i. get_or (old ++ o ∷ []) i told.NoMemory) same ∙ get_or-append_seam old o [] told.NoMemory in
-          subst (IsJobOutcome jobs k) (sym last) (subst (λ i. IsJobOutcome jobs i o) (sym (same ∙ count)) here)
-    ])

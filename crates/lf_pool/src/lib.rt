@@ -15,6 +15,3 @@ mod worker;
 pub use gate::{Gate, NoGate};
 pub use job::Jobs;
 pub use pool::{PoolFault, is_worker_count, run_jobs};
-
-#[cfg(test)]
-mod tests;
