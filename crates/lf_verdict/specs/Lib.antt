@@ -7,3 +7,4 @@ pub mod Laws
 pub mod Judging
 pub mod Configured
 pub mod Session
+pub mod Text

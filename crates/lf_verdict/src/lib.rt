@@ -20,6 +20,7 @@ mod shape_check;
 mod standing;
 mod standing_new;
 mod standing_verdict;
+mod text;
 
 pub use answer::{Fault, HeaderField, Refusal, Verdict};
 pub use configured::check;
