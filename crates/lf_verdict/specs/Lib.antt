@@ -10,3 +10,4 @@ pub mod Session
 pub mod Collected
 pub mod ConfiguredLaws
 pub mod Rechecked
+pub mod Text

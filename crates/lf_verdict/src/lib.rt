@@ -23,6 +23,7 @@ mod shape_check;
 mod standing;
 mod standing_new;
 mod standing_verdict;
+mod text;
 
 pub use answer::{Fault, HeaderField, Refusal, Verdict};
 pub use collected::collected_logs_are_in_order;

@@ -1,0 +1,127 @@
+//! The texts of faults and refusals.
+
+ghost use Rattle.std.specs.Prelude.{◌≡◌, Some};
+ghost use Rattle.lf_verdict.specs.Text.{rule_text, field_text, logs_text, fault_text, refusal_text};
+
+use crate::answer::{Fault, HeaderField, Refusal};
+use lf_rules::{Knot, Rule};
+use std::fmt;
+
+fn name_of_rule(rule: Rule) -> &'static str
+    ensures { result.now ≡ rule_text rule }
+{
+    match rule {
+        Rule::TagRange => "TagRange",
+        Rule::TagBusy => "TagBusy",
+        Rule::NotOutstanding => "NotOutstanding",
+        Rule::NotReady => "NotReady",
+        Rule::ReplySize => "ReplySize",
+        Rule::ReplyData => "ReplyData",
+        Rule::NotHead => "NotHead",
+        Rule::NotPresent => "NotPresent",
+        Rule::Present => "Present",
+        Rule::PrimaryInFlight => "PrimaryInFlight",
+        Rule::NotInFlight => "NotInFlight",
+        Rule::RegisterRange => "RegisterRange",
+        Rule::WrongRegister => "WrongRegister",
+        Rule::RegisterBusy => "RegisterBusy",
+        Rule::MergeFull => "MergeFull",
+        Rule::NeedlessStall => "NeedlessStall",
+        Rule::NotSupplied => "NotSupplied",
+        Rule::SetFull => "SetFull",
+        Rule::FillData => "FillData",
+        Rule::EvictAbsent => "EvictAbsent",
+        Rule::EvictMask => "EvictMask",
+        Rule::EvictData => "EvictData",
+        Rule::NotAsked => "NotAsked",
+        Rule::SecondAbsent => "SecondAbsent",
+        Rule::SecondPresent => "SecondPresent",
+        Rule::NotFetched => "NotFetched",
+        Rule::Inclusion => "Inclusion",
+        Rule::FenceBusy => "FenceBusy",
+    }
+}
+
+impl HeaderField {
+    fn name(self) -> &'static str
+        ensures { result.now ≡ field_text self }
+    {
+        match self {
+            HeaderField::Ports => "Ports",
+            HeaderField::Banks => "Banks",
+            HeaderField::Block => "Block",
+            HeaderField::Factor => "Factor",
+        }
+    }
+}
+
+/// The name of the field.
+impl fmt::Display for HeaderField {
+    ghost output = { λ field. Some (field_text field) };
+
+    fn fmt<W: fmt::Write>(&self, f: &mut fmt::Formatter<W>) -> fmt::Result {
+        let name = self.name();
+        write!(f, "{name}")
+    }
+}
+
+/// The logs of a ring, with commas between.
+#[derive(Clone, Copy)]
+struct RingLogs<'a>(&'a [Knot]);
+
+impl fmt::Display for RingLogs<'_> {
+    ghost output = { λ r. Some (logs_text r.0.now) };
+
+    fn fmt<W: fmt::Write>(&self, f: &mut fmt::Formatter<W>) -> fmt::Result {
+        let Some((first, others)) = self.0.split_first() else {
+            return Ok(());
+        };
+        let log = first.log;
+        write!(f, "{log}")?;
+        for knot in others {
+            let log = knot.log;
+            write!(f, ",{log}")?;
+        }
+        Ok(())
+    }
+}
+
+/// What a no says: the place, and the rule or the logs.
+impl fmt::Display for Fault {
+    ghost output = { λ fault. Some (fault_text fault) };
+
+    fn fmt<W: fmt::Write>(&self, f: &mut fmt::Formatter<W>) -> fmt::Result {
+        match self {
+            Fault::Missing { bank, k } => write!(f, "numbering bank={bank} missing={k}"),
+            Fault::Double { bank, k } => write!(f, "numbering bank={bank} double={k}"),
+            Fault::Port { port, at, rule } => {
+                let name = name_of_rule(*rule);
+                write!(f, "port={port} event={at} rule={name}")
+            }
+            Fault::Bank { bank, number, rule } => {
+                let name = name_of_rule(*rule);
+                write!(f, "bank={bank} number={number} rule={name}")
+            }
+            Fault::Cycle(ring) => {
+                let logs = RingLogs(ring.as_slice());
+                write!(f, "cycle logs={logs}")
+            }
+        }
+    }
+}
+
+/// What a refusal says: of what kind it is, and what was found there.
+impl fmt::Display for Refusal {
+    ghost output = { λ refusal. Some (refusal_text refusal) };
+
+    fn fmt<W: fmt::Write>(&self, f: &mut fmt::Formatter<W>) -> fmt::Result {
+        match self {
+            Refusal::Workers(n) => write!(f, "workers {n}"),
+            Refusal::Config(fault) => write!(f, "config {fault}"),
+            Refusal::Format(fault) => write!(f, "format {fault}"),
+            Refusal::Header(field) => write!(f, "header {field}"),
+            Refusal::Memory => write!(f, "memory"),
+            Refusal::Thread => write!(f, "thread"),
+        }
+    }
+}
