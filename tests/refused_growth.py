@@ -8,8 +8,10 @@ The programs are those that `rt run` in crates/score and `rt test` in each crate
 (cc, or the one that CC names), for a library that refuses one call of malloc or of pthread_create. A run of the
 program must print `refused memory`, or `refused thread` where a thread was refused. Of the tests, those of
 `TOLD` must fail and name the want of memory, and those of `KEPT` must pass whichever growth is refused. Runs of
-`demo` are tried at some growths alone, since their number changes from run to run."""
+`demo` are tried at some growths alone, since their number changes from run to run. A test of which no crate in out/
+has the name is told as not built."""
 
+import glob
 import os
 import re
 import subprocess
@@ -77,32 +79,27 @@ COMMANDS = [
 # Where more workers are taken, the making of a thread is refused too.
 WITH_WORKERS = ("check", "four_banks.toml", "lowest_bank.lfts", "no bank=1 number=0 rule=NotHead")
 
-# Crates, each with tests that fail where a growth is refused.
+# Tests that fail where a growth is refused, in whichever crates have one of the name.
 TOLD = [
-    ("lf_config", "tests::c1_is_read_whole"),
-    ("lf_model", "tests::recheck_orders"),
-    ("lf_codec", "tests::encode_and_skeletons"),
-    ("lf_codec", "tests::initial_memory"),
-    ("lf_logs", "tests::encode_and_skeletons"),
-    ("lf_logs", "tests::gaps_and_doubles"),
-    ("lf_logs", "tests::many_records_before_their_turn"),
-    ("lf_join", "tests::least_order"),
-    ("lf_replay", "tests::load_merges_behind_store_by_replay"),
-    ("lf_stats", "tests::statistics_of_three"),
-    ("lf_verdict", "tests::empty_trace"),
-    ("lf_verdict", "tests::load_misses_both_levels"),
-    ("lf_verdict", "tests::cycle_of_two_logs"),
-    ("lf_verdict", "tests::lowest_bank_any_workers"),
-    ("lf_verdict", "tests::the_configuration_is_read"),
-    ("score", "tests::examples::load_merges_behind_store"),
-    ("score", "tests::statistics::statistics_of_three"),
+    "c1_is_read_whole",
+    "recheck_orders",
+    "encode_and_skeletons",
+    "gaps_and_doubles",
+    "many_records_before_their_turn",
+    "least_order",
+    "load_merges_behind_store_by_replay",
+    "the_configuration_is_read",
+    "lowest_bank_any_workers",
 ]
+
+# The same of one crate: those of `score` are the program's runs above.
+TOLD_BY_VERDICT = ["empty_trace", "load_misses_both_levels", "cycle_of_two_logs"]
 
 # Tests of what is left after a refusal, which pass.
 KEPT = [
-    ("lf_recorder", "tests::growth::refused_growth_of_ten_events"),
-    ("lf_replay", "tests::growth::refused_growth_of_a_step"),
-    ("lf_verdict", "tests::growth::refused_growth_of_a_session"),
+    "refused_growth_of_ten_events",
+    "refused_growth_of_a_step",
+    "refused_growth_of_a_session",
 ]
 
 
@@ -137,10 +134,6 @@ class Runs:
         """Refuses each growth in turn. `judge` says what is wrong with a run, or None."""
         if self.word not in name:
             return
-        if not os.path.exists(words[0]):
-            self.missing += 1
-            print(f"{name}: {os.path.relpath(words[0], TOP)} is not built", flush=True)
-            return
         refused, n = 0, 0
         while True:
             n = n + 1 if numbers is None else next(numbers, 0)
@@ -169,10 +162,10 @@ def judge_line(line):
 
 def judge_told(ran, told):
     passed = ran.returncode == 0
-    said = ran.stdout.decode(errors="replace") + ran.stderr.decode(errors="replace")
+    said = (ran.stdout + ran.stderr).decode(errors="replace")
     if not told:
         return None if passed else said
-    return None if not passed and re.search(r"memory|Memory|Alloc|Thread", said) else said
+    return None if not passed and re.search(r"[mM]emory|Alloc(Failed|Error)|Thread", said) else said
 
 
 def judge_kept(ran, _):
@@ -186,25 +179,55 @@ def judge_demo(ran, told):
     return None if text in ("refused memory\n", "refused thread\n") and ran.returncode == 2 else text
 
 
+def tests_by_name():
+    """The tests that are built: for each name of a function the programs and the full names."""
+    found = {}
+    for program in sorted(glob.glob(os.path.join(TOP, "crates", "*", "out", "*_tests"))):
+        listed = subprocess.run([program, "--list"], capture_output=True, text=True).stdout
+        for test in re.findall(r"^(\S+): test$", listed, re.M):
+            found.setdefault(test.split("::")[-1], []).append((program, test))
+    return found
+
+
+def sweep_program(runs, folder):
+    score = os.path.join(TOP, "crates", "score", "out", "score")
+    if not os.path.exists(score):
+        runs.missing += 1
+        print("score is not built", flush=True)
+        return
+    for command, config, trace, line in COMMANDS:
+        words = [score, command, os.path.join(EXAMPLES, config), os.path.join(EXAMPLES, trace)]
+        runs.sweep(f"score {command} {trace}", words, judge_line(line), folder)
+    command, config, trace, line = WITH_WORKERS
+    words = [score, command, os.path.join(EXAMPLES, config), os.path.join(EXAMPLES, trace), "--workers", "2"]
+    if subprocess.run(words, capture_output=True).stdout.startswith(line.encode()):
+        runs.sweep(f"score {command} {trace} --workers 2", words, judge_line(line), folder)
+    for shape in ("c1.toml", "two_ports.toml", "four_ports_wide.toml"):
+        words = [score, "demo", os.path.join(EXAMPLES, shape), os.path.join(folder, "demo.lfts")]
+        numbers = iter([*range(1, 150), *range(150, 3000, 37)])
+        runs.sweep(f"score demo {shape}", words, judge_demo, folder, numbers)
+
+
+def sweep_tests(runs, folder):
+    built = tests_by_name()
+    for name in TOLD + TOLD_BY_VERDICT + KEPT:
+        judge = judge_kept if name in KEPT else judge_told
+        programs = [it for it in built.get(name, []) if not it[0].endswith("/score_tests")]
+        if name in TOLD_BY_VERDICT:
+            programs = [it for it in programs if "/lf_verdict" in it[0]]
+        if not programs and runs.word in name:
+            runs.missing += 1
+            print(f"{name} is not built", flush=True)
+        for program, test in programs:
+            crate = os.path.basename(program).removesuffix("_tests")
+            runs.sweep(f"{crate} {test}", [program, test], judge, folder)
+
+
 def main():
     with tempfile.TemporaryDirectory() as folder:
         runs = Runs(shim_in(folder), sys.argv[1] if len(sys.argv) > 1 else "")
-        score = os.path.join(TOP, "crates", "score", "out", "score")
-        for command, config, trace, line in COMMANDS:
-            words = [score, command, os.path.join(EXAMPLES, config), os.path.join(EXAMPLES, trace)]
-            runs.sweep(f"score {command} {trace}", words, judge_line(line), folder)
-        command, config, trace, line = WITH_WORKERS
-        words = [score, command, os.path.join(EXAMPLES, config), os.path.join(EXAMPLES, trace), "--workers", "2"]
-        if os.path.exists(score) and subprocess.run(words, capture_output=True).stdout.startswith(line.encode()):
-            runs.sweep(f"score {command} {trace} --workers 2", words, judge_line(line), folder)
-        for shape in ("c1.toml", "two_ports.toml", "four_ports_wide.toml"):
-            words = [score, "demo", os.path.join(EXAMPLES, shape), os.path.join(folder, "demo.lfts")]
-            numbers = iter([*range(1, 150), *range(150, 3000, 37)])
-            runs.sweep(f"score demo {shape}", words, judge_demo, folder, numbers)
-        for tests, judge in ((TOLD, judge_told), (KEPT, judge_kept)):
-            for crate, test in tests:
-                words = [os.path.join(TOP, "crates", crate, "out", f"{crate}_tests"), test]
-                runs.sweep(f"{crate} {test}", words, judge, folder)
+        sweep_program(runs, folder)
+        sweep_tests(runs, folder)
         print(f"runs={runs.count} not_answered={runs.faults} not_built={runs.missing}")
         return 1 if runs.faults or runs.missing else 0
 
