@@ -12,10 +12,15 @@ mod bank_judge;
 mod collected;
 mod configured;
 mod configured_laws;
+mod gathering;
 mod halt;
 mod header;
 mod intake;
+mod judge;
 mod laws;
+mod numbers;
+mod order;
+mod parts;
 mod port_judge;
 mod rechecked;
 mod session;
@@ -29,7 +34,10 @@ pub use answer::{Fault, HeaderField, Refusal, Verdict};
 pub use collected::collected_logs_are_in_order;
 pub use configured::check;
 pub use configured_laws::{mixtures_are_alike_for, verdicts_for_are_one};
-pub use laws::{mixtures_are_alike, no_has_no_run, verdicts_are_one, yes_is_legal};
+pub use laws::{
+    mixtures_are_alike, no_has_no_run, verdicts_are_one, workers_are_alike, yes_is_legal,
+};
+pub use lf_pool::{Gate, NoGate, is_worker_count};
 pub use rechecked::yes_is_rechecked;
 pub use session::Session;
 pub use shape_check::check_shape;
