@@ -12,6 +12,3 @@ mod roster;
 pub use check::check_cycle;
 pub use laws::joins_are_one;
 pub use order::{JoinFault, join};
-
-#[cfg(test)]
-mod tests;

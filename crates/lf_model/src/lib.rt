@@ -14,8 +14,6 @@ mod plain;
 mod ring;
 mod rule;
 mod shape;
-#[cfg(test)]
-mod tests;
 
 pub use event::{Block, Event, Logs, Masks, Memory, NO_BANK, Op, Record, WideBlock};
 pub use fitting::fits;

@@ -14,6 +14,3 @@ mod rule;
 
 pub use desk::{Desk, LogSeat};
 pub use fault::{CloseFault, OpenFault, RecordFault};
-
-#[cfg(test)]
-mod tests;

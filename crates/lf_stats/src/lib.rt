@@ -12,6 +12,3 @@ mod text;
 
 pub use counts::{BankStats, Stats};
 pub use statistics::stats;
-
-#[cfg(test)]
-mod tests;
