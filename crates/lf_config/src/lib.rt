@@ -9,8 +9,6 @@ mod key;
 mod lookup;
 mod reading;
 mod rules;
-#[cfg(test)]
-mod tests;
 mod text;
 mod told;
 mod unknown;

@@ -13,6 +13,3 @@ pub use check::check_cycle;
 pub use laws::joins_are_one;
 pub use lf_rules::{Knot, Ring, Skeleton};
 pub use order::{JoinFault, join};
-
-#[cfg(test)]
-mod tests;

@@ -11,8 +11,6 @@ mod level;
 mod lines;
 mod lines_one;
 mod lines_two;
-#[cfg(test)]
-mod tests;
 
 pub use fault::LineFault;
 pub use level::{Level, One, Two};

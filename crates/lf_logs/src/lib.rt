@@ -22,6 +22,3 @@ pub use port::port_replay;
 pub use port_step::PortStep;
 pub use reorder::Reorder;
 pub use skeleton::skeletons;
-
-#[cfg(test)]
-mod tests;

@@ -8,8 +8,6 @@
 mod laws;
 mod outcome;
 mod plain;
-#[cfg(test)]
-mod tests;
 
 pub use laws::rechecks_are_one;
 pub use lf_rules::{

@@ -14,8 +14,6 @@ mod level_one;
 mod level_two;
 mod organisation;
 mod target;
-#[cfg(test)]
-mod tests;
 
 pub use explicit::{Explicit, ExplicitFile};
 pub use fault::RegisterFault;

@@ -15,6 +15,3 @@ mod rule;
 pub use desk::{Desk, LogSeat};
 pub use fault::{CloseFault, OpenFault, RecordFault};
 pub use lf_rules::NoMemory;
-
-#[cfg(test)]
-mod tests;

@@ -13,6 +13,3 @@ mod text;
 pub use counts::{BankStats, Stats};
 pub use lf_rules::NoMemory;
 pub use statistics::stats;
-
-#[cfg(test)]
-mod tests;

@@ -1,0 +1,78 @@
+//! A happy call of each function, at both levels, and each refusal.
+
+use lf_levels::{LineFault, Lines, One, Two};
+use lf_rules::Mask;
+use lf_samples::masks;
+use std::test::Fail;
+
+/// Two sets of two ways in one of two banks: block 0 and block 4 are in set 0, block 2 is in set 1.
+#[test]
+fn lines_come_and_go(rt: HostRuntime) -> Result<(), Fail> {
+    let mut lines: Lines<One> = Lines::new(rt.alloc(), 2, 2, 2, 1).ok().ok_or("no memory")?;
+    assert_eq!(rt; lines.dirty(0), None);
+    assert!(rt; !lines.has(0));
+    assert_eq!(rt; lines.fill(0, Mask(3)), Ok(()));
+    assert_eq!(rt; lines.dirty(0), Some(Mask(3)));
+    assert!(rt; lines.has(0));
+    lines.mark(0, Mask(4));
+    assert_eq!(rt; lines.dirty(0), Some(Mask(7)));
+    assert_eq!(rt; lines.evict(0, Mask(3)), Err(LineFault::EvictMask));
+    assert_eq!(rt; lines.evict(4, Mask(0)), Err(LineFault::EvictAbsent));
+    assert_eq!(rt; lines.evict(0, Mask(7)), Ok(()));
+    assert!(rt; !lines.has(0));
+    Ok(())
+}
+
+#[test]
+fn a_set_has_as_many_lines_as_ways(rt: HostRuntime) -> Result<(), Fail> {
+    let mut lines: Lines<Two> = Lines::new(rt.alloc(), 2, 2, 2, 1).ok().ok_or("no memory")?;
+    for block in [0, 4] {
+        assert!(rt; !lines.has(block));
+        assert!(rt; !lines.full(8));
+        assert_eq!(rt; lines.fill(block, masks("00")), Ok(()));
+    }
+    assert!(rt; lines.full(8));
+    assert!(rt; !lines.full(2));
+    assert!(rt; !lines.has(8));
+    assert_eq!(rt; lines.fill(8, masks("00")), Err(LineFault::SetFull));
+    assert_eq!(rt; lines.evict(4, &masks("00")), Ok(()));
+    assert!(rt; !lines.full(8));
+    Ok(())
+}
+
+#[test]
+fn level_two_keeps_what_level_one_holds(rt: HostRuntime) -> Result<(), Fail> {
+    let mut inner: Lines<One> = Lines::new(rt.alloc(), 1, 1, 1, 1).ok().ok_or("no memory")?;
+    let mut outer: Lines<Two> = Lines::new(rt.alloc(), 1, 2, 1, 1).ok().ok_or("no memory")?;
+    assert!(rt; !outer.has(5));
+    assert_eq!(rt; outer.fill(5, masks("00")), Ok(()));
+    assert!(rt; outer.may_leave(5, &inner, false));
+    assert!(rt; !outer.may_leave(5, &inner, true));
+    assert!(rt; !inner.has(5));
+    assert_eq!(rt; inner.fill(5, Mask(0)), Ok(()));
+    assert!(rt; !outer.may_leave(5, &inner, false));
+    Ok(())
+}
+
+/// Second-level blocks of two blocks: second-level block 5 has the blocks 10 and 11.
+#[test]
+fn each_block_of_a_wide_line_has_a_mask(rt: HostRuntime) -> Result<(), Fail> {
+    let mut inner: Lines<One> = Lines::new(rt.alloc(), 1, 1, 1, 2).ok().ok_or("no memory")?;
+    let mut outer: Lines<Two> = Lines::new(rt.alloc(), 1, 2, 1, 2).ok().ok_or("no memory")?;
+    assert!(rt; !outer.has(5));
+    assert_eq!(rt; outer.fill(5, masks("00,02")), Ok(()));
+    assert!(rt; outer.has(5));
+    outer.mark(5, &masks("00,01"));
+    assert!(rt; outer.dirty(5) == Some(&masks("00,03")));
+    assert!(rt; outer.may_leave(5, &inner, false));
+    assert!(rt; !inner.has(11));
+    assert_eq!(rt; inner.fill(11, Mask(0)), Ok(()));
+    assert!(rt; !outer.may_leave(5, &inner, false));
+    assert_eq!(rt; outer.evict(5, &masks("03,00")), Err(LineFault::EvictMask));
+    assert_eq!(rt;
+        outer.evict(4, &masks("00,00")),
+        Err(LineFault::EvictAbsent)
+    );
+    assert_eq!(rt; outer.evict(5, &masks("00,03")), Ok(()));
+    Ok(())
+}

@@ -1,0 +1,41 @@
+//! Calls of masks, with answers worked out by hand.
+
+ghost use Rattle.std.specs.Prelude.{◌≡◌, length};
+
+use lf_rules::{Block, Mask, agree_off, overlay};
+
+fn block_of(first: u8, second: u8, third: u8) -> Block
+    ensures { length result.items ≡ 3 }
+{
+    let mut block = Block::new();
+    block.push(first);
+    block.push(second);
+    block.push(third);
+    block
+}
+
+#[test]
+fn masks_by_their_bytes(rt: HostRuntime) {
+    for (offset, size, want) in [
+        (0, 0, 0),
+        (2, 2, 0b1100),
+        (0, 64, u64::MAX),
+        (56, 8, 0xff << 56),
+    ] {
+        assert_eq!(rt; Mask::of(offset, size), Mask(want));
+    }
+    let low = Mask::of(0, 2);
+    assert_eq!(rt; low.union(Mask::of(4, 1)), Mask(0b1_0011));
+    assert!(rt; low.covers(Mask::of(1, 1)));
+    assert!(rt; !low.covers(Mask::of(1, 2)));
+}
+
+#[test]
+fn blocks_under_a_mask(rt: HostRuntime) {
+    let old = block_of(1, 2, 3);
+    let new = block_of(1, 9, 3);
+    assert!(rt; agree_off(&old, &new, Mask::of(1, 1)));
+    assert!(rt; !agree_off(&old, &new, Mask::of(0, 1)));
+    assert!(rt; overlay(&old, &new, Mask::of(1, 2)) == new);
+    assert!(rt; overlay(&old, &new, Mask::of(2, 1)) == old);
+}

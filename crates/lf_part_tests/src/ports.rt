@@ -1,0 +1,79 @@
+//! The rules of a port.
+
+use lf_logs::{PortStep, port_replay};
+use lf_rules::{Outcome, Rule};
+use lf_samples::{C1, record, records};
+use std::alloc::Global;
+use std::process::Abort;
+use std::test::Fail;
+
+const LOAD: &str = "L 0 8@0";
+
+const REPLY: &str = "R 0=0000000000000000";
+
+/// Fails where `port_replay` answers otherwise for these events of a port.
+fn assert_port<T: Abort + AllocGlobal>(
+    rt: &T,
+    events: &[&str],
+    answer: Outcome,
+) -> Result<(), Fail> {
+    let records = records(rt.alloc(), &C1, events)?;
+    assert!(rt; records.len() <= 1 << 24);
+    assert_eq!(rt; port_replay(&C1, &records), answer);
+    Ok(())
+}
+
+#[test]
+fn tags_of_a_port(rt: HostRuntime) -> Result<(), Fail> {
+    let busy = Outcome::Broken(1, Rule::TagBusy);
+    assert_port(&rt, &[LOAD, LOAD], busy)?;
+    assert_port(&rt, &[LOAD, REPLY, LOAD], Outcome::Passed)?;
+    let twice = Outcome::Broken(2, Rule::NotOutstanding);
+    assert_port(&rt, &[LOAD, REPLY, REPLY], twice)?;
+    let out_of_range = Outcome::Broken(0, Rule::TagRange);
+    assert_port(&rt, &["L 4 8@0"], out_of_range)
+}
+
+#[test]
+fn fences_of_a_port(rt: HostRuntime) -> Result<(), Fail> {
+    assert_port(&rt, &[LOAD, REPLY, "F"], Outcome::Passed)?;
+    assert_port(&rt, &["F", LOAD, REPLY], Outcome::Passed)?;
+    let busy = Outcome::Broken(1, Rule::FenceBusy);
+    assert_port(&rt, &[LOAD, "F", REPLY], busy)?;
+    assert_port(&rt, &["L 3 8@0", "F"], busy)
+}
+
+/// What a step of port 0 answers for each of these events.
+fn answers(alloc: Global, events: &[&str]) -> Result<Vec<Result<(), Rule>>, Fail> {
+    let mut answers = Vec::new(alloc);
+    let mut step = PortStep::new(&C1, 0);
+    for text in events {
+        let item = record(alloc, &C1, 0, 0, 0, text)?;
+        answers.push(step.apply(&item))?;
+    }
+    Ok(answers)
+}
+
+/// A record that breaks a rule leaves all as it was.
+#[test]
+fn tags_of_a_port_as_they_come(rt: HostRuntime) -> Result<(), Fail> {
+    let events = [LOAD, LOAD, REPLY, REPLY, LOAD, "L 4 8@0"];
+    let told = [
+        Ok(()),
+        Err(Rule::TagBusy),
+        Ok(()),
+        Err(Rule::NotOutstanding),
+        Ok(()),
+        Err(Rule::TagRange),
+    ];
+    assert_eq!(rt; answers(rt.alloc(), &events)?.as_slice(), told.as_slice());
+    Ok(())
+}
+
+#[test]
+fn fences_of_a_port_as_they_come(rt: HostRuntime) -> Result<(), Fail> {
+    let events = ["F", LOAD, "F", REPLY, "F"];
+    let told = [Ok(()), Ok(()), Err(Rule::FenceBusy), Ok(()), Ok(())];
+    assert_eq!(rt; answers(rt.alloc(), &events)?.as_slice(), told.as_slice());
+    Ok(())
+}

@@ -1,0 +1,233 @@
+//! A happy call of each function, for each organisation and both targets, and the order of a release.
+
+ghost use Rattle.std.specs.Prelude.{◌≡◌, ◌<◌, true};
+ghost use Rattle.lf_rules.specs.InRange.{IsOrganisation};
+
+use lf_mshr::{
+    Explicit, Implicit, Inverted, Organisation, RegisterFault, Request1, Request2, Target, Targets,
+};
+use lf_rules::{Mask, OrgShape, Rule};
+use std::alloc::Global;
+use std::process::Abort;
+use std::test::Fail;
+
+/// What a file answers for a target of a block that no register holds.
+fn assert_absent<O: Organisation>(
+    rt: &impl Abort,
+    file: &mut O::File,
+    register: u16,
+    target: O::Target,
+) {
+    assert!(rt; !O::holds(file, 0));
+    assert!(rt; O::room(file, 0, &target));
+    assert_eq!(rt;
+        O::merge(file, register, 0, target),
+        Err(RegisterFault::NotInFlight)
+    );
+    assert_eq!(rt; O::primary(file, 64, 0, target), Err(RegisterFault::Range));
+    assert_eq!(rt; O::primary_fault(file, register, 0, &target), None);
+}
+
+/// The merge of a second target, after which there is no room for another.
+fn assert_merged<O: Organisation>(
+    rt: &impl Abort,
+    file: &mut O::File,
+    register: u16,
+    target: O::Target,
+) {
+    assert_eq!(rt;
+        O::primary(file, register, 0, target),
+        Err(RegisterFault::InFlight)
+    );
+    assert!(rt; O::room(file, 0, &target));
+    assert_eq!(rt; O::merge_fault(file, register, 0, &target), None);
+    assert_eq!(rt; O::merge(file, register, 0, target), Ok(()));
+    assert!(rt; !O::room(file, 0, &target));
+    assert_eq!(rt;
+        O::merge_fault(file, register, 0, &target),
+        Some(RegisterFault::Full)
+    );
+    assert_eq!(rt; O::store_bytes(file, 0), Mask(0));
+}
+
+/// The release of so many targets.
+fn assert_released<O: Organisation>(rt: &impl Abort, file: &mut O::File, count: usize) {
+    let mut targets = Targets::new();
+    O::release_into(file, 0, &mut targets);
+    assert_eq!(rt; targets.len(), count);
+    assert!(rt; !O::holds(file, 0));
+}
+
+/// A primary miss to block 0, a merge, and the release of both.
+fn miss_twice<O: Organisation>(
+    rt: &impl Abort,
+    alloc: Global,
+    organisation: &OrgShape,
+    first: O::Target,
+    second: O::Target,
+) -> Result<(), Fail>
+    requires names { O.names organisation.now ≡ true }
+    requires in_range { IsOrganisation organisation.now }
+{
+    let mut file = O::new(alloc, organisation, 4).ok().ok_or("no memory")?;
+    let register = first.destination();
+    let joined = if O::SHARES {
+        second.destination()
+    } else {
+        register
+    };
+    assert_absent::<O>(rt, &mut file, register, first);
+    assert_eq!(rt; O::primary(&mut file, register, 0, first), Ok(()));
+    assert!(rt; O::holds(&file, 0));
+    assert_merged::<O>(rt, &mut file, joined, second);
+    assert_released::<O>(rt, &mut file, 2);
+    assert_released::<O>(rt, &mut file, 0);
+    Ok(())
+}
+
+fn load(position: u8, destination: u16) -> Request1
+    requires { position < 8 }
+    ensures place { result.position ≡ position }
+    ensures reply { result.destination ≡ destination }
+{
+    Request1 {
+        position,
+        destination,
+        is_store: false,
+        bytes: Mask(0xff),
+        value: 7,
+    }
+}
+
+#[test]
+fn implicit_files(rt: HostRuntime) -> Result<(), Fail> {
+    let organisation = OrgShape::Implicit { registers: 4 };
+    miss_twice::<Implicit<Request1>>(&rt, rt.alloc(), &organisation, load(0, 1), load(1, 2))?;
+    let first = Request2 {
+        position: 0,
+        destination: 1,
+    };
+    let second = Request2 {
+        position: 7,
+        destination: 2,
+    };
+    miss_twice::<Implicit<Request2>>(&rt, rt.alloc(), &organisation, first, second)
+}
+
+#[test]
+fn explicit_files(rt: HostRuntime) -> Result<(), Fail> {
+    let organisation = OrgShape::Explicit {
+        registers: 4,
+        entries: 2,
+    };
+    miss_twice::<Explicit<Request1>>(&rt, rt.alloc(), &organisation, load(0, 1), load(0, 2))?;
+    let first = Request2 {
+        position: 0,
+        destination: 1,
+    };
+    let second = Request2 {
+        position: 0,
+        destination: 2,
+    };
+    miss_twice::<Explicit<Request2>>(&rt, rt.alloc(), &organisation, first, second)
+}
+
+#[test]
+fn inverted_files(rt: HostRuntime) -> Result<(), Fail> {
+    let organisation = OrgShape::Inverted;
+    miss_twice::<Inverted<Request1>>(&rt, rt.alloc(), &organisation, load(0, 1), load(0, 2))?;
+    let first = Request2 {
+        position: 0,
+        destination: 1,
+    };
+    let second = Request2 {
+        position: 0,
+        destination: 2,
+    };
+    miss_twice::<Inverted<Request2>>(&rt, rt.alloc(), &organisation, first, second)
+}
+
+#[test]
+fn inverted_release_order(rt: HostRuntime) -> Result<(), Fail> {
+    type Registers = Inverted<Request1>;
+    let mut file = Registers::new(rt.alloc(), &OrgShape::Inverted, 4)
+        .ok()
+        .ok_or("no memory")?;
+    assert_eq!(rt; Registers::primary(&mut file, 1, 0, load(0, 1)), Ok(()));
+    assert_eq!(rt; Registers::merge(&mut file, 0, 0, load(0, 0)), Ok(()));
+    let targets = Registers::release(&mut file, 0);
+    assert_eq!(rt;
+        targets.as_slice(),
+        [(1, load(0, 1)), (0, load(0, 0))].as_slice()
+    );
+    assert_eq!(rt; Registers::release(&mut file, 0).len(), 0);
+    assert!(rt; !Registers::holds(&file, 0));
+    Ok(())
+}
+
+#[test]
+fn what_targets_tell(rt: HostRuntime) {
+    let store = Request1 {
+        position: 3,
+        destination: 70,
+        is_store: true,
+        bytes: Mask(0xf),
+        value: 0,
+    };
+    assert_eq!(rt;
+        (
+            store.position(),
+            store.destination(),
+            store.is_store(),
+            store.bytes()
+        ),
+        (3, 70, true, Mask(0xf))
+    );
+    let block = Request2 {
+        position: 0,
+        destination: 5,
+    };
+    assert_eq!(rt;
+        (
+            block.position(),
+            block.destination(),
+            block.is_store(),
+            block.bytes()
+        ),
+        (0, 5, false, Mask(0))
+    );
+}
+
+#[test]
+fn bytes_of_waiting_stores(rt: HostRuntime) -> Result<(), Fail> {
+    type Registers = Explicit<Request1>;
+    let organisation = OrgShape::Explicit {
+        registers: 2,
+        entries: 2,
+    };
+    let mut file = Registers::new(rt.alloc(), &organisation, 4)
+        .ok()
+        .ok_or("no memory")?;
+    let store = Request1 {
+        position: 0,
+        destination: 0,
+        is_store: true,
+        bytes: Mask(0x3),
+        value: 0,
+    };
+    assert_eq!(rt; Registers::primary(&mut file, 0, 7, store), Ok(()));
+    assert_eq!(rt; Registers::merge(&mut file, 0, 7, load(0, 1)), Ok(()));
+    assert_eq!(rt; Registers::store_bytes(&file, 7), Mask(0x3));
+    assert_eq!(rt; Registers::store_bytes(&file, 8), Mask(0));
+    Ok(())
+}
+
+#[test]
+fn rules_of_faults(rt: HostRuntime) {
+    assert_eq!(rt; RegisterFault::InFlight.rule(), Rule::PrimaryInFlight);
+    assert_eq!(rt; RegisterFault::NotInFlight.rule(), Rule::NotInFlight);
+    assert_eq!(rt; RegisterFault::Range.rule(), Rule::RegisterRange);
+    assert_eq!(rt; RegisterFault::Wrong.rule(), Rule::WrongRegister);
+    assert_eq!(rt; RegisterFault::Busy.rule(), Rule::RegisterBusy);
+    assert_eq!(rt; RegisterFault::Full.rule(), Rule::MergeFull);
+}

@@ -1,0 +1,143 @@
+//! The records of a bank by their numbers, while they come.
+
+ghost use Rattle.std.specs.Prelude.{◌≡◌, IfOk};
+
+use lf_logs::{NumberFault, Reorder};
+use lf_rules::Record;
+use lf_samples::{C1, record};
+use std::alloc::Global;
+use std::test::Fail;
+
+/// A load of block 0 at bank 0.
+fn load(alloc: Global, tag: u8, number: u32) -> Result<Record, Fail>
+    ensures { IfOk result (λ r. r.bank ≡ 0) }
+{
+    let text = format!(in alloc; "L {tag} 8@0")?;
+    record(alloc, &C1, 0, 0, number, text.as_str())
+}
+
+/// Puts loads with these tags and numbers.
+fn put(alloc: Global, order: &mut Reorder, loads: &[(u8, u32)]) -> Result<(), Fail>
+    requires { order.old.bank ≡ 0 }
+    ensures { order.new.bank ≡ 0 }
+{
+    for item in loads {
+        let (tag, number) = *item;
+        order.put(load(alloc, tag, number)?)?;
+    }
+    Ok(())
+}
+
+/// Whether these loads come out, and then none.
+fn gives(alloc: Global, order: &mut Reorder, loads: &[(u8, u32)]) -> Result<bool, Fail>
+    requires { order.old.bank ≡ 0 }
+    ensures { order.new.bank ≡ 0 }
+{
+    for item in loads {
+        let (tag, number) = *item;
+        if order.next() != Some(load(alloc, tag, number)?) {
+            return Ok(false);
+        }
+    }
+    Ok(order.next().is_none())
+}
+
+/// Whether a load with this tag and number passes.
+fn passes(alloc: Global, order: &mut Reorder, tag: u8, number: u32) -> Result<bool, Fail>
+    ensures { order.new.bank ≡ order.old.bank }
+{
+    Ok(order.pass(&load(alloc, tag, number)?))
+}
+
+#[test]
+fn records_come_out_by_number(rt: HostRuntime) -> Result<(), Fail> {
+    let mut order = Reorder::new(rt.alloc(), 0);
+    assert!(rt; gives(rt.alloc(), &mut order, &[])?);
+    put(rt.alloc(), &mut order, &[(2, 2), (1, 1)])?;
+    assert!(rt; gives(rt.alloc(), &mut order, &[])?);
+    put(rt.alloc(), &mut order, &[(0, 0)])?;
+    assert!(rt; gives(rt.alloc(), &mut order, &[(0, 0), (1, 1), (2, 2)])?);
+    assert_eq!(rt; order.fault(), None);
+    Ok(())
+}
+
+#[test]
+fn records_in_their_turn_pass(rt: HostRuntime) -> Result<(), Fail> {
+    let mut order = Reorder::new(rt.alloc(), 0);
+    assert!(rt; !passes(rt.alloc(), &mut order, 1, 1)?);
+    assert!(rt; passes(rt.alloc(), &mut order, 0, 0)?);
+    assert!(rt; !passes(rt.alloc(), &mut order, 2, 0)?);
+    put(rt.alloc(), &mut order, &[(1, 1)])?;
+    assert!(rt; !passes(rt.alloc(), &mut order, 2, 1)?);
+    assert!(rt; gives(rt.alloc(), &mut order, &[(1, 1)])?);
+    assert_eq!(rt; order.fault(), None);
+    Ok(())
+}
+
+#[test]
+fn first_of_a_double_is_used(rt: HostRuntime) -> Result<(), Fail> {
+    let mut order = Reorder::new(rt.alloc(), 0);
+    put(rt.alloc(), &mut order, &[(1, 1), (2, 1), (0, 0), (3, 0)])?;
+    assert_eq!(rt; order.fault(), Some(NumberFault::Double(0)));
+    assert!(rt; gives(rt.alloc(), &mut order, &[(0, 0), (1, 1)])?);
+    put(rt.alloc(), &mut order, &[(0, 0)])?;
+    assert_eq!(rt; order.fault(), Some(NumberFault::Double(0)));
+    assert!(rt; gives(rt.alloc(), &mut order, &[])?);
+    Ok(())
+}
+
+#[test]
+fn gaps_and_doubles_as_they_come(rt: HostRuntime) -> Result<(), Fail> {
+    for (numbers, fault) in [
+        ([0, 1, 2], None),
+        ([2, 0, 1], None),
+        ([0, 1, 3], Some(NumberFault::Missing(2))),
+        ([0, 1, 1], Some(NumberFault::Double(1))),
+        ([0, 2, 2], Some(NumberFault::Missing(1))),
+        ([2, 0, 0], Some(NumberFault::Double(0))),
+        ([0, 1, u32::MAX], Some(NumberFault::Missing(2))),
+    ] {
+        let [a, b, c] = numbers;
+        let mut order = Reorder::new(rt.alloc(), 0);
+        put(rt.alloc(), &mut order, &[(0, a), (1, b), (2, c)])?;
+        assert_eq!(rt; order.fault(), fault);
+    }
+    Ok(())
+}
+
+/// How many records wait at once in the test of many.
+const MANY: u32 = 3000;
+
+#[test]
+fn many_records_before_their_turn(rt: HostRuntime) -> Result<(), Fail> {
+    let mut order = Reorder::new(rt.alloc(), 0);
+    for number in (1..MANY).rev() {
+        order.put(load(rt.alloc(), 0, number)?)?;
+    }
+    assert_eq!(rt; order.next(), None);
+    assert_eq!(rt; order.fault(), Some(NumberFault::Missing(0)));
+    put(rt.alloc(), &mut order, &[(0, 0)])?;
+    for number in 0..MANY {
+        let next = load(rt.alloc(), 0, number)?;
+        assert_eq!(rt; order.next(), Some(next));
+    }
+    assert_eq!(rt; order.next(), None);
+    Ok(())
+}
+
+#[test]
+fn records_far_apart(rt: HostRuntime) -> Result<(), Fail> {
+    let mut order = Reorder::new(rt.alloc(), 0);
+    for k in 1..=100_u32 {
+        put(rt.alloc(), &mut order, &[(0, k * 65536), (0, k)])?;
+    }
+    assert_eq!(rt; order.fault(), Some(NumberFault::Missing(0)));
+    put(rt.alloc(), &mut order, &[(0, 0)])?;
+    for number in 0..=100 {
+        let next = load(rt.alloc(), 0, number)?;
+        assert_eq!(rt; order.next(), Some(next));
+    }
+    assert_eq!(rt; order.next(), None);
+    assert_eq!(rt; order.fault(), Some(NumberFault::Missing(101)));
+    Ok(())
+}
