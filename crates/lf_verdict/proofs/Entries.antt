@@ -1,11 +1,15 @@
 -- The skeletons of the logs: whole numbers, and how long an order is.
-use Rattle.std.proofs.Common.{◌≡◌, ℕ, suc, ◌+◌, ◌<◌, ◌≤◌, Bool, true, false, cond, List, [], ◌∷◌, ◌++◌, map, length, drop, refl, sym, ◌∙◌, ap, subst, arith, inl, inr, eqb-true, sum_by}
+use Rattle.std.proofs.Common.{◌≡◌, ℕ, suc, ◌+◌, ◌*◌, ◌<◌, ◌≤◌, Bool, true, false, cond, List, [], ◌∷◌, ◌++◌, map, length, drop, refl, sym, ◌∙◌, ap, subst, arith, inl, inr, eqb-true, sum_by}
 use Rattle.std.specs.Prelude.{◌==◌}
-use Rattle.std.specs.List.{flat_map, AllByRecursion}
+use Rattle.std.specs.List.{flat_map, AllByRecursion, All}
+use Rattle.std.specs.Global.{Vec}
 use Rattle.std.proofs.lemmas.Bool.{cases_lt}
-use Rattle.std.proofs.lemmas.List.{map-append, get_or_past}
+use Rattle.std.proofs.lemmas.List.{length-map, map-append, get_or_past}
 use Rattle.std.proofs.lemmas.List.Concat.{flat_map-cons}
-use Rattle.std.proofs.lemmas.List.Sums.{sum_by-set}
+use Rattle.std.proofs.lemmas.List.Sums.{sum_by-set, sum_by-le}
+use Rattle.std.proofs.lemmas.List.Elements.{All-map, All-weaker}
+use Rattle.std.proofs.Math.Nat.{mul-le-mul_right}
+use Rattle.lf_logs.specs.Lists.{lists_of}
 use Rattle.lf_model.specs.declared.shape.Shape.{Shape}
 use Rattle.lf_model.specs.declared.event.Record.{Record}
 use Rattle.lf_model.specs.declared.event.Event.{Event}
@@ -17,16 +21,8 @@ use Rattle.lf_model.specs.Order.{log_at, after_next, Takes, entries_of}
 use Rattle.lf_model.specs.Numbers.{all_records, numbers_of, bank_numbers, IsWhole}
 use Rattle.lf_model.specs.Ring.{entry_of, skeletons_of}
 use Rattle.lf_join.specs.Join.{BanksAreWhole}
-use Rattle.lf_verdict.specs.Parts.{HasWholeNumbers}
 use Rattle.lf_verdict.specs.Judging.{AreWholeBelow}
-
--- each bank's numbers are whole, however great the bank's number is; records that name no bank have none
-abbrev pub AllAreWhole : List (List Record) → Type 0
-AllAreWhole logs = (bank : ℕ) → bank < no_bank → HasWholeNumbers logs bank
-
--- each log's records fit the shape
-abbrev pub LogsFit : Shape → List (List Record) → Type 0
-LogsFit shape logs = (log : ℕ) → AllByRecursion (Fits shape) (log_at logs log)
+use Rattle.lf_verdict.specs.Jobs.{LogsFit, AllAreWhole}
 
 -- ---- the entries of a bank carry the numbers of its records
 
@@ -106,3 +102,24 @@ order_len logs [] (x ∷ xs) taken = absurd taken
 order_len logs (log ∷ order) [] taken = absurd taken
 order_len logs (log ∷ order) (x ∷ xs) taken =
     omega (arith, order_len (after_next logs log) order xs taken.1, one_less logs log x taken.0)
+
+lists_short : (n : ℕ) (vecs : List (Vec Record)) → All (λ (v : Vec Record). length v.items ≤ n) vecs → All (λ (entries : List (ℕ × ℕ)). length entries ≤ n) (map (map entry_of) (map (λ (v : Vec Record). v.items) vecs))
+lists_short n vecs short =
+    let IsShort : List (ℕ × ℕ) → Type 0 = λ entries. length entries ≤ n in
+    let IsShortLog : List Record → Type 0 = λ rs. length (map entry_of rs) ≤ n in
+    All-map IsShort (map entry_of) (map (λ (v : Vec Record). v.items) vecs)
+    (All-map IsShortLog (λ (v : Vec Record). v.items) vecs
+    (All-weaker (λ (v : Vec Record). length v.items ≤ n) (λ (v : Vec Record). IsShortLog v.items) (λ v le. omega (arith, length-map v.items entry_of)) vecs short))
+
+-- an order of few short logs is short
+pub order_short : (vecs : Vec (Vec Record)) (order : List ℕ) (entries : List (ℕ × ℕ)) (count n : ℕ) → length vecs.items ≤ count → All (λ (v : Vec Record). length v.items ≤ n) vecs.items
+    → Takes (skeletons_of (lists_of vecs)) order entries → length order ≤ count * n
+order_short vecs order entries count n few short taken =
+    let skeletons = skeletons_of (lists_of vecs) in
+    let sum = sum_by-le length n skeletons (lists_short n vecs.items short) in
+    let len : length skeletons ≡ length vecs.items = length-map (lists_of vecs) (map entry_of) ∙ length-map vecs.items (λ (v : Vec Record). v.items) in
+    let more : length skeletons * n ≤ count * n = mul-le-mul_right n (omega (arith, len, few)) in
+    omega (arith, order_len skeletons order entries taken, sum, more)
+
+pub skeletons_short : (vecs : Vec (Vec Record)) (n : ℕ) → All (λ (v : Vec Record). length v.items ≤ n) vecs.items → All (λ (entries : List (ℕ × ℕ)). length entries ≤ n) (skeletons_of (lists_of vecs))
+skeletons_short vecs n short = lists_short n vecs.items short

@@ -30,10 +30,11 @@ use Rattle.lf_verdict.specs.Parts.{HasWholeNumbers, PortRuns, BankRuns, PartsRun
 use Rattle.lf_verdict.specs.declared.answer.Verdict.{Verdict}
 use Rattle.lf_verdict.specs.declared.answer.Verdict.TheVariants.{Yes, No, Refused}
 use Rattle.lf_verdict.specs.declared.answer.Refusal.TheVariants as refusals
-use Rattle.lf_verdict.specs.Laws.{SameVerdict, VerdictsAreOne}
+use Rattle.lf_verdict.specs.Laws.{SameVerdict, VerdictsAreOne, WorkersAreAlike}
 use Rattle.lf_verdict.specs.Verdict.{Differs, IsFaultOf, IsNo, IsYes, IsOfAnother, IsTraceVerdict, IsVerdictOf, IsWorkerCount}
 use Rattle.lf_verdict.proofs.Traces.{trace_names, trace_fits}
-use Rattle.lf_verdict.proofs.Entries.{LogsFit, banks_whole, all_whole}
+use Rattle.lf_verdict.specs.Jobs.{LogsFit}
+use Rattle.lf_verdict.proofs.Entries.{banks_whole, all_whole}
 use Rattle.lf_join.specs.Laws.{LeastOrdersAreOne, StuckRingsAreOne}
 use Rattle.lf_verdict.proofs.Counts.{no_gap, no_double}
 
@@ -290,3 +291,17 @@ verdicts_are_one laws shape workers bytes a b fit x y = go a b x y
 
     go : (a b : Verdict) → IsVerdictOf shape workers bytes a → IsVerdictOf shape workers bytes b → SameVerdict a b
     go a b x y = both a b (split a x) (split b y)
+
+-- the verdict with a number of workers is that with any other
+pub any_workers : (shape : Shape) (workers other : ℕ) (bytes : List ℕ) (v : Verdict) → IsWorkerCount workers → IsWorkerCount other → IsVerdictOf shape other bytes v → IsVerdictOf shape workers bytes v
+any_workers shape workers other bytes (Yes events order) may may' is = (may, is.1)
+any_workers shape workers other bytes (No fault) may may' is = (may, is.1)
+any_workers shape workers other bytes (Refused (refusals.Workers n)) may may' is = absurd (is.1 may')
+any_workers shape workers other bytes (Refused (refusals.Config fault)) may may' is = (may, is.1)
+any_workers shape workers other bytes (Refused (refusals.Format fault)) may may' is = (may, is.1)
+any_workers shape workers other bytes (Refused (refusals.Header field)) may may' is = (may, is.1)
+any_workers shape workers other bytes (Refused refusals.Memory) may may' is = (may, is.1)
+any_workers shape workers other bytes (Refused refusals.Thread) may may' is = (may, is.1)
+
+pub workers_are_alike : VerdictsAreOne → WorkersAreAlike
+workers_are_alike one shape workers other bytes a b fit may may' x y = one shape workers bytes a b fit x (any_workers shape workers other bytes b may may' y)

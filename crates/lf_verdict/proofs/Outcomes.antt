@@ -1,16 +1,23 @@
 -- Outcomes, one for each port or each bank.
-use Rattle.std.proofs.Common.{◌≡◌, ℕ, ◌<◌, List, length, refl, subst, arith}
+use Rattle.std.proofs.Common.{◌≡◌, ℕ, ◌+◌, ◌<◌, List, [], length, map, take, drop, refl, sym, ◌∙◌, ap, subst, arith}
+use Rattle.std.specs.List.{range_with_len}
+use Rattle.std.proofs.lemmas.List.{get_or-take, get_or-drop, length-take-le, length-drop}
+use Rattle.std.proofs.lemmas.List.FromFn.{length-map-range_with_len, get_or-map-range_with_len}
 use Rattle.lf_model.specs.declared.shape.Shape.{Shape}
 use Rattle.lf_model.specs.declared.event.Record.{Record}
 use Rattle.lf_model.specs.declared.outcome.Outcome.{Outcome}
 use Rattle.lf_model.specs.declared.outcome.Outcome.TheVariants as outcomes
-use Rattle.lf_model.specs.Address.{FlatMemory}
+use Rattle.lf_model.specs.Address.{FlatMemory, flat_memory}
 use Rattle.lf_model.specs.Order.{log_at}
 use Rattle.lf_model.specs.Outcomes.{IsPortOutcome, IsBankOutcome, IsOutcomeOf, first_local}
 use Rattle.lf_model.specs.Run.{IsRunOf}
 use Rattle.lf_model.specs.Table.{Side, OfPort, OfBank}
-use Rattle.lf_verdict.specs.declared.standing_verdict.Broken.{Broken}
 use Rattle.lf_model.specs.Numbers.{IsNumbered}
+use Rattle.lf_logs.specs.Lists.{lists_of}
+use Rattle.lf_pool.specs.declared.job.Jobs.{Jobs}
+use Rattle.lf_pool.specs.Job.{AreJobs, AreJobOutcomes, records_of}
+use Rattle.lf_verdict.specs.declared.standing_verdict.Broken.{Broken}
+use Rattle.lf_verdict.specs.Jobs.{NoneRanOut}
 use Rattle.lf_verdict.specs.Parts.{PartsRun, PortRuns, BankRuns, IsPortFault, IsBankFault}
 use Rattle.lf_verdict.specs.Judging.{AreWholeBelow, NoneBroken, IsFirstBroken, IsBroken, outcome_at}
 
@@ -23,10 +30,6 @@ pub record AreNumbered (logs : List (List Record)) (banks : ℕ) (lists : List (
 pub record AreOutcomes (IsOutcomeAt : ℕ → Outcome → Type 0) (parts : ℕ) (all : List Outcome) : Type 0 where
   pub count : length all ≡ parts
   pub each : (part : ℕ) → part < parts → IsOutcomeAt part (outcome_at all part)
-
--- none ran out of memory
-abbrev pub NoneRanOut : List Outcome → ℕ → Type 0
-NoneRanOut all parts = (part : ℕ) → part < parts → ¬ (outcome_at all part ≡ outcomes.NoMemory)
 
 -- ---- what the outcomes say
 
@@ -83,3 +86,44 @@ module _ (shape : Shape) (memory : FlatMemory) (logs lists : List (List Record))
     ports = λ p lt. port_runs p lt (ports_fine p (omega (arith, j.of_ports.count)));
     banks = λ b lt. bank_runs b lt (banks_fine b (omega (arith, j.of_banks.count, j.numbered.count)));
   }
+
+-- ---- the outcomes of all jobs
+
+-- the records of each bank
+abbrev lists_for : Jobs → List (List Record)
+lists_for jobs = map (records_of jobs) (range_with_len 0 jobs.shape.banks)
+
+list_for : (jobs : Jobs) (bank : ℕ) → bank < jobs.shape.banks → log_at (lists_for jobs) bank ≡ records_of jobs bank
+list_for jobs bank lt = get_or-map-range_with_len (records_of jobs) 0 jobs.shape.banks bank bank [] lt (omega arith)
+
+pub judged : (jobs : Jobs) (all ports banks : List Outcome) → AreJobs jobs → AreWholeBelow (lists_of jobs.logs) jobs.shape.banks → AreJobOutcomes jobs all → NoneRanOut all (length all)
+    → ports ≡ take jobs.shape.ports all → banks ≡ drop jobs.shape.ports all
+    → Judged jobs.shape (flat_memory jobs.memory.items) (lists_of jobs.logs) (lists_for jobs) ports banks
+judged jobs all ports banks ready whole are had is_ports is_banks =
+    let n = jobs.shape.ports in
+    let count = are.count in
+    let long : length (lists_for jobs) ≡ jobs.shape.banks = length-map-range_with_len (records_of jobs) 0 jobs.shape.banks in
+    let many : length ports ≡ n = ap length is_ports ∙ length-take-le n all (omega arith) in
+    let few : length banks ≡ jobs.shape.banks = ap length is_banks ∙ (length-drop n all ∙ omega arith) in
+    let port_at : (port : ℕ) → port < n → outcome_at ports port ≡ outcome_at all port = λ port lt. ap (λ (l : List Outcome). outcome_at l port) is_ports ∙ get_or-take n all port outcomes.NoMemory lt in
+    let bank_at : (bank : ℕ) → outcome_at banks bank ≡ outcome_at all (n + bank) = λ bank. ap (λ (l : List Outcome). outcome_at l bank) is_banks ∙ get_or-drop n all bank outcomes.NoMemory in
+    record {
+      whole = whole;
+      numbered = record {
+        count = long;
+        each = λ bank lt. subst (IsNumbered (lists_of jobs.logs) bank) (sym (list_for jobs bank lt)) (ready.ordered bank lt).numbered;
+      };
+      of_ports = record {
+        count = many;
+        each = λ port lt. subst (IsPortOutcome jobs.shape (log_at (lists_of jobs.logs) port)) (sym (port_at port lt)) ((are.each port (omega arith)).port lt);
+      };
+      of_banks = record {
+        count = few ∙ sym long;
+        each = λ bank lt.
+            let below : bank < jobs.shape.banks = omega arith in
+            subst (λ (z : List Record × Outcome). IsBankOutcome jobs.shape (flat_memory jobs.memory.items) z.0 z.1) (λ i. (sym (list_for jobs bank below) i, sym (bank_at bank) i))
+            ((are.each (n + bank) (omega arith)).bank bank refl);
+      };
+      ports_had = λ port lt e. had port (omega arith) (sym (port_at port (omega arith)) ∙ e);
+      banks_had = λ bank lt e. had (n + bank) (omega arith) (sym (bank_at bank) ∙ e);
+    }

@@ -12,7 +12,7 @@ use Rattle.lf_verdict.specs.declared.answer.Fault.{Fault}
 use Rattle.lf_verdict.specs.declared.answer.Verdict.{Verdict}
 use Rattle.lf_verdict.specs.declared.answer.Verdict.TheVariants.{Yes, No, Refused}
 use Rattle.lf_verdict.specs.Legal.{IsTraceFor, IsLegal}
-use Rattle.lf_verdict.specs.Verdict.{IsYes, IsNo, IsVerdictOf}
+use Rattle.lf_verdict.specs.Verdict.{IsYes, IsNo, IsWorkerCount, IsVerdictOf}
 
 -- Where each part of a trace runs and its logs have an order, the trace is legal by that order.
 abbrev pub YesIsLegal : Type 0
@@ -49,6 +49,11 @@ SameVerdict _ _ = ⊥
 abbrev pub VerdictsAreOne : Type 0
 VerdictsAreOne = (shape : Shape) (workers : ℕ) (bytes : List ℕ) (a b : Verdict) → ((i : ℕ) → slice_index bytes i < 256)
     → IsVerdictOf shape workers bytes a → IsVerdictOf shape workers bytes b → SameVerdict a b
+
+-- So they have the same with any other number of workers.
+abbrev pub WorkersAreAlike : Type 0
+WorkersAreAlike = (shape : Shape) (workers other : ℕ) (bytes : List ℕ) (a b : Verdict) → ((i : ℕ) → slice_index bytes i < 256)
+    → IsWorkerCount workers → IsWorkerCount other → IsVerdictOf shape workers bytes a → IsVerdictOf shape other bytes b → SameVerdict a b
 
 -- The bytes are traces of one header, one memory and the same logs, however these are mixed.
 pub record AreMixtures (bytes other : List ℕ) : Type 0 where

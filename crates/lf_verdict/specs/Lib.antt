@@ -5,5 +5,7 @@ pub mod Reading
 pub mod Standing
 pub mod Laws
 pub mod Judging
+pub mod Jobs
+pub mod Gathering
 pub mod Configured
 pub mod Session

@@ -12,6 +12,7 @@ use Rattle.lf_join.specs.Join.{IsStuckRing}
 use Rattle.lf_codec.specs.declared.header.Header.{Header}
 use Rattle.lf_codec.specs.Trace.{IsTrace}
 use Rattle.lf_codec.specs.Reading.{trace_fault}
+pub use Rattle.lf_pool.specs.Workers.{IsWorkerCount}
 use Rattle.lf_verdict.specs.declared.answer.Verdict.{Verdict}
 use Rattle.lf_verdict.specs.declared.answer.Verdict.TheVariants.{Yes, No, Refused}
 use Rattle.lf_verdict.specs.declared.answer.Fault.{Fault}
@@ -21,12 +22,6 @@ use Rattle.lf_verdict.specs.declared.answer.HeaderField.{HeaderField}
 use Rattle.lf_verdict.specs.declared.answer.HeaderField.TheVariants as fields
 use Rattle.lf_verdict.specs.Legal.{IsTraceFor, IsLegal}
 use Rattle.lf_verdict.specs.Parts.{PartsRun, IsFirstNumber, IsPortFault, IsBankFault}
-
--- ---- what the call takes so far
-
--- how many workers there may be
-abbrev pub IsWorkerCount : ℕ → Type 0
-IsWorkerCount n = n ≡ 1
 
 -- ---- the verdict of a trace, the earlier case first
 

@@ -1,6 +1,6 @@
 //! The laws about verdicts. Each function only calls the laws from which its own follows.
 
-ghost use Rattle.lf_verdict.specs.Laws.{YesIsLegal, NoHasNoRun, VerdictsAreOne, MixturesAreAlike};
+ghost use Rattle.lf_verdict.specs.Laws.{YesIsLegal, NoHasNoRun, VerdictsAreOne, MixturesAreAlike, WorkersAreAlike};
 
 use lf_codec::{faultless_bytes, one_trace};
 use lf_join::joins_are_one;
@@ -49,6 +49,13 @@ pub fn verdicts_are_one()
     joins_are_one();
     one_trace();
     faultless_bytes();
+}
+
+/// So they have the same with any number of workers.
+pub fn workers_are_alike()
+    ensures { WorkersAreAlike }
+{
+    verdicts_are_one();
 }
 
 /// How the logs are mixed in the bytes does not matter.

@@ -10,10 +10,15 @@
 mod answer;
 mod bank_judge;
 mod configured;
+mod gathering;
 mod halt;
 mod header;
 mod intake;
+mod judge;
 mod laws;
+mod numbers;
+mod order;
+mod parts;
 mod port_judge;
 mod session;
 mod shape_check;
@@ -23,7 +28,10 @@ mod standing_verdict;
 
 pub use answer::{Fault, HeaderField, Refusal, Verdict};
 pub use configured::check;
-pub use laws::{mixtures_are_alike, no_has_no_run, verdicts_are_one, yes_is_legal};
+pub use laws::{
+    mixtures_are_alike, no_has_no_run, verdicts_are_one, workers_are_alike, yes_is_legal,
+};
+pub use lf_pool::{Gate, NoGate, is_worker_count};
 pub use session::Session;
 pub use shape_check::check_shape;
 

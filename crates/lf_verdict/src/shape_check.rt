@@ -1,15 +1,23 @@
 //! The verdict of bytes that come in pieces.
 
-ghost use Rattle.std.specs.Prelude.{◌≡◌, ◌↔◌, ℕ};
+ghost use Rattle.std.specs.Prelude.{◌≡◌, ◌↔◌, ◌<◌, ℕ};
 ghost use Rattle.lf_model.specs.InRange.{IsShape};
 ghost use Rattle.lf_verdict.specs.Legal.{joined};
 ghost use Rattle.lf_verdict.specs.Verdict.{IsWorkerCount, IsVerdictOf, IsLegalYes, IsJudged};
 ghost use Rattle.lf_verdict.specs.Laws.{IsRunlessNo};
+ghost use Rattle.lf_verdict.specs.Jobs.{IsWorkersAnswer};
 
 use crate::answer::{Refusal, Verdict};
+use crate::gathering::{Trace, read};
+use crate::header::differing;
+use crate::judge::logs_verdict;
+use crate::laws::{no_has_no_run, yes_is_legal};
 use crate::session::Session;
 use lf_model::Shape;
+use lf_pool::{Gate, is_worker_count};
 use std::alloc::Global;
+use std::sync::Wait;
+use std::thread::Threads;
 
 /// The verdict of the bytes in these pieces, by a session that is fed them.
 fn fed_verdict(alloc: Global, shape: &Shape, pieces: &[&[u8]]) -> Verdict
@@ -28,8 +36,43 @@ fn fed_verdict(alloc: Global, shape: &Shape, pieces: &[&[u8]]) -> Verdict
     session.finish()
 }
 
-/// The verdict of the trace that comes in these pieces. Only 1 worker is taken yet.
-pub fn check_shape<T: AllocGlobal>(rt: &T, shape: &Shape, pieces: &[&[u8]], workers: u32) -> Verdict
+/// The same by so many workers, once all bytes are read.
+fn workers_verdict<G: Gate + Sync, R: Threads + Wait + Sync>(
+    rt: &R,
+    alloc: Global,
+    shape: &Shape,
+    pieces: &[&[u8]],
+    workers: u32,
+    gate: &G,
+) -> Verdict
+    requires { IsShape shape.now }
+    ensures { IsWorkersAnswer shape.now (joined pieces.now) result }
+{
+    let trace = match read(alloc, shape, pieces) {
+        Ok(trace) => trace,
+        Err(refusal) => return Verdict::Refused(refusal),
+    };
+    let Trace {
+        header,
+        memory,
+        logs,
+    } = trace;
+    if let Some(field) = differing(shape, header) {
+        return Verdict::Refused(Refusal::Header(field));
+    }
+    logs_verdict(rt, alloc, shape, memory, logs, workers, gate)
+}
+
+/// The verdict of the trace that comes in these pieces, judged by so many workers, 1 to 16. One judges
+/// it while its bytes are read; with more, each passes the gate before each port and each bank that it
+/// replays, once all bytes are read. `Thread` where a thread was refused.
+pub fn check_shape<G: Gate + Sync, R: AllocGlobal + Threads + Wait + Sync>(
+    rt: &R,
+    shape: &Shape,
+    pieces: &[&[u8]],
+    workers: u32,
+    gate: &G,
+) -> Verdict
     requires shape { IsShape shape.now }
 
     // A yes means that the trace is legal, a no that it has no run.
@@ -38,10 +81,15 @@ pub fn check_shape<T: AllocGlobal>(rt: &T, shape: &Shape, pieces: &[&[u8]], work
 
     ensures verdict { IsJudged result → IsVerdictOf shape.now workers (joined pieces.now) result }
     ensures workers { (result ≡ Verdict.Refused (Refusal.Workers workers)) ↔ ¬ IsWorkerCount workers }
-    ensures thread { ¬ (result ≡ Verdict.Refused Refusal.Thread) }
+    ensures thread { result ≡ Verdict.Refused Refusal.Thread → 1 < workers }
 {
-    if workers != 1 {
+    yes_is_legal();
+    no_has_no_run();
+    if !is_worker_count(workers) {
         return Verdict::Refused(Refusal::Workers(workers));
     }
-    fed_verdict(rt.alloc(), shape, pieces)
+    if workers == 1 {
+        return fed_verdict(rt.alloc(), shape, pieces);
+    }
+    workers_verdict(rt, rt.alloc(), shape, pieces, workers, gate)
 }

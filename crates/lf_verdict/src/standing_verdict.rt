@@ -60,7 +60,8 @@ fn first_broken_bank(banks: &[BankJudge]) -> Option<Broken>
     None
 }
 
-fn number_halt(bank: u8, fault: NumberFault) -> Halt
+/// What a fault of the bank's numbers says.
+pub fn number_halt(bank: u8, fault: NumberFault) -> Halt
     ensures { result ≡ number_halt bank fault }
 {
     match fault {

@@ -9,9 +9,12 @@ use lf_config::{ConfigFault, Key};
 use lf_model::{Knot, Level, OrgShape, Ring, Rule, Shape};
 use std::alloc::{AllocError, Global};
 use std::process::Abort;
+use std::sync::Wait;
 use std::test::Fail;
+use std::thread::Threads;
 
 mod mixtures;
+mod workers;
 
 /// One load that misses both levels: a header, six records and the end record.
 const LOAD_MISSES_BOTH_LEVELS: [u8; 132] = [
@@ -161,9 +164,9 @@ fn by_session<T: AllocGlobal>(rt: &T, shape: &Shape, bytes: &[u8], size: usize) 
     session.finish()
 }
 
-/// Fails where another verdict is told of the bytes, by a check of them in one piece, by a session that
-/// is fed one piece or by a session that is fed byte by byte.
-fn assert_verdict<T: Abort + AllocGlobal>(
+/// Fails where another verdict is told of the bytes, by a check of them in one piece with one worker or
+/// with two, by a session that is fed one piece or by a session that is fed byte by byte.
+fn assert_verdict<T: Abort + AllocGlobal + Threads + Wait + Sync>(
     rt: &T,
     shape: &Shape,
     bytes: &[u8],
@@ -171,8 +174,10 @@ fn assert_verdict<T: Abort + AllocGlobal>(
 ) -> Result<(), Fail>
     requires { IsShape shape.now }
 {
-    let checked = check_shape(rt, shape, &[bytes], 1);
-    assert_eq!(rt; checked, *verdict);
+    for workers in [1u32, 2] {
+        let checked = check_shape(rt, shape, &[bytes], workers, &NoGate);
+        assert_eq!(rt; checked, *verdict);
+    }
     for size in [1000usize, 1] {
         let answer = by_session(rt, shape, bytes, size);
         assert_eq!(rt; answer, *verdict);
@@ -191,8 +196,11 @@ fn load_misses_both_levels(rt: HostRuntime) -> Result<(), Fail> {
     let bytes: &[u8] = &LOAD_MISSES_BOTH_LEVELS;
     let legal = yes(rt.alloc(), &[0, 1, 1, 1, 1, 0])?;
     assert_verdict(&rt, &hierarchy(1, 1), bytes, &legal)?;
-    let cut = check_shape(&rt, &hierarchy(1, 1), &[&bytes[..1], &[], &bytes[1..]], 1);
-    assert_eq!(rt; cut, legal);
+    for workers in [1u32, 2] {
+        let pieces: [&[u8]; 3] = [&bytes[..1], &[], &bytes[1..]];
+        let cut = check_shape(&rt, &hierarchy(1, 1), &pieces, workers, &NoGate);
+        assert_eq!(rt; cut, legal);
+    }
     Ok(())
 }
 
@@ -243,8 +251,10 @@ fn factor_in_header(rt: HostRuntime) -> Result<(), Fail> {
 #[test]
 fn the_configuration_is_read(rt: HostRuntime) -> Result<(), Fail> {
     let bytes: &[u8] = &LOAD_MISSES_BOTH_LEVELS;
-    let verdict = check(&rt, CONFIGURATION, &[bytes], 1);
-    assert_eq!(rt; verdict, yes(rt.alloc(), &[0, 1, 1, 1, 1, 0])?);
+    for workers in [1u32, 2] {
+        let verdict = check(&rt, CONFIGURATION, &[bytes], workers);
+        assert_eq!(rt; verdict, yes(rt.alloc(), &[0, 1, 1, 1, 1, 0])?);
+    }
     let verdict = check(&rt, "", &[bytes], 1);
     let fault = ConfigFault::Missing(Key::Ports);
     assert_eq!(rt; verdict, Verdict::Refused(Refusal::Config(fault)));
@@ -329,9 +339,10 @@ fn lowest_bank_any_workers(rt: HostRuntime) -> Result<(), Fail> {
         rule: Rule::NotHead,
     });
     assert_verdict(&rt, &hierarchy(1, 4), &bytes, &lowest)?;
-    // Only one worker is taken yet.
-    for workers in [0, 2, 16, 17] {
-        let verdict = check_shape(&rt, &hierarchy(1, 4), &[&bytes], workers);
+    let verdict = check_shape(&rt, &hierarchy(1, 4), &[&bytes], 16, &NoGate);
+    assert_eq!(rt; verdict, lowest);
+    for workers in [0, 17] {
+        let verdict = check_shape(&rt, &hierarchy(1, 4), &[&bytes], workers, &NoGate);
         assert_eq!(rt; verdict, Verdict::Refused(Refusal::Workers(workers)));
     }
     Ok(())
@@ -409,7 +420,7 @@ fn mixed_logs_of_four_ports_and_banks_in_any_pieces(rt: HostRuntime) -> Result<(
         let bytes = mixture.bytes(rt.alloc())?;
         for size in [1usize, 7, 64, 1000] {
             let pieces: Vec<&[u8]> = bytes.chunks(size).collect(rt.alloc())?;
-            let verdict = check_shape(&rt, &hierarchy(4, 4), &pieces, 1);
+            let verdict = check_shape(&rt, &hierarchy(4, 4), &pieces, 1, &NoGate);
             assert_eq!(rt; verdict, yes(rt.alloc(), &order)?);
         }
     }
@@ -424,7 +435,7 @@ fn cut_to(n: usize) -> &'static [u8] {
 
 /// Fails where the trace of one load, cut anywhere, is refused otherwise than as cut in the header or in
 /// the record in which it ends.
-fn assert_truncated<T: Abort + AllocGlobal>(rt: &T) -> Result<(), Fail> {
+fn assert_truncated<T: Abort + AllocGlobal + Threads + Wait + Sync>(rt: &T) -> Result<(), Fail> {
     // Where a header or a record begins and ends.
     for (start, end) in [
         (0, 16),

@@ -19,6 +19,7 @@ use Rattle.lf_verdict.specs.Verdict.{IsWorkerCount, IsJudged, IsTraceVerdict, Is
 use Rattle.lf_verdict.specs.declared.intake.Intake.{Intake}
 use Rattle.lf_verdict.specs.Session.{HasFed}
 use Rattle.lf_verdict.specs.Configured.{IsConfigFault, IsConfiguredVerdict, IsVerdictFor, IsLegalFor, IsRunlessNoFor}
+use Rattle.lf_verdict.proofs.One.{any_workers}
 use Rattle.score.specs.declared.counted.Counted.{Counted}
 use Rattle.score.specs.declared.fault.RunFault.{RunFault}
 use Rattle.score.specs.Counted.{calls_of, failures_of, inner_of}
@@ -99,7 +100,7 @@ finished remaining old new shape workers turns session v same count few none g l
   verdict = λ judged. record {
     bytes = g.bytes;
     reads = λ _. g.reads;
-    verdict = subst (λ n. IsVerdictOf shape n g.bytes v) (sym count) (subst (λ (s : Shape). IsVerdictOf s 1 g.bytes v) same (verdict g.bytes g.fed judged));
+    verdict = any_workers shape workers 1 g.bytes v count (omega arith, omega arith) (subst (λ (s : Shape). IsVerdictOf s 1 g.bytes v) same (verdict g.bytes g.fed judged));
   };
   legal = legal_read remaining (inner_of old) (inner_of new) shape session v g (subst (λ (s : Shape). IsLegalYes s g.bytes v) same (legal g.bytes g.fed));
   no_thread = λ e. thread cc;

@@ -23,7 +23,7 @@ use crate::output::put;
 use lf_codec::{exact_reading, fault_so_far, faults_stand};
 use lf_config::{ConfigFault, read};
 use lf_model::Shape;
-use lf_verdict::{Refusal, Session, Verdict, no_has_no_run};
+use lf_verdict::{Refusal, Session, Verdict, is_worker_count, no_has_no_run};
 use std::alloc::{AllocError, Global};
 use std::io::{Read, Write};
 
@@ -34,7 +34,7 @@ pub const PIECE: usize = 65536;
 pub fn are_workers(workers: u32) -> bool
     ensures { IsTrue result ↔ IsWorkerCount workers }
 {
-    workers == 1
+    is_worker_count(workers)
 }
 
 /// Reads and judges.

@@ -6,12 +6,14 @@ ghost use Rattle.lf_model.specs.Fits.{is_factor};
 ghost use Rattle.lf_model.specs.InRange.{IsFrom, IsShape};
 
 use super::hierarchy;
-use crate::{Verdict, check_shape};
+use crate::{NoGate, Verdict, check_shape};
 use lf_codec::{Header, encode, fits_trace};
 use lf_model::{Block, Event, Level, Mask, Masks, NO_BANK, Op, OrgShape, Record, Shape, WideBlock};
 use std::alloc::{AllocError, Global};
 use std::process::Abort;
+use std::sync::Wait;
 use std::test::Fail;
+use std::thread::Threads;
 
 /// In which parts the logs are written: each has the records of the logs from the first to before the
 /// second number, in the order in which they were recorded.
@@ -287,7 +289,7 @@ fn mixed(
 }
 
 /// Fails where these bytes, cut into pieces of any of some sizes, have another verdict.
-fn assert_of_pieces<T: Abort + AllocGlobal>(
+fn assert_of_pieces<T: Abort + AllocGlobal + Threads + Wait + Sync>(
     rt: &T,
     shape: &Shape,
     bytes: &[u8],
@@ -297,14 +299,18 @@ fn assert_of_pieces<T: Abort + AllocGlobal>(
 {
     for size in [1usize, 7, 64] {
         let pieces: Vec<&[u8]> = bytes.chunks(size).collect(rt.alloc())?;
-        let of_pieces = check_shape(rt, shape, &pieces, 1);
+        let of_pieces = check_shape(rt, shape, &pieces, 1, &NoGate);
         assert_eq!(rt; of_pieces, *verdict);
     }
     Ok(())
 }
 
 /// Fails where mixing the logs or cutting the bytes changes the verdict, which is a yes.
-fn assert_one_verdict<T: Abort + AllocGlobal>(rt: &T, version: u16, factor: u8) -> Result<(), Fail>
+fn assert_one_verdict<T: Abort + AllocGlobal + Threads + Wait + Sync>(
+    rt: &T,
+    version: u16,
+    factor: u8,
+) -> Result<(), Fail>
     requires factor { is_factor factor ≡ true }
     requires few { IsFrom 1 4 factor }
 {
@@ -319,7 +325,7 @@ fn assert_one_verdict<T: Abort + AllocGlobal>(rt: &T, version: u16, factor: u8) 
     let shape = roomy_hierarchy(u32::from(factor));
     let records = recorded(rt.alloc(), factor)?;
     let whole = mixed(rt.alloc(), &header, &records, AS_RECORDED)?;
-    let verdict = check_shape(rt, &shape, &[&whole], 1);
+    let verdict = check_shape(rt, &shape, &[&whole], 4, &NoGate);
     let Verdict::Yes { events, .. } = &verdict else {
         return Err(Fail::new("no yes"));
     };

@@ -11,7 +11,7 @@ use crate::tests::statistics::SMALL as SMALL_TEXT;
 use crate::tests::streams::Pieces;
 use lf_demo::{DemoFault, demo_trace};
 use lf_model::{Level, OrgShape, Shape};
-use lf_verdict::{Verdict, check_shape};
+use lf_verdict::{NoGate, Verdict, check_shape};
 use std::process::Abort;
 use std::sync::Wait;
 use std::test::Fail;
@@ -80,7 +80,7 @@ fn assert_legal<T: Abort + AllocGlobal + Threads + Wait + Sync>(
         return Err(Fail::new("no trace"));
     };
     let pieces = [bytes.as_slice()];
-    match check_shape(rt, shape, pieces.as_slice(), 1) {
+    match check_shape(rt, shape, pieces.as_slice(), 1, &NoGate) {
         Verdict::Yes { events, .. } => {
             assert_eq!(rt; events, count);
             Ok(())

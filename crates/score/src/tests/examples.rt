@@ -355,6 +355,8 @@ fn lowest_bank_any_workers(rt: HostRuntime) -> Result<(), Fail> {
     let bytes = trace.end()?;
     for (workers, line) in [
         (1, "no bank=1 number=0 rule=NotHead\n"),
+        (2, "no bank=1 number=0 rule=NotHead\n"),
+        (16, "no bank=1 number=0 rule=NotHead\n"),
         (0, "refused workers 0\n"),
         (17, "refused workers 17\n"),
     ] {

@@ -1,4 +1,4 @@
-use Rattle.std.proofs.Common.{refl, sym, subst}
+use Rattle.std.proofs.Common.{arith, sym, subst}
 use Rattle.lf_verdict.specs.declared.intake.Intake.{Intake}
 use Rattle.lf_verdict.specs.Judging.{IsAnswer}
 use Rattle.lf_verdict.specs.Session.{HasFed}
@@ -14,7 +14,7 @@ returns-clause-runless c bytes fed = runless_no c.no_has_no_run.ensures c.args.s
     (subst (λ (s : Intake). IsAnswer s.shape bytes c.answer.result) c.self.view_is (c.answer.ensures.answer bytes (subst (λ (s : Intake). HasFed s bytes) (sym c.self.view_is) fed)))
 
 pub returns-clause-verdict : goal.returns-clause-verdict
-returns-clause-verdict c bytes fed judged = verdict_of c.args.self.shape 1 bytes c.answer.result refl
+returns-clause-verdict c bytes fed judged = verdict_of c.args.self.shape 1 bytes c.answer.result (omega arith, omega arith)
     (subst (λ (s : Intake). IsAnswer s.shape bytes c.answer.result) c.self.view_is (c.answer.ensures.answer bytes (subst (λ (s : Intake). HasFed s bytes) (sym c.self.view_is) fed))) judged
 
 pub returns-clause-thread : goal.returns-clause-thread

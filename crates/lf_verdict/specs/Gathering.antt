@@ -1,0 +1,33 @@
+-- A trace that is read whole before it is judged.
+use Rattle.std.specs.Prelude.{◌≡◌, ℕ, List, [], Some, None}
+use Rattle.lf_model.specs.declared.event.Record.{Record}
+use Rattle.lf_codec.specs.Reading.{trace_fault}
+use Rattle.lf_codec.specs.Reader.{HasRead}
+use Rattle.lf_codec.specs.Trace.{IsTrace}
+use Rattle.lf_logs.specs.Lists.{lists_of, logs_of}
+use Rattle.lf_verdict.specs.declared.gathering.Gathered.{Gathered}
+use Rattle.lf_verdict.specs.declared.gathering.Trace.{Trace}
+use Rattle.lf_verdict.specs.declared.answer.Refusal.{Refusal}
+use Rattle.lf_verdict.specs.declared.answer.Refusal.TheVariants as refusals
+pub use Rattle.lf_verdict.specs.Reading.{fault_in, IsFaultOrWant}
+
+-- These bytes were read without a fault; all records that stand in them are in their logs, of which there are so many.
+pub record HasGathered (count : ℕ) (g : Gathered) (bytes : List ℕ) : Type 0 where
+  pub records : List Record
+  pub read : HasRead g.reader bytes g.memory.items records
+  pub fine : g.reader.fault ≡ None
+  pub logs : lists_of g.logs ≡ logs_of count records
+  pub no_memory : g.reader.memory ≡ []
+  pub no_records : g.reader.records ≡ []
+
+-- The bytes are this trace, whose records are in their logs, of which there are so many.
+pub record IsWhole (count : ℕ) (bytes : List ℕ) (t : Trace) : Type 0 where
+  pub records : List Record
+  pub trace : IsTrace bytes t.header t.memory.items records
+  pub logs : lists_of t.logs ≡ logs_of count records
+
+-- the refusal of these bytes by their format, or for want of memory
+abbrev pub IsReadRefusal : List ℕ → Refusal → Type 0
+IsReadRefusal bytes (refusals.Format fault) = trace_fault bytes ≡ Some fault
+IsReadRefusal bytes refusals.Memory = Unit {0}
+IsReadRefusal bytes _ = ⊥
