@@ -4,6 +4,7 @@
 //!
 //! A `Lines` is seen as its numbers of sets, ways, banks and first-level blocks in one of level two, and
 //! a map from block to what is dirty, by the words of `lf_model`. No set ever has more lines than ways.
+//! Only `new` takes memory: it makes all ways, a row of them for each set.
 #![tactic(auto)]
 
 mod fault;
@@ -13,6 +14,7 @@ mod lines_one;
 mod lines_two;
 #[cfg(test)]
 mod tests;
+mod ways;
 
 pub use fault::LineFault;
 pub use level::{Level, One, Two};
