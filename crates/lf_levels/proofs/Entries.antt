@@ -10,7 +10,7 @@ use Rattle.std.specs.Cmp.{nat_cmp_total, unsigned_tied, ranked}
 use Rattle.std.specs.FinMap.Entries.{find, put, by_order, below_all, is_sorted, find-put, find-where_key, is_sorted-put, is_sorted-where_key, same_entries}
 use Rattle.std.proofs.lemmas.Bool.{eqb-false}
 use Rattle.std.proofs.lemmas.Map.Lookups.{exact_unsigned}
-use Rattle.lf_model.specs.Lines.{line_at, with_line, without_line}
+use Rattle.lf_rules.specs.Lines.{line_at, with_line, without_line}
 use Rattle.lf_levels.proofs.Counting.{worth, count-cons}
 
 pub flip : (a b : ℕ) → (a == b) ≡ (b == a)

@@ -5,8 +5,8 @@ use Rattle.std.proofs.Math.Logic.{⊎_elim}
 use Rattle.std.proofs.lemmas.Bool.{cases_Bool, cases_eq, eqb-false, lt-ltb, le-ltb}
 use Rattle.std.proofs.lemmas.Nat.{row_fits, same_from_place}
 use Rattle.std.proofs.lemmas.List.Sums.{count_by-le-length}
-use Rattle.lf_model.specs.Fits.{is_factor}
-use Rattle.lf_model.specs.Lines.{line_at, has_line, with_line, without_line, lines_of_set}
+use Rattle.lf_rules.specs.Fits.{is_factor}
+use Rattle.lf_rules.specs.Lines.{line_at, has_line, with_line, without_line, lines_of_set}
 use Rattle.lf_levels.specs.declared.ways.Line.{Line}
 use Rattle.lf_levels.specs.LineTable.{LineTable, IsLineTable, set_in, is_full}
 use Rattle.lf_levels.specs.Rows.{is_free, is_on, lines_of, IsInOwnRow, IsWhole, FindsWay}

@@ -1,15 +1,9 @@
 -- When a fill and an eviction are refused.
 use Rattle.std.specs.Prelude.{◌≡◌, ◌≢◌, ℕ, true, false}
 use Rattle.lf_levels.specs.declared.fault.LineFault.{LineFault}
-<<<<<<< HEAD
-use Rattle.lf_levels.specs.declared.fault.LineFault.TheVariants.{SetFull, EvictAbsent, EvictMask, NoMemory}
+use Rattle.lf_levels.specs.declared.fault.LineFault.TheVariants.{SetFull, EvictAbsent, EvictMask}
 use Rattle.lf_rules.specs.Address.{Masks}
 use Rattle.lf_rules.specs.Lines.{has_line, dirty_mask, dirty_masks, same_masks}
-=======
-use Rattle.lf_levels.specs.declared.fault.LineFault.TheVariants.{SetFull, EvictAbsent, EvictMask}
-use Rattle.lf_model.specs.Address.{Masks}
-use Rattle.lf_model.specs.Lines.{has_line, dirty_mask, dirty_masks, same_masks}
->>>>>>> levels
 use Rattle.lf_levels.specs.LineTable.{LineTable, is_full}
 
 -- a fill is refused for a full set alone

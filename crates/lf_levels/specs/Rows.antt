@@ -1,8 +1,8 @@
 -- The rows of ways that a table keeps, and the lines that stand in them.
 use Rattle.std.specs.Prelude.{◌≡◌, ℕ, ◌<◌, ◌≤◌, ◌*◌, ◌+◌, ◌==◌, Bool, true, false, List, [], ◌∷◌, length, Option, None, Some, count_by, slice_index_or, ⊤}
 use Rattle.lf_levels.specs.declared.ways.Line.{Line}
-use Rattle.lf_model.specs.Fits.{is_factor}
-use Rattle.lf_model.specs.Lines.{with_line}
+use Rattle.lf_rules.specs.Fits.{is_factor}
+use Rattle.lf_rules.specs.Lines.{with_line}
 
 module _ {M : Type 0} where
   abbrev pub is_free : Option (Line M) → Bool

@@ -4,12 +4,8 @@ ghost use Rattle.std.specs.Prelude.{◌≡◌, ◌<◌, true};
 ghost use Rattle.lf_rules.specs.Address.{set1_of};
 ghost use Rattle.lf_rules.specs.Fits.{is_factor};
 
-<<<<<<< HEAD
-use lf_rules::Masks;
-=======
 use crate::lines_two::joined;
-use lf_model::Masks;
->>>>>>> levels
+use lf_rules::Masks;
 
 /// A level of the cache: what is dirty of its lines, and which set a block is in.
 pub trait Level {
@@ -53,12 +49,8 @@ pub struct One;
 pub struct Two;
 
 impl Level for One {
-<<<<<<< HEAD
-    ghost use Rattle.lf_rules.specs.Address.{set1_of};
-=======
     ghost use Rattle.std.specs.Prelude.{bit_or};
-    ghost use Rattle.lf_model.specs.Address.{set1_of};
->>>>>>> levels
+    ghost use Rattle.lf_rules.specs.Address.{set1_of};
     ghost use Rattle.std.proofs.lemmas.Nat.{mod_below};
 
     type Dirty = u64;
@@ -91,7 +83,7 @@ fn set1_of(banks: u32, factor: u32, sets: u32, block: u32) -> u32
 
 impl Level for Two {
     ghost use Rattle.lf_levels.specs.LineTable.{wide_set, joined};
-    ghost use Rattle.lf_model.specs.Lines.{no_masks};
+    ghost use Rattle.lf_rules.specs.Lines.{no_masks};
     ghost use Rattle.std.proofs.lemmas.Nat.{mod_below};
 
     type Dirty = Masks;

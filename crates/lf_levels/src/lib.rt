@@ -3,12 +3,8 @@
 //! line came. The lines of level two are on second-level blocks.
 //!
 //! A `Lines` is seen as its numbers of sets, ways, banks and first-level blocks in one of level two, and
-<<<<<<< HEAD
 //! a map from block to what is dirty, by the words of `lf_rules`. No set ever has more lines than ways.
-=======
-//! a map from block to what is dirty, by the words of `lf_model`. No set ever has more lines than ways.
 //! Only `new` takes memory: it makes all ways, a row of them for each set.
->>>>>>> levels
 #![tactic(auto)]
 
 mod fault;
@@ -16,12 +12,7 @@ mod level;
 mod lines;
 mod lines_one;
 mod lines_two;
-<<<<<<< HEAD
-=======
-#[cfg(test)]
-mod tests;
 mod ways;
->>>>>>> levels
 
 pub use fault::LineFault;
 pub use level::{Level, One, Two};

@@ -1,27 +1,16 @@
 //! A table of lines.
 
-<<<<<<< HEAD
-ghost use Rattle.std.specs.Prelude.{◌≡◌, true, false, ◌↔◌, IsTrue, Option, Some, None, option_copied, IfOk, IfErr, OnErr};
+ghost use Rattle.std.specs.Prelude.{◌≡◌, ◌*◌, true, false, ◌↔◌, IsTrue, Option, Some, None, option_copied, unwrap_or, IfOk, IfErr, OnErr};
 ghost use Rattle.lf_rules.specs.Fits.{is_factor};
 ghost use Rattle.lf_rules.specs.InRange.{IsFrom};
 ghost use Rattle.lf_rules.specs.Lines.{line_at, has_line, lines_of_set};
-=======
-ghost use Rattle.std.specs.Prelude.{◌≡◌, ◌*◌, true, false, ◌↔◌, IsTrue, Option, Some, None, option_copied, unwrap_or, IfOk, IfErr, OnErr};
-ghost use Rattle.lf_model.specs.Fits.{is_factor};
-ghost use Rattle.lf_model.specs.InRange.{IsFrom};
-ghost use Rattle.lf_model.specs.Lines.{line_at, has_line, lines_of_set};
->>>>>>> levels
 ghost use Rattle.lf_levels.specs.LineTable.{IsLineTable, ChangesOnly, set_in, empty_table, is_full, after_fill, after_evict};
 ghost use Rattle.lf_levels.specs.Refusals.{FillRefusal};
 
 use crate::fault::LineFault;
 use crate::level::Level;
-<<<<<<< HEAD
-use lf_rules::NoMemory;
-=======
 use crate::ways::{Line, find_free, find_line, free_ways};
-use lf_model::NoMemory;
->>>>>>> levels
+use lf_rules::NoMemory;
 use std::alloc::Global;
 use std::marker::Model;
 

@@ -4,7 +4,7 @@ ghost use Rattle.std.specs.Prelude.{◌≡◌, ◌+◌, ◌≤◌, length, repli
 ghost use Rattle.std.specs.List.{position};
 ghost use Rattle.lf_levels.specs.Rows.{is_free, is_on, FindsWay};
 
-use lf_model::NoMemory;
+use lf_rules::NoMemory;
 use std::alloc::Global;
 
 /// A line: which block it is on, and what is dirty of it.

@@ -1,14 +1,6 @@
-<<<<<<< HEAD
-use Rattle.std.proofs.Common.{Some, ◌≡◌, ap, sym, ◌∙◌, false}
-use Rattle.lf_rules.specs.Lines.{has_line}
-use Rattle.lf_levels.specs.LineTable.{LineTable, is_full}
-use Rattle.lf_levels.proofs.CountLemmas.{IsWhole-fill, none-from_is_some, lines_of_set-lt, table_of}
-use Rattle.lf_levels.proofs.MapLemmas.{changes_at}
-=======
 use Rattle.std.proofs.Common.{arith, Some, None}
 use Rattle.lf_levels.specs.Rows.{is_free}
 use Rattle.lf_levels.proofs.Searched.{row_fits, way_inside, full_value, filled_whole, filled_table, changed-fill}
->>>>>>> levels
 use Rattle.lf_levels.proofs.lines.Lines.put.Goals as goal
 
 pub find_free-requires : goal.find_free-requires

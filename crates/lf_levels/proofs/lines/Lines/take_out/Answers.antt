@@ -1,14 +1,6 @@
-<<<<<<< HEAD
-use Rattle.std.proofs.Common.{None, ◌≡◌, ap, ◌∙◌, true}
-use Rattle.lf_rules.specs.Lines.{has_line}
-use Rattle.lf_levels.specs.LineTable.{LineTable}
-use Rattle.lf_levels.proofs.CountLemmas.{IsWhole-evict, counts_line-at, table_of}
-use Rattle.lf_levels.proofs.MapLemmas.{remove_entry-sorted, changes_at}
-=======
 use Rattle.std.proofs.Common.{arith, Some, None}
 use Rattle.lf_levels.specs.Rows.{is_on}
 use Rattle.lf_levels.proofs.Searched.{row_fits, way_inside, not_lacking, gone_whole, gone_table, changed-evict}
->>>>>>> levels
 use Rattle.lf_levels.proofs.lines.Lines.take_out.Goals as goal
 
 pub find_line-requires : goal.find_line-requires
