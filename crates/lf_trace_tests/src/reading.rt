@@ -1,0 +1,64 @@
+//! What is asked of a reader and of the writer.
+
+use lf_codec::{CodecCause, CodecFault, Header, Reader, Told, encode, fits_trace};
+use lf_rules::{Memory, NoMemory, Record};
+use std::alloc::Global;
+use std::process::Abort;
+use std::test::Fail;
+
+/// One port and one bank of blocks of 8 bytes.
+pub const ONE_BANK: Header = Header {
+    version: 1,
+    ports: 1,
+    banks: 1,
+    block: 8,
+    factor: 1,
+    memory_count: 0,
+};
+
+/// Encodes what fits, which it asks first.
+pub fn encoded(
+    rt: &impl Abort,
+    alloc: Global,
+    header: &Header,
+    memory: &Memory,
+    records: &[Record],
+) -> Result<Vec<u8>, NoMemory> {
+    assert!(rt; fits_trace(header, memory, records));
+    encode(alloc, header, memory, records)
+}
+
+/// Fails where other records come out than these.
+pub fn assert_taken(rt: &impl Abort, reader: &mut Reader, records: &[Record]) {
+    for item in records {
+        assert_eq!(rt; reader.take().as_ref(), Some(item));
+    }
+    assert_eq!(rt; reader.take(), None);
+}
+
+/// Reads a whole trace of one bank in these pieces, and asks that these records come out.
+pub fn assert_reads(
+    rt: &impl Abort,
+    alloc: Global,
+    pieces: &[&[u8]],
+    records: &[Record],
+) -> Result<(), Fail> {
+    let mut reader = Reader::new(alloc);
+    for piece in pieces {
+        reader.feed(piece)?;
+    }
+    assert_eq!(rt; reader.finish()?, ONE_BANK);
+    assert_eq!(rt; reader.header(), Some(ONE_BANK));
+    assert_taken(rt, &mut reader, records);
+    assert_eq!(rt; reader.take_memory(), None);
+    Ok(())
+}
+
+/// The fault that the bytes are told to have, by the feed that has their last byte.
+pub fn assert_fault(rt: &impl Abort, alloc: Global, bytes: &[u8], cause: CodecCause, offset: u64) {
+    let fault = CodecFault { cause, offset };
+    let mut reader = Reader::new(alloc);
+    assert_eq!(rt; reader.feed(bytes), Err(Told::Fault(fault)));
+    assert_eq!(rt; reader.feed(bytes), Err(Told::Failed(fault)));
+    assert_eq!(rt; reader.finish(), Err(Told::Failed(fault)));
+}

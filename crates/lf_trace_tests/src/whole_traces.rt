@@ -1,0 +1,193 @@
+//! Whole traces, however they are cut, and their encodings.
+
+use crate::reading::{ONE_BANK, assert_fault, assert_reads, assert_taken, encoded};
+use lf_codec::{CodecCause, CodecFault, Header, Reader, Told, fits_trace};
+use lf_samples::{
+    C1, EMPTY_TRACE, FENCE_LAST, LOAD, LOAD_MISSES_BOTH_LEVELS, LOADED, bytes_of, memory, records,
+    records_at,
+};
+use std::alloc::Global;
+use std::process::Abort;
+use std::test::Fail;
+
+/// The fault of a trace that ends within the header or the record at this offset.
+fn assert_truncated(rt: &impl Abort, alloc: Global, front: &[u8], offset: u64) -> Result<(), Fail> {
+    let cause = CodecCause::Truncated;
+    let fault = CodecFault { cause, offset };
+    let mut reader = Reader::new(alloc);
+    reader.feed(front)?;
+    assert_eq!(rt; reader.finish(), Err(Told::Fault(fault)));
+    assert_eq!(rt; reader.feed(&[]), Err(Told::Failed(fault)));
+    Ok(())
+}
+
+/// The trace of one load, cut anywhere.
+fn assert_each_cut(rt: &impl Abort, alloc: Global) -> Result<(), Fail> {
+    // Where a header or a record begins and ends.
+    for (start, end) in [
+        (0u8, 16u8),
+        (16, 36),
+        (36, 48),
+        (48, 64),
+        (64, 84),
+        (84, 104),
+        (104, 124),
+        (124, 132),
+    ] {
+        for n in start..end {
+            let (front, _) = LOAD_MISSES_BOTH_LEVELS.split_at(usize::from(n).min(132));
+            assert_truncated(rt, alloc, front, u64::from(start))?;
+        }
+    }
+    Ok(())
+}
+
+#[test]
+fn truncated_and_trailing(rt: HostRuntime) -> Result<(), Fail> {
+    assert_each_cut(&rt, rt.alloc())?;
+    let mut longer = LOAD_MISSES_BOTH_LEVELS.to_vec(rt.alloc())?;
+    longer.push(0)?;
+    assert_fault(&rt, rt.alloc(), &longer, CodecCause::Trailing, 132);
+    let mut changed = LOAD_MISSES_BOTH_LEVELS;
+    changed[27] = 0x01;
+    assert_fault(&rt, rt.alloc(), &changed, CodecCause::Reserved, 16);
+    let records = records(rt.alloc(), &C1, &[LOAD, LOADED])?;
+    let whole: &[u8] = &LOAD_MISSES_BOTH_LEVELS;
+    for n in 0..133 {
+        let (front, back) = whole.split_at(n);
+        assert_reads(&rt, rt.alloc(), &[front, &[], back], &records)?;
+    }
+    let pieces: Vec<&[u8]> = whole.chunks(1).collect(rt.alloc())?;
+    assert_reads(&rt, rt.alloc(), &pieces, &records)
+}
+
+/// How many bytes wait after so many bytes of a trace.
+fn assert_pending(rt: &impl Abort, alloc: Global, bytes: &[u8], pending: u32) -> Result<(), Fail> {
+    let mut reader = Reader::new(alloc);
+    reader.feed(bytes)?;
+    assert_eq!(rt; reader.pending(), pending);
+    Ok(())
+}
+
+/// The header, the head of a record, its fixed part and its bytes are a step each.
+#[test]
+fn bytes_that_wait(rt: HostRuntime) -> Result<(), Fail> {
+    for (fed, pending) in [
+        (0usize, 0u32),
+        (15, 15),
+        (16, 0),
+        (23, 7),
+        (35, 11),
+        (83, 7),
+        (132, 0),
+    ] {
+        let (front, _) = LOAD_MISSES_BOTH_LEVELS.split_at(fed.min(132));
+        assert_pending(&rt, rt.alloc(), front, pending)?;
+    }
+    // The largest fill of level two, but for its last byte.
+    let head = "4c46545303000202 4000040000000000 0c03010001020304 ffffff3f";
+    let mut whole = bytes_of(rt.alloc(), head)?;
+    whole.extend_from_slice(&[0x5a; 255])?;
+    assert_pending(&rt, rt.alloc(), &whole, 255)
+}
+
+#[test]
+fn records_before_a_fault(rt: HostRuntime) -> Result<(), Fail> {
+    let mut reader = Reader::new(rt.alloc());
+    reader.feed(&LOAD_MISSES_BOTH_LEVELS)?;
+    assert!(rt; reader.feed(&[0]).is_err());
+    let records = records(rt.alloc(), &C1, &[LOAD, LOADED])?;
+    assert_taken(&rt, &mut reader, &records);
+    assert_eq!(rt; reader.header(), Some(ONE_BANK));
+    Ok(())
+}
+
+#[test]
+fn empty_trace(rt: HostRuntime) -> Result<(), Fail> {
+    assert_reads(&rt, rt.alloc(), &[&EMPTY_TRACE], &[])?;
+    let memory = Vec::new(rt.alloc());
+    let bytes = encoded(&rt, rt.alloc(), &ONE_BANK, &memory, &[])?;
+    assert_eq!(rt; bytes.as_slice(), EMPTY_TRACE.as_slice());
+    Ok(())
+}
+
+#[test]
+fn encode_and_skeletons(rt: HostRuntime) -> Result<(), Fail> {
+    let memory = Vec::new(rt.alloc());
+    let records = records(rt.alloc(), &C1, &[LOAD, LOADED])?;
+    let bytes = encoded(&rt, rt.alloc(), &ONE_BANK, &memory, &records)?;
+    assert_eq!(rt; bytes.as_slice(), LOAD_MISSES_BOTH_LEVELS.as_slice());
+    Ok(())
+}
+
+#[test]
+fn events_with_bytes(rt: HostRuntime) -> Result<(), Fail> {
+    let rows = [(0, 0, 0, "S 0 1@0=aa"), (1, 0, 5, "E1 0 03=aabb")];
+    let records = records_at(rt.alloc(), &C1, &rows)?;
+    let memory = Vec::new(rt.alloc());
+    let trace = encoded(&rt, rt.alloc(), &ONE_BANK, &memory, &records)?;
+    let store = "0100000000000000 01000100 0000000000000000 aa";
+    let eviction = "0801000005000000 00000000 0300000000000000 aabb";
+    let mut want = bytes_of(rt.alloc(), store)?;
+    want.extend_from_slice(&bytes_of(rt.alloc(), eviction)?)?;
+    assert_eq!(rt; trace.get(16..59), Some(want.as_slice()));
+    assert_eq!(rt; trace.len(), 67);
+    Ok(())
+}
+
+#[test]
+fn initial_memory(rt: HostRuntime) -> Result<(), Fail> {
+    let blocks = [(0, "1122334455667788")];
+    let header = Header {
+        memory_count: 1,
+        ..ONE_BANK
+    };
+    let text = "4c46545301000101 0800000001000000 00000000 1122334455667788";
+    let want = bytes_of(rt.alloc(), text)?;
+    let mut contents = memory(rt.alloc(), &blocks)?;
+    let trace = encoded(&rt, rt.alloc(), &header, &contents, &[])?;
+    assert_eq!(rt; trace.get(..28), Some(want.as_slice()));
+    let mut reader = Reader::new(rt.alloc());
+    reader.feed(&want)?;
+    assert_eq!(rt; reader.header(), Some(header));
+    assert_eq!(rt; reader.take_memory(), contents.pop());
+    assert_eq!(rt; reader.take_memory(), None);
+    Ok(())
+}
+
+#[test]
+fn fence_last(rt: HostRuntime) -> Result<(), Fail> {
+    let records = records(rt.alloc(), &C1, &[LOAD, LOADED, "F"])?;
+    let mut reader = Reader::new(rt.alloc());
+    reader.feed(&FENCE_LAST)?;
+    let header = reader.finish()?;
+    assert_eq!(rt; header.version, 2);
+    assert_eq!(rt; header.factor, 1);
+    assert_taken(&rt, &mut reader, &records);
+    let memory = Vec::new(rt.alloc());
+    let bytes = encoded(&rt, rt.alloc(), &header, &memory, &records)?;
+    assert_eq!(rt; bytes.as_slice(), FENCE_LAST.as_slice());
+    assert!(rt; !fits_trace(&ONE_BANK, &memory, &records));
+    Ok(())
+}
+
+/// A header of version 2, 2^20 loads, and one more.
+#[test]
+fn longer_logs(rt: HostRuntime) -> Result<(), Fail> {
+    let header = bytes_of(rt.alloc(), "4c46545302000101 0800000000000000")?;
+    let load = bytes_of(rt.alloc(), "0100000000000000 00000800 0000000000000000")?;
+    let mut many = Vec::new(rt.alloc());
+    for _ in 0..1024 {
+        many.extend_from_slice(&load)?;
+    }
+    let mut reader = Reader::new(rt.alloc());
+    reader.feed(&header)?;
+    for _ in 0..1024 {
+        reader.feed(&many)?;
+        for _ in 0..1024 {
+            let _ = reader.take();
+        }
+    }
+    assert_eq!(rt; reader.feed(&load), Ok(()));
+    Ok(())
+}
