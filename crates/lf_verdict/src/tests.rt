@@ -11,6 +11,7 @@ use std::alloc::{AllocError, Global};
 use std::process::Abort;
 use std::test::Fail;
 
+mod growth;
 mod mixtures;
 
 /// One load that misses both levels: a header, six records and the end record.
