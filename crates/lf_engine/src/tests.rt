@@ -1,6 +1,8 @@
 //! Worked traces, damaged files, and readers and writers that fail.
 
 mod configured;
+mod counts;
+mod cuts;
 mod damage;
 mod examples;
 mod hostile;

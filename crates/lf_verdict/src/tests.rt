@@ -13,6 +13,7 @@ use std::sync::Wait;
 use std::test::Fail;
 use std::thread::Threads;
 
+mod growth;
 mod mixtures;
 mod workers;
 
