@@ -116,7 +116,7 @@ fn check_command<'a>(alloc: Global) -> Result<Command<'a>, AllocError> {
         .value_name("N")
         .value_parser(value_parser!(u16))
         .default_value("1")
-        .help("How many workers judge the trace; only 1 is taken yet");
+        .help("How many workers judge the trace, 1 to 16; the answer is the same");
     Command::new(alloc, "check")
         .about(ABOUT_CHECK)
         .after_help(ANSWERS)
