@@ -17,6 +17,7 @@ use std::test::Fail;
 use std::thread;
 
 /// Holds each of the first so many jobs until all of these have entered.
+#[derive(Drop)]
 struct Meeting {
     wanted: u64,
     entered: AtomicU64,
