@@ -7,6 +7,8 @@ mod configuration;
 #[cfg(test)]
 mod fitting;
 #[cfg(test)]
+mod growth;
+#[cfg(test)]
 mod lines;
 #[cfg(test)]
 mod logs_of_traces;

@@ -7,7 +7,7 @@ use std::test::Fail;
 use std::thread;
 use std::thread::Threads;
 
-fn load(address: u64) -> Event {
+pub fn load(address: u64) -> Event {
     Event::Issue {
         op: Op::Load,
         tag: 0,
@@ -18,7 +18,7 @@ fn load(address: u64) -> Event {
 }
 
 // The seat of the highest log that is left.
-fn take_seat(desk: &Desk, seats: &mut Vec<LogSeat>) -> Option<LogSeat>
+pub fn take_seat(desk: &Desk, seats: &mut Vec<LogSeat>) -> Option<LogSeat>
     requires { All (λ s. s.desk ≡ desk.now.desk) seats.old.items }
     ensures taken { IfSome result (λ s. s.desk ≡ desk.now.desk) }
     ensures left { All (λ s. s.desk ≡ desk.now.desk) seats.new.items }
