@@ -8,6 +8,8 @@ use std::test::Fail;
 use std::thread;
 use std::thread::Threads;
 
+mod growth;
+
 fn load(address: u64) -> Event {
     Event::Issue {
         op: Op::Load,
