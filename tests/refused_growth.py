@@ -98,7 +98,6 @@ TOLD_BY_VERDICT = ["empty_trace", "load_misses_both_levels", "cycle_of_two_logs"
 # Tests of what is left after a refusal, which pass.
 KEPT = [
     "refused_growth_of_ten_events",
-    "refused_growth_of_a_step",
     "refused_growth_of_a_session",
 ]
 
@@ -212,7 +211,7 @@ def sweep_tests(runs, folder):
     built = tests_by_name()
     for name in TOLD + TOLD_BY_VERDICT + KEPT:
         judge = judge_kept if name in KEPT else judge_told
-        programs = [it for it in built.get(name, []) if not it[0].endswith("/score_tests")]
+        programs = [it for it in built.get(name, []) if not os.path.basename(it[0]).startswith("score")]
         if name in TOLD_BY_VERDICT:
             programs = [it for it in programs if "/lf_verdict" in it[0]]
         if not programs and runs.word in name:
