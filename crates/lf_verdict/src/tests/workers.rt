@@ -75,8 +75,9 @@ fn workers_inside_at_once(rt: HostRuntime) -> Result<(), Fail> {
     Ok(())
 }
 
+/// A pool that did all jobs on one thread would never have two of them inside.
 #[test]
-fn workers_of_a_pool_inside_at_once(rt: HostRuntime) -> Result<(), Fail> {
+fn all_jobs_on_one_thread(rt: HostRuntime) -> Result<(), Fail> {
     let Ok(jobs) = idle_jobs(rt.alloc(), &hierarchy(1, 4)) else {
         return Err(Fail::new("no jobs"));
     };
