@@ -1,8 +1,8 @@
 -- What the rows of a table say of its lines, and how they change.
-use Rattle.std.proofs.Common.{ℕ, ◌≡◌, ◌≢◌, ◌<◌, ◌≤◌, ◌+◌, ◌-◌, ◌*◌, ◌==◌, Bool, true, false, not, cond, List, length, replicate, get_or, Option, Some, None, is_some, refl, sym, ap, ◌∙◌, subst, arith, eqb-true, eq-eqb, ne_eqb, get_or-set_same, get_or-set_other, length-set}
-use Rattle.std.specs.Prelude.{count_by, slice_set, nat_lt}
+use Rattle.std.proofs.Common.{ℕ, ◌≡◌, ◌≢◌, ◌<◌, ◌≤◌, ◌+◌, ◌-◌, ◌*◌, ◌==◌, Bool, true, false, not, List, length, get_or, Option, Some, None, is_some, refl, sym, ap, ◌∙◌, subst, arith, eqb-true, eq-eqb, ne_eqb, get_or-set_same, get_or-set_other, length-set}
+use Rattle.std.specs.Prelude.{count_by, slice_set}
 use Rattle.std.proofs.Math.Logic.{⊎_elim}
-use Rattle.std.proofs.lemmas.Bool.{cases_Bool, cases_eq, eqb-false, lt-ltb, le-ltb}
+use Rattle.std.proofs.lemmas.Bool.{cases_Bool, cases_eq, lt-ltb, le-ltb}
 use Rattle.std.proofs.lemmas.Nat.{row_fits, same_from_place}
 use Rattle.std.proofs.lemmas.List.Sums.{count_by-le-length}
 use Rattle.lf_rules.specs.Fits.{is_factor}
@@ -10,7 +10,7 @@ use Rattle.lf_rules.specs.Lines.{line_at, has_line, with_line, without_line, lin
 use Rattle.lf_levels.specs.declared.ways.Line.{Line}
 use Rattle.lf_levels.specs.LineTable.{LineTable, IsLineTable, set_in, is_full}
 use Rattle.lf_levels.specs.Rows.{is_free, is_on, lines_of, IsInOwnRow, IsWhole, FindsWay}
-use Rattle.lf_levels.proofs.Counting.{worth, worth-yes, worth-no, worth-le, count-set, count-some, count-none, count-all, count-short, part, length-part, part_at, count-part}
+use Rattle.lf_levels.proofs.Counting.{worth-yes, worth-no, worth-le, count-set, count-none, count-all, count-short, part, length-part, part_at, count-part}
 use Rattle.lf_levels.proofs.Entries.{sorted_from_rising}
 use Rattle.lf_levels.proofs.InWays.{dirty_of, line_at-ways, rising, free_is, on_one, dirty_in-at, dirty_in-none, unseen, lines_of-put, lines_of-gone, passes, passing-ways, all_free, length-free, free_at}
 

@@ -2,7 +2,7 @@
 use Rattle.std.proofs.Common.{ℕ, ◌≡◌, ◌<◌, ◌≤◌, ◌+◌, ◌*◌, ◌==◌, Bool, true, false, not, cond, List, length, get_or, Option, Some, None, is_some, refl, sym, ap, ◌∙◌, subst, arith}
 use Rattle.std.specs.Prelude.{slice_set, unwrap_or, nat_lt, IsTrue, ◌↔◌}
 use Rattle.std.proofs.lemmas.Bool.{ltb-false, le-ltb, not-true}
-use Rattle.lf_rules.specs.Lines.{line_at, has_line, with_line, without_line, lines_of_set}
+use Rattle.lf_rules.specs.Lines.{line_at, has_line, with_line, lines_of_set}
 use Rattle.lf_levels.specs.declared.ways.Line.{Line}
 use Rattle.lf_levels.specs.LineTable.{LineTable, IsLineTable, ChangesOnly, set_in, is_full, after_fill, after_evict}
 use Rattle.lf_levels.specs.Rows.{is_free, is_on, lines_of, IsWhole, FindsWay}
