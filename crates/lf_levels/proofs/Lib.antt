@@ -1,3 +1,6 @@
-pub mod MapLemmas
-pub mod CountLemmas
+pub mod Counting
+pub mod Entries
+pub mod InWays
+pub mod Rows
+pub mod Searched
 pub mod Joined

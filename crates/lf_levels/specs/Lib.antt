@@ -1,3 +1,3 @@
 pub mod LineTable
 pub mod Refusals
-pub mod Counts
+pub mod Rows

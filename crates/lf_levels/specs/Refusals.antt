@@ -1,15 +1,14 @@
 -- When a fill and an eviction are refused.
 use Rattle.std.specs.Prelude.{◌≡◌, ◌≢◌, ℕ, true, false}
 use Rattle.lf_levels.specs.declared.fault.LineFault.{LineFault}
-use Rattle.lf_levels.specs.declared.fault.LineFault.TheVariants.{SetFull, EvictAbsent, EvictMask, NoMemory}
+use Rattle.lf_levels.specs.declared.fault.LineFault.TheVariants.{SetFull, EvictAbsent, EvictMask}
 use Rattle.lf_model.specs.Address.{Masks}
 use Rattle.lf_model.specs.Lines.{has_line, dirty_mask, dirty_masks, same_masks}
 use Rattle.lf_levels.specs.LineTable.{LineTable, is_full}
 
--- a fill is refused for a full set, and otherwise only for want of memory
+-- a fill is refused for a full set alone
 abbrev pub FillRefusal : {M : Type 0} → (ℕ → ℕ → ℕ → ℕ → ℕ) → LineTable M → ℕ → LineFault → Type 0
 FillRefusal set table block SetFull = is_full set table block ≡ true
-FillRefusal set table block NoMemory = is_full set table block ≡ false
 FillRefusal set table block EvictAbsent = ⊥
 FillRefusal set table block EvictMask = ⊥
 
@@ -18,11 +17,9 @@ abbrev pub EvictRefusal : LineTable ℕ → ℕ → ℕ → LineFault → Type 0
 EvictRefusal table block mask EvictAbsent = has_line table.lines block ≡ false
 EvictRefusal table block mask EvictMask = (has_line table.lines block ≡ true) × (mask ≢ dirty_mask table.lines block)
 EvictRefusal table block mask SetFull = ⊥
-EvictRefusal table block mask NoMemory = ⊥
 
 -- the same of level two, where one of the masks is not the line's
 abbrev pub WideEvictRefusal : LineTable Masks → ℕ → Masks → LineFault → Type 0
 WideEvictRefusal table second masks EvictAbsent = has_line table.lines second ≡ false
 WideEvictRefusal table second masks EvictMask = (has_line table.lines second ≡ true) × (same_masks table.factor masks (dirty_masks table.lines second) ≡ false)
 WideEvictRefusal table second masks SetFull = ⊥
-WideEvictRefusal table second masks NoMemory = ⊥

@@ -9,6 +9,4 @@ pub enum LineFault {
     EvictAbsent,
     /// The mask is not the dirty mask of the line.
     EvictMask,
-    /// A growth was refused.
-    NoMemory,
 }

@@ -4,6 +4,7 @@ ghost use Rattle.std.specs.Prelude.{◌≡◌, ◌<◌, true};
 ghost use Rattle.lf_model.specs.Address.{set1_of};
 ghost use Rattle.lf_model.specs.Fits.{is_factor};
 
+use crate::lines_two::joined;
 use lf_model::Masks;
 
 /// A level of the cache: what is dirty of its lines, and which set a block is in.
@@ -14,11 +15,21 @@ pub trait Level {
     /// What is dirty of a line.
     type Dirty: Drop;
 
+    // nothing of a line
+    ghost clean: { Self.Dirty };
+
+    // what is dirty of a line of which more is written
+    ghost join: { Self.Dirty → Self.Dirty → Self.Dirty };
+
     // the set of a block, of so many banks, first-level blocks in one of level two, and sets
     ghost set: { ℕ → ℕ → ℕ → ℕ → ℕ };
 
     // there are only so many sets
     ghost set_below: { (banks factor sets block : ℕ) → 0 < sets → set banks factor sets block < sets };
+
+    /// What is dirty of a line of which more is written.
+    fn join(dirty: &Self::Dirty, more: &Self::Dirty) -> Self::Dirty
+        ensures { result ≡ join dirty.now more.now };
 
     /// The set of a block.
     fn set_of(banks: u32, factor: u32, sets: u32, block: u32) -> u32
@@ -38,14 +49,23 @@ pub struct One;
 pub struct Two;
 
 impl Level for One {
+    ghost use Rattle.std.specs.Prelude.{bit_or};
     ghost use Rattle.lf_model.specs.Address.{set1_of};
     ghost use Rattle.std.proofs.lemmas.Nat.{mod_below};
 
     type Dirty = u64;
 
+    ghost clean = { 0 };
+
+    ghost join = { bit_or };
+
     ghost set = { set1_of };
 
     ghost set_below = { λ banks factor sets block some. mod_below _ sets some };
+
+    fn join(dirty: &u64, more: &u64) -> u64 {
+        *dirty | *more
+    }
 
     fn set_of(banks: u32, factor: u32, sets: u32, block: u32) -> u32 {
         set1_of(banks, factor, sets, block)
@@ -62,14 +82,23 @@ fn set1_of(banks: u32, factor: u32, sets: u32, block: u32) -> u32
 }
 
 impl Level for Two {
-    ghost use Rattle.lf_levels.specs.LineTable.{wide_set};
+    ghost use Rattle.lf_levels.specs.LineTable.{wide_set, joined};
+    ghost use Rattle.lf_model.specs.Lines.{no_masks};
     ghost use Rattle.std.proofs.lemmas.Nat.{mod_below};
 
     type Dirty = Masks;
 
+    ghost clean = { no_masks };
+
+    ghost join = { λ dirty more. record { items = joined dirty.items more.items } };
+
     ghost set = { wide_set };
 
     ghost set_below = { λ banks factor sets block some. mod_below _ sets some };
+
+    fn join(dirty: &Masks, more: &Masks) -> Masks {
+        joined(dirty, more)
+    }
 
     fn set_of(banks: u32, _factor: u32, sets: u32, block: u32) -> u32 {
         block / banks % sets

@@ -4,6 +4,7 @@
 //!
 //! A `Lines` is seen as its numbers of sets, ways, banks and first-level blocks in one of level two, and
 //! a map from block to what is dirty, by the words of `lf_model`. No set ever has more lines than ways.
+//! Only `new` takes memory: it makes all ways, a row of them for each set.
 #![tactic(auto)]
 
 mod fault;
@@ -11,6 +12,7 @@ mod level;
 mod lines;
 mod lines_one;
 mod lines_two;
+mod ways;
 #[cfg(test)]
 mod tests;
 

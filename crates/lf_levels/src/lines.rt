@@ -1,6 +1,6 @@
 //! A table of lines.
 
-ghost use Rattle.std.specs.Prelude.{◌≡◌, true, false, ◌↔◌, IsTrue, Option, Some, None, option_copied, IfOk, IfErr, OnErr};
+ghost use Rattle.std.specs.Prelude.{◌≡◌, ◌*◌, true, false, ◌↔◌, IsTrue, Option, Some, None, option_copied, unwrap_or, IfOk, IfErr, OnErr};
 ghost use Rattle.lf_model.specs.Fits.{is_factor};
 ghost use Rattle.lf_model.specs.InRange.{IsFrom};
 ghost use Rattle.lf_model.specs.Lines.{line_at, has_line, lines_of_set};
@@ -9,9 +9,9 @@ ghost use Rattle.lf_levels.specs.Refusals.{FillRefusal};
 
 use crate::fault::LineFault;
 use crate::level::Level;
+use crate::ways::{Line, find_free, find_line, free_ways};
 use lf_model::NoMemory;
 use std::alloc::Global;
-use std::collections::BTreeMap;
 use std::marker::Model;
 
 /// The lines of one bank at level `L`, which is `One` or `Two`.
@@ -21,25 +21,23 @@ pub struct Lines<L: Level> {
     ways: u32,
     banks: u32,
     factor: u32,
-    /// What is dirty of each block that has a line.
-    dirty: BTreeMap<u32, L::Dirty>,
-    /// How many lines each set has.
-    counts: Vec<u8>,
+    /// A row of ways for each set, one row after another.
+    rows: Vec<Option<Line<L::Dirty>>>,
 }
 
 impl<L: Level> Model for Lines<L> {
     ghost use Rattle.lf_levels.specs.LineTable.{LineTable};
-    ghost use Rattle.lf_levels.specs.Counts.{IsWhole};
+    ghost use Rattle.lf_levels.specs.Rows.{IsWhole, lines_of};
 
     ghost Value = { LineTable L.Dirty };
 
-    ghost view = { λ a. record { sets = a.sets; ways = a.ways; banks = a.banks; factor = a.factor; lines = a.dirty.entries } };
+    ghost view = { λ a. record { sets = a.sets; ways = a.ways; banks = a.banks; factor = a.factor; lines = lines_of a.rows.items } };
 
-    ghost invariant = { λ a. IsWhole L.set a.sets a.ways a.banks a.factor a.counts.items a.dirty.entries };
+    ghost invariant = { λ a. IsWhole L.set a.sets a.ways a.banks a.factor a.rows.items };
 }
 
 impl<L: Level> Lines<L> {
-    /// A table with no line.
+    /// A table with no line, and room for all that it can ever have.
     pub fn new(
         alloc: Global,
         sets: u32,
@@ -53,18 +51,14 @@ impl<L: Level> Lines<L> {
         requires factor { is_factor factor ≡ true }
         ensures { IfOk result (λ lines. lines ≡ empty_table sets ways banks factor) }
     {
-        let dirty = BTreeMap::new(alloc);
-        match vec![in alloc; 0; sets as usize] {
-            Ok(counts) => Ok(Lines {
-                sets,
-                ways,
-                banks,
-                factor,
-                dirty,
-                counts,
-            }),
-            Err(_) => Err(NoMemory),
-        }
+        let rows = free_ways(alloc, sets as usize * ways as usize)?;
+        Ok(Lines {
+            sets,
+            ways,
+            banks,
+            factor,
+            rows,
+        })
     }
 
     /// Whether a line is on the block.
@@ -72,7 +66,7 @@ impl<L: Level> Lines<L> {
         ensures value { result ≡ has_line self.now.lines block }
         ensures table { IsLineTable L.set self.now }
     {
-        self.dirty.contains_key(&block)
+        find_line(&self.rows, self.row(block), self.ways as usize, block).is_some()
     }
 
     /// Whether each way of the block's set has a line.
@@ -81,8 +75,15 @@ impl<L: Level> Lines<L> {
         ensures all_ways { IsTrue result ↔ (lines_of_set (set_in L.set self.now) self.now.lines block ≡ self.now.ways) }
         ensures table { IsLineTable L.set self.now }
     {
+        find_free(&self.rows, self.row(block), self.ways as usize).is_none()
+    }
+
+    /// Where the row of the block's set begins.
+    fn row(&self, block: u32) -> usize
+        ensures { result ≡ set_in L.set self.now block * self.now.ways }
+    {
         let set = L::set_of(self.banks, self.factor, self.sets, block);
-        u32::from(self.counts[set as usize]) >= self.ways
+        set as usize * self.ways as usize
     }
 
     pub(crate) fn factor(&self) -> u32
@@ -97,7 +98,13 @@ impl<L: Level> Lines<L> {
         ensures value { option_copied result ≡ line_at self.now.lines block }
         ensures table { IsLineTable L.set self.now }
     {
-        self.dirty.get(&block)
+        let Some(way) = find_line(&self.rows, self.row(block), self.ways as usize, block) else {
+            return None;
+        };
+        match &self.rows[way] {
+            Some(line) => Some(&line.dirty),
+            None => None,
+        }
     }
 
     /// A line comes to a block that has none.
@@ -109,29 +116,29 @@ impl<L: Level> Lines<L> {
         ensures refused { IfErr result (λ fault. FillRefusal L.set self.old block fault) }
         ensures unchanged { OnErr result (self.new ≡ self.old) }
     {
-        if self.full(block) {
+        let row = self.row(block);
+        let Some(way) = find_free(&self.rows, row, self.ways as usize) else {
             return Err(LineFault::SetFull);
-        }
-        match self.dirty.insert(block, dirty) {
-            Ok(_) => {
-                let set = L::set_of(self.banks, self.factor, self.sets, block);
-                self.counts[set as usize] += 1;
-                Ok(())
-            }
-            Err(_) => Err(LineFault::NoMemory),
-        }
+        };
+        self.rows[way] = Some(Line { block, dirty });
+        Ok(())
     }
 
-    /// What is dirty of the block's line becomes this.
-    pub(crate) fn set(&mut self, block: u32, dirty: L::Dirty)
+    /// More of the block's line is dirty.
+    pub(crate) fn gain(&mut self, block: u32, more: &L::Dirty)
         requires { has_line self.old.lines block ≡ true }
-        ensures set { self.new ≡ after_fill self.old block dirty }
-        ensures here { ChangesOnly self.old self.new block (Some dirty) }
+        ensures gained { self.new ≡ after_fill self.old block (L.join (unwrap_or (line_at self.old.lines block) L.clean) more.now) }
+        ensures here { ChangesOnly self.old self.new block (Some (L.join (unwrap_or (line_at self.old.lines block) L.clean) more.now)) }
     {
-        let Some(old) = self.dirty.get_mut(&block) else {
+        let row = self.row(block);
+        let Some(way) = find_line(&self.rows, row, self.ways as usize, block) else {
             unreachable!()
         };
-        *old = dirty;
+        let Some(line) = &self.rows[way] else {
+            unreachable!()
+        };
+        let dirty = L::join(&line.dirty, more);
+        self.rows[way] = Some(Line { block, dirty });
     }
 
     /// The block's line goes.
@@ -140,8 +147,10 @@ impl<L: Level> Lines<L> {
         ensures gone { self.new ≡ after_evict self.old block }
         ensures here { ChangesOnly self.old self.new block None }
     {
-        let _ = self.dirty.remove(&block);
-        let set = L::set_of(self.banks, self.factor, self.sets, block);
-        self.counts[set as usize] -= 1;
+        let row = self.row(block);
+        let Some(way) = find_line(&self.rows, row, self.ways as usize, block) else {
+            unreachable!()
+        };
+        self.rows[way] = None;
     }
 }

@@ -24,7 +24,7 @@ impl Lines<One> {
     }
 
     /// A line comes to a block that has none, with this dirty mask. `SetFull` where each way of the
-    /// block's set has a line; `NoMemory` where there is a free way and a growth was refused.
+    /// block's set has a line.
     pub fn fill(&mut self, block: u32, mask: Mask) -> Result<(), LineFault>
         requires { has_line self.old.lines block ≡ false }
         ensures free_way { IfOk result (λ _. is_full set1_of self.old block ≡ false) }
@@ -42,11 +42,7 @@ impl Lines<One> {
         ensures marked { self.new ≡ after_fill self.old block (joined1 self.old block mask.0) }
         ensures here { ChangesOnly self.old self.new block (Some (joined1 self.old block mask.0)) }
     {
-        let Some(dirty) = self.line(block) else {
-            unreachable!()
-        };
-        let all = *dirty | mask.0;
-        self.set(block, all);
+        self.gain(block, &mask.0);
     }
 
     /// The block's line goes, where the mask is its dirty mask. `EvictAbsent` where no line is on the

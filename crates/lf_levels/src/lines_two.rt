@@ -30,7 +30,7 @@ pub fn same_masks(factor: u32, a: &Masks, b: &Masks) -> bool
 }
 
 /// Each mask with the bytes of the other that stands beside it.
-fn joined(masks: &Masks, others: &Masks) -> Masks
+pub fn joined(masks: &Masks, others: &Masks) -> Masks
     ensures { result.items ≡ joined masks.now.items others.now.items }
 {
     let mut all = Masks::new();
@@ -50,7 +50,7 @@ impl Lines<Two> {
     }
 
     /// A line comes to a second-level block that has none, with these dirty masks. `SetFull` where each
-    /// way of the block's set has a line; `NoMemory` where there is a free way and a growth was refused.
+    /// way of the block's set has a line.
     pub fn fill(&mut self, second: u32, masks: Masks) -> Result<(), LineFault>
         requires { has_line self.old.lines second ≡ false }
         ensures free_way { IfOk result (λ _. is_full wide_set self.old second ≡ false) }
@@ -68,11 +68,7 @@ impl Lines<Two> {
         ensures marked { self.new ≡ after_fill self.old second (joined2 self.old second masks.now) }
         ensures here { ChangesOnly self.old self.new second (Some (joined2 self.old second masks.now)) }
     {
-        let Some(dirty) = self.line(second) else {
-            unreachable!()
-        };
-        let all = joined(dirty, masks);
-        self.set(second, all);
+        self.gain(second, masks);
     }
 
     /// The second-level block's line goes, where the masks are its dirty masks. `EvictAbsent` where no
@@ -97,7 +93,8 @@ impl Lines<Two> {
     }
 
     /// Whether the second level may give up its line on the block: where the first level has no line
-    /// on any block of it, and no register of the first level holds one.
+    /// on any block of it, and no register of the first level holds one. `second` is a second-level block
+    /// whose blocks all have numbers below 2^32.
     pub fn may_leave(&self, second: u32, inner: &Lines<One>, in_register: bool) -> bool
         requires fits { second < 0x1_0000_0000 / self.now.factor }
         ensures { result ≡ (are_absent self.now.factor inner.now second && not in_register) }

@@ -47,6 +47,21 @@ fn a_set_has_as_many_lines_as_ways(rt: HostRuntime) -> Result<(), Fail> {
     Ok(())
 }
 
+/// The greatest table: the 16 blocks are in set 0, as the block after them; block 16 is in set 1.
+#[test]
+fn lines_of_many_sets(rt: HostRuntime) -> Result<(), Fail> {
+    let mut lines: Lines<One> = Lines::new(rt.alloc(), 4096, 16, 16, 1).ok().ok_or("no memory")?;
+    for k in 0..16 {
+        assert!(rt; !lines.has(65_536 * k));
+        assert_eq!(rt; lines.fill(65_536 * k, Mask(0)), Ok(()));
+    }
+    assert!(rt; !lines.has(1_048_576));
+    assert_eq!(rt; lines.fill(1_048_576, Mask(0)), Err(LineFault::SetFull));
+    assert!(rt; !lines.has(16));
+    assert_eq!(rt; lines.fill(16, Mask(0)), Ok(()));
+    Ok(())
+}
+
 #[test]
 fn level_two_keeps_what_level_one_holds(rt: HostRuntime) -> Result<(), Fail> {
     let mut inner: Lines<One> = Lines::new(rt.alloc(), 1, 1, 1, 1).ok().ok_or("no memory")?;

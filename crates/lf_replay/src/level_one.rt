@@ -266,7 +266,7 @@ impl Bank {
             return Err(BankFault::NoMemory);
         }
         if self.lines1.fill(block, Mask(stores)).is_err() {
-            return Err(BankFault::NoMemory);
+            unreachable!()
         }
         O::release_into(waiting, block, &mut self.replied);
         add_replies(&mut self.ready, &self.shape, self.replied.as_slice());

@@ -180,7 +180,7 @@ impl Bank {
             .fill(second, clean_masks(self.shape.factor))
             .is_err()
         {
-            return Err(BankFault::NoMemory);
+            unreachable!()
         }
         O2::release_into(regs2, second, &mut self.fetched);
         add_blocks(

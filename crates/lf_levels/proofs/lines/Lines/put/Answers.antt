@@ -1,21 +1,25 @@
-use Rattle.std.proofs.Common.{Some, ◌≡◌, ap, sym, ◌∙◌, false}
-use Rattle.lf_model.specs.Lines.{has_line}
-use Rattle.lf_levels.specs.LineTable.{LineTable, is_full}
-use Rattle.lf_levels.proofs.CountLemmas.{IsWhole-fill, none-from_is_some, lines_of_set-lt, table_of}
-use Rattle.lf_levels.proofs.MapLemmas.{changes_at}
+use Rattle.std.proofs.Common.{arith, Some, None}
+use Rattle.lf_levels.specs.Rows.{is_free}
+use Rattle.lf_levels.proofs.Searched.{row_fits, way_inside, full_value, filled_whole, filled_table, changed-fill}
 use Rattle.lf_levels.proofs.lines.Lines.put.Goals as goal
 
-pub invariant_of-self : goal.invariant_of-self
-invariant_of-self g c =
-    let set = g.L.Level.set in
-    let table = table_of c.self.inside.sets c.self.inside.ways c.self.inside.banks c.self.inside.factor c.self.inside.dirty.entries in
-    let absent : has_line c.self.inside.dirty.entries c.args.block ≡ false = ap (λ (t : LineTable _). has_line t.lines c.args.block) c.self.view_is ∙ c.requires in
-    let room : is_full set table c.args.block ≡ false = ap (λ (t : LineTable _). is_full set t c.args.block) c.self.view_is ∙ sym c.full.ensures.value ∙ c.if-full.false in
-    IsWhole-fill c.self.invariant c.args.block c.args.dirty c.set_of-set.result c.index_mut.result.now c.insert.new.self.entries
-    c.set_of-set.ensures c.index_mut.ensures.value
-    (none-from_is_some _ absent) (lines_of_set-lt set table c.args.block room)
-    c.in-Ok.ensures.entries c.insert.ensures.ordered
+pub find_free-requires : goal.find_free-requires
+find_free-requires g c = row_fits c.self.invariant c.args.self.now c.self.view_is c.args.block c.row-row.result c.row-row.ensures _ c.deref.ensures.value
 
-pub returns-in-Ok-clause-here : goal.returns-in-Ok-clause-here
-returns-in-Ok-clause-here g c =
-    rw (← c.self.view_is) (changes_at c.args.block (Some c.args.dirty) c.self.inside.dirty.entries c.insert.new.self.entries c.in-Ok.ensures.updates.0)
+pub index_mut-requires : goal.index_mut-requires
+index_mut-requires g c = omega (arith, way_inside c.self.invariant c.args.self.now c.self.view_is c.args.block c.row-row.result c.row-row.ensures _ c.deref.ensures.value is_free c.in-Some.way c.in-Some.ensures, c.self.inside.rows.ok.0)
+
+pub invariant_of-self : goal.invariant_of-self
+invariant_of-self g c = filled_whole c.self.invariant c.args.self.now c.self.view_is c.args.block c.row-row.result c.row-row.ensures _ c.deref.ensures.value c.in-Some.way c.in-Some.ensures c.requires c.args.dirty
+
+pub returns-in_default-clause-refused : goal.returns-in_default-clause-refused
+returns-in_default-clause-refused g c = full_value c.self.invariant c.args.self.now c.self.view_is c.args.block c.row-row.result c.row-row.ensures _ c.deref.ensures.value None c.in_default.ensures
+
+pub returns-clause-free_way : goal.returns-clause-free_way
+returns-clause-free_way g c = full_value c.self.invariant c.args.self.now c.self.view_is c.args.block c.row-row.result c.row-row.ensures _ c.deref.ensures.value (Some c.in-Some.way) c.in-Some.ensures
+
+pub returns-clause-filled : goal.returns-clause-filled
+returns-clause-filled g c = filled_table c.self.invariant c.args.self.now c.self.view_is c.args.block c.row-row.result c.row-row.ensures _ c.deref.ensures.value c.in-Some.way c.in-Some.ensures c.requires c.args.dirty
+
+pub returns-clause-here : goal.returns-clause-here
+returns-clause-here g c = changed-fill c.args.self.now _ c.args.block c.args.dirty (filled_table c.self.invariant c.args.self.now c.self.view_is c.args.block c.row-row.result c.row-row.ensures _ c.deref.ensures.value c.in-Some.way c.in-Some.ensures c.requires c.args.dirty)

@@ -1,26 +1,22 @@
-use Rattle.std.proofs.Common.{None, ◌≡◌, ap, ◌∙◌, true}
-use Rattle.lf_model.specs.Lines.{has_line}
-use Rattle.lf_levels.specs.LineTable.{LineTable}
-use Rattle.lf_levels.proofs.CountLemmas.{IsWhole-evict, counts_line-at, table_of}
-use Rattle.lf_levels.proofs.MapLemmas.{remove_entry-sorted, changes_at}
+use Rattle.std.proofs.Common.{arith, Some, None}
+use Rattle.lf_levels.specs.Rows.{is_on}
+use Rattle.lf_levels.proofs.Searched.{row_fits, way_inside, not_lacking, gone_whole, gone_table, changed-evict}
 use Rattle.lf_levels.proofs.lines.Lines.take_out.Goals as goal
 
-pub overflow_sub-index_mut : goal.overflow_sub-index_mut
-overflow_sub-index_mut g c =
-    let there : has_line c.self.inside.dirty.entries c.args.block ≡ true = ap (λ (t : LineTable _). has_line t.lines c.args.block) c.self.view_is ∙ c.requires in
-    counts_line-at c.self.invariant.sound c.args.block c.set_of-set.result c.index_mut.result.now c.set_of-set.ensures c.index_mut.ensures.value there
+pub find_line-requires : goal.find_line-requires
+find_line-requires g c = row_fits c.self.invariant c.args.self.now c.self.view_is c.args.block c.row-row.result c.row-row.ensures _ c.deref.ensures.value
+
+pub unreachable-requires : goal.unreachable-requires
+unreachable-requires g c = not_lacking c.self.invariant c.args.self.now c.self.view_is c.args.block c.row-row.result c.row-row.ensures _ c.deref.ensures.value c.requires c.in_default.ensures
+
+pub index_mut-requires : goal.index_mut-requires
+index_mut-requires g c = omega (arith, way_inside c.self.invariant c.args.self.now c.self.view_is c.args.block c.row-row.result c.row-row.ensures _ c.deref.ensures.value (is_on c.args.block) c.in-Some.way c.in-Some.ensures, c.self.inside.rows.ok.0)
 
 pub invariant_of-self : goal.invariant_of-self
-invariant_of-self g c =
-    let there : has_line c.self.inside.dirty.entries c.args.block ≡ true = ap (λ (t : LineTable _). has_line t.lines c.args.block) c.self.view_is ∙ c.requires in
-    IsWhole-evict c.self.invariant c.args.block c.set_of-set.result c.index_mut.result.now c.remove.new.self.entries
-    c.set_of-set.ensures c.index_mut.ensures.value there c.remove.ensures.entries c.remove.ensures.ordered
+invariant_of-self g c = gone_whole c.self.invariant c.args.self.now c.self.view_is c.args.block c.row-row.result c.row-row.ensures _ c.deref.ensures.value c.in-Some.way c.in-Some.ensures
 
 pub returns-clause-gone : goal.returns-clause-gone
-returns-clause-gone g c =
-    let lines = c.remove.ensures.entries ∙ remove_entry-sorted c.args.block c.self.inside.dirty.entries c.self.invariant.sound.sorted in
-    rw (← c.self.view_is) (ap (table_of c.self.inside.sets c.self.inside.ways c.self.inside.banks c.self.inside.factor) lines)
+returns-clause-gone g c = gone_table c.self.invariant c.args.self.now c.self.view_is c.args.block c.row-row.result c.row-row.ensures _ c.deref.ensures.value c.in-Some.way c.in-Some.ensures
 
 pub returns-clause-here : goal.returns-clause-here
-returns-clause-here g c =
-    rw (← c.self.view_is) (changes_at c.args.block None c.self.inside.dirty.entries c.remove.new.self.entries c.remove.ensures.updates.0)
+returns-clause-here g c = changed-evict c.args.self.now _ c.args.block (gone_table c.self.invariant c.args.self.now c.self.view_is c.args.block c.row-row.result c.row-row.ensures _ c.deref.ensures.value c.in-Some.way c.in-Some.ensures)

@@ -28,13 +28,6 @@ returns-then-is_err-clause-answer g c = λ log bank waiting fetched wait.
     let way = free_way wide_set c.args.self.now.lines2 c.args.self.now.shape.banks c.args.self.now.shape.factor c.args.self.now.shape.level2.sets c.args.self.now.shape.level2.ways c.args.second c.requires.framed.banks2 c.requires.framed.factor2 c.requires.framed.sets2
     c.requires.framed.ways2 c.if-full.ensures.value in (three_hold NotFetched SetFull FillData _ _ _ (sym there) way (sym agrees), search rules)
 
-pub returns-then-is_err-2-clause-answer : goal.returns-then-is_err-2-clause-answer
-returns-then-is_err-2-clause-answer g c = λ log bank waiting fetched wait.
-    let there = c.if-not-is_fetched.ensures.told c.args.self.now.shape fetched wait.level2 in
-    let agrees = c.if-not-wide_agrees.ensures waiting wait.level1 in
-    let way = free_way wide_set c.args.self.now.lines2 c.args.self.now.shape.banks c.args.self.now.shape.factor c.args.self.now.shape.level2.sets c.args.self.now.shape.level2.ways c.args.second c.requires.framed.banks2 c.requires.framed.factor2 c.requires.framed.sets2
-    c.requires.framed.ways2 c.if-full.ensures.value in (three_hold NotFetched SetFull FillData _ _ _ (sym there) way (sym agrees), search rules)
-
 pub returns-clause-answer : goal.returns-clause-answer
 returns-clause-answer g c = λ log bank waiting fetched wait.
     let there = c.if-not-is_fetched.ensures.told c.args.self.now.shape fetched wait.level2 in

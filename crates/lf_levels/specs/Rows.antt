@@ -1,0 +1,43 @@
+-- The rows of ways that a table keeps, and the lines that stand in them.
+use Rattle.std.specs.Prelude.{◌≡◌, ℕ, ◌<◌, ◌≤◌, ◌*◌, ◌+◌, ◌==◌, Bool, true, false, List, [], ◌∷◌, length, Option, None, Some, count_by, slice_index_or, ⊤}
+use Rattle.lf_levels.specs.declared.ways.Line.{Line}
+use Rattle.lf_model.specs.Fits.{is_factor}
+use Rattle.lf_model.specs.Lines.{with_line}
+
+module _ {M : Type 0} where
+  abbrev pub is_free : Option (Line M) → Bool
+  is_free None = true
+  is_free (Some line) = false
+
+  -- has the way the line of the block?
+  abbrev pub is_on : ℕ → Option (Line M) → Bool
+  is_on block None = false
+  is_on block (Some line) = line.block == block
+
+  -- the lines in the ways, by rising blocks
+  abbrev pub lines_of : List (Option (Line M)) → List (ℕ × M)
+  lines_of [] = []
+  lines_of (None ∷ rows) = lines_of rows
+  lines_of (Some line ∷ rows) = with_line (lines_of rows) line.block line.dirty
+
+  -- The place is in the row of the line's set, where rows have so many ways.
+  abbrev pub IsInOwnRow : (ℕ → ℕ) → ℕ → ℕ → Option (Line M) → Type 0
+  IsInOwnRow set ways place None = ⊤
+  IsInOwnRow set ways place (Some line) = (set line.block * ways ≤ place) × (place < set line.block * ways + ways)
+
+  -- There is a row for each set, each line stands in the row of its set, and no block has two.
+  pub record IsWhole (set : ℕ → ℕ → ℕ → ℕ → ℕ) (sets ways banks factor : ℕ) (rows : List (Option (Line M))) : Type 0 where
+    pub some_sets : 0 < sets
+    pub below : (block : ℕ) → set banks factor sets block < sets
+    pub few_sets : sets ≤ 4096
+    pub few_ways : ways ≤ 16
+    pub some_banks : 0 < banks
+    pub in_range : is_factor factor ≡ true
+    pub each_set : length rows ≡ sets * ways
+    pub home : (place : ℕ) → place < length rows → IsInOwnRow (set banks factor sets) ways place (slice_index_or rows place None)
+    pub once : (block : ℕ) → count_by (is_on block) rows ≤ 1
+
+  -- This is a place of so many ways from a place on that passes the test, or none of them does.
+  abbrev pub FindsWay : (Option (Line M) → Bool) → List (Option (Line M)) → ℕ → ℕ → Option ℕ → Type 0
+  FindsWay test rows from count (Some place) = (from ≤ place) × (place < from + count) × (test (slice_index_or rows place None) ≡ true)
+  FindsWay test rows from count None = (place : ℕ) → from ≤ place → place < from + count → test (slice_index_or rows place None) ≡ false
