@@ -1,17 +1,16 @@
 -- Lines by rising blocks: as the entries of a sorted map.
-use Rattle.std.proofs.Common.{ℕ, ◌≡◌, Bool, true, false, cond, not, ◌&&◌, ◌==◌, ◌+◌, List, [], ◌∷◌, Option, Some, None, is_some, refl, sym, ap, ◌∙◌, subst, ap₂, arith, eqb-true, eq-eqb, ne_eqb, Ordering, Less, Equal, Greater}
+use Rattle.std.proofs.Common.{ℕ, ◌≡◌, Bool, true, false, cond, not, ◌&&◌, ◌==◌, ◌+◌, List, [], ◌∷◌, Some, None, is_some, refl, sym, ap, ◌∙◌, subst, ap₂, arith, eqb-true, eq-eqb, ne_eqb, Ordering, Less, Equal, Greater}
 use Rattle.std.specs.Prelude.{count_by, T}
-use Rattle.std.specs.Map.{lookup, keys_of}
-use Rattle.std.specs.List.{filter, AllByRecursion}
+use Rattle.std.specs.Map.{keys_of}
+use Rattle.std.specs.List.{AllByRecursion}
 use Rattle.std.specs.List.Sorted.{IsStrictlySortedBy}
-use Rattle.std.specs.BTreeMap.{is_at, insert_entry}
 use Rattle.std.specs.Ordering.{nat_cmp, eq_by_cmp, match_ordering, is_lt, is_eq}
 use Rattle.std.specs.Cmp.{nat_cmp_total, unsigned_tied, ranked}
 use Rattle.std.specs.FinMap.Entries.{find, put, by_order, below_all, is_sorted, find-put, find-where_key, is_sorted-put, is_sorted-where_key, same_entries}
 use Rattle.std.proofs.lemmas.Bool.{eqb-false}
 use Rattle.std.proofs.lemmas.Map.Lookups.{exact_unsigned}
 use Rattle.lf_model.specs.Lines.{line_at, with_line, without_line}
-use Rattle.lf_levels.proofs.Counting.{worth, count-cons}
+use Rattle.lf_levels.proofs.Counting.{count-cons}
 
 pub flip : (a b : ℕ) → (a == b) ≡ (b == a)
 flip a b = elim (a == b) as (λ t. (a == b) ≡ t → t ≡ (b == a)) [

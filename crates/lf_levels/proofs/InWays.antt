@@ -2,12 +2,12 @@
 use Rattle.std.proofs.Common.{ℕ, zero, suc, ◌≡◌, ◌≢◌, ◌<◌, ◌≤◌, ◌+◌, ◌==◌, Bool, true, false, cond, List, [], ◌∷◌, length, replicate, get_or, Option, Some, None, refl, sym, ap, ◌∙◌, subst, arith, eqb-true, eq-eqb, ne_eqb, get_or-set_same, length-set}
 use Rattle.std.specs.Prelude.{count_by, slice_set}
 use Rattle.std.proofs.Math.Logic.{⊎_elim}
-use Rattle.std.proofs.lemmas.Bool.{cases_Bool, cases_eq, both_ways, eqb-false}
+use Rattle.std.proofs.lemmas.Bool.{cases_Bool, cases_eq}
 use Rattle.std.proofs.lemmas.List.{length-replicate, get_or-replicate}
 use Rattle.lf_model.specs.Lines.{line_at, with_line, without_line}
 use Rattle.lf_levels.specs.declared.ways.Line.{Line}
 use Rattle.lf_levels.specs.Rows.{is_free, is_on, lines_of}
-use Rattle.lf_levels.proofs.Counting.{worth, worth-yes, worth-no, worth-le, count-cons, count-set, count-some, count-none}
+use Rattle.lf_levels.proofs.Counting.{worth-yes, count-cons, count-some, count-none}
 use Rattle.lf_levels.proofs.Entries.{line_put, line_gone, AreRising, rising-with, rising-without, same_lines, passing, passing-with}
 
 module _ {M : Type 0} where

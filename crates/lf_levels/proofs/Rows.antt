@@ -1,8 +1,8 @@
 -- What the rows of a table say of its lines, and how they change.
-use Rattle.std.proofs.Common.{ℕ, ◌≡◌, ◌≢◌, ◌<◌, ◌≤◌, ◌+◌, ◌-◌, ◌*◌, ◌==◌, Bool, true, false, not, cond, List, length, replicate, get_or, Option, Some, None, is_some, refl, sym, ap, ◌∙◌, subst, arith, eqb-true, eq-eqb, ne_eqb, get_or-set_same, get_or-set_other, length-set}
-use Rattle.std.specs.Prelude.{count_by, slice_set, nat_lt}
+use Rattle.std.proofs.Common.{ℕ, ◌≡◌, ◌≢◌, ◌<◌, ◌≤◌, ◌+◌, ◌-◌, ◌*◌, ◌==◌, Bool, true, false, not, List, length, get_or, Option, Some, None, is_some, refl, sym, ap, ◌∙◌, subst, arith, eqb-true, eq-eqb, ne_eqb, get_or-set_same, get_or-set_other, length-set}
+use Rattle.std.specs.Prelude.{count_by, slice_set}
 use Rattle.std.proofs.Math.Logic.{⊎_elim}
-use Rattle.std.proofs.lemmas.Bool.{cases_Bool, cases_eq, eqb-false, lt-ltb, le-ltb}
+use Rattle.std.proofs.lemmas.Bool.{cases_Bool, cases_eq, lt-ltb, le-ltb}
 use Rattle.std.proofs.lemmas.Nat.{row_fits, same_from_place}
 use Rattle.std.proofs.lemmas.List.Sums.{count_by-le-length}
 use Rattle.lf_model.specs.Fits.{is_factor}
@@ -10,7 +10,7 @@ use Rattle.lf_model.specs.Lines.{line_at, has_line, with_line, without_line, lin
 use Rattle.lf_levels.specs.declared.ways.Line.{Line}
 use Rattle.lf_levels.specs.LineTable.{LineTable, IsLineTable, set_in, is_full}
 use Rattle.lf_levels.specs.Rows.{is_free, is_on, lines_of, IsInOwnRow, IsWhole, FindsWay}
-use Rattle.lf_levels.proofs.Counting.{worth, worth-yes, worth-no, worth-le, count-set, count-some, count-none, count-all, count-short, part, length-part, part_at, count-part}
+use Rattle.lf_levels.proofs.Counting.{worth-yes, worth-no, worth-le, count-set, count-none, count-all, count-short, part, length-part, part_at, count-part}
 use Rattle.lf_levels.proofs.Entries.{sorted_from_rising}
 use Rattle.lf_levels.proofs.InWays.{dirty_of, line_at-ways, rising, free_is, on_one, dirty_in-at, dirty_in-none, unseen, lines_of-put, lines_of-gone, passes, passing-ways, all_free, length-free, free_at}
 
@@ -106,16 +106,16 @@ module _ {M : Type 0} {set : ℕ → ℕ → ℕ → ℕ → ℕ} {sets ways ban
       let at : get_or rows (of block * ways + k) None ≡ get_or rows way None = ap (λ n. get_or rows n None) (omega (arith, found.0)) in
       let test = passes (λ b. of b == of block) in
       let few = count-short test (part test rows (of block * ways) ways None (row_within block)) k None (omega (arith, long block, found.0, found.1))
-        (ap test (place_in_part block k (omega (arith, found.0, found.1)) ∙ at) ∙ no_line (λ b. of b == of block) (get_or rows way None) found.2) in
+      (ap test (place_in_part block k (omega (arith, found.0, found.1)) ∙ at) ∙ no_line (λ b. of b == of block) (get_or rows way None) found.2) in
       ap not (lt-ltb (lines_of_set of (lines_of rows) block) ways (omega (arith, count_is block, few, long block)))
 
   pub full-none : (block : ℕ) → FindsWay is_free rows (of block * ways) ways None → is_full set (table_of sets ways banks factor (lines_of rows)) block ≡ true
   full-none block none =
       let test = passes (λ b. of b == of block) in
       let all = count-all test (part test rows (of block * ways) ways None (row_within block)) None (λ k lt.
-        let here : k < ways = omega (arith, lt, long block) in
-        ap test (place_in_part block k here)
-        ∙ in_row block (of block * ways + k) (get_or rows (of block * ways + k) None) (omega arith) (omega arith) (is.home (of block * ways + k) (omega (arith, row_within block))) (none (of block * ways + k) (omega arith) (omega arith))) in
+      let here : k < ways = omega (arith, lt, long block) in
+      ap test (place_in_part block k here)
+      ∙ in_row block (of block * ways + k) (get_or rows (of block * ways + k) None) (omega arith) (omega arith) (is.home (of block * ways + k) (omega (arith, row_within block))) (none (of block * ways + k) (omega arith) (omega arith))) in
       ap not (le-ltb (lines_of_set of (lines_of rows) block) ways (omega (arith, count_is block, all, long block)))
 
   pub full-is : (block : ℕ) (result : Option ℕ) → FindsWay is_free rows (of block * ways) ways result → is_full set (table_of sets ways banks factor (lines_of rows)) block ≡ not (is_some result)

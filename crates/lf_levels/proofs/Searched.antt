@@ -2,7 +2,7 @@
 use Rattle.std.proofs.Common.{ℕ, ◌≡◌, ◌<◌, ◌≤◌, ◌+◌, ◌*◌, ◌==◌, Bool, true, false, not, cond, List, length, get_or, Option, Some, None, is_some, refl, sym, ap, ◌∙◌, subst, arith}
 use Rattle.std.specs.Prelude.{slice_set, unwrap_or, nat_lt, IsTrue, ◌↔◌}
 use Rattle.std.proofs.lemmas.Bool.{ltb-false, le-ltb, not-true}
-use Rattle.lf_model.specs.Lines.{line_at, has_line, with_line, without_line, lines_of_set}
+use Rattle.lf_model.specs.Lines.{line_at, has_line, with_line, lines_of_set}
 use Rattle.lf_levels.specs.declared.ways.Line.{Line}
 use Rattle.lf_levels.specs.LineTable.{LineTable, IsLineTable, ChangesOnly, set_in, is_full, after_fill, after_evict}
 use Rattle.lf_levels.specs.Rows.{is_free, is_on, lines_of, IsWhole, FindsWay}
@@ -37,8 +37,7 @@ module _ {M : Type 0} {set : ℕ → ℕ → ℕ → ℕ → ℕ} {sets ways ban
   -- a full set is one that has as many lines as ways
   pub full_all : (block : ℕ) (full : Bool) → full ≡ is_full set table block → IsTrue full ↔ (lines_of_set (set_in set table) table.lines block ≡ table.ways)
   full_all block full e =
-      let few = table_is.bounded block in
-      (
+      let few = table_is.bounded block in (
         λ (h : full ≡ true). omega (arith, few, ltb-false (lines_of_set (set_in set table) table.lines block) table.ways (not-true (nat_lt (lines_of_set (set_in set table) table.lines block) table.ways) (sym e ∙ h))),
         λ h. e ∙ ap not (le-ltb (lines_of_set (set_in set table) table.lines block) table.ways (omega (arith, h))),
       )

@@ -12,9 +12,9 @@ mod level;
 mod lines;
 mod lines_one;
 mod lines_two;
-mod ways;
 #[cfg(test)]
 mod tests;
+mod ways;
 
 pub use fault::LineFault;
 pub use level::{Level, One, Two};

@@ -50,7 +50,9 @@ fn a_set_has_as_many_lines_as_ways(rt: HostRuntime) -> Result<(), Fail> {
 /// The greatest table: the 16 blocks are in set 0, as the block after them; block 16 is in set 1.
 #[test]
 fn lines_of_many_sets(rt: HostRuntime) -> Result<(), Fail> {
-    let mut lines: Lines<One> = Lines::new(rt.alloc(), 4096, 16, 16, 1).ok().ok_or("no memory")?;
+    let mut lines: Lines<One> = Lines::new(rt.alloc(), 4096, 16, 16, 1)
+        .ok()
+        .ok_or("no memory")?;
     for k in 0..16 {
         assert!(rt; !lines.has(65_536 * k));
         assert_eq!(rt; lines.fill(65_536 * k, Mask(0)), Ok(()));

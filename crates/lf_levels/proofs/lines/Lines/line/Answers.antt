@@ -1,4 +1,4 @@
-use Rattle.std.proofs.Common.{arith, ◌∙◌, sym, Some, None}
+use Rattle.std.proofs.Common.{arith, ◌∙◌, sym, None}
 use Rattle.std.proofs.lemmas.List.{get_or_read}
 use Rattle.lf_levels.specs.Rows.{is_on}
 use Rattle.lf_levels.proofs.Searched.{row_fits, way_inside, line_found, line_lacking, table_is}

@@ -1,4 +1,4 @@
-use Rattle.std.proofs.Common.{arith, Some, None}
+use Rattle.std.proofs.Common.{arith}
 use Rattle.lf_levels.specs.Rows.{is_on}
 use Rattle.lf_levels.proofs.Searched.{row_fits, way_inside, not_lacking, gone_whole, gone_table, changed-evict}
 use Rattle.lf_levels.proofs.lines.Lines.take_out.Goals as goal
