@@ -12,3 +12,12 @@ returns-after-refusal_in-clause-told c = elim c.match-refusal_in.branch [
       let other : refusal_in c.in-Err.told ≢ Memory = search rules in
       rw w.result-is (λ bytes fed. (λ _. refused_stands c.fault_so_far.ensures.other (bytes ++ c.args.piece.now) (refusal_in c.in-Err.told) other (c.in-Err.ensures.fault bytes fed), λ _. refl))
 ]
+
+pub returns-in-Ok-clause-fed : goal.returns-in-Ok-clause-fed
+returns-in-Ok-clause-fed c = search rules
+
+pub returns-in-Ok-clause-told : goal.returns-in-Ok-clause-told
+returns-in-Ok-clause-told c = search rules
+
+pub returns-after-refusal_in-clause-fed : goal.returns-after-refusal_in-clause-fed
+returns-after-refusal_in-clause-fed c = search rules

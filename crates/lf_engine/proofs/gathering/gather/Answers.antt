@@ -59,3 +59,21 @@ loop-turn-preserved g c = record {
             })
       ];
 }
+
+pub returns-then-ne-clause-read : goal.returns-then-ne-clause-read
+returns-then-ne-clause-read g c = search rules
+
+pub returns-then-ne-clause-turns : goal.returns-then-ne-clause-turns
+returns-then-ne-clause-turns g c = search rules
+
+pub returns-clause-reads : goal.returns-clause-reads
+returns-clause-reads g c = search rules
+
+pub returns-clause-read : goal.returns-clause-read
+returns-clause-read g c = search rules
+
+pub returns-clause-turns : goal.returns-clause-turns
+returns-clause-turns g c = search rules
+
+pub returns-clause-sound : goal.returns-clause-sound
+returns-clause-sound g c = search rules

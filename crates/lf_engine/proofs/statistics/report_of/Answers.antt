@@ -1,3 +1,4 @@
+use Rattle.std.proofs.Common.{rules}
 use Rattle.lf_engine.specs.Report.{IsYesVerdict}
 use Rattle.lf_engine.proofs.TellingLemmas.{countable_yes, judged_yes}
 use Rattle.lf_engine.proofs.statistics.report_of.Goals as goal
@@ -10,3 +11,6 @@ lines_of-requires-clause-countable c = elim c.match-matches.branch [
       countable_yes c.args.shape.now c.args.bytes.now c.args.verdict yes (c.requires.judged (judged_yes c.args.verdict yes))
   | in_default w ↦ let bad = rw w.matches-is at c.if-not-matches.false in cc
 ]
+
+pub returns-in-Err-clause-lines : goal.returns-in-Err-clause-lines
+returns-in-Err-clause-lines c = search rules
