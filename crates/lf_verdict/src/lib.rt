@@ -41,6 +41,3 @@ pub use lf_pool::{Gate, NoGate, is_worker_count};
 pub use rechecked::yes_is_rechecked;
 pub use session::Session;
 pub use shape_check::check_shape;
-
-#[cfg(test)]
-mod tests;

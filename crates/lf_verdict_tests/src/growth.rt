@@ -1,14 +1,14 @@
 //! What a session tells where a growth is refused. With ample memory none is.
 
-use super::{CONFIGURATION, LOAD_MISSES_BOTH_LEVELS};
-use crate::{Refusal, Session, Verdict};
 use lf_codec::Told;
+use lf_samples::{C1_TEXT, LOAD_MISSES_BOTH_LEVELS};
+use lf_verdict::{Refusal, Session, Verdict};
 use std::test::Fail;
 
 /// A piece that is refused is refused from then on, and that refusal is the verdict.
 #[test]
 fn refused_growth_of_a_session(rt: HostRuntime) -> Result<(), Fail> {
-    let mut session = match Session::new(rt.alloc(), CONFIGURATION) {
+    let mut session = match Session::new(rt.alloc(), C1_TEXT) {
         Ok(session) => session,
         Err(refusal) => {
             assert_eq!(rt; refusal, Refusal::Memory);
