@@ -26,6 +26,3 @@ pub use configured::check;
 pub use laws::{mixtures_are_alike, no_has_no_run, verdicts_are_one, yes_is_legal};
 pub use session::Session;
 pub use shape_check::check_shape;
-
-#[cfg(test)]
-mod tests;

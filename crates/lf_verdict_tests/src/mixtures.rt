@@ -5,10 +5,11 @@ ghost use Rattle.std.specs.Prelude.{◌≡◌, ◌<◌, true};
 ghost use Rattle.lf_model.specs.Fits.{is_factor};
 ghost use Rattle.lf_model.specs.InRange.{IsFrom, IsShape};
 
-use super::hierarchy;
-use crate::{Verdict, check_shape};
+use crate::verdicts::yes;
 use lf_codec::{Header, encode, fits_trace};
 use lf_model::{Block, Event, Level, Mask, Masks, NO_BANK, Op, OrgShape, Record, Shape, WideBlock};
+use lf_samples::{FOUR_PORTS_FOUR_BANKS, record, trace};
+use lf_verdict::{Verdict, check_shape};
 use std::alloc::{AllocError, Global};
 use std::process::Abort;
 use std::test::Fail;
@@ -49,7 +50,7 @@ fn roomy_hierarchy(factor: u32) -> Shape
         factor,
         level1: level,
         level2: level,
-        ..hierarchy(4, 4)
+        ..FOUR_PORTS_FOUR_BANKS
     }
 }
 
@@ -341,4 +342,58 @@ fn mixed_logs_with_wide_blocks(rt: HostRuntime) -> Result<(), Fail> {
     assert_one_verdict(&rt, 3, 1)?;
     assert_one_verdict(&rt, 3, 2)?;
     assert_one_verdict(&rt, 3, 4)
+}
+
+/// How the loads of four ports stand in a file. Each port sends one to each of four banks, in the order
+/// of the banks, and each bank has numbered them in the order of the ports.
+#[derive(Clone, Copy)]
+enum Filing {
+    PortByPort,
+    LastPortFirst,
+    BankByBank,
+}
+
+impl Filing {
+    /// The port and the bank of the load at this place of the file.
+    fn load_at(self, place: u8) -> (u8, u8)
+        requires { place < 16 }
+        ensures port { result.0 < 4 }
+        ensures bank { result.1 < 4 }
+    {
+        match self {
+            Filing::PortByPort => (place / 4, place % 4),
+            Filing::LastPortFirst => (3 - place / 4, place % 4),
+            Filing::BankByBank => (place % 4, place / 4),
+        }
+    }
+
+    fn bytes(self, alloc: Global) -> Result<Vec<u8>, Fail> {
+        let shape = &FOUR_PORTS_FOUR_BANKS;
+        let mut records = Vec::new(alloc);
+        for place in 0..16u8 {
+            let (port, bank) = self.load_at(place);
+            let text = format!(in alloc; "L {bank} 8@{}", 8 * bank)?;
+            let load = record(alloc, shape, port, bank, u32::from(port), text.as_str())?;
+            records.push(load)?;
+        }
+        Ok(trace(alloc, 1, shape, &Vec::new(alloc), &records)?)
+    }
+}
+
+#[test]
+fn mixed_logs_of_four_ports_and_banks_in_any_pieces(rt: HostRuntime) -> Result<(), Fail> {
+    let order = [0, 0, 0, 0, 1, 1, 1, 1, 2, 2, 2, 2, 3, 3, 3, 3];
+    for filing in [
+        Filing::PortByPort,
+        Filing::LastPortFirst,
+        Filing::BankByBank,
+    ] {
+        let bytes = filing.bytes(rt.alloc())?;
+        for size in [1usize, 7, 64, 1000] {
+            let pieces: Vec<&[u8]> = bytes.chunks(size).collect(rt.alloc())?;
+            let verdict = check_shape(&rt, &FOUR_PORTS_FOUR_BANKS, &pieces, 1);
+            assert_eq!(rt; verdict, yes(rt.alloc(), &order)?);
+        }
+    }
+    Ok(())
 }

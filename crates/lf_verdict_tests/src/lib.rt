@@ -1,0 +1,15 @@
+//! Tests of `lf_verdict`, in a crate of their own so that it is proved once.
+#![tactic(auto)]
+
+#[cfg(test)]
+mod configurations;
+#[cfg(test)]
+mod cut_traces;
+#[cfg(test)]
+mod examples;
+#[cfg(test)]
+mod later_versions;
+#[cfg(test)]
+mod mixtures;
+#[cfg(test)]
+mod verdicts;
