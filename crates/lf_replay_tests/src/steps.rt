@@ -1,32 +1,43 @@
 //! A bank step by step.
 
+ghost use Rattle.std.specs.Prelude.{◌≡◌};
 ghost use Rattle.lf_model.specs.InRange.{IsShape};
 
-use lf_model::{Shape, fits};
+use lf_model::{Record, Shape, fits};
 use lf_replay::Step;
 use lf_samples::{C1, records};
 use std::alloc::Global;
 use std::test::Fail;
 
-/// How many of the events a step refuses, where it goes on after each fault.
-pub fn refused_by_step(alloc: Global, shape: &Shape, parts: &[&str]) -> Result<u32, Fail>
-    requires { IsShape shape.now }
+/// How many of the records a step of bank 0 refuses, where it goes on after each fault, or nothing where
+/// one is no record of the bank.
+fn refused(step: &mut Step, shape: &Shape, records: &[Record]) -> Option<u32>
+    requires in_range { IsShape shape.now }
+    requires shape { step.old.kept.shape ≡ shape.now }
+    requires bank { step.old.bank ≡ 0 }
 {
-    let memory = Vec::new(alloc);
-    let records = records(alloc, shape, parts)?;
     let mut refused = 0u32;
-    let Ok(mut step) = Step::new(alloc, shape, &memory, 0) else {
-        return Err(Fail::from("no memory"));
-    };
-    for item in &records {
+    for item in records {
         if !fits(shape.ports, shape.banks, shape.block, shape.factor, item) || item.bank != 0 {
-            return Err(Fail::from("this is no record of the bank"));
+            return None;
         }
         if step.apply(item).is_err() {
             refused = refused.saturating_add(1);
         }
     }
-    Ok(refused)
+    Some(refused)
+}
+
+/// How many of these events of bank 0 a step refuses.
+pub fn refused_by_step(alloc: Global, shape: &Shape, parts: &[&str]) -> Result<u32, Fail>
+    requires { IsShape shape.now }
+{
+    let records = records(alloc, shape, parts)?;
+    let refused = match Step::new(alloc, shape, &Vec::new(alloc), 0) {
+        Ok(mut step) => refused(&mut step, shape, &records),
+        Err(_) => None,
+    };
+    Ok(refused.ok_or("no memory, or no records of the bank")?)
 }
 
 /// A fault leaves the state as it was: with the events that break a rule between them, those of a
