@@ -327,6 +327,14 @@ class Bank:
         return any(choice() for choice in choices)
 
 
+def block_for(shape, footprint, chance):
+    """A block to touch. Of a hundred requests `crowded` go to bank 0, and the others to any bank."""
+    block = chance.randrange(footprint)
+    if shape.crowded and chance.randrange(100) < shape.crowded:
+        block -= block // shape.factor % shape.banks * shape.factor
+    return block
+
+
 def run(shape, events, footprint, seed):
     """Runs the cache for so many events. The trace, and the memory that it begins with."""
     chance = random.Random(seed)
@@ -346,8 +354,8 @@ def run(shape, events, footprint, seed):
         elif free[port] and chance.random() < 0.5:
             tag = free[port].pop(chance.randrange(len(free[port])))
             op, size = chance.choice((LOAD, LOAD, STORE)), chance.choice((1, 2, 4, 8))
-            address = chance.randrange(footprint * shape.block // size) * size
-            block = address // shape.block
+            block = block_for(shape, footprint, chance)
+            address = block * shape.block + chance.randrange(shape.block // size) * size
             data = chance.randbytes(size) if op == STORE else b""
             request = Request(port, tag, op, size, block, address % shape.block, data)
             bank = banks[block // shape.factor % shape.banks]
@@ -392,6 +400,8 @@ def main():
     parser.add_argument("--factor", type=int, default=1, choices=(1, 2, 4), help="how many blocks a second-level block has")
     parser.add_argument("--fences", type=int, default=50, metavar="N", help="from version 2 on a port records a fence "
                         "after about N issues, and none where N is 0")
+    parser.add_argument("--crowded", type=int, default=0, metavar="PERCENT", help="how many of a hundred requests go to "
+                        "bank 0 whatever the block, so that one bank has most events")
     parser.add_argument("--log-by-log", action="store_true", help="write the records of each log together")
     parser.add_argument("--out", required=True, help="the trace to write")
     parser.add_argument("--config", help="the configuration to write")
