@@ -1,5 +1,6 @@
-pub mod Counted
-pub mod Line
-pub mod Gathered
+-- What callers read: the words of the public calls.
 pub mod Run
 pub mod Report
+pub mod Line
+pub mod Counted
+pub mod Gathered

@@ -1,6 +1,9 @@
+-- What callers read: the words of the public calls.
 pub mod RegisterFile
-pub mod Bounds
 pub mod Faults
-pub mod Names
-pub mod Size
 pub mod Alike
+pub mod Names
+
+-- What serves the crate's own contracts.
+pub mod Bounds
+pub mod Size
