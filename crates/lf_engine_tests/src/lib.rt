@@ -10,6 +10,8 @@ mod cuts;
 #[cfg(test)]
 mod damage;
 #[cfg(test)]
+mod demonstrations;
+#[cfg(test)]
 mod examples;
 #[cfg(test)]
 mod hostile;
