@@ -1,8 +1,6 @@
 -- Laws of the bytes that were handed to a session.
-use Rattle.std.proofs.Common.{◌≡◌, ◌≢◌, ℕ, ◌-◌, List, ◌++◌, length, Option, None, Some, sym, ◌∙◌, refl, inl, inr}
+use Rattle.std.proofs.Common.{◌≡◌, ◌≢◌, ℕ, List, Option, None, Some, sym, ◌∙◌, refl}
 use Rattle.std.specs.Io.KnownBytes.{Consumes}
-use Rattle.std.proofs.lemmas.Bool.{cases_lt}
-use Rattle.std.proofs.lemmas.List.{get_or_append_left, get_or-append_right}
 use Rattle.lf_codec.specs.Laws.{AreBytes, FaultsSoFarAreNotTruncated}
 use Rattle.lf_codec.specs.Reading.{fault_so_far}
 use Rattle.lf_verdict.specs.declared.answer.Refusal.{Refusal}
@@ -10,13 +8,6 @@ use Rattle.lf_verdict.specs.declared.answer.Refusal.TheVariants.{Workers, Config
 use Rattle.lf_verdict.specs.declared.intake.Intake.{Intake}
 use Rattle.lf_verdict.specs.Session.{HasFed, IsRefusalSoFar}
 use Rattle.lf_engine.specs.Gathered.{HasFault}
-
-pub both_bytes : (xs ys : List ℕ) → AreBytes xs → AreBytes ys → AreBytes (xs ++ ys)
-both_bytes xs ys a b i =
-    elim (cases_lt i (length xs)) [
-      | inl lt ↦ rw (get_or_append_left xs ys 0 i lt) (a i)
-      | inr le ↦ rw (get_or-append_right xs ys (length xs) i 0 refl le) (b (i - length xs))
-    ]
 
 -- Where no fault so far stands in the bytes, none stands whatever comes after them.
 pub none_stands : FaultsSoFarAreNotTruncated → (bytes : List ℕ) → fault_so_far bytes ≡ None → ¬ HasFault bytes

@@ -28,7 +28,8 @@ use Rattle.lf_engine.specs.Run.{IsAsked, IsRefusedFirst, IsVerdictOfRead, IsLega
 use Rattle.lf_engine.proofs.RunLemmas.{IsKept, IsFreeUnless, HasNoFault, MeansOfNo, MeansNothingElse}
 
 -- A trace has no fault.
-trace_has_none : ReadingIsExact → (bytes : List ℕ) (h : Header) (memory : List (ℕ × Bytes)) (records : List Record) → AreBytes bytes → IsTrace bytes h memory records → ¬ HasFault bytes
+trace_has_none : ReadingIsExact → (bytes : List ℕ) (h : Header) (memory : List (ℕ × Bytes)) (records : List Record) → AreBytes bytes
+    → IsTrace bytes h memory records → ¬ HasFault bytes
 trace_has_none exact bytes h memory records are trace (fault, is, other) =
     let none = ((exact bytes h memory records are).1 trace).0 in
     let bad : None ≡ Some fault = sym none ∙ is in
@@ -43,23 +44,29 @@ trace_kept : ReadingIsExact → FaultsSoFarAreNotTruncated → FaultsStand → (
 trace_kept exact so_far stand shape bytes more (Refused (Format f)) are (fault, is, other) h =
     let whole = (stand bytes more fault ((so_far bytes fault).1 (is, other))).whole in
     whole ∙ sym is ∙ h
-trace_kept exact so_far stand shape bytes more (Refused (OtherHeader field)) are fault h = absurd (trace_has_none exact bytes h.header h.memory h.records are h.trace fault)
+trace_kept exact so_far stand shape bytes more (Refused (OtherHeader field)) are fault h =
+    absurd (trace_has_none exact bytes h.header h.memory h.records are h.trace fault)
 trace_kept exact so_far stand shape bytes more (Refused (Workers n)) are fault h = absurd h
 trace_kept exact so_far stand shape bytes more (Refused (Config f)) are fault h = absurd h
 trace_kept exact so_far stand shape bytes more (Refused Memory) are fault h = absurd h
 trace_kept exact so_far stand shape bytes more (Refused Thread) are fault h = absurd h
-trace_kept exact so_far stand shape bytes more (No wrong) are fault h = absurd (trace_has_none exact bytes h.trace.header h.memory h.trace.records are h.trace.trace fault)
-trace_kept exact so_far stand shape bytes more (Yes events order) are fault h = absurd (trace_has_none exact bytes h.trace.header h.memory h.trace.records are h.trace.trace fault)
+trace_kept exact so_far stand shape bytes more (No wrong) are fault h =
+    absurd (trace_has_none exact bytes h.trace.header h.memory h.trace.records are h.trace.trace fault)
+trace_kept exact so_far stand shape bytes more (Yes events order) are fault h =
+    absurd (trace_has_none exact bytes h.trace.header h.memory h.trace.records are h.trace.trace fault)
 
 pub shape_kept : ReadingIsExact → FaultsSoFarAreNotTruncated → FaultsStand → (shape : Shape) (workers : ℕ) → IsKept (IsVerdictOf shape workers)
 shape_kept exact so_far stand shape workers bytes more (Refused (Workers n)) are fault h = h
 shape_kept exact so_far stand shape workers bytes more (Refused (Config f)) are fault h = absurd h.1
-shape_kept exact so_far stand shape workers bytes more (Refused (Format f)) are fault h = (h.0, trace_kept exact so_far stand shape bytes more (Refused (Format f)) are fault h.1)
-shape_kept exact so_far stand shape workers bytes more (Refused (OtherHeader f)) are fault h = (h.0, trace_kept exact so_far stand shape bytes more (Refused (OtherHeader f)) are fault h.1)
+shape_kept exact so_far stand shape workers bytes more (Refused (Format f)) are fault h =
+    (h.0, trace_kept exact so_far stand shape bytes more (Refused (Format f)) are fault h.1)
+shape_kept exact so_far stand shape workers bytes more (Refused (OtherHeader f)) are fault h =
+    (h.0, trace_kept exact so_far stand shape bytes more (Refused (OtherHeader f)) are fault h.1)
 shape_kept exact so_far stand shape workers bytes more (Refused Memory) are fault h = absurd h.1
 shape_kept exact so_far stand shape workers bytes more (Refused Thread) are fault h = absurd h.1
 shape_kept exact so_far stand shape workers bytes more (No f) are fault h = (h.0, trace_kept exact so_far stand shape bytes more (No f) are fault h.1)
-shape_kept exact so_far stand shape workers bytes more (Yes events order) are fault h = (h.0, trace_kept exact so_far stand shape bytes more (Yes events order) are fault h.1)
+shape_kept exact so_far stand shape workers bytes more (Yes events order) are fault h =
+    (h.0, trace_kept exact so_far stand shape bytes more (Yes events order) are fault h.1)
 
 pub shape_free : (shape : Shape) (workers : ℕ) → IsFreeUnless (IsWorkerCount workers) (IsVerdictOf shape workers)
 shape_free shape workers bytes all (Refused (Workers n)) h = inr h
@@ -81,7 +88,8 @@ shape_nothing shape bytes (No f) h = absurd h
 shape_nothing shape bytes (Yes events order) h = tt
 shape_nothing shape bytes (Refused f) h = tt
 
-legal_read : {R : Type 0} (remaining : R → Option (List ℕ)) (old new : R) (shape : Shape) (session : Intake) (v : Verdict) → (g : HasGathered remaining old new session)
+legal_read : {R : Type 0} (remaining : R → Option (List ℕ)) (old new : R) (shape : Shape) (session : Intake) (v : Verdict)
+    → (g : HasGathered remaining old new session)
     → IsLegalYes shape g.bytes v → IfYes v (IsLegalRead remaining old new (IsLegal shape))
 legal_read remaining old new shape session (Yes events order) g h = record { bytes = g.bytes; reads = g.reads; legal = h.0 }
 legal_read remaining old new shape session (No f) g h = tt
@@ -89,7 +97,8 @@ legal_read remaining old new shape session (Refused f) g h = tt
 
 -- What a session says of all that was read is what the run came to.
 pub finished : {R : Type 0} (remaining : R → Option (List ℕ)) (old new : Counted R) (shape : Shape) (workers turns : ℕ) (session : Intake) (v : Verdict)
-    → session.shape ≡ shape → IsWorkerCount workers → calls_of new ≤ turns → ¬ (0 < failures_of new) → HasGathered remaining (inner_of old) (inner_of new) session
+    → session.shape ≡ shape → IsWorkerCount workers → calls_of new ≤ turns → ¬ (0 < failures_of new)
+    → HasGathered remaining (inner_of old) (inner_of new) session
     → ((bytes : List ℕ) → HasFed session bytes → IsLegalYes session.shape bytes v)
     → ((bytes : List ℕ) → HasFed session bytes → IsJudged v → IsVerdictOf session.shape 1 bytes v)
     → ¬ (v ≡ Refused Thread)
@@ -100,7 +109,8 @@ finished remaining old new shape workers turns session v same count few none g l
   verdict = λ judged. record {
     bytes = g.bytes;
     reads = λ _. g.reads;
-    verdict = any_workers shape workers 1 g.bytes v count (omega arith, omega arith) (subst (λ (s : Shape). IsVerdictOf s 1 g.bytes v) same (verdict g.bytes g.fed judged));
+    verdict = any_workers shape workers 1 g.bytes v count (omega arith, omega arith)
+        (subst (λ (s : Shape). IsVerdictOf s 1 g.bytes v) same (verdict g.bytes g.fed judged));
   };
   legal = legal_read remaining (inner_of old) (inner_of new) shape session v g (subst (λ (s : Shape). IsLegalYes s g.bytes v) same (legal g.bytes g.fed));
   no_thread = λ e. thread cc;
@@ -141,12 +151,15 @@ configured_kept exact so_far stand text bytes more v are fault h = record {
 pub text_kept : ReadingIsExact → FaultsSoFarAreNotTruncated → FaultsStand → (text : List ℕ) (workers : ℕ) → IsKept (IsVerdictFor text workers)
 text_kept exact so_far stand text workers bytes more (Refused (Workers n)) are fault h = h
 text_kept exact so_far stand text workers bytes more (Refused (Config f)) are fault h = h
-text_kept exact so_far stand text workers bytes more (Refused (Format f)) are fault h = (h.0, configured_kept exact so_far stand text bytes more (Refused (Format f)) are fault h.1)
-text_kept exact so_far stand text workers bytes more (Refused (OtherHeader f)) are fault h = (h.0, configured_kept exact so_far stand text bytes more (Refused (OtherHeader f)) are fault h.1)
+text_kept exact so_far stand text workers bytes more (Refused (Format f)) are fault h =
+    (h.0, configured_kept exact so_far stand text bytes more (Refused (Format f)) are fault h.1)
+text_kept exact so_far stand text workers bytes more (Refused (OtherHeader f)) are fault h =
+    (h.0, configured_kept exact so_far stand text bytes more (Refused (OtherHeader f)) are fault h.1)
 text_kept exact so_far stand text workers bytes more (Refused Memory) are fault h = absurd h.1.verdict
 text_kept exact so_far stand text workers bytes more (Refused Thread) are fault h = absurd h.1.verdict
 text_kept exact so_far stand text workers bytes more (No f) are fault h = (h.0, configured_kept exact so_far stand text bytes more (No f) are fault h.1)
-text_kept exact so_far stand text workers bytes more (Yes events order) are fault h = (h.0, configured_kept exact so_far stand text bytes more (Yes events order) are fault h.1)
+text_kept exact so_far stand text workers bytes more (Yes events order) are fault h =
+    (h.0, configured_kept exact so_far stand text bytes more (Yes events order) are fault h.1)
 
 pub text_free : (text : List ℕ) (workers : ℕ) → IsFreeUnless (IsAsked text workers) (IsVerdictFor text workers)
 text_free text workers bytes all (Refused (Workers n)) h = inr h
@@ -159,7 +172,8 @@ text_free text workers bytes all (No f) h = inl (h.0, (h.1.shape, h.1.configured
 text_free text workers bytes all (Yes events order) h = inl (h.0, (h.1.shape, h.1.configured))
 
 -- The verdict for a shape is that for each text that says it.
-verdict_for : (text : List ℕ) (shape : Shape) (workers : ℕ) (bytes : List ℕ) (v : Verdict) → configuration_of text ≡ Ok shape → IsVerdictOf shape workers bytes v → IsVerdictFor text workers bytes v
+verdict_for : (text : List ℕ) (shape : Shape) (workers : ℕ) (bytes : List ℕ) (v : Verdict) → configuration_of text ≡ Ok shape
+    → IsVerdictOf shape workers bytes v → IsVerdictFor text workers bytes v
 verdict_for text shape workers bytes (Refused (Workers n)) e h = h
 verdict_for text shape workers bytes (Refused (Config f)) e h = absurd h.1
 verdict_for text shape workers bytes (Refused (Format f)) e h = (h.0, record { shape = shape; configured = e; verdict = h.1 })
@@ -180,7 +194,8 @@ legal_for remaining old new text shape (No f) e h = tt
 legal_for remaining old new text shape (Refused f) e h = tt
 
 -- What a run for a shape came to is what one for each text that says it comes to.
-pub outcome_for : {R : Type 0} (remaining : R → Option (List ℕ)) (old new : Counted R) (text : List ℕ) (shape : Shape) (workers turns : ℕ) (outcome : Result Verdict RunFault)
+pub outcome_for : {R : Type 0} (remaining : R → Option (List ℕ)) (old new : Counted R) (text : List ℕ) (shape : Shape) (workers turns : ℕ)
+    (outcome : Result Verdict RunFault)
     → configuration_of text ≡ Ok shape → IsWorkerCount workers
     → IsOutcome remaining old new (IsWorkerCount workers) (IsLegal shape) (IsVerdictOf shape workers) turns outcome
     → IsOutcome remaining old new (IsAsked text workers) (IsLegalFor text) (IsVerdictFor text workers) turns outcome
@@ -221,10 +236,12 @@ fault_is_none text shape (told.Range key) h e = cc
 fault_is_none text shape told.NoMemory h e = h
 
 -- a refusal that comes before the trace is asked for is the verdict of any bytes
-refused_verdict : {R : Type 0} (remaining : R → Option (List ℕ)) (old new : R) (text : List ℕ) (workers : ℕ) (r : Refusal) → IsRefusedFirst text workers r → IsJudged (Refused r)
+refused_verdict : {R : Type 0} (remaining : R → Option (List ℕ)) (old new : R) (text : List ℕ) (workers : ℕ) (r : Refusal) → IsRefusedFirst text workers r
+    → IsJudged (Refused r)
     → IsVerdictOfRead remaining old new (IsAsked text workers) (IsVerdictFor text workers) (Refused r)
 refused_verdict remaining old new text workers (Workers n) h judged = record { bytes = []; reads = λ yes_asked. absurd (h.1 yes_asked.0); verdict = h }
-refused_verdict remaining old new text workers (Config f) h judged = record { bytes = []; reads = λ yes_asked. absurd (fault_is_none text yes_asked.1.0 f h.1 yes_asked.1.1); verdict = h }
+refused_verdict remaining old new text workers (Config f) h judged =
+    record { bytes = []; reads = λ yes_asked. absurd (fault_is_none text yes_asked.1.0 f h.1 yes_asked.1.1); verdict = h }
 refused_verdict remaining old new text workers (Format f) h judged = absurd h
 refused_verdict remaining old new text workers (OtherHeader f) h judged = absurd h
 refused_verdict remaining old new text workers Memory h judged = absurd judged

@@ -16,7 +16,8 @@ pub record IsKeeping {R : Type 0} (remaining : R → Option (List ℕ)) (old new
   pub sound : ¬ HasFault bytes
 
 -- A read that gave nothing was the last one.
-pub ended : {R : Type 0} (remaining : R → Option (List ℕ)) (old mid new : R) (session : Intake) (bytes piece : List ℕ) → IsKeeping remaining old mid session bytes
+pub ended : {R : Type 0} (remaining : R → Option (List ℕ)) (old mid new : R) (session : Intake) (bytes piece : List ℕ)
+    → IsKeeping remaining old mid session bytes
     → piece ≡ [] → Consumes (remaining mid) (remaining new) piece → IsAtEnd (remaining new) → Reads remaining old new bytes
 ended remaining old mid new session bytes piece k nothing given at_end =
     let same : bytes ≡ bytes ++ piece = sym (ap (λ p. bytes ++ p) nothing ∙ append-nil bytes) in

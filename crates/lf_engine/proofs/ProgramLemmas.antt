@@ -10,7 +10,8 @@ use Rattle.lf_engine.specs.declared.fault.RunFault.{RunFault}
 use Rattle.lf_engine.specs.declared.fault.RunFault.TheVariants.{Read, Write}
 use Rattle.lf_engine.specs.Counted.{failures_of, inner_of}
 use Rattle.lf_engine.specs.Run.{GaveSound, IsVerdictOfRead, IsLegalRead, IfYes, IsOutcome, Follows, IsRunWriting}
-use Rattle.lf_engine.proofs.RunLemmas.{IsKept, IsFreeUnless, HasNoFault, MeansOfNo, MeansNothingElse, outcome_told, told_whole, told_legal, told_runless, whole_runless}
+use Rattle.lf_engine.proofs.RunLemmas.{IsKept, IsFreeUnless, HasNoFault, MeansOfNo, MeansNothingElse, outcome_told}
+use Rattle.lf_engine.proofs.RunLemmas.{told_whole, told_legal, told_runless, whole_runless}
 
 -- a fault that is told is the fault of the outcome
 same_fault : (outcome said : Result Verdict RunFault) (e : RunFault) → Follows outcome said → said ≡ Err e → outcome ≡ Err e
@@ -22,8 +23,10 @@ none_of : (n : ℕ) → ¬ (0 < n) → n ≡ 0
 none_of n none = omega (arith, none)
 
 module _ {R W : Type 0} (remaining : R → Option (List ℕ)) (contents : W → Option (List ℕ)) (old new : Counted R) (writer writer' : Counted W)
-    (asked : Type 0) (L : List ℕ → List ℕ → Type 0) (N V : List ℕ → Verdict → Type 0) (D : Result Verdict RunFault → List ℕ → Type 0) (turns : ℕ) (outcome said : Result Verdict RunFault)
-    (h : IsOutcome remaining old new asked L V turns outcome) (write : IsErrOf said Write ↔ (0 < failures_of writer')) (follows : said ≢ Err Write → Follows outcome said) where
+    (asked : Type 0) (L : List ℕ → List ℕ → Type 0) (N V : List ℕ → Verdict → Type 0) (D : Result Verdict RunFault → List ℕ → Type 0) (turns : ℕ)
+    (outcome said : Result Verdict RunFault)
+    (h : IsOutcome remaining old new asked L V turns outcome) (write : IsErrOf said Write ↔ (0 < failures_of writer'))
+    (follows : said ≢ Err Write → Follows outcome said) where
   of_said : said ≢ Err Write → IsOutcome remaining old new asked L V turns said
   of_said other = outcome_told remaining old new asked L V turns outcome said h (follows other)
 
@@ -40,7 +43,8 @@ module _ {R W : Type 0} (remaining : R → Option (List ℕ)) (contents : W → 
 
   pub run_of_program : FaultsSoFarAreNotTruncated → IsKept V → IsFreeUnless asked V → HasNoFault L → MeansOfNo asked V N → MeansNothingElse N
       → (said ≢ Err Write → (text : List ℕ) × D said text × Appends (contents (inner_of writer)) (contents (inner_of writer')) text)
-      → (said ≡ Err Write → (told : Result Verdict RunFault) × Follows outcome told × ((text : List ℕ) × D told text × ((n : ℕ) × Appends (contents (inner_of writer)) (contents (inner_of writer')) (take n text))))
+      → (said ≡ Err Write → (told : Result Verdict RunFault) × Follows outcome told
+      × ((text : List ℕ) × D told text × ((n : ℕ) × Appends (contents (inner_of writer)) (contents (inner_of writer')) (take n text))))
       → IsRunWriting remaining contents old new writer writer' asked L N V D turns said
   run_of_program so_far kept free sound means nothing written prefix =
       let all = told_whole so_far remaining old new asked L V kept free turns outcome said h follows in
@@ -69,7 +73,8 @@ module _ {R W : Type 0} (remaining : R → Option (List ℕ)) (contents : W → 
       legal_of (Ok v) is = is (λ e. cc)
       legal_of (Err e) is = tt
 
-      verdict_of : (r : Result Verdict RunFault) → (r ≢ Err Write → IfOk r (λ v. IsJudged v → IsVerdictOfRead remaining (inner_of old) (inner_of new) asked V v))
+      verdict_of : (r : Result Verdict RunFault)
+          → (r ≢ Err Write → IfOk r (λ v. IsJudged v → IsVerdictOfRead remaining (inner_of old) (inner_of new) asked V v))
           → IfOk r (λ v. IsJudged v → IsVerdictOfRead remaining (inner_of old) (inner_of new) asked V v)
       verdict_of (Ok v) is = is (λ e. cc)
       verdict_of (Err e) is = tt

@@ -16,7 +16,8 @@ use Rattle.lf_engine.proofs.GatheringLemmas.{none_stands}
 use Rattle.lf_engine.specs.Run.{IsVerdictOfRead, IsLegalRead, IsRunlessRead, IfYes, IfNo, IsOutcome, Follows}
 
 -- What is told of an outcome is an outcome.
-pub outcome_told : {R : Type 0} (remaining : R → Option (List ℕ)) (old new : Counted R) (asked : Type 0) (L : List ℕ → List ℕ → Type 0) (V : List ℕ → Verdict → Type 0) (turns : ℕ) (outcome said : Result Verdict RunFault)
+pub outcome_told : {R : Type 0} (remaining : R → Option (List ℕ)) (old new : Counted R) (asked : Type 0) (L : List ℕ → List ℕ → Type 0)
+    (V : List ℕ → Verdict → Type 0) (turns : ℕ) (outcome said : Result Verdict RunFault)
     → IsOutcome remaining old new asked L V turns outcome → Follows outcome said → IsOutcome remaining old new asked L V turns said
 outcome_told remaining old new asked L V turns (Ok v) (Ok w) h (inl e) = subst (λ x. IsOutcome remaining old new asked L V turns (Ok x)) (sym e) h
 outcome_told remaining old new asked L V turns (Ok v) (Ok w) h (inr e) = rw e (record {
@@ -81,12 +82,14 @@ judged_whole so_far remaining old new asked V kept free v is = go (remaining old
       | inr h ↦ h
     ]
 
-pub told_whole : {R : Type 0} → FaultsSoFarAreNotTruncated → (remaining : R → Option (List ℕ)) (old new : Counted R) (asked : Type 0) (L : List ℕ → List ℕ → Type 0) (V : List ℕ → Verdict → Type 0)
+pub told_whole : {R : Type 0} → FaultsSoFarAreNotTruncated
+    → (remaining : R → Option (List ℕ)) (old new : Counted R) (asked : Type 0) (L : List ℕ → List ℕ → Type 0) (V : List ℕ → Verdict → Type 0)
     → IsKept V → IsFreeUnless asked V → (turns : ℕ) (outcome said : Result Verdict RunFault)
     → IsOutcome remaining old new asked L V turns outcome → (said ≢ Err Write → Follows outcome said)
     → IfOk said (λ v. IsJudged v → IfSome (remaining (inner_of old)) (λ all. V all v))
 told_whole so_far remaining old new asked L V kept free turns outcome (Ok v) h follows = λ judged.
-    judged_whole so_far remaining (inner_of old) (inner_of new) asked V kept free v ((outcome_told remaining old new asked L V turns outcome (Ok v) h (follows (λ e. cc))).verdict judged)
+    judged_whole so_far remaining (inner_of old) (inner_of new) asked V kept free v
+    ((outcome_told remaining old new asked L V turns outcome (Ok v) h (follows (λ e. cc))).verdict judged)
 told_whole so_far remaining old new asked L V kept free turns outcome (Err e) h follows = tt
 
 -- Legal bytes that a reader gave are all that it had.
@@ -104,11 +107,13 @@ nothing_of_all (Some all) = tt
 
 yes_whole : {R : Type 0} → (remaining : R → Option (List ℕ)) (old new : R) (L : List ℕ → List ℕ → Type 0) → HasNoFault L → (v : Verdict)
     → IfYes v (IsLegalRead remaining old new L) → IfSome (remaining old) (λ all. IfYes v (L all))
-yes_whole remaining old new L sound (Yes events order) h = legal_of_all L sound order.items (remaining old) (remaining new) h.bytes h.reads.are_bytes h.reads.given h.reads.enough h.legal
+yes_whole remaining old new L sound (Yes events order) h =
+    legal_of_all L sound order.items (remaining old) (remaining new) h.bytes h.reads.are_bytes h.reads.given h.reads.enough h.legal
 yes_whole remaining old new L sound (No f) h = nothing_of_all (remaining old)
 yes_whole remaining old new L sound (Refused f) h = nothing_of_all (remaining old)
 
-pub told_legal : {R : Type 0} → (remaining : R → Option (List ℕ)) (old new : Counted R) (asked : Type 0) (L : List ℕ → List ℕ → Type 0) (V : List ℕ → Verdict → Type 0)
+pub told_legal : {R : Type 0} → (remaining : R → Option (List ℕ)) (old new : Counted R) (asked : Type 0) (L : List ℕ → List ℕ → Type 0)
+    (V : List ℕ → Verdict → Type 0)
     → HasNoFault L → (turns : ℕ) (outcome said : Result Verdict RunFault)
     → IsOutcome remaining old new asked L V turns outcome → (said ≢ Err Write → Follows outcome said)
     → IfOk said (λ v. IfSome (remaining (inner_of old)) (λ all. IfYes v (L all)))
@@ -126,7 +131,8 @@ MeansOfNo asked V N = (bytes : List ℕ) (v : Verdict) → V bytes v → IfNo v 
 abbrev pub MeansNothingElse : (List ℕ → Verdict → Type 0) → Type 0
 MeansNothingElse N = (bytes : List ℕ) (v : Verdict) → IfNo v ⊥ → N bytes v
 
-runless_read : {R : Type 0} → (remaining : R → Option (List ℕ)) (old new : R) (asked : Type 0) (V N : List ℕ → Verdict → Type 0) → MeansOfNo asked V N → (v : Verdict)
+runless_read : {R : Type 0} → (remaining : R → Option (List ℕ)) (old new : R) (asked : Type 0) (V N : List ℕ → Verdict → Type 0) → MeansOfNo asked V N
+    → (v : Verdict)
     → (IsJudged v → IsVerdictOfRead remaining old new asked V v) → IfNo v (IsRunlessRead remaining old new (λ bytes. N bytes v))
 runless_read remaining old new asked V N means (No f) h =
     let is = h tt in
@@ -135,12 +141,14 @@ runless_read remaining old new asked V N means (No f) h =
 runless_read remaining old new asked V N means (Yes events order) h = tt
 runless_read remaining old new asked V N means (Refused f) h = tt
 
-pub told_runless : {R : Type 0} → (remaining : R → Option (List ℕ)) (old new : Counted R) (asked : Type 0) (L : List ℕ → List ℕ → Type 0) (V N : List ℕ → Verdict → Type 0)
+pub told_runless : {R : Type 0} → (remaining : R → Option (List ℕ)) (old new : Counted R) (asked : Type 0) (L : List ℕ → List ℕ → Type 0)
+    (V N : List ℕ → Verdict → Type 0)
     → MeansOfNo asked V N → (turns : ℕ) (outcome said : Result Verdict RunFault)
     → IsOutcome remaining old new asked L V turns outcome → (said ≢ Err Write → Follows outcome said)
     → IfOk said (λ v. IfNo v (IsRunlessRead remaining (inner_of old) (inner_of new) (λ bytes. N bytes v)))
 told_runless remaining old new asked L V N means turns outcome (Ok v) h follows =
-    runless_read remaining (inner_of old) (inner_of new) asked V N means v (outcome_told remaining old new asked L V turns outcome (Ok v) h (follows (λ e. cc))).verdict
+    runless_read remaining (inner_of old) (inner_of new) asked V N means v
+    (outcome_told remaining old new asked L V turns outcome (Ok v) h (follows (λ e. cc))).verdict
 told_runless remaining old new asked L V N means turns outcome (Err e) h follows = tt
 
 all_runless : (asked : Type 0) (V N : List ℕ → Verdict → Type 0) → MeansOfNo asked V N → MeansNothingElse N → (a : Option (List ℕ)) (v : Verdict)
@@ -151,7 +159,8 @@ all_runless asked V N means other (Some all) (Yes events order) h = other all (Y
 all_runless asked V N means other (Some all) (Refused f) h = other all (Refused f) tt
 
 -- The same of all that the reader had.
-pub whole_runless : (asked : Type 0) (V N : List ℕ → Verdict → Type 0) → MeansOfNo asked V N → MeansNothingElse N → (a : Option (List ℕ)) (said : Result Verdict RunFault)
+pub whole_runless : (asked : Type 0) (V N : List ℕ → Verdict → Type 0) → MeansOfNo asked V N → MeansNothingElse N
+    → (a : Option (List ℕ)) (said : Result Verdict RunFault)
     → IfOk said (λ v. IsJudged v → IfSome a (λ all. V all v)) → IfOk said (λ v. IfSome a (λ all. N all v))
 whole_runless asked V N means other a (Ok v) h = all_runless asked V N means other a v h
 whole_runless asked V N means other a (Err e) h = tt

@@ -30,18 +30,21 @@ pub follows_verdict : (out : Result Report RunFault) (said : Result Verdict RunF
 follows_verdict (Ok report) said h = follows_lines report.lines report.verdict said h
 follows_verdict (Err fault) said h = h
 
-yes_written : {R : Type 0} (remaining : R → Option (List ℕ)) (old new : R) (config : List ℕ) (v : Verdict) (text : String Global) → HasLinesIfYes remaining old new config v (Some text)
+yes_written : {R : Type 0} (remaining : R → Option (List ℕ)) (old new : R) (config : List ℕ) (v : Verdict) (text : String Global)
+    → HasLinesIfYes remaining old new config v (Some text)
     → IsWritten remaining old new config (Ok v) (string_bytes text)
 yes_written remaining old new config (Yes events order) text h = h.1
 yes_written remaining old new config (No f) text h = absurd h.0
 yes_written remaining old new config (Refused f) text h = absurd h.0
 
-other_written : {R : Type 0} (remaining : R → Option (List ℕ)) (old new : R) (config : List ℕ) (v : Verdict) → ¬ IsYesVerdict v → IsWritten remaining old new config (Ok v) (outcome_line (Ok v))
+other_written : {R : Type 0} (remaining : R → Option (List ℕ)) (old new : R) (config : List ℕ) (v : Verdict) → ¬ IsYesVerdict v
+    → IsWritten remaining old new config (Ok v) (outcome_line (Ok v))
 other_written remaining old new config (Yes events order) other = absurd (other tt)
 other_written remaining old new config (No f) other = refl
 other_written remaining old new config (Refused f) other = refl
 
-lines_written : {R : Type 0} (remaining : R → Option (List ℕ)) (old new : R) (config : List ℕ) (lines : Option (String Global)) (v : Verdict) (said : Result Verdict RunFault)
+lines_written : {R : Type 0} (remaining : R → Option (List ℕ)) (old new : R) (config : List ℕ) (lines : Option (String Global)) (v : Verdict)
+    (said : Result Verdict RunFault)
     → HasLinesIfYes remaining old new config v lines → FollowsLines lines v said → IsWritten remaining old new config said (lines_or lines said)
 lines_written remaining old new config (Some text) v said h e =
     subst (λ (r : Result Verdict RunFault). IsWritten remaining old new config r (string_bytes text)) (sym e) (yes_written remaining old new config v text h)
@@ -51,17 +54,21 @@ lines_written remaining old new config None v (Err fault) h e = absurd e
 
 -- What is written of a report is what is due for the answer.
 pub written : {R : Type 0} (remaining : R → Option (List ℕ)) (old new : R) (config : List ℕ) (out : Result Report RunFault) (said : Result Verdict RunFault)
-    → IfOk out (λ r. HasLinesIfYes remaining old new config r.verdict r.lines) → FollowsReport out said → IsWritten remaining old new config said (report_text out said)
+    → IfOk out (λ r. HasLinesIfYes remaining old new config r.verdict r.lines) → FollowsReport out said
+    → IsWritten remaining old new config said (report_text out said)
 written remaining old new config (Ok report) said h follows = lines_written remaining old new config report.lines report.verdict said h follows
-written remaining old new config (Err fault) said h e = subst (λ (r : Result Verdict RunFault). IsWritten remaining old new config r (outcome_line r)) (sym e) refl
+written remaining old new config (Err fault) said h e =
+    subst (λ (r : Result Verdict RunFault). IsWritten remaining old new config r (outcome_line r)) (sym e) refl
 
 -- ---- lines that go out
 
-pub lines_follow : (out : Result Report RunFault) (report : Report) (text : String Global) → out ≡ Ok report → report.lines ≡ Some text → FollowsReport out (Ok report.verdict)
+pub lines_follow : (out : Result Report RunFault) (report : Report) (text : String Global) → out ≡ Ok report → report.lines ≡ Some text
+    → FollowsReport out (Ok report.verdict)
 lines_follow out report text e lines =
     subst (λ (o : Result Report RunFault). FollowsReport o (Ok report.verdict)) (sym e)
     (subst (λ (ls : Option (String Global)). FollowsLines ls report.verdict (Ok report.verdict)) (sym lines) refl)
 
-pub lines_text : (out : Result Report RunFault) (report : Report) (text : String Global) (said : Result Verdict RunFault) → out ≡ Ok report → report.lines ≡ Some text → report_text out said ≡ string_bytes text
+pub lines_text : (out : Result Report RunFault) (report : Report) (text : String Global) (said : Result Verdict RunFault) → out ≡ Ok report
+    → report.lines ≡ Some text → report_text out said ≡ string_bytes text
 lines_text out report text said e lines =
     ap (λ (o : Result Report RunFault). report_text o said) e ∙ ap (λ (ls : Option (String Global)). lines_or ls said) lines

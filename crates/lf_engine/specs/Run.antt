@@ -152,8 +152,8 @@ pub record IsRunWriting {R W : Type 0} (remaining : R → Option (List ℕ)) (co
   -- Where a read failed or the turns were used up, no fault stood in what was read.
   pub sound : IfErr answer (λ e. e ≢ Write → GaveSound remaining (inner_of reader) (inner_of reader'))
   -- Where a write failed, what went out is the beginning of what was due.
-  pub prefix : IsErrOf answer Write → (told : Result Verdict RunFault) × IsOutcome remaining reader reader' asked IsLegal IsVerdict turns told × ((text : List ℕ) ×
-      IsDue told text × ((n : ℕ) × Appends (contents (inner_of writer)) (contents (inner_of writer')) (take n text)))
+  pub prefix : IsErrOf answer Write → (told : Result Verdict RunFault) × IsOutcome remaining reader reader' asked IsLegal IsVerdict turns told
+      × ((text : List ℕ) × IsDue told text × ((n : ℕ) × Appends (contents (inner_of writer)) (contents (inner_of writer')) (take n text)))
 
 -- What goes out is the line of the verdict, or that the trace was not read.
 abbrev pub IsRunOfProgram : {R W : Type 0} → (R → Option (List ℕ)) → (W → Option (List ℕ)) → Counted R → Counted R → Counted W → Counted W

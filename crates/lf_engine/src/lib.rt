@@ -15,8 +15,6 @@ mod keeping;
 mod line;
 mod output;
 mod report;
-#[cfg(test)]
-mod shape;
 mod statistics;
 
 pub use counted::Counted;
@@ -24,6 +22,3 @@ pub use engine::{are_workers, run, run_shape};
 pub use fault::RunFault;
 pub use line::{InputFault, Line};
 pub use statistics::run_stats;
-
-#[cfg(test)]
-mod tests;

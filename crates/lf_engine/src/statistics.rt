@@ -107,7 +107,8 @@ fn report_configured<T: AllocGlobal, R: Read>(
 ) -> Result<Report, RunFault>
     requires calls { calls_of reader.old ≡ 0 }
     requires failures { failures_of reader.old ≡ 0 }
-    ensures outcome { IsOutcome R.remaining reader.old reader.new (IsAsked config.now 1) (IsLegalFor config.now) (IsVerdictFor config.now 1) turns (verdict_in result) }
+    ensures outcome { IsOutcome R.remaining reader.old reader.new (IsAsked config.now 1) (IsLegalFor config.now) (IsVerdictFor config.now 1)
+        turns (verdict_in result) }
     ensures lines { IfOk result (λ r.
         HasLinesIfYes R.remaining (inner_of reader.old) (inner_of reader.new) config.now r.verdict r.lines) }
 {

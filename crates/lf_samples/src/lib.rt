@@ -14,7 +14,7 @@ pub use examples::{EMPTY_TRACE, FENCE_LAST, LOAD, LOAD_MISSES_BOTH_LEVELS, LOADE
 pub use hex::{block, bytes_of, masks, wide_block};
 pub use lists::{logs, memory, record, records, records_at};
 pub use shapes::{
-    C1, C1_TEXT, C2, C2_ONE_ENTRY, FOUR_BANKS, FOUR_PORTS_FOUR_BANKS, IMPLICIT, INVERTED,
-    INVERTED_BELOW, TWO_PORTS_TWO_BANKS, TWO_REGISTERS,
+    C1, C1_TEXT, C2, C2_ONE_ENTRY, C2_TEXT, FOUR_BANKS, FOUR_PORTS_FOUR_BANKS, IMPLICIT, INVERTED,
+    INVERTED_BELOW, TWO_PORTS_TWO_BANKS, TWO_REGISTERS, changed,
 };
-pub use writing::{trace, trace_of};
+pub use writing::{trace, trace_of, trace_of_version};

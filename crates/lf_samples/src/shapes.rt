@@ -1,6 +1,8 @@
 //! The hierarchies of the worked examples.
 
 use lf_rules::{Level, OrgShape, Shape};
+use std::alloc::Global;
+use std::test::Fail;
 
 /// One port with four tags, one bank, blocks of 8 bytes. Each level has one set and one register; level
 /// one has one way and two entries, level two has two ways and one entry.
@@ -127,6 +129,26 @@ pub const C2: Shape = Shape {
     ..C1
 };
 
+/// `C2` as a configuration.
+pub const C2_TEXT: &str = "ports = 1
+banks = 1
+block = 8
+tags = 4
+[level1]
+sets = 1
+ways = 2
+organisation = \"explicit\"
+registers = 2
+entries = 2
+[level2]
+sets = 1
+ways = 2
+organisation = \"explicit\"
+registers = 1
+entries = 2
+blocks = 2
+";
+
 /// `C2` with one entry in the register of level two.
 pub const C2_ONE_ENTRY: Shape = Shape {
     level2: Level {
@@ -139,3 +161,9 @@ pub const C2_ONE_ENTRY: Shape = Shape {
     },
     ..C2
 };
+
+/// The configuration with new words in the place of the first of these old ones.
+pub fn changed(alloc: Global, config: &str, old: &str, new: &str) -> Result<String, Fail> {
+    let (front, back) = config.split_once(old).ok_or("there are no such words")?;
+    Ok(format!(in alloc; "{front}{new}{back}")?)
+}

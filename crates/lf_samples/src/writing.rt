@@ -31,8 +31,18 @@ pub fn trace(
 
 /// The bytes of these events of port 0 and bank 0 as a trace of version 1, with a memory of zeros.
 pub fn trace_of(alloc: Global, shape: &Shape, parts: &[&str]) -> Result<Vec<u8>, Fail> {
+    trace_of_version(alloc, 1, shape, parts)
+}
+
+/// The same as a trace of this version.
+pub fn trace_of_version(
+    alloc: Global,
+    version: u8,
+    shape: &Shape,
+    parts: &[&str],
+) -> Result<Vec<u8>, Fail> {
     let records = records(alloc, shape, parts)?;
-    Ok(trace(alloc, 1, shape, &Vec::new(alloc), &records)?)
+    Ok(trace(alloc, version, shape, &Vec::new(alloc), &records)?)
 }
 
 fn put_header(

@@ -1,138 +1,14 @@
-//! Demonstrations, and what is told of their traces.
+//! Demonstrations that are written to files, and their lines.
 
-ghost use Rattle.lf_rules.specs.InRange.{IsShape};
-
-use crate::demonstration::{DEMO_TURNS, Demonstration, demonstrate};
-use lf_demo::{DemoFault, demo_trace};
+use crate::demonstration::{Demonstration, demonstrate};
+use lf_demo::DemoFault;
 use lf_engine::{Counted, run, run_stats};
-use lf_rules::{Level, OrgShape, Shape};
-use lf_verdict::{NoGate, Verdict, check_shape};
-use std::process::Abort;
-use std::sync::Wait;
 use std::test::Fail;
-use std::thread::Threads;
 
 /// One port with four tags and one bank, with one register in each level.
 pub const SMALL_TEXT: &str = "ports = 1\nbanks = 1\nblock = 8\ntags = 4\n
 [level1]\nsets = 1\nways = 1\norganisation = \"explicit\"\nregisters = 1\nentries = 2\n
 [level2]\nsets = 1\nways = 2\norganisation = \"explicit\"\nregisters = 1\nentries = 1\n";
-
-/// The shape that `SMALL_TEXT` says.
-const SMALL: Shape = Shape {
-    ports: 1,
-    banks: 1,
-    block: 8,
-    tags: 4,
-    factor: 1,
-    level1: Level {
-        sets: 1,
-        ways: 1,
-        organisation: OrgShape::Explicit {
-            registers: 1,
-            entries: 2,
-        },
-    },
-    level2: Level {
-        sets: 1,
-        ways: 2,
-        organisation: OrgShape::Explicit {
-            registers: 1,
-            entries: 1,
-        },
-    },
-};
-
-/// `SMALL` with four ports and four banks, and a register for each tag in level one.
-const FOUR_PORTS: Shape = Shape {
-    ports: 4,
-    banks: 4,
-    level1: Level {
-        sets: 1,
-        ways: 1,
-        organisation: OrgShape::Inverted,
-    },
-    ..SMALL
-};
-
-/// `SMALL` with two ports, and a register with a field for each word in level one.
-const TWO_PORTS: Shape = Shape {
-    ports: 2,
-    level1: Level {
-        sets: 1,
-        ways: 1,
-        organisation: OrgShape::Implicit { registers: 1 },
-    },
-    ..SMALL
-};
-
-/// `SMALL` with blocks of level two that have two blocks.
-const WIDE: Shape = Shape {
-    factor: 2,
-    level1: Level {
-        sets: 1,
-        ways: 2,
-        organisation: OrgShape::Explicit {
-            registers: 2,
-            entries: 2,
-        },
-    },
-    level2: Level {
-        sets: 1,
-        ways: 2,
-        organisation: OrgShape::Explicit {
-            registers: 1,
-            entries: 2,
-        },
-    },
-    ..SMALL
-};
-
-/// `WIDE` with four ports and four banks.
-const WIDE_OF_FOUR: Shape = Shape {
-    ports: 4,
-    banks: 4,
-    ..WIDE
-};
-
-/// Fails where the trace of a demonstration is not legal, or has another number of events.
-fn assert_legal<T: Abort + AllocGlobal + Threads + Wait + Sync>(
-    rt: &T,
-    shape: &Shape,
-) -> Result<(), Fail>
-    requires shape { IsShape shape.now }
-{
-    let Ok((count, bytes)) = demo_trace(rt, shape, DEMO_TURNS) else {
-        return Err(Fail::new("no trace"));
-    };
-    let pieces = [bytes.as_slice()];
-    match check_shape(rt, shape, pieces.as_slice(), 1, &NoGate) {
-        Verdict::Yes { events, .. } => {
-            assert_eq!(rt; events, count);
-            Ok(())
-        }
-        _ => Err(Fail::new("no yes")),
-    }
-}
-
-#[test]
-fn demo_of_one_port(rt: HostRuntime) -> Result<(), Fail> {
-    assert_legal(&rt, &SMALL)?;
-    assert_legal(&rt, &WIDE)
-}
-
-#[test]
-fn demo_of_several_ports(rt: HostRuntime) -> Result<(), Fail> {
-    assert_legal(&rt, &TWO_PORTS)?;
-    assert_legal(&rt, &FOUR_PORTS)?;
-    assert_legal(&rt, &WIDE_OF_FOUR)
-}
-
-#[test]
-fn demo_without_turns(rt: HostRuntime) -> Result<(), Fail> {
-    let answer = demo_trace(&rt, &SMALL, 0);
-    assert_eq!(rt; answer.err(), Some(DemoFault::Turns));
-    Ok(())
-}
 
 #[test]
 fn lines_of_demonstrations(rt: HostRuntime) -> Result<(), Fail> {
@@ -149,7 +25,7 @@ fn lines_of_demonstrations(rt: HostRuntime) -> Result<(), Fail> {
     Ok(())
 }
 
-/// A demonstration for `SMALL`, whose file is judged and counted over. Its requests all have a reply.
+/// A demonstration for `SMALL_TEXT`, whose file is judged and counted over. Its requests all have a reply.
 #[test]
 fn demo_check_and_stats(rt: HostRuntime) -> Result<(), Fail> {
     let path = "demo_check_and_stats.lfts";

@@ -10,7 +10,9 @@ returns-after-refusal_in-clause-told c = elim c.match-refusal_in.branch [
   | in-Memory w ↦ rw w.result-is tt
   | in_default w ↦
       let other : refusal_in c.in-Err.told ≢ Memory = search rules in
-      rw w.result-is (λ bytes fed. (λ _. refused_stands c.fault_so_far.ensures.other (bytes ++ c.args.piece.now) (refusal_in c.in-Err.told) other (c.in-Err.ensures.fault bytes fed), λ _. refl))
+      rw w.result-is (λ bytes fed.
+      let stands = c.in-Err.ensures.fault bytes fed in
+      (λ _. refused_stands c.fault_so_far.ensures.other (bytes ++ c.args.piece.now) (refusal_in c.in-Err.told) other stands, λ _. refl))
 ]
 
 pub returns-in-Ok-clause-fed : goal.returns-in-Ok-clause-fed

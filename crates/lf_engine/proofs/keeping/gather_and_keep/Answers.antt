@@ -11,7 +11,8 @@ use Rattle.lf_engine.proofs.keeping.gather_and_keep.Goals.{in-Ok+else-is_err+in-
 pub returns-in-Ok-eq0-clause-kept : goal.returns-in-Ok-eq0-clause-kept
 returns-in-Ok-eq0-clause-kept g c =
     let none : c.in-Ok-eq0.field-0 ≡ 0 = search rules in
-    ended _ _ _ _ _ _ (take c.in-Ok-eq0.field-0 c.read.new.buf) c.loop-turn.invariant.keeping (rw none refl) c.in-Ok-eq0.ensures.bytes.0 (c.in-Ok-eq0.ensures.bytes.1 none (search rules))
+    ended _ _ _ _ _ _ (take c.in-Ok-eq0.field-0 c.read.new.buf) c.loop-turn.invariant.keeping (rw none refl) c.in-Ok-eq0.ensures.bytes.0
+    (c.in-Ok-eq0.ensures.bytes.1 none (search rules))
 
 pub returns-in-Ok-true-clause-kept : goal.returns-in-Ok-true-clause-kept
 returns-in-Ok-true-clause-kept g c =

@@ -1,6 +1,6 @@
 //! The lines where nothing is judged.
 
-use crate::line::{InputFault, Line};
+use lf_engine::{InputFault, Line};
 use std::test::Fail;
 
 #[test]

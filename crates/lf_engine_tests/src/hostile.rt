@@ -1,11 +1,8 @@
 //! Readers that are interrupted, run on or fail, and writers that fail.
 
-use crate::counted::Counted;
-use crate::engine::run_shape;
-use crate::fault::RunFault;
-use crate::shape::SMALL;
-use crate::tests::examples::{LOAD, LOADED, bytes_of};
-use crate::tests::streams::{Pieces, Sink};
+use crate::streams::{Pieces, Sink};
+use lf_engine::{Counted, RunFault, run_shape};
+use lf_samples::{C1, LOAD_MISSES_BOTH_LEVELS};
 use std::process::Abort;
 use std::test::Fail;
 
@@ -23,7 +20,7 @@ fn assert_run<T: Abort + AllocGlobal>(
 ) -> Result<(), Fail> {
     let mut reader = Counted::new(reader);
     let mut writer = Counted::new(Vec::new(rt.alloc()));
-    let answer = run_shape(rt, &mut reader, &mut writer, &SMALL, 1, turns);
+    let answer = run_shape(rt, &mut reader, &mut writer, &C1, 1, turns);
     assert_eq!(rt; answer.err(), fault);
     assert_eq!(rt; writer.inner().as_slice(), line.as_bytes());
     Ok(())
@@ -31,10 +28,9 @@ fn assert_run<T: Abort + AllocGlobal>(
 
 #[test]
 fn interrupted_reads(rt: HostRuntime) -> Result<(), Fail> {
-    let bytes = bytes_of(rt.alloc(), &[&LOAD, &[LOADED]])?;
     let turns_run_out = Some(RunFault::Turns);
     for (turns, fault, line) in [(2000, None, YES), (1000, turns_run_out, NOT_READ)] {
-        let mut reader = Pieces::new(bytes.as_slice(), 132);
+        let mut reader = Pieces::new(&LOAD_MISSES_BOTH_LEVELS, 132);
         reader.interruptions = 1000;
         assert_run(&rt, reader, turns, fault, line)?;
     }
@@ -43,10 +39,15 @@ fn interrupted_reads(rt: HostRuntime) -> Result<(), Fail> {
 
 #[test]
 fn turns_run_out(rt: HostRuntime) -> Result<(), Fail> {
-    let bytes = bytes_of(rt.alloc(), &[&LOAD, &[LOADED]])?;
-    assert_run(&rt, Pieces::new(bytes.as_slice(), 132), 2, None, YES)?;
+    assert_run(
+        &rt,
+        Pieces::new(&LOAD_MISSES_BOTH_LEVELS, 132),
+        2,
+        None,
+        YES,
+    )?;
     for turns in 0..2 {
-        let reader = Pieces::new(bytes.as_slice(), 132);
+        let reader = Pieces::new(&LOAD_MISSES_BOTH_LEVELS, 132);
         assert_run(&rt, reader, turns, Some(RunFault::Turns), NOT_READ)?;
     }
     Ok(())
@@ -55,18 +56,16 @@ fn turns_run_out(rt: HostRuntime) -> Result<(), Fail> {
 /// The engine stops at the read that shows the header's fault, and at the one that finds the end.
 #[test]
 fn reads_no_further(rt: HostRuntime) -> Result<(), Fail> {
-    let mut bytes = bytes_of(rt.alloc(), &[&LOAD, &[LOADED]])?;
-    let mut whole = Counted::new(Pieces::new(bytes.as_slice(), 1));
+    let mut bytes = LOAD_MISSES_BOTH_LEVELS;
+    let mut whole = Counted::new(Pieces::new(&bytes, 1));
     let mut writer = Counted::new(Vec::new(rt.alloc()));
-    let answer = run_shape(&rt, &mut whole, &mut writer, &SMALL, 1, 1000);
+    let answer = run_shape(&rt, &mut whole, &mut writer, &C1, 1, 1000);
     assert!(rt; answer.is_ok());
     assert_eq!(rt; whole.calls(), 133);
-    if let Some(version) = bytes.get_mut(4) {
-        *version = 0;
-    }
-    let mut faulty = Counted::new(Pieces::new(bytes.as_slice(), 1));
+    bytes[4] = 0;
+    let mut faulty = Counted::new(Pieces::new(&bytes, 1));
     let mut writer = Counted::new(Vec::new(rt.alloc()));
-    let answer = run_shape(&rt, &mut faulty, &mut writer, &SMALL, 1, 1000);
+    let answer = run_shape(&rt, &mut faulty, &mut writer, &C1, 1, 1000);
     assert!(rt; answer.is_ok());
     assert_eq!(rt; faulty.calls(), 16);
     Ok(())
@@ -74,9 +73,8 @@ fn reads_no_further(rt: HostRuntime) -> Result<(), Fail> {
 
 #[test]
 fn read_fails_midway(rt: HostRuntime) -> Result<(), Fail> {
-    let bytes = bytes_of(rt.alloc(), &[&LOAD, &[LOADED]])?;
     for reads_before_failure in 0..133 {
-        let mut reader = Pieces::new(bytes.as_slice(), 1);
+        let mut reader = Pieces::new(&LOAD_MISSES_BOTH_LEVELS, 1);
         reader.reads_before_failure = reads_before_failure;
         assert_run(&rt, reader, 1000, Some(RunFault::Read), NOT_READ)?;
     }
@@ -85,15 +83,14 @@ fn read_fails_midway(rt: HostRuntime) -> Result<(), Fail> {
 
 #[test]
 fn write_fails(rt: HostRuntime) -> Result<(), Fail> {
-    let bytes = bytes_of(rt.alloc(), &[&LOAD, &[LOADED]])?;
     for (room, written) in [(3, "yes"), (0, "")] {
-        let mut reader = Counted::new(Pieces::new(bytes.as_slice(), 132));
+        let mut reader = Counted::new(Pieces::new(&LOAD_MISSES_BOTH_LEVELS, 132));
         let mut writer = Counted::new(Sink {
             taken: Vec::new(rt.alloc()),
             room,
             takes_nothing: room == 0,
         });
-        let answer = run_shape(&rt, &mut reader, &mut writer, &SMALL, 1, 1000);
+        let answer = run_shape(&rt, &mut reader, &mut writer, &C1, 1, 1000);
         assert_eq!(rt; answer.err(), Some(RunFault::Write));
         assert_eq!(rt; writer.inner().taken.as_slice(), written.as_bytes());
         assert_eq!(rt; writer.failures(), 1);
@@ -107,7 +104,7 @@ fn refused_before_reading(rt: HostRuntime) -> Result<(), Fail> {
     failing.reads_before_failure = 0;
     let mut reader = Counted::new(failing);
     let mut writer = Counted::new(Vec::new(rt.alloc()));
-    let answer = run_shape(&rt, &mut reader, &mut writer, &SMALL, 17, 1000);
+    let answer = run_shape(&rt, &mut reader, &mut writer, &C1, 17, 1000);
     assert!(rt; answer.is_ok());
     assert_eq!(rt;
         writer.inner().as_slice(),

@@ -1,11 +1,8 @@
 //! Traces that end early, after each of their bytes.
 
-use crate::tests::counts::initial_memory_as;
-use crate::tests::examples::bytes_of;
-use crate::tests::notation::E::{E1, F1, F2, L, M, P, R, S, SP};
-use crate::tests::notation::ZEROS;
-use crate::tests::statistics::SMALL as SMALL_TEXT;
+use crate::traces::load_of_memory;
 use lf_codec::{CodecCause, CodecFault};
+use lf_samples::{C1, C1_TEXT, STORE, trace_of};
 use lf_verdict::{Refusal, Session, Verdict, check};
 use std::process::Abort;
 use std::sync::Wait;
@@ -26,15 +23,14 @@ fn assert_cuts<T: Threads + Wait + Sync + Abort + AllocGlobal>(
     starts: &[usize],
 ) -> Result<(), Fail> {
     for n in 0..bytes.len() {
-        let (front, _) = bytes.split_at(n);
+        let front = &bytes[..n];
         let truncated = Verdict::Refused(Refusal::Format(CodecFault {
             cause: CodecCause::Truncated,
             offset: begun_at(starts, n) as u64,
         }));
-        let pieces = [front];
-        let checked = check(rt, SMALL_TEXT, pieces.as_slice(), 1);
+        let checked = check(rt, C1_TEXT, &[front], 1);
         assert_eq!(rt; checked, truncated, "cut to {n}");
-        let Ok(mut session) = Session::new(rt.alloc(), SMALL_TEXT) else {
+        let Ok(mut session) = Session::new(rt.alloc(), C1_TEXT) else {
             return Err(Fail::new("no session"));
         };
         assert!(rt; session.feed(front).is_ok(), "cut to {n}");
@@ -45,44 +41,26 @@ fn assert_cuts<T: Threads + Wait + Sync + Abort + AllocGlobal>(
 
 #[test]
 fn load_merges_behind_store_cut(rt: HostRuntime) -> Result<(), Fail> {
-    let events = [
-        S(0, 1, 0, "aa"),
-        P(0, 0),
-        L(1, 1, 0),
-        M(1, 0),
-        SP(0, 0),
-        F2(0, ZEROS),
-        F1(0, ZEROS),
-        R(0, ""),
-        R(1, "aa"),
-    ];
-    let bytes = bytes_of(rt.alloc(), &[&events])?;
-    let starts = [16, 37, 49, 69, 81, 97, 117, 137, 149, 162];
+    let merged = "S 0 1@0=aa, P 0 0, L 1 1@0, M 1 0, SP 0 0, F2 0, F1 0, R 0, R 1=aa";
+    let bytes = trace_of(rt.alloc(), &C1, &[merged])?;
     assert_eq!(rt; bytes.len(), 170);
-    assert_cuts(&rt, bytes.as_slice(), starts.as_slice())
+    let starts = [16, 37, 49, 69, 81, 97, 117, 137, 149, 162];
+    assert_cuts(&rt, &bytes, &starts)
 }
 
 #[test]
 fn eviction_mask_and_data_cut(rt: HostRuntime) -> Result<(), Fail> {
-    let events = [
-        S(0, 2, 0, "aabb"),
-        P(0, 0),
-        SP(0, 0),
-        F2(0, ZEROS),
-        F1(0, ZEROS),
-        E1(0, 3, "aabb"),
-    ];
-    let bytes = bytes_of(rt.alloc(), &[&events])?;
-    let starts = [16, 38, 50, 66, 86, 106, 128];
+    let bytes = trace_of(rt.alloc(), &C1, &[STORE, "E1 0 3=aabb"])?;
     assert_eq!(rt; bytes.len(), 136);
-    assert_cuts(&rt, bytes.as_slice(), starts.as_slice())
+    let starts = [16, 38, 50, 66, 86, 106, 128];
+    assert_cuts(&rt, &bytes, &starts)
 }
 
 /// The memory record is whole where its bytes are.
 #[test]
 fn initial_memory_cut(rt: HostRuntime) -> Result<(), Fail> {
-    let bytes = initial_memory_as(rt.alloc(), 1)?;
-    let starts = [16, 28, 48, 60, 76, 96, 116, 130];
+    let bytes = load_of_memory(rt.alloc())?;
     assert_eq!(rt; bytes.len(), 138);
-    assert_cuts(&rt, bytes.as_slice(), starts.as_slice())
+    let starts = [16, 28, 48, 60, 76, 96, 116, 130];
+    assert_cuts(&rt, &bytes, &starts)
 }

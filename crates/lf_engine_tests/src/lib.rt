@@ -1,0 +1,29 @@
+//! Tests of `lf_engine`, in a crate of their own so that it is proved once.
+#![tactic(auto)]
+
+#[cfg(test)]
+mod configured;
+#[cfg(test)]
+mod counts;
+#[cfg(test)]
+mod cuts;
+#[cfg(test)]
+mod damage;
+#[cfg(test)]
+mod demonstrations;
+#[cfg(test)]
+mod examples;
+#[cfg(test)]
+mod hostile;
+#[cfg(test)]
+mod lines;
+#[cfg(test)]
+mod statistics;
+#[cfg(test)]
+mod streams;
+#[cfg(test)]
+mod told;
+#[cfg(test)]
+mod traces;
+#[cfg(test)]
+mod versions;

@@ -1,0 +1,80 @@
+#!/usr/bin/env python3
+"""Runs the built program on each row of examples/README.md, and tells the rows whose answer is another one.
+
+    examples.py [PROGRAM]
+
+A row is a configuration, a trace and what is printed of them: one line for `check`, several for `stats`. Beside
+the text, the status must be that of the answer and standard error must be empty. `check` has the same answer for
+1, 2, 4 and 16 workers. Each trace and each configuration of examples/ must stand in a row. The status is 1 where
+anything differs. PROGRAM is crates/score/out/score where it is left out."""
+
+import argparse
+import pathlib
+import re
+import subprocess
+import sys
+
+TOP = pathlib.Path(__file__).resolve().parent.parent
+EXAMPLES = TOP / "examples"
+ROW = re.compile(r"^\| `(\S+\.toml)` \| `(\S+\.lfts)` \| (`.*`) \|$", re.M)
+STATUS = {"yes": 0, "no": 1, "refused": 2, "bank": 0}
+WORKERS = (1, 2, 4, 16)
+SECONDS = 60
+
+
+def rows():
+    """Of each row the configuration, the trace, and the text that is due."""
+    found = ROW.findall((EXAMPLES / "README.md").read_text(encoding="utf-8"))
+    return [(config, trace, "".join(line + "\n" for line in re.findall(r"`([^`]*)`", lines)))
+            for config, trace, lines in found]
+
+
+def commands(config, trace, text):
+    """The words of each run that has to print this text."""
+    files = [str(EXAMPLES / config), str(EXAMPLES / trace)]
+    if text.startswith("bank="):
+        return [["stats", *files]]
+    checks = [["check", *files, "--workers", str(count)] for count in WORKERS]
+    return checks if text.startswith("yes") else [*checks, ["stats", *files]]
+
+
+def difference(program, words, text):
+    """What a run printed or answered otherwise, or None."""
+    try:
+        run = subprocess.run([program, *words], capture_output=True, timeout=SECONDS, check=False)
+    except subprocess.TimeoutExpired:
+        return f"no answer in {SECONDS} seconds"
+    status = STATUS[re.match(r"[a-z]+", text).group()]
+    if run.stdout != text.encode():
+        return f"printed {run.stdout.decode(errors='replace')!r} and not {text!r}"
+    if run.returncode != status:
+        return f"status {run.returncode} and not {status}"
+    if run.stderr:
+        return f"standard error has {run.stderr.decode(errors='replace')!r}"
+    return None
+
+
+def main():
+    parser = argparse.ArgumentParser(description=__doc__, formatter_class=argparse.RawDescriptionHelpFormatter)
+    parser.add_argument("program", nargs="?", default=str(TOP / "crates/score/out/score"))
+    program = parser.parse_args().program
+    if not pathlib.Path(program).is_file():
+        parser.error(f"{program} is not built")
+    all_rows, runs, differences = rows(), 0, []
+    for config, trace, text in all_rows:
+        for words in commands(config, trace, text):
+            runs += 1
+            found = difference(program, words, text)
+            if found:
+                differences.append(f"{config} {trace}: {words[0]} {' '.join(words[3:])}".rstrip() + f": {found}")
+    named = {name for row in all_rows for name in row[:2]}
+    files = [file.name for file in EXAMPLES.iterdir() if file.suffix in (".lfts", ".toml")]
+    differences += [f"{name}: no row has it" for name in sorted(files) if name not in named]
+    for line in differences:
+        print(line)
+    print(f"{len(all_rows)} rows, {runs} runs, {len(differences)} differences")
+    return 1 if differences or not all_rows else 0
+
+
+if __name__ == "__main__":
+    sys.exit(main())
