@@ -170,7 +170,10 @@ impl Progress {
             Stage::MemoryBlock => check_memory(self.least, bytes),
             Stage::MemoryData(_) | Stage::Data(_, _) => Ok(()),
             Stage::Head if bytes[0] == 0 => check_end(self.count, bytes),
-            Stage::Head => check_head(&self.header, &self.counts, bytes),
+            Stage::Head => {
+                check_head(&self.header, &self.counts, bytes)?;
+                Ok(())
+            }
             Stage::Fixed(head) => check_fixed(&self.header, head.bank, head.kind, bytes),
             Stage::Ended => Err(CodecCause::Trailing),
         }
