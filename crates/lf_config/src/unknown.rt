@@ -7,7 +7,8 @@ ghost use Rattle.lf_config.specs.Unknown.{is_top_name, is_part_name, is_known, f
 
 use crate::key::Which;
 use crate::lookup::level;
-use std::alloc::{AllocError, Global};
+use lf_rules::NoMemory;
+use std::alloc::Global;
 use toml::Table;
 
 fn is_top(name: &str) -> bool
@@ -63,7 +64,7 @@ fn unknown_in(table: &Table, which: Which) -> Option<&str>
     }
 }
 
-fn unknown_part(alloc: Global, table: &Table, which: Which) -> Result<Option<String>, AllocError>
+fn unknown_part(alloc: Global, table: &Table, which: Which) -> Result<Option<String>, NoMemory>
     ensures { IfOk result (λ found. option_map string_bytes found ≡ unknown_part (table_view table.now) which) }
 {
     match unknown_in(table, which) {
@@ -77,7 +78,7 @@ fn unknown_part(alloc: Global, table: &Table, which: Which) -> Result<Option<Str
 
 /// The whole name of the first key that no one knows.
 #[tactic(auto, unfolding(crate::specs::Unknown::first_unknown))]
-pub(crate) fn first_unknown(alloc: Global, table: &Table) -> Result<Option<String>, AllocError>
+pub(crate) fn first_unknown(alloc: Global, table: &Table) -> Result<Option<String>, NoMemory>
     ensures { IfOk result (λ found. option_map string_bytes found ≡ first_unknown (table_view table.now)) }
 {
     if let Some(name) = first_other(table, None) {
