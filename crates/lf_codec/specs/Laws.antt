@@ -21,11 +21,13 @@ AreBytes bytes = (i : ℕ) → slice_index bytes i < 256
 
 -- what the reading makes of the bytes
 abbrev pub IsReadAs : List ℕ → Header → List (ℕ × Bytes) → List Record → Type 0
-IsReadAs bytes h memory records = (trace_fault bytes ≡ None) × (header_of bytes ≡ Some h) × ((reading_of bytes).memory ≡ memory) × ((reading_of bytes).records ≡ records)
+IsReadAs bytes h memory records =
+    (trace_fault bytes ≡ None) × (header_of bytes ≡ Some h) × ((reading_of bytes).memory ≡ memory) × ((reading_of bytes).records ≡ records)
 
 -- the reading finds no fault exactly where the bytes are a trace, and then this trace
 abbrev pub ReadingIsExact : Type 0
-ReadingIsExact = (bytes : List ℕ) (h : Header) (memory : List (ℕ × Bytes)) (records : List Record) → AreBytes bytes → IsReadAs bytes h memory records ↔ IsTrace bytes h memory records
+ReadingIsExact = (bytes : List ℕ) (h : Header) (memory : List (ℕ × Bytes)) (records : List Record)
+    → AreBytes bytes → IsReadAs bytes h memory records ↔ IsTrace bytes h memory records
 
 -- the bytes are a trace
 pub record IsSomeTrace (bytes : List ℕ) : Type 0 where
@@ -45,7 +47,8 @@ BytesAreOfOneTrace = (bytes : List ℕ) (h h' : Header) (memory memory' : List (
 
 -- a trace has one spelling
 abbrev pub TracesHaveOneSpelling : Type 0
-TracesHaveOneSpelling = (bytes bytes' : List ℕ) (h : Header) (memory : List (ℕ × Bytes)) (records : List Record) → IsTrace bytes h memory records → IsTrace bytes' h memory records → bytes ≡ bytes'
+TracesHaveOneSpelling = (bytes bytes' : List ℕ) (h : Header) (memory : List (ℕ × Bytes)) (records : List Record)
+    → IsTrace bytes h memory records → IsTrace bytes' h memory records → bytes ≡ bytes'
 
 -- no trace begins another
 abbrev pub NoTraceBeginsAnother : Type 0
@@ -91,17 +94,20 @@ BytesNeverWantMemory = (bytes : List ℕ) (f : CodecFault) → trace_fault bytes
 abbrev pub beginning : Header → List (ℕ × Bytes) → List Record → List ℕ
 beginning h memory records = header_bytes h ++ flat_map memory_bytes memory ++ flat_map record_bytes records
 
--- the bytes before the header or record in which a fault stands: none before the header, what has been read before a record, and a whole trace before trailing bytes
+-- the bytes before the header or record in which a fault stands: none before the header, what has been read before a record, and a
+-- whole trace before trailing bytes
 abbrev pub IsSpelledBefore : Option Header → List (ℕ × Bytes) → List Record → List ℕ → Type 0
 IsSpelledBefore None memory records before = before ≡ []
 IsSpelledBefore (Some h) memory records before = (before ≡ beginning h memory records) ⊎ IsTrace before h memory records
 
 abbrev pub WhatStandsBeforeIsSpelled : Type 0
-WhatStandsBeforeIsSpelled = (bytes : List ℕ) (f : CodecFault) → AreBytes bytes → trace_fault bytes ≡ Some f → IsSpelledBefore (header_of bytes) (reading_of bytes).memory (reading_of bytes).records (take f.offset bytes)
+WhatStandsBeforeIsSpelled = (bytes : List ℕ) (f : CodecFault) → AreBytes bytes → trace_fault bytes ≡ Some f
+    → IsSpelledBefore (header_of bytes) (reading_of bytes).memory (reading_of bytes).records (take f.offset bytes)
 
 -- a byte after a trace is one too many
 abbrev pub MoreIsTrailing : Type 0
-MoreIsTrailing = (bytes more : List ℕ) (b : ℕ) (h : Header) (memory : List (ℕ × Bytes)) (records : List Record) → AreBytes bytes → IsTrace bytes h memory records
+MoreIsTrailing = (bytes more : List ℕ) (b : ℕ) (h : Header) (memory : List (ℕ × Bytes)) (records : List Record)
+    → AreBytes bytes → IsTrace bytes h memory records
     → fault_so_far (bytes ++ b ∷ more) ≡ Some (record { cause = Trailing; offset = length bytes })
 
 -- the bytes end within the header or record that begins here, and what stands before it is all that they give
@@ -113,7 +119,8 @@ pub record IsTruncated (bytes : List ℕ) : Type 0 where
 
 -- a trace that lacks bytes at its end is truncated
 abbrev pub LessIsTruncated : Type 0
-LessIsTruncated = (bytes more : List ℕ) (b : ℕ) (h : Header) (memory : List (ℕ × Bytes)) (records : List Record) → AreBytes bytes → IsTrace (bytes ++ b ∷ more) h memory records → IsTruncated bytes
+LessIsTruncated = (bytes more : List ℕ) (b : ℕ) (h : Header) (memory : List (ℕ × Bytes)) (records : List Record)
+    → AreBytes bytes → IsTrace (bytes ++ b ∷ more) h memory records → IsTruncated bytes
 
 -- ---- the header
 

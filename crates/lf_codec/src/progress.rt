@@ -5,13 +5,12 @@ ghost use Rattle.lf_codec.specs.Reading.{at_start};
 ghost use Rattle.lf_codec.specs.Steps.{fixed_len, stage_len, within, at_next, past_header, past_memory, counted, past_head, past_fixed, advanced};
 
 use crate::checks::{check_end, check_fixed, check_head, check_header, check_memory};
+use crate::event::block_of;
 use crate::fault::CodecCause;
 use crate::fields::u32_at;
 use crate::header::Header;
 use crate::stage::{Found, Head, Stage};
-use crate::step::{
-    between, block_of, data_len, fixed_len, fixed_of, head_at, header_at, record_of,
-};
+use crate::step::{between, data_len, fixed_len, fixed_of, head_at, header_at, record_of};
 use std::mem;
 
 /// How far the reading of a trace has come.
@@ -171,7 +170,10 @@ impl Progress {
             Stage::MemoryBlock => check_memory(self.least, bytes),
             Stage::MemoryData(_) | Stage::Data(_, _) => Ok(()),
             Stage::Head if bytes[0] == 0 => check_end(self.count, bytes),
-            Stage::Head => check_head(&self.header, &self.counts, bytes),
+            Stage::Head => {
+                check_head(&self.header, &self.counts, bytes)?;
+                Ok(())
+            }
             Stage::Fixed(head) => check_fixed(&self.header, head.bank, head.kind, bytes),
             Stage::Ended => Err(CodecCause::Trailing),
         }

@@ -7,7 +7,7 @@ ghost use Rattle.lf_codec.specs.Takes.{IsWhole};
 use crate::checks::{check_fixed, check_head};
 use crate::progress::Progress;
 use crate::stage::{Head, Stage};
-use crate::step::{data_len, fixed_len, head_at};
+use crate::step::{data_len, fixed_len};
 
 /// The first bytes and those behind them, where there are so many.
 fn split(bytes: &[u8], len: usize) -> Option<(&[u8], &[u8])>
@@ -33,10 +33,12 @@ impl Progress {
             return None;
         };
         let (first, rest) = split(bytes, 8)?;
-        if first[0] == 0 || check_head(&self.header, &self.counts, first).is_err() {
+        if first[0] == 0 {
             return None;
         }
-        let head = head_at(first);
+        let Ok(head) = check_head(&self.header, &self.counts, first) else {
+            return None;
+        };
         let (fixed, rest) = split(rest, fixed_len(&self.header, head.kind))?;
         if check_fixed(&self.header, head.bank, head.kind, fixed).is_err() {
             return None;

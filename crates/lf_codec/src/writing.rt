@@ -3,7 +3,8 @@
 ghost use Rattle.std.specs.Prelude.{◌≡◌, ◌∷◌, ◌++◌, ◌<◌, ◌^◌, length, take, OnOk, IfOk, vec_len};
 ghost use Rattle.std.specs.List.{flat_map};
 ghost use Rattle.lf_codec.specs.Trace.{FitsTrace, IsTrace};
-ghost use Rattle.lf_codec.specs.Layout.{u16_bytes, u32_bytes, u64_bytes, factor_word, mask_bytes, header_bytes, memory_bytes, fixed_bytes, data_of, head_bytes, record_bytes, end_bytes, code_of, kind_of, op_code, spelling};
+ghost use Rattle.lf_codec.specs.Layout.{u16_bytes, u32_bytes, u64_bytes, factor_word, mask_bytes, header_bytes, memory_bytes, fixed_bytes, data_of};
+ghost use Rattle.lf_codec.specs.Layout.{head_bytes, record_bytes, end_bytes, code_of, kind_of, op_code, spelling};
 
 use crate::header::Header;
 use byteorder::{ByteOrder, LittleEndian};
@@ -227,8 +228,5 @@ pub fn encode(
     requires { FitsTrace header.now memory.now.items records.now }
     ensures { IfOk result (λ v. IsTrace v.items header.now memory.now.items records.now) }
 {
-    match spell(alloc, header, memory, records) {
-        Ok(bytes) => Ok(bytes),
-        Err(_) => Err(NoMemory),
-    }
+    Ok(spell(alloc, header, memory, records)?)
 }

@@ -6,8 +6,8 @@ use Rattle.std.specs.Option.{option_map_or}
 use Rattle.std.specs.List.{AllByRecursion}
 use Rattle.std.specs.Str.{bytes_eq}
 use Rattle.toml.specs.Data.{Data, string, integer, float, boolean, datetime, array, table, Members, as_integer, as_table, get_member}
-use Rattle.lf_config.specs.declared.key.Which.{Which}
-use Rattle.lf_config.specs.declared.key.Which.TheVariants.{One, Two}
+use Rattle.lf_config.specs.declared.key.LevelKey.{LevelKey}
+use Rattle.lf_config.specs.declared.key.LevelKey.TheVariants.{One, Two}
 use Rattle.lf_config.specs.declared.key.Part.{Part}
 use Rattle.lf_config.specs.declared.key.Part.TheVariants.{Sets, Ways, Organisation, Registers, Entries}
 use Rattle.lf_config.specs.declared.key.Key.{Key}
@@ -35,7 +35,7 @@ none_found p (k ∷ ks) e = go (p k) refl e (λ h. none_found p ks h)
     go false h f others = (h, others (rw h at f))
 
 -- what holds of all keys holds of each
-of_level : (P : Key → Type 0) (w : Which) (others : List Key) → AllByRecursion P (level_keys w others) → ((p : Part) → P (Of w p)) × P (Table w) × AllByRecursion P others
+of_level : (P : Key → Type 0) (w : LevelKey) (others : List Key) → AllByRecursion P (level_keys w others) → ((p : Part) → P (Of w p)) × P (Table w) × AllByRecursion P others
 of_level P w others h = (part, h.0, h.1.1.1.1.1.1)
   where
     part : (p : Part) → P (Of w p)
@@ -146,7 +146,7 @@ there_if_required ms k clean required = go (is_none (value_at ms k)) (is_require
 -- ---- one level
 
 -- the table of a level is there
-level_there : (ms : Members) (w : Which) → IsClean ms → is_some (level_at ms w) ≡ true
+level_there : (ms : Members) (w : LevelKey) → IsClean ms → is_some (level_at ms w) ≡ true
 level_there ms w clean = go (get_member (level_name w) ms) (there_if_required ms (Table w) clean refl) (clean.misfit (Table w))
   where
     go : (o : Option Data) → is_none o ≡ false → option_map_or (λ d. not (is_some (as_table d))) o false ≡ false → is_some (option_and_then as_table o) ≡ true
@@ -158,10 +158,10 @@ level_there ms w clean = go (get_member (level_name w) ms) (there_if_required ms
         turned false h = let bad = h in cc
 
 -- a number of a level
-part_there : (ms : Members) (w : Which) (p : Part) → IsClean ms → is_needed (need_of (Of w p)) (organisation_at ms w) ≡ true → is_none (value_at ms (Of w p)) ≡ false
+part_there : (ms : Members) (w : LevelKey) (p : Part) → IsClean ms → is_needed (need_of (Of w p)) (organisation_at ms w) ≡ true → is_none (value_at ms (Of w p)) ≡ false
 part_there ms w p clean needed = there_if_required ms (Of w p) clean (rw (level_there ms w clean) needed)
 
-organisation_in : (ms : Members) (w : Which) → IsClean ms → IsOrganisation (organisation_named ms w (organisation_at ms w))
+organisation_in : (ms : Members) (w : LevelKey) → IsClean ms → IsOrganisation (organisation_named ms w (organisation_at ms w))
 organisation_in ms w clean = go (organisation_at ms w) refl
   where
     go : (o : Option (List ℕ)) → organisation_at ms w ≡ o → IsOrganisation (organisation_named ms w o)
@@ -180,7 +180,7 @@ organisation_in ms w clean = go (organisation_at ms w) refl
         named false true p q = let t = (bytes_eq-Decides text (codes "explicit")).0 q in (registers_in (rw t refl), entries_in (rw t refl))
         named false false p q = tt
 
-level_in : (ms : Members) (w : Which) → IsClean ms → IsLevel (level_of ms w)
+level_in : (ms : Members) (w : LevelKey) → IsClean ms → IsLevel (level_of ms w)
 level_in ms w clean = record {
   sets = number_in (value_at ms (Of w Sets)) 1 4096 (omega arith) (part_there ms w Sets clean refl) (clean.misfit (Of w Sets)) (clean.out_of_range (Of w Sets));
   ways = number_in (value_at ms (Of w Ways)) 1 16 (omega arith) (part_there ms w Ways clean refl) (clean.misfit (Of w Ways)) (clean.out_of_range (Of w Ways));

@@ -1,7 +1,7 @@
 -- The keys of a configuration in their order, and what is asked of each.
 use Rattle.std.specs.Prelude.{List, [], ◌∷◌, ℕ, codes}
-use Rattle.lf_config.specs.declared.key.Which.{Which}
-use Rattle.lf_config.specs.declared.key.Which.TheVariants.{One, Two}
+use Rattle.lf_config.specs.declared.key.LevelKey.{LevelKey}
+use Rattle.lf_config.specs.declared.key.LevelKey.TheVariants.{One, Two}
 use Rattle.lf_config.specs.declared.key.Part.{Part}
 use Rattle.lf_config.specs.declared.key.Part.TheVariants.{Sets, Ways, Organisation, Registers, Entries}
 use Rattle.lf_config.specs.declared.key.Key.{Key}
@@ -14,14 +14,14 @@ use Rattle.lf_config.specs.declared.key.Need.{Need}
 use Rattle.lf_config.specs.declared.key.Need.TheVariants.{Always, UnlessInverted, IfExplicit, Never}
 
 -- the keys of a level, and others after them
-abbrev pub level_keys : Which → List Key → List Key
+abbrev pub level_keys : LevelKey → List Key → List Key
 level_keys level others = Table level ∷ Of level Sets ∷ Of level Ways ∷ Of level Organisation ∷ Of level Registers ∷ Of level Entries ∷ others
 
 -- all keys, in the order that decides between faults of one sort
 abbrev pub all_keys : List Key
 all_keys = Ports ∷ Banks ∷ Block ∷ Tags ∷ level_keys One (level_keys Two (Blocks ∷ []))
 
-abbrev pub level_name : Which → List ℕ
+abbrev pub level_name : LevelKey → List ℕ
 level_name One = codes "level1"
 level_name Two = codes "level2"
 

@@ -1,14 +1,14 @@
 -- What a document has at a key.
 use Rattle.std.specs.Prelude.{Option, option_and_then}
 use Rattle.toml.specs.Data.{Data, Members, as_table, get_member}
-use Rattle.lf_config.specs.declared.key.Which.{Which}
-use Rattle.lf_config.specs.declared.key.Which.TheVariants.{Two}
+use Rattle.lf_config.specs.declared.key.LevelKey.{LevelKey}
+use Rattle.lf_config.specs.declared.key.LevelKey.TheVariants.{Two}
 use Rattle.lf_config.specs.declared.key.Key.{Key}
 use Rattle.lf_config.specs.declared.key.Key.TheVariants.{Of, Blocks}
 use Rattle.lf_config.specs.Key.{level_name, part_name, blocks_name, name_of}
 
 -- the table of a level, where there is one
-abbrev pub level_at : Members → Which → Option Members
+abbrev pub level_at : Members → LevelKey → Option Members
 level_at document level = option_and_then as_table (get_member (level_name level) document)
 
 -- the value of a key, where there is one

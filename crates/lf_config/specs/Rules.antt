@@ -4,7 +4,7 @@ use Rattle.std.specs.Option.{option_map_or}
 use Rattle.std.specs.Str.{bytes_eq}
 use Rattle.toml.specs.Data.{Data, Members, as_integer, as_str, as_table}
 use Rattle.lf_rules.specs.Fits.{is_block_size, is_factor}
-use Rattle.lf_config.specs.declared.key.Which.{Which}
+use Rattle.lf_config.specs.declared.key.LevelKey.{LevelKey}
 use Rattle.lf_config.specs.declared.key.Part.TheVariants.{Organisation}
 use Rattle.lf_config.specs.declared.key.Key.{Key}
 use Rattle.lf_config.specs.declared.key.Key.TheVariants.{Of}
@@ -50,7 +50,7 @@ is_within limits.Any value = true
 -- ---- a key of a document
 
 -- the organisation that a level names
-abbrev pub organisation_at : Members → Which → Option (List ℕ)
+abbrev pub organisation_at : Members → LevelKey → Option (List ℕ)
 organisation_at document level = option_and_then as_str (value_at document (Of level Organisation))
 
 abbrev pub is_text : List ℕ → Option (List ℕ) → Bool

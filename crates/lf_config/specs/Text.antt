@@ -3,7 +3,7 @@ use Rattle.std.specs.Prelude.{ℕ, nat_le, ◌&&◌, if◌then◌else◌, List, 
 use Rattle.std.specs.List.{flat_map}
 use Rattle.lf_config.specs.declared.fault.ConfigFault.{ConfigFault}
 use Rattle.lf_config.specs.declared.fault.ConfigFault.TheVariants.{NotToml, Unknown, Missing, Kind, Range, NoMemory}
-use Rattle.lf_config.specs.declared.key.Which.TheVariants.{Two}
+use Rattle.lf_config.specs.declared.key.LevelKey.TheVariants.{Two}
 use Rattle.lf_config.specs.declared.key.Key.{Key}
 use Rattle.lf_config.specs.declared.key.Key.TheVariants.{Of, Blocks}
 use Rattle.lf_config.specs.Key.{name_of, level_name, part_name, blocks_name}

@@ -3,8 +3,8 @@ use Rattle.std.specs.Prelude.{ℕ, ℤ, pos, negsuc, ◌^◌, nat_lt, if◌then�
 use Rattle.std.specs.Option.{option_map_or}
 use Rattle.std.specs.Str.{bytes_eq}
 use Rattle.toml.specs.Data.{Members, as_integer}
-use Rattle.lf_config.specs.declared.key.Which.{Which}
-use Rattle.lf_config.specs.declared.key.Which.TheVariants.{One, Two}
+use Rattle.lf_config.specs.declared.key.LevelKey.{LevelKey}
+use Rattle.lf_config.specs.declared.key.LevelKey.TheVariants.{One, Two}
 use Rattle.lf_config.specs.declared.key.Part.TheVariants.{Sets, Ways, Registers, Entries}
 use Rattle.lf_config.specs.declared.key.Key.{Key}
 use Rattle.lf_config.specs.declared.key.Key.TheVariants.{Ports, Banks, Block, Tags, Of, Blocks}
@@ -23,14 +23,14 @@ number_of (negsuc n) = 0
 abbrev pub number_at : Members → Key → ℕ
 number_at document key = option_map_or number_of (option_and_then as_integer (value_at document key)) 0
 
-abbrev pub organisation_named : Members → Which → Option (List ℕ) → OrgShape
+abbrev pub organisation_named : Members → LevelKey → Option (List ℕ) → OrgShape
 organisation_named document level None = Inverted
 organisation_named document level (Some text) =
     if bytes_eq text (codes "implicit") then Implicit (number_at document (Of level Registers))
     else if bytes_eq text (codes "explicit") then Explicit (number_at document (Of level Registers)) (number_at document (Of level Entries))
     else Inverted
 
-abbrev pub level_of : Members → Which → Level
+abbrev pub level_of : Members → LevelKey → Level
 level_of document level = record {
   sets = number_at document (Of level Sets);
   ways = number_at document (Of level Ways);

@@ -6,19 +6,23 @@ use Rattle.std.specs.Ordering.{is_lt, nat_cmp}
 use Rattle.std.specs.Cmp.Lexicographic.{slice_cmp}
 use Rattle.std.specs.Str.{bytes_eq}
 use Rattle.toml.specs.Data.{Members, no_members, member}
-use Rattle.lf_config.specs.declared.key.Which.{Which}
-use Rattle.lf_config.specs.declared.key.Which.TheVariants.{One, Two}
+use Rattle.lf_config.specs.declared.key.LevelKey.{LevelKey}
+use Rattle.lf_config.specs.declared.key.LevelKey.TheVariants.{One, Two}
 use Rattle.lf_config.specs.Key.{level_name, blocks_name}
 use Rattle.lf_config.specs.Lookup.{level_at}
 
 abbrev pub is_top_name : List ℕ → Bool
-is_top_name name = bytes_eq name (codes "ports") || bytes_eq name (codes "banks") || bytes_eq name (codes "block") || bytes_eq name (codes "tags") || bytes_eq name (codes "level1") || bytes_eq name (codes "level2")
+is_top_name name =
+    bytes_eq name (codes "ports") || bytes_eq name (codes "banks") || bytes_eq name (codes "block") || bytes_eq name (codes "tags")
+    || bytes_eq name (codes "level1") || bytes_eq name (codes "level2")
 
 abbrev pub is_part_name : List ℕ → Bool
-is_part_name name = bytes_eq name (codes "sets") || bytes_eq name (codes "ways") || bytes_eq name (codes "organisation") || bytes_eq name (codes "registers") || bytes_eq name (codes "entries")
+is_part_name name =
+    bytes_eq name (codes "sets") || bytes_eq name (codes "ways") || bytes_eq name (codes "organisation")
+    || bytes_eq name (codes "registers") || bytes_eq name (codes "entries")
 
 -- may the table of a level, or the document itself, have a key of this name?
-abbrev pub is_known : Option Which → List ℕ → Bool
+abbrev pub is_known : Option LevelKey → List ℕ → Bool
 is_known None name = is_top_name name
 is_known (Some One) name = is_part_name name
 is_known (Some Two) name = is_part_name name || bytes_eq name blocks_name
@@ -41,8 +45,9 @@ earliest (name ∷ names) = Some (earlier name (earliest names))
 abbrev pub first_other : (List ℕ → Bool) → Members → Option (List ℕ)
 first_other known members = earliest (filter (λ name. not (known name)) (names_of members))
 
-abbrev pub unknown_part : Members → Which → Option (List ℕ)
-unknown_part document level = option_map (λ name. level_name level ++ codes "." ++ name) (option_and_then (first_other (is_known (Some level))) (level_at document level))
+abbrev pub unknown_part : Members → LevelKey → Option (List ℕ)
+unknown_part document level =
+    option_map (λ name. level_name level ++ codes "." ++ name) (option_and_then (first_other (is_known (Some level))) (level_at document level))
 
 -- the whole name: first one of the document, then one of level one, then one of level two
 unfoldable pub first_unknown : Members → Option (List ℕ)

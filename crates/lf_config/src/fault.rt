@@ -1,6 +1,10 @@
 //! Why a text is no configuration.
 
+ghost use Rattle.std.specs.Prelude.{◌≡◌};
+ghost use Rattle.lf_config.specs.declared.fault.ConfigFault.TheVariants as faults;
+
 use crate::key::Key;
+use lf_rules::NoMemory;
 
 /// The first fault of a text. Faults of one sort are told in the order of the keys, and the sorts in
 /// this order, with want of memory where it was met.
@@ -19,4 +23,12 @@ pub enum ConfigFault {
     Range(Key),
     /// A growth was refused.
     NoMemory,
+}
+
+impl From<NoMemory> for ConfigFault {
+    ghost from_gives = { λ _ fault. fault ≡ faults.NoMemory };
+
+    fn from(_: NoMemory) -> ConfigFault {
+        ConfigFault::NoMemory
+    }
 }

@@ -5,7 +5,7 @@ ghost use Rattle.lf_config.specs.Key.{name_of, level_name, part_name, sort_of, l
 
 /// A level of the hierarchy.
 #[derive(Clone, Copy, Debug, PartialEq, Eq)]
-pub enum Which {
+pub enum LevelKey {
     One,
     Two,
 }
@@ -28,9 +28,9 @@ pub enum Key {
     Block,
     Tags,
     /// The table of a level.
-    Table(Which),
+    Table(LevelKey),
     /// A key of a level's table.
-    Of(Which, Part),
+    Of(LevelKey, Part),
     /// The blocks of level one in one of level two. Only level two's table has this key.
     Blocks,
 }
@@ -74,29 +74,29 @@ pub(crate) const KEYS: [Key; 17] = [
     Key::Banks,
     Key::Block,
     Key::Tags,
-    Key::Table(Which::One),
-    Key::Of(Which::One, Part::Sets),
-    Key::Of(Which::One, Part::Ways),
-    Key::Of(Which::One, Part::Organisation),
-    Key::Of(Which::One, Part::Registers),
-    Key::Of(Which::One, Part::Entries),
-    Key::Table(Which::Two),
-    Key::Of(Which::Two, Part::Sets),
-    Key::Of(Which::Two, Part::Ways),
-    Key::Of(Which::Two, Part::Organisation),
-    Key::Of(Which::Two, Part::Registers),
-    Key::Of(Which::Two, Part::Entries),
+    Key::Table(LevelKey::One),
+    Key::Of(LevelKey::One, Part::Sets),
+    Key::Of(LevelKey::One, Part::Ways),
+    Key::Of(LevelKey::One, Part::Organisation),
+    Key::Of(LevelKey::One, Part::Registers),
+    Key::Of(LevelKey::One, Part::Entries),
+    Key::Table(LevelKey::Two),
+    Key::Of(LevelKey::Two, Part::Sets),
+    Key::Of(LevelKey::Two, Part::Ways),
+    Key::Of(LevelKey::Two, Part::Organisation),
+    Key::Of(LevelKey::Two, Part::Registers),
+    Key::Of(LevelKey::Two, Part::Entries),
     Key::Blocks,
 ];
 
-impl Which {
+impl LevelKey {
     /// The name of the level's table.
     pub(crate) fn name(self) -> &'static str
         ensures { result.now ≡ level_name self }
     {
         match self {
-            Which::One => "level1",
-            Which::Two => "level2",
+            LevelKey::One => "level1",
+            LevelKey::Two => "level2",
         }
     }
 }

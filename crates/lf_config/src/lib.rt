@@ -14,5 +14,5 @@ mod told;
 mod unknown;
 
 pub use fault::ConfigFault;
-pub use key::{Key, Part, Which};
+pub use key::{Key, LevelKey, Part};
 pub use reading::read;

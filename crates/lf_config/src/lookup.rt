@@ -5,7 +5,7 @@ ghost use Rattle.toml.specs.Data.{get_member};
 ghost use Rattle.toml.specs.View.{view, table_view};
 ghost use Rattle.lf_config.specs.Lookup.{level_at, value_at};
 
-use crate::key::{Key, Which};
+use crate::key::{Key, LevelKey};
 use toml::{Table, Value};
 
 fn entry<'a>(table: &'a Table, name: &str) -> Option<&'a Value>
@@ -15,7 +15,7 @@ fn entry<'a>(table: &'a Table, name: &str) -> Option<&'a Value>
 }
 
 /// The table of a level, where there is one.
-pub(crate) fn level<'a>(table: &'a Table, which: Which) -> Option<&'a Table>
+pub(crate) fn level<'a>(table: &'a Table, which: LevelKey) -> Option<&'a Table>
     ensures { option_map (λ t. table_view t.now) result ≡ level_at (table_view table.now) which }
 {
     match entry(table, which.name()) {
@@ -25,7 +25,7 @@ pub(crate) fn level<'a>(table: &'a Table, which: Which) -> Option<&'a Table>
 }
 
 /// What the table of a level has at a name.
-fn entry_of<'a>(table: &'a Table, which: Which, name: &str) -> Option<&'a Value>
+fn entry_of<'a>(table: &'a Table, which: LevelKey, name: &str) -> Option<&'a Value>
     ensures { option_map (λ v. view v.now) result ≡ option_and_then (get_member name.now) (level_at (table_view table.now) which) }
 {
     match level(table, which) {
@@ -40,7 +40,7 @@ pub(crate) fn value<'a>(table: &'a Table, key: Key) -> Option<&'a Value>
 {
     match key {
         Key::Of(which, part) => entry_of(table, which, part.name()),
-        Key::Blocks => entry_of(table, Which::Two, key.name()),
+        Key::Blocks => entry_of(table, LevelKey::Two, key.name()),
         _ => entry(table, key.name()),
     }
 }

@@ -16,10 +16,8 @@ use toml::Table;
 fn judge(alloc: Global, table: &Table) -> Result<Shape, ConfigFault>
     ensures { Gives result (judged (table_view table.now)) }
 {
-    match first_unknown(alloc, table) {
-        Ok(None) => {}
-        Ok(Some(name)) => return Err(ConfigFault::Unknown(name)),
-        Err(_) => return Err(ConfigFault::NoMemory),
+    if let Some(name) = first_unknown(alloc, table)? {
+        return Err(ConfigFault::Unknown(name));
     }
     if let Some(key) = first_missing(table) {
         return Err(ConfigFault::Missing(key));

@@ -2,9 +2,11 @@
 
 ghost use Rattle.std.specs.Prelude.{◌≡◌, option_map};
 ghost use Rattle.toml.specs.View.{view, table_view};
-ghost use Rattle.lf_config.specs.Rules.{is_between, is_size_of_block, is_number_of_blocks, is_organisation, is_needed, has_sort, is_within, organisation_at, is_required, is_missing, is_misfit, is_out_of_range, first_missing, first_misfit, first_out_of_range};
+ghost use Rattle.lf_config.specs.Rules.{is_between, is_size_of_block, is_number_of_blocks, is_organisation, is_needed, has_sort, is_within};
+ghost use Rattle.lf_config.specs.Rules.{organisation_at, is_required, is_missing, is_misfit, is_out_of_range, first_missing, first_misfit};
+ghost use Rattle.lf_config.specs.Rules.{first_out_of_range};
 
-use crate::key::{KEYS, Key, Limits, Need, Part, Sort, Which};
+use crate::key::{KEYS, Key, LevelKey, Limits, Need, Part, Sort};
 use crate::lookup::{level, value};
 use toml::{Table, Value};
 
@@ -70,7 +72,7 @@ fn is_allowed(value: &Value, limits: Limits) -> bool
 }
 
 /// The organisation that a level names.
-pub(crate) fn organisation<'a>(table: &'a Table, which: Which) -> Option<&'a str>
+pub(crate) fn organisation<'a>(table: &'a Table, which: LevelKey) -> Option<&'a str>
     ensures { option_map (λ s. s.now) result ≡ organisation_at (table_view table.now) which }
 {
     match value(table, Key::Of(which, Part::Organisation)) {

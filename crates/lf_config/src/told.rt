@@ -7,7 +7,7 @@ ghost use Rattle.toml.specs.View.{view, table_view};
 ghost use Rattle.lf_config.specs.Rules.{organisation_at};
 ghost use Rattle.lf_config.specs.Told.{number_of, number_at, factor_at, organisation_named, level_of, shape_of};
 
-use crate::key::{Key, Part, Which};
+use crate::key::{Key, LevelKey, Part};
 use crate::lookup::value;
 use crate::rules::organisation;
 use lf_rules::{Level, OrgShape, Shape};
@@ -41,7 +41,7 @@ fn factor(table: &Table) -> u32
     }
 }
 
-fn organisation_shape(table: &Table, which: Which) -> OrgShape
+fn organisation_shape(table: &Table, which: LevelKey) -> OrgShape
     ensures { result ≡ organisation_named (table_view table.now) which (organisation_at (table_view table.now) which) }
 {
     let registers = number(table, Key::Of(which, Part::Registers));
@@ -53,7 +53,7 @@ fn organisation_shape(table: &Table, which: Which) -> OrgShape
     }
 }
 
-fn level_shape(table: &Table, which: Which) -> Level
+fn level_shape(table: &Table, which: LevelKey) -> Level
     ensures { result ≡ level_of (table_view table.now) which }
 {
     Level {
@@ -73,7 +73,7 @@ pub(crate) fn shape(table: &Table) -> Shape
         block: number(table, Key::Block),
         tags: number(table, Key::Tags),
         factor: factor(table),
-        level1: level_shape(table, Which::One),
-        level2: level_shape(table, Which::Two),
+        level1: level_shape(table, LevelKey::One),
+        level2: level_shape(table, LevelKey::Two),
     }
 }

@@ -5,9 +5,10 @@ ghost use Rattle.toml.specs.View.{table_view};
 ghost use Rattle.lf_config.specs.Lookup.{level_at};
 ghost use Rattle.lf_config.specs.Unknown.{is_top_name, is_part_name, is_known, first_other, unknown_part, first_unknown};
 
-use crate::key::Which;
+use crate::key::LevelKey;
 use crate::lookup::level;
-use std::alloc::{AllocError, Global};
+use lf_rules::NoMemory;
+use std::alloc::Global;
 use toml::Table;
 
 fn is_top(name: &str) -> bool
@@ -32,18 +33,18 @@ fn is_part(name: &str) -> bool
 }
 
 // Whether the table of a level, or the document itself, may have the key.
-fn is_known(level: Option<Which>, name: &str) -> bool
+fn is_known(level: Option<LevelKey>, name: &str) -> bool
     ensures { result ≡ is_known level name.now }
 {
     match level {
-        Some(Which::One) => is_part(name),
-        Some(Which::Two) => is_part(name) || name == "blocks",
+        Some(LevelKey::One) => is_part(name),
+        Some(LevelKey::Two) => is_part(name) || name == "blocks",
         None => is_top(name),
     }
 }
 
 // The keys of a table come in byte order, so the first that is not known is the earliest.
-fn first_other(table: &Table, level: Option<Which>) -> Option<&str>
+fn first_other(table: &Table, level: Option<LevelKey>) -> Option<&str>
     ensures { option_map (λ s. s.now) result ≡ first_other (is_known level) (table_view table.now) }
 {
     for name in table.keys() {
@@ -54,7 +55,7 @@ fn first_other(table: &Table, level: Option<Which>) -> Option<&str>
     None
 }
 
-fn unknown_in(table: &Table, which: Which) -> Option<&str>
+fn unknown_in(table: &Table, which: LevelKey) -> Option<&str>
     ensures { option_map (λ s. s.now) result ≡ option_and_then (first_other (is_known (Some which))) (level_at (table_view table.now) which) }
 {
     match level(table, which) {
@@ -63,7 +64,7 @@ fn unknown_in(table: &Table, which: Which) -> Option<&str>
     }
 }
 
-fn unknown_part(alloc: Global, table: &Table, which: Which) -> Result<Option<String>, AllocError>
+fn unknown_part(alloc: Global, table: &Table, which: LevelKey) -> Result<Option<String>, NoMemory>
     ensures { IfOk result (λ found. option_map string_bytes found ≡ unknown_part (table_view table.now) which) }
 {
     match unknown_in(table, which) {
@@ -77,14 +78,14 @@ fn unknown_part(alloc: Global, table: &Table, which: Which) -> Result<Option<Str
 
 /// The whole name of the first key that no one knows.
 #[tactic(auto, unfolding(crate::specs::Unknown::first_unknown))]
-pub(crate) fn first_unknown(alloc: Global, table: &Table) -> Result<Option<String>, AllocError>
+pub(crate) fn first_unknown(alloc: Global, table: &Table) -> Result<Option<String>, NoMemory>
     ensures { IfOk result (λ found. option_map string_bytes found ≡ first_unknown (table_view table.now)) }
 {
     if let Some(name) = first_other(table, None) {
         return Ok(Some(String::from_str(alloc, name)?));
     }
-    if let Some(name) = unknown_part(alloc, table, Which::One)? {
+    if let Some(name) = unknown_part(alloc, table, LevelKey::One)? {
         return Ok(Some(name));
     }
-    unknown_part(alloc, table, Which::Two)
+    unknown_part(alloc, table, LevelKey::Two)
 }

@@ -1,6 +1,6 @@
 //! Texts and what they say.
 
-use lf_config::{ConfigFault, Key, Part, Which, read};
+use lf_config::{ConfigFault, Key, LevelKey, Part, read};
 use lf_rules::{Level, OrgShape, Shape};
 use lf_samples::C1;
 use std::process::Abort;
@@ -78,7 +78,7 @@ fn configuration_faults(rt: HostRuntime) -> Result<(), Fail> {
     let range = Err(ConfigFault::Range(Key::Banks));
     assert_read(&rt, many_banks, LEVEL1, LEVEL2, range)?;
     let no_table = "ports = 1\nbanks = 1\nblock = 8\ntags = 4\nlevel2 = 1\n";
-    let kind = Err(ConfigFault::Kind(Key::Table(Which::Two)));
+    let kind = Err(ConfigFault::Kind(Key::Table(LevelKey::Two)));
     assert_read(&rt, no_table, LEVEL1, "", kind)?;
     let coloured = "colour = 1\nports = 1\nbanks = 1\nblock = 8\ntags = 4\n";
     let unknown = Err(ConfigFault::Unknown(String::from_str(rt.alloc(), "colour")?));
@@ -109,7 +109,7 @@ fn blocks_of_level_two(rt: HostRuntime) -> Result<(), Fail> {
 fn the_first_fault_is_told(rt: HostRuntime) -> Result<(), Fail> {
     assert_read(&rt, "ports = ", "", "", Err(ConfigFault::NotToml))?;
     let no_entries = "[level1]\nsets = 1\nways = 1\norganisation = \"explicit\"\nregisters = 1\n";
-    let missing = Err(ConfigFault::Missing(Key::Of(Which::One, Part::Entries)));
+    let missing = Err(ConfigFault::Missing(Key::Of(LevelKey::One, Part::Entries)));
     assert_read(&rt, TOP, no_entries, LEVEL2, missing)?;
     // An unknown key before a missing one, and one of the document before one of a level.
     let two = "zebra = 1\nBanks = 1\n";

@@ -1,10 +1,24 @@
 //! What a part of the check answers.
 
 use crate::rule::Rule;
+use std::alloc::{AllocError, AllocFailed};
 
 /// A growth was refused.
 #[derive(Clone, Copy, Debug, PartialEq, Eq)]
 pub struct NoMemory;
+
+impl From<AllocError> for NoMemory {
+    fn from(_: AllocError) -> NoMemory {
+        NoMemory
+    }
+}
+
+/// The value that was not stored is dropped.
+impl<T: Drop> From<AllocFailed<T>> for NoMemory {
+    fn from(_: AllocFailed<T>) -> NoMemory {
+        NoMemory
+    }
+}
 
 /// What the replay of one port or of one bank found.
 #[derive(Clone, Copy, Debug, PartialEq, Eq)]

@@ -1,18 +1,16 @@
-use Rattle.std.proofs.Common.{◌≡◌, true, refl, sym, ◌∙◌, inr}
-use Rattle.std.specs.Prelude.{is_err}
-use Rattle.lf_codec.proofs.Judged.{passed_from_no_error, OnErr_at_err}
+use Rattle.std.proofs.Common.{refl, sym, ◌∙◌, inr}
+use Rattle.lf_codec.proofs.Judged.{passed_from_no_error}
 use Rattle.lf_codec.proofs.Bytes.{header_kept}
 use Rattle.lf_codec.proofs.reader.Reader.take_step.Goals as goal
 
-pub returns-then-is_err : goal.returns-then-is_err
-returns-then-is_err c =
-    let lost : is_err c.keep.result ≡ true = sym c.is_err.ensures.value ∙ c.if-is_err.true in
-    let same = OnErr_at_err c.keep.result c.keep.ensures.err lost in
-    let some = rw c.advance-found.ensures.found at (OnErr_at_err c.keep.result c.keep.ensures.some lost) in
-    rw c.fail-then-is_err.ensures.failed (
+pub returns-in-Err-keep : goal.returns-in-Err-keep
+returns-in-Err-keep c =
+    let same = c.in-Err-keep.ensures.err in
+    let some = rw c.advance-found.ensures.found at c.in-Err-keep.ensures.some in
+    rw c.fail-in-Err-keep.ensures.failed (
       refl,
-      inr (rw (← c.self.view_is, c.fail-then-is_err.ensures.fault) (record {
-        cause = refl;
+      inr (rw (← c.self.view_is, c.fail-in-Err-keep.ensures.fault) (record {
+        cause = c.into.ensures;
         offset = refl;
         passes = sym c.check.ensures.cause ∙ passed_from_no_error _ c.in_default.not-Err;
         gives_some = some;
