@@ -1,6 +1,6 @@
 //! The records that came before their turn.
 
-ghost use Rattle.std.specs.Prelude.{◌≡◌, ◌<◌, ◌%◌, ℕ, List, [], length, is_some, None, Some, OnOk, OnErr, IfOk, IfSome, IfNone, slice_index_or, vec_len};
+ghost use Rattle.std.specs.Prelude.{◌≡◌, ◌<◌, ◌%◌, ℕ, List, [], length, is_some, IsTrue, None, Some, OnOk, OnErr, IfOk, IfSome, IfNone, slice_index_or, vec_len};
 ghost use Rattle.std.specs.Map.{lookup};
 ghost use Rattle.std.specs.BTreeMap.{is_at};
 ghost use Rattle.std.specs.Ordering.{nat_cmp};
@@ -122,6 +122,13 @@ impl Early {
             kept: Slab::new(alloc),
             rest: BTreeMap::new(alloc),
         }
+    }
+
+    /// Whether there is no record.
+    pub fn is_empty(&self) -> bool
+        ensures { IsTrue result → self.now ≡ [] }
+    {
+        self.kept.is_empty() && self.rest.is_empty()
     }
 
     /// Whether a record has this number.

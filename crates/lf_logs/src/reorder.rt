@@ -165,6 +165,14 @@ impl Reorder {
         Some(item)
     }
 
+    /// Whether no record waits for its turn, so that `next` has none to give. It takes no memory.
+    pub fn is_empty(&self) -> bool
+        ensures { IsTrue result → (put : List Record) (gave : List Record) → HasOrdered self.now put gave
+            → first_with (length gave) put ≡ None }
+    {
+        self.ready.is_none() && self.early.is_empty()
+    }
+
     /// The least number that is missing below a greater one.
     fn missing(&self) -> Option<u32>
         ensures some { (put : List Record) (gave : List Record) → HasOrdered self.now put gave

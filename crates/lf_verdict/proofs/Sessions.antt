@@ -7,6 +7,7 @@ use Rattle.std.proofs.lemmas.List.Elements.{filter-append}
 use Rattle.std.proofs.lemmas.Bool.{cond-true, eq-eqb}
 use Rattle.lf_rules.specs.declared.shape.Shape.{Shape}
 use Rattle.lf_rules.specs.declared.event.Record.{Record}
+use Rattle.lf_rules.specs.Address.{flat_memory}
 use Rattle.lf_rules.specs.Fits.{Bytes}
 use Rattle.lf_rules.specs.Run.{of_log}
 use Rattle.lf_codec.specs.declared.header.Header.{Header}
@@ -32,11 +33,12 @@ use Rattle.lf_verdict.specs.declared.standing.Standing.{Standing}
 use Rattle.lf_verdict.specs.Legal.{Agrees, IsTraceFor}
 use Rattle.lf_verdict.specs.Judging.{IsAnswer}
 use Rattle.lf_verdict.specs.Reading.{IsFaultOrWant, fault_in}
-use Rattle.lf_verdict.specs.Standing.{MayCome, IsShort, logs_so_far}
+use Rattle.lf_verdict.specs.Standing.{MayCome, IsShort, StandsAfterAll, logs_so_far}
 use Rattle.lf_verdict.specs.Session.{IsRunning, IsOfAnotherHeader, IsJudging, HasJudged, IsAt, HasTaken, IsLacking, IsDrained, HasFed, refusal_of, stop_told, refusal_in, IsRefusalSoFar, IsStopOf}
 use Rattle.lf_verdict.specs.declared.answer.Refusal.{Refusal}
 use Rattle.lf_codec.specs.declared.fault.Told.TheVariants as tolds
 use Rattle.std.specs.Prelude.{IsSome}
+use Rattle.std.proofs.Common.{get_or}
 use Rattle.lf_verdict.specs.declared.intake.Judging.{Judging}
 use Rattle.lf_verdict.specs.declared.intake.Judging.TheVariants.{Waiting, Running, Another}
 use Rattle.lf_rules.specs.InRange.{IsShape}
@@ -63,6 +65,15 @@ may_come law shape bytes memory records r running item rest read run next =
       fits = fits_shape shape run.header item run.agrees (middle (FitsIn run.header) records item rest (subst (AllByRecursion (FitsIn run.header)) all fits.each)).fits;
       room = omega (arith, limit_is_small run.header.version, one_of_log records item rest, ap (λ (xs : List Record). length (of_log item.log xs)) all, fits.logs item.log);
     }
+
+-- what is taken is what stood in front
+pub same_front : (records xs ys : List Record) (front taken : Record) → records ≡ front ∷ xs → records ≡ taken ∷ ys → front ≡ taken
+same_front records xs ys front taken stood first = ap (λ (rs : List Record). get_or rs 0 front) (sym stood ∙ first)
+
+pub running_more : (shape : Shape) (bytes : List ℕ) (memory : List (ℕ × Bytes)) (records more : List Record) (old new : Standing) → IsRunning shape bytes memory records old
+    → StandsAfterAll shape (flat_memory memory) more new → IsRunning shape bytes memory more new
+running_more shape bytes memory records more old new running stands =
+    record { header = running.header; read = running.read; agrees = running.agrees; whole = running.whole; stands = stands }
 
 -- ---- what a session answers
 

@@ -3,7 +3,7 @@ use Rattle.std.proofs.Common.{◌≡◌, ℕ, ◌+◌, ◌<◌, ◌≤◌, List,
 use Rattle.std.specs.List.{AllByRecursion}
 use Rattle.std.specs.Global.{Vec}
 use Rattle.std.specs.Vec.{with_item}
-use Rattle.std.proofs.lemmas.List.{length-map, length-set, map-set, map-append, get_or-map, get_or-set_same, get_or-set_other}
+use Rattle.std.proofs.lemmas.List.{length-map, length-set, map-set, map-append, get_or-map, get_or-set_same, get_or-set_other, set-get_or}
 use Rattle.std.proofs.lemmas.Bool.{cases_eq}
 use Rattle.lf_rules.specs.declared.shape.Shape.{Shape}
 use Rattle.lf_rules.specs.declared.event.Record.{Record}
@@ -137,7 +137,7 @@ module _ (shape : Shape) (memory : FlatMemory) (records : List Record) (s : Stan
       → StandsAfterAll shape memory (records ++ r ∷ []) after
   stands_more entered after i new is within same at settled =
       let banks : after.banks.items ≡ set s.banks.items r.bank new =
-      ap (λ (t : Standing). t.banks.items) same ∙ ap (λ (v : Vec BankJudge). set v.items i new) is.banks ∙ ap (λ n. set s.banks.items n new) at in
+      ap (λ (t : Standing). t.banks.items) same ∙ ap (λ (js : List BankJudge). set js i new) is.banks ∙ ap (λ n. set s.banks.items n new) at in
       record {
         fit = all_push (Fits shape) records r stands.fit may.fits;
         logs = ap (λ (t : Standing). joins.lists_of t.logs.items) same ∙ is.logs;
@@ -152,10 +152,25 @@ module _ (shape : Shape) (memory : FlatMemory) (records : List Record) (s : Stan
             (banks_more shape memory records r s.banks.items stands.given new settled.0 stands.count_banks stands.count_given stands.banks within settled.1 bank d lt);
       }
 
+  -- its bank has not seen it
+  pub entered_same : (entered after : Standing) (i : ℕ) (new was : BankJudge) → IsEntered shape records r s entered
+      → after ≡ record entered { banks = with_item entered.banks i new } → new ≡ was → was ≡ get_or entered.banks.items i was
+      → IsEntered shape records r s after
+  entered_same entered after i new was is same unchanged read =
+      let banks : set entered.banks.items i new ≡ entered.banks.items =
+      ap (set entered.banks.items i) (unchanged ∙ read) ∙ set-get_or entered.banks.items i was in
+      record {
+        logs = ap (λ (t : Standing). joins.lists_of t.logs.items) same ∙ is.logs;
+        count_ports = ap (λ (t : Standing). length t.ports.items) same ∙ is.count_ports;
+        ports = λ port d lt.
+            subst (λ (js : List PortJudge). IsPortJudged shape port (of_log port (records ++ r ∷ [])) (get_or js port d)) (sym (ap (λ (t : Standing). t.ports.items) same)) (is.ports port d lt);
+        banks = ap (λ (t : Standing). t.banks.items) same ∙ banks ∙ is.banks;
+      }
+
   -- it names no bank
   pub stands_fenced : (after : Standing) → IsEntered shape records r s after → shape.banks ≤ r.bank → StandsAfterAll shape memory (records ++ r ∷ []) after
   stands_fenced after is past =
-      let banks : after.banks.items ≡ s.banks.items = ap (λ (v : Vec BankJudge). v.items) is.banks in
+      let banks : after.banks.items ≡ s.banks.items = is.banks in
       record {
         fit = all_push (Fits shape) records r stands.fit may.fits;
         logs = is.logs;

@@ -85,7 +85,7 @@ pub record IsEntered (shape : Shape) (records : List Record) (r : Record) (befor
   pub count_ports : length after.ports.items ≡ shape.ports
   pub ports : (port : ℕ) (d : PortJudge) → port < shape.ports
       → IsPortJudged shape port (of_log port (records ++ r ∷ [])) (slice_index_or after.ports.items port d)
-  pub banks : after.banks ≡ before.banks
+  pub banks : after.banks.items ≡ before.banks.items
 
 -- the logs of the records that came
 abbrev pub logs_so_far : Shape → List Record → List (List Record)

@@ -1,11 +1,12 @@
 //! A bank, judged while its records come.
 
-ghost use Rattle.std.specs.Prelude.{◌≡◌, ◌<◌, ℕ, List, [], ◌∷◌, ◌++◌, length, IfOk, OnOk};
+ghost use Rattle.std.specs.Prelude.{◌≡◌, ◌<◌, ℕ, List, [], ◌∷◌, ◌++◌, length, IsTrue, None, IfOk, OnOk};
 ghost use Rattle.lf_rules.specs.declared.shape.Shape.{Shape};
 ghost use Rattle.lf_rules.specs.declared.event.Record.{Record};
 ghost use Rattle.lf_rules.specs.Address.{FlatMemory, flat_memory};
 ghost use Rattle.lf_rules.specs.Fits.{Fits};
 ghost use Rattle.lf_rules.specs.InRange.{IsShape};
+ghost use Rattle.lf_logs.specs.Reordering.{HasOrdered, first_with};
 ghost use Rattle.lf_replay.specs.Bytes.{bank_part};
 ghost use Rattle.lf_replay.specs.Step.{IsForStep};
 ghost use Rattle.lf_verdict.specs.Standing.{IsBankAt, IsBankJudged, IsBankSettled};
@@ -70,10 +71,33 @@ impl BankJudge {
         ensures { (shape : Shape) (memory : FlatMemory) (bank : ℕ) (came : List Record) (gave : List Record) → IsBankJudged shape memory bank came gave self.old
             → OnOk result ((more : List Record) × IsBankSettled shape memory bank came more self.new) }
     {
+        if self.order.is_empty() {
+            return Ok(());
+        }
         while let Some(item) = self.order.next() {
             self.judge(&item)?;
         }
         Ok(())
+    }
+
+    /// Judges a record of the bank whose turn has come, and those that waited for it. It says whether
+    /// that is so; otherwise nothing has changed.
+    pub fn offer(&mut self, item: &Record) -> Result<bool, NoMemory>
+        requires { (shape : Shape) × ((memory : FlatMemory) × ((bank : ℕ) × ((came : List Record) × ((gave : List Record) ×
+            (Fits shape item.now × ((item.now.bank ≡ bank) × IsBankSettled shape memory bank came gave self.old)))))) }
+        ensures judged { (shape : Shape) (memory : FlatMemory) (bank : ℕ) (came : List Record) (gave : List Record) → Fits shape item.now → item.now.bank ≡ bank
+            → IsBankSettled shape memory bank came gave self.old
+            → IfOk result (λ judged. IsTrue judged → (more : List Record) × IsBankSettled shape memory bank (came ++ item.now ∷ []) more self.new) }
+        ensures unchanged { IfOk result (λ judged. ¬ IsTrue judged → self.new ≡ self.old) }
+        ensures early { (put : List Record) (gave : List Record) → HasOrdered self.old.order put gave → first_with (length gave) put ≡ None
+            → IfOk result (λ judged. ¬ IsTrue judged → ¬ (item.now.number ≡ length gave)) }
+    {
+        if !self.order.pass(item) {
+            return Ok(false);
+        }
+        self.judge(item)?;
+        self.settle()?;
+        Ok(true)
     }
 
     /// Takes a record of the bank, and judges those whose turn has come.
@@ -84,9 +108,8 @@ impl BankJudge {
             → IsBankSettled shape memory bank came gave self.old
             → OnOk result ((more : List Record) × IsBankSettled shape memory bank (came ++ item ∷ []) more self.new) }
     {
-        if self.order.pass(&item) {
-            self.judge(&item)?;
-            return self.settle();
+        if self.offer(&item)? {
+            return Ok(());
         }
         self.order.put(item)
     }

@@ -92,8 +92,13 @@ fn judge_records(reader: &mut Reader, standing: &mut Standing) -> Result<(), NoM
     ensures drained { OnOk result (reader.new.records ≡ []) }
 {
     read_so_far();
-    while let Some(item) = reader.take() {
-        standing.take(item)?;
+    while let Some(item) = reader.front() {
+        let is_judged = standing.offer(item)?;
+        if let Some(item) = reader.take() {
+            if !is_judged {
+                standing.keep(item)?;
+            }
+        }
     }
     Ok(())
 }

@@ -1,39 +1,87 @@
-use Rattle.std.proofs.Common.{◌++◌, ◌∷◌, [], List, ap, ◌∙◌, subst}
-use Rattle.std.proofs.lemmas.List.{append-nil}
+use Rattle.std.proofs.Common.{◌++◌, ◌∷◌, [], List, ap, ◌∙◌, subst, drop}
 use Rattle.lf_rules.specs.declared.event.Record.{Record}
 use Rattle.lf_rules.specs.Address.{flat_memory}
 use Rattle.lf_codec.specs.Reading.{Reading}
-use Rattle.lf_codec.specs.Reader.{HasRead}
-use Rattle.lf_verdict.proofs.Sessions.{may_come}
+use Rattle.lf_verdict.specs.Standing.{IsEntered, MayCome, StandsAfterAll}
+use Rattle.lf_verdict.proofs.Sessions.{may_come, running_more, same_front}
 use Rattle.lf_verdict.proofs.intake.judge_records.Goals as goal
 
-pub take-requires-in-Some : goal.take-requires-in-Some
-take-requires-in-Some c =
+pub offer-requires : goal.offer-requires
+offer-requires c =
     let r = c.requires in
     let m = c.loop-item.invariant.1 r.0 r.1.0 r.1.1.0 r.1.1.1.0 r.1.1.1.1.0 r.1.1.1.1.1 in
-    (r.0, (flat_memory r.1.1.0, (m.0, (may_come c.read_so_far.ensures r.0 r.1.0 r.1.1.0 m.0 c.loop-item.reader c.loop-item.standing c.in-Some.item c.take.new.self.records m.1.0 m.1.1 c.in-Some.ensures.first, m.1.1.stands))))
+    let rest = drop 1 c.loop-item.reader.records in
+    (r.0, (flat_memory r.1.1.0, (m.0, (may_come c.read_so_far.ensures r.0 r.1.0 r.1.1.0 m.0 c.loop-item.reader c.loop-item.standing c.in-Some.item.now rest m.1.0 m.1.1 c.in-Some.ensures, m.1.1.stands))))
+
+pub keep-requires : goal.keep-requires
+keep-requires c =
+    let r = c.requires in
+    let m = c.loop-item.invariant.1 r.0 r.1.0 r.1.1.0 r.1.1.1.0 r.1.1.1.1.0 r.1.1.1.1.1 in
+    let there = c.loop-item.reader.records in
+    let front = c.in-Some.item.now in
+    let taken = c.in-Some-take.item in
+    let may = may_come c.read_so_far.ensures r.0 r.1.0 r.1.1.0 m.0 c.loop-item.reader c.loop-item.standing front (drop 1 there) m.1.0 m.1.1 c.in-Some.ensures in
+    let same = same_front there (drop 1 there) c.take.new.self.records front taken c.in-Some.ensures c.in-Some-take.ensures.first in
+    let entered = c.in_ok-is_judged.ensures.entered r.0 (flat_memory r.1.1.0) m.0 may m.1.1.stands (λ e. cc) in (
+      r.0,
+      (
+        flat_memory r.1.1.0,
+        (
+          m.0,
+          (
+            c.loop-item.standing,
+            (
+              subst (MayCome r.0 m.0) same may,
+              (m.1.1.stands, subst (λ (item : Record). IsEntered r.0 m.0 item c.loop-item.standing c.offer.new.self) same entered),
+            ),
+          ),
+        ),
+      ),
+    )
 
 pub loop-item-preserved : goal.loop-item-preserved
-loop-item-preserved c = (
-  ap (λ (q : Reading). q.fault) c.in-Some.ensures.rest ∙ c.loop-item.invariant.0,
+loop-item-preserved c = let none = c.in_default-take.ensures.none in let some = c.in-Some.ensures in absurd (cc)
+
+pub loop-item-preserved-in-Continue-branch-2 : goal.loop-item-preserved-in-Continue-branch-2
+loop-item-preserved-in-Continue-branch-2 c = (
+  ap (λ (q : Reading). q.fault) c.take.ensures.rest ∙ c.loop-item.invariant.0,
   λ shape bytes memory records read run.
       let m = c.loop-item.invariant.1 shape bytes memory records read run in
-      let may = may_come c.read_so_far.ensures shape bytes memory m.0 c.loop-item.reader c.loop-item.standing c.in-Some.item c.take.new.self.records m.1.0 m.1.1 c.in-Some.ensures.first in (
-        m.0 ++ c.in-Some.item ∷ [],
+      let there = c.loop-item.reader.records in
+      let front = c.in-Some.item.now in
+      let taken = c.in-Some-take.item in
+      let may = may_come c.read_so_far.ensures shape bytes memory m.0 c.loop-item.reader c.loop-item.standing front (drop 1 there) m.1.0 m.1.1 c.in-Some.ensures in
+      let same = same_front there (drop 1 there) c.take.new.self.records front taken c.in-Some.ensures c.in-Some-take.ensures.first in
+      let entered = c.in_ok-is_judged.ensures.entered shape (flat_memory memory) m.0 may m.1.1.stands (λ e. cc) in (
+        m.0 ++ taken ∷ [],
         (
-          c.in-Some.ensures.taken bytes memory m.0 m.1.0,
-          record {
-            header = m.1.1.header;
-            read = m.1.1.read;
-            agrees = m.1.1.agrees;
-            whole = m.1.1.whole;
-            stands = c.in_ok-take.ensures shape (flat_memory memory) m.0 may m.1.1.stands;
-          },
+          c.in-Some-take.ensures.taken bytes memory m.0 m.1.0,
+          running_more shape bytes memory m.0 (m.0 ++ taken ∷ []) c.loop-item.standing c.keep.new.self m.1.1
+              (c.in_ok-keep.ensures shape (flat_memory memory) m.0 c.loop-item.standing (subst (MayCome shape m.0) same may) m.1.1.stands
+                (subst (λ (item : Record). IsEntered shape m.0 item c.loop-item.standing c.offer.new.self) same entered)),
+        ),
+      ),
+)
+
+pub loop-item-preserved-else-not-is_judged : goal.loop-item-preserved-else-not-is_judged
+loop-item-preserved-else-not-is_judged c = (
+  ap (λ (q : Reading). q.fault) c.take.ensures.rest ∙ c.loop-item.invariant.0,
+  λ shape bytes memory records read run.
+      let m = c.loop-item.invariant.1 shape bytes memory records read run in
+      let there = c.loop-item.reader.records in
+      let front = c.in-Some.item.now in
+      let taken = c.in-Some-take.item in
+      let may = may_come c.read_so_far.ensures shape bytes memory m.0 c.loop-item.reader c.loop-item.standing front (drop 1 there) m.1.0 m.1.1 c.in-Some.ensures in
+      let same = same_front there (drop 1 there) c.take.new.self.records front taken c.in-Some.ensures c.in-Some-take.ensures.first in (
+        m.0 ++ taken ∷ [],
+        (
+          c.in-Some-take.ensures.taken bytes memory m.0 m.1.0,
+          running_more shape bytes memory m.0 (m.0 ++ taken ∷ []) c.loop-item.standing c.offer.new.self m.1.1
+              (subst (λ (item : Record). StandsAfterAll shape (flat_memory memory) (m.0 ++ item ∷ []) c.offer.new.self) same
+                (c.in_ok-is_judged.ensures.judged shape (flat_memory memory) m.0 may m.1.1.stands c.if-not-is_judged.false)),
         ),
       ),
 )
 
 pub returns-clause-judged : goal.returns-clause-judged
-returns-clause-judged c shape bytes memory records read run =
-    let m = c.loop-item.invariant.1 shape bytes memory records read run in
-    (m.0, (subst (λ (rs : List Record). HasRead c.take.new.self bytes memory rs) (append-nil m.0) (c.in_default.ensures.taken bytes memory m.0 m.1.0), m.1.1))
+returns-clause-judged c shape bytes memory records read run = c.loop-item.invariant.1 shape bytes memory records read run

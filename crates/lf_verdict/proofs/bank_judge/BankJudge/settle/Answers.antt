@@ -1,4 +1,4 @@
-use Rattle.std.proofs.Common.{◌++◌, ◌∷◌, [], sym, ap, ◌∙◌, subst}
+use Rattle.std.proofs.Common.{◌++◌, ◌∷◌, [], sym, ap, ◌∙◌, subst, refl}
 use Rattle.lf_logs.specs.Reordering.{Reordering, HasOrdered}
 use Rattle.lf_verdict.proofs.Judges.{turn_fits, judged_more, judged_all}
 use Rattle.lf_verdict.proofs.bank_judge.BankJudge.settle.Goals as goal
@@ -24,3 +24,6 @@ pub returns : goal.returns
 returns c shape memory bank came gave judged =
     let m = c.loop-item.invariant shape memory bank came gave judged in
     (m.0, judged_all shape memory bank came m.0 c.loop-item.self m.1 c.next.new.self (c.in_default.ensures.there came m.0 m.1.ordered) (c.in_default.ensures.gives came m.0 m.1.ordered) c.in_default.ensures.bank)
+
+pub returns-then-is_empty : goal.returns-then-is_empty
+returns-then-is_empty c shape memory bank came gave judged = (gave, record { bank_judged = judged; drained = c.if-is_empty.ensures refl came gave judged.ordered })
