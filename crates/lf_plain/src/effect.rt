@@ -14,11 +14,11 @@ ghost use Rattle.lf_state.specs.Bytes.{flat_of};
 ghost use Rattle.lf_state.specs.Queues.{queue_at};
 ghost use Rattle.lf_plain.specs.Plain.{slice_of, slice_next};
 
-use crate::lines::{LineMap, WideLineMap, clean_masks, dirty_mask, drop_line, marked_masks};
+use crate::lines::{LineMap, WideLineMap, dirty_mask, drop_line, marked_masks};
 use crate::missed::{Missed, held_miss};
 use crate::registers::{Held, release, store_bytes};
 use crate::slice::PlainSlice;
-use lf_rules::{Mask, Masks, NoMemory, Shape};
+use lf_rules::{Mask, Masks, NoMemory, Shape, clean_masks};
 use lf_state::{
     FlatMemory, Ready, Request, drop_asked, drop_block, drop_head, drop_ready, enqueue, head,
     place_of, push, second_of,

@@ -1,11 +1,11 @@
 //! The lines of one level of a bank: a map from each block that is there to what is dirty of it.
 
 ghost use Rattle.std.specs.Prelude.{◌≡◌, ◌≤◌};
-ghost use Rattle.lf_rules.specs.Address.{mask_at, set1_of, set2_of};
+ghost use Rattle.lf_rules.specs.Address.{set1_of, set2_of};
 ghost use Rattle.lf_rules.specs.InRange.{IsShape};
-ghost use Rattle.lf_rules.specs.Lines.{dirty_mask, dirty_masks, has_line, has_way, marked, clean_masks, same_masks, without_line};
+ghost use Rattle.lf_rules.specs.Lines.{dirty_mask, dirty_masks, has_line, has_way, marked, same_masks, without_line};
 
-use lf_rules::{Mask, Masks, Shape};
+use lf_rules::{Mask, Masks, Shape, same_masks};
 use std::collections::BTreeMap;
 
 /// Level one: a mask for each block.
@@ -67,16 +67,6 @@ pub fn dirty_mask(lines: &LineMap, block: u32) -> u64
     lines.get(&block).copied().unwrap_or(0)
 }
 
-/// The mask at the place, and 0 where there is none.
-pub fn mask_at(masks: &Masks, place: u32) -> u64
-    ensures { result ≡ mask_at masks.now place }
-{
-    match masks.get(place as usize) {
-        Some(mask) => mask.0,
-        None => 0,
-    }
-}
-
 /// Whether these are the dirty masks of the second-level block's line; where there is none, it has none.
 pub fn are_dirty(factor: u32, lines: &WideLineMap, second: u32, masks: &Masks) -> bool
     ensures { result ≡ same_masks factor masks.now (dirty_masks lines.now.entries second) }
@@ -87,24 +77,6 @@ pub fn are_dirty(factor: u32, lines: &WideLineMap, second: u32, masks: &Masks) -
         None => &none,
     };
     same_masks(factor, masks, dirty)
-}
-
-fn same_masks(factor: u32, a: &Masks, b: &Masks) -> bool
-    ensures { result ≡ same_masks factor a.now b.now }
-{
-    (0..factor).all(|place| mask_at(a, place) == mask_at(b, place))
-}
-
-/// So many masks of no bytes.
-pub fn clean_masks(factor: u32) -> Masks
-    requires { factor ≤ 4 }
-    ensures { result ≡ clean_masks factor }
-{
-    let mut masks = Masks::new();
-    for _ in 0..factor {
-        masks.push(Mask(0));
-    }
-    masks
 }
 
 /// The masks of the second-level block's line, where the one at this place gains these bytes.

@@ -24,9 +24,8 @@ use crate::registers::{
     has_room2, is_fetched, is_waited_for, second_merge_rule, second_primary_rule,
 };
 use crate::supply::add_blocks;
-use crate::wide::clean_masks;
 use lf_mshr::{Organisation, Request1, Request2};
-use lf_rules::{Masks, Rule, WideBlock};
+use lf_rules::{Masks, Rule, WideBlock, clean_masks};
 use lf_state::{drop_asked, push, second_of};
 
 impl Bank {

@@ -5,7 +5,7 @@ ghost use Rattle.arrayvec.specs.ArrayVec.{array_vec_len};
 ghost use Rattle.lf_levels.specs.LineTable.{after_fill};
 ghost use Rattle.lf_rules.specs.Address.{clean_mask};
 ghost use Rattle.lf_rules.specs.InRange.{IsShape};
-ghost use Rattle.lf_rules.specs.Lines.{has_line, dirty_masks, clean_masks, marked};
+ghost use Rattle.lf_rules.specs.Lines.{has_line, dirty_masks, marked};
 ghost use Rattle.lf_replay.specs.Places.{alone};
 
 use lf_levels::{Lines, Two};
@@ -21,16 +21,6 @@ fn add_clean(masks: &mut Masks, count: u32)
         let _ = i;
         masks.push(Mask(0));
     }
-}
-
-/// So many masks of no bytes.
-pub fn clean_masks(factor: u32) -> Masks
-    requires { factor ≤ 4 }
-    ensures { result ≡ clean_masks factor }
-{
-    let mut masks = Masks::new();
-    add_clean(&mut masks, factor);
-    masks
 }
 
 /// So many masks, of which the one at this place is the only one with bytes.
