@@ -16,6 +16,5 @@ mod ways;
 
 pub use fault::LineFault;
 pub use level::{Level, One, Two};
-pub use lf_rules::NoMemory;
+pub use lf_rules::{NoMemory, same_masks};
 pub use lines::Lines;
-pub use lines_two::same_masks;

@@ -1,7 +1,6 @@
 //! The lines of level two, each with a mask for every first-level block of its block.
 
 ghost use Rattle.std.specs.Prelude.{◌≡◌, ◌≤◌, ◌<◌, ◌/◌, ◌&&◌, true, false, not, length, Option, Some, None, option_copied, IfOk, IfErr, OnErr};
-ghost use Rattle.lf_rules.specs.Address.{mask_at};
 ghost use Rattle.lf_rules.specs.Fits.{is_factor};
 ghost use Rattle.lf_rules.specs.Lines.{line_at, has_line, dirty_masks, same_masks};
 ghost use Rattle.lf_levels.specs.LineTable.{IsLineTable, ChangesOnly, is_full, wide_set, after_fill, after_evict, joined, joined2, are_absent};
@@ -10,24 +9,7 @@ ghost use Rattle.lf_levels.specs.Refusals.{FillRefusal, WideEvictRefusal};
 use crate::fault::LineFault;
 use crate::level::{One, Two};
 use crate::lines::Lines;
-use lf_rules::{Mask, Masks};
-
-/// The mask at the place, and 0 where there is none.
-fn mask_at(masks: &Masks, place: u32) -> u64
-    ensures { result ≡ mask_at masks.now place }
-{
-    match masks.get(place as usize) {
-        Some(mask) => mask.0,
-        None => 0,
-    }
-}
-
-/// Whether so many masks are the same.
-pub fn same_masks(factor: u32, a: &Masks, b: &Masks) -> bool
-    ensures { result ≡ same_masks factor a.now b.now }
-{
-    (0..factor).all(|place| mask_at(a, place) == mask_at(b, place))
-}
+use lf_rules::{Mask, Masks, mask_at, same_masks};
 
 /// Each mask with the bytes of the other that stands beside it.
 pub fn joined(masks: &Masks, others: &Masks) -> Masks

@@ -1,7 +1,3 @@
-pub mod PlainBytes
-pub mod Finds
-pub mod BusyTags
-pub mod PlainSteps
 pub mod Walks
-pub mod PlainStart
+pub mod WalkStart
 pub mod Rechecks

@@ -1,7 +1,7 @@
 -- The answer to an order, by what it says of the logs.
 use Rattle.std.proofs.Common.{◌≡◌, ℕ, zero, suc, ◌+◌, ◌*◌, ◌^◌, ◌<◌, ◌≤◌, Bool, true, false, cond, ◌==◌, List, [], ◌∷◌, map, length, take, drop, Option, Some, None, ◌⊎◌, inl, inr, refl, sym, ap, ◌∙◌, subst, eqb-true, eq-eqb, true≢false, arith}
 use mathlib.Core.Path.{ap₂}
-use Rattle.std.specs.Prelude.{slice_index}
+use Rattle.std.specs.Prelude.{slice_index, IfOk, Result, Ok, Err}
 use Rattle.std.specs.Global.{Vec}
 use Rattle.std.specs.List.{All, list_all, range_with_len}
 use Rattle.std.proofs.lemmas.Bool.{cond-true, cond-false, both_ways, cases_Bool}
@@ -17,7 +17,7 @@ use Rattle.lf_rules.specs.Table.{OfBoth, clauses}
 use Rattle.lf_rules.specs.Run.{first_failing, state_after, IsRunFrom, of_bank, NameTheirLogs}
 use Rattle.lf_rules.specs.Sharing.{state_after_all}
 use Rattle.lf_rules.specs.Order.{log_at, after_next, Takes}
-use Rattle.lf_model.specs.Plain.{is_empty, is_numbered, next_after, finished, judged, recheck_from, recheck_of, count_left}
+use Rattle.lf_model.specs.Walk.{is_empty, is_numbered, next_after, finished, judged, recheck_from, recheck_of, count_left}
 use Rattle.lf_model.specs.Recheck.{TakesTo, IsRecheck, RechecksAreOne}
 use Rattle.lf_rules.proofs.Orders.{orders_interleave}
 use Rattle.lf_model.proofs.Walks.{items_of, numbered_if, if_numbered, next_at, none_next, wrong_number, right_number, rule_broken}
@@ -35,6 +35,12 @@ pub short_at : (vs : List (Vec Record)) → All (λ v. length v.items ≤ 2 ^ 24
 short_at [] short log = omega arith
 short_at (v ∷ vs) short zero = let here = All-head (λ (v : Vec Record). length v.items ≤ 2 ^ 24) v vs short in omega (arith, here)
 short_at (v ∷ vs) short (suc log) = short_at vs (All-tail (λ (v : Vec Record). length v.items ≤ 2 ^ 24) v vs short) log
+
+-- ---- what follows from an answer
+
+pub if_ok_more : {X E : Type 0} (P Q : X → Type 0) (r : Result X E) → ((x : X) → P x → Q x) → IfOk r P → IfOk r Q
+if_ok_more P Q (Ok x) f h = f x h
+if_ok_more P Q (Err e) f h = tt
 
 -- ---- the same from a state on
 

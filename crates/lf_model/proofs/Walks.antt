@@ -22,7 +22,7 @@ use Rattle.lf_rules.specs.Table.{OfBoth, clauses}
 use Rattle.lf_rules.specs.Run.{first_failing, state_after}
 use Rattle.lf_rules.specs.Address.{no_bank}
 use Rattle.lf_rules.specs.Order.{log_at, after_next}
-use Rattle.lf_model.specs.Plain.{count_left, is_empty, is_numbered, next_after, NamesBankBelow, left_of, judged, recheck_from}
+use Rattle.lf_model.specs.Walk.{count_left, is_empty, is_numbered, next_after, NamesBankBelow, left_of, judged, recheck_from}
 
 -- ---- what is left behind the places
 

@@ -1,7 +1,7 @@
--- The plain machine, and what `recheck` answers. The definitions stand in `lf_rules` and are offered here
--- again; the types that it declares are named as `Rattle.lf_rules.specs.declared`.
-pub mod Plain
+-- What `recheck` answers. The definitions stand in `lf_rules` and are offered here again; the types that it
+-- declares are named as `Rattle.lf_rules.specs.declared`.
 pub mod Recheck
+pub mod Walk
 pub use Rattle.lf_rules.specs.Address
 pub use Rattle.lf_rules.specs.Clauses
 pub use Rattle.lf_rules.specs.Registers

@@ -1,13 +1,12 @@
-//! The plain machine: the rules of `lf_rules` over one state of the whole system, kept as lists and
-//! maps, and `recheck`, which walks it along an order of the logs. It is made to be read beside the table
-//! of rules, not to be fast.
+//! `recheck`, which walks the plain machine of `lf_plain` along an order of the logs. It is made to be read
+//! beside the table of rules, not to be fast.
 //!
 //! The types, the definitions and their laws stand in `lf_rules`, and are offered here again.
 #![tactic(auto)]
 
 mod laws;
 mod outcome;
-mod plain;
+mod walk;
 
 pub use laws::rechecks_are_one;
 pub use lf_rules::{
@@ -18,4 +17,4 @@ pub use lf_rules::{
     skeletons_follow,
 };
 pub use outcome::Recheck;
-pub use plain::recheck;
+pub use walk::recheck;

@@ -3,7 +3,7 @@ use Rattle.std.proofs.Common.{◌≡◌, ℕ, zero, suc, ◌<◌, List, [], ◌�
 use mathlib.Core.Path.{ap₂, fun_ext}
 use Rattle.std.specs.List.{AllByRecursion, range_with_len}
 use Rattle.std.proofs.lemmas.List.{get_or-map, take_more, take-append-drop, length-take-le, length-append, map-append}
-use Rattle.lf_replay.proofs.Bytes.{range_more}
+use Rattle.lf_rules.proofs.Bytes.{range_more}
 use Rattle.lf_rules.specs.Fits.{Fits}
 use Rattle.std.proofs.lemmas.List.FromFn.{get_or-range_with_len}
 use Rattle.lf_rules.specs.declared.shape.Shape.{Shape}
@@ -21,7 +21,7 @@ use Rattle.lf_rules.specs.declared.outcome.Outcome.{Outcome}
 use Rattle.lf_rules.specs.declared.outcome.Outcome.TheVariants as outcome
 use Rattle.lf_rules.proofs.FitFacts.{names_home}
 use Rattle.lf_rules.proofs.Locality.{SameBank, IsHome, bank_clauses_same, bank_effect_same, home_after}
-use Rattle.lf_replay.specs.Bytes.{bank_part}
+use Rattle.lf_state.specs.Bytes.{bank_part}
 use Rattle.std.specs.Prelude.{OnOk, IfErr}
 use Rattle.lf_replay.specs.Kept.{Kept, after_event}
 use Rattle.lf_replay.specs.Shows.{Shows, broken_rule, AnswerOf, IsAnswer}

@@ -23,7 +23,7 @@ use Rattle.lf_mshr.specs.Alike.{AreAlike}
 use Rattle.lf_mshr.specs.RegisterFile as file
 use Rattle.lf_mshr.specs.RegisterFile.{RegisterFile, released_pair}
 use Rattle.lf_mshr.proofs.Alike.{targets_of-alike}
-use Rattle.lf_replay.proofs.Bytes.{zeros}
+use Rattle.lf_state.proofs.Bytes.{zeros}
 use Rattle.lf_replay.specs.Tells.{IsNumberOf, IsTold, Tells, reply_to}
 
 -- ---- a value as a number

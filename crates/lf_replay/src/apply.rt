@@ -8,9 +8,9 @@ ghost use Rattle.lf_replay.specs.View.{kept, IsBankFramed};
 
 use crate::bank::Bank;
 use crate::fault::BankFault;
-use crate::request::issued;
 use lf_mshr::{Organisation, Request1, Request2};
 use lf_rules::{Event, Record};
+use lf_state::Request;
 
 impl Bank {
     /// Judges the record, and carries it out where it breaks no rule of the bank.
@@ -36,7 +36,7 @@ impl Bank {
                 address,
                 bytes,
             } => {
-                let request = issued(&self.shape, *op, *tag, *size, *address, bytes);
+                let request = Request::of_issue(&self.shape, *op, *tag, *size, *address, bytes);
                 self.issue(item.log, request)
             }
             Event::Reply { tag, size, bytes } => self.reply(item.log, *tag, *size, bytes),

@@ -14,13 +14,10 @@ ghost use Rattle.lf_rules.specs.Outcomes.{first_local};
 ghost use Rattle.lf_replay.specs.Kept.{queue_at, local_of};
 ghost use Rattle.lf_replay.specs.View.{kept, IsBankFramed};
 
-use crate::memory::FlatMemory;
-use crate::queue::Queue;
-use crate::request::Ready;
-use crate::wide::place_of;
 use lf_levels::{Lines, One, Two, same_masks};
 use lf_mshr::{Request1, Request2, Targets};
 use lf_rules::{Block, Masks, NoMemory, Shape};
+use lf_state::{FlatMemory, Queue, Ready, place_of};
 use std::alloc::Global;
 
 /// What a bank of both levels holds beside its registers, and its part of flat memory.
@@ -73,7 +70,7 @@ impl Bank {
         let level2 = shape.level2;
         Ok(Bank {
             shape: *shape,
-            memory: FlatMemory::new(alloc, memory, shape, bank)?,
+            memory: FlatMemory::of_bank(alloc, memory, shape, bank)?,
             queues: empty_queues(alloc, shape.ports)?,
             lines1: Lines::new(alloc, level1.sets, level1.ways, shape.banks, shape.factor)?,
             lines2: Lines::new(alloc, level2.sets, level2.ways, shape.banks, shape.factor)?,

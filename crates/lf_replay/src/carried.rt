@@ -1,21 +1,21 @@
 //! Whether the bytes that an event carries are those of flat memory.
 
-ghost use Rattle.std.specs.Prelude.{◌≡◌, ◌<◌, ◌≤◌, ◌+◌, ◌*◌, ◌/◌, ◌^◌, List, bytes_eq, length};
+ghost use Rattle.std.specs.Prelude.{◌≡◌, ◌<◌, ◌*◌, ◌/◌, List, bytes_eq, length};
 ghost use Rattle.std.specs.List.{list_all};
 ghost use Rattle.lf_rules.specs.Address.{agree_off, block_bytes, masked, part_at, sub_block, places, wide_masked};
 ghost use Rattle.lf_rules.specs.Registers.{Held};
 ghost use Rattle.lf_rules.specs.State.{Missed};
 ghost use Rattle.lf_rules.specs.Table.{store_bytes};
 ghost use Rattle.lf_mshr.specs.Alike.{AreAlike};
-ghost use Rattle.lf_replay.specs.Bytes.{flat_of};
+ghost use Rattle.lf_state.specs.Bytes.{flat_of};
 ghost use Rattle.lf_replay.specs.Tells.{Tells};
 ghost use Rattle.lf_replay.specs.View.{IsBankFramed};
 
 use crate::bank::Bank;
 use crate::registers::store_bytes;
-use crate::wide::sub_block;
 use lf_mshr::{Organisation, Request1};
 use lf_rules::{Block, Mask, Masks, WideBlock};
+use lf_state::{part_at, sub_block};
 
 impl Bank {
     /// Whether a fill carries memory's bytes, off those of a mask.
@@ -24,7 +24,7 @@ impl Bank {
         requires whole { length bytes.now ≡ self.now.shape.block }
         ensures { result ≡ agree_off self.now.shape.block bytes.now (block_bytes self.now.shape (flat_of self.now.memory) block) mask }
     {
-        self.memory.agrees_off(block, bytes, mask)
+        self.memory.agrees_off(&self.shape, block, bytes, mask)
     }
 
     /// Whether the part of the block at this place is memory's, off the bytes of waiting stores.
@@ -74,28 +74,7 @@ impl Bank {
         requires { IsBankFramed self.now }
         ensures { result ≡ bytes_eq bytes.now.items (masked (block_bytes self.now.shape (flat_of self.now.memory) block) mask.0) }
     {
-        let masked = self.memory.masked(block, self.shape.block, mask.0);
-        bytes.as_slice() == masked.as_slice()
-    }
-
-    /// The bytes of a second-level block under its masks, block by block.
-    fn wide_masked(&self, second: u32, masks: &Masks) -> WideBlock
-        requires framed { IsBankFramed self.now }
-        requires fits { second < 0x1_0000_0000 / self.now.shape.factor }
-        requires count { length masks.now.items ≡ self.now.shape.factor }
-        ensures { result.items ≡ wide_masked self.now.shape (flat_of self.now.memory) second masks.now }
-    {
-        let mut all = WideBlock::new();
-        for place in 0..self.shape.factor {
-            let block = sub_block(&self.shape, second, place);
-            let part = self
-                .memory
-                .masked(block, self.shape.block, masks[place as usize].0);
-            let Ok(()) = all.try_extend_from_slice(&part) else {
-                unreachable!()
-            };
-        }
-        all
+        self.memory.carries(&self.shape, block, mask, bytes)
     }
 
     /// Whether an eviction of level two carries memory's bytes under its masks.
@@ -105,17 +84,6 @@ impl Bank {
         requires count { length masks.now.items ≡ self.now.shape.factor }
         ensures { result ≡ bytes_eq bytes.now.items (wide_masked self.now.shape (flat_of self.now.memory) second masks.now) }
     {
-        let all = self.wide_masked(second, masks);
-        bytes.as_slice() == all.as_slice()
+        self.memory.wide_carries(&self.shape, second, masks, bytes)
     }
-}
-
-/// Of the bytes of a second-level block those of the block at this place.
-fn part_at(size: usize, bytes: &[u8], place: usize) -> &[u8]
-    requires within { place * size + size ≤ length bytes.now }
-    requires small { place * size < 2 ^ 32 }
-    ensures { result.now ≡ part_at size bytes.now place }
-{
-    let at = place * size;
-    &bytes[at..at + size]
 }

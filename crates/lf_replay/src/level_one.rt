@@ -21,15 +21,15 @@ ghost use Rattle.lf_replay.specs.View.{kept, IsBankFramed};
 
 use crate::bank::Bank;
 use crate::fault::BankFault;
-use crate::lists::{drop_block, drop_ready, push};
-use crate::queue::{drop_head, enqueue, head};
 use crate::registers::{has_room1, merge_rule, primary_rule, store_bytes};
 use crate::replies::add_replies;
-use crate::request::{Ready, Request};
 use crate::target::missed;
-use crate::wide::{mark_at, place_of, second_of};
+use crate::wide::mark_at;
 use lf_mshr::{Organisation, Request1};
 use lf_rules::{Block, Mask, NoMemory, Rule};
+use lf_state::{
+    Ready, Request, drop_block, drop_head, drop_ready, enqueue, head, place_of, push, second_of,
+};
 
 /// No more targets than these wait for one block.
 pub const MOST_TARGETS: usize = 1024;
@@ -86,7 +86,7 @@ impl Bank {
             return Err(BankFault::Rule(Rule::NotPresent));
         }
         let value = self.memory.value_of(request);
-        if push(&mut self.ready, Ready { port, tag, value }).is_err() {
+        if push(&mut self.ready, Ready::new(port, tag, value)).is_err() {
             return Err(BankFault::NoMemory);
         }
         if self.memory.accept(request).is_err() {

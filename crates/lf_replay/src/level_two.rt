@@ -20,14 +20,13 @@ ghost use Rattle.lf_replay.specs.View.{kept, IsBankFramed};
 use crate::bank::Bank;
 use crate::fault::BankFault;
 use crate::level_one::MOST_TARGETS;
-use crate::lists::{drop_asked, push};
 use crate::registers::{
     has_room2, is_fetched, is_waited_for, second_merge_rule, second_primary_rule,
 };
 use crate::supply::add_blocks;
-use crate::wide::{clean_masks, second_of};
 use lf_mshr::{Organisation, Request1, Request2};
-use lf_rules::{Masks, Rule, WideBlock};
+use lf_rules::{Masks, Rule, WideBlock, clean_masks};
+use lf_state::{drop_asked, push, second_of};
 
 impl Bank {
     /// The block that level one asks for is in level two, in its second-level block.

@@ -16,9 +16,9 @@ ghost use Rattle.lf_mshr.specs.declared.level_two.Request2.{Request2};
 ghost use Rattle.lf_replay.specs.Kept.{IsFile1, IsFile2};
 ghost use Rattle.lf_replay.specs.Tells.{Tells, TellsAsked};
 
-use crate::wide::sub_block;
 use lf_mshr::{Organisation, Request1, Request2};
 use lf_rules::{Rule, Shape};
+use lf_state::sub_block;
 
 /// The first rule that the target breaks as a primary miss of the register.
 pub fn primary_rule<O: Organisation<Target = Request1>>(

@@ -4,7 +4,7 @@ ghost use Rattle.std.specs.Prelude.{◌≡◌, ◌<◌, true};
 ghost use Rattle.lf_rules.specs.Address.{flat_memory};
 ghost use Rattle.lf_rules.specs.InRange.{IsShape};
 ghost use Rattle.lf_rules.specs.Outcomes.{IsBankOutcome};
-ghost use Rattle.lf_replay.specs.Bytes.{bank_part};
+ghost use Rattle.lf_state.specs.Bytes.{bank_part};
 ghost use Rattle.lf_replay.specs.Step.{IsBankOrder};
 
 use crate::fault::BankFault;

@@ -10,10 +10,10 @@ ghost use Rattle.lf_mshr.specs.RegisterFile.{released_pair};
 ghost use Rattle.lf_mshr.specs.declared.level_one.Request1.{Request1};
 ghost use Rattle.lf_replay.specs.Tells.{Tells};
 
-use crate::request::Ready;
 use crate::target::reply_of;
 use lf_mshr::Request1;
 use lf_rules::Shape;
+use lf_state::Ready;
 
 /// The requests of which the targets tell may have their replies, in the order of acceptance.
 pub fn add_replies(ready: &mut Vec<Ready>, shape: &Shape, targets: &[(u16, Request1)])

@@ -11,9 +11,9 @@ ghost use Rattle.lf_mshr.specs.declared.level_two.Request2.{Request2};
 ghost use Rattle.lf_replay.specs.Apart.{AreHome};
 ghost use Rattle.lf_replay.specs.Tells.{TellsAsked};
 
-use crate::wide::sub_block;
 use lf_mshr::Request2;
 use lf_rules::Shape;
+use lf_state::sub_block;
 
 /// The blocks of the second-level block that the targets ask for are supplied, in the order of
 /// acceptance.

@@ -5,13 +5,12 @@ ghost use Rattle.std.specs.Int.{to_le_bytes, w64};
 ghost use Rattle.lf_rules.specs.InRange.{IsShape};
 ghost use Rattle.lf_rules.specs.State as model;
 ghost use Rattle.lf_rules.specs.Table.{destination, is_store, value_of};
-ghost use Rattle.lf_replay.specs.Bytes.{flat_of};
+ghost use Rattle.lf_state.specs.Bytes.{flat_of};
 ghost use Rattle.lf_replay.specs.Tells.{IsNumberOf, IsTold, Tells, reply_to};
 
-use crate::memory::FlatMemory;
-use crate::request::{Data, Ready, Request};
 use lf_mshr::Request1;
 use lf_rules::{Mask, Op, Shape};
+use lf_state::{Data, FlatMemory, Ready, Request};
 
 /// What a level-one register keeps of a port's request and of the value that a load has.
 fn target_of(shape: &Shape, port: u8, request: &Request, value: &[u8]) -> Request1
@@ -57,11 +56,9 @@ pub fn reply_of(shape: &Shape, target: &Request1) -> Ready
     } else {
         first_bytes(target.value, target.bytes.0.count_ones() as usize)
     };
-    Ready {
-        port: (destination / shape.tags) as u8,
-        tag: (destination % shape.tags) as u8,
-        value,
-    }
+    let port = (destination / shape.tags) as u8;
+    let tag = (destination % shape.tags) as u8;
+    Ready::new(port, tag, value)
 }
 
 /// The bytes as a little-endian number.

@@ -1,47 +1,15 @@
-//! Second-level blocks: where a block stands in one, and their masks.
+//! The masks of second-level blocks.
 
-ghost use Rattle.std.specs.Prelude.{◌≡◌, ◌≤◌, ◌<◌, ◌+◌, ◌/◌, ◌++◌, replicate, true};
+ghost use Rattle.std.specs.Prelude.{◌≡◌, ◌≤◌, ◌<◌, ◌+◌, ◌++◌, replicate, true};
 ghost use Rattle.arrayvec.specs.ArrayVec.{array_vec_len};
 ghost use Rattle.lf_levels.specs.LineTable.{after_fill};
-ghost use Rattle.lf_rules.specs.Address.{second_of, place_of, sub_block, bank_of, clean_mask};
+ghost use Rattle.lf_rules.specs.Address.{clean_mask};
 ghost use Rattle.lf_rules.specs.InRange.{IsShape};
-ghost use Rattle.lf_rules.specs.Lines.{has_line, dirty_masks, clean_masks, marked};
+ghost use Rattle.lf_rules.specs.Lines.{has_line, dirty_masks, marked};
 ghost use Rattle.lf_replay.specs.Places.{alone};
 
 use lf_levels::{Lines, Two};
 use lf_rules::{Mask, Masks, Shape};
-
-pub fn second_of(shape: &Shape, block: u32) -> u32
-    requires { IsShape shape.now }
-    ensures { result ≡ second_of shape.now block }
-{
-    block / shape.factor
-}
-
-pub fn place_of(shape: &Shape, block: u32) -> u32
-    requires { IsShape shape.now }
-    ensures place { result ≡ place_of shape.now block }
-    ensures below { result < shape.now.factor }
-{
-    block % shape.factor
-}
-
-/// The block at a place of a second-level block.
-pub fn sub_block(shape: &Shape, second: u32, place: u32) -> u32
-    requires in_range { IsShape shape.now }
-    requires fits { second < 0x1_0000_0000 / shape.now.factor }
-    requires inside { place < shape.now.factor }
-    ensures { result ≡ sub_block shape.now second place }
-{
-    second * shape.factor + place
-}
-
-pub fn bank_of(shape: &Shape, block: u32) -> u32
-    requires { IsShape shape.now }
-    ensures { result ≡ bank_of shape.now block }
-{
-    block / shape.factor % shape.banks
-}
 
 /// So many more masks of no bytes.
 fn add_clean(masks: &mut Masks, count: u32)
@@ -53,16 +21,6 @@ fn add_clean(masks: &mut Masks, count: u32)
         let _ = i;
         masks.push(Mask(0));
     }
-}
-
-/// So many masks of no bytes.
-pub fn clean_masks(factor: u32) -> Masks
-    requires { factor ≤ 4 }
-    ensures { result ≡ clean_masks factor }
-{
-    let mut masks = Masks::new();
-    add_clean(&mut masks, factor);
-    masks
 }
 
 /// So many masks, of which the one at this place is the only one with bytes.

@@ -21,7 +21,7 @@ pub use laws::{
     numbers_are_whole, orders_interleave, outcomes_are_one, rings_admit_none, runs_are_right,
     runs_by_parts, skeletons_follow,
 };
-pub use mask::{Mask, agree_off, overlay};
+pub use mask::{Mask, agree_off, clean_masks, mask_at, overlay, same_masks};
 pub use outcome::{NoMemory, Outcome};
 pub use ring::{Knot, Ring, Skeleton};
 pub use rule::Rule;

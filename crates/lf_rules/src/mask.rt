@@ -1,9 +1,10 @@
-//! Which bytes of a block.
+//! Which bytes of a block, and of each block of a second-level block.
 
 ghost use Rattle.std.specs.Prelude.{◌≡◌, ℕ, ◌+◌, ◌<◌, ◌≤◌, ◌↔◌, ◌&&◌, ◌||◌, IsTrue, true, bit_or, nat_le, nat_lt, length, slice_index};
-ghost use Rattle.lf_rules.specs.Address.{Covers, agree_off, is_under, mask_of, overlay};
+ghost use Rattle.lf_rules.specs.Address.{Covers, agree_off, is_under, mask_at, mask_of, overlay};
+ghost use Rattle.lf_rules.specs.Lines.{clean_masks, same_masks};
 
-use crate::event::Block;
+use crate::event::{Block, Masks};
 
 /// Which bytes of a block: bit i stands for byte i.
 #[derive(Clone, Copy, Debug, Default, PartialEq, Eq)]
@@ -88,4 +89,33 @@ pub fn overlay(old: &Block, new: &Block, mask: Mask) -> Block
     ensures bytes { (i : ℕ) → i < length old.now.items → slice_index result.items i ≡ overlay (slice_index old.now.items) (slice_index new.now.items) mask.0 i }
 {
     overlay_slices(old, new, mask)
+}
+
+/// The mask at the place of a second-level block, and 0 where there is none.
+pub fn mask_at(masks: &Masks, place: u32) -> u64
+    ensures { result ≡ mask_at masks.now place }
+{
+    match masks.get(place as usize) {
+        Some(mask) => mask.0,
+        None => 0,
+    }
+}
+
+/// Whether so many masks are the same.
+pub fn same_masks(factor: u32, a: &Masks, b: &Masks) -> bool
+    ensures { result ≡ same_masks factor a.now b.now }
+{
+    (0..factor).all(|place| mask_at(a, place) == mask_at(b, place))
+}
+
+/// So many masks of no bytes.
+pub fn clean_masks(factor: u32) -> Masks
+    requires { factor ≤ 4 }
+    ensures { result ≡ clean_masks factor }
+{
+    let mut masks = Masks::new();
+    for _ in 0..factor {
+        masks.push(Mask(0));
+    }
+    masks
 }

@@ -8,7 +8,7 @@ use Rattle.lf_rules.specs.Fits.{Fits}
 use Rattle.lf_rules.specs.Outcomes.{first_local}
 use Rattle.lf_rules.specs.Run.{IsRunOf}
 use Rattle.lf_rules.specs.Table.{OfBank}
-use Rattle.lf_replay.specs.Bytes.{bank_part}
+use Rattle.lf_state.specs.Bytes.{bank_part}
 use Rattle.lf_replay.specs.Lent.{lent}
 use Rattle.lf_replay.proofs.Runs.{stands_next, breaks_at, all_at}
 use Rattle.lf_replay.proofs.lent.part_lent.Goals as goal

@@ -1,6 +1,6 @@
 use Rattle.std.proofs.Common.{take}
 use Rattle.lf_rules.specs.Address.{flat_memory}
-use Rattle.lf_replay.specs.Bytes.{bank_part}
+use Rattle.lf_state.specs.Bytes.{bank_part}
 use Rattle.lf_replay.specs.Shows.{IsSound}
 use Rattle.lf_replay.specs.Lent.{lent}
 use Rattle.lf_replay.specs.Step.{KeptAfter}

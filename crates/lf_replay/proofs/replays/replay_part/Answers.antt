@@ -1,6 +1,6 @@
 use Rattle.std.proofs.Common.{take}
 use Rattle.lf_rules.specs.Address.{flat_memory}
-use Rattle.lf_replay.specs.Bytes.{bank_part}
+use Rattle.lf_state.specs.Bytes.{bank_part}
 use Rattle.lf_replay.proofs.Runs.{stands_next, breaks_at}
 use Rattle.lf_replay.proofs.replays.replay_part.Goals as goal
 

@@ -1,5 +1,5 @@
 use Rattle.std.proofs.Common.{ap, ◌∙◌, length}
-use Rattle.lf_replay.specs.Bytes.{flat_of}
+use Rattle.lf_state.specs.Bytes.{flat_of}
 use Rattle.lf_replay.proofs.Targets.{value_long}
 use Rattle.lf_replay.proofs.target.missed.Goals as goal
 

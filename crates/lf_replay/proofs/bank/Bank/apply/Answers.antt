@@ -40,7 +40,7 @@ returns-in-Evict2-clause-answer g c = rw c.in-Evict2.is (c.evict2.ensures.answer
 
 pub returns-in-Issue-clause-answer : goal.returns-in-Issue-clause-answer
 returns-in-Issue-clause-answer g c =
-    let same = c.issued-request.ensures ∙ ap (request_of c.args.self.now.shape c.in-Issue.tag c.in-Issue.op c.in-Issue.size c.in-Issue.address) c.deref.ensures.0 in
+    let same = c.of_issue-request.ensures ∙ ap (request_of c.args.self.now.shape c.in-Issue.tag c.in-Issue.op c.in-Issue.size c.in-Issue.address) c.deref.ensures.0 in
     rw c.in-Issue.is (c.issue.ensures.answer c.in-Issue.op c.in-Issue.tag c.in-Issue.size c.in-Issue.address c.in-Issue.bytes same (g.O1.Organisation.seen c.args.waiting.now) (g.O2.Organisation.seen c.args.regs2.now))
 
 pub returns-in-SecondMerge-clause-answer : goal.returns-in-SecondMerge-clause-answer

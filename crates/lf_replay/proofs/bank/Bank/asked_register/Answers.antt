@@ -1,5 +1,5 @@
 use Rattle.std.proofs.Common.{sym, ap, ◌∙◌}
-use Rattle.lf_replay.proofs.Finds.{asked_found, register_in}
+use Rattle.lf_state.proofs.Finds.{asked_found, register_in}
 use Rattle.lf_replay.proofs.bank.Bank.asked_register.Goals as goal
 
 pub returns-in-Some : goal.returns-in-Some

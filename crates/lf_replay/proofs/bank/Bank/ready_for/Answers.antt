@@ -1,4 +1,4 @@
-use Rattle.lf_replay.proofs.Finds.{ready_lent}
+use Rattle.lf_state.proofs.Finds.{ready_lent}
 use Rattle.lf_replay.proofs.bank.Bank.ready_for.Goals as goal
 
 pub returns : goal.returns

@@ -1,6 +1,0 @@
-use Rattle.lf_model.specs.Plain.{flat_of}
-use Rattle.lf_rules.proofs.Bytes.{evict_agrees}
-use Rattle.lf_model.proofs.plain.carried.evict1_agrees.Goals as goal
-
-pub returns : goal.returns
-returns c = λ slice. evict_agrees (flat_of c.args.memory.now c.args.block) _ _ _ _ _ c.args.mask.0 c.args.shape.now.block c.eq.ensures c.as_slice.ensures.value c.as_slice-2.ensures.value c.masked-masked.ensures

@@ -1,0 +1,3 @@
+pub mod BusyTags
+pub mod PlainSteps
+pub mod PlainStart

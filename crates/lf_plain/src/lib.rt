@@ -1,0 +1,19 @@
+//! The plain machine: the rules of `lf_rules` over one state of the whole system, kept as lists and maps. It is
+//! made to be read beside the table of rules, not to be fast.
+//!
+//! A `Machine` takes one record after another. It names the first rule that a record breaks, or else the
+//! record takes effect, as the table of rules says it.
+#![tactic(auto)]
+
+mod busy;
+mod carried;
+mod effect;
+mod judge;
+mod lines;
+mod machine;
+mod missed;
+mod registers;
+mod slice;
+
+pub use lf_rules::NoMemory;
+pub use machine::Machine;

@@ -1,0 +1,75 @@
+-- Bytes of a block, and blocks of a memory.
+use Rattle.std.proofs.Common.{◌≡◌, ℕ, ◌+◌, ◌-◌, ◌≤◌, Bool, true, false, cond, ◌&&◌, ◌==◌, List, [], ◌∷◌, ◌++◌, Option, Some, replicate, get_or, take, drop, refl, ap, sym, ◌∙◌, ⊎_elim, length, arith, slice_index, map, leb, ltb}
+use mathlib.Core.Path.{fun_ext}
+use Rattle.std.specs.Prelude.{unwrap_or}
+use Rattle.std.specs.Map.{lookup}
+use Rattle.std.specs.BTreeMap.{is_at}
+use Rattle.std.specs.Ordering.{nat_cmp}
+use Rattle.std.specs.Cmp.{unsigned_tied}
+use Rattle.std.proofs.lemmas.List.{get_or-replicate, get_or_past, length-replicate, get_or_append_left, get_or-take, get_or-append_right, get_or-drop, length-take}
+use Rattle.std.proofs.lemmas.Bool.{cases_lt, leb-true, leb-false, ltb-true, ltb-false}
+use Rattle.std.proofs.lemmas.List.FromFn.{map-range_with_len_more}
+use Rattle.std.specs.List.{range_with_len}
+use borrow.Rule.Slice.PartMut.{put_mid}
+use Rattle.lf_rules.specs.declared.event.Op.TheVariants.{Load, Store}
+use Rattle.lf_rules.specs.Address.{FlatMemory}
+use Rattle.lf_rules.specs.State.{update, Request}
+use Rattle.lf_rules.specs.Table.{value_of}
+use Rattle.lf_state.specs.Bytes.{flat_of, put}
+
+pub zeros : (n place : ℕ) → get_or (replicate {A = ℕ} n 0) place 0 ≡ 0
+zeros n place = ⊎_elim (λ lt. get_or-replicate n place 0 0 lt) (λ le. get_or_past (replicate n 0) place 0 (omega (arith, length-replicate {A = ℕ} n 0))) (cases_lt place n)
+
+-- a block's bytes, written at once
+pub flat_put : (old new : List (ℕ × List ℕ)) (block : ℕ) (bytes : List ℕ)
+    → ((q : ℕ) → lookup (is_at (nat_cmp q)) new ≡ cond (is_at (nat_cmp block) q) (Some bytes) (lookup (is_at (nat_cmp q)) old))
+    → flat_of new ≡ update (flat_of old) block (slice_index bytes)
+flat_put old new block bytes written = fun_ext (λ at.
+    ap (λ (o : Option (List ℕ)). slice_index (unwrap_or o [])) (written at ∙ ap (λ b. cond b (Some bytes) (lookup (is_at (nat_cmp at)) old)) (unsigned_tied block at))
+    ∙ split (block == at) (lookup (is_at (nat_cmp at)) old))
+  where
+    split : (b : Bool) (o : Option (List ℕ)) → slice_index (unwrap_or (cond b (Some bytes) o) []) ≡ cond b (slice_index bytes) (slice_index (unwrap_or o []))
+    split true o = refl
+    split false o = refl
+
+pub put_mid_is : (xs new : List ℕ) (offset k : ℕ) → k ≡ length new → offset + length new ≤ length xs → slice_index (put_mid offset k xs new) ≡ put (slice_index xs) offset new
+put_mid_is xs new offset k e fits = fun_ext (λ place. go place (leb offset place) (ltb place (offset + length new)) refl refl)
+  where
+    front : length (take offset xs) ≡ offset
+    front = omega (arith, length-take offset xs)
+
+    go : (place : ℕ) (p q : Bool) → leb offset place ≡ p → ltb place (offset + length new) ≡ q
+        → get_or (take offset xs ++ (new ++ drop k (drop offset xs))) place 0 ≡ cond (p && q) (get_or new (place - offset) 0) (get_or xs place 0)
+    go place false q low high =
+        get_or_append_left (take offset xs) _ 0 place (omega (arith, front, leb-false offset place low)) ∙ get_or-take offset xs place 0 (leb-false offset place low)
+    go place true true low high =
+        get_or-append_right (take offset xs) _ offset place 0 front (leb-true offset place low)
+        ∙ get_or_append_left new _ 0 (place - offset) (omega (arith, leb-true offset place low, ltb-true place (offset + length new) high))
+    go place true false low high =
+        let le : offset + length new ≤ place = ltb-false place (offset + length new) high in
+        get_or-append_right (take offset xs) _ offset place 0 front (leb-true offset place low)
+        ∙ get_or-append_right new _ (length new) (place - offset) 0 refl (omega arith)
+        ∙ get_or-drop k (drop offset xs) (place - offset - length new) 0
+        ∙ get_or-drop offset xs (k + (place - offset - length new)) 0
+        ∙ ap (λ n. get_or xs n 0) (omega (arith, e))
+
+-- one more byte read
+pub more_read : (f : ℕ → ℕ) {xs ys : List ℕ} {y : ℕ} (i : ℕ) → ys ≡ xs ++ y ∷ [] → xs ≡ map f (range_with_len 0 i) → y ≡ f i → ys ≡ map f (range_with_len 0 (i + 1))
+more_read f {xs} {ys} {y} i pushed read is = pushed ∙ ap (λ (zs : List ℕ). zs ++ y ∷ []) read ∙ ap (λ z. map f (range_with_len 0 i) ++ z ∷ []) is ∙ sym (map-range_with_len_more f 0 i i (omega arith))
+
+-- the value of a load, read
+pub value_read : (memory : FlatMemory) (q : Request) (bytes : ℕ → ℕ) (xs : List ℕ) (offset size : ℕ) → Load ≡ q.op
+    → xs ≡ map (λ i. bytes (offset + i)) (range_with_len 0 size) → offset ≡ q.offset → size ≡ q.size → bytes ≡ memory q.block → xs ≡ value_of memory q
+value_read memory q bytes xs offset size load read at long here =
+    read ∙ ap (λ n. map (λ i. bytes (n + i)) (range_with_len 0 size)) at ∙ ap (λ n. map (λ i. bytes (q.offset + i)) (range_with_len 0 n)) long
+    ∙ ap (λ (f : ℕ → ℕ). map (λ i. f (q.offset + i)) (range_with_len 0 q.size)) here
+    ∙ ap (λ op. cond (elim op [ Load ↦ false | Store ↦ true ]) [] (map (λ i. memory q.block (q.offset + i)) (range_with_len 0 q.size))) load
+
+-- bytes written over zeros
+pub padded_is : (blank : ℕ → ℕ) (bytes : List ℕ) → ((place : ℕ) → blank place ≡ 0) → put blank 0 bytes ≡ slice_index bytes
+padded_is blank bytes zero_there = fun_ext (λ place. go place (leb 0 place) (ltb place (0 + length bytes)) refl refl)
+  where
+    go : (place : ℕ) (p q : Bool) → leb 0 place ≡ p → ltb place (0 + length bytes) ≡ q → cond (p && q) (get_or bytes (place - 0) 0) (blank place) ≡ get_or bytes place 0
+    go place false q low high = absurd (omega (arith, leb-false 0 place low))
+    go place true true low high = let same : place - 0 ≡ place = omega arith in ap (λ n. get_or bytes n 0) same
+    go place true false low high = zero_there place ∙ sym (get_or_past bytes place 0 (omega (arith, ltb-false place (0 + length bytes) high)))

@@ -1,0 +1,248 @@
+//! Flat memory, as far as a trace names it and stores wrote it. All other bytes are zero.
+
+ghost use Rattle.std.specs.Prelude.{◌≡◌, ℕ, ◌+◌, ◌-◌, ◌/◌, ◌<◌, ◌≤◌, ◌||◌, ◌==◌, map, length, slice_index, bytes_eq, IfOk, OnOk, OnErr};
+ghost use Rattle.std.specs.List.{range_with_len, list_all, filter};
+ghost use Rattle.lf_rules.specs.Address.{agree_off, block_bytes, flat_memory, is_under, masked, wide_masked};
+ghost use Rattle.lf_rules.specs.InRange.{IsShape};
+ghost use Rattle.lf_rules.specs.State.{update};
+ghost use Rattle.lf_rules.specs.Table.{value_of, accepted};
+ghost use Rattle.lf_state.specs.Bytes.{flat_of, bank_part, put};
+
+use crate::places::{bank_of, sub_block};
+use crate::request::{Data, Request};
+use lf_rules::{Block, Mask, Masks, NoMemory, Op, Shape, WideBlock};
+use std::alloc::Global;
+use std::collections::BTreeMap;
+use std::marker::Model;
+
+/// The bytes of a block, and zeros behind them.
+type Bytes = [u8; 64];
+
+static ZEROS: Bytes = [0; 64];
+
+/// Flat memory, as far as a trace names it and stores wrote it.
+#[derive(Drop)]
+pub struct FlatMemory {
+    blocks: BTreeMap<u32, Bytes>,
+}
+
+impl Model for FlatMemory {
+    ghost use Rattle.std.specs.Prelude.{ℕ, List};
+
+    ghost Value = { List (ℕ × List ℕ) };
+
+    ghost view = { λ m. m.blocks.entries };
+}
+
+/// The bytes with new ones from a place on.
+fn put(bytes: &mut Bytes, offset: usize, new: &[u8])
+    requires { offset + length new.now ≤ 64 }
+    ensures { slice_index bytes.new ≡ put (slice_index bytes.old) offset new.now }
+{
+    bytes[offset..offset + new.len()].copy_from_slice(new);
+}
+
+/// The bytes, and zeros behind them.
+fn padded(bytes: &[u8]) -> Bytes
+    requires { length bytes.now ≤ 64 }
+    ensures { slice_index result ≡ slice_index bytes.now }
+{
+    let mut all = ZEROS;
+    put(&mut all, 0, bytes);
+    all
+}
+
+/// So many bytes from a place on.
+fn part(bytes: &Bytes, offset: usize, size: usize) -> Data
+    requires within { offset + size ≤ 64 }
+    requires small { size ≤ 8 }
+    ensures { result.items ≡ map (λ i. slice_index bytes.now (offset + i)) (range_with_len 0 size) }
+{
+    let mut data = Data::new();
+    for i in 0..size {
+        data.push(bytes[offset + i]);
+    }
+    data
+}
+
+impl FlatMemory {
+    /// The memory that a trace names.
+    pub fn new(alloc: Global, memory: &[(u32, Block)]) -> Result<FlatMemory, NoMemory>
+        ensures { IfOk result (λ flat. flat_of flat ≡ flat_memory memory.now) }
+    {
+        let mut flat = FlatMemory {
+            blocks: BTreeMap::new(alloc),
+        };
+        for at in (0..memory.len()).rev() {
+            let (block, bytes) = &memory[at];
+            flat.set(*block, padded(bytes))?;
+        }
+        Ok(flat)
+    }
+
+    /// One bank's blocks of the memory that a trace names.
+    pub fn of_bank(
+        alloc: Global,
+        memory: &[(u32, Block)],
+        shape: &Shape,
+        bank: u32,
+    ) -> Result<FlatMemory, NoMemory>
+        requires { IsShape shape.now }
+        ensures { IfOk result (λ flat. flat_of flat ≡ bank_part shape.now bank (flat_memory memory.now)) }
+    {
+        let mut flat = FlatMemory {
+            blocks: BTreeMap::new(alloc),
+        };
+        let mut left = memory.len();
+        while left > 0 {
+            left -= 1;
+            let (block, bytes) = &memory[left];
+            if bank_of(shape, *block) == bank {
+                flat.set(*block, padded(bytes))?;
+            }
+        }
+        Ok(flat)
+    }
+
+    /// The bytes of a block.
+    pub fn bytes_of(&self, block: u32) -> &Bytes
+        ensures { slice_index result.now ≡ flat_of self.now block }
+    {
+        match self.blocks.get(&block) {
+            Some(bytes) => bytes,
+            None => &ZEROS,
+        }
+    }
+
+    /// What the request finds: a load's bytes, and nothing for a store.
+    pub fn value_of(&self, request: &Request) -> Data
+        ensures { result.items ≡ value_of (flat_of self.now) request.now }
+    {
+        match request.op() {
+            Op::Store => Data::new(),
+            Op::Load => part(
+                self.bytes_of(request.block()),
+                usize::from(request.offset()),
+                usize::from(request.size()),
+            ),
+        }
+    }
+
+    /// The request takes effect: a store changes its block.
+    pub fn accept(&mut self, request: &Request) -> Result<(), NoMemory>
+        ensures ok { OnOk result (flat_of self.new ≡ accepted (flat_of self.old) request.now) }
+        ensures err { OnErr result (self.new ≡ self.old) }
+    {
+        match request.op() {
+            Op::Load => Ok(()),
+            Op::Store => self.store(
+                request.block(),
+                usize::from(request.offset()),
+                request.bytes(),
+            ),
+        }
+    }
+
+    /// The block takes these bytes from a place on.
+    fn store(&mut self, block: u32, offset: usize, new: &[u8]) -> Result<(), NoMemory>
+        requires { offset + length new.now ≤ 64 }
+        ensures ok { OnOk result (flat_of self.new ≡ update (flat_of self.old) block (put (flat_of self.old block) offset new.now)) }
+        ensures err { OnErr result (self.new ≡ self.old) }
+    {
+        let mut bytes = *self.bytes_of(block);
+        put(&mut bytes, offset, new);
+        self.set(block, bytes)
+    }
+
+    fn set(&mut self, block: u32, bytes: Bytes) -> Result<(), NoMemory>
+        ensures ok { OnOk result (flat_of self.new ≡ update (flat_of self.old) block (slice_index bytes)) }
+        ensures err { OnErr result (self.new ≡ self.old) }
+    {
+        match self.blocks.insert(block, bytes) {
+            Ok(_) => Ok(()),
+            Err(_) => Err(NoMemory),
+        }
+    }
+
+    /// Whether a block's bytes are memory's, off the mask.
+    pub fn agrees_off(&self, shape: &Shape, block: u32, bytes: &[u8], mask: u64) -> bool
+        requires small { shape.now.block ≤ 64 }
+        requires whole { length bytes.now ≡ shape.now.block }
+        ensures { result ≡ agree_off shape.now.block bytes.now (block_bytes shape.now (flat_of self.now) block) mask }
+    {
+        agree_off(bytes, self.bytes_of(block), mask)
+    }
+
+    /// The block's bytes under the mask, rising, of the first so many.
+    fn masked(&self, block: u32, size: u32, mask: u64) -> Block
+        requires { size ≤ 64 }
+        ensures { result.items ≡ map (flat_of self.now block) (filter (is_under mask) (range_with_len 0 size)) }
+    {
+        masked(self.bytes_of(block), size, mask)
+    }
+
+    /// Whether these are the block's bytes under the mask.
+    pub fn carries(&self, shape: &Shape, block: u32, mask: Mask, bytes: &Block) -> bool
+        requires { shape.now.block ≤ 64 }
+        ensures { result ≡ bytes_eq bytes.now.items (masked (block_bytes shape.now (flat_of self.now) block) mask.0) }
+    {
+        let masked = self.masked(block, shape.block, mask.0);
+        bytes.as_slice() == masked.as_slice()
+    }
+
+    /// The bytes of a second-level block under its masks, block by block.
+    fn wide_masked(&self, shape: &Shape, second: u32, masks: &Masks) -> WideBlock
+        requires in_range { IsShape shape.now }
+        requires fits { second < 0x1_0000_0000 / shape.now.factor }
+        requires count { length masks.now.items ≡ shape.now.factor }
+        ensures { result.items ≡ wide_masked shape.now (flat_of self.now) second masks.now }
+    {
+        let mut all = WideBlock::new();
+        for place in 0..shape.factor {
+            let block = sub_block(shape, second, place);
+            let part = self.masked(block, shape.block, masks[place as usize].0);
+            let Ok(()) = all.try_extend_from_slice(&part) else {
+                unreachable!()
+            };
+        }
+        all
+    }
+
+    /// Whether these are the bytes of the second-level block under its masks, block by block.
+    pub fn wide_carries(&self, shape: &Shape, second: u32, masks: &Masks, bytes: &WideBlock) -> bool
+        requires in_range { IsShape shape.now }
+        requires fits { second < 0x1_0000_0000 / shape.now.factor }
+        requires count { length masks.now.items ≡ shape.now.factor }
+        ensures { result ≡ bytes_eq bytes.now.items (wide_masked shape.now (flat_of self.now) second masks.now) }
+    {
+        let all = self.wide_masked(shape, second, masks);
+        bytes.as_slice() == all.as_slice()
+    }
+}
+
+fn is_under(mask: u64, place: usize) -> bool
+    requires { place < 64 }
+    ensures { result ≡ is_under mask place }
+{
+    mask >> place & 1 == 1
+}
+
+fn agree_off(bytes: &[u8], stored: &Bytes, mask: u64) -> bool
+    requires { length bytes.now ≤ 64 }
+    ensures { result ≡ list_all (λ i. is_under mask i || slice_index bytes.now i == slice_index stored.now i) (range_with_len 0 (length bytes.now)) }
+{
+    (0..bytes.len()).all(|i| is_under(mask, i) || bytes[i] == stored[i])
+}
+
+fn masked(stored: &Bytes, size: u32, mask: u64) -> Block
+    requires { size ≤ 64 }
+    ensures { result.items ≡ map (slice_index stored.now) (filter (is_under mask) (range_with_len 0 size)) }
+{
+    let mut bytes = Block::new();
+    for i in 0..size as usize {
+        if is_under(mask, i) {
+            bytes.push(stored[i]);
+        }
+    }
+    bytes
+}
