@@ -5,11 +5,20 @@ until a run meets no refusal, and tells each run in which a refused growth was n
     refused_growth.py [WORD]      only the runs whose name has the word
 
 The programs are those that `rt run` in crates/score and `rt test` in each crate left in out/. It needs a C compiler
-(cc, or the one that CC names), for a library that refuses one call of malloc or of pthread_create. A run of the
-program must print `refused memory`, or `refused thread` where a thread was refused. Of the tests, those of
-`TOLD` must fail and name the want of memory, and those of `KEPT` must pass whichever growth is refused. Runs of
-`demo` are tried at some growths alone, since their number changes from run to run. A test of which no crate in out/
-has the name is told as not built."""
+(cc, or the one that CC names), for a library that refuses one call of malloc or of pthread_create. Where a growth
+is refused, the program must print `refused memory`, or `refused thread` where it was the making of a thread. Runs
+of `demo` are tried at some growths alone, since their number changes from run to run.
+
+Each test whose name begins with `refused_growth_of_` must then end with `want of memory`, where the call told it
+and what it left was right, or with `want of a thread` where the making of a thread was refused, which may have been
+the memory that it takes (a call with one worker has a clause that it never tells so); with AllocError or no memory
+where the growth was one of the samples that the test makes, before the call. Other ends are findings: a test that
+ends well, since an answer was given in place of want of memory, and one that an assertion stopped. The tests of
+`TOLD` are examples of further calls: they must fail and name the want of memory. A test of which no crate in out/
+has the name is told as not built.
+
+The last lines are a table: for each run how many growths of the call were refused and told, how many of the
+samples before it, and the findings."""
 
 import glob
 import os
@@ -79,28 +88,25 @@ COMMANDS = [
 # Where more workers are taken, the making of a thread is refused too.
 WITH_WORKERS = ("check", "four_banks.toml", "lowest_bank.lfts", "no bank=1 number=0 rule=NotHead")
 
-# Tests that fail where a growth is refused, in whichever crates have one of the name.
+# Tests that say how a call answered, in whichever crates have them. Each is at least one run of these.
+SWEPT = "refused_growth_of_"
+RUNS = [
+    *[f"{call}_on_{trace}" for call in ("check", "session", "run") for trace in (
+        "empty_trace", "load_misses_both_levels", "load_merges_behind_store", "cycle_of_two_logs")],
+    "check_with_two_workers", "read", "recheck", "encode", "stats", "ten_events", "a_step", "a_reader",
+]
+
+# Examples that fail where a growth is refused, in whichever crates have one of the name.
 TOLD = [
-    "c1_is_read_whole",
-    "recheck_orders",
-    "encode_and_skeletons",
     "gaps_and_doubles",
     "many_records_before_their_turn",
     "least_order",
     "load_merges_behind_store_by_replay",
-    "the_configuration_is_read",
-    "lowest_bank_any_workers",
 ]
 
-# The same of one crate: those of `score` are the program's runs above.
-TOLD_BY_VERDICT = ["empty_trace", "load_misses_both_levels", "cycle_of_two_logs"]
 
-# Tests of what is left after a refusal, which pass.
-KEPT = [
-    "refused_growth_of_ten_events",
-    "refused_growth_of_a_step",
-    "refused_growth_of_a_session",
-]
+# The status of a test that returned an error. One that an assertion stops ends by a signal.
+FAILED = 101
 
 
 def shim_in(folder):
@@ -112,11 +118,12 @@ def shim_in(folder):
 
 
 class Runs:
-    """Runs with one growth refused, and the faults found in them."""
+    """Runs with one growth refused, a row of counts for each name, and the faults found in them."""
 
     def __init__(self, shim, word):
         self.shim, self.word = shim, word
         self.count = self.faults = self.missing = 0
+        self.rows = []
 
     def refusing(self, n, words, folder):
         env = {"LD_PRELOAD": self.shim, "REFUSED_GROWTH": str(n)}
@@ -130,23 +137,38 @@ class Runs:
         what = f"{told[1].decode()} {told[2].decode()}" if told else "none"
         print(f"  {name}, growth {n} refused ({what}): {text!r}", flush=True)
 
+    def lacks(self, name):
+        if self.word in name:
+            self.missing += 1
+            print(f"{name} is not built", flush=True)
+
     def sweep(self, name, words, judge, folder, numbers=None):
-        """Refuses each growth in turn. `judge` says what is wrong with a run, or None."""
+        """Refuses each growth in turn. `judge` says what is wrong with a run, `BEFORE` or None."""
         if self.word not in name:
             return
-        refused, n = 0, 0
+        refused = before = findings = n = 0
         while True:
             n = n + 1 if numbers is None else next(numbers, 0)
             if not n:
                 break
             ran, told = self.refusing(n, words, folder)
             wrong = judge(ran, told)
-            if wrong is not None:
+            if wrong is BEFORE:
+                before += 1
+            elif wrong is not None:
+                findings += 1
                 self.fault(name, n, told, wrong)
+            elif told:
+                refused += 1
             if not told and numbers is None:
                 break
-            refused += bool(told)
+        self.rows.append((name, refused, before, findings))
         print(f"{name}: {refused} growths refused", flush=True)
+
+    def table(self):
+        print("\n| Run | Growths refused and told | Before the call | Findings |\n|---|---|---|---|")
+        for row in self.rows:
+            print("| {} | {} | {} | {} |".format(*row))
 
 
 def judge_line(line):
@@ -168,8 +190,18 @@ def judge_told(ran, told):
     return None if not passed and re.search(r"[mM]emory|Alloc(Failed|Error)|Thread", said) else said
 
 
-def judge_kept(ran, _):
-    return None if ran.returncode == 0 else (ran.stdout + ran.stderr).decode(errors="replace")
+# A growth of the samples that a test makes was refused.
+BEFORE = object()
+
+
+def judge_swept(ran, told):
+    said = (ran.stdout + ran.stderr).decode(errors="replace")
+    if not told:
+        return None if ran.returncode == 0 else said
+    if ran.returncode == FAILED and re.search(r"^error: .*(AllocError|AllocFailed|no memory|no order)", said, re.M):
+        return BEFORE
+    is_told = re.search("^want of (memory|a thread)$", said, re.M)
+    return None if ran.returncode == FAILED and is_told else said
 
 
 def judge_demo(ran, told):
@@ -192,8 +224,7 @@ def tests_by_name():
 def sweep_program(runs, folder):
     score = os.path.join(TOP, "crates", "score", "out", "score")
     if not os.path.exists(score):
-        runs.missing += 1
-        print("score is not built", flush=True)
+        runs.lacks("score")
         return
     for command, config, trace, line in COMMANDS:
         words = [score, command, os.path.join(EXAMPLES, config), os.path.join(EXAMPLES, trace)]
@@ -210,15 +241,12 @@ def sweep_program(runs, folder):
 
 def sweep_tests(runs, folder):
     built = tests_by_name()
-    for name in TOLD + TOLD_BY_VERDICT + KEPT:
-        judge = judge_kept if name in KEPT else judge_told
-        programs = [it for it in built.get(name, []) if not it[0].endswith("/score_tests")]
-        if name in TOLD_BY_VERDICT:
-            programs = [it for it in programs if "/lf_verdict" in it[0]]
-        if not programs and runs.word in name:
-            runs.missing += 1
-            print(f"{name} is not built", flush=True)
-        for program, test in programs:
+    swept = sorted({SWEPT + run for run in RUNS} | {name for name in built if name.startswith(SWEPT)})
+    for name in swept + TOLD:
+        judge = judge_told if name in TOLD else judge_swept
+        if name not in built:
+            runs.lacks(name)
+        for program, test in built.get(name, []):
             crate = os.path.basename(program).removesuffix("_tests")
             runs.sweep(f"{crate} {test}", [program, test], judge, folder)
 
@@ -228,6 +256,7 @@ def main():
         runs = Runs(shim_in(folder), sys.argv[1] if len(sys.argv) > 1 else "")
         sweep_program(runs, folder)
         sweep_tests(runs, folder)
+        runs.table()
         print(f"runs={runs.count} not_answered={runs.faults} not_built={runs.missing}")
         return 1 if runs.faults or runs.missing else 0
 

@@ -5,6 +5,9 @@ use lf_rules::{Block, Event, Mask, Op, Shape, WideBlock};
 use std::alloc::Global;
 use std::test::Fail;
 
+/// The most words before the bytes of an event.
+const MOST_WORDS: usize = 4;
+
 /// The event of port 0 that a text stands for. Numbers are decimal, masks and bytes hex.
 ///
 /// | Text | Event |
@@ -18,7 +21,11 @@ use std::test::Fail;
 /// | `F` | fence |
 pub fn event(alloc: Global, shape: &Shape, text: &str) -> Result<Event, Fail> {
     let (front, bytes) = text.split_once('=').unwrap_or((text, ""));
-    let words: Vec<&str> = front.split(' ').collect(alloc)?;
+    // `collect` would ask again for less where this room is refused.
+    let mut words: Vec<&str> = Vec::with_capacity(alloc, MOST_WORDS)?;
+    for word in front.split(' ') {
+        words.push(word)?;
+    }
     let found = match of_request(words.as_slice(), bytes) {
         None => of_block(words.as_slice(), bytes, shape),
         found => found,

@@ -4,17 +4,23 @@
 
 mod events;
 mod examples;
+mod growth;
 mod hex;
 mod lists;
 mod shapes;
 mod writing;
 
 pub use events::event;
-pub use examples::{EMPTY_TRACE, FENCE_LAST, LOAD, LOAD_MISSES_BOTH_LEVELS, LOADED, STORE};
+pub use examples::{
+    CYCLE_OF_TWO_LOGS, EMPTY_TRACE, FENCE_LAST, LOAD, LOAD_MERGES_BEHIND_STORE,
+    LOAD_MISSES_BOTH_LEVELS, LOADED, LOWEST_BANK, STORE,
+};
+pub use growth::{want_of_a_thread, want_of_memory};
 pub use hex::{block, bytes_of, masks, wide_block};
 pub use lists::{logs, memory, record, records, records_at};
 pub use shapes::{
-    C1, C1_TEXT, C2, C2_ONE_ENTRY, C2_TEXT, FOUR_BANKS, FOUR_PORTS_FOUR_BANKS, IMPLICIT, INVERTED,
-    INVERTED_BELOW, TWO_PORTS_TWO_BANKS, TWO_REGISTERS, changed,
+    C1, C1_TEXT, C2, C2_ONE_ENTRY, C2_TEXT, FOUR_BANKS, FOUR_BANKS_TEXT, FOUR_PORTS_FOUR_BANKS,
+    IMPLICIT, INVERTED, INVERTED_BELOW, TWO_PORTS_TWO_BANKS, TWO_PORTS_TWO_BANKS_TEXT,
+    TWO_REGISTERS, changed,
 };
 pub use writing::{trace, trace_of, trace_of_version};

@@ -98,7 +98,45 @@ pub const TWO_PORTS_TWO_BANKS: Shape = Shape {
     ..C1
 };
 
+/// `TWO_PORTS_TWO_BANKS` as a configuration.
+pub const TWO_PORTS_TWO_BANKS_TEXT: &str = "ports = 2
+banks = 2
+block = 8
+tags = 4
+[level1]
+sets = 1
+ways = 1
+organisation = \"explicit\"
+registers = 1
+entries = 2
+[level2]
+sets = 1
+ways = 2
+organisation = \"explicit\"
+registers = 1
+entries = 1
+";
+
 pub const FOUR_BANKS: Shape = Shape { banks: 4, ..C1 };
+
+/// `FOUR_BANKS` as a configuration.
+pub const FOUR_BANKS_TEXT: &str = "ports = 1
+banks = 4
+block = 8
+tags = 4
+[level1]
+sets = 1
+ways = 1
+organisation = \"explicit\"
+registers = 1
+entries = 2
+[level2]
+sets = 1
+ways = 2
+organisation = \"explicit\"
+registers = 1
+entries = 1
+";
 
 pub const FOUR_PORTS_FOUR_BANKS: Shape = Shape {
     ports: 4,

@@ -6,6 +6,8 @@ mod demonstrations;
 #[cfg(test)]
 mod faults;
 #[cfg(test)]
+mod growth;
+#[cfg(test)]
 mod reading;
 #[cfg(test)]
 mod single_records;

@@ -112,7 +112,7 @@ fn lowest_bank_any_workers(rt: HostRuntime) -> Result<(), Fail> {
 }
 
 /// A no for logs that wait for one another, each at its first event.
-fn cycle_of(logs: &[u8]) -> Verdict {
+pub fn cycle_of(logs: &[u8]) -> Verdict {
     let mut ring = Ring::new();
     for log in logs {
         let _ = ring.try_push(Knot { log: *log, at: 0 });

@@ -1,29 +1,215 @@
-//! What a session tells where a growth is refused. With ample memory none is.
+//! What is told where a growth is refused: want of memory, and no other answer than the one that is due.
+//! A test ends well with the latter, and with `want_of_memory` where that was told. None takes memory of
+//! its own, so in a run with one growth refused it was one of the call.
 
+use crate::examples::cycle_of;
 use lf_codec::Told;
-use lf_samples::{C1_TEXT, LOAD_MISSES_BOTH_LEVELS};
-use lf_verdict::{Refusal, Session, Verdict};
+use lf_engine::{Counted, run};
+use lf_rules::Rule;
+use lf_samples::{
+    C1_TEXT, CYCLE_OF_TWO_LOGS, EMPTY_TRACE, FOUR_BANKS_TEXT, LOAD_MERGES_BEHIND_STORE,
+    LOAD_MISSES_BOTH_LEVELS, LOWEST_BANK, TWO_PORTS_TWO_BANKS_TEXT, want_of_a_thread,
+    want_of_memory,
+};
+use lf_verdict::{Fault, Refusal, Session, Verdict, check};
+use std::io::Cursor;
+use std::process::Abort;
+use std::sync::Wait;
 use std::test::Fail;
+use std::thread::Threads;
 
-/// A piece that is refused is refused from then on, and that refusal is the verdict.
+/// What is due where no growth is refused.
+#[derive(Drop)]
+enum Due<'a> {
+    /// A yes with this order.
+    Yes(&'a [u8]),
+    Other(Verdict),
+}
+
+impl Due<'_> {
+    fn is(&self, verdict: &Verdict) -> bool {
+        match (self, verdict) {
+            (Due::Yes(due), Verdict::Yes { events, order }) => {
+                *events as usize == due.len() && order.as_slice() == *due
+            }
+            (Due::Other(due), verdict) => due == verdict,
+            _ => false,
+        }
+    }
+}
+
+const MISSES_BOTH_LEVELS: Due<'_> = Due::Yes(&[0, 1, 1, 1, 1, 0]);
+
+const MERGES_BEHIND_STORE: Due<'_> = Due::Yes(&[0, 1, 0, 1, 1, 1, 1, 0, 0]);
+
+fn two_logs() -> Due<'static> {
+    Due::Other(cycle_of(&[0, 1]))
+}
+
+fn assert_due(rt: &impl Abort, verdict: &Verdict, due: &Due<'_>) -> Result<(), Fail> {
+    match verdict {
+        Verdict::Refused(Refusal::Memory) => Err(want_of_memory()),
+        Verdict::Refused(Refusal::Thread) => Err(want_of_a_thread()),
+        verdict => {
+            assert!(rt; due.is(verdict));
+            Ok(())
+        }
+    }
+}
+
+/// By `check`.
+fn assert_checked<T: Abort + AllocGlobal + Threads + Wait + Sync>(
+    rt: &T,
+    config: &str,
+    bytes: &[u8],
+    workers: u32,
+    due: &Due<'_>,
+) -> Result<(), Fail> {
+    let verdict = check(rt, config, &[bytes], workers);
+    assert_due(rt, &verdict, due)
+}
+
 #[test]
-fn refused_growth_of_a_session(rt: HostRuntime) -> Result<(), Fail> {
-    let mut session = match Session::new(rt.alloc(), C1_TEXT) {
+fn refused_growth_of_check_on_empty_trace(rt: HostRuntime) -> Result<(), Fail> {
+    assert_checked(&rt, C1_TEXT, &EMPTY_TRACE, 1, &Due::Yes(&[]))
+}
+
+#[test]
+fn refused_growth_of_check_on_load_misses_both_levels(rt: HostRuntime) -> Result<(), Fail> {
+    let due = MISSES_BOTH_LEVELS;
+    assert_checked(&rt, C1_TEXT, &LOAD_MISSES_BOTH_LEVELS, 1, &due)
+}
+
+#[test]
+fn refused_growth_of_check_on_load_merges_behind_store(rt: HostRuntime) -> Result<(), Fail> {
+    let due = MERGES_BEHIND_STORE;
+    assert_checked(&rt, C1_TEXT, &LOAD_MERGES_BEHIND_STORE, 1, &due)
+}
+
+#[test]
+fn refused_growth_of_check_on_cycle_of_two_logs(rt: HostRuntime) -> Result<(), Fail> {
+    let config = TWO_PORTS_TWO_BANKS_TEXT;
+    assert_checked(&rt, config, &CYCLE_OF_TWO_LOGS, 1, &two_logs())
+}
+
+#[test]
+fn refused_growth_of_check_with_two_workers(rt: HostRuntime) -> Result<(), Fail> {
+    let lowest = Verdict::No(Fault::Bank {
+        bank: 1,
+        number: 0,
+        rule: Rule::NotHead,
+    });
+    assert_checked(&rt, FOUR_BANKS_TEXT, &LOWEST_BANK, 2, &Due::Other(lowest))
+}
+
+/// By a session that is fed pieces of so many bytes. A piece that is refused is refused from then on, and
+/// that refusal is the verdict.
+fn assert_fed<T: Abort + AllocGlobal>(
+    rt: &T,
+    config: &str,
+    pieces: &[&[u8]],
+    due: &Due<'_>,
+) -> Result<(), Fail> {
+    let mut session = match Session::new(rt.alloc(), config) {
         Ok(session) => session,
         Err(refusal) => {
             assert_eq!(rt; refusal, Refusal::Memory);
-            return Ok(());
+            return Err(want_of_memory());
         }
     };
-    if let Err(told) = session.feed(&LOAD_MISSES_BOTH_LEVELS) {
-        assert_eq!(rt; told, Told::Fault(Refusal::Memory));
-        let again = session.feed(&[0]);
-        assert_eq!(rt; again, Err(Told::Failed(Refusal::Memory)));
-        assert_eq!(rt; session.finish(), Verdict::Refused(Refusal::Memory));
-        return Ok(());
+    for piece in pieces {
+        if let Err(told) = session.feed(piece) {
+            assert_eq!(rt; told, Told::Fault(Refusal::Memory));
+            let again = session.feed(piece);
+            assert_eq!(rt; again, Err(Told::Failed(Refusal::Memory)));
+            assert_eq!(rt; session.finish(), Verdict::Refused(Refusal::Memory));
+            return Err(want_of_memory());
+        }
     }
-    let verdict = session.finish();
-    let is_refused = matches!(verdict, Verdict::Refused(Refusal::Memory));
-    assert!(rt; is_refused || matches!(verdict, Verdict::Yes { events: 6, .. }));
-    Ok(())
+    assert_due(rt, &session.finish(), due)
+}
+
+#[test]
+fn refused_growth_of_session_on_empty_trace(rt: HostRuntime) -> Result<(), Fail> {
+    assert_fed(&rt, C1_TEXT, &[&EMPTY_TRACE], &Due::Yes(&[]))
+}
+
+#[test]
+fn refused_growth_of_session_on_load_misses_both_levels(rt: HostRuntime) -> Result<(), Fail> {
+    let due = MISSES_BOTH_LEVELS;
+    assert_fed(&rt, C1_TEXT, &[&LOAD_MISSES_BOTH_LEVELS], &due)
+}
+
+#[test]
+fn refused_growth_of_session_on_load_merges_behind_store(rt: HostRuntime) -> Result<(), Fail> {
+    let (front, back) = LOAD_MERGES_BEHIND_STORE.split_at(100);
+    assert_fed(&rt, C1_TEXT, &[front, back], &MERGES_BEHIND_STORE)
+}
+
+#[test]
+fn refused_growth_of_session_on_cycle_of_two_logs(rt: HostRuntime) -> Result<(), Fail> {
+    let config = TWO_PORTS_TWO_BANKS_TEXT;
+    assert_fed(&rt, config, &[&CYCLE_OF_TWO_LOGS], &two_logs())
+}
+
+/// By `run`, which writes this line.
+fn assert_run<T: Abort + AllocGlobal>(
+    rt: &T,
+    config: &str,
+    bytes: &[u8],
+    due: &Due<'_>,
+    line: &str,
+) -> Result<(), Fail> {
+    let mut reader = Counted::new(bytes);
+    let mut writer = Counted::new(Cursor::new([0u8; 64]));
+    let Ok(verdict) = run(rt, &mut reader, &mut writer, config, 1, 1000) else {
+        return Err(Fail::new("a read or a write failed"));
+    };
+    let is_refused = verdict == Verdict::Refused(Refusal::Memory);
+    let line = if is_refused { "refused memory\n" } else { line };
+    let page = writer.inner();
+    assert_eq!(rt; page.position(), line.len() as u64);
+    assert!(rt; page.get_ref().starts_with(line.as_bytes()));
+    assert_due(rt, &verdict, due)
+}
+
+#[test]
+fn refused_growth_of_run_on_empty_trace(rt: HostRuntime) -> Result<(), Fail> {
+    assert_run(&rt, C1_TEXT, &EMPTY_TRACE, &Due::Yes(&[]), "yes events=0\n")
+}
+
+#[test]
+fn refused_growth_of_run_on_load_misses_both_levels(rt: HostRuntime) -> Result<(), Fail> {
+    let line = "yes events=6\n";
+    assert_run(
+        &rt,
+        C1_TEXT,
+        &LOAD_MISSES_BOTH_LEVELS,
+        &MISSES_BOTH_LEVELS,
+        line,
+    )
+}
+
+#[test]
+fn refused_growth_of_run_on_load_merges_behind_store(rt: HostRuntime) -> Result<(), Fail> {
+    let line = "yes events=9\n";
+    assert_run(
+        &rt,
+        C1_TEXT,
+        &LOAD_MERGES_BEHIND_STORE,
+        &MERGES_BEHIND_STORE,
+        line,
+    )
+}
+
+#[test]
+fn refused_growth_of_run_on_cycle_of_two_logs(rt: HostRuntime) -> Result<(), Fail> {
+    let config = TWO_PORTS_TWO_BANKS_TEXT;
+    assert_run(
+        &rt,
+        config,
+        &CYCLE_OF_TWO_LOGS,
+        &two_logs(),
+        "no cycle logs=0,1\n",
+    )
 }
