@@ -12,7 +12,7 @@ use Rattle.lf_rules.specs.Table.{OfBank, Clause, rules_of, slice_after, is_asked
 use Rattle.lf_rules.specs.Run.{judges, first_failing}
 use Rattle.lf_rules.proofs.Clauses.{this_holds, others_hold}
 use Rattle.lf_replay.specs.Apart.{asks_for, AreHome, stands, EachStands}
-use Rattle.lf_replay.proofs.Places.{asked_among, asks_gone}
+use Rattle.lf_rules.proofs.CopyStep.{asked_among, asks_gone}
 use Rattle.lf_rules.proofs.CopyStep.{is_apart_at}
 use Rattle.lf_replay.proofs.Blocks.{has_put, has_gone, any_push, any_gone}
 

@@ -6,12 +6,12 @@ use Rattle.lf_rules.specs.Address.{sub_block, block_bytes, masked, mask_at, clea
 use Rattle.lf_replay.specs.Bytes.{flat_of}
 use Rattle.lf_rules.proofs.Bytes.{masked_flat}
 use Rattle.lf_rules.proofs.Wide.{flat_next}
-use Rattle.lf_replay.proofs.bank.Bank.wide_masked.Goals as goal
+use Rattle.lf_replay.proofs.carried.wide_masked.Goals as goal
 
 pub loop-place-preserved : goal.loop-place-preserved
 loop-place-preserved c =
-    let shape = c.args.self.now.shape in
-    let mem = flat_of c.args.self.now.memory in
+    let shape = c.args.shape.now in
+    let mem = flat_of c.args.memory.now in
     let f : ℕ → List ℕ = λ p. masked (block_bytes shape mem (sub_block shape c.args.second p)) (mask_at c.args.masks.now p) in
     let part : c.deref-in-loop-place.result.now ≡ f c.loop-place.place =
     c.deref-in-loop-place.ensures.0 ∙ c.masked-part.ensures ∙ masked_flat (mem c.sub_block-block.result) _ shape.block
@@ -23,7 +23,7 @@ loop-place-preserved c =
 
 pub returns : goal.returns
 returns c =
-    let shape = c.args.self.now.shape in
-    let f : ℕ → List ℕ = λ p. masked (block_bytes shape (flat_of c.args.self.now.memory) (sub_block shape c.args.second p)) (mask_at c.args.masks.now p) in
+    let shape = c.args.shape.now in
+    let f : ℕ → List ℕ = λ p. masked (block_bytes shape (flat_of c.args.memory.now) (sub_block shape c.args.second p)) (mask_at c.args.masks.now p) in
     let all : c.loop-place.place ≡ shape.factor = omega (arith, c.loop-place-test.false, c.loop-place.auto.place-end) in
     c.loop-place.invariant.items ∙ ap (λ n. flat_map f (range_with_len 0 n)) all

@@ -3,10 +3,10 @@ use Rattle.std.specs.List.{flat_map, range_with_len}
 use Rattle.arrayvec.specs.ArrayVec.{array_vec_len}
 use Rattle.lf_rules.specs.Address.{sub_block, block_bytes, masked, mask_at}
 use Rattle.lf_replay.specs.Bytes.{flat_of}
-use Rattle.lf_replay.proofs.bank.Bank.wide_masked.Given as goal
+use Rattle.lf_replay.proofs.carried.wide_masked.Given as goal
 
 abbrev pub invariant-loop-place : goal.invariant-loop-place
 invariant-loop-place l = record {
-  items : l.all.items ≡ flat_map (λ place. masked (block_bytes l.self.shape (flat_of l.self.memory) (sub_block l.self.shape l.second place)) (mask_at l.masks place)) (range_with_len 0 l.place);
+  items : l.all.items ≡ flat_map (λ place. masked (block_bytes l.shape (flat_of l.memory) (sub_block l.shape l.second place)) (mask_at l.masks place)) (range_with_len 0 l.place);
   count : array_vec_len l.all ≤ 64 * l.place;
 }

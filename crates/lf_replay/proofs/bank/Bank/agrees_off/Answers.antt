@@ -1,7 +1,0 @@
-use Rattle.std.proofs.Common.{refl}
-use Rattle.lf_replay.specs.Bytes.{flat_of}
-use Rattle.lf_replay.proofs.Bytes.{fill_agrees}
-use Rattle.lf_replay.proofs.bank.Bank.agrees_off.Goals as goal
-
-pub returns : goal.returns
-returns c = fill_agrees (flat_of c.args.self.now.memory c.args.block) _ _ _ _ _ _ c.agrees_off.ensures refl refl c.requires.whole

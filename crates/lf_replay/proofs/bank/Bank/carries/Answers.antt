@@ -1,6 +1,0 @@
-use Rattle.lf_replay.specs.Bytes.{flat_of}
-use Rattle.lf_replay.proofs.Bytes.{evict_agrees}
-use Rattle.lf_replay.proofs.bank.Bank.carries.Goals as goal
-
-pub returns : goal.returns
-returns c = evict_agrees (flat_of c.args.self.now.memory c.args.block) _ _ _ _ _ c.args.mask.0 c.args.self.now.shape.block c.eq.ensures c.as_slice.ensures.value c.as_slice-2.ensures.value c.masked-masked.ensures
