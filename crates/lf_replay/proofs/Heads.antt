@@ -1,5 +1,5 @@
--- Why an accepted miss of level one breaks no rule.
-use Rattle.std.proofs.Common.{◌≡◌, ℕ, zero, suc, ◌/◌, ◌<◌, Bool, true, false, not, ◌&&◌, nat_lt, List, [], ◌∷◌, length, None, sym, ap, ◌∙◌, eqb-true, arith}
+-- What a bank says of a miss of level one.
+use Rattle.std.proofs.Common.{◌≡◌, ℕ, zero, suc, ◌/◌, ◌<◌, Bool, true, false, not, ◌&&◌, nat_lt, List, [], ◌∷◌, length, Option, refl, sym, ap, ◌∙◌, eqb-true, arith}
 use Rattle.std.proofs.lemmas.Bool.{lt-ltb}
 use mathlib.Core.Path.{ap₂}
 use Rattle.lf_rules.specs.declared.rule.Rule.{Rule}
@@ -13,9 +13,9 @@ use Rattle.lf_rules.specs.State.{Request, Missed}
 use Rattle.lf_rules.specs.Table.{is_head, oldest, destination, destinations, position}
 use Rattle.lf_replay.specs.Kept.{queue_at}
 
-one_holds : (rule : Rule) (a : Bool) (rest : List Clause) → a ≡ true → first_failing OfBank rest ≡ None → first_failing OfBank (bank_wants rule a ∷ rest) ≡ None
-one_holds rule true rest e none = none
-one_holds rule false rest e none = absurd (cc e)
+one_holds : (rule : Rule) (a : Bool) (rest : List Clause) → a ≡ true → first_failing OfBank (bank_wants rule a ∷ rest) ≡ first_failing OfBank rest
+one_holds rule true rest e = refl
+one_holds rule false rest e = absurd (cc e)
 
 head_tag : (queue : List Request) (tag : ℕ) → is_head queue tag ≡ true → (oldest queue).tag ≡ tag
 head_tag [] tag e = absurd (cc e)
@@ -39,26 +39,34 @@ module _ (shape : Shape) (queues : List (List Request)) (port tag : ℕ) (reques
   here : (block : ℕ) → block ≡ request.block → (oldest (queue_at queues port)).block ≡ block
   here block is = sym (is ∙ ap (λ (r : Request). r.block) same)
 
-  pub primary_none : (lines : Lines) (waiting : List (Held Missed)) (register block d : ℕ) → has_line lines request.block ≡ false → block ≡ request.block → d ≡ destination shape port request.tag
-      → None ≡ first_failing OfBank (primary_clauses shape.level1.organisation (destinations shape) waiting block d register)
+  pub primary_judged : (lines : Lines) (waiting : List (Held Missed)) (register block d : ℕ) (told : Option Rule) → has_line lines block ≡ false → block ≡ request.block
+      → d ≡ destination shape port request.tag
+      → told ≡ first_failing OfBank (primary_clauses shape.level1.organisation (destinations shape) waiting block d register)
       → first_failing OfBank (
       bank_wants NotHead (nat_lt port shape.ports && is_head (queue_at queues port) tag)
       ∷ bank_wants Present (not (has_line lines (oldest (queue_at queues port)).block))
       ∷ primary_clauses shape.level1.organisation (destinations shape) waiting (oldest (queue_at queues port)).block (destination shape port tag) register
-      ) ≡ None
-  primary_none lines waiting register block d absent at dest told =
-      let last : List Clause = primary_clauses shape.level1.organisation (destinations shape) waiting (oldest (queue_at queues port)).block (destination shape port tag) register in
-      one_holds NotHead _ (bank_wants Present (not (has_line lines (oldest (queue_at queues port)).block)) ∷ last) is_next (one_holds Present _ last (ap (λ (r : Request). not (has_line lines r.block)) (sym same) ∙ ap not absent)
-      ((λ i. first_failing OfBank (primary_clauses shape.level1.organisation (destinations shape) waiting (here block at i) (named d dest i) register)) ∙ sym told))
+      ) ≡ told
+  primary_judged lines waiting register block d told absent at dest is =
+      let last : List Clause =
+      primary_clauses shape.level1.organisation (destinations shape) waiting (oldest (queue_at queues port)).block (destination shape port tag) register in
+      one_holds NotHead _ (bank_wants Present (not (has_line lines (oldest (queue_at queues port)).block)) ∷ last) is_next
+      ∙ one_holds Present _ last (ap (λ b. not (has_line lines b)) (here block at) ∙ ap not absent)
+      ∙ (λ i. first_failing OfBank (primary_clauses shape.level1.organisation (destinations shape) waiting (here block at i) (named d dest i) register)) ∙ sym is
 
-  pub merge_none : (waiting : List (Held Missed)) (register block d word : ℕ) → block ≡ request.block → d ≡ destination shape port request.tag → word ≡ request.offset / 8
-      → None ≡ first_failing OfBank (merge_clauses shape.level1.organisation (destinations shape) position waiting block d word register)
+  pub merge_judged : (waiting : List (Held Missed)) (register block d word : ℕ) (told : Option Rule) → block ≡ request.block → d ≡ destination shape port request.tag
+      → word ≡ request.offset / 8
+      → told ≡ first_failing OfBank (merge_clauses shape.level1.organisation (destinations shape) position waiting block d word register)
       → first_failing OfBank (
       bank_wants NotHead (nat_lt port shape.ports && is_head (queue_at queues port) tag)
-      ∷ merge_clauses shape.level1.organisation (destinations shape) position waiting (oldest (queue_at queues port)).block (destination shape port tag) ((oldest (queue_at queues port)).offset / 8) register
-      ) ≡ None
-  merge_none waiting register block d word at dest is told =
+      ∷ merge_clauses shape.level1.organisation (destinations shape) position waiting (oldest (queue_at queues port)).block (destination shape port tag)
+      ((oldest (queue_at queues port)).offset / 8) register
+      ) ≡ told
+  merge_judged waiting register block d word told at dest is same_rule =
       let word_is : (oldest (queue_at queues port)).offset / 8 ≡ word = sym (is ∙ ap (λ (r : Request). r.offset / 8) same) in
-      let last : List Clause = merge_clauses shape.level1.organisation (destinations shape) position waiting (oldest (queue_at queues port)).block (destination shape port tag) ((oldest (queue_at queues port)).offset / 8) register in
+      let last : List Clause =
+      merge_clauses shape.level1.organisation (destinations shape) position waiting (oldest (queue_at queues port)).block (destination shape port tag)
+      ((oldest (queue_at queues port)).offset / 8) register in
       one_holds NotHead _ last is_next
-      ((λ i. first_failing OfBank (merge_clauses shape.level1.organisation (destinations shape) position waiting (here block at i) (named d dest i) (word_is i) register)) ∙ sym told)
+      ∙ (λ i. first_failing OfBank (merge_clauses shape.level1.organisation (destinations shape) position waiting (here block at i) (named d dest i) (word_is i) register))
+      ∙ sym same_rule

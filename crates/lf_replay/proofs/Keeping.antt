@@ -8,7 +8,7 @@ use Rattle.lf_rules.specs.State.{Request, Local}
 use Rattle.lf_rules.specs.Table.{is_among, is_asked, is_head, oldest}
 use Rattle.lf_mshr.proofs.Alike.{holds-alike}
 use Rattle.lf_replay.specs.Apart.{asks_for, is_absent_if_fetched, stands, stands_at}
-use Rattle.lf_replay.specs.Kept.{Kept, local_of, queue_at}
+use Rattle.lf_replay.specs.Kept.{BankView, local_of, queue_at}
 use Rattle.lf_replay.specs.Shows.{Keeps}
 use Rattle.lf_replay.specs.Tells.{TellsAsked}
 use Rattle.lf_replay.proofs.Apart.{every5, implied, is_not}
@@ -23,7 +23,7 @@ not_both : (h l : Bool) → not (h && l) ≡ true → h ≡ true → l ≡ false
 not_both true l e p = is_not l e
 not_both false l e p = absurd (cc p)
 
-module _ (kept : Kept) (keeps : Keeps kept) where
+module _ (kept : BankView) (keeps : Keeps kept) where
   module _ (block : ℕ) where
     here : stands (is_asked kept.asked block) (asks_for keeps.now.slice.regs2 block) (is_among kept.supplied block) (holds keeps.now.slice.waiting block) (has_line kept.lines1.lines block) (has_line kept.lines2.lines (second_of kept.shape block)) ≡ true
     here = subst (λ (s : Local). stands_at kept.shape s.slice block ≡ true) (sym keeps.shows.rest) (keeps.reached.stands.blocks block)
@@ -53,7 +53,7 @@ head_tagged tags tag [] all e = absurd (cc e)
 head_tagged tags tag (request ∷ queue) all e = all.0
 
 -- the oldest request of a queue has a tag of the shape
-pub oldest_tagged : (kept : Kept) → Keeps kept → (port tag : ℕ) → is_head (queue_at kept.queues port) tag ≡ true → (oldest (queue_at kept.queues port)).tag < kept.shape.tags
+pub oldest_tagged : (kept : BankView) → Keeps kept → (port tag : ℕ) → is_head (queue_at kept.queues port) tag ≡ true → (oldest (queue_at kept.queues port)).tag < kept.shape.tags
 oldest_tagged kept keeps port tag e =
     head_tagged kept.shape.tags tag (queue_at kept.queues port)
     (subst (λ (s : Local). AllByRecursion (λ request. request.tag < kept.shape.tags) (s.slice.queue port)) (sym keeps.shows.rest) (keeps.reached.tagged port)) e

@@ -14,15 +14,14 @@ use Rattle.lf_replay.specs.Tells.{Tells, TellsAsked, miss_of}
 use Rattle.lf_replay.specs.Apart.{AreHome}
 use Rattle.lf_rules.proofs.CopyStep.{push_all, filter_all}
 
-pub placed1 : (shape after : Shape) (old new : RegisterFile Request1) (waiting : List (Held Missed)) (register block port : ℕ) (target : Request1) (memory : FlatMemory) (request oldest : Request)
-    → after ≡ shape → AreAlike (Tells shape) old.held waiting → new ≡ with_target old register block target → block ≡ request.block → request ≡ oldest
-    → Tells shape target (miss_of port register memory request).target → AreAlike (Tells after) new.held (waiting ++ miss_of port register memory oldest ∷ [])
-placed1 shape after old new waiting register block port target memory request oldest kept alike is here same tells =
+pub placed1 : (shape : Shape) (old new : RegisterFile Request1) (waiting : List (Held Missed)) (register block port : ℕ) (target : Request1) (memory : FlatMemory) (request oldest : Request)
+    → AreAlike (Tells shape) old.held waiting → new ≡ with_target old register block target → block ≡ request.block → request ≡ oldest
+    → Tells shape target (miss_of port register memory request).target → AreAlike (Tells shape) new.held (waiting ++ miss_of port register memory oldest ∷ [])
+placed1 shape old new waiting register block port target memory request oldest alike is here same tells =
     let one : IsAlike (Tells shape) (held_item register block target) (miss_of port register memory request) = record { register = refl; block = here; target = tells } in
-    subst (λ (s : Shape). AreAlike (Tells s) new.held (waiting ++ miss_of port register memory oldest ∷ [])) (sym kept)
-    (subst (λ (r : Request). AreAlike (Tells shape) new.held (waiting ++ miss_of port register memory r ∷ [])) same
+    subst (λ (r : Request). AreAlike (Tells shape) new.held (waiting ++ miss_of port register memory r ∷ [])) same
     (subst (λ (f : RegisterFile Request1). AreAlike (Tells shape) f.held (waiting ++ miss_of port register memory request ∷ [])) (sym is)
-    (AreAlike-push (Tells shape) old.held waiting (held_item register block target) (miss_of port register memory request) alike one)))
+    (AreAlike-push (Tells shape) old.held waiting (held_item register block target) (miss_of port register memory request) alike one))
 
 -- a register of level two takes a target of a block, and holds its second-level block
 pub placed2 : (shape : Shape) (old new : RegisterFile Request2) (fetched : List (Held Asked)) (register second block asker : ℕ) (target : Request2)
@@ -35,13 +34,6 @@ placed2 shape old new fetched register second block asker target alike is there 
 
 pub home_placed : (shape : Shape) (fetched : List (Held Asked)) (register block asker : ℕ) → AreHome shape fetched → AreHome shape (fetched ++ held_item register (second_of shape block) (block, asker) ∷ [])
 home_placed shape fetched register block asker home = push_all (λ h. second_of shape (block_asked h) ≡ h.block) fetched (held_item register (second_of shape block) (block, asker)) home refl
-
--- another shape that is the same
-pub same_shape2 : (after shape : Shape) (held : List (Held Request2)) (fetched : List (Held Asked)) → after ≡ shape → AreAlike (TellsAsked shape) held fetched → AreAlike (TellsAsked after) held fetched
-same_shape2 after shape held fetched same alike = subst (λ (s : Shape). AreAlike (TellsAsked s) held fetched) (sym same) alike
-
-pub same_home : (after shape : Shape) (fetched : List (Held Asked)) → after ≡ shape → AreHome shape fetched → AreHome after fetched
-same_home after shape fetched same home = subst (λ (s : Shape). AreHome s fetched) (sym same) home
 
 pub released1 : (shape : Shape) (old new : RegisterFile Request1) (waiting : List (Held Missed)) (block : ℕ) → AreAlike (Tells shape) old.held waiting → new ≡ without_block old block
     → AreAlike (Tells shape) new.held (released waiting block)

@@ -11,13 +11,14 @@ use Rattle.lf_mshr.specs.Alike.{AreAlike}
 use Rattle.lf_mshr.specs.RegisterFile.{RegisterFile, empty_file}
 use Rattle.lf_mshr.specs.declared.level_one.Request1.{Request1}
 use Rattle.lf_mshr.specs.declared.level_two.Request2.{Request2}
+use Rattle.lf_state.specs.Bytes.{flat_of}
 use Rattle.lf_replay.specs.Tells.{Tells, TellsAsked}
 use Rattle.lf_rules.specs.declared.event.Event.TheVariants.{Issue, Reply, Hit, Primary, Merge, Stall, Fill1, Evict1, SecondHit, SecondPrimary, SecondStall, Fill2, Evict2, SecondMerge, Fence}
 use Rattle.lf_rules.specs.State.{Request, Ready, Slice, Local, idle, update}
-use Rattle.lf_rules.specs.Table.{OfBank, rules_of, slice_after, carries, value_at, accepts, replies_at, request_of, destinations, destinations2}
+use Rattle.lf_rules.specs.Table.{OfBank, rules_of, slice_after, carries, value_at, accepts, replies_at, request_of}
 use Rattle.lf_rules.specs.Run.{first_failing}
 use Rattle.lf_replay.specs.declared.fault.BankFault.{BankFault}
-use Rattle.lf_replay.specs.Kept.{Kept, local_of, after_event, IsFile1, IsFile2}
+use Rattle.lf_replay.specs.Kept.{BankView, local_of, after_event, queue_at}
 use Rattle.lf_replay.specs.Shows.{AreTagged, IsReached, Keeps, Shows, IsAnswer, AnswerOf}
 use Rattle.lf_rules.specs.InRange.{IsShape}
 use Rattle.lf_replay.proofs.Places.{factor_some}
@@ -62,8 +63,8 @@ tagged_after shape right value replies slice log bank (SecondMerge block registe
 tagged_after shape right value replies slice log bank Fence each none = each
 
 -- a bank that keeps a state that a run may reach keeps one after each answer
-pub keeps_after : {A : Type 0} (old new : Kept) (log : ℕ) (e : Event) (result : Result A BankFault) → IsShape old.shape → Keeps old → new.shape ≡ old.shape → IsAnswer old new log e result → Keeps new
-keeps_after old new log e result in_range keeps same answer = go result (answer 0 keeps.now.slice.waiting keeps.now.slice.regs2 keeps.shows.registers)
+pub keeps_after : {A : Type 0} (old new : BankView) (log : ℕ) (e : Event) (result : Result A BankFault) → Keeps old → IsAnswer old new log e result → Keeps new
+keeps_after old new log e result keeps answer = go result (answer 0 keeps.now.slice.waiting keeps.now.slice.regs2 keeps.shows.registers)
   where
     here : Local
     here = local_of old keeps.now.slice.waiting keeps.now.slice.regs2
@@ -74,40 +75,53 @@ keeps_after old new log e result in_range keeps same answer = go result (answer 
     go : {A : Type 0} (r : Result A BankFault) → AnswerOf old new here log 0 e r → Keeps new
     go (Ok done) a = record {
       now = after_event old.shape here log e;
-      shows = a.1;
-      reached = subst (λ (s : Shape). IsReached s (after_event old.shape here log e)) (sym same) (record {
-        stands = stands_after old.shape (carries old.shape here.memory here.slice e) (value_at here.memory (accepts here.slice e)) (replies_at here.slice e) here.slice log 0 (factor_some old.shape.factor in_range.factor) keeps.shows.registers.home reached.stands e a.0;
+      shows = a.2;
+      reached = subst (λ (s : Shape). IsReached s (after_event old.shape here log e)) (sym a.1) (record {
+        in_range = reached.in_range;
+        stands = stands_after old.shape (carries old.shape here.memory here.slice e) (value_at here.memory (accepts here.slice e)) (replies_at here.slice e) here.slice log 0 (factor_some old.shape.factor reached.in_range.factor) keeps.shows.registers.home reached.stands e a.0;
         tagged = tagged_after old.shape (carries old.shape here.memory here.slice e) (value_at here.memory (accepts here.slice e)) (replies_at here.slice e) here.slice log 0 e reached.tagged a.0;
       });
     }
     go (Err fault) a = subst Keeps (sym a.1) keeps
 
+-- no answer changes the shape
+pub same_shape : {A : Type 0} (old new : BankView) (log : ℕ) (e : Event) (result : Result A BankFault) → Keeps old → IsAnswer old new log e result → new.shape ≡ old.shape
+same_shape old new log e (Ok done) keeps answer = (answer 0 keeps.now.slice.waiting keeps.now.slice.regs2 keeps.shows.registers).1
+same_shape old new log e (Err fault) keeps answer = ap (λ (k : BankView). k.shape) (answer 0 keeps.now.slice.waiting keeps.now.slice.regs2 keeps.shows.registers).1
+
 -- a fault leaves what a bank keeps as it was
-pub same_after : {A : Type 0} (old new : Kept) (log : ℕ) (e : Event) (result : Result A BankFault) → Keeps old → IsAnswer old new log e result → OnErr result (new ≡ old)
+pub same_after : {A : Type 0} (old new : BankView) (log : ℕ) (e : Event) (result : Result A BankFault) → Keeps old → IsAnswer old new log e result → OnErr result (new ≡ old)
 same_after old new log e (Ok done) keeps answer = tt
 same_after old new log e (Err fault) keeps answer = (answer 0 keeps.now.slice.waiting keeps.now.slice.regs2 keeps.shows.registers).1
 
 -- ---- the opening state
 
-pub opening_reached : (shape : Shape) (memory : FlatMemory) → IsReached shape (first_local memory)
-opening_reached shape memory = record { stands = record { blocks = λ block. refl; fetched = λ second. refl }; tagged = λ port. tt }
+pub opening_reached : (shape : Shape) (memory : FlatMemory) → IsShape shape → IsReached shape (first_local memory)
+opening_reached shape memory in_range = record { in_range = in_range; stands = record { blocks = λ block. refl; fetched = λ second. refl }; tagged = λ port. tt }
 
--- a bank whose registers are free keeps the opening state
-pub opens : (kept : Kept) (memory : FlatMemory) (organisation1 organisation2 : OrgShape) (destinations1 destinations2 : ℕ) → kept.waiting ≡ empty_file organisation1 destinations1 → kept.regs2 ≡ empty_file organisation2 destinations2
-    → local_of kept [] [] ≡ first_local memory → Shows kept (first_local memory)
-opens kept memory organisation1 organisation2 destinations1 destinations2 free1 free2 rest = record {
+-- a bank with nothing but the memory keeps the opening state
+pub opens : (kept : BankView) (memory : FlatMemory) (organisation1 organisation2 : OrgShape) (destinations1 destinations2 : ℕ)
+    → kept.waiting ≡ empty_file organisation1 destinations1 → kept.regs2 ≡ empty_file organisation2 destinations2
+    → flat_of kept.memory ≡ memory → ((port : ℕ) → queue_at kept.queues port ≡ []) → kept.lines1.lines ≡ [] → kept.lines2.lines ≡ []
+    → kept.asked ≡ [] → kept.supplied ≡ [] → kept.ready ≡ [] → Shows kept (first_local memory)
+opens kept memory organisation1 organisation2 destinations1 destinations2 free1 free2 bytes queues lines1 lines2 asked supplied ready = record {
   registers = record {
     level1 = subst (λ (f : RegisterFile Request1). AreAlike (Tells kept.shape) f.held []) (sym free1) tt;
     level2 = subst (λ (f : RegisterFile Request2). AreAlike (TellsAsked kept.shape) f.held []) (sym free2) tt;
     home = tt;
   };
-  rest = rest;
+  rest = λ i. record {
+    busy = idle;
+    memory = bytes i;
+    slice = record {
+      queue = λ port. queues port i;
+      lines1 = lines1 i;
+      lines2 = lines2 i;
+      waiting = [];
+      regs2 = [];
+      asked = asked i;
+      supplied = supplied i;
+      ready = ready i;
+    };
+  };
 }
-
-pub file1_new : (shape s : Shape) (file : RegisterFile Request1) (number : ℕ) → file ≡ empty_file shape.level1.organisation number → number ≡ destinations shape → s ≡ shape → IsFile1 s file
-file1_new shape s file number is same e =
-    subst (λ (t : Shape). IsFile1 t file) (sym e) (record { organisation = ap (λ (f : RegisterFile Request1). f.organisation) is; destinations = ap (λ (f : RegisterFile Request1). f.destinations) is ∙ same })
-
-pub file2_new : (shape s : Shape) (file : RegisterFile Request2) (number : ℕ) → file ≡ empty_file shape.level2.organisation number → number ≡ destinations2 shape → s ≡ shape → IsFile2 s file
-file2_new shape s file number is same e =
-    subst (λ (t : Shape). IsFile2 t file) (sym e) (record { organisation = ap (λ (f : RegisterFile Request2). f.organisation) is; destinations = ap (λ (f : RegisterFile Request2). f.destinations) is ∙ same })

@@ -12,7 +12,7 @@ use Rattle.lf_rules.specs.declared.rule.Rule as model
 use Rattle.lf_rules.specs.Address.{FlatMemory, bank_of}
 use Rattle.lf_rules.specs.Numbers.{numbers_of}
 use Rattle.lf_rules.specs.Outcomes.{first_local, IsBankOutcome}
-use Rattle.lf_rules.specs.State.{Request, Local}
+use Rattle.lf_rules.specs.State.{Local}
 use Rattle.lf_rules.specs.Table.{OfBank, clauses, bank_effect, value_at, accepts, replies_at}
 use Rattle.lf_rules.specs.Run.{first_failing, IsRunOf, BreaksAt}
 use Rattle.lf_replay.specs.declared.fault.BankFault.{BankFault}
@@ -23,15 +23,9 @@ use Rattle.lf_rules.proofs.FitFacts.{names_home}
 use Rattle.lf_rules.proofs.Locality.{SameBank, IsHome, bank_clauses_same, bank_effect_same, home_after}
 use Rattle.lf_state.specs.Bytes.{bank_part}
 use Rattle.std.specs.Prelude.{OnOk, IfErr}
-use Rattle.lf_replay.specs.Kept.{Kept, after_event}
+use Rattle.lf_replay.specs.Kept.{BankView, after_event}
 use Rattle.lf_replay.specs.Shows.{Shows, broken_rule, AnswerOf, IsAnswer}
 use Rattle.lf_replay.specs.Step.{bank_after, KeptAfter, IsFaultAfter, IsBankOrder}
-
-pub empty_more : (queues : List (List Request)) → ((port : ℕ) → get_or queues port [] ≡ []) → (port : ℕ) → get_or (queues ++ [] ∷ []) port [] ≡ []
-empty_more [] empty zero = refl
-empty_more [] empty (suc port) = refl
-empty_more (q ∷ queues) empty zero = empty zero
-empty_more (q ∷ queues) empty (suc port) = empty_more queues (λ k. empty (suc k)) port
 
 module _ (shape : Shape) where
   pub run_more : (now : Local) (rs : List Record) (r : Record) → IsRunOf OfBank shape now rs → first_failing OfBank (clauses shape (bank_after shape now rs) r) ≡ None → IsRunOf OfBank shape now (rs ++ r ∷ [])
@@ -48,26 +42,26 @@ module _ (shape : Shape) where
   breaks_more now (x ∷ rs) r rest rule run some = (run.0, breaks_more (bank_effect shape now x) rs r rest rule run.1 some)
 
 -- what a bank answers to a record is what the table says of the state that it keeps
-module _ {A : Type 0} (old new : Kept) (r : Record) (result : Result A BankFault) (answer : IsAnswer old new r.log r.event result) where
+module _ {A : Type 0} (old new : BankView) (r : Record) (result : Result A BankFault) (answer : IsAnswer old new r.log r.event result) where
   pub answer_at : (now : Local) → Shows old now → AnswerOf old new now r.log r.bank r.event result
   answer_at now shows = subst (λ (s : Local). AnswerOf old new s r.log r.bank r.event result) shows.rest (answer r.bank now.slice.waiting now.slice.regs2 shows.registers)
 
-module _ (old new : Kept) (shape : Shape) (memory : FlatMemory) (rs : List Record) (stands : KeptAfter old shape memory rs) (r : Record) where
+module _ (old new : BankView) (shape : Shape) (memory : FlatMemory) (rs : List Record) (stands : KeptAfter old shape memory rs) (r : Record) where
   at_shape : {A : Type 0} (result : Result A BankFault) → IsAnswer old new r.log r.event result → AnswerOf old new (bank_after shape (first_local memory) rs) r.log r.bank r.event result
   at_shape result answer = answer_at old new r result answer (bank_after shape (first_local memory) rs) stands.state
 
   rule_at : broken_rule old.shape (bank_after shape (first_local memory) rs) r.log r.bank r.event ≡ first_failing OfBank (clauses shape (bank_after shape (first_local memory) rs) r)
   rule_at = ap (λ s. broken_rule s (bank_after shape (first_local memory) rs) r.log r.bank r.event) stands.of_shape
 
-  pub kept_more : {A : Type 0} (result : Result A BankFault) → IsAnswer old new r.log r.event result → new.shape ≡ old.shape → OnOk result (KeptAfter new shape memory (rs ++ r ∷ []))
-  kept_more (Ok done) answer same =
+  pub kept_more : {A : Type 0} (result : Result A BankFault) → IsAnswer old new r.log r.event result → OnOk result (KeptAfter new shape memory (rs ++ r ∷ []))
+  kept_more (Ok done) answer =
       let a = at_shape (Ok done) answer in
       record {
-        of_shape = same ∙ stands.of_shape;
+        of_shape = a.1 ∙ stands.of_shape;
         is_run = run_more shape (first_local memory) rs r stands.is_run (sym rule_at ∙ a.0);
-        state = subst (Shows new) (ap (λ s. after_event s (bank_after shape (first_local memory) rs) r.log r.event) stands.of_shape ∙ sym (after_more shape (first_local memory) rs r)) a.1;
+        state = subst (Shows new) (ap (λ s. after_event s (bank_after shape (first_local memory) rs) r.log r.event) stands.of_shape ∙ sym (after_more shape (first_local memory) rs r)) a.2;
       }
-  kept_more (Err fault) answer same = tt
+  kept_more (Err fault) answer = tt
 
   pub fault_more : {A : Type 0} (result : Result A BankFault) → IsAnswer old new r.log r.event result → IfErr result (IsFaultAfter shape memory rs r)
   fault_more {A = A} (Ok done) answer = tt
@@ -91,7 +85,7 @@ on_ok (Err e) f p = tt
 
 -- ---- a loop over the records
 
-pub stands_next : (kept : Kept) (shape : Shape) (memory : FlatMemory) (rs : List Record) (k : ℕ) (r : Record) → k < length rs → r ≡ get_or rs k r
+pub stands_next : (kept : BankView) (shape : Shape) (memory : FlatMemory) (rs : List Record) (k : ℕ) (r : Record) → k < length rs → r ≡ get_or rs k r
     → KeptAfter kept shape memory (take k rs ++ r ∷ []) → KeptAfter kept shape memory (take (k + 1) rs)
 stands_next kept shape memory rs k r lt is stands = subst (KeptAfter kept shape memory) (ap (λ x. take k rs ++ x ∷ []) is ∙ sym (take_more rs k r lt)) stands
 

@@ -1,5 +1,5 @@
 -- Three clauses of a bank that all hold, and a free way.
-use Rattle.std.proofs.Common.{◌≡◌, ℕ, Bool, true, false, not, [], ◌∷◌, Some, None, refl, sym, ◌∙◌}
+use Rattle.std.proofs.Common.{◌≡◌, ℕ, Bool, true, false, not, [], ◌∷◌, Some, None, refl, sym, ap, ◌∙◌}
 use Rattle.lf_levels.specs.LineTable.{LineTable, is_full}
 use Rattle.lf_rules.specs.Lines.{has_way}
 use Rattle.lf_rules.specs.declared.rule.Rule.{Rule}
@@ -20,12 +20,19 @@ third_fails first second third false b c p q r = absurd (cc p)
 third_fails first second third true false c p q r = absurd (cc q)
 third_fails first second third true true true p q r = absurd (cc r)
 
-is_so : (b : Bool) → false ≡ not b → b ≡ true
-is_so true e = refl
-is_so false e = absurd (cc e)
+pub second_fails : (first second third : Rule) (a b c : Bool) → a ≡ true → b ≡ false
+    → first_failing OfBank (bank_wants first a ∷ bank_wants second b ∷ bank_wants third c ∷ []) ≡ Some second
+second_fails first second third true false c p q = refl
+second_fails first second third false b c p q = absurd (cc p)
+second_fails first second third true true c p q = absurd (cc q)
 
-pub free_way : {M : Type 0} (set : ℕ → ℕ → ℕ → ℕ → ℕ) (table : LineTable M) (banks factor sets ways block : ℕ) → table.banks ≡ banks → table.factor ≡ factor → table.sets ≡ sets → table.ways ≡ ways
-    → false ≡ is_full set table block → has_way (set banks factor sets) ways table.lines block ≡ true
-free_way set table banks factor sets ways block b f s w e =
+turned : (b full : Bool) → full ≡ not b → b ≡ not full
+turned true full e = ap not (sym e)
+turned false full e = ap not (sym e)
+
+-- a set has a way where its table is not full
+pub free_way : {M : Type 0} (set : ℕ → ℕ → ℕ → ℕ → ℕ) (table : LineTable M) (banks factor sets ways block : ℕ) (full : Bool) → table.banks ≡ banks → table.factor ≡ factor → table.sets ≡ sets → table.ways ≡ ways
+    → full ≡ is_full set table block → has_way (set banks factor sets) ways table.lines block ≡ not full
+free_way set table banks factor sets ways block full b f s w e =
     let same : has_way (set table.banks table.factor table.sets) table.ways table.lines block ≡ has_way (set banks factor sets) ways table.lines block = λ i. has_way (set (b i) (f i) (s i)) (w i) table.lines block in
-    sym same ∙ is_so (has_way (set table.banks table.factor table.sets) table.ways table.lines block) e
+    sym same ∙ turned (has_way (set table.banks table.factor table.sets) table.ways table.lines block) full e

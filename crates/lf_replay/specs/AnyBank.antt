@@ -1,9 +1,9 @@
 -- What a bank of any pair of organisations keeps.
 use Rattle.lf_replay.specs.declared.any_bank.AnyBank.{AnyBank}
 use Rattle.lf_replay.specs.declared.any_bank.AnyBank.TheVariants.{ImplicitImplicit, ImplicitExplicit, ImplicitInverted, ExplicitImplicit, ExplicitExplicit, ExplicitInverted, InvertedImplicit, InvertedExplicit, InvertedInverted}
-use Rattle.lf_replay.specs.Kept.{Kept}
+use Rattle.lf_replay.specs.Kept.{BankView}
 
-abbrev pub kept_of : AnyBank → Kept
+abbrev pub kept_of : AnyBank → BankView
 kept_of (ImplicitImplicit kept) = kept
 kept_of (ImplicitExplicit kept) = kept
 kept_of (ImplicitInverted kept) = kept

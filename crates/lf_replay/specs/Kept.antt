@@ -1,4 +1,4 @@
--- What the replay of a bank keeps.
+-- A bank, as contracts see it.
 use Rattle.std.specs.Prelude.{◌≡◌, ℕ, List, length}
 use Rattle.lf_rules.specs.declared.shape.Shape.{Shape}
 use Rattle.lf_rules.specs.InRange.{IsShape}
@@ -14,7 +14,7 @@ use Rattle.lf_mshr.specs.declared.level_two.Request2.{Request2}
 use Rattle.lf_state.specs.Bytes.{flat_of}
 pub use Rattle.lf_state.specs.Queues.{queue_at}
 
-pub record Kept : Type 0 where
+pub record BankView : Type 0 where
   pub shape : Shape
   pub memory : List (ℕ × List ℕ)
   pub queues : List (List Request)  -- one for each port
@@ -27,7 +27,7 @@ pub record Kept : Type 0 where
   pub ready : List Ready
 
 -- the bank's slice, where these requests wait in its registers
-abbrev pub slice_of : Kept → List (Held Missed) → List (Held Asked) → Slice
+abbrev pub slice_of : BankView → List (Held Missed) → List (Held Asked) → Slice
 slice_of kept waiting regs2 = record {
   queue = queue_at kept.queues;
   lines1 = kept.lines1.lines;
@@ -40,21 +40,8 @@ slice_of kept waiting regs2 = record {
 }
 
 -- what the bank sees of the whole, busy tags aside
-abbrev pub local_of : Kept → List (Held Missed) → List (Held Asked) → Local
+abbrev pub local_of : BankView → List (Held Missed) → List (Held Asked) → Local
 local_of kept waiting regs2 = record { busy = idle; memory = flat_of kept.memory; slice = slice_of kept waiting regs2 }
-
--- there is a queue for each port, and the lines are those of the shape's levels
-pub record IsFramed (shape : Shape) (queues : List (List Request)) (lines1 : LineTable ℕ) (lines2 : LineTable Masks) : Type 0 where
-  pub in_range : IsShape shape
-  pub ports : length queues ≡ shape.ports
-  pub sets1 : lines1.sets ≡ shape.level1.sets
-  pub ways1 : lines1.ways ≡ shape.level1.ways
-  pub banks1 : lines1.banks ≡ shape.banks
-  pub factor1 : lines1.factor ≡ shape.factor
-  pub sets2 : lines2.sets ≡ shape.level2.sets
-  pub ways2 : lines2.ways ≡ shape.level2.ways
-  pub banks2 : lines2.banks ≡ shape.banks
-  pub factor2 : lines2.factor ≡ shape.factor
 
 -- a register file of the shape's level one
 pub record IsFile1 {T : Type 0} (shape : Shape) (file : RegisterFile T) : Type 0 where
@@ -65,6 +52,21 @@ pub record IsFile1 {T : Type 0} (shape : Shape) (file : RegisterFile T) : Type 0
 pub record IsFile2 {T : Type 0} (shape : Shape) (file : RegisterFile T) : Type 0 where
   pub organisation : file.organisation ≡ shape.level2.organisation
   pub destinations : file.destinations ≡ destinations2 shape
+
+-- there is a queue for each port, and the lines and the registers are those of the shape's levels
+pub record IsFramed (shape : Shape) (queues : List (List Request)) (lines1 : LineTable ℕ) (lines2 : LineTable Masks) (waiting : RegisterFile Request1) (regs2 : RegisterFile Request2) : Type 0 where
+  pub in_range : IsShape shape
+  pub ports : length queues ≡ shape.ports
+  pub sets1 : lines1.sets ≡ shape.level1.sets
+  pub ways1 : lines1.ways ≡ shape.level1.ways
+  pub banks1 : lines1.banks ≡ shape.banks
+  pub factor1 : lines1.factor ≡ shape.factor
+  pub sets2 : lines2.sets ≡ shape.level2.sets
+  pub ways2 : lines2.ways ≡ shape.level2.ways
+  pub banks2 : lines2.banks ≡ shape.banks
+  pub factor2 : lines2.factor ≡ shape.factor
+  pub file1 : IsFile1 shape waiting
+  pub file2 : IsFile2 shape regs2
 
 -- a state after an event of a log
 abbrev pub after_event : Shape → Local → ℕ → Event → Local

@@ -1,5 +1,5 @@
 -- The replay of one bank, step by step, against the runs of that bank.
-use Rattle.std.specs.Prelude.{◌≡◌, ℕ, List, [], ◌∷◌, ◌++◌, length}
+use Rattle.std.specs.Prelude.{◌≡◌, ℕ, List, [], ◌∷◌, ◌++◌, length, Result, OnOk, IfErr}
 use Rattle.std.specs.List.{range_with_len, AllByRecursion}
 use Rattle.lf_rules.specs.declared.shape.Shape.{Shape}
 use Rattle.lf_rules.specs.declared.event.Record.{Record}
@@ -12,13 +12,13 @@ use Rattle.lf_rules.specs.Table.{OfBank, bank_effect}
 use Rattle.lf_rules.specs.Run.{IsRunOf, BreaksAt}
 use Rattle.lf_replay.specs.declared.fault.BankFault.{BankFault}
 use Rattle.lf_replay.specs.declared.fault.BankFault.TheVariants.{Rule, NoMemory}
-use Rattle.lf_replay.specs.Kept.{Kept}
+use Rattle.lf_replay.specs.Kept.{BankView}
 use Rattle.lf_replay.specs.Shows.{Shows}
 
 -- what a step is seen as: its bank, and what it keeps of it
 pub record BankKept : Type 0 where
   pub bank : ℕ
-  pub kept : Kept
+  pub kept : BankView
 
 -- a record that a trace of the shape may have, and that names the bank
 pub record IsForStep (step : BankKept) (r : Record) : Type 0 where
@@ -31,7 +31,7 @@ bank_after shape now [] = now
 bank_after shape now (r ∷ rs) = bank_after shape (bank_effect shape now r) rs
 
 -- The records are a run of the bank from the opening state with this memory, and what is kept is the state where it ends.
-pub record KeptAfter (kept : Kept) (shape : Shape) (memory : FlatMemory) (rs : List Record) : Type 0 where
+pub record KeptAfter (kept : BankView) (shape : Shape) (memory : FlatMemory) (rs : List Record) : Type 0 where
   pub of_shape : kept.shape ≡ shape
   pub is_run : IsRunOf OfBank shape (first_local memory) rs
   pub state : Shows kept (bank_after shape (first_local memory) rs)
@@ -45,6 +45,16 @@ pub record StandsAfter (step : BankKept) (shape : Shape) (memory : FlatMemory) (
 abbrev pub IsFaultAfter : Shape → FlatMemory → List Record → Record → BankFault → Type 0
 IsFaultAfter shape memory rs r (Rule rule) = BreaksAt OfBank shape (first_local memory) (rs ++ r ∷ []) (length rs) rule
 IsFaultAfter shape memory rs r NoMemory = IsRunOf OfBank shape (first_local memory) (rs ++ r ∷ [])
+
+-- what is kept after an answer to the record is what a bank keeps after one record more
+abbrev pub GoesOn : {A : Type 0} → BankView → BankView → Record → Result A BankFault → Type 0
+GoesOn old new r result = (shape : Shape) (memory : FlatMemory) (rs : List Record) → KeptAfter old shape memory rs
+    → OnOk result (KeptAfter new shape memory (rs ++ r ∷ []))
+
+-- a fault is that of the record, after whatever records what was kept stands
+abbrev pub IsFaultOf : {A : Type 0} → BankView → Record → Result A BankFault → Type 0
+IsFaultOf old r result = (shape : Shape) (memory : FlatMemory) (rs : List Record) → KeptAfter old shape memory rs
+    → IfErr result (IsFaultAfter shape memory rs r)
 
 -- records of the bank that a trace of the shape may have, in the order of their numbers
 pub record IsBankOrder (shape : Shape) (bank : ℕ) (rs : List Record) : Type 0 where

@@ -5,7 +5,7 @@ ghost use Rattle.lf_rules.specs.declared.shape.Shape.{Shape};
 ghost use Rattle.lf_rules.specs.declared.event.Record.{Record};
 ghost use Rattle.lf_rules.specs.Address.{FlatMemory, flat_memory};
 ghost use Rattle.lf_rules.specs.InRange.{IsShape};
-ghost use Rattle.lf_replay.specs.Bytes.{bank_part};
+ghost use Rattle.lf_state.specs.Bytes.{bank_part};
 ghost use Rattle.lf_replay.specs.Step.{StandsAfter, IsForStep, IsFaultAfter};
 
 use crate::any_bank::AnyBank;
@@ -28,11 +28,11 @@ impl Model for Step {
     ghost Value = { BankKept };
 
     ghost use Rattle.lf_replay.specs.AnyBank.{kept_of};
-    ghost use Rattle.lf_replay.specs.Shows.{IsSound};
+    ghost use Rattle.lf_replay.specs.Shows.{Keeps};
 
     ghost view = { λ s. record { bank = s.bank; kept = kept_of s.state } };
 
-    ghost invariant = { λ s. IsSound (kept_of s.state) };
+    ghost invariant = { λ s. Keeps (kept_of s.state) };
 }
 
 impl Step {
@@ -55,8 +55,10 @@ impl Step {
         ensures bank { self.new.bank ≡ self.old.bank }
         ensures shape { self.new.kept.shape ≡ self.old.kept.shape }
         ensures unchanged { OnErr result (self.new ≡ self.old) }
-        ensures stands { (shape : Shape) (memory : FlatMemory) (bank : ℕ) (rs : List Record) → StandsAfter self.old shape memory bank rs → OnOk result (StandsAfter self.new shape memory bank (rs ++ item.now ∷ [])) }
-        ensures broken { (shape : Shape) (memory : FlatMemory) (bank : ℕ) (rs : List Record) → StandsAfter self.old shape memory bank rs → IfErr result (IsFaultAfter shape memory rs item.now) }
+        ensures stands { (shape : Shape) (memory : FlatMemory) (bank : ℕ) (rs : List Record) → StandsAfter self.old shape memory bank rs
+            → OnOk result (StandsAfter self.new shape memory bank (rs ++ item.now ∷ [])) }
+        ensures broken { (shape : Shape) (memory : FlatMemory) (bank : ℕ) (rs : List Record) → StandsAfter self.old shape memory bank rs
+            → IfErr result (IsFaultAfter shape memory rs item.now) }
     {
         self.state.apply(item)
     }

@@ -8,8 +8,8 @@ ghost use Rattle.lf_state.specs.Bytes.{bank_part};
 ghost use Rattle.lf_replay.specs.Lent.{lent};
 ghost use Rattle.lf_replay.specs.Step.{IsBankOrder};
 
+use crate::bank::Bank;
 use crate::fault::BankFault;
-use crate::state::BankState;
 use lf_mshr::{Explicit, Implicit, Inverted, Organisation, Request1, Request2};
 use lf_rules::{Memory, OrgShape, Outcome, Record, Shape};
 use std::alloc::Global;
@@ -100,7 +100,7 @@ fn part_lent<O1: Organisation<Target = Request1>, O2: Organisation<Target = Requ
     requires records { IsBankOrder shape.now bank (lent records.now) }
     ensures { IsBankOutcome shape.now (bank_part shape.now bank (flat_memory memory.now.items)) (lent records.now) result }
 {
-    let Ok(mut state) = BankState::<O1, O2>::new(alloc, shape, memory, bank) else {
+    let Ok(mut state) = Bank::<O1, O2>::new(alloc, shape, memory, bank) else {
         return Outcome::NoMemory;
     };
     for item in records {

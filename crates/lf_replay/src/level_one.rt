@@ -2,46 +2,61 @@
 //! where it breaks none. What may be refused memory comes before what is not undone, so that a refusal
 //! leaves the state as it was.
 
-ghost use Rattle.std.specs.Prelude.{◌≡◌, ◌<◌, ◌*◌, ◌&&◌, nat_lt, ℕ, true, List, [], ◌∷◌, ◌++◌, length, OnOk, OnErr};
+ghost use Rattle.std.specs.Prelude.{◌≡◌, ◌<◌, ℕ, true, drop, length, OnOk, OnErr};
 ghost use Rattle.arrayvec.specs.ArrayVec.{ArrayVec};
 ghost use Rattle.lf_rules.specs.declared.event.Event.TheVariants as event;
 ghost use Rattle.lf_rules.specs.declared.event.Op.{Op};
-ghost use Rattle.lf_rules.specs.Registers.{Held};
-ghost use Rattle.lf_rules.specs.State.{Missed, Asked};
-ghost use Rattle.lf_rules.specs.Table.{request_of, is_head, oldest};
-ghost use Rattle.lf_mshr.specs.RegisterFile.{RegisterFile};
-ghost use Rattle.lf_mshr.specs.declared.level_one.Request1.{Request1};
-ghost use Rattle.lf_mshr.specs.declared.level_two.Request2.{Request2};
-ghost use Rattle.lf_replay.specs.Answers.{IsBankAnswer};
-ghost use Rattle.lf_replay.specs.Bytes.{flat_of};
-ghost use Rattle.lf_replay.specs.Kept.{IsFile1, queue_at, local_of, after_event};
+ghost use Rattle.lf_rules.specs.State.{update};
+ghost use Rattle.lf_rules.specs.Table.{request_of, is_head, oldest, accepted};
+ghost use Rattle.lf_state.specs.Bytes.{flat_of};
+ghost use Rattle.lf_replay.specs.Kept.{queue_at};
 ghost use Rattle.lf_replay.specs.Shows.{IsAnswer, Keeps};
-ghost use Rattle.lf_replay.specs.Tells.{miss_of};
-ghost use Rattle.lf_replay.specs.View.{kept, IsBankFramed};
 
 use crate::bank::Bank;
 use crate::fault::BankFault;
+use crate::lookup::{dirty1, is_among};
 use crate::registers::{has_room1, merge_rule, primary_rule, store_bytes};
 use crate::replies::add_replies;
 use crate::target::missed;
 use crate::wide::mark_at;
-use lf_mshr::{Organisation, Request1};
+use lf_mshr::{Organisation, Request1, Request2};
 use lf_rules::{Block, Mask, NoMemory, Rule};
 use lf_state::{
-    Ready, Request, drop_block, drop_head, drop_ready, enqueue, head, place_of, push, second_of,
+    FlatMemory, Queue, Ready, Request, drop_block, drop_head, drop_ready, enqueue, head, place_of,
+    push, ready_for, second_of,
 };
 
 /// No more targets than these wait for one block.
 pub const MOST_TARGETS: usize = 1024;
 
-impl Bank {
+/// The port's oldest request takes effect and leaves its queue.
+fn accept_head(
+    memory: &mut FlatMemory,
+    queues: &mut Vec<Queue>,
+    port: u8,
+    tag: u8,
+) -> Result<(), NoMemory>
+    requires { is_head (queue_at queues.old.items port) tag ≡ true }
+    ensures effect { OnOk result (flat_of memory.new ≡ accepted (flat_of memory.old) (oldest (queue_at queues.old.items port))) }
+    ensures rest { OnOk result (queue_at queues.new.items ≡ update (queue_at queues.old.items) port (drop 1 (queue_at queues.old.items port))) }
+    ensures count { length queues.new.items ≡ length queues.old.items }
+    ensures kept_memory { OnErr result (memory.new ≡ memory.old) }
+    ensures kept_queues { OnErr result (queues.new.items ≡ queues.old.items) }
+{
+    let Some(request) = head(queues, port, tag) else {
+        unreachable!()
+    };
+    memory.accept(request)?;
+    drop_head(queues, port);
+    Ok(())
+}
+
+impl<O1: Organisation<Target = Request1>, O2: Organisation<Target = Request2>> Bank<O1, O2> {
     /// The port's queue takes the request.
     pub fn issue(&mut self, log: u8, request: Request) -> Result<(), BankFault>
-        requires framed { IsBankFramed self.old }
-        requires port { log < self.old.shape.ports }
-        ensures answer { (op : Op) (tag size address : ℕ) (bytes : ArrayVec ℕ) → request ≡ request_of self.old.shape tag op size address bytes.items → IsBankAnswer self.old self.new log (event.Issue op tag size address bytes) result }
-        ensures framed { IsBankFramed self.new }
-        ensures shape { self.new.shape ≡ self.old.shape }
+        requires { log < self.old.shape.ports }
+        ensures { (op : Op) (tag size address : ℕ) (bytes : ArrayVec ℕ) → request ≡ request_of self.old.shape tag op size address bytes.items
+            → IsAnswer self.old self.new log (event.Issue op tag size address bytes) result }
     {
         if u32::from(request.tag()) >= self.shape.tags {
             return Err(BankFault::Rule(Rule::TagRange));
@@ -54,12 +69,9 @@ impl Bank {
 
     /// The port's reply, which was ready, leaves.
     pub fn reply(&mut self, log: u8, tag: u8, size: u8, bytes: &Block) -> Result<(), BankFault>
-        requires { IsBankFramed self.old }
-        ensures answer { IsBankAnswer self.old self.new log (event.Reply tag size bytes.now) result }
-        ensures framed { IsBankFramed self.new }
-        ensures shape { self.new.shape ≡ self.old.shape }
+        ensures { IsAnswer self.old self.new log (event.Reply tag size bytes.now) result }
     {
-        let Some(ready) = self.ready_for(log, tag) else {
+        let Some(ready) = ready_for(&self.ready, log, tag) else {
             return Err(BankFault::Rule(Rule::NotReady));
         };
         if usize::from(size) != ready.value().len() {
@@ -74,10 +86,7 @@ impl Bank {
 
     /// The port's oldest request finds its block in level one.
     pub fn hit(&mut self, port: u8, tag: u8) -> Result<(), BankFault>
-        requires { IsBankFramed self.old }
-        ensures answer { (log : ℕ) → IsBankAnswer self.old self.new log (event.Hit port tag) result }
-        ensures framed { IsBankFramed self.new }
-        ensures shape { self.new.shape ≡ self.old.shape }
+        ensures { (log : ℕ) → IsAnswer self.old self.new log (event.Hit port tag) result }
     {
         let Some(request) = head(&self.queues, port, tag) else {
             return Err(BankFault::Rule(Rule::NotHead));
@@ -100,128 +109,66 @@ impl Bank {
     }
 
     /// The port's oldest request misses and takes a register.
-    pub fn primary<O: Organisation<Target = Request1>>(
-        &mut self,
-        waiting: &mut O::File,
-        port: u8,
-        tag: u8,
-        register: u16,
-    ) -> Result<(), BankFault>
-        requires framed { IsBankFramed self.old }
-        requires file { IsFile1 self.old.shape (O.seen waiting.old) }
-        requires keeps { (regs2 : RegisterFile Request2) × Keeps (kept self.old (O.seen waiting.old) regs2) }
-        ensures answer { (log : ℕ) (regs2 : RegisterFile Request2) → IsAnswer (kept self.old (O.seen waiting.old) regs2) (kept self.new (O.seen waiting.new) regs2) log (event.Primary port tag register) result }
-        ensures framed { IsBankFramed self.new }
-        ensures file { IsFile1 self.new.shape (O.seen waiting.new) }
-        ensures shape { self.new.shape ≡ self.old.shape }
+    pub fn primary(&mut self, port: u8, tag: u8, register: u16) -> Result<(), BankFault>
+        requires { Keeps self.old }
+        ensures { (log : ℕ) → IsAnswer self.old self.new log (event.Primary port tag register) result }
     {
         let Some(request) = head(&self.queues, port, tag) else {
             return Err(BankFault::Rule(Rule::NotHead));
         };
-        if self.lines1.has(request.block()) {
+        let block = request.block();
+        if self.lines1.has(block) {
             return Err(BankFault::Rule(Rule::Present));
         }
-        let block = request.block();
         let target = missed(&self.shape, &self.memory, port, request);
-        if let Some(rule) = primary_rule::<O>(waiting, &self.shape, block, &target, register) {
+        if let Some(rule) = primary_rule::<O1>(
+            &self.waiting,
+            &self.shape,
+            block,
+            &target,
+            register,
+        ) {
             return Err(BankFault::Rule(rule));
         }
-        let Ok(()) = self.accept_primary(port, tag, register) else {
+        if self.asked.reserve(1).is_err() {
+            return Err(BankFault::NoMemory);
+        }
+        let Ok(()) = accept_head(&mut self.memory, &mut self.queues, port, tag) else {
             return Err(BankFault::NoMemory);
         };
-        let Ok(()) = O::primary(waiting, register, block, target) else {
+        self.asked.push_reserved((block, register));
+        let Ok(()) = O1::primary(&mut self.waiting, register, block, target) else {
             unreachable!()
         };
-        Ok(())
-    }
-
-    /// What a primary miss changes beside the register: its block is asked for, and its request is
-    /// accepted.
-    fn accept_primary(&mut self, port: u8, tag: u8, register: u16) -> Result<(), NoMemory>
-        requires framed { IsBankFramed self.old }
-        requires next { (nat_lt port self.old.shape.ports && is_head (queue_at self.old.queues.items port) tag) ≡ true }
-        ensures ok { (waiting : RegisterFile Request1) (regs2 : RegisterFile Request2) (missed : List (Held Missed)) (fetched : List (Held Asked)) (log : ℕ)
-            → OnOk result (local_of (kept self.new waiting regs2) (missed ++ miss_of port register (flat_of self.old.memory) (oldest (queue_at self.old.queues.items port)) ∷ []) fetched
-            ≡ after_event self.old.shape (local_of (kept self.old waiting regs2) missed fetched) log (event.Primary port tag register)) }
-        ensures err { (waiting : RegisterFile Request1) (regs2 : RegisterFile Request2) → OnErr result (kept self.new waiting regs2 ≡ kept self.old waiting regs2) }
-        ensures framed { IsBankFramed self.new }
-        ensures shape { self.new.shape ≡ self.old.shape }
-    {
-        let Some(request) = head(&self.queues, port, tag) else {
-            unreachable!()
-        };
-        push(&mut self.asked, (request.block(), register))?;
-        if let Err(refusal) = self.memory.accept(request) {
-            self.asked.pop();
-            return Err(refusal);
-        }
-        drop_head(&mut self.queues, port);
         Ok(())
     }
 
     /// The port's oldest request misses and joins a register that waits for its block.
-    pub fn merge<O: Organisation<Target = Request1>>(
-        &mut self,
-        waiting: &mut O::File,
-        port: u8,
-        tag: u8,
-        register: u16,
-    ) -> Result<(), BankFault>
-        requires framed { IsBankFramed self.old }
-        requires file { IsFile1 self.old.shape (O.seen waiting.old) }
-        requires keeps { (regs2 : RegisterFile Request2) × Keeps (kept self.old (O.seen waiting.old) regs2) }
-        ensures answer { (log : ℕ) (regs2 : RegisterFile Request2) → IsAnswer (kept self.old (O.seen waiting.old) regs2) (kept self.new (O.seen waiting.new) regs2) log (event.Merge port tag register) result }
-        ensures framed { IsBankFramed self.new }
-        ensures file { IsFile1 self.new.shape (O.seen waiting.new) }
-        ensures shape { self.new.shape ≡ self.old.shape }
+    pub fn merge(&mut self, port: u8, tag: u8, register: u16) -> Result<(), BankFault>
+        requires { Keeps self.old }
+        ensures { (log : ℕ) → IsAnswer self.old self.new log (event.Merge port tag register) result }
     {
         let Some(request) = head(&self.queues, port, tag) else {
             return Err(BankFault::Rule(Rule::NotHead));
         };
         let block = request.block();
         let target = missed(&self.shape, &self.memory, port, request);
-        if let Some(rule) = merge_rule::<O>(waiting, &self.shape, block, &target, register) {
+        if let Some(rule) = merge_rule::<O1>(&self.waiting, &self.shape, block, &target, register) {
             return Err(BankFault::Rule(rule));
         }
-        let Ok(()) = self.accept_merge(port, tag) else {
+        let Ok(()) = accept_head(&mut self.memory, &mut self.queues, port, tag) else {
             return Err(BankFault::NoMemory);
         };
-        let Ok(()) = O::merge(waiting, register, block, target) else {
+        let Ok(()) = O1::merge(&mut self.waiting, register, block, target) else {
             unreachable!()
         };
-        Ok(())
-    }
-
-    /// What a merge changes beside the register: its request is accepted.
-    fn accept_merge(&mut self, port: u8, tag: u8) -> Result<(), NoMemory>
-        requires framed { IsBankFramed self.old }
-        requires next { (nat_lt port self.old.shape.ports && is_head (queue_at self.old.queues.items port) tag) ≡ true }
-        ensures ok { (waiting : RegisterFile Request1) (regs2 : RegisterFile Request2) (missed : List (Held Missed)) (fetched : List (Held Asked)) (log register : ℕ)
-            → OnOk result (local_of (kept self.new waiting regs2) (missed ++ miss_of port register (flat_of self.old.memory) (oldest (queue_at self.old.queues.items port)) ∷ []) fetched
-            ≡ after_event self.old.shape (local_of (kept self.old waiting regs2) missed fetched) log (event.Merge port tag register)) }
-        ensures err { (waiting : RegisterFile Request1) (regs2 : RegisterFile Request2) → OnErr result (kept self.new waiting regs2 ≡ kept self.old waiting regs2) }
-        ensures framed { IsBankFramed self.new }
-        ensures shape { self.new.shape ≡ self.old.shape }
-    {
-        let Some(request) = head(&self.queues, port, tag) else {
-            unreachable!()
-        };
-        self.memory.accept(request)?;
-        drop_head(&mut self.queues, port);
         Ok(())
     }
 
     /// The port's oldest request misses and finds no room.
-    pub fn stall<O: Organisation<Target = Request1>>(
-        &self,
-        waiting: &O::File,
-        port: u8,
-        tag: u8,
-    ) -> Result<(), BankFault>
-        requires framed { IsBankFramed self.now }
-        requires file { IsFile1 self.now.shape (O.seen waiting.now) }
-        requires keeps { (regs2 : RegisterFile Request2) × Keeps (kept self.now (O.seen waiting.now) regs2) }
-        ensures { (log : ℕ) (regs2 : RegisterFile Request2) → IsAnswer (kept self.now (O.seen waiting.now) regs2) (kept self.now (O.seen waiting.now) regs2) log (event.Stall port tag) result }
+    pub fn stall(&self, port: u8, tag: u8) -> Result<(), BankFault>
+        requires { Keeps self.now }
+        ensures { (log : ℕ) → IsAnswer self.now self.now log (event.Stall port tag) result }
     {
         let Some(request) = head(&self.queues, port, tag) else {
             return Err(BankFault::Rule(Rule::NotHead));
@@ -230,36 +177,26 @@ impl Bank {
             return Err(BankFault::Rule(Rule::Present));
         }
         let target = missed(&self.shape, &self.memory, port, request);
-        if has_room1::<O>(waiting, &self.shape, request.block(), &target) {
+        if has_room1::<O1>(&self.waiting, &self.shape, request.block(), &target) {
             return Err(BankFault::Rule(Rule::NeedlessStall));
         }
         Ok(())
     }
 
     /// The block comes into level one, and each request that waits for it may have its reply.
-    pub fn fill1<O: Organisation<Target = Request1>>(
-        &mut self,
-        waiting: &mut O::File,
-        block: u32,
-        bytes: &Block,
-    ) -> Result<(), BankFault>
-        requires framed { IsBankFramed self.old }
-        requires file { IsFile1 self.old.shape (O.seen waiting.old) }
-        requires keeps { (regs2 : RegisterFile Request2) × Keeps (kept self.old (O.seen waiting.old) regs2) }
+    pub fn fill1(&mut self, block: u32, bytes: &Block) -> Result<(), BankFault>
+        requires keeps { Keeps self.old }
         requires whole { length bytes.now.items ≡ self.old.shape.block }
-        ensures answer { (log : ℕ) (regs2 : RegisterFile Request2) → IsAnswer (kept self.old (O.seen waiting.old) regs2) (kept self.new (O.seen waiting.new) regs2) log (event.Fill1 block bytes.now) result }
-        ensures framed { IsBankFramed self.new }
-        ensures file { IsFile1 self.new.shape (O.seen waiting.new) }
-        ensures shape { self.new.shape ≡ self.old.shape }
+        ensures { (log : ℕ) → IsAnswer self.old self.new log (event.Fill1 block bytes.now) result }
     {
-        if !self.has_supplied(block) {
+        if !is_among(&self.supplied, block) {
             return Err(BankFault::Rule(Rule::NotSupplied));
         }
         if self.lines1.full(block) {
             return Err(BankFault::Rule(Rule::SetFull));
         }
-        let stores = store_bytes::<O>(waiting, block);
-        if !self.agrees_off(block, bytes, stores) {
+        let stores = store_bytes::<O1>(&self.waiting, block);
+        if !self.memory.agrees_off(&self.shape, block, bytes, stores) {
             return Err(BankFault::Rule(Rule::FillData));
         }
         if self.ready.reserve(MOST_TARGETS).is_err() {
@@ -268,7 +205,7 @@ impl Bank {
         if self.lines1.fill(block, Mask(stores)).is_err() {
             unreachable!()
         }
-        O::release_into(waiting, block, &mut self.replied);
+        O1::release_into(&mut self.waiting, block, &mut self.replied);
         add_replies(&mut self.ready, &self.shape, self.replied.as_slice());
         drop_block(&mut self.supplied, block);
         Ok(())
@@ -276,19 +213,16 @@ impl Bank {
 
     /// Level one gives the block up, with the bytes of its dirty mask.
     pub fn evict1(&mut self, block: u32, mask: Mask, bytes: &Block) -> Result<(), BankFault>
-        requires framed { IsBankFramed self.old }
-        requires keeps { (waiting : RegisterFile Request1) × (regs2 : RegisterFile Request2) × Keeps (kept self.old waiting regs2) }
-        ensures answer { (log : ℕ) → IsBankAnswer self.old self.new log (event.Evict1 block mask bytes.now) result }
-        ensures framed { IsBankFramed self.new }
-        ensures shape { self.new.shape ≡ self.old.shape }
+        requires { Keeps self.old }
+        ensures { (log : ℕ) → IsAnswer self.old self.new log (event.Evict1 block mask bytes.now) result }
     {
         if !self.lines1.has(block) {
             return Err(BankFault::Rule(Rule::EvictAbsent));
         }
-        if mask.0 != self.dirty1(block) {
+        if mask.0 != dirty1(&self.lines1, block) {
             return Err(BankFault::Rule(Rule::EvictMask));
         }
-        if !self.carries(block, mask, bytes) {
+        if !self.memory.carries(&self.shape, block, mask, bytes) {
             return Err(BankFault::Rule(Rule::EvictData));
         }
         if self.lines1.evict(block, mask).is_err() {

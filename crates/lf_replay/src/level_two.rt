@@ -1,25 +1,21 @@
 //! The events of level two, as those of level one.
 
-ghost use Rattle.std.specs.Prelude.{◌≡◌, ◌<◌, ◌*◌, ◌/◌, ◌&&◌, not, ℕ, List, length};
+ghost use Rattle.std.specs.Prelude.{◌≡◌, ◌<◌, ◌*◌, ◌/◌, ℕ, List, length};
 ghost use Rattle.std.specs.List.{list_all};
-ghost use Rattle.lf_rules.specs.Address.{places, sub_block};
-ghost use Rattle.lf_rules.specs.Lines.{has_line};
-ghost use Rattle.lf_rules.specs.Registers.{Held, holds};
-ghost use Rattle.lf_rules.specs.State.{Missed};
+ghost use Rattle.lf_rules.specs.Address.{places};
+ghost use Rattle.lf_rules.specs.Registers.{Held};
+ghost use Rattle.lf_rules.specs.State.{Asked};
+ghost use Rattle.lf_rules.specs.Table.{is_apart};
 ghost use Rattle.lf_rules.specs.declared.event.Event.TheVariants as event;
-ghost use Rattle.lf_mshr.specs.Alike.{AreAlike};
-ghost use Rattle.lf_mshr.specs.RegisterFile.{RegisterFile};
-ghost use Rattle.lf_mshr.specs.declared.level_one.Request1.{Request1};
-ghost use Rattle.lf_mshr.specs.declared.level_two.Request2.{Request2};
-ghost use Rattle.lf_replay.specs.Answers.{IsBankAnswer};
-ghost use Rattle.lf_replay.specs.Kept.{IsFile2};
+ghost use Rattle.lf_replay.specs.Judged.{OfMissed};
+ghost use Rattle.lf_replay.specs.Kept.{slice_of};
 ghost use Rattle.lf_replay.specs.Shows.{IsAnswer, Keeps};
-ghost use Rattle.lf_replay.specs.Tells.{Tells};
-ghost use Rattle.lf_replay.specs.View.{kept, IsBankFramed};
 
 use crate::bank::Bank;
+use crate::carried::wide_agrees;
 use crate::fault::BankFault;
 use crate::level_one::MOST_TARGETS;
+use crate::lookup::{are_dirty2, fetch, is_asked};
 use crate::registers::{
     has_room2, is_fetched, is_waited_for, second_merge_rule, second_primary_rule,
 };
@@ -28,15 +24,12 @@ use lf_mshr::{Organisation, Request1, Request2};
 use lf_rules::{Masks, Rule, WideBlock, clean_masks};
 use lf_state::{drop_asked, push, second_of};
 
-impl Bank {
+impl<O1: Organisation<Target = Request1>, O2: Organisation<Target = Request2>> Bank<O1, O2> {
     /// The block that level one asks for is in level two, in its second-level block.
     pub fn second_hit(&mut self, block: u32) -> Result<(), BankFault>
-        requires { IsBankFramed self.old }
-        ensures answer { (log : ℕ) → IsBankAnswer self.old self.new log (event.SecondHit block) result }
-        ensures framed { IsBankFramed self.new }
-        ensures shape { self.new.shape ≡ self.old.shape }
+        ensures { (log : ℕ) → IsAnswer self.old self.new log (event.SecondHit block) result }
     {
-        if !self.has_asked(block) {
+        if !is_asked(&self.asked, block) {
             return Err(BankFault::Rule(Rule::NotAsked));
         }
         if !self.lines2.has(second_of(&self.shape, block)) {
@@ -50,29 +43,19 @@ impl Bank {
     }
 
     /// The block that level one asks for misses in level two and takes a register.
-    pub fn second_primary<O: Organisation<Target = Request2>>(
-        &mut self,
-        regs2: &mut O::File,
-        block: u32,
-        register: u16,
-    ) -> Result<(), BankFault>
-        requires framed { IsBankFramed self.old }
-        requires file { IsFile2 self.old.shape (O.seen regs2.old) }
-        ensures answer { (log : ℕ) (waiting : RegisterFile Request1) → IsAnswer (kept self.old waiting (O.seen regs2.old)) (kept self.new waiting (O.seen regs2.new)) log (event.SecondPrimary block register) result }
-        ensures framed { IsBankFramed self.new }
-        ensures file { IsFile2 self.new.shape (O.seen regs2.new) }
-        ensures shape { self.new.shape ≡ self.old.shape }
+    pub fn second_primary(&mut self, block: u32, register: u16) -> Result<(), BankFault>
+        ensures { (log : ℕ) → IsAnswer self.old self.new log (event.SecondPrimary block register) result }
     {
-        if !self.has_asked(block) {
+        if !is_asked(&self.asked, block) {
             return Err(BankFault::Rule(Rule::NotAsked));
         }
         let second = second_of(&self.shape, block);
         if self.lines2.has(second) {
             return Err(BankFault::Rule(Rule::SecondPresent));
         }
-        let target = self.fetch(block);
-        if let Some(rule) = second_primary_rule::<O>(
-            regs2,
+        let target = fetch(&self.shape, &self.asked, block);
+        if let Some(rule) = second_primary_rule::<O2>(
+            &self.regs2,
             &self.shape,
             second,
             &target,
@@ -80,7 +63,7 @@ impl Bank {
         ) {
             return Err(BankFault::Rule(rule));
         }
-        let Ok(()) = O::primary(regs2, register, second, target) else {
+        let Ok(()) = O2::primary(&mut self.regs2, register, second, target) else {
             unreachable!()
         };
         drop_asked(&mut self.asked, block);
@@ -89,31 +72,27 @@ impl Bank {
 
     /// The block that level one asks for misses in level two and joins a register that waits for its
     /// second-level block.
-    pub fn second_merge<O: Organisation<Target = Request2>>(
-        &mut self,
-        regs2: &mut O::File,
-        block: u32,
-        register: u16,
-    ) -> Result<(), BankFault>
-        requires framed { IsBankFramed self.old }
-        requires file { IsFile2 self.old.shape (O.seen regs2.old) }
-        ensures answer { (log : ℕ) (waiting : RegisterFile Request1) → IsAnswer (kept self.old waiting (O.seen regs2.old)) (kept self.new waiting (O.seen regs2.new)) log (event.SecondMerge block register) result }
-        ensures framed { IsBankFramed self.new }
-        ensures file { IsFile2 self.new.shape (O.seen regs2.new) }
-        ensures shape { self.new.shape ≡ self.old.shape }
+    pub fn second_merge(&mut self, block: u32, register: u16) -> Result<(), BankFault>
+        ensures { (log : ℕ) → IsAnswer self.old self.new log (event.SecondMerge block register) result }
     {
-        if !self.has_asked(block) {
+        if !is_asked(&self.asked, block) {
             return Err(BankFault::Rule(Rule::NotAsked));
         }
         let second = second_of(&self.shape, block);
         if self.lines2.has(second) {
             return Err(BankFault::Rule(Rule::SecondPresent));
         }
-        let target = self.fetch(block);
-        if let Some(rule) = second_merge_rule::<O>(regs2, &self.shape, second, &target, register) {
+        let target = fetch(&self.shape, &self.asked, block);
+        if let Some(rule) = second_merge_rule::<O2>(
+            &self.regs2,
+            &self.shape,
+            second,
+            &target,
+            register,
+        ) {
             return Err(BankFault::Rule(rule));
         }
-        let Ok(()) = O::merge(regs2, register, second, target) else {
+        let Ok(()) = O2::merge(&mut self.regs2, register, second, target) else {
             unreachable!()
         };
         drop_asked(&mut self.asked, block);
@@ -121,67 +100,47 @@ impl Bank {
     }
 
     /// The block that level one asks for misses in level two and finds no room.
-    pub fn second_stall<O: Organisation<Target = Request2>>(
-        &self,
-        regs2: &O::File,
-        block: u32,
-    ) -> Result<(), BankFault>
-        requires framed { IsBankFramed self.now }
-        requires file { IsFile2 self.now.shape (O.seen regs2.now) }
-        ensures { (log : ℕ) (waiting : RegisterFile Request1) → IsAnswer (kept self.now waiting (O.seen regs2.now)) (kept self.now waiting (O.seen regs2.now)) log (event.SecondStall block) result }
+    pub fn second_stall(&self, block: u32) -> Result<(), BankFault>
+        ensures { (log : ℕ) → IsAnswer self.now self.now log (event.SecondStall block) result }
     {
-        if !self.has_asked(block) {
+        if !is_asked(&self.asked, block) {
             return Err(BankFault::Rule(Rule::NotAsked));
         }
         let second = second_of(&self.shape, block);
         if self.lines2.has(second) {
             return Err(BankFault::Rule(Rule::SecondPresent));
         }
-        let target = self.fetch(block);
-        if has_room2::<O>(regs2, &self.shape, second, &target) {
+        let target = fetch(&self.shape, &self.asked, block);
+        if has_room2::<O2>(&self.regs2, &self.shape, second, &target) {
             return Err(BankFault::Rule(Rule::NeedlessStall));
         }
         Ok(())
     }
 
     /// The second-level block comes into level two, and each block of it that was fetched is supplied.
-    pub fn fill2<O1: Organisation<Target = Request1>, O2: Organisation<Target = Request2>>(
-        &mut self,
-        waiting: &O1::File,
-        regs2: &mut O2::File,
-        second: u32,
-        bytes: &WideBlock,
-    ) -> Result<(), BankFault>
-        requires framed { IsBankFramed self.old }
-        requires file { IsFile2 self.old.shape (O2.seen regs2.old) }
-        requires keeps { Keeps (kept self.old (O1.seen waiting.now) (O2.seen regs2.old)) }
+    pub fn fill2(&mut self, second: u32, bytes: &WideBlock) -> Result<(), BankFault>
+        requires keeps { Keeps self.old }
         requires fits { second < 0x1_0000_0000 / self.old.shape.factor }
         requires whole { length bytes.now.items ≡ self.old.shape.factor * self.old.shape.block }
-        ensures answer { (log : ℕ) → IsAnswer (kept self.old (O1.seen waiting.now) (O2.seen regs2.old)) (kept self.new (O1.seen waiting.now) (O2.seen regs2.new)) log (event.Fill2 second bytes.now) result }
-        ensures framed { IsBankFramed self.new }
-        ensures file { IsFile2 self.new.shape (O2.seen regs2.new) }
-        ensures shape { self.new.shape ≡ self.old.shape }
+        ensures { (log : ℕ) → IsAnswer self.old self.new log (event.Fill2 second bytes.now) result }
     {
-        if !is_fetched::<O2>(regs2, second) {
+        if !is_fetched::<O2>(&self.regs2, second) {
             return Err(BankFault::Rule(Rule::NotFetched));
         }
         if self.lines2.full(second) {
             return Err(BankFault::Rule(Rule::SetFull));
         }
-        if !self.wide_agrees::<O1>(waiting, second, bytes) {
+        if !wide_agrees::<O1>(&self.shape, &self.memory, &self.waiting, second, bytes) {
             return Err(BankFault::Rule(Rule::FillData));
         }
         if self.supplied.reserve(MOST_TARGETS).is_err() {
             return Err(BankFault::NoMemory);
         }
-        if self
-            .lines2
-            .fill(second, clean_masks(self.shape.factor))
-            .is_err()
-        {
+        let clean = clean_masks(self.shape.factor);
+        if self.lines2.fill(second, clean).is_err() {
             unreachable!()
         }
-        O2::release_into(regs2, second, &mut self.fetched);
+        O2::release_into(&mut self.regs2, second, &mut self.fetched);
         add_blocks(
             &mut self.supplied,
             &self.shape,
@@ -192,41 +151,31 @@ impl Bank {
     }
 
     /// Whether level one has neither a line nor a register on any block of the second-level block.
-    fn may_leave<O: Organisation<Target = Request1>>(&self, waiting: &O::File, second: u32) -> bool
-        requires framed { IsBankFramed self.now }
-        requires fits { second < 0x1_0000_0000 / self.now.shape.factor }
-        ensures { (missed : List (Held Missed)) → AreAlike (Tells self.now.shape) (O.seen waiting.now).held missed
-            → result ≡ list_all (λ place. let block = sub_block self.now.shape second place in not (has_line self.now.lines1.lines block) && not (holds missed block)) (places self.now.shape) }
+    fn may_leave(&self, second: u32) -> bool
+        requires { second < 0x1_0000_0000 / self.now.shape.factor }
+        ensures { OfMissed self.now.shape self.now.waiting (λ missed. (fetched : List (Held Asked))
+            → result ≡ list_all (is_apart self.now.shape (slice_of self.now missed fetched) second) (places self.now.shape)) }
     {
-        let in_register = is_waited_for::<O>(waiting, &self.shape, second);
+        let in_register = is_waited_for::<O1>(&self.waiting, &self.shape, second);
         self.lines2.may_leave(second, &self.lines1, in_register)
     }
 
     /// Level two gives the second-level block up, with the bytes of its dirty masks.
-    pub fn evict2<O: Organisation<Target = Request1>>(
-        &mut self,
-        waiting: &O::File,
-        second: u32,
-        masks: &Masks,
-        bytes: &WideBlock,
-    ) -> Result<(), BankFault>
-        requires framed { IsBankFramed self.old }
+    pub fn evict2(&mut self, second: u32, masks: &Masks, bytes: &WideBlock) -> Result<(), BankFault>
         requires fits { second < 0x1_0000_0000 / self.old.shape.factor }
         requires count { length masks.now.items ≡ self.old.shape.factor }
-        ensures answer { (log : ℕ) (regs2 : RegisterFile Request2) → IsAnswer (kept self.old (O.seen waiting.now) regs2) (kept self.new (O.seen waiting.now) regs2) log (event.Evict2 second masks.now bytes.now) result }
-        ensures framed { IsBankFramed self.new }
-        ensures shape { self.new.shape ≡ self.old.shape }
+        ensures { (log : ℕ) → IsAnswer self.old self.new log (event.Evict2 second masks.now bytes.now) result }
     {
         if !self.lines2.has(second) {
             return Err(BankFault::Rule(Rule::EvictAbsent));
         }
-        if !self.may_leave::<O>(waiting, second) {
+        if !self.may_leave(second) {
             return Err(BankFault::Rule(Rule::Inclusion));
         }
-        if !self.are_dirty2(second, masks) {
+        if !are_dirty2(self.shape.factor, &self.lines2, second, masks) {
             return Err(BankFault::Rule(Rule::EvictMask));
         }
-        if !self.wide_carries(second, masks, bytes) {
+        if !self.memory.wide_carries(&self.shape, second, masks, bytes) {
             return Err(BankFault::Rule(Rule::EvictData));
         }
         if self.lines2.evict(second, masks).is_err() {

@@ -1,20 +1,15 @@
 //! What the registers of both levels say of the requests that they tell of.
 
-ghost use Rattle.std.specs.Prelude.{◌≡◌, ◌<◌, ◌/◌, ℕ, List};
+ghost use Rattle.std.specs.Prelude.{◌≡◌, ◌<◌, ◌/◌};
 ghost use Rattle.std.specs.List.{list_any};
 ghost use Rattle.lf_rules.specs.Address.{places, sub_block};
 ghost use Rattle.lf_rules.specs.InRange.{IsShape};
-ghost use Rattle.lf_rules.specs.Registers.{Held, holds, has_room, primary_clauses, merge_clauses};
-ghost use Rattle.lf_rules.specs.Run.{first_failing};
-ghost use Rattle.lf_rules.specs.State.{Missed, Asked};
-ghost use Rattle.lf_rules.specs.Table.{OfBank, destinations, destinations2, position, position2, store_bytes};
+ghost use Rattle.lf_rules.specs.Registers.{holds, has_room};
+ghost use Rattle.lf_rules.specs.Table.{destinations, destinations2, position, position2, store_bytes};
 ghost use Rattle.lf_rules.specs.declared.shape.Shape.{Shape};
-ghost use Rattle.lf_mshr.specs.Alike.{AreAlike};
-ghost use Rattle.lf_mshr.specs.RegisterFile.{primary_wants, merge_wants};
-ghost use Rattle.lf_mshr.specs.declared.level_one.Request1.{Request1};
-ghost use Rattle.lf_mshr.specs.declared.level_two.Request2.{Request2};
 ghost use Rattle.lf_replay.specs.Kept.{IsFile1, IsFile2};
-ghost use Rattle.lf_replay.specs.Tells.{Tells, TellsAsked};
+ghost use Rattle.lf_replay.specs.Judged.{OfMissed, OfAsked, primary_held, merge_held, primary_told, merge_told, second_primary_held};
+ghost use Rattle.lf_replay.specs.Judged.{second_merge_held, second_primary_told, second_merge_told};
 
 use lf_mshr::{Organisation, Request1, Request2};
 use lf_rules::{Rule, Shape};
@@ -29,9 +24,8 @@ pub fn primary_rule<O: Organisation<Target = Request1>>(
     register: u16,
 ) -> Option<Rule>
     requires { IsFile1 shape.now (O.seen waiting.now) }
-    ensures held { result ≡ first_failing OfBank (primary_wants (λ (r : Request1). r.position) (λ (r : Request1). r.destination) (O.seen waiting.now) register block target.now) }
-    ensures told { (missed : List (Held Missed)) → AreAlike (Tells shape.now) (O.seen waiting.now).held missed
-        → result ≡ first_failing OfBank (primary_clauses shape.now.level1.organisation (destinations shape.now) missed block target.now.destination register) }
+    ensures held { result ≡ primary_held (O.seen waiting.now) register block target.now }
+    ensures told { OfMissed shape.now (O.seen waiting.now) (λ missed. result ≡ primary_told shape.now missed register block target.now) }
 {
     match O::primary_fault(waiting, register, block, target) {
         Some(fault) => Some(fault.rule()),
@@ -48,9 +42,8 @@ pub fn merge_rule<O: Organisation<Target = Request1>>(
     register: u16,
 ) -> Option<Rule>
     requires { IsFile1 shape.now (O.seen waiting.now) }
-    ensures held { result ≡ first_failing OfBank (merge_wants (λ (r : Request1). r.position) (λ (r : Request1). r.destination) (O.seen waiting.now) register block target.now) }
-    ensures told { (missed : List (Held Missed)) → AreAlike (Tells shape.now) (O.seen waiting.now).held missed
-        → result ≡ first_failing OfBank (merge_clauses shape.now.level1.organisation (destinations shape.now) position missed block target.now.destination target.now.position register) }
+    ensures held { result ≡ merge_held (O.seen waiting.now) register block target.now }
+    ensures told { OfMissed shape.now (O.seen waiting.now) (λ missed. result ≡ merge_told shape.now missed register block target.now) }
 {
     match O::merge_fault(waiting, register, block, target) {
         Some(fault) => Some(fault.rule()),
@@ -66,15 +59,15 @@ pub fn has_room1<O: Organisation<Target = Request1>>(
     target: &Request1,
 ) -> bool
     requires { IsFile1 shape.now (O.seen waiting.now) }
-    ensures { (missed : List (Held Missed)) → AreAlike (Tells shape.now) (O.seen waiting.now).held missed
-        → result ≡ has_room shape.now.level1.organisation (destinations shape.now) position missed block target.now.destination target.now.position }
+    ensures { OfMissed shape.now (O.seen waiting.now) (λ missed.
+        result ≡ has_room shape.now.level1.organisation (destinations shape.now) position missed block target.now.destination target.now.position) }
 {
     O::room(waiting, block, target)
 }
 
 /// The bytes that waiting stores of the block write.
 pub fn store_bytes<O: Organisation<Target = Request1>>(waiting: &O::File, block: u32) -> u64
-    ensures { (shape : Shape) (missed : List (Held Missed)) → AreAlike (Tells shape) (O.seen waiting.now).held missed → result ≡ store_bytes missed block }
+    ensures { (shape : Shape) → OfMissed shape (O.seen waiting.now) (λ missed. result ≡ store_bytes missed block) }
 {
     O::store_bytes(waiting, block).0
 }
@@ -87,7 +80,8 @@ pub fn is_waited_for<O: Organisation<Target = Request1>>(
 ) -> bool
     requires in_range { IsShape shape.now }
     requires fits { second < 0x1_0000_0000 / shape.now.factor }
-    ensures { (s : Shape) (missed : List (Held Missed)) → AreAlike (Tells s) (O.seen waiting.now).held missed → result ≡ list_any (λ place. holds missed (sub_block shape.now second place)) (places shape.now) }
+    ensures { (s : Shape) → OfMissed s (O.seen waiting.now) (λ missed.
+        result ≡ list_any (λ place. holds missed (sub_block shape.now second place)) (places shape.now)) }
 {
     for place in 0..shape.factor {
         if O::holds(waiting, sub_block(shape, second, place)) {
@@ -100,7 +94,7 @@ pub fn is_waited_for<O: Organisation<Target = Request1>>(
 /// Whether a level-two register fetches the second-level block.
 pub fn is_fetched<O: Organisation<Target = Request2>>(regs2: &O::File, second: u32) -> bool
     ensures held { result ≡ holds (O.seen regs2.now).held second }
-    ensures told { (shape : Shape) (fetched : List (Held Asked)) → AreAlike (TellsAsked shape) (O.seen regs2.now).held fetched → result ≡ holds fetched second }
+    ensures told { (shape : Shape) → OfAsked shape (O.seen regs2.now) (λ fetched. result ≡ holds fetched second) }
 {
     O::holds(regs2, second)
 }
@@ -114,9 +108,8 @@ pub fn second_primary_rule<O: Organisation<Target = Request2>>(
     register: u16,
 ) -> Option<Rule>
     requires { IsFile2 shape.now (O.seen regs2.now) }
-    ensures held { result ≡ first_failing OfBank (primary_wants (λ (r : Request2). r.position) (λ (r : Request2). r.destination) (O.seen regs2.now) register second target.now) }
-    ensures told { (fetched : List (Held Asked)) → AreAlike (TellsAsked shape.now) (O.seen regs2.now).held fetched
-        → result ≡ first_failing OfBank (primary_clauses shape.now.level2.organisation (destinations2 shape.now) fetched second target.now.destination register) }
+    ensures held { result ≡ second_primary_held (O.seen regs2.now) register second target.now }
+    ensures told { OfAsked shape.now (O.seen regs2.now) (λ fetched. result ≡ second_primary_told shape.now fetched register second target.now) }
 {
     match O::primary_fault(regs2, register, second, target) {
         Some(fault) => Some(fault.rule()),
@@ -133,9 +126,8 @@ pub fn second_merge_rule<O: Organisation<Target = Request2>>(
     register: u16,
 ) -> Option<Rule>
     requires { IsFile2 shape.now (O.seen regs2.now) }
-    ensures held { result ≡ first_failing OfBank (merge_wants (λ (r : Request2). r.position) (λ (r : Request2). r.destination) (O.seen regs2.now) register second target.now) }
-    ensures told { (fetched : List (Held Asked)) → AreAlike (TellsAsked shape.now) (O.seen regs2.now).held fetched
-        → result ≡ first_failing OfBank (merge_clauses shape.now.level2.organisation (destinations2 shape.now) (position2 shape.now) fetched second target.now.destination target.now.position register) }
+    ensures held { result ≡ second_merge_held (O.seen regs2.now) register second target.now }
+    ensures told { OfAsked shape.now (O.seen regs2.now) (λ fetched. result ≡ second_merge_told shape.now fetched register second target.now) }
 {
     match O::merge_fault(regs2, register, second, target) {
         Some(fault) => Some(fault.rule()),
@@ -151,8 +143,8 @@ pub fn has_room2<O: Organisation<Target = Request2>>(
     target: &Request2,
 ) -> bool
     requires { IsFile2 shape.now (O.seen regs2.now) }
-    ensures { (fetched : List (Held Asked)) → AreAlike (TellsAsked shape.now) (O.seen regs2.now).held fetched
-        → result ≡ has_room shape.now.level2.organisation (destinations2 shape.now) (position2 shape.now) fetched second target.now.destination target.now.position }
+    ensures { OfAsked shape.now (O.seen regs2.now) (λ fetched. let level = shape.now.level2 in
+        result ≡ has_room level.organisation (destinations2 shape.now) (position2 shape.now) fetched second target.now.destination target.now.position) }
 {
     O::room(regs2, second, target)
 }

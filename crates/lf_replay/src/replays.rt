@@ -7,8 +7,8 @@ ghost use Rattle.lf_rules.specs.Outcomes.{IsBankOutcome};
 ghost use Rattle.lf_state.specs.Bytes.{bank_part};
 ghost use Rattle.lf_replay.specs.Step.{IsBankOrder};
 
+use crate::bank::Bank;
 use crate::fault::BankFault;
-use crate::state::BankState;
 use lf_mshr::{Explicit, Implicit, Inverted, Organisation, Request1, Request2};
 use lf_rules::{Memory, OrgShape, Outcome, Record, Shape};
 use std::alloc::Global;
@@ -101,7 +101,7 @@ fn replay_part<O1: Organisation<Target = Request1>, O2: Organisation<Target = Re
     requires records { IsBankOrder shape.now bank records.now }
     ensures { IsBankOutcome shape.now (bank_part shape.now bank (flat_memory memory.now.items)) records.now result }
 {
-    let Ok(mut state) = BankState::<O1, O2>::new(alloc, shape, memory, bank) else {
+    let Ok(mut state) = Bank::<O1, O2>::new(alloc, shape, memory, bank) else {
         return Outcome::NoMemory;
     };
     for item in records {

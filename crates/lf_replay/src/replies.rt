@@ -19,8 +19,10 @@ use lf_state::Ready;
 pub fn add_replies(ready: &mut Vec<Ready>, shape: &Shape, targets: &[(u16, Request1)])
     requires in_range { IsShape shape.now }
     requires room { length ready.old.items + length targets.now ≤ vec_capacity ready.old }
-    requires told { (held : List (Held Request1)) × (waiting : List (Held Missed)) × (block : ℕ) × (AreAlike (Tells shape.now) held waiting) × (targets.now ≡ map released_pair (targets_of held block)) }
-    ensures { (held : List (Held Request1)) (waiting : List (Held Missed)) (block : ℕ) → AreAlike (Tells shape.now) held waiting → targets.now ≡ map released_pair (targets_of held block)
+    requires told { (held : List (Held Request1)) × (waiting : List (Held Missed)) × (block : ℕ)
+        × (AreAlike (Tells shape.now) held waiting) × (targets.now ≡ map released_pair (targets_of held block)) }
+    ensures { (held : List (Held Request1)) (waiting : List (Held Missed)) (block : ℕ)
+        → AreAlike (Tells shape.now) held waiting → targets.now ≡ map released_pair (targets_of held block)
         → ready.new.items ≡ ready.old.items ++ map reply_of (targets_of waiting block) }
 {
     for (_, target) in targets {

@@ -21,8 +21,10 @@ pub fn add_blocks(supplied: &mut Vec<u32>, shape: &Shape, second: u32, targets: 
     requires in_range { IsShape shape.now }
     requires fits { second < 0x1_0000_0000 / shape.now.factor }
     requires room { length supplied.old.items + length targets.now ≤ vec_capacity supplied.old }
-    requires told { (held : List (Held Request2)) × (fetched : List (Held Asked)) × (AreAlike (TellsAsked shape.now) held fetched) × (targets.now ≡ map released_pair (targets_of held second)) }
-    ensures { (held : List (Held Request2)) (fetched : List (Held Asked)) → AreAlike (TellsAsked shape.now) held fetched → AreHome shape.now fetched → targets.now ≡ map released_pair (targets_of held second)
+    requires told { (held : List (Held Request2)) × (fetched : List (Held Asked))
+        × (AreAlike (TellsAsked shape.now) held fetched) × (targets.now ≡ map released_pair (targets_of held second)) }
+    ensures { (held : List (Held Request2)) (fetched : List (Held Asked))
+        → AreAlike (TellsAsked shape.now) held fetched → AreHome shape.now fetched → targets.now ≡ map released_pair (targets_of held second)
         → supplied.new.items ≡ supplied.old.items ++ map block_asked (targets_of fetched second) }
 {
     for (_, target) in targets {

@@ -37,7 +37,8 @@ pub fn missed(shape: &Shape, memory: &FlatMemory, port: u8, request: &Request) -
     requires in_range { IsShape shape.now }
     requires port { port < shape.now.ports }
     requires tag { request.now.tag < shape.now.tags }
-    ensures tells { let missed : model.Missed = record { port = port; request = request.now; value = value_of (flat_of memory.now) request.now } in Tells shape.now result missed }
+    ensures tells { let missed : model.Missed = record { port = port; request = request.now; value = value_of (flat_of memory.now) request.now } in
+        Tells shape.now result missed }
     ensures position { result.position ≡ request.now.offset / 8 }
     ensures destination { result.destination ≡ destination shape.now port request.now.tag }
 {

@@ -33,7 +33,7 @@ loop-item-preserved g c =
     let rs = lent c.args.records.now in
     let lt : c.loop-item.item-index < length rs = omega (arith, lent_len c.args.records.now, c.loop-item-test.true) in
     let is = lent_at c.args.records.now c.loop-item.item-index c.item-item.result c.loop-item-test.true c.item-item.is in (
-      c.in-Ok-apply.ensures.sound,
+      c.in-Ok-apply.ensures.keeps,
       stands_next c.apply.new.self c.args.shape.now memory rs c.loop-item.item-index c.item-item.result.now lt is
           (c.in-Ok-apply.ensures.stands c.args.shape.now memory (take c.loop-item.item-index rs) c.loop-item.invariant.1),
     )

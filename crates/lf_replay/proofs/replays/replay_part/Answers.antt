@@ -7,7 +7,7 @@ use Rattle.lf_replay.proofs.replays.replay_part.Goals as goal
 pub loop-item-preserved : goal.loop-item-preserved
 loop-item-preserved g c =
     let memory = bank_part c.args.shape.now c.args.bank (flat_memory c.args.memory.now.items) in (
-      c.in-Ok-apply.ensures.sound,
+      c.in-Ok-apply.ensures.keeps,
       stands_next c.apply.new.self c.args.shape.now memory c.args.records.now c.loop-item.item-index c.item-item.result c.loop-item-test.true c.item-item.is
           (c.in-Ok-apply.ensures.stands c.args.shape.now memory (take c.loop-item.item-index c.args.records.now) c.loop-item.invariant.1),
     )

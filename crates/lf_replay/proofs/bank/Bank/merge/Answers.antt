@@ -1,40 +1,70 @@
-use Rattle.std.proofs.Common.{◌<◌, sym, subst}
-use Rattle.lf_rules.specs.State.{Request}
-use Rattle.lf_replay.specs.Bytes.{flat_of}
-use Rattle.lf_replay.specs.View.{kept}
-use Rattle.lf_replay.proofs.Heads.{merge_none}
+use Rattle.std.proofs.Common.{◌<◌, [], ◌∷◌, ◌++◌, refl, sym, subst, rules}
+use Rattle.lf_rules.specs.State.{Request, idle}
+use Rattle.lf_rules.specs.Table.{oldest}
+use Rattle.lf_state.specs.Bytes.{flat_of}
+use Rattle.lf_replay.specs.Kept.{queue_at}
+use Rattle.lf_replay.specs.Tells.{miss_of}
+use Rattle.lf_replay.proofs.Heads.{merge_judged}
 use Rattle.lf_replay.proofs.Keeping.{oldest_tagged}
-use Rattle.lf_replay.proofs.Placed.{placed1, same_shape2, same_home}
+use Rattle.lf_replay.proofs.Placed.{placed1}
 use Rattle.lf_replay.proofs.bank.Bank.merge.Goals as goal
 
 pub missed-target-requires-clause-tag : goal.missed-target-requires-clause-tag
 missed-target-requires-clause-tag g c =
     let head = rw c.deref.ensures.value at c.in-Some.ensures in
-    subst (λ (r : Request). r.tag < c.args.self.now.shape.tags) (sym head.1)
-    (oldest_tagged (kept c.args.self.now (g.O.Organisation.seen c.args.waiting.now) c.requires.keeps.0) c.requires.keeps.1 c.args.port c.args.tag head.0)
+    let keeps = rw (← c.self.view_is) at c.requires in
+    subst (λ (r : Request). r.tag < c.self.inside.shape.tags) (sym head.1) (oldest_tagged _ keeps c.args.port c.args.tag head.0)
 
-pub returns-in_default-accept_merge-clause-answer : goal.returns-in_default-accept_merge-clause-answer
-returns-in_default-accept_merge-clause-answer g c = λ log regs2 bank waiting fetched wait.
-    let head = rw c.deref.ensures.value at c.in-Some.ensures in
-    let told = c.in_default-merge_rule.ensures.told waiting wait.level1 in (
-      (merge_none c.args.self.now.shape c.args.self.now.queues.items c.args.port c.args.tag c.in-Some.request.now c.requires.framed.ports head.0 head.1 waiting c.args.register c.block-block.result c.missed-target.result.destination c.missed-target.result.position
-          c.block-block.ensures c.missed-target.ensures.destination c.missed-target.ensures.position told),
-      c.in_default-accept_merge.ensures.err (g.O.Organisation.seen c.args.waiting.now) regs2,
-    )
+pub accept_head-requires : goal.accept_head-requires
+accept_head-requires g c = let head = rw c.deref.ensures.value at c.in-Some.ensures in head.0
 
-pub returns-clause-answer : goal.returns-clause-answer
-returns-clause-answer g c = λ log regs2 bank waiting fetched wait.
+pub returns-in-Some-merge_rule : goal.returns-in-Some-merge_rule
+returns-in-Some-merge_rule g c = rw (← c.self.view_is) (λ log bank waiting fetched wait.
+    let head = rw c.deref.ensures.value at c.in-Some.ensures in (
+      merge_judged c.self.inside.shape c.self.inside.queues.items c.args.port c.args.tag c.in-Some.request.now c.self.invariant.ports head.0 head.1 waiting
+          c.args.register c.block-block.result c.missed-target.result.destination c.missed-target.result.position _ c.block-block.ensures
+          c.missed-target.ensures.destination c.missed-target.ensures.position (c.in-Some-merge_rule.ensures.told waiting wait.level1),
+      refl,
+    ))
+
+pub returns-in_default-accept_head : goal.returns-in_default-accept_head
+returns-in_default-accept_head g c = rw (← c.self.view_is) (λ log bank waiting fetched wait.
+    let head = rw c.deref.ensures.value at c.in-Some.ensures in (
+      merge_judged c.self.inside.shape c.self.inside.queues.items c.args.port c.args.tag c.in-Some.request.now c.self.invariant.ports head.0 head.1 waiting
+          c.args.register c.block-block.result c.missed-target.result.destination c.missed-target.result.position _ c.block-block.ensures
+          c.missed-target.ensures.destination c.missed-target.ensures.position (c.in_default-merge_rule.ensures.told waiting wait.level1),
+      search (rules, c.in_default-accept_head.ensures.kept_memory, c.in_default-accept_head.ensures.kept_queues),
+    ))
+
+pub returns : goal.returns
+returns g c = rw (← c.self.view_is) (λ log bank waiting fetched wait.
     let head = rw c.deref.ensures.value at c.in-Some.ensures in
-    let told = c.in_default-merge_rule.ensures.told waiting wait.level1 in (
-      (merge_none c.args.self.now.shape c.args.self.now.queues.items c.args.port c.args.tag c.in-Some.request.now c.requires.framed.ports head.0 head.1 waiting c.args.register c.block-block.result c.missed-target.result.destination c.missed-target.result.position
-          c.block-block.ensures c.missed-target.ensures.destination c.missed-target.ensures.position told),
+    let request : Request = oldest (queue_at c.self.inside.queues.items c.args.port) in (
+      merge_judged c.self.inside.shape c.self.inside.queues.items c.args.port c.args.tag c.in-Some.request.now c.self.invariant.ports head.0 head.1 waiting
+          c.args.register c.block-block.result c.missed-target.result.destination c.missed-target.result.position _ c.block-block.ensures
+          c.missed-target.ensures.destination c.missed-target.ensures.position (c.in_default-merge_rule.ensures.told waiting wait.level1),
+      refl,
       record {
         registers = record {
-          level1 = placed1 c.args.self.now.shape c.accept_merge.new.self.shape (g.O.Organisation.seen c.args.waiting.now) (g.O.Organisation.seen c.merge.new.file) waiting c.args.register c.block-block.result c.args.port c.missed-target.result
-              (flat_of c.args.self.now.memory) _ _ c.accept_merge.ensures.shape wait.level1 c.in-Ok-merge.ensures.placed c.block-block.ensures head.1 c.missed-target.ensures.tells;
-          level2 = same_shape2 _ _ _ fetched c.accept_merge.ensures.shape wait.level2;
-          home = same_home _ _ fetched c.accept_merge.ensures.shape wait.home;
+          level1 = placed1 c.self.inside.shape (g.O1.Organisation.seen c.self.inside.waiting) (g.O1.Organisation.seen c.merge.new.file) waiting c.args.register
+              c.block-block.result c.args.port c.missed-target.result (flat_of c.self.inside.memory) _ _ wait.level1 c.in-Ok-merge.ensures.placed c.block-block.ensures head.1
+              c.missed-target.ensures.tells;
+          level2 = wait.level2;
+          home = wait.home;
         };
-        rest = c.in-Ok.ensures.ok (g.O.Organisation.seen c.merge.new.file) regs2 waiting fetched log c.args.register;
+        rest = λ i. record {
+          busy = idle;
+          memory = c.in-Ok.ensures.effect i;
+          slice = record {
+            queue = c.in-Ok.ensures.rest i;
+            lines1 = c.self.inside.lines1.lines;
+            lines2 = c.self.inside.lines2.lines;
+            waiting = waiting ++ miss_of c.args.port c.args.register (flat_of c.self.inside.memory) request ∷ [];
+            regs2 = fetched;
+            asked = c.self.inside.asked.items;
+            supplied = c.self.inside.supplied.items;
+            ready = c.self.inside.ready.items;
+          };
+        };
       },
-    )
+    ))

@@ -4,20 +4,20 @@ use Rattle.lf_rules.specs.Address.{sub_block, part_at, block_bytes, agree_off}
 use Rattle.lf_rules.specs.Table.{store_bytes}
 use Rattle.lf_rules.proofs.Masks.{all_range}
 use Rattle.lf_rules.proofs.Masks.{not_all}
-use Rattle.lf_replay.specs.Bytes.{flat_of}
-use Rattle.lf_replay.proofs.bank.Bank.wide_agrees.Goals as goal
+use Rattle.lf_state.specs.Bytes.{flat_of}
+use Rattle.lf_replay.proofs.carried.wide_agrees.Goals as goal
 
 pub returns : goal.returns
-returns g c = λ missed alike. sym (all_range _ 0 c.args.self.now.shape.factor (λ i le lt. c.loop-place.invariant missed alike i (omega (arith, lt, c.loop-place-test.false))))
+returns g c = λ missed alike. sym (all_range _ 0 c.args.shape.now.factor (λ i le lt. c.loop-place.invariant missed alike i (omega (arith, lt, c.loop-place-test.false))))
 
 pub returns-then-not-part_agrees : goal.returns-then-not-part_agrees
 returns-then-not-part_agrees g c = λ missed alike.
-    not_all _ 0 c.args.self.now.shape.factor c.loop-place.place (omega arith) (omega (arith, c.loop-place-test.true)) (sym c.if-not-part_agrees.true ∙ c.part_agrees.ensures missed alike)
+    not_all _ 0 c.args.shape.now.factor c.loop-place.place (omega arith) (omega (arith, c.loop-place-test.true)) (sym c.if-not-part_agrees.true ∙ c.part_agrees.ensures missed alike)
 
 pub loop-place-preserved : goal.loop-place-preserved
 loop-place-preserved g c = λ missed alike k lt.
-    let agree : ℕ → Bool = λ p. agree_off c.args.self.now.shape.block (part_at c.args.self.now.shape.block c.args.bytes.now.items p) (block_bytes c.args.self.now.shape (flat_of c.args.self.now.memory) (sub_block c.args.self.now.shape c.args.second p))
-    (store_bytes missed (sub_block c.args.self.now.shape c.args.second p)) in
+    let agree : ℕ → Bool = λ p. agree_off c.args.shape.now.block (part_at c.args.shape.now.block c.args.bytes.now.items p) (block_bytes c.args.shape.now (flat_of c.args.memory.now) (sub_block c.args.shape.now c.args.second p))
+    (store_bytes missed (sub_block c.args.shape.now c.args.second p)) in
     (elim (cases_eq k c.loop-place.place) [
       | inl same ↦ ap agree same ∙ (sym (c.part_agrees.ensures missed alike) ∙ c.if-not-part_agrees.false)
       | inr apart ↦ c.loop-place.invariant missed alike k (omega (arith, lt, apart))

@@ -1,0 +1,66 @@
+-- What a bank judges of its registers: by what a file holds, and by the requests that the file tells of.
+use Rattle.std.specs.Prelude.{ℕ, Bool, List, Option}
+use Rattle.lf_rules.specs.declared.rule.Rule.{Rule}
+use Rattle.lf_rules.specs.declared.shape.Shape.{Shape}
+use Rattle.lf_rules.specs.Address.{FlatMemory, agree_off, block_bytes, part_at, sub_block}
+use Rattle.lf_rules.specs.Registers.{Held, primary_clauses, merge_clauses}
+use Rattle.lf_rules.specs.Run.{first_failing}
+use Rattle.lf_rules.specs.State.{Missed, Asked}
+use Rattle.lf_rules.specs.Table.{OfBank, destinations, destinations2, position, position2, store_bytes}
+use Rattle.lf_mshr.specs.Alike.{AreAlike}
+use Rattle.lf_mshr.specs.RegisterFile.{RegisterFile, primary_wants, merge_wants}
+use Rattle.lf_mshr.specs.declared.level_one.Request1.{Request1}
+use Rattle.lf_mshr.specs.declared.level_two.Request2.{Request2}
+use Rattle.lf_replay.specs.Tells.{Tells, TellsAsked}
+
+-- ---- level one
+
+-- so it is of any requests that the file tells of
+abbrev pub OfMissed : Shape → RegisterFile Request1 → (List (Held Missed) → Type 0) → Type 0
+OfMissed shape file Judged = (missed : List (Held Missed)) → AreAlike (Tells shape) file.held missed → Judged missed
+
+-- the first rule that a target breaks as a primary miss of a register of the file
+abbrev pub primary_held : RegisterFile Request1 → ℕ → ℕ → Request1 → Option Rule
+primary_held file register block target =
+    first_failing OfBank (primary_wants (λ (r : Request1). r.position) (λ (r : Request1). r.destination) file register block target)
+
+-- the same as a further miss
+abbrev pub merge_held : RegisterFile Request1 → ℕ → ℕ → Request1 → Option Rule
+merge_held file register block target =
+    first_failing OfBank (merge_wants (λ (r : Request1). r.position) (λ (r : Request1). r.destination) file register block target)
+
+-- the rule, by the requests that wait
+abbrev pub primary_told : Shape → List (Held Missed) → ℕ → ℕ → Request1 → Option Rule
+primary_told shape missed register block target =
+    first_failing OfBank (primary_clauses shape.level1.organisation (destinations shape) missed block target.destination register)
+
+abbrev pub merge_told : Shape → List (Held Missed) → ℕ → ℕ → Request1 → Option Rule
+merge_told shape missed register block target =
+    first_failing OfBank (merge_clauses shape.level1.organisation (destinations shape) position missed block target.destination target.position register)
+
+-- whether the part at a place of a second-level block is memory's, off the bytes of waiting stores
+abbrev pub part_agrees : Shape → FlatMemory → List (Held Missed) → ℕ → List ℕ → ℕ → Bool
+part_agrees shape memory missed second bytes place =
+    let block = sub_block shape second place in
+    agree_off shape.block (part_at shape.block bytes place) (block_bytes shape memory block) (store_bytes missed block)
+
+-- ---- level two
+
+abbrev pub OfAsked : Shape → RegisterFile Request2 → (List (Held Asked) → Type 0) → Type 0
+OfAsked shape file Judged = (fetched : List (Held Asked)) → AreAlike (TellsAsked shape) file.held fetched → Judged fetched
+
+abbrev pub second_primary_held : RegisterFile Request2 → ℕ → ℕ → Request2 → Option Rule
+second_primary_held file register second target =
+    first_failing OfBank (primary_wants (λ (r : Request2). r.position) (λ (r : Request2). r.destination) file register second target)
+
+abbrev pub second_merge_held : RegisterFile Request2 → ℕ → ℕ → Request2 → Option Rule
+second_merge_held file register second target =
+    first_failing OfBank (merge_wants (λ (r : Request2). r.position) (λ (r : Request2). r.destination) file register second target)
+
+abbrev pub second_primary_told : Shape → List (Held Asked) → ℕ → ℕ → Request2 → Option Rule
+second_primary_told shape fetched register second target =
+    first_failing OfBank (primary_clauses shape.level2.organisation (destinations2 shape) fetched second target.destination register)
+
+abbrev pub second_merge_told : Shape → List (Held Asked) → ℕ → ℕ → Request2 → Option Rule
+second_merge_told shape fetched register second target =
+    first_failing OfBank (merge_clauses shape.level2.organisation (destinations2 shape) (position2 shape) fetched second target.destination target.position register)

@@ -1,0 +1,59 @@
+//! What a bank finds in its small lists and in its lines.
+
+ghost use Rattle.std.specs.Prelude.{◌≡◌};
+ghost use Rattle.lf_rules.specs.Address.{place_of};
+ghost use Rattle.lf_rules.specs.InRange.{IsShape};
+ghost use Rattle.lf_rules.specs.Lines.{dirty_mask, dirty_masks, same_masks};
+ghost use Rattle.lf_rules.specs.Table.{is_asked, is_among, asked_register};
+
+use lf_levels::{Lines, One, Two};
+use lf_mshr::Request2;
+use lf_rules::{Masks, Shape, same_masks};
+use lf_state::{asked_register, place_of};
+
+pub fn is_asked(asked: &[(u32, u16)], block: u32) -> bool
+    ensures { result ≡ is_asked asked.now block }
+{
+    asked.iter().any(|a| a.0 == block)
+}
+
+pub fn is_among(blocks: &[u32], block: u32) -> bool
+    ensures { result ≡ is_among blocks.now block }
+{
+    blocks.iter().any(|b| *b == block)
+}
+
+/// The dirty mask of the block's line in level one, and 0 where there is none.
+pub fn dirty1(lines: &Lines<One>, block: u32) -> u64
+    ensures { result ≡ dirty_mask lines.now.lines block }
+{
+    match lines.dirty(block) {
+        Some(mask) => mask.0,
+        None => 0,
+    }
+}
+
+/// Whether these are the dirty masks of the second-level block's line; where there is none, it has
+/// none.
+pub fn are_dirty2(factor: u32, lines: &Lines<Two>, second: u32, masks: &Masks) -> bool
+    ensures { result ≡ same_masks factor masks.now (dirty_masks lines.now.lines second) }
+{
+    let none = Masks::new();
+    let dirty = match lines.dirty(second) {
+        Some(dirty) => dirty,
+        None => &none,
+    };
+    same_masks(factor, masks, dirty)
+}
+
+/// What a level-two register keeps of a block that level one asked for.
+pub fn fetch(shape: &Shape, asked: &[(u32, u16)], block: u32) -> Request2
+    requires { IsShape shape.now }
+    ensures position { result.position ≡ place_of shape.now block }
+    ensures destination { result.destination ≡ asked_register asked.now block }
+{
+    Request2 {
+        position: place_of(shape, block) as u8,
+        destination: asked_register(asked, block),
+    }
+}
