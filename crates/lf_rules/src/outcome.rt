@@ -1,10 +1,29 @@
 //! What a part of the check answers.
 
+ghost use Rattle.std.specs.Prelude.{◌≡◌};
+
 use crate::rule::Rule;
+use std::alloc::{AllocError, AllocFailed};
 
 /// A growth was refused.
 #[derive(Clone, Copy, Debug, PartialEq, Eq)]
 pub struct NoMemory;
+
+impl From<AllocError> for NoMemory {
+    ghost from_gives = { λ _ fault. fault ≡ record {} };
+
+    fn from(_: AllocError) -> NoMemory {
+        NoMemory
+    }
+}
+
+impl<T: Drop> From<AllocFailed<T>> for NoMemory {
+    ghost from_gives = { λ _ fault. fault ≡ record {} };
+
+    fn from(_: AllocFailed<T>) -> NoMemory {
+        NoMemory
+    }
+}
 
 /// What the replay of one port or of one bank found.
 #[derive(Clone, Copy, Debug, PartialEq, Eq)]
