@@ -11,55 +11,21 @@ use std::marker::Model;
 /// The bytes of an event that carries few.
 type FewBytes = ArrayVec<u8, 8>;
 
-/// An event that carries at most eight bytes. It takes far less room than an `Event`, which has room
-/// for a second-level block.
+/// An event that carries at most eight bytes, with its fields in the order of `Event`. It takes far
+/// less room than an `Event`, which has room for a second-level block.
 #[derive(Drop)]
 enum SmallEvent {
-    Issue {
-        op: Op,
-        tag: u8,
-        size: u8,
-        address: u64,
-        bytes: FewBytes,
-    },
-    Reply {
-        tag: u8,
-        size: u8,
-        bytes: FewBytes,
-    },
-    Hit {
-        port: u8,
-        tag: u8,
-    },
-    Primary {
-        port: u8,
-        tag: u8,
-        register: u16,
-    },
-    Merge {
-        port: u8,
-        tag: u8,
-        register: u16,
-    },
-    Stall {
-        port: u8,
-        tag: u8,
-    },
-    SecondHit {
-        block: u32,
-    },
-    SecondPrimary {
-        block: u32,
-        register: u16,
-    },
-    SecondStall {
-        block: u32,
-    },
+    Issue(Op, u8, u8, u64, FewBytes),
+    Reply(u8, u8, FewBytes),
+    Hit(u8, u8),
+    Primary(u8, u8, u16),
+    Merge(u8, u8, u16),
+    Stall(u8, u8),
+    SecondHit(u32),
+    SecondPrimary(u32, u16),
+    SecondStall(u32),
     Fence,
-    SecondMerge {
-        block: u32,
-        register: u16,
-    },
+    SecondMerge(u32, u16),
 }
 
 /// A record whose event carries at most eight bytes.
@@ -125,55 +91,27 @@ impl SmallEvent {
                 size,
                 address,
                 bytes,
-            } => SmallEvent::Issue {
-                op: *op,
-                tag: *tag,
-                size: *size,
-                address: *address,
-                bytes: few_of(bytes)?,
-            },
-            Event::Reply { tag, size, bytes } => SmallEvent::Reply {
-                tag: *tag,
-                size: *size,
-                bytes: few_of(bytes)?,
-            },
-            Event::Hit { port, tag } => SmallEvent::Hit {
-                port: *port,
-                tag: *tag,
-            },
+            } => SmallEvent::Issue(*op, *tag, *size, *address, few_of(bytes)?),
+            Event::Reply { tag, size, bytes } => SmallEvent::Reply(*tag, *size, few_of(bytes)?),
+            Event::Hit { port, tag } => SmallEvent::Hit(*port, *tag),
             Event::Primary {
                 port,
                 tag,
                 register,
-            } => SmallEvent::Primary {
-                port: *port,
-                tag: *tag,
-                register: *register,
-            },
+            } => SmallEvent::Primary(*port, *tag, *register),
             Event::Merge {
                 port,
                 tag,
                 register,
-            } => SmallEvent::Merge {
-                port: *port,
-                tag: *tag,
-                register: *register,
-            },
-            Event::Stall { port, tag } => SmallEvent::Stall {
-                port: *port,
-                tag: *tag,
-            },
-            Event::SecondHit { block } => SmallEvent::SecondHit { block: *block },
-            Event::SecondPrimary { block, register } => SmallEvent::SecondPrimary {
-                block: *block,
-                register: *register,
-            },
-            Event::SecondStall { block } => SmallEvent::SecondStall { block: *block },
+            } => SmallEvent::Merge(*port, *tag, *register),
+            Event::Stall { port, tag } => SmallEvent::Stall(*port, *tag),
+            Event::SecondHit { block } => SmallEvent::SecondHit(*block),
+            Event::SecondPrimary { block, register } => {
+                SmallEvent::SecondPrimary(*block, *register)
+            }
+            Event::SecondStall { block } => SmallEvent::SecondStall(*block),
             Event::Fence => SmallEvent::Fence,
-            Event::SecondMerge { block, register } => SmallEvent::SecondMerge {
-                block: *block,
-                register: *register,
-            },
+            Event::SecondMerge { block, register } => SmallEvent::SecondMerge(*block, *register),
             Event::Fill1 { .. }
             | Event::Evict1 { .. }
             | Event::Fill2 { .. }
@@ -186,52 +124,35 @@ impl SmallEvent {
         ensures { result ≡ event_of self }
     {
         match self {
-            SmallEvent::Issue {
+            SmallEvent::Issue(op, tag, size, address, few) => Event::Issue {
                 op,
                 tag,
                 size,
                 address,
-                bytes,
-            } => Event::Issue {
-                op,
+                bytes: block_of(&few),
+            },
+            SmallEvent::Reply(tag, size, few) => Event::Reply {
                 tag,
                 size,
-                address,
-                bytes: block_of(&bytes),
+                bytes: block_of(&few),
             },
-            SmallEvent::Reply { tag, size, bytes } => Event::Reply {
-                tag,
-                size,
-                bytes: block_of(&bytes),
-            },
-            SmallEvent::Hit { port, tag } => Event::Hit { port, tag },
-            SmallEvent::Primary {
-                port,
-                tag,
-                register,
-            } => Event::Primary {
+            SmallEvent::Hit(port, tag) => Event::Hit { port, tag },
+            SmallEvent::Primary(port, tag, register) => Event::Primary {
                 port,
                 tag,
                 register,
             },
-            SmallEvent::Merge {
-                port,
-                tag,
-                register,
-            } => Event::Merge {
+            SmallEvent::Merge(port, tag, register) => Event::Merge {
                 port,
                 tag,
                 register,
             },
-            SmallEvent::Stall { port, tag } => Event::Stall { port, tag },
-            SmallEvent::SecondHit { block } => Event::SecondHit { block },
-            SmallEvent::SecondPrimary { block, register } => Event::SecondPrimary {
-                block,
-                register,
-            },
-            SmallEvent::SecondStall { block } => Event::SecondStall { block },
+            SmallEvent::Stall(port, tag) => Event::Stall { port, tag },
+            SmallEvent::SecondHit(block) => Event::SecondHit { block },
+            SmallEvent::SecondPrimary(block, register) => Event::SecondPrimary { block, register },
+            SmallEvent::SecondStall(block) => Event::SecondStall { block },
             SmallEvent::Fence => Event::Fence,
-            SmallEvent::SecondMerge { block, register } => Event::SecondMerge { block, register },
+            SmallEvent::SecondMerge(block, register) => Event::SecondMerge { block, register },
         }
     }
 }
@@ -272,12 +193,9 @@ impl Kept {
                 form: Form::Small(small),
             });
         }
-        match Box::new(alloc, item) {
-            Ok(wide) => Ok(Kept {
-                form: Form::Wide(wide),
-            }),
-            Err(_) => Err(NoMemory),
-        }
+        Ok(Kept {
+            form: Form::Wide(Box::new(alloc, item)?),
+        })
     }
 
     /// The record's number.

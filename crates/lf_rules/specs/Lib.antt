@@ -17,3 +17,4 @@ pub mod InRange
 pub mod Numbers
 pub mod Outcomes
 pub mod CommonOrder
+pub mod Text

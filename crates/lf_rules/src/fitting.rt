@@ -1,19 +1,21 @@
 //! Which records a trace may have.
 
-ghost use Rattle.std.specs.Prelude.{◌≡◌, ℕ, ◌+◌, ◌<◌, ◌≤◌, ◌↔◌, ◌^◌, IsTrue, slice_index, slice_index_or, length, true};
+ghost use Rattle.std.specs.Prelude.{◌≡◌, ℕ, ◌+◌, ◌<◌, ◌≤◌, ◌↔◌, ◌^◌, IsTrue, nat_lt, slice_index, slice_index_or, length, true};
 ghost use Rattle.lf_rules.specs.Address.{clean_mask};
-ghost use Rattle.lf_rules.specs.Fits.{is_size, is_block_size, is_factor, is_of_bank, masks_len, FitsSecond, FitsWideEvict, issue_len, IsData, FitsBank, FitsIssue, FitsReply, FitsRequest, FitsBlock, FitsEvict, FitsEvent, FitsLog, FitsRecord, is_of_level_two};
+ghost use Rattle.lf_rules.specs.Fits.{is_size, is_block_size, is_factor, is_of_bank, masks_len, FitsSecond, FitsWideEvict, IsData, FitsBank, FitsIssue, FitsReply, FitsRequest, FitsBlock, FitsEvict, FitsEvent, FitsLog, FitsRecord, is_of_level_two};
 
 use crate::event::{Block, Event, Masks, NO_BANK, Op, Record, WideBlock};
 use crate::mask::Mask;
 
-fn is_size(n: u8) -> bool
+/// Whether a request can have so many bytes.
+pub fn is_size(n: u8) -> bool
     ensures { result ≡ is_size n }
 {
     n == 1 || n == 2 || n == 4 || n == 8
 }
 
-fn is_of_bank(banks: u32, bank: u32, second: u64) -> bool
+/// Whether the second-level block is one of the bank's.
+pub fn is_of_bank(banks: u32, bank: u32, second: u64) -> bool
     requires { 0 < banks }
     ensures { result ≡ is_of_bank banks bank second }
 {
@@ -79,8 +81,9 @@ fn fits_issue(
         && is_data(len, bytes)
 }
 
-fn mask_fits(size: u32, mask: u64) -> bool
-    ensures { IsTrue result ↔ (mask < 2 ^ size) }
+/// Whether the mask has no bit beyond a block of so many bytes.
+pub fn mask_fits(size: u32, mask: u64) -> bool
+    ensures { result ≡ nat_lt mask (2 ^ size) }
 {
     size >= 64 || mask < 1 << size
 }

@@ -15,7 +15,7 @@ mod rule;
 mod shape;
 
 pub use event::{Block, Event, Logs, Masks, Memory, NO_BANK, Op, Record, WideBlock};
-pub use fitting::fits;
+pub use fitting::{fits, is_of_bank, is_size, mask_fits};
 pub use laws::{
     collected_logs_are_free, copies_are_flat, gaps_admit_none, interleavings_are_numbered,
     numbers_are_whole, orders_interleave, outcomes_are_one, rings_admit_none, runs_are_right,

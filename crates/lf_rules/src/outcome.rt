@@ -1,5 +1,7 @@
 //! What a part of the check answers.
 
+ghost use Rattle.std.specs.Prelude.{◌≡◌};
+
 use crate::rule::Rule;
 use std::alloc::{AllocError, AllocFailed};
 
@@ -8,6 +10,8 @@ use std::alloc::{AllocError, AllocFailed};
 pub struct NoMemory;
 
 impl From<AllocError> for NoMemory {
+    ghost from_gives = { λ _ fault. fault ≡ record {} };
+
     fn from(_: AllocError) -> NoMemory {
         NoMemory
     }
@@ -15,6 +19,8 @@ impl From<AllocError> for NoMemory {
 
 /// The value that was not stored is dropped.
 impl<T: Drop> From<AllocFailed<T>> for NoMemory {
+    ghost from_gives = { λ _ fault. fault ≡ record {} };
+
     fn from(_: AllocFailed<T>) -> NoMemory {
         NoMemory
     }

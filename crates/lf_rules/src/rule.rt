@@ -1,5 +1,10 @@
 //! The rules.
 
+ghost use Rattle.std.specs.Prelude.{◌≡◌, Some};
+ghost use Rattle.lf_rules.specs.Text.{rule_text};
+
+use std::fmt;
+
 /// The clauses that a record can break, by name.
 #[derive(Clone, Copy, Debug, PartialEq, Eq)]
 pub enum Rule {
@@ -59,4 +64,52 @@ pub enum Rule {
     Inclusion,
     /// No tag of the port is busy.
     FenceBusy,
+}
+
+impl Rule {
+    /// The name that texts and tables call the rule by.
+    fn name(self) -> &'static str
+        ensures { result.now ≡ rule_text self }
+    {
+        match self {
+            Rule::TagRange => "TagRange",
+            Rule::TagBusy => "TagBusy",
+            Rule::NotOutstanding => "NotOutstanding",
+            Rule::NotReady => "NotReady",
+            Rule::ReplySize => "ReplySize",
+            Rule::ReplyData => "ReplyData",
+            Rule::NotHead => "NotHead",
+            Rule::NotPresent => "NotPresent",
+            Rule::Present => "Present",
+            Rule::PrimaryInFlight => "PrimaryInFlight",
+            Rule::NotInFlight => "NotInFlight",
+            Rule::RegisterRange => "RegisterRange",
+            Rule::WrongRegister => "WrongRegister",
+            Rule::RegisterBusy => "RegisterBusy",
+            Rule::MergeFull => "MergeFull",
+            Rule::NeedlessStall => "NeedlessStall",
+            Rule::NotSupplied => "NotSupplied",
+            Rule::SetFull => "SetFull",
+            Rule::FillData => "FillData",
+            Rule::EvictAbsent => "EvictAbsent",
+            Rule::EvictMask => "EvictMask",
+            Rule::EvictData => "EvictData",
+            Rule::NotAsked => "NotAsked",
+            Rule::SecondAbsent => "SecondAbsent",
+            Rule::SecondPresent => "SecondPresent",
+            Rule::NotFetched => "NotFetched",
+            Rule::Inclusion => "Inclusion",
+            Rule::FenceBusy => "FenceBusy",
+        }
+    }
+}
+
+/// The rule's name.
+impl fmt::Display for Rule {
+    ghost output = { λ rule. Some (rule_text rule) };
+
+    fn fmt<W: fmt::Write>(&self, f: &mut fmt::Formatter<W>) -> fmt::Result {
+        let name = self.name();
+        write!(f, "{name}")
+    }
 }

@@ -1,46 +1,11 @@
 //! The texts of faults and refusals.
 
 ghost use Rattle.std.specs.Prelude.{◌≡◌, Some};
-ghost use Rattle.lf_verdict.specs.Text.{rule_text, field_text, logs_text, fault_text, refusal_text};
+ghost use Rattle.lf_verdict.specs.Text.{field_text, logs_text, fault_text, refusal_text};
 
 use crate::answer::{Fault, HeaderField, Refusal};
-use lf_rules::{Knot, Rule};
+use lf_rules::Knot;
 use std::fmt;
-
-fn name_of_rule(rule: Rule) -> &'static str
-    ensures { result.now ≡ rule_text rule }
-{
-    match rule {
-        Rule::TagRange => "TagRange",
-        Rule::TagBusy => "TagBusy",
-        Rule::NotOutstanding => "NotOutstanding",
-        Rule::NotReady => "NotReady",
-        Rule::ReplySize => "ReplySize",
-        Rule::ReplyData => "ReplyData",
-        Rule::NotHead => "NotHead",
-        Rule::NotPresent => "NotPresent",
-        Rule::Present => "Present",
-        Rule::PrimaryInFlight => "PrimaryInFlight",
-        Rule::NotInFlight => "NotInFlight",
-        Rule::RegisterRange => "RegisterRange",
-        Rule::WrongRegister => "WrongRegister",
-        Rule::RegisterBusy => "RegisterBusy",
-        Rule::MergeFull => "MergeFull",
-        Rule::NeedlessStall => "NeedlessStall",
-        Rule::NotSupplied => "NotSupplied",
-        Rule::SetFull => "SetFull",
-        Rule::FillData => "FillData",
-        Rule::EvictAbsent => "EvictAbsent",
-        Rule::EvictMask => "EvictMask",
-        Rule::EvictData => "EvictData",
-        Rule::NotAsked => "NotAsked",
-        Rule::SecondAbsent => "SecondAbsent",
-        Rule::SecondPresent => "SecondPresent",
-        Rule::NotFetched => "NotFetched",
-        Rule::Inclusion => "Inclusion",
-        Rule::FenceBusy => "FenceBusy",
-    }
-}
 
 impl HeaderField {
     fn name(self) -> &'static str
@@ -94,13 +59,9 @@ impl fmt::Display for Fault {
         match self {
             Fault::Missing { bank, k } => write!(f, "numbering bank={bank} missing={k}"),
             Fault::Double { bank, k } => write!(f, "numbering bank={bank} double={k}"),
-            Fault::Port { port, at, rule } => {
-                let name = name_of_rule(*rule);
-                write!(f, "port={port} event={at} rule={name}")
-            }
+            Fault::Port { port, at, rule } => write!(f, "port={port} event={at} rule={rule}"),
             Fault::Bank { bank, number, rule } => {
-                let name = name_of_rule(*rule);
-                write!(f, "bank={bank} number={number} rule={name}")
+                write!(f, "bank={bank} number={number} rule={rule}")
             }
             Fault::Cycle(ring) => {
                 let logs = RingLogs(ring.as_slice());
