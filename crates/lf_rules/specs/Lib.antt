@@ -18,3 +18,4 @@ pub mod Numbers
 pub mod Outcomes
 pub mod CommonOrder
 pub mod Text
+pub mod Lists
