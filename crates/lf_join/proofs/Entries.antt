@@ -12,18 +12,18 @@ use Rattle.lf_rules.specs.Address.{no_bank}
 use Rattle.lf_rules.specs.Order.{log_at}
 use Rattle.lf_rules.specs.declared.ring.Knot.{Knot}
 use Rattle.lf_rules.specs.Ring.{entry_at, IsWait}
-use Rattle.lf_join.specs.Join.{lists_of}
+use Rattle.lf_join.specs.Join.{skeleton_lists}
 
 pub entry_at-is : (xs : List (ℕ × ℕ)) (n : ℕ) → entry_at xs n ≡ slice_get xs n
 entry_at-is [] n = refl
 entry_at-is (x ∷ xs) zero = refl
 entry_at-is (x ∷ xs) (suc n) = entry_at-is xs n
 
-pub log_at-lists : (skeletons : List (Vec (ℕ × ℕ))) (log : ℕ) (d : Vec (ℕ × ℕ)) → log < length skeletons → log_at (lists_of skeletons) log ≡ (get_or skeletons log d).items
+pub log_at-lists : (skeletons : List (Vec (ℕ × ℕ))) (log : ℕ) (d : Vec (ℕ × ℕ)) → log < length skeletons → log_at (skeleton_lists skeletons) log ≡ (get_or skeletons log d).items
 log_at-lists skeletons log d within = get_or-map (λ skeleton. skeleton.items) skeletons log d [] within
 
-pub log_at-past : (skeletons : List (Vec (ℕ × ℕ))) (log : ℕ) → length skeletons ≤ log → log_at (lists_of skeletons) log ≡ []
-log_at-past skeletons log past = get_or_past (lists_of skeletons) log [] (let h : length (lists_of skeletons) ≡ length skeletons = length-map skeletons (λ skeleton. skeleton.items) in omega arith)
+pub log_at-past : (skeletons : List (Vec (ℕ × ℕ))) (log : ℕ) → length skeletons ≤ log → log_at (skeleton_lists skeletons) log ≡ []
+log_at-past skeletons log past = get_or_past (skeleton_lists skeletons) log [] (let h : length (skeleton_lists skeletons) ≡ length skeletons = length-map skeletons (λ skeleton. skeleton.items) in omega arith)
 
 pub entry_at-get_or : (xs : List (ℕ × ℕ)) (n : ℕ) (x : ℕ × ℕ) → n < length xs → x ≡ get_or xs n x → entry_at xs n ≡ Some x
 entry_at-get_or xs n x within is = entry_at-is xs n ∙ slice_get-get_or xs n x within ∙ ap Some (sym is)

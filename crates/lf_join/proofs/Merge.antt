@@ -8,7 +8,7 @@ use Rattle.std.proofs.lemmas.List.Elements.{filter-append}
 use Rattle.lf_rules.specs.Address.{no_bank}
 use Rattle.lf_rules.specs.Order.{log_at, after_next, entries_of, EntriesKeepNumbers}
 use Rattle.lf_rules.specs.Ring.{entry_at}
-use Rattle.lf_join.specs.Join.{lists_of, TakesUpTo, next_number}
+use Rattle.lf_join.specs.Join.{skeleton_lists, TakesUpTo, next_number}
 use Rattle.std.specs.Global.{Vec}
 use Rattle.lf_join.proofs.Entries.{log_at-past}
 use Rattle.lf_join.proofs.Due.{due_carries, due_from}
@@ -261,8 +261,8 @@ is_shorter skeletons order places next log x at is =
     omega (arith, left, all, len, one)
 
 -- A log that is not there cannot go.
-pub past_all : (skeletons : List (Vec (ℕ × ℕ))) (places next : List ℕ) → ((log : ℕ) → log < length skeletons → can_go (lists_of skeletons) places next log ≡ false)
-    → (log : ℕ) → can_go (lists_of skeletons) places next log ≡ false
+pub past_all : (skeletons : List (Vec (ℕ × ℕ))) (places next : List ℕ) → ((log : ℕ) → log < length skeletons → can_go (skeleton_lists skeletons) places next log ≡ false)
+    → (log : ℕ) → can_go (skeleton_lists skeletons) places next log ≡ false
 past_all skeletons places next within log = elim (cases_lt log (length skeletons)) [
   | inl lt ↦ within log lt
   | inr past ↦ ap (λ (xs : List (ℕ × ℕ)). carries_next next (entry_at xs (slice_index places log))) (log_at-past skeletons log past)

@@ -1,7 +1,7 @@
 -- The roster of a merge, step by step.
 use Rattle.std.proofs.Common.{◌≡◌, ◌≢◌, ℕ, zero, suc, ◌+◌, ◌%◌, ◌<◌, ◌≤◌, Bool, true, false, cond, not, ltb, ◌==◌, ◌&&◌, ◌||◌, inl, inr, ◌⊎◌, List, [], length, replicate, get_or, set, Option, Some, None, slice_index, refl, sym, ap, ◌∙◌, subst, eqb-true, eq-eqb, arith}
 use Rattle.std.proofs.lemmas.Bool.{cases_Bool, cases_eq, cases_lt, cond-true, cond-false, ne_eqb}
-use Rattle.std.proofs.lemmas.List.{get_or-set_same, get_or-set_other, length-set, length-replicate}
+use Rattle.std.proofs.lemmas.List.{get_or-set_same, get_or-set_other, length-replicate}
 use Rattle.lf_rules.specs.Address.{no_bank}
 use Rattle.lf_rules.specs.Order.{log_at}
 use Rattle.lf_rules.specs.Ring.{entry_at}
@@ -10,177 +10,10 @@ use Rattle.lf_join.specs.declared.roster.Roster.{Roster}
 use Rattle.lf_join.specs.LogSets.{has, IsEmpty, IsLowest, Changes}
 use Rattle.lf_join.specs.Heads.{next_entry, carries_next, is_due, can_go, Advances}
 use Rattle.lf_join.proofs.Due.{of_bank, of_none, due_carries}
-use Rattle.lf_join.specs.Standings.{Standing, Nowhere, Goes, Waits, standing_of, is_going, is_waiting, waiting_at, IsKept, IsSized, Stands, OthersStay, once_called, IsCalled, AllStand, IsItsOwn}
+use Rattle.lf_join.specs.Standings.{Standing, Nowhere, Goes, Waits, standing_of, is_going, is_waiting, IsKept, Stands, OthersStay, once_called, IsCalled, AllStand, IsItsOwn}
 
 abbrev none : LogSet
 none = record { 0 = 0 }
-
-abbrev rows_with : List (List LogSet) → ℕ → ℕ → LogSet → List (List LogSet)
-rows_with rows bank place v = set rows bank (set (get_or rows bank []) place v)
-
-abbrev with_set : Roster → ℕ → ℕ → LogSet → Roster
-with_set roster bank place v = record { ready = roster.ready; waiting = rows_with roster.waiting bank place v; numbers = roster.numbers }
-
-abbrev with_ready : Roster → LogSet → Roster
-with_ready roster ready = record { ready = ready; waiting = roster.waiting; numbers = roster.numbers }
-
-abbrev with_number : Roster → ℕ → ℕ → Roster
-with_number roster log number = record { ready = roster.ready; waiting = roster.waiting; numbers = set roster.numbers log number }
-
--- ---- one set of a bank's changes
-
-module _ (roster : Roster) (sized : IsSized roster) (bank place : ℕ) (v : LogSet) (in_bank : bank < 256) (in_sets : place < 32) where
-  row_is : get_or (rows_with roster.waiting bank place v) bank [] ≡ set (get_or roster.waiting bank []) place v
-  row_is = get_or-set_same roster.waiting bank (set (get_or roster.waiting bank []) place v) [] (let len = sized.banks in omega arith)
-
-  other_row : (other : ℕ) → other ≢ bank → get_or (rows_with roster.waiting bank place v) other [] ≡ get_or roster.waiting other []
-  other_row other apart = get_or-set_other roster.waiting bank other (set (get_or roster.waiting bank []) place v) [] apart
-
-  same_set : waiting_at (with_set roster bank place v) bank place ≡ v
-  same_set = ap (λ (row : List LogSet). get_or row place none) row_is ∙ get_or-set_same (get_or roster.waiting bank []) place v none (let len = sized.sets bank in_bank in omega arith)
-
-  other_set : (b s : ℕ) → (b ≢ bank) ⊎ (s ≢ place) → waiting_at (with_set roster bank place v) b s ≡ waiting_at roster b s
-  other_set b s apart = elim (cases_eq b bank) [
-    | inr other ↦ ap (λ (row : List LogSet). get_or row s none) (other_row b other)
-    | inl same ↦ (elim apart [
-      | inl other ↦ absurd (other same)
-      | inr other ↦
-          subst (λ k. waiting_at (with_set roster bank place v) k s ≡ waiting_at roster k s) (sym same)
-          (ap (λ (row : List LogSet). get_or row s none) row_is ∙ get_or-set_other (get_or roster.waiting bank []) place s v none other)
-    ])
-  ]
-
-  still_sized : IsSized (with_set roster bank place v)
-  still_sized = record {
-    banks = length-set roster.waiting bank (set (get_or roster.waiting bank []) place v) ∙ sized.banks;
-    sets = λ b lt. elim (cases_eq b bank) [
-      | inl same ↦ subst (λ k. length (get_or (rows_with roster.waiting bank place v) k []) ≡ 32) (sym same)
-          (ap length row_is ∙ length-set (get_or roster.waiting bank []) place v ∙ sized.sets bank in_bank)
-      | inr other ↦ ap length (other_row b other) ∙ sized.sets b lt
-    ];
-    numbers = sized.numbers;
-  }
-
--- the same set, or another
-which : (b s bank place : ℕ) → ((b ≡ bank) × (s ≡ place)) ⊎ ((b ≢ bank) ⊎ (s ≢ place))
-which b s bank place = elim (cases_eq b bank) [
-  | inr other ↦ inr (inl other)
-  | inl same ↦ (elim (cases_eq s place) [ inr other ↦ inr (inr other) | inl same' ↦ inl (same, same') ])
-]
-
-waits_here : (bank number : ℕ) → is_waiting (Waits bank number) bank (number % 32) ≡ true
-waits_here bank number = go (bank == bank) (number % 32 == number % 32) (eq-eqb bank bank refl) (eq-eqb (number % 32) (number % 32) refl)
-  where
-    go : (p q : Bool) → p ≡ true → q ≡ true → (p && q) ≡ true
-    go true q is is' = is'
-    go false q is is' = is
-
-waits_not_there : (bank number b s : ℕ) → (b ≢ bank) ⊎ (s ≢ number % 32) → is_waiting (Waits bank number) b s ≡ false
-waits_not_there bank number b s apart = elim apart [
-  | inl other ↦ first (bank == b) (number % 32 == s) (ne_eqb bank b (λ e. other (sym e)))
-  | inr other ↦ second (bank == b) (number % 32 == s) (ne_eqb (number % 32) s (λ e. other (sym e)))
-]
-  where
-    first : (p q : Bool) → p ≡ false → (p && q) ≡ false
-    first true q is = cc
-    first false q is = refl
-
-    second : (p q : Bool) → q ≡ false → (p && q) ≡ false
-    second true q is = is
-    second false q is = refl
-
--- ---- a log's number is kept
-
-numbered : (roster : Roster) (log number : ℕ) → IsSized roster → IsSized (with_number roster log number)
-numbered roster log number sized = record { banks = sized.banks; sets = sized.sets; numbers = length-set roster.numbers log number ∙ sized.numbers }
-
-others_keep : (roster : Roster) (log number : ℕ) → OthersStay roster (with_number roster log number) log
-others_keep roster log number other standing lt apart stands = record {
-  sized = numbered roster log number stands.sized;
-  going = stands.going;
-  waiting = stands.waiting;
-  kept = subst (IsKept standing) (sym (get_or-set_other roster.numbers log other number 0 apart)) stands.kept;
-}
-
--- ---- a log comes to a set, or leaves it
-
-module _ (roster : Roster) (log bank number : ℕ) (v : LogSet) (now : Bool) (in_bank : bank < 256) (in_sets : number % 32 < 32)
-    (change : Changes (waiting_at roster bank (number % 32)) v log now) where
-  now_at : (before after : Standing) → is_waiting after bank (number % 32) ≡ now
-      → ((b s : ℕ) → (b ≢ bank) ⊎ (s ≢ number % 32) → is_waiting before b s ≡ is_waiting after b s) → Stands roster log before
-      → (b s : ℕ) → b < 256 → s < 32 → has (waiting_at (with_set roster bank (number % 32) v) b s) log ≡ is_waiting after b s
-  now_at before after here elsewhere stands b s lt lt' = elim (which b s bank (number % 32)) [
-    | inl same ↦
-        subst (λ k. has (waiting_at (with_set roster bank (number % 32) v) k s) log ≡ is_waiting after k s) (sym same.0)
-        (subst (λ k. has (waiting_at (with_set roster bank (number % 32) v) bank k) log ≡ is_waiting after bank k) (sym same.1)
-        (ap (λ (w : LogSet). has w log) (same_set roster stands.sized bank (number % 32) v in_bank in_sets) ∙ change.this ∙ sym here))
-    | inr apart ↦
-        ap (λ (w : LogSet). has w log) (other_set roster stands.sized bank (number % 32) v in_bank in_sets b s apart) ∙ stands.waiting b s lt lt' ∙ elsewhere b s apart
-  ]
-
-  others_at : OthersStay roster (with_set roster bank (number % 32) v) log
-  others_at other standing lt apart stands = record {
-    sized = still_sized roster stands.sized bank (number % 32) v in_bank in_sets;
-    going = stands.going;
-    waiting = λ b s lt' lt''. elim (which b s bank (number % 32)) [
-      | inl same ↦
-          subst (λ k. has (waiting_at (with_set roster bank (number % 32) v) k s) other ≡ is_waiting standing k s) (sym same.0)
-          (subst (λ k. has (waiting_at (with_set roster bank (number % 32) v) bank k) other ≡ is_waiting standing bank k) (sym same.1)
-          (ap (λ (w : LogSet). has w other) (same_set roster stands.sized bank (number % 32) v in_bank in_sets) ∙ change.others other lt apart ∙ stands.waiting bank (number % 32) in_bank in_sets))
-      | inr away ↦ ap (λ (w : LogSet). has w other) (other_set roster stands.sized bank (number % 32) v in_bank in_sets b s away) ∙ stands.waiting b s lt' lt''
-    ];
-    kept = stands.kept;
-  }
-
-module _ (roster : Roster) (log bank number : ℕ) (v : LogSet) (in_bank : bank < 256) (in_sets : number % 32 < 32)
-    (change : Changes (waiting_at roster bank (number % 32)) v log true) where
-  pub now_waits : log < 32 → Stands roster log Nowhere → Stands (with_number (with_set roster bank (number % 32) v) log number) log (Waits bank number)
-  now_waits within stands = record {
-    sized = numbered (with_set roster bank (number % 32) v) log number (still_sized roster stands.sized bank (number % 32) v in_bank in_sets);
-    going = stands.going;
-    waiting = now_at roster log bank number v true in_bank in_sets change Nowhere (Waits bank number) (waits_here bank number) (λ b s apart. sym (waits_not_there bank number b s apart)) stands;
-    kept = get_or-set_same roster.numbers log number 0 (let len = stands.sized.numbers in omega arith);
-  }
-
-  pub others_stay : OthersStay roster (with_number (with_set roster bank (number % 32) v) log number) log
-  others_stay other standing lt apart stands =
-      others_keep (with_set roster bank (number % 32) v) log number other standing lt apart (others_at roster log bank number v true in_bank in_sets change other standing lt apart stands)
-
--- ---- the logs that can go
-
-still_as_large : (roster : Roster) (ready : LogSet) → IsSized roster → IsSized (with_ready roster ready)
-still_as_large roster ready sized = record { banks = sized.banks; sets = sized.sets; numbers = sized.numbers }
-
-pub now_goes : (roster : Roster) (ready : LogSet) (log : ℕ) → Changes roster.ready ready log true → Stands roster log Nowhere → Stands (with_ready roster ready) log Goes
-now_goes roster ready log change stands = record { sized = still_as_large roster ready stands.sized; going = change.this; waiting = stands.waiting; kept = tt }
-
-pub now_nowhere : (roster : Roster) (ready : LogSet) (log : ℕ) → Changes roster.ready ready log false → Stands roster log Goes → Stands (with_ready roster ready) log Nowhere
-now_nowhere roster ready log change stands = record { sized = still_as_large roster ready stands.sized; going = change.this; waiting = stands.waiting; kept = tt }
-
-pub others_go_on : (roster : Roster) (ready : LogSet) (log : ℕ) (now : Bool) → Changes roster.ready ready log now → OthersStay roster (with_ready roster ready) log
-others_go_on roster ready log now change other standing lt apart stands = record {
-  sized = still_as_large roster ready stands.sized;
-  going = change.others other lt apart ∙ stands.going;
-  waiting = stands.waiting;
-  kept = stands.kept;
-}
-
--- ---- a log is woken
-
--- the set that it leaves, and the logs that can go, to which it comes
-module _ (roster : Roster) (log bank number : ℕ) (v ready : LogSet) (in_bank : bank < 256) (in_sets : number % 32 < 32)
-    (change : Changes (waiting_at roster bank (number % 32)) v log false) (comes : Changes roster.ready ready log true) where
-  pub now_woken : Stands roster log (Waits bank number) → Stands (with_ready (with_set roster bank (number % 32) v) ready) log Goes
-  now_woken stands = record {
-    sized = still_as_large (with_set roster bank (number % 32) v) ready (still_sized roster stands.sized bank (number % 32) v in_bank in_sets);
-    going = comes.this;
-    waiting = now_at roster log bank number v false in_bank in_sets change (Waits bank number) Goes refl (waits_not_there bank number) stands;
-    kept = tt;
-  }
-
-  pub others_sleep : OthersStay roster (with_ready (with_set roster bank (number % 32) v) ready) log
-  others_sleep other standing lt apart stands =
-      others_go_on (with_set roster bank (number % 32) v) ready log true comes other standing lt apart (others_at roster log bank number v false in_bank in_sets change other standing lt apart stands)
 
 -- ---- the logs of a set are called one by one
 
@@ -218,22 +51,6 @@ waits_for_kept Goes bank set kept here is = cc
 waits_for_kept (Waits at n) bank set kept here is =
     ap (λ k. Waits k n) (eqb-true at bank ((both_true (at == bank) (n % 32 == set) here).0)) ∙ ap (Waits bank) (sym is)
 
-pub none_called : (old : Roster) (bank number : ℕ) → bank < 256 → number % 32 < 32 → IsCalling old old bank number (waiting_at old bank (number % 32))
-none_called old bank number in_bank in_sets = record {
-  waits = λ log standing lt stands here. sym (stands.waiting bank (number % 32) in_bank in_sets) ∙ here;
-  stands = λ log standing lt stands. elim (cases_Bool (has (waiting_at old bank (number % 32)) log)) [
-    | inl here ↦ subst (Stands old log) (sym (cond-true (has (waiting_at old bank (number % 32)) log) standing (once_called standing bank number) here)) stands
-    | inr away ↦
-        let not_here = sym (stands.waiting bank (number % 32) in_bank in_sets) ∙ away in
-        let same = sleeps_on standing bank number (λ n is called. not_both (is_waiting standing bank (number % 32))
-        (subst (λ k. is_waiting standing bank (k % 32) ≡ true) called (subst (λ (st : Standing). is_waiting st bank (n % 32) ≡ true) (sym is) (waits_here bank n))) not_here) in
-        subst (Stands old log) (sym (cond-false (has (waiting_at old bank (number % 32)) log) standing (once_called standing bank number) away ∙ same)) stands
-  ];
-}
-  where
-    not_both : (b : Bool) → b ≡ true → b ≡ false → ⊥
-    not_both b t f = cc
-
 module _ (old roster : Roster) (bank number : ℕ) (called rest : LogSet) (log : ℕ) (before : IsCalling old roster bank number called) (lowest : IsLowest called log)
     (change : Changes called rest log false) where
   stood : (standing : Standing) → Stands old log standing → Stands roster log standing
@@ -269,18 +86,6 @@ module _ (old roster : Roster) (bank number : ℕ) (called rest : LogSet) (log :
       let waits = waited standing stands ∙ ap (Waits bank) is in
       subst (Stands new log) (sym (ap (λ (st : Standing). once_called st bank number) waits ∙ wakes bank number)) (woken (subst (Stands roster log) waits (stood standing stands))))
 
-  -- it waits for another
-  pub one_sleeps : slice_index roster.numbers log ≢ number → IsCalling old roster bank number rest
-  one_sleeps other = one_called roster (λ k standing lt apart stands. stands) (λ standing stands.
-      subst (Stands roster log) (sym (sleeps_on standing bank number (λ n is called. other (same_number (sym (waited standing stands) ∙ is) ∙ called)))) (stood standing stands))
-    where
-      same_number : {a b m n : ℕ} → Waits a m ≡ Waits b n → m ≡ n
-      same_number e = cc
-
-pub all_called : (old roster : Roster) (bank number : ℕ) (rest : LogSet) → IsEmpty rest → IsCalling old roster bank number rest → IsCalled old roster bank number
-all_called old roster bank number rest empty calling log standing lt stands =
-    subst (Stands roster log) (cond-false (has rest log) standing (once_called standing bank number) (empty log lt)) (calling.stands log standing lt stands)
-
 -- ---- at first
 
 get_replicate : {T : Type 0} (n k : ℕ) (x d : T) → k < n → get_or (replicate n x) k d ≡ x
@@ -305,10 +110,6 @@ nobody banks sets logs ready v banks_are sets_are logs_are none_ready none_waits
     row bank within = get_replicate banks bank (replicate sets v) [] (omega arith)
 
 -- ---- an entry goes
-
-pub standing_goes : (next : List ℕ) (o : Option (ℕ × ℕ)) → carries_next next o ≡ true → standing_of next o ≡ Goes
-standing_goes next None carries = cc
-standing_goes next (Some x) carries = cond-true (is_due next x) Goes (Waits x.0 x.1) carries
 
 pub going_carries : (next : List ℕ) (o : Option (ℕ × ℕ)) → is_going (standing_of next o) ≡ carries_next next o
 going_carries next None = refl

@@ -9,7 +9,7 @@ use Rattle.std.proofs.lemmas.List.{get_or-drop, length-drop, length-map}
 use Rattle.std.proofs.lemmas.List.Folds.{Any-from_list_any, list_any-from_Any}
 use Rattle.lf_rules.specs.Order.{log_at}
 use Rattle.lf_rules.specs.Ring.{entry_at}
-use Rattle.lf_join.specs.Join.{lists_of}
+use Rattle.lf_join.specs.Join.{skeleton_lists}
 use Rattle.lf_join.specs.Heads.{next_entry, is_next, holds_next, HeadsWait, Chain}
 use Rattle.std.specs.Option.{IsSome, is_some}
 use Rattle.lf_join.proofs.Entries.{entry_at-within, entry_at-get_or, get_or-entry_at, log_at-past}
@@ -56,7 +56,7 @@ module _ (skeletons : List (List (ℕ × ℕ))) (places next : List ℕ) where
       subst (λ (e : ℕ × ℕ). holds_next skeletons places next e.0 other ≡ true) same
       (test_there (log_at skeletons other) (slice_index places other) w.waiting.0 (slice_index next w.waiting.0) w.place w.not_gone w.holds)
 
-pub is_log : (skeletons : List (Vec (ℕ × ℕ))) (places next : List ℕ) (log other : ℕ) → HeadsWait (lists_of skeletons) places next log other → other < length skeletons
+pub is_log : (skeletons : List (Vec (ℕ × ℕ))) (places next : List ℕ) (log other : ℕ) → HeadsWait (skeleton_lists skeletons) places next log other → other < length skeletons
 is_log skeletons places next log other w = elim (cases_lt other (length skeletons)) [
   | inl lt ↦ lt
   | inr past ↦ absurd (none_some (subst (λ (xs : List (ℕ × ℕ)). entry_at xs w.place ≡ Some (w.waiting.0, slice_index next w.waiting.0)) (log_at-past skeletons other past) w.holds))
@@ -76,16 +76,16 @@ pub within_log : (skeletons : List (List (ℕ × ℕ))) (places next : List ℕ)
 within_log skeletons places next log other w = (get_or-entry_at (log_at skeletons log) (slice_index places log) w.waiting (0, 0) w.first).0
 
 -- what a knot of each log of a path needs
-pub path_fits : (skeletons : List (Vec (ℕ × ℕ))) (places next path : List ℕ) (last : ℕ) → length skeletons ≤ 32 → All (λ skeleton. length skeleton ≤ 2 ^ 24) (lists_of skeletons)
-    → Chain (HeadsWait (lists_of skeletons) places next) path last → All (λ log. log < length skeletons) path → All (λ log. (log < 32) × (slice_index places log < 2 ^ 32)) path
+pub path_fits : (skeletons : List (Vec (ℕ × ℕ))) (places next path : List ℕ) (last : ℕ) → length skeletons ≤ 32 → All (λ skeleton. length skeleton ≤ 2 ^ 24) (skeleton_lists skeletons)
+    → Chain (HeadsWait (skeleton_lists skeletons) places next) path last → All (λ log. log < length skeletons) path → All (λ log. (log < 32) × (slice_index places log < 2 ^ 32)) path
 path_fits skeletons places next path last few short chain logs = All-from_get_or (λ log. (log < 32) × (slice_index places log < 2 ^ 32)) path 0 each
   where
     each : (k : ℕ) → k < length path → (slice_index path k < 32) × (slice_index places (slice_index path k) < 2 ^ 32)
     each k lt =
         let log = slice_index path k in
         let is = logs k 0 lt in
-        let within = within_log (lists_of skeletons) places next log (slice_index (path ++ last ∷ []) (suc k)) (chain_at (HeadsWait (lists_of skeletons) places next) path last k chain lt) in
-        let len : length (lists_of skeletons) ≡ length skeletons = length-map skeletons (λ skeleton. skeleton.items) in
+        let within = within_log (skeleton_lists skeletons) places next log (slice_index (path ++ last ∷ []) (suc k)) (chain_at (HeadsWait (skeleton_lists skeletons) places next) path last k chain lt) in
+        let len : length (skeleton_lists skeletons) ≡ length skeletons = length-map skeletons (λ skeleton. skeleton.items) in
         let small = short log [] (omega (arith, is, len)) in
         (omega (arith, is, few), omega (arith, within, small))
 

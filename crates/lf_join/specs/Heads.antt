@@ -67,7 +67,8 @@ pub record HeadsWait (skeletons : List (List (ℕ × ℕ))) (places next : List 
 
 -- Each log with entries left waits for a log.
 abbrev pub AllWait : List (List (ℕ × ℕ)) → List ℕ → List ℕ → Type 0
-AllWait skeletons places next = (log : ℕ) (waiting : ℕ × ℕ) → next_entry skeletons places log ≡ Some waiting → (other : ℕ) × HeadsWait skeletons places next log other
+AllWait skeletons places next = (log : ℕ) (waiting : ℕ × ℕ) → next_entry skeletons places log ≡ Some waiting
+    → (other : ℕ) × HeadsWait skeletons places next log other
 
 abbrev pub first_or : List ℕ → ℕ → ℕ
 first_or [] other = other

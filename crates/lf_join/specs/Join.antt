@@ -9,8 +9,8 @@ use Rattle.lf_rules.specs.Order.{log_at, after_next, entries_of, EntriesKeepNumb
 use Rattle.lf_rules.specs.Ring.{entry_at, knot_at}
 
 -- the skeletons as lists of (bank, number)
-abbrev pub lists_of : List (Vec (ℕ × ℕ)) → List (List (ℕ × ℕ))
-lists_of skeletons = map (λ skeleton. skeleton.items) skeletons
+abbrev pub skeleton_lists : List (Vec (ℕ × ℕ)) → List (List (ℕ × ℕ))
+skeleton_lists skeletons = map (λ skeleton. skeleton.items) skeletons
 
 -- Over all skeletons each bank's numbers are 0 to n - 1, each once. Entries that name no bank have none.
 abbrev pub BanksAreWhole : List (List (ℕ × ℕ)) → Type 0

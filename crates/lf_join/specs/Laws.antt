@@ -14,4 +14,5 @@ StuckRingsAdmitNone = (skeletons : List (List (ℕ × ℕ))) (ring : List Knot) 
 
 -- where the numbers are whole, however the logs went, the same ring is met
 abbrev pub StuckRingsAreOne : Type 0
-StuckRingsAreOne = (skeletons : List (List (ℕ × ℕ))) (ring other : List Knot) → BanksAreWhole skeletons → IsStuckRing skeletons ring → IsStuckRing skeletons other → ring ≡ other
+StuckRingsAreOne = (skeletons : List (List (ℕ × ℕ))) (ring other : List Knot) → BanksAreWhole skeletons
+    → IsStuckRing skeletons ring → IsStuckRing skeletons other → ring ≡ other

@@ -1,6 +1,8 @@
+-- For callers: the words of the public contracts and of the laws.
 pub mod Join
+pub mod Fault
+pub mod Laws
+-- For the contracts of the crate alone: how far the logs have gone, and which of them wait.
 pub mod LogSets
 pub mod Heads
 pub mod Standings
-pub mod Fault
-pub mod Laws

@@ -69,4 +69,5 @@ AllStand skeletons places next roster = (log : ℕ) → log < 32 → Stands rost
 
 -- no other log's next entry is that of this log, where it names a bank
 abbrev pub IsItsOwn : List (List (ℕ × ℕ)) → List ℕ → ℕ → Type 0
-IsItsOwn skeletons places log = (other : ℕ) (entry : ℕ × ℕ) → other ≢ log → entry.0 < no_bank → next_entry skeletons places log ≡ Some entry → next_entry skeletons places other ≢ Some entry
+IsItsOwn skeletons places log = (other : ℕ) (entry : ℕ × ℕ) → other ≢ log → entry.0 < no_bank
+    → next_entry skeletons places log ≡ Some entry → next_entry skeletons places other ≢ Some entry

@@ -3,14 +3,14 @@
 ghost use Rattle.std.specs.Prelude.{◌≡◌, ◌<◌, ◌+◌, ◌%◌, ◌↔◌, ◌==◌, ◌&&◌, IsTrue, drop, nat_lt};
 ghost use Rattle.std.specs.List.{list_any};
 ghost use Rattle.lf_rules.specs.Order.{log_at};
-ghost use Rattle.lf_rules.specs.Ring.{IsRing, IsWait, entry_at};
-ghost use Rattle.lf_join.specs.Join.{lists_of};
+ghost use Rattle.lf_rules.specs.Ring.{IsRing, IsWait};
+ghost use Rattle.lf_join.specs.Join.{skeleton_lists};
 
 use lf_rules::{Knot, NO_BANK, Ring, Skeleton};
 
 /// The entries of a log, none where there is no such log.
 pub(crate) fn entries(skeletons: &[Skeleton], log: usize) -> &[(u8, u32)]
-    ensures { result.now ≡ log_at (lists_of skeletons.now) log }
+    ensures { result.now ≡ log_at (skeleton_lists skeletons.now) log }
 {
     match skeletons.get(log) {
         Some(skeleton) => skeleton,
@@ -31,7 +31,7 @@ fn has_smaller(entries: &[(u8, u32)], from: usize, bank: u8, number: u32) -> boo
 /// Whether the knot's entry waits for an entry behind the next knot's place. One that names no bank
 /// waits for none.
 fn waits(skeletons: &[Skeleton], knot: Knot, next: Knot) -> bool
-    ensures { IsTrue result ↔ IsWait (lists_of skeletons.now) knot next }
+    ensures { IsTrue result ↔ IsWait (skeleton_lists skeletons.now) knot next }
 {
     match entries(skeletons, knot.log as usize).get(knot.at as usize) {
         Some(&(bank, number)) => {
@@ -46,7 +46,7 @@ fn waits(skeletons: &[Skeleton], knot: Knot, next: Knot) -> bool
 /// bank with a smaller number, which stands after the next knot's place in the next knot's log, and
 /// the last knot waits for the first. A ring is not empty.
 pub fn check_cycle(skeletons: &[Skeleton], ring: &Ring) -> bool
-    ensures { IsTrue result ↔ IsRing (lists_of skeletons.now) ring.now.items }
+    ensures { IsTrue result ↔ IsRing (skeleton_lists skeletons.now) ring.now.items }
 {
     let len = ring.len();
     if len == 0 {

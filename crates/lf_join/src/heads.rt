@@ -1,8 +1,8 @@
 //! How far each log and each bank has gone.
 
-ghost use Rattle.std.specs.Prelude.{◌≡◌, ◌≢◌, ◌<◌, ◌≤◌, ◌+◌, ◌++◌, ◌^◌, ℕ, true, false, map, length, take, drop, replicate, slice_index, All, IfNone, IfSome, IsSome, MatchOption};
+ghost use Rattle.std.specs.Prelude.{◌≡◌, ◌≢◌, ◌<◌, ◌≤◌, ◌+◌, ◌++◌, ◌^◌, ℕ, true, map, length, take, drop, replicate, slice_index, All, IfNone, IfSome, IsSome, MatchOption};
 ghost use Rattle.arrayvec.specs.ArrayVec.{array_vec_len};
-ghost use Rattle.lf_join.specs.Join.{lists_of};
+ghost use Rattle.lf_join.specs.Join.{skeleton_lists};
 
 use crate::check::entries;
 use arrayvec::ArrayVec;
@@ -39,7 +39,7 @@ impl Heads {
     /// The log's next entry, if it has one left.
     pub fn next_entry(&self, skeletons: &[Skeleton], log: usize) -> Option<(u8, u32)>
         requires { log < 32 }
-        ensures entry { result ≡ next_entry (lists_of skeletons.now) self.now.places log }
+        ensures entry { result ≡ next_entry (skeleton_lists skeletons.now) self.now.places log }
         ensures small { IsSome result → slice_index self.now.places log + 1 < 2 ^ 64 }
     {
         entries(skeletons, log).get(self.places[log]).copied()
@@ -49,9 +49,9 @@ impl Heads {
     /// entry is compared with it.
     pub fn advance(&mut self, skeletons: &[Skeleton], log: usize) -> (u8, u32)
         requires log { log < 32 }
-        requires goes { can_go (lists_of skeletons.now) self.old.places self.old.next log ≡ true }
-        ensures entry { next_entry (lists_of skeletons.now) self.old.places log ≡ Some result }
-        ensures gone { Advances (lists_of skeletons.now) self.old.places self.old.next log self.new.places self.new.next }
+        requires goes { can_go (skeleton_lists skeletons.now) self.old.places self.old.next log ≡ true }
+        ensures entry { next_entry (skeleton_lists skeletons.now) self.old.places log ≡ Some result }
+        ensures gone { Advances (skeleton_lists skeletons.now) self.old.places self.old.next log self.new.places self.new.next }
     {
         let Some((bank, number)) = self.next_entry(skeletons, log) else {
             unreachable!();
@@ -65,9 +65,9 @@ impl Heads {
     pub fn first_left(&self, skeletons: &[Skeleton]) -> Option<u8>
         requires { length skeletons.now ≤ 32 }
         ensures { MatchOption result
-            ((log : ℕ) → log < length skeletons.now → next_entry (lists_of skeletons.now) self.now.places log ≡ None)
-            (λ first. (first < length skeletons.now) × IsSome (next_entry (lists_of skeletons.now) self.now.places first)
-            × ((log : ℕ) → log < first → next_entry (lists_of skeletons.now) self.now.places log ≡ None)) }
+            ((log : ℕ) → log < length skeletons.now → next_entry (skeleton_lists skeletons.now) self.now.places log ≡ None)
+            (λ first. (first < length skeletons.now) × IsSome (next_entry (skeleton_lists skeletons.now) self.now.places first)
+            × ((log : ℕ) → log < first → next_entry (skeleton_lists skeletons.now) self.now.places log ≡ None)) }
     {
         for first in 0..skeletons.len() {
             if self.next_entry(skeletons, first).is_some() {
@@ -80,7 +80,7 @@ impl Heads {
     /// Whether an entry of the log that has not gone carries the bank's next number.
     fn holds_next(&self, skeletons: &[Skeleton], log: usize, bank: u8) -> bool
         requires { log < 32 }
-        ensures { result ≡ holds_next (lists_of skeletons.now) self.now.places self.now.next bank log }
+        ensures { result ≡ holds_next (skeleton_lists skeletons.now) self.now.places self.now.next bank log }
     {
         let number = self.next[bank as usize];
         entries(skeletons, log)
@@ -93,9 +93,9 @@ impl Heads {
     fn waits_for(&self, skeletons: &[Skeleton], log: u8) -> u8
         requires few { length skeletons.now ≤ 32 }
         requires log { log < 32 }
-        requires left { IsSome (next_entry (lists_of skeletons.now) self.now.places log) }
-        requires waits { AllWait (lists_of skeletons.now) self.now.places self.now.next }
-        ensures waits { HeadsWait (lists_of skeletons.now) self.now.places self.now.next log result }
+        requires left { IsSome (next_entry (skeleton_lists skeletons.now) self.now.places log) }
+        requires waits { AllWait (skeleton_lists skeletons.now) self.now.places self.now.next }
+        ensures waits { HeadsWait (skeleton_lists skeletons.now) self.now.places self.now.next log result }
         ensures log { result < length skeletons.now }
     {
         let Some((bank, _)) = self.next_entry(skeletons, log as usize) else {
@@ -114,9 +114,9 @@ impl Heads {
     fn walk(&self, skeletons: &[Skeleton], start: u8) -> (ArrayVec<u8, LOGS>, usize)
         requires few { length skeletons.now ≤ 32 }
         requires start { start < length skeletons.now }
-        requires left { IsSome (next_entry (lists_of skeletons.now) self.now.places start) }
-        requires waits { AllWait (lists_of skeletons.now) self.now.places self.now.next }
-        ensures path { IsPath (HeadsWait (lists_of skeletons.now) self.now.places self.now.next) start result.0.items
+        requires left { IsSome (next_entry (skeleton_lists skeletons.now) self.now.places start) }
+        requires waits { AllWait (skeleton_lists skeletons.now) self.now.places self.now.next }
+        ensures path { IsPath (HeadsWait (skeleton_lists skeletons.now) self.now.places self.now.next) start result.0.items
             (slice_index result.0.items result.1) }
         ensures again { result.1 < array_vec_len result.0 }
         ensures logs { All (λ log. log < length skeletons.now) result.0.items }
@@ -165,11 +165,11 @@ impl Heads {
     /// The ring to which the waits lead from the start, from its lowest log on.
     pub fn ring(&self, skeletons: &[Skeleton], start: u8) -> Ring
         requires few { length skeletons.now ≤ 32 }
-        requires short { All (λ skeleton. length skeleton ≤ 2 ^ 24) (lists_of skeletons.now) }
+        requires short { All (λ skeleton. length skeleton ≤ 2 ^ 24) (skeleton_lists skeletons.now) }
         requires start { start < length skeletons.now }
-        requires left { IsSome (next_entry (lists_of skeletons.now) self.now.places start) }
-        requires waits { AllWait (lists_of skeletons.now) self.now.places self.now.next }
-        ensures { IsRingAt (lists_of skeletons.now) self.now.places self.now.next start result.items }
+        requires left { IsSome (next_entry (skeleton_lists skeletons.now) self.now.places start) }
+        requires waits { AllWait (skeleton_lists skeletons.now) self.now.places self.now.next }
+        ensures { IsRingAt (skeleton_lists skeletons.now) self.now.places self.now.next start result.items }
     {
         let (path, again) = self.walk(skeletons, start);
         self.from_lowest(&path.as_slice()[again..])

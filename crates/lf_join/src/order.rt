@@ -1,7 +1,7 @@
 //! One order of all logs.
 
 ghost use Rattle.std.specs.Prelude.{◌≡◌, ◌<◌, ◌≤◌, ◌^◌, ℕ, length, All, IfOk, IfErr};
-ghost use Rattle.lf_join.specs.Join.{lists_of, BanksAreWhole, HasNoOrder, IsStuckRing};
+ghost use Rattle.lf_join.specs.Join.{skeleton_lists, BanksAreWhole, HasNoOrder, IsStuckRing};
 ghost use Rattle.lf_join.specs.Fault.{IfCycle};
 ghost use Rattle.lf_join.specs.Heads.{IsMerged};
 ghost use Rattle.lf_rules.specs.Order.{IsLeastOrder};
@@ -9,8 +9,8 @@ ghost use Rattle.lf_rules.specs.Ring.{IsRing};
 
 use crate::heads::Heads;
 use crate::roster::Roster;
-use lf_rules::{Ring, Skeleton};
-use std::alloc::{AllocError, Global};
+use lf_rules::{NoMemory, Ring, Skeleton};
+use std::alloc::Global;
 
 /// Why there is no order.
 #[derive(Debug, Drop)]
@@ -21,11 +21,21 @@ pub enum JoinFault {
     NoMemory,
 }
 
+impl From<NoMemory> for JoinFault {
+    ghost use Rattle.lf_join.specs.declared.order.JoinFault.{JoinFault};
+
+    ghost from_gives = { λ _ fault. fault ≡ JoinFault.NoMemory };
+
+    fn from(_: NoMemory) -> JoinFault {
+        JoinFault::NoMemory
+    }
+}
+
 /// The lowest logs that can go, in turn, as far as any can.
-fn merged(alloc: Global, skeletons: &[Skeleton]) -> Result<(Vec<u8>, Heads), AllocError>
+fn merged(alloc: Global, skeletons: &[Skeleton]) -> Result<(Vec<u8>, Heads), NoMemory>
     requires few { length skeletons.now ≤ 32 }
-    requires whole { BanksAreWhole (lists_of skeletons.now) }
-    ensures { IfOk result (λ m. IsMerged (lists_of skeletons.now) m.0.items m.1.places m.1.next) }
+    requires whole { BanksAreWhole (skeleton_lists skeletons.now) }
+    ensures { IfOk result (λ m. IsMerged (skeleton_lists skeletons.now) m.0.items m.1.places m.1.next) }
 {
     let mut heads = Heads::new();
     let mut roster = Roster::new(skeletons, &heads);
@@ -43,20 +53,18 @@ fn merged(alloc: Global, skeletons: &[Skeleton]) -> Result<(Vec<u8>, Heads), All
 /// one another when nothing more can go.
 pub fn join(alloc: Global, skeletons: &[Skeleton]) -> Result<Vec<u8>, JoinFault>
     requires few { length skeletons.now ≤ 32 }
-    requires short { All (λ entries. length entries ≤ 2 ^ 24) (lists_of skeletons.now) }
-    requires whole { BanksAreWhole (lists_of skeletons.now) }
+    requires short { All (λ entries. length entries ≤ 2 ^ 24) (skeleton_lists skeletons.now) }
+    requires whole { BanksAreWhole (skeleton_lists skeletons.now) }
 
-    ensures least { IfOk result (λ order. IsLeastOrder (lists_of skeletons.now) order.items) }
+    ensures least { IfOk result (λ order. IsLeastOrder (skeleton_lists skeletons.now) order.items) }
 
     // Where the answer is a ring, it is the one to which the waits lead, it shows that there is no order, and there is none.
-    ensures ring { IfErr result (λ fault. IfCycle fault (λ ring. IsStuckRing (lists_of skeletons.now) ring.items)) }
-    ensures shown { IfErr result (λ fault. IfCycle fault (λ ring. IsRing (lists_of skeletons.now) ring.items)) }
-    ensures none { IfErr result (λ fault. IfCycle fault (λ _. HasNoOrder (lists_of skeletons.now))) }
+    ensures ring { IfErr result (λ fault. IfCycle fault (λ ring. IsStuckRing (skeleton_lists skeletons.now) ring.items)) }
+    ensures shown { IfErr result (λ fault. IfCycle fault (λ ring. IsRing (skeleton_lists skeletons.now) ring.items)) }
+    ensures none { IfErr result (λ fault. IfCycle fault (λ _. HasNoOrder (skeleton_lists skeletons.now))) }
 {
-    let (order, heads) = match merged(alloc, skeletons) {
-        Ok(merged) => merged,
-        Err(_) => return Err(JoinFault::NoMemory),
-    };
+    let merged = merged(alloc, skeletons)?;
+    let (order, heads) = merged;
     match heads.first_left(skeletons) {
         None => Ok(order),
         Some(start) => Err(JoinFault::Cycle(heads.ring(skeletons, start))),

@@ -1,7 +1,7 @@
 //! Which logs can go, and which wait for a number of a bank.
 
 ghost use Rattle.std.specs.Prelude.{◌≡◌, ◌<◌, ◌%◌, ℕ, true, length, MatchOption};
-ghost use Rattle.lf_join.specs.Join.{lists_of};
+ghost use Rattle.lf_join.specs.Join.{skeleton_lists};
 ghost use Rattle.lf_join.specs.Heads.{next_entry, can_go, Advances};
 ghost use Rattle.lf_join.specs.LogSets.{IsEmpty, IsLowest};
 
@@ -108,7 +108,7 @@ impl Roster {
     fn settle(&mut self, skeletons: &[Skeleton], heads: &Heads, log: u8)
         requires log { log < 32 }
         requires nowhere { Stands self.old log Nowhere }
-        ensures settled { Stands self.new log (standing_of heads.now.next (next_entry (lists_of skeletons.now) heads.now.places log)) }
+        ensures settled { Stands self.new log (standing_of heads.now.next (next_entry (skeleton_lists skeletons.now) heads.now.places log)) }
         ensures others { OthersStay self.old self.new log }
     {
         if let Some((bank, number)) = heads.next_entry(skeletons, log as usize) {
@@ -123,7 +123,7 @@ impl Roster {
 
     /// Each log where its next entry says.
     pub fn new(skeletons: &[Skeleton], heads: &Heads) -> Self
-        ensures { AllStand (lists_of skeletons.now) heads.now.places heads.now.next result }
+        ensures { AllStand (skeleton_lists skeletons.now) heads.now.places heads.now.next result }
     {
         let mut roster = Roster::empty();
         for log in 0..LOGS as u8 {
@@ -144,11 +144,11 @@ impl Roster {
     pub fn let_go(&mut self, skeletons: &[Skeleton], heads: &mut Heads, log: u8)
         requires log { log < 32 }
         requires sized { length heads.old.next ≡ 256 }
-        requires stand { AllStand (lists_of skeletons.now) heads.old.places heads.old.next self.old }
-        requires goes { can_go (lists_of skeletons.now) heads.old.places heads.old.next log ≡ true }
-        requires own { IsItsOwn (lists_of skeletons.now) heads.old.places log }
-        ensures gone { Advances (lists_of skeletons.now) heads.old.places heads.old.next log heads.new.places heads.new.next }
-        ensures stand { AllStand (lists_of skeletons.now) heads.new.places heads.new.next self.new }
+        requires stand { AllStand (skeleton_lists skeletons.now) heads.old.places heads.old.next self.old }
+        requires goes { can_go (skeleton_lists skeletons.now) heads.old.places heads.old.next log ≡ true }
+        requires own { IsItsOwn (skeleton_lists skeletons.now) heads.old.places log }
+        ensures gone { Advances (skeleton_lists skeletons.now) heads.old.places heads.old.next log heads.new.places heads.new.next }
+        ensures stand { AllStand (skeleton_lists skeletons.now) heads.new.places heads.new.next self.new }
     {
         let (bank, number) = heads.advance(skeletons, log as usize);
         self.leave(log);

@@ -2,13 +2,13 @@
 use Rattle.std.proofs.Common.{◌≡◌, ℕ, ◌+◌, ◌<◌, ◌≤◌, zero, suc, Bool, true, false, not, eqb, ltb, List, [], ◌∷◌, length, get_or, set, sym, ap, ◌∙◌, subst, ⊎_elim, arith}
 use Rattle.std.specs.List.{All, filter, range_with_len, swap}
 use Rattle.std.specs.List.Sorted.{IsPermutation}
-use Rattle.std.proofs.lemmas.List.{length-map, length-set, get_or-map, get_or-set_other, get_or_default, map-id}
+use Rattle.std.proofs.lemmas.List.{length-map, length-set, get_or-map, get_or-set_other, map-id}
 use Rattle.std.proofs.lemmas.List.Edits.{swap_is}
 use Rattle.std.proofs.lemmas.List.Elements.{filter_passes}
 use Rattle.std.proofs.lemmas.List.FromFn.{fill_by_all}
-use Rattle.std.proofs.lemmas.List.Sorted.{IsPermutation-refl, IsPermutation-map, IsPermutation-swap, IsPermutation-trans, length_permutation, sum_by-IsPermutation}
+use Rattle.std.proofs.lemmas.List.Sorted.{IsPermutation-map, IsPermutation-swap, IsPermutation-trans, length_permutation, sum_by-IsPermutation}
 use Rattle.std.proofs.lemmas.List.Sums.{sum_by-set, get_or-le-sum_by}
-use Rattle.std.proofs.lemmas.Bool.{cases_eq, eq-eqb, ne_eqb, ltb-true}
+use Rattle.std.proofs.lemmas.Bool.{eq-eqb, ne_eqb, ltb-true}
 use Rattle.lf_rules.specs.declared.event.Record.{Record}
 use Rattle.lf_rules.specs.declared.event.Event.TheVariants.{Stall}
 use Rattle.lf_rules.specs.Numbers.{numbers_of, IsWhole}
@@ -93,27 +93,12 @@ pub record Placed (old now : List Record) (at : ℕ) : Type 0 where
 number_at : (xs : List Record) (i : ℕ) (d : Record) → i < length xs → get_or (numbers_of xs) i 0 ≡ (get_or xs i d).number
 number_at xs i d inside = get_or-map (λ (r : Record). r.number) xs i d 0 inside
 
-pub Placed-start : (old : List Record) → IsWhole (numbers_of old) → Placed old old 0
-Placed-start old whole = record { moved = IsPermutation-refl old; whole = whole; within = omega arith; fixed = λ k d h. absurd (omega arith) }
-
 module _ (old now : List Record) (at : ℕ) (before : Placed old now at) (item : Record) (inside : at < length now) (read : item ≡ get_or now at item) where
   pub number_inside : item.number < length now
   number_inside =
       let number : get_or (numbers_of now) at 0 ≡ item.number = number_at now at item inside ∙ ap (λ (r : Record). r.number) (sym read) in
       let long = length-map now (λ (r : Record). r.number) in
       omega (arith, whole-inside (numbers_of now) before.whole at (omega arith), number, long)
-
-  pub Placed-more : item.number ≡ at → Placed old now (at + 1)
-  Placed-more here = record {
-    moved = before.moved;
-    whole = before.whole;
-    within = omega arith;
-    fixed = λ k d h. ⊎_elim
-        (λ (this : k ≡ at).
-        ap (λ n. (get_or now n d).number) this ∙ ap (λ (r : Record). r.number) (get_or_default now at d item inside ∙ sym read) ∙ here ∙ sym this)
-        (λ (other : k ≡ at → ⊥). before.fixed k d (omega arith))
-        (cases_eq k at);
-  }
 
   -- what stands at its place is not the record that the exchange brings there
   not_yet : (item.number ≡ at → ⊥) → (d : Record) → (get_or now item.number d).number ≡ item.number → ⊥

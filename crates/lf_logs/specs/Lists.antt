@@ -1,14 +1,10 @@
 -- The logs of a list of records.
 use Rattle.std.specs.Prelude.{◌≡◌, ℕ, ◌<◌, List, [], map, length, slice_index_or}
 use Rattle.std.specs.List.{range_with_len}
-use Rattle.std.specs.Global.{Vec}
 use Rattle.lf_rules.specs.declared.event.Record.{Record}
 use Rattle.lf_rules.specs.Run.{of_log, of_bank}
 use Rattle.lf_rules.specs.Numbers.{IsNumbered}
-
--- the lists that the vectors hold
-abbrev pub lists_of : {T : Type 0} → Vec (Vec T) → List (List T)
-lists_of vecs = map (λ v. v.items) vecs.items
+pub use Rattle.lf_rules.specs.Lists.{lists_of}
 
 -- the logs 0 to count - 1, each in the order of the list
 abbrev pub logs_of : ℕ → List Record → List (List Record)

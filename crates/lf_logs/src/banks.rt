@@ -4,7 +4,8 @@ ghost use Rattle.std.specs.Prelude.{◌≡◌, ℕ, ◌<◌, ◌≤◌, ◌^◌,
 ghost use Rattle.std.specs.List.{range_with_len};
 ghost use Rattle.lf_rules.specs.declared.event.Record.{Record};
 ghost use Rattle.lf_rules.specs.Numbers.{all_records, numbers_of, bank_numbers, IsWhole};
-ghost use Rattle.lf_logs.specs.Lists.{lists_of, banks_of, AreNumbered};
+ghost use Rattle.lf_rules.specs.Lists.{lists_of};
+ghost use Rattle.lf_logs.specs.Lists.{banks_of, AreNumbered};
 
 use crate::logs::empty_logs;
 use lf_rules::{Logs, NoMemory, Record};
@@ -21,9 +22,7 @@ fn add_log(banks: &mut Vec<Vec<Record>>, log: Vec<Record>) -> Result<(), NoMemor
         if bank >= banks.len() {
             continue;
         }
-        if banks[bank].push(item).is_err() {
-            return Err(NoMemory);
-        }
+        banks[bank].push(item)?;
     }
     Ok(())
 }

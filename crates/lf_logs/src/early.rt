@@ -72,9 +72,7 @@ fn widened(
     ensures table { IfOk result (λ wider. IsTable wider.items kept.now.slots) }
     ensures some { IfOk result (λ wider. 0 < vec_len wider) }
 {
-    let Ok(mut wider) = vec![in alloc; None; 2 * places.len()] else {
-        return Err(NoMemory);
-    };
+    let mut wider = vec![in alloc; None; 2 * places.len()]?;
     for place in places {
         if let Some(key) = *place {
             let to = kept[key as usize].number() as usize % wider.len();
@@ -97,9 +95,7 @@ fn make_room(
     ensures some { OnOk result (0 < vec_len places.new) }
 {
     if places.is_empty() {
-        let Ok(first) = vec![in alloc; None; FIRST_PLACES] else {
-            return Err(NoMemory);
-        };
+        let first = vec![in alloc; None; FIRST_PLACES]?;
         *places = first;
         return Ok(());
     }
@@ -150,16 +146,12 @@ impl Early {
         let waiting = Kept::new(self.alloc, item)?;
         let place = number as usize % self.places.len();
         if self.places[place].is_none() && self.kept.vacant_key() <= u32::MAX as usize {
-            let Ok(key) = self.kept.insert(waiting) else {
-                return Err(NoMemory);
-            };
+            let key = self.kept.insert(waiting)?;
             self.places[place] = Some(key as u32);
             return Ok(());
         }
-        match self.rest.insert(number, waiting) {
-            Ok(_) => Ok(()),
-            Err(_) => Err(NoMemory),
-        }
+        let _ = self.rest.insert(number, waiting)?;
+        Ok(())
     }
 
     /// Takes out the record of this number.

@@ -3,7 +3,8 @@
 ghost use Rattle.std.specs.Prelude.{◌≡◌, ◌+◌, ◌<◌, ◌≤◌, [], IfOk};
 ghost use Rattle.std.specs.List.{All};
 ghost use Rattle.lf_rules.specs.Numbers.{all_records};
-ghost use Rattle.lf_logs.specs.Lists.{lists_of, logs_of};
+ghost use Rattle.lf_rules.specs.Lists.{lists_of};
+ghost use Rattle.lf_logs.specs.Lists.{logs_of};
 
 use lf_rules::{Logs, NoMemory, Record};
 use std::alloc::Global;
@@ -14,9 +15,7 @@ pub(crate) fn empty_logs(alloc: Global, count: u32) -> Result<Logs, NoMemory>
 {
     let mut logs = Vec::new(alloc);
     for _ in 0..count {
-        if logs.push(Vec::new(alloc)).is_err() {
-            return Err(NoMemory);
-        }
+        logs.push(Vec::new(alloc))?;
     }
     Ok(logs)
 }
@@ -32,9 +31,7 @@ pub fn split(alloc: Global, ports: u32, banks: u32, records: Vec<Record>) -> Res
     let mut logs = empty_logs(alloc, ports + banks)?;
     for item in records {
         let log = usize::from(item.log);
-        if logs[log].push(item).is_err() {
-            return Err(NoMemory);
-        }
+        logs[log].push(item)?;
     }
     Ok(logs)
 }
@@ -46,9 +43,7 @@ pub fn records(alloc: Global, logs: Logs) -> Result<Vec<Record>, NoMemory>
     let mut records = Vec::new(alloc);
     for log in logs {
         let mut log = log;
-        if records.append(&mut log).is_err() {
-            return Err(NoMemory);
-        }
+        records.append(&mut log)?;
     }
     Ok(records)
 }

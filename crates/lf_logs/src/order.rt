@@ -5,11 +5,11 @@ ghost use Rattle.std.specs.List.{All};
 ghost use Rattle.lf_rules.specs.declared.event.Record.{Record};
 ghost use Rattle.lf_rules.specs.Run.{of_bank};
 ghost use Rattle.lf_rules.specs.Numbers.{all_records, bank_numbers, IsWhole};
-ghost use Rattle.lf_logs.specs.Lists.{lists_of};
-ghost use Rattle.lf_logs.specs.Places.{record_at, IsOrder, IsNumberFault};
+ghost use Rattle.lf_rules.specs.Lists.{lists_of};
+ghost use Rattle.lf_logs.specs.Places.{record_at, IsBankOrder, IsNumberFault};
 ghost use Rattle.lf_logs.specs.Tallies.{AreTallies, AreOnceBelow, IsFirstFault};
 
-use lf_rules::{Logs, Record};
+use lf_rules::{Logs, NoMemory, Record};
 use std::alloc::Global;
 
 /// A record's place: a log, and the place in it, from 0.
@@ -26,7 +26,18 @@ pub enum NumberFault {
     Missing(u32),
     /// More than one record carries this number.
     Double(u32),
+    /// A growth was refused.
     NoMemory,
+}
+
+impl From<NoMemory> for NumberFault {
+    ghost use Rattle.lf_logs.specs.declared.order.NumberFault.{NumberFault};
+
+    ghost from_gives = { λ _ fault. fault ≡ NumberFault.NoMemory };
+
+    fn from(_: NoMemory) -> NumberFault {
+        NumberFault::NoMemory
+    }
 }
 
 /// How many records of the bank carry a number, and the place of the last that does.
@@ -73,21 +84,18 @@ fn count_log(tallies: &mut [Tally], bank: u8, log: u8, records: &[Record])
 }
 
 /// A tally for each number below the count of the bank's records.
-fn tallies_of(alloc: Global, logs: &Logs, bank: u8) -> Result<Vec<Tally>, NumberFault>
+fn tallies_of(alloc: Global, logs: &Logs, bank: u8) -> Result<Vec<Tally>, NoMemory>
     requires few { length logs.now.items ≤ 32 }
     requires short { All (λ log. length log.items ≤ 2 ^ 24) logs.now.items }
     ensures len { IfOk result (λ tallies. length tallies.items ≡ length (of_bank bank (all_records (lists_of logs.now)))) }
     ensures counted { IfOk result (λ tallies. AreTallies (lists_of logs.now) bank (all_records (lists_of logs.now)) tallies.items) }
-    ensures memory { IfErr result (λ fault. fault ≡ NumberFault.NoMemory) }
 {
     let nowhere = Place { log: 0, at: 0 };
     let none = Tally {
         times: 0,
         last: nowhere,
     };
-    let Ok(mut tallies) = vec![in alloc; none; bank_len(logs, bank)] else {
-        return Err(NumberFault::NoMemory);
-    };
+    let mut tallies = vec![in alloc; none; bank_len(logs, bank)]?;
     for (log, records) in logs.iter().enumerate() {
         count_log(&mut tallies, bank, log as u8, records);
     }
@@ -110,13 +118,10 @@ fn judge(tallies: &[Tally]) -> Result<(), NumberFault>
     Ok(())
 }
 
-fn last_places(alloc: Global, tallies: &[Tally]) -> Result<Vec<Place>, NumberFault>
-    ensures places { IfOk result (λ places. places.items ≡ map (λ tally. tally.last) tallies.now) }
-    ensures memory { IfErr result (λ fault. fault ≡ NumberFault.NoMemory) }
+fn last_places(alloc: Global, tallies: &[Tally]) -> Result<Vec<Place>, NoMemory>
+    ensures { IfOk result (λ places. places.items ≡ map (λ tally. tally.last) tallies.now) }
 {
-    let Ok(mut places) = Vec::with_capacity(alloc, tallies.len()) else {
-        return Err(NumberFault::NoMemory);
-    };
+    let mut places = Vec::with_capacity(alloc, tallies.len())?;
     for tally in tallies {
         places.push_reserved(tally.last);
     }
@@ -129,7 +134,7 @@ fn last_places(alloc: Global, tallies: &[Tally]) -> Result<Vec<Place>, NumberFau
 pub fn bank_order(alloc: Global, logs: &Logs, bank: u8) -> Result<Vec<Place>, NumberFault>
     requires few { length logs.now.items ≤ 32 }
     requires short { All (λ log. length log.items ≤ 2 ^ 24) logs.now.items }
-    ensures order { IfOk result (λ places. IsOrder (lists_of logs.now) bank places.items) }
+    ensures order { IfOk result (λ places. IsBankOrder (lists_of logs.now) bank places.items) }
     ensures whole { OnOk result (IsWhole (bank_numbers (lists_of logs.now) bank)) }
     ensures fault { IfErr result (IsNumberFault (bank_numbers (lists_of logs.now) bank)) }
 
@@ -139,7 +144,7 @@ pub fn bank_order(alloc: Global, logs: &Logs, bank: u8) -> Result<Vec<Place>, Nu
 {
     let tallies = tallies_of(alloc, logs, bank)?;
     judge(&tallies)?;
-    last_places(alloc, &tallies)
+    Ok(last_places(alloc, &tallies)?)
 }
 
 /// The record at the place.

@@ -2,7 +2,7 @@
 
 ghost use Rattle.std.specs.Prelude.{◌≡◌, map, IfOk};
 ghost use Rattle.lf_rules.specs.Ring.{entry_of, skeletons_of};
-ghost use Rattle.lf_logs.specs.Lists.{lists_of};
+ghost use Rattle.lf_rules.specs.Lists.{lists_of};
 
 use lf_rules::{Logs, NoMemory, Record, Skeleton};
 use std::alloc::Global;
@@ -10,9 +10,7 @@ use std::alloc::Global;
 fn skeleton(alloc: Global, log: &[Record]) -> Result<Skeleton, NoMemory>
     ensures { IfOk result (λ entries. entries.items ≡ map entry_of log.now) }
 {
-    let Ok(mut entries) = Vec::with_capacity(alloc, log.len()) else {
-        return Err(NoMemory);
-    };
+    let mut entries = Vec::with_capacity(alloc, log.len())?;
     for item in log {
         entries.push_reserved((item.bank, item.number));
     }
@@ -25,10 +23,7 @@ pub fn skeletons(alloc: Global, logs: &Logs) -> Result<Vec<Skeleton>, NoMemory>
 {
     let mut all = Vec::new(alloc);
     for log in logs {
-        let entries = skeleton(alloc, log)?;
-        if all.push(entries).is_err() {
-            return Err(NoMemory);
-        }
+        all.push(skeleton(alloc, log)?)?;
     }
     Ok(all)
 }

@@ -1,6 +1,5 @@
 -- What `recheck` answers to an order of the logs.
 use Rattle.std.specs.Prelude.{◌≡◌, ℕ, ◌<◌, ◌≤◌, ◌⊎◌, List, [], ◌∷◌, map, length, take, drop, slice_index, Some}
-use Rattle.std.specs.Global.{Vec}
 use Rattle.lf_rules.specs.declared.shape.Shape.{Shape}
 use Rattle.lf_rules.specs.declared.event.Record.{Record}
 use Rattle.lf_rules.specs.declared.rule.Rule.{Rule}
@@ -12,9 +11,7 @@ use Rattle.lf_rules.specs.Table.{OfBoth, clauses}
 use Rattle.lf_rules.specs.Run.{first_failing, IsRun, Interleaves, KeepsNumbers, NameTheirLogs, of_bank}
 use Rattle.lf_rules.specs.Sharing.{state_after_all}
 use Rattle.lf_rules.specs.Order.{log_at, after_next}
-
-abbrev pub lists_of : {T : Type 0} → Vec (Vec T) → List (List T)
-lists_of logs = map (λ log. log.items) logs.items
+pub use Rattle.lf_rules.specs.Lists.{lists_of}
 
 -- The order names a list that holds the logs, keeps the numbers and is a run.
 pub record IsNamedRun (shape : Shape) (memory : FlatMemory) (logs : List (List Record)) (order : List ℕ) : Type 0 where

@@ -18,7 +18,7 @@ use Rattle.lf_pool.specs.declared.job.Jobs.{Jobs}
 use Rattle.lf_pool.specs.declared.worker.Worked.{Worked}
 use Rattle.lf_pool.specs.declared.rule.View.TheVariants.{Keeper}
 use Rattle.lf_pool.specs.Job.{count_of, IsJobOutcome, AreJobOutcomes}
-use Rattle.lf_pool.specs.Rule.{PoolState, Mine, Kept, times, times_in}
+use Rattle.lf_pool.specs.Rule.{PoolState, Mine, AreClaimed, times, times_in}
 use Rattle.lf_pool.specs.Worked.{number_of, and_last, claims_of, IsDone, IsWorked, entry_of, put_all, put_each}
 use Rattle.lf_pool.proofs.Steps.{all_claimed}
 use Rattle.lf_pool.proofs.Placing.{length-put_all, length-put_each, Has, AreRight, put_all_keeps, put_all_has}
@@ -85,7 +85,7 @@ module _ (jobs : Jobs) (table : TableId) where
       (entry_of r, length (map number_of r.done.items), refl, l.0, l.1)
 
   -- each job has its outcome
-  pub filled : (rs : List Worked) (seat made : ℕ) (s : PoolState) → Kept (count_of jobs) s → get_elem? s.views seat ≡ some (Keeper made (map entry_of rs)) → length rs ≡ made → 0 < length rs
+  pub filled : (rs : List Worked) (seat made : ℕ) (s : PoolState) → AreClaimed (count_of jobs) s → get_elem? s.views seat ≡ some (Keeper made (map entry_of rs)) → length rs ≡ made → 0 < length rs
       → All (IsWorked jobs table) rs → All (λ r. IsSome r.last) rs → (x : ℕ) → x < count_of jobs → Filled (put_each (replicate (count_of jobs) None) rs) x
   filled rs seat made s was at full nonempty all whole x below =
       let f = first_past rs 0 nonempty all whole in
@@ -104,11 +104,11 @@ module _ (jobs : Jobs) (table : TableId) where
 
 -- the outcomes at the end, from the last state of the pool's table
 pub ending : (jobs : Jobs) (table : TableId) (count seat made blanks : ℕ) (rs : List Worked) (me : Mine) (words : List ℕ) (slots : List (Unit {0})) (first outcomes : List (Option Outcome)) → count ≡ count_of jobs → blanks ≡ count_of jobs
-    → Final (Seen (Kept count) seat me.0) words slots → me ≡ (Keeper made (map entry_of rs), []) → length rs ≡ made → 0 < made → All (IsWorked jobs table) rs → All (λ r. IsSome r.last) rs
+    → Final (Seen (AreClaimed count) seat me.0) words slots → me ≡ (Keeper made (map entry_of rs), []) → length rs ≡ made → 0 < made → All (IsWorked jobs table) rs → All (λ r. IsSome r.last) rs
     → first ≡ replicate blanks None → outcomes ≡ put_each first rs → (length outcomes ≡ count_of jobs) × ((x : ℕ) → x < count_of jobs → Has (IsJobOutcome jobs) outcomes x)
 ending jobs table count seat made blanks rs me words slots first outcomes same many final is full nonempty all whole empty done =
     let placed : outcomes ≡ put_each (replicate (count_of jobs) None) rs = done ∙ ap (λ l. put_each l rs) (empty ∙ ap (λ n. replicate n None) many) in
-    let kept : Kept (count_of jobs) final.0 = subst (λ n. Kept n final.0) same final.1.0 in (
+    let kept : AreClaimed (count_of jobs) final.0 = subst (λ n. AreClaimed n final.0) same final.1.0 in (
       ap length placed ∙ (length-put_each (replicate (count_of jobs) None) rs ∙ length-replicate (count_of jobs) None),
       λ x below. subst (λ (l : List (Option Outcome)). Has (IsJobOutcome jobs) l x) (sym placed)
           (filled jobs table rs seat made final.0 kept (final.1.1 ∙ ap (λ (m : Mine). some m.0) is) full (omega arith) all whole x below),

@@ -1,5 +1,5 @@
 -- The records of a bank, at their places.
-use Rattle.std.proofs.Common.{◌≡◌, ℕ, zero, suc, ◌+◌, ◌<◌, Bool, true, false, cond, eqb-true, List, [], ◌∷◌, ◌++◌, length, take, get_or, Option, Some, refl, sym, ◌∙◌, ap, subst}
+use Rattle.std.proofs.Common.{◌≡◌, ℕ, suc, ◌+◌, ◌<◌, Bool, true, false, cond, eqb-true, List, [], ◌∷◌, ◌++◌, length, take, get_or, Option, Some, refl, sym, ◌∙◌, ap, subst}
 use Rattle.std.specs.Prelude.{◌==◌}
 use Rattle.std.specs.List.{filter_map, AllByRecursion}
 use Rattle.std.specs.List.Sorted.{IsPermutation}
@@ -16,7 +16,7 @@ use Rattle.lf_rules.specs.Numbers.{IsNumbered, all_records}
 use Rattle.lf_rules.specs.Order.{log_at}
 use Rattle.lf_rules.specs.Run.{of_bank}
 use Rattle.lf_logs.specs.declared.order.Place.{Place}
-use Rattle.lf_logs.specs.Lists.{lists_of}
+use Rattle.lf_rules.specs.Lists.{lists_of}
 use Rattle.lf_logs.specs.Places.{record_at, records_at}
 use Rattle.lf_replay.specs.Lent.{lent}
 use Rattle.lf_replay.specs.Step.{IsBankOrder}

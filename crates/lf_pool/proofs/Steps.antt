@@ -1,17 +1,16 @@
 -- Each step keeps the rule.
-use Rattle.std.proofs.Common.{◌≡◌, ◌≢◌, ℕ, zero, suc, ◌+◌, ◌%◌, ◌^◌, ◌<◌, ◌≤◌, Bool, true, false, cond, List, [], ◌∷◌, ◌++◌, length, get_or, set, refl, sym, ap, ◌∙◌, subst, ⊎_elim, arith, length-append, length-set, get_or-set_same}
+use Rattle.std.proofs.Common.{◌≡◌, ◌≢◌, ℕ, ◌+◌, ◌%◌, ◌^◌, ◌<◌, ◌≤◌, Bool, true, false, cond, List, [], ◌∷◌, ◌++◌, length, get_or, set, refl, sym, ap, ◌∙◌, subst, ⊎_elim, arith, length-append, length-set, get_or-set_same}
 use Rattle.std.specs.Prelude.{◌==◌, slice_index, nat_lt, nat_le, sum_by, All}
-use mathlib.Core.Option.{some, none, some-injective, some-ne-none}
+use mathlib.Core.Option.{some, none}
 use mathlib.Core.Logic.{dite}
 use native.Mathlib.Decide.{dec_le}
 use lib.ListN.{get_elem?}
 use Rattle.std.proofs.lemmas.List.Sums.{sum_by_push}
-use Rattle.std.proofs.lemmas.Bool.Decides.{nat_tests}
-use Rattle.atomic_table.specs.Table.{step, keeps, stepped, opening, Allows, Splits, Joins}
+use Rattle.atomic_table.specs.Table.{step, keeps, stepped, Allows, Splits, Joins}
 use Rattle.atomic_table.proofs.Lists.{at_set}
 use Rattle.lf_pool.specs.declared.rule.View.{View}
 use Rattle.lf_pool.specs.declared.rule.View.TheVariants.{Keeper, Worker, Spent}
-use Rattle.lf_pool.specs.Rule.{PoolState, times, past, times_in, past_in, workers_in, Fits, Kept, Claims, new_keeper}
+use Rattle.lf_pool.specs.Rule.{PoolState, times, past, times_in, past_in, workers_in, Fits, AreClaimed, Claims}
 use Rattle.lf_pool.proofs.Places.{at_snoc_place}
 use Rattle.lf_pool.proofs.Totals.{total_set, at_most_total, total_le, total_one, once_below, times_here, one_more_below, below_from_once, not_past, is_past}
 
@@ -21,13 +20,13 @@ each_past jobs views j (Keeper made joined) fits = fits.2
 each_past jobs views j (Worker number claims) fits = fits.1
 each_past jobs views j Spent fits = omega arith
 
-pub bounded : (jobs : ℕ) (s : PoolState) → Kept jobs s → slice_index s.words 0 ≤ jobs + 16
+pub bounded : (jobs : ℕ) (s : PoolState) → AreClaimed jobs s → slice_index s.words 0 ≤ jobs + 16
 bounded jobs s was =
     let most : sum_by (past_in jobs) s.views ≤ sum_by workers_in s.views = total_le (past_in jobs) workers_in s.views (λ j v at. each_past jobs s.views j v (was.seats j v at)) in
     let few = was.few in let count = was.workers in let within = was.within in
     omega arith
 
-module _ (jobs slots seat number : ℕ) (claims : List ℕ) (s : PoolState) (was : Kept jobs s) (at : get_elem? s.views seat ≡ some (Worker number claims)) (under : past jobs claims ≡ 0) (small : jobs ≤ 32) where
+module _ (jobs slots seat number : ℕ) (claims : List ℕ) (s : PoolState) (was : AreClaimed jobs s) (at : get_elem? s.views seat ≡ some (Worker number claims)) (under : past jobs claims ≡ 0) (small : jobs ≤ 32) where
   abbrev word : ℕ
   word = slice_index s.words 0
 
@@ -88,7 +87,7 @@ module _ (jobs slots seat number : ℕ) (claims : List ℕ) (s : PoolState) (was
       (λ (x : (j ≢ seat) × (get_elem? s.views j ≡ some u)). still_fits j u (was.seats j u x.1))
       (at_set s.views seat j new u e)
 
-  drawn : Kept jobs (stepped s 0 next seat [] new keeps)
+  drawn : AreClaimed jobs (stepped s 0 next seat [] new keeps)
   drawn = record {
     words = length-set s.words 0 next ∙ was.words;
     once = once_after;
@@ -108,7 +107,7 @@ module _ (jobs slots seat number : ℕ) (claims : List ℕ) (s : PoolState) (was
 
 -- a claim keeps the rule
 pub claims : (jobs slots seat number : ℕ) (had : List ℕ) → past jobs had ≡ 0 → jobs ≤ 32
-    → Allows (Kept jobs) slots seat (Worker number had, []) 0 (λ n. (n + 1) % 2 ^ 64) (Claims (step slots 0 1 0 none) (Worker number had, []))
+    → Allows (AreClaimed jobs) slots seat (Worker number had, []) 0 (λ n. (n + 1) % 2 ^ 64) (Claims (step slots 0 1 0 none) (Worker number had, []))
 claims jobs slots seat number had under small s was homes at fits = (
   new jobs slots seat number had s was at under small,
   keeps,
@@ -118,7 +117,7 @@ claims jobs slots seat number had under small s was homes at fits = (
 )
 
 -- the pool gives the next worker a seat
-module _ (jobs seat made : ℕ) (joined : List (ℕ × List ℕ)) (room : made < 16) (s : PoolState) (was : Kept jobs s) (at : get_elem? s.views seat ≡ some (Keeper made joined)) where
+module _ (jobs seat made : ℕ) (joined : List (ℕ × List ℕ)) (room : made < 16) (s : PoolState) (was : AreClaimed jobs s) (at : get_elem? s.views seat ≡ some (Keeper made joined)) where
   abbrev front : List View
   front = set s.views seat (Keeper (made + 1) joined)
 
@@ -154,7 +153,7 @@ module _ (jobs seat made : ℕ) (joined : List (ℕ × List ℕ)) (room : made <
       subst (λ v. Fits jobs with_next j v) x.1 ((let j_is = x.0 in omega arith), omega arith))
       (at_snoc_place front (Worker made []) u j e)
 
-  opened : Kept jobs (record { words = s.words; homes = s.homes; views = with_next })
+  opened : AreClaimed jobs (record { words = s.words; homes = s.homes; views = with_next })
   opened = record {
     words = was.words;
     once = λ x. let t : sum_by (times_in x) with_next ≡ sum_by (times_in x) s.views + 0 = total_opened (times_in x) 0 refl refl in let o = was.once x in omega arith;
@@ -164,11 +163,11 @@ module _ (jobs seat made : ℕ) (joined : List (ℕ × List ℕ)) (room : made <
     seats = seats_opened;
   }
 
-pub opens : (jobs seat made : ℕ) (joined : List (ℕ × List ℕ)) → made < 16 → Splits (Kept jobs) seat (Keeper made joined) (Keeper (made + 1) joined) (Worker made [])
+pub opens : (jobs seat made : ℕ) (joined : List (ℕ × List ℕ)) → made < 16 → Splits (AreClaimed jobs) seat (Keeper made joined) (Keeper (made + 1) joined) (Worker made [])
 opens jobs seat made joined room s was at = opened jobs seat made joined room s was at
 
 -- the pool takes a worker's claims in
-module _ (jobs seat made : ℕ) (joined : List (ℕ × List ℕ)) (other number : ℕ) (claims : List ℕ) (s : PoolState) (was : Kept jobs s) (at : get_elem? s.views seat ≡ some (Keeper made joined))
+module _ (jobs seat made : ℕ) (joined : List (ℕ × List ℕ)) (other number : ℕ) (claims : List ℕ) (s : PoolState) (was : AreClaimed jobs s) (at : get_elem? s.views seat ≡ some (Keeper made joined))
     (apart : ¬ (other ≡ seat)) (there : get_elem? (set s.views seat (Keeper made (joined ++ (number, claims) ∷ []))) other ≡ some (Worker number claims)) where
   abbrev both : View
   both = Keeper made (joined ++ (number, claims) ∷ [])
@@ -216,7 +215,7 @@ module _ (jobs seat made : ℕ) (joined : List (ℕ × List ℕ)) (other number 
       (at_set s.views seat j both u x.1))
       (at_set (set s.views seat both) other j Spent u e)
 
-  took : Kept jobs (record { words = s.words; homes = s.homes; views = taken })
+  took : AreClaimed jobs (record { words = s.words; homes = s.homes; views = taken })
   took = record {
     words = was.words;
     once = λ x. total_taken (times_in x) (sum_by_push (λ (w : ℕ × List ℕ). times x w.1) joined (number, claims)) refl ∙ was.once x;
@@ -227,29 +226,11 @@ module _ (jobs seat made : ℕ) (joined : List (ℕ × List ℕ)) (other number 
   }
 
 pub takes : (jobs seat made : ℕ) (joined : List (ℕ × List ℕ)) (other number : ℕ) (claims : List ℕ)
-    → Joins (Kept jobs) seat (Keeper made joined) other (Worker number claims) (Keeper made (joined ++ (number, claims) ∷ [])) Spent
+    → Joins (AreClaimed jobs) seat (Keeper made joined) other (Worker number claims) (Keeper made (joined ++ (number, claims) ∷ [])) Spent
 takes jobs seat made joined other number claims s was at apart there = took jobs seat made joined other number claims s was at apart there
 
--- the table at the start
-pub starts : (jobs : ℕ) → Kept jobs (opening (0 ∷ []) [] new_keeper)
-starts jobs = record {
-  words = refl;
-  once = λ x. none_below x;
-  within = omega arith;
-  workers = refl;
-  few = omega arith;
-  seats = first_fits;
-}
-  where
-    none_below : (x : ℕ) → 0 ≡ cond {A = ℕ} (nat_lt x 0) 1 0
-    none_below x = grind (arith, nat_tests)
-
-    first_fits : (j : ℕ) (u : View) → get_elem? (new_keeper ∷ []) j ≡ some u → Fits jobs (new_keeper ∷ []) j u
-    first_fits zero u e = subst (λ v. Fits jobs (new_keeper ∷ []) 0 v) (some-injective new_keeper u e) (refl, refl, omega arith)
-    first_fits (suc j) u e = absurd (some-ne-none u (sym e))
-
 -- Once every worker was taken in, and one of them claimed a number past the jobs, each job is claimed once
-pub all_claimed : (jobs seat made : ℕ) (joined : List (ℕ × List ℕ)) (s : PoolState) → Kept jobs s → get_elem? s.views seat ≡ some (Keeper made joined) → length joined ≡ made
+pub all_claimed : (jobs seat made : ℕ) (joined : List (ℕ × List ℕ)) (s : PoolState) → AreClaimed jobs s → get_elem? s.views seat ≡ some (Keeper made joined) → length joined ≡ made
     → (k : ℕ) (w : ℕ × List ℕ) (i d : ℕ) → get_elem? joined k ≡ some w → i < length w.1 → jobs ≤ get_or w.1 i d
     → (x : ℕ) → x < jobs → times_in x (Keeper made joined) ≡ 1
 all_claimed jobs seat made joined s was at full k w i d there inside beyond x below =

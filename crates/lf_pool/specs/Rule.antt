@@ -46,7 +46,7 @@ Fits jobs views seat (Worker number claims) = (seat ≡ number + 1) × (past job
 Fits jobs views seat Spent = Unit {0}
 
 -- the numbers below the word are claimed, each once, and few are past the jobs
-pub record Kept (jobs : ℕ) (s : PoolState) : Type 0 where
+pub record AreClaimed (jobs : ℕ) (s : PoolState) : Type 0 where
   pub words : length s.words ≡ 1
   pub once : (x : ℕ) → sum_by (times_in x) s.views ≡ cond (nat_lt x (slice_index s.words 0)) 1 0
   pub within : slice_index s.words 0 ≤ jobs + sum_by (past_in jobs) s.views

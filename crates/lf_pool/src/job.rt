@@ -4,7 +4,7 @@ ghost use Rattle.std.specs.Prelude.{◌≡◌, ◌+◌, ◌<◌, ◌≤◌, IfOk
 ghost use Rattle.std.specs.List.{All};
 ghost use Rattle.lf_rules.specs.Address.{flat_memory};
 ghost use Rattle.lf_rules.specs.Outcomes.{IsBankOutcome};
-ghost use Rattle.lf_logs.specs.Lists.{lists_of};
+ghost use Rattle.lf_rules.specs.Lists.{lists_of};
 ghost use Rattle.lf_logs.specs.Places.{record_at, records_at};
 ghost use Rattle.lf_replay.specs.Lent.{lent};
 ghost use Rattle.lf_pool.specs.Job.{AreJobs, IsJobOutcome, count_of, records_of};
@@ -44,9 +44,7 @@ fn records_at<'a>(
     requires { All (λ place. IsSome (record_at (lists_of logs.now) place)) places.now }
     ensures { IfOk result (λ rs. lent rs.items ≡ records_at (lists_of logs.now) places.now) }
 {
-    let Ok(mut records) = Vec::with_capacity(alloc, places.len()) else {
-        return Err(NoMemory);
-    };
+    let mut records = Vec::with_capacity(alloc, places.len())?;
     for place in places {
         records.push_reserved(record_at(logs, *place));
     }

@@ -2,7 +2,7 @@
 
 ghost use Rattle.std.specs.Prelude.{◌≡◌, ◌≤◌, ◌<◌, ◌+◌, ℕ, [], ◌∷◌, length, map, All, IfOk, OnOk, IfErr, None, replicate, slice_get, slice_index_or, ◌↔◌, IsTrue, IsSome};
 ghost use Rattle.std.specs.Bool.{OnTrue};
-ghost use Rattle.lf_pool.specs.declared.rule.View.TheVariants.{Keeper, Worker};
+ghost use Rattle.lf_pool.specs.declared.rule.View.TheVariants.{Keeper};
 ghost use Rattle.lf_pool.specs.Job.{AreJobs, AreJobOutcomes, count_of};
 ghost use Rattle.lf_pool.specs.Workers.{IsWorkerCount, IsPoolFault};
 ghost use Rattle.lf_pool.specs.Worked.{IsClaimer, IsWorked, entry_of, put_all, put_each};
@@ -12,8 +12,8 @@ use crate::job::{Jobs, count};
 use crate::rule::{NextWorker, PoolShared, PoolTable, Takes, View};
 use crate::worker::{Claimer, Worked, WorkedBy, work};
 use atomic_table::Seat;
-use lf_rules::Outcome;
-use std::alloc::{AllocError, Global};
+use lf_rules::{NoMemory, Outcome};
+use std::alloc::Global;
 use std::sync::Wait;
 use std::thread;
 use std::thread::{Promise, PromisedHandle, Scope, Threads};
@@ -23,9 +23,20 @@ use std::thread::{Promise, PromisedHandle, Scope, Threads};
 pub enum PoolFault {
     /// There cannot be so many workers: not 1 to 16.
     Workers(u32),
+    /// A growth was refused.
     NoMemory,
     /// A thread was refused. Those that had started were joined.
     Spawn,
+}
+
+impl From<NoMemory> for PoolFault {
+    ghost use Rattle.lf_pool.specs.declared.pool.PoolFault.{PoolFault};
+
+    ghost from_gives = { λ _ fault. fault ≡ PoolFault.NoMemory };
+
+    fn from(_: NoMemory) -> PoolFault {
+        PoolFault::NoMemory
+    }
 }
 
 /// Whether there can be so many workers: 1 to 16.
@@ -57,7 +68,7 @@ fn new_claimers(
     keeper: &mut Seat<(), View>,
     alloc: Global,
     workers: u32,
-) -> Result<Vec<Claimer>, AllocError>
+) -> Result<Vec<Claimer>, NoMemory>
     requires table { (keeper.old.table_id ≡ shared.now.table_id) × (0 < shared.now.table_id.words) }
     requires made { (keeper.old.me ≡ (Keeper 0 [], [])) × (workers ≤ 16) }
     ensures table { keeper.new.table_id ≡ keeper.old.table_id }
@@ -179,7 +190,7 @@ fn take_in(
 }
 
 /// A place for each outcome.
-fn blank(alloc: Global, count: usize) -> Result<Vec<Option<Outcome>>, AllocError>
+fn blank(alloc: Global, count: usize) -> Result<Vec<Option<Outcome>>, NoMemory>
     ensures { IfOk result (λ v. v.items ≡ replicate count None) }
 {
     let mut outcomes = Vec::with_capacity(alloc, count)?;
@@ -190,9 +201,10 @@ fn blank(alloc: Global, count: usize) -> Result<Vec<Option<Outcome>>, AllocError
 }
 
 /// The outcomes, where each is there.
-fn unwrapped(alloc: Global, outcomes: Vec<Option<Outcome>>) -> Result<Vec<Outcome>, AllocError>
+fn unwrapped(alloc: Global, outcomes: Vec<Option<Outcome>>) -> Result<Vec<Outcome>, NoMemory>
     requires { All (λ o. IsSome o) outcomes.items }
-    ensures { IfOk result (λ v. (length v.items ≡ length outcomes.items) × ((i : ℕ) → i < length v.items → slice_get v.items i ≡ slice_index_or outcomes.items i None)) }
+    ensures { IfOk result (λ v. (length v.items ≡ length outcomes.items)
+        × ((i : ℕ) → i < length v.items → slice_get v.items i ≡ slice_index_or outcomes.items i None)) }
 {
     let mut all = Vec::with_capacity(alloc, outcomes.len())?;
     for outcome in &outcomes {
@@ -232,13 +244,9 @@ pub fn run_jobs<G: Gate + Sync, R: Threads + Wait + Sync>(
     let Ok((table, mut keeper)) = PoolTable::of_words(alloc, &[0], &u64::from(count)) else {
         return Err(PoolFault::NoMemory);
     };
-    let Ok(claimers) = new_claimers(&table.shared, &mut keeper, alloc, workers) else {
-        return Err(PoolFault::NoMemory);
-    };
+    let claimers = new_claimers(&table.shared, &mut keeper, alloc, workers)?;
     let worked = in_threads(rt, &table.shared, jobs, gate, alloc, claimers)?;
-    let Ok(mut outcomes) = blank(alloc, count as usize) else {
-        return Err(PoolFault::NoMemory);
-    };
+    let mut outcomes = blank(alloc, count as usize)?;
     if !is_whole(&worked) {
         return Err(PoolFault::NoMemory);
     }
@@ -251,8 +259,5 @@ pub fn run_jobs<G: Gate + Sync, R: Threads + Wait + Sync>(
         &mut outcomes,
     );
     table.close_with(keeper).free();
-    match unwrapped(alloc, outcomes) {
-        Ok(all) => Ok(all),
-        Err(_) => Err(PoolFault::NoMemory),
-    }
+    Ok(unwrapped(alloc, outcomes)?)
 }

@@ -19,9 +19,9 @@ pub enum View {
 pub struct Claiming;
 
 impl TableRule<(), View, u64> for Claiming {
-    ghost use Rattle.lf_pool.specs.Rule.{Kept, new_keeper};
+    ghost use Rattle.lf_pool.specs.Rule.{AreClaimed, new_keeper};
 
-    ghost holds = { Kept };
+    ghost holds = { AreClaimed };
 
     ghost first = { λ _. new_keeper };
 }

@@ -1,9 +1,9 @@
 //! One worker, which claims numbers and does their jobs.
 
-ghost use Rattle.std.specs.Prelude.{◌≡◌, ◌≤◌, ◌<◌, ◌+◌, ◌^◌, ℕ, [], ◌∷◌, ◌++◌, length, map, All, Any};
+ghost use Rattle.std.specs.Prelude.{◌≡◌, ◌≤◌, ◌<◌, ◌+◌, ◌^◌, ℕ, [], ◌∷◌, ◌++◌, map, All, Any};
 ghost use Rattle.lf_pool.specs.declared.rule.View.TheVariants.{Worker};
 ghost use Rattle.lf_pool.specs.Job.{AreJobs, count_of};
-ghost use Rattle.lf_pool.specs.Worked.{number_of, IsClaimer, IsDone, IsWorked};
+ghost use Rattle.lf_pool.specs.Worked.{number_of, IsClaimer, IsWorked};
 
 use crate::gate::Gate;
 use crate::job::{Jobs, count, job};

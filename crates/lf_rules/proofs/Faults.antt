@@ -1,20 +1,11 @@
 -- Where a list breaks, and that it is a run where it does not.
-use Rattle.std.proofs.Common.{◌≡◌, ℕ, zero, suc, ◌+◌, List, [], ◌∷◌, Option, Some, None, refl, ap, ◌∙◌, arith}
+use Rattle.std.proofs.Common.{◌≡◌, ℕ, zero, suc, ◌+◌, List, [], ◌∷◌, Some, None, refl, ap, ◌∙◌, arith}
 use Rattle.lf_rules.specs.declared.shape.Shape.{Shape}
 use Rattle.lf_rules.specs.declared.event.Record.{Record}
 use Rattle.lf_rules.specs.declared.rule.Rule.{Rule}
 use Rattle.lf_rules.specs.State.{Local}
-use Rattle.lf_rules.specs.Table.{Side, clauses}
-use Rattle.lf_rules.specs.Run.{first_failing, effect, IsRunOf, fault_here, first_fault_of, BreaksAt}
-
-no_fault : (place : ℕ) (o : Option Rule) (later : Option (ℕ × Rule)) → fault_here place o later ≡ None → (o ≡ None) × (later ≡ None)
-no_fault place None later e = (refl, e)
-no_fault place (Some rule) later e = cc
-
-pub run_without_fault : (side : Side) (shape : Shape) (rs : List Record) (now : Local) (place : ℕ) → first_fault_of side shape now place rs ≡ None → IsRunOf side shape now rs
-run_without_fault side shape [] now place e = tt
-run_without_fault side shape (r ∷ rs) now place e =
-    let parts = no_fault place (first_failing side (clauses shape now r)) _ e in (parts.0, run_without_fault side shape rs (effect side shape now r) (place + 1) parts.1)
+use Rattle.lf_rules.specs.Table.{Side}
+use Rattle.lf_rules.specs.Run.{effect, IsRunOf, fault_here, first_fault_of, BreaksAt}
 
 pub no_fault_in_run : (side : Side) (shape : Shape) (rs : List Record) (now : Local) (place : ℕ) → IsRunOf side shape now rs → first_fault_of side shape now place rs ≡ None
 no_fault_in_run side shape [] now place run = refl

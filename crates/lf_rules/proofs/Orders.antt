@@ -24,9 +24,6 @@ module _ {T : Type 0} where
   head_is : {x y : T} {xs ys : List T} → ◌≡◌ {A = List T} (x ∷ xs) (y ∷ ys) → x ≡ y
   head_is e = cc
 
-  tail_is : {x y : T} {xs ys : List T} → ◌≡◌ {A = List T} (x ∷ xs) (y ∷ ys) → xs ≡ ys
-  tail_is e = cc
-
   takes_one : (order : List ℕ) (logs : List (List T)) (a b : List T) → Takes logs order a → Takes logs order b → a ≡ b
   takes_one [] logs [] [] first second = refl
   takes_one [] logs [] (y ∷ b) first second = absurd second
@@ -113,9 +110,6 @@ orders_interleave logs order rs named = (
 -- ---- entries for records
 
 module _ {X Y : Type 0} (f : X → Y) where
-  mapped : List (List X) → List (List Y)
-  mapped logs = map (map f) logs
-
   mapped_at : (logs : List (List X)) (log : ℕ) → log_at (map (map f) logs) log ≡ map f (log_at logs log)
   mapped_at logs log = get_or-map (map f) logs log []
 

@@ -1,3 +1,4 @@
+-- What a trace means: the rules as one table over one state, the runs, and the orders of logs. All other crates speak of it.
 pub mod Address
 pub mod Clauses
 pub mod Registers
@@ -6,15 +7,18 @@ pub mod State
 pub mod Table
 pub mod Run
 pub mod Order
-pub mod Examples
+pub mod Ring
+pub mod Numbers
+pub mod Outcomes
+pub mod Lists
+pub mod Text
+-- Which records, shapes and configurations there may be.
+pub mod Fits
+pub mod InRange
+-- What the laws say of these definitions, and examples of what they say.
 pub mod History
 pub mod Sharing
 pub mod Copies
-pub mod Laws
-pub mod Ring
-pub mod Fits
-pub mod InRange
-pub mod Numbers
-pub mod Outcomes
 pub mod CommonOrder
-pub mod Text
+pub mod Laws
+pub mod Examples

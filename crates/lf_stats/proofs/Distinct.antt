@@ -54,9 +54,6 @@ pub record AreSame (xs ys : List ℕ) : Type 0 where
 same_refl : (xs : List ℕ) → AreSame xs xs
 same_refl xs = record { times = λ n. refl; distinct = refl }
 
-pub same_sym : (xs ys : List ℕ) → AreSame xs ys → AreSame ys xs
-same_sym xs ys same = record { times = λ n. sym (same.times n); distinct = sym same.distinct }
-
 same_trans : (xs ys zs : List ℕ) → AreSame xs ys → AreSame ys zs → AreSame xs zs
 same_trans xs ys zs a b = record { times = λ n. a.times n ∙ b.times n; distinct = a.distinct ∙ b.distinct }
 

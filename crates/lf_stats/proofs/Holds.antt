@@ -90,19 +90,6 @@ held_for_push block holds other register =
       | false ↦ ap registers_of (append-nil before)
     ]
 
--- a block's registers with one more behind them, and those of the other blocks as before
-pub pushed_at : (block register : ℕ) (before after : ℕ → Option (Vec ℕ)) (pushed : Vec ℕ)
-    → ((q : ℕ) → (block ≡ q → ⊥) → after q ≡ before q) → after block ≡ Some pushed
-    → pushed.items ≡ items_in (before block) ++ register ∷ [] → (q : ℕ)
-    → items_in (after q) ≡ cond (eqb block q) (items_in (before q) ++ register ∷ []) (items_in (before q))
-pushed_at block register before after pushed others here items q =
-    let more : Bool → List ℕ = λ b. cond b (items_in (before q) ++ register ∷ []) (items_in (before q)) in
-    ⊎_elim
-    (λ (same : block ≡ q).
-    subst (λ k. items_in (after k) ≡ items_in (before k) ++ register ∷ []) same (ap items_in here ∙ items) ∙ sym (ap more (eq-eqb block q same)))
-    (λ (other : block ≡ q → ⊥). ap items_in (others q other) ∙ sym (ap more (ne_eqb block q other)))
-    (cases_eq block q)
-
 -- ---- the holds for a block end
 
 -- a hold with those behind it, if it is one of them

@@ -22,10 +22,6 @@ cons_length : {Y : Type 0} (o : Option Y) (ys : List Y) → IsSome o → length 
 cons_length None ys h = absurd (false≢true h)
 cons_length (Some y) ys h = refl
 
-cons_take : {Y : Type 0} (o : Option Y) (n : ℕ) (ys : List Y) → IsSome o → take (suc n) (cons_option o ys) ≡ cons_option o (take n ys)
-cons_take None n ys h = absurd (false≢true h)
-cons_take (Some y) n ys h = refl
-
 cons_first : {Y : Type 0} (o : Option Y) (ys : List Y) → IsSome o → slice_get (cons_option o ys) 0 ≡ o
 cons_first None ys h = absurd (false≢true h)
 cons_first (Some y) ys h = refl

@@ -1,5 +1,7 @@
+-- For callers: the counts of a trace and their text, with examples of both.
 pub mod Statistics
 pub mod Answer
 pub mod Text
-pub mod Standing
 pub mod Examples
+-- For the contracts of the crate alone: what is held between two records.
+pub mod Standing

@@ -1,7 +1,7 @@
 //! The counts of a bank, in the order of its numbers.
 
 ghost use Rattle.std.specs.Prelude.{◌≡◌, ◌<◌, ◌≤◌, ◌^◌, ℕ, List, Option, length, All, OnOk, IfOk, IsSome};
-ghost use Rattle.lf_logs.specs.Lists.{lists_of};
+ghost use Rattle.lf_rules.specs.Lists.{lists_of};
 ghost use Rattle.lf_logs.specs.Places.{record_at, records_at};
 ghost use Rattle.lf_stats.specs.Standing.{next_of, named, AreAlike, IsHeld};
 ghost use Rattle.lf_stats.specs.Statistics.{held_by, bank_stats};

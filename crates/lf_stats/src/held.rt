@@ -1,6 +1,6 @@
 //! Which registers are held.
 
-ghost use Rattle.std.specs.Prelude.{◌≡◌, ℕ, ◌+◌, ◌-◌, ◌<◌, ◌≤◌, ◌^◌, List, [], ◌∷◌, ◌++◌, not, ◌==◌, filter, Option, None, Some, unwrap_or, OnOk, if◌then◌else◌};
+ghost use Rattle.std.specs.Prelude.{◌≡◌, ℕ, ◌+◌, ◌-◌, ◌<◌, ◌≤◌, ◌^◌, List, [], ◌∷◌, ◌++◌, not, ◌==◌, filter, Some, unwrap_or, OnOk, if◌then◌else◌};
 ghost use Rattle.std.specs.BTreeMap.{get, btree_map_len};
 ghost use Rattle.std.specs.Ordering.{nat_cmp};
 ghost use Rattle.lf_stats.specs.Standing.{AreTimes, items_at};
@@ -21,10 +21,8 @@ impl Times {
         ensures { OnOk result ((registers : List ℕ) → AreTimes self.old registers → AreTimes self.new (register ∷ registers)) }
     {
         let times = self.0.get(&register).copied().unwrap_or(0);
-        match self.0.insert(register, times + 1) {
-            Ok(_) => Ok(()),
-            Err(_) => Err(NoMemory),
-        }
+        let _ = self.0.insert(register, times + 1)?;
+        Ok(())
     }
 
     /// The register is named once less.
@@ -60,18 +58,12 @@ fn push_at(
         ≡ (if block == other then items_at by_block.old other ++ register ∷ [] else items_at by_block.old other)) }
 {
     if let Some(registers) = by_block.get_mut(&block) {
-        if registers.push(register).is_err() {
-            return Err(NoMemory);
-        }
+        registers.push(register)?;
         return Ok(());
     }
-    let Ok(registers) = vec![in alloc; register] else {
-        return Err(NoMemory);
-    };
-    match by_block.insert(block, registers) {
-        Ok(_) => Ok(()),
-        Err(_) => Err(NoMemory),
-    }
+    let registers = vec![in alloc; register]?;
+    let _ = by_block.insert(block, registers)?;
+    Ok(())
 }
 
 /// The registers that are held.

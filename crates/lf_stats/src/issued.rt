@@ -1,7 +1,7 @@
 //! The blocks of the requests of each port at a bank.
 
-ghost use Rattle.std.specs.Prelude.{◌≡◌, ◌+◌, ◌<◌, ◌≤◌, ◌^◌, ℕ, [], length, All, OnOk, IfOk, IsSome, slice_index, slice_index_or, if◌then◌else◌};
-ghost use Rattle.lf_logs.specs.Lists.{lists_of};
+ghost use Rattle.std.specs.Prelude.{◌≡◌, ◌+◌, ◌<◌, ◌≤◌, ◌^◌, ℕ, [], length, All, IfOk, IsSome, slice_index, slice_index_or, if◌then◌else◌};
+ghost use Rattle.lf_rules.specs.Lists.{lists_of};
 ghost use Rattle.lf_logs.specs.Places.{record_at, records_at};
 ghost use Rattle.lf_stats.specs.Standing.{next_of};
 ghost use Rattle.lf_stats.specs.Statistics.{accepts, issued};
@@ -19,9 +19,7 @@ fn no_blocks(alloc: Global) -> Result<Vec<Vec<u64>>, NoMemory>
 {
     let mut lists = Vec::new(alloc);
     for _ in 0..PORTS {
-        if lists.push(Vec::new(alloc)).is_err() {
-            return Err(NoMemory);
-        }
+        lists.push(Vec::new(alloc))?;
     }
     Ok(lists)
 }
@@ -44,9 +42,7 @@ pub(crate) fn blocks_issued(
         let item = record_at(logs, *place);
         if let Event::Issue { address, .. } = &item.event {
             let block = *address / u64::from(shape.block);
-            if lists[usize::from(item.log)].push(block).is_err() {
-                return Err(NoMemory);
-            }
+            lists[usize::from(item.log)].push(block)?;
         }
     }
     Ok(lists)

@@ -3,7 +3,7 @@
 ghost use Rattle.std.specs.Prelude.{◌≡◌, ◌+◌, ◌<◌, ◌≤◌, ◌^◌, ℕ, length, All, IfOk};
 ghost use Rattle.lf_rules.specs.InRange.{IsShape};
 ghost use Rattle.lf_rules.specs.Numbers.{bank_numbers, IsWhole};
-ghost use Rattle.lf_logs.specs.Lists.{lists_of};
+ghost use Rattle.lf_rules.specs.Lists.{lists_of};
 ghost use Rattle.lf_stats.specs.Answer.{IsBankStats, AreStats};
 
 use crate::bank::bank_stats;
@@ -37,15 +37,11 @@ pub fn stats(alloc: Global, shape: &Shape, logs: &Logs) -> Result<Stats, NoMemor
     let mut banks = Vec::new(alloc);
     for bank in 0..shape.banks {
         let counts = of_bank(alloc, shape, logs, bank as u8)?;
-        if banks.push(counts).is_err() {
-            return Err(NoMemory);
-        }
+        banks.push(counts)?;
     }
     let mut ports = Vec::new(alloc);
     for port in 0..shape.ports as usize {
-        if ports.push(unanswered(logs[port].as_slice())).is_err() {
-            return Err(NoMemory);
-        }
+        ports.push(unanswered(logs[port].as_slice()))?;
     }
     Ok(Stats {
         banks,

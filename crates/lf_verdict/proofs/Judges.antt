@@ -91,12 +91,6 @@ module _ (shape : Shape) (memory : FlatMemory) (bank : ℕ) (came gave : List Re
     judged = judged.judged;
   }
 
-  pub pass_fits : (r : Record) → Fits shape r → r.bank ≡ bank → IsForStep old.step r
-  pass_fits r fits named = record {
-    fits = subst (λ (s : Shape). Fits s r) (sym judged.of_shape) fits;
-    named = named ∙ sym judged.of_bank;
-  }
-
   -- a record that was passed on in its turn
   pub judged_pass : (r : Record) (new : BankJudge) → Fits shape r → r.bank ≡ bank → r.number ≡ length gave → HasOrdered new.order (came ++ r ∷ []) (gave ++ r ∷ []) → new.order.bank ≡ old.order.bank
       → new.step.bank ≡ old.step.bank → new.step.kept.shape ≡ old.step.kept.shape

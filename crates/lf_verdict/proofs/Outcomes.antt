@@ -13,18 +13,14 @@ use Rattle.lf_rules.specs.Outcomes.{IsPortOutcome, IsBankOutcome, IsOutcomeOf, f
 use Rattle.lf_rules.specs.Run.{IsRunOf}
 use Rattle.lf_rules.specs.Table.{Side, OfPort, OfBank}
 use Rattle.lf_rules.specs.Numbers.{IsNumbered}
-use Rattle.lf_logs.specs.Lists.{lists_of}
+use Rattle.lf_rules.specs.Lists.{lists_of}
+use Rattle.lf_logs.specs.Lists.{AreNumbered}
 use Rattle.lf_pool.specs.declared.job.Jobs.{Jobs}
 use Rattle.lf_pool.specs.Job.{AreJobs, AreJobOutcomes, records_of}
 use Rattle.lf_verdict.specs.declared.standing_verdict.Broken.{Broken}
 use Rattle.lf_verdict.specs.Jobs.{NoneRanOut}
 use Rattle.lf_verdict.specs.Parts.{PartsRun, PortRuns, BankRuns, IsPortFault, IsBankFault}
 use Rattle.lf_verdict.specs.Judging.{AreWholeBelow, NoneBroken, IsFirstBroken, IsBroken, outcome_at}
-
--- each bank's records, in the order of their numbers
-pub record AreNumbered (logs : List (List Record)) (banks : ℕ) (lists : List (List Record)) : Type 0 where
-  pub count : length lists ≡ banks
-  pub each : (bank : ℕ) → bank < banks → IsNumbered logs bank (log_at lists bank)
 
 -- so many outcomes, each of its part
 pub record AreOutcomes (IsOutcomeAt : ℕ → Outcome → Type 0) (parts : ℕ) (all : List Outcome) : Type 0 where
@@ -56,9 +52,9 @@ module _ (shape : Shape) (memory : FlatMemory) (logs lists : List (List Record))
   bank_runs : (bank : ℕ) → bank < shape.banks → ¬ IsBroken (outcome_at banks bank) → BankRuns shape memory logs bank
   bank_runs bank lt fine = record {
     records = log_at lists bank;
-    numbered = j.numbered.each bank lt;
-    run = runs_of_outcome OfBank shape memory (log_at lists bank) (outcome_at banks bank) fine (j.banks_had bank (omega (arith, j.of_banks.count, j.numbered.count)))
-        (j.of_banks.each bank (omega (arith, j.numbered.count)));
+    numbered = j.numbered.numbered bank lt;
+    run = runs_of_outcome OfBank shape memory (log_at lists bank) (outcome_at banks bank) fine (j.banks_had bank (omega (arith, j.of_banks.count, j.numbered.each_bank)))
+        (j.of_banks.each bank (omega (arith, j.numbered.each_bank)));
   }
 
   pub port_fault : (broken : Broken) → IsFirstBroken ports broken → IsPortFault shape memory logs broken.part broken.at broken.rule
@@ -73,10 +69,10 @@ module _ (shape : Shape) (memory : FlatMemory) (logs lists : List (List Record))
   bank_fault fine broken first = record {
     numbers = j.whole;
     ports = λ p lt. port_runs p lt (fine p (omega (arith, j.of_ports.count)));
-    is_bank = omega (arith, first.within, j.of_banks.count, j.numbered.count);
-    banks_before = λ b lt. bank_runs b (omega (arith, first.within, j.of_banks.count, j.numbered.count)) (first.before b lt);
+    is_bank = omega (arith, first.within, j.of_banks.count, j.numbered.each_bank);
+    banks_before = λ b lt. bank_runs b (omega (arith, first.within, j.of_banks.count, j.numbered.each_bank)) (first.before b lt);
     records = log_at lists broken.part;
-    numbered = j.numbered.each broken.part (omega (arith, first.within, j.of_banks.count, j.numbered.count));
+    numbered = j.numbered.numbered broken.part (omega (arith, first.within, j.of_banks.count, j.numbered.each_bank));
     breaks = subst (IsOutcomeOf OfBank shape memory (log_at lists broken.part)) first.is (j.of_banks.each broken.part (omega (arith, first.within, j.of_banks.count)));
   }
 
@@ -84,7 +80,7 @@ module _ (shape : Shape) (memory : FlatMemory) (logs lists : List (List Record))
   parts_run ports_fine banks_fine = record {
     numbers = j.whole;
     ports = λ p lt. port_runs p lt (ports_fine p (omega (arith, j.of_ports.count)));
-    banks = λ b lt. bank_runs b lt (banks_fine b (omega (arith, j.of_banks.count, j.numbered.count)));
+    banks = λ b lt. bank_runs b lt (banks_fine b (omega (arith, j.of_banks.count, j.numbered.each_bank)));
   }
 
 -- ---- the outcomes of all jobs
@@ -110,8 +106,8 @@ judged jobs all ports banks ready whole are had is_ports is_banks =
     record {
       whole = whole;
       numbered = record {
-        count = long;
-        each = λ bank lt. subst (IsNumbered (lists_of jobs.logs) bank) (sym (list_for jobs bank lt)) (ready.ordered bank lt).numbered;
+        each_bank = long;
+        numbered = λ bank lt. subst (IsNumbered (lists_of jobs.logs) bank) (sym (list_for jobs bank lt)) (ready.ordered bank lt).numbered;
       };
       of_ports = record {
         count = many;

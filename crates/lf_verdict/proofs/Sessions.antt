@@ -21,7 +21,7 @@ use Rattle.std.proofs.lemmas.Bool.{cases_lt}
 use Rattle.lf_verdict.proofs.Pieces.{fault_told}
 use Rattle.lf_verdict.proofs.Traces.{fits_shape}
 use Rattle.lf_verdict.proofs.Answered.{limit_is_small}
-use Rattle.lf_codec.specs.Reading.{Reading, nothing_read, reading_of, fault_of, fault_so_far, header_now, header_of}
+use Rattle.lf_codec.specs.Reading.{Reading, reading_of, fault_so_far, header_now, header_of}
 use Rattle.lf_codec.specs.Reader.{HasRead, RanOut, told}
 use Rattle.lf_codec.specs.Trace.{IsTrace, FitsIn}
 use Rattle.lf_verdict.specs.declared.answer.Verdict.TheVariants.{Refused}
@@ -76,10 +76,6 @@ running_more shape bytes memory records more old new running stands =
     record { header = running.header; read = running.read; agrees = running.agrees; whole = running.whole; stands = stands }
 
 -- ---- what a session answers
-
-pub stopped : (s : Intake) (shape : Shape) (bytes : List ℕ) (stop : Stop) → IsAt s bytes (Some stop) → IsAnswer shape bytes (Refused (refusal_of stop))
-stopped s shape bytes (stops.Format fault) at = ap (fault_of (reading_of bytes)) at.0
-stopped s shape bytes stops.Memory at = tt
 
 pub told_stop : (shape : Shape) (bytes : List ℕ) (fault : CodecFault) (stop : Stop) → IsFaultOrWant bytes fault → IsStopOf fault stop → IsAnswer shape bytes (Refused (refusal_of stop))
 told_stop shape bytes fault (stops.Format told) either is = ⊎_elim (λ want. absurd (is.1 want)) (λ e. e ∙ ap Some (sym is.0)) either
@@ -164,14 +160,6 @@ fed_fault s bytes (Some stop) new t e same told fed =
     subst (λ (u : Told Refusal). IsRefusalSoFar bytes (refusal_in u)) (sym is) (refusal_so_far s bytes stop (subst (λ (o : Option Stop). IsAt s bytes o) (e ∙ sym (same refl)) fed))
 
 -- ---- a session that waits
-
-pub new_lacks : (r : Reading) → HasRead r [] [] [] → IsLacking r []
-new_lacks r read =
-    let is : r ≡ nothing_read = sym read.same in
-    record {
-      none = ap (λ (q : Reading). q.memory) is;
-      lacks = λ h e. let none : header_now r ≡ None = ap header_now is in absurd (cc);
-    }
 
 -- bytes that are a whole trace lack nothing
 pub waits_no_more : ReadingIsExact → (bytes : List ℕ) (r : Reading) (h : Header) (memory : List (ℕ × Bytes)) (records : List Record)

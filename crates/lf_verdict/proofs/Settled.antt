@@ -161,8 +161,8 @@ module _ (shape : Shape) (memory : FlatMemory) (records : List Record) (s : Stan
       record {
         whole = whole;
         numbered = record {
-          count = stands.count_given;
-          each = λ bank lt.
+          each_bank = stands.count_given;
+          numbered = λ bank lt.
               let here = bank_here bank lt in
               let judged = here.1.1.bank_judged in
               let gave = log_at stands.given bank in

@@ -25,7 +25,7 @@ use Rattle.lf_verdict.proofs.Answered.{log_below}
 -- ---- the entries of the logs
 
 -- the log of the next record holds the entries of its records so far
-pub entries_at : (count : ℕ) (rs : List Record) (xs : List (Vec (ℕ × ℕ))) (i : ℕ) (d : Vec (ℕ × ℕ)) → joins.lists_of xs ≡ skeletons_of (logs_of count rs) → i < count
+pub entries_at : (count : ℕ) (rs : List Record) (xs : List (Vec (ℕ × ℕ))) (i : ℕ) (d : Vec (ℕ × ℕ)) → joins.skeleton_lists xs ≡ skeletons_of (logs_of count rs) → i < count
     → (get_or xs i d).items ≡ map entry_of (of_log i rs)
 entries_at count rs xs i d are within =
     let long : length xs ≡ count =
@@ -35,13 +35,13 @@ entries_at count rs xs i d are within =
     ∙ get_or-map (map entry_of) (logs_of count rs) i [] [] (omega (arith, length-parts_of (λ r. r.log) count rs))
     ∙ ap (map entry_of) (get_or-parts_of (λ r. r.log) count rs i [] within)
 
-pub entries_count : (count : ℕ) (rs : List Record) (xs : List (Vec (ℕ × ℕ))) → joins.lists_of xs ≡ skeletons_of (logs_of count rs) → length xs ≡ count
+pub entries_count : (count : ℕ) (rs : List Record) (xs : List (Vec (ℕ × ℕ))) → joins.skeleton_lists xs ≡ skeletons_of (logs_of count rs) → length xs ≡ count
 entries_count count rs xs are =
     sym (length-map xs (λ (v : Vec (ℕ × ℕ)). v.items)) ∙ ap length are ∙ length-map (logs_of count rs) (map entry_of) ∙ length-parts_of (λ r. r.log) count rs
 
-pub entries_more : (count : ℕ) (rs : List Record) (r : Record) (xs : List (Vec (ℕ × ℕ))) (v w : Vec (ℕ × ℕ)) → r.log < count → joins.lists_of xs ≡ skeletons_of (logs_of count rs)
+pub entries_more : (count : ℕ) (rs : List Record) (r : Record) (xs : List (Vec (ℕ × ℕ))) (v w : Vec (ℕ × ℕ)) → r.log < count → joins.skeleton_lists xs ≡ skeletons_of (logs_of count rs)
     → v ≡ get_or xs r.log v → w.items ≡ v.items ++ (r.bank, r.number) ∷ []
-    → joins.lists_of (set xs r.log w) ≡ skeletons_of (logs_of count (rs ++ r ∷ []))
+    → joins.skeleton_lists (set xs r.log w) ≡ skeletons_of (logs_of count (rs ++ r ∷ []))
 entries_more count rs r xs v w within are read pushed =
     let log = of_log r.log rs in
     let here : w.items ≡ map entry_of (log ++ r ∷ []) =
@@ -115,9 +115,9 @@ module _ (shape : Shape) (memory : FlatMemory) (records : List Record) (s : Stan
       ∙ length-map (of_log r.log records) entry_of
 
   pub logs_more : (i : ℕ) (v w : Vec (ℕ × ℕ)) → i ≡ r.log → v ≡ get_or s.logs.items i v → w.items ≡ v.items ++ (r.bank, r.number) ∷ []
-      → joins.lists_of (set s.logs.items i w) ≡ skeletons_of (logs_of (shape.ports + shape.banks) (records ++ r ∷ []))
+      → joins.skeleton_lists (set s.logs.items i w) ≡ skeletons_of (logs_of (shape.ports + shape.banks) (records ++ r ∷ []))
   logs_more i v w at read pushed =
-      ap (λ n. joins.lists_of (set s.logs.items n w)) at
+      ap (λ n. joins.skeleton_lists (set s.logs.items n w)) at
       ∙ entries_more (shape.ports + shape.banks) records r s.logs.items v w log_below_all stands.logs (read ∙ ap (λ n. get_or s.logs.items n v) at) pushed
 
   pub port_before : (i : ℕ) (v : PortJudge) → i ≡ r.log → v ≡ get_or s.ports.items i v → i < shape.ports → IsPortJudged shape r.log (of_log r.log records) v
@@ -140,7 +140,7 @@ module _ (shape : Shape) (memory : FlatMemory) (records : List Record) (s : Stan
       ap (λ (t : Standing). t.banks.items) same ∙ ap (λ (js : List BankJudge). set js i new) is.banks ∙ ap (λ n. set s.banks.items n new) at in
       record {
         fit = all_push (Fits shape) records r stands.fit may.fits;
-        logs = ap (λ (t : Standing). joins.lists_of t.logs.items) same ∙ is.logs;
+        logs = ap (λ (t : Standing). joins.skeleton_lists t.logs.items) same ∙ is.logs;
         count_ports = ap (λ (t : Standing). length t.ports.items) same ∙ is.count_ports;
         count_banks = ap length banks ∙ length-set s.banks.items r.bank new ∙ stands.count_banks;
         ports = λ port d lt.
@@ -160,27 +160,9 @@ module _ (shape : Shape) (memory : FlatMemory) (records : List Record) (s : Stan
       let banks : set entered.banks.items i new ≡ entered.banks.items =
       ap (set entered.banks.items i) (unchanged ∙ read) ∙ set-get_or entered.banks.items i was in
       record {
-        logs = ap (λ (t : Standing). joins.lists_of t.logs.items) same ∙ is.logs;
+        logs = ap (λ (t : Standing). joins.skeleton_lists t.logs.items) same ∙ is.logs;
         count_ports = ap (λ (t : Standing). length t.ports.items) same ∙ is.count_ports;
         ports = λ port d lt.
             subst (λ (js : List PortJudge). IsPortJudged shape port (of_log port (records ++ r ∷ [])) (get_or js port d)) (sym (ap (λ (t : Standing). t.ports.items) same)) (is.ports port d lt);
         banks = ap (λ (t : Standing). t.banks.items) same ∙ banks ∙ is.banks;
-      }
-
-  -- it names no bank
-  pub stands_fenced : (after : Standing) → IsEntered shape records r s after → shape.banks ≤ r.bank → StandsAfterAll shape memory (records ++ r ∷ []) after
-  stands_fenced after is past =
-      let banks : after.banks.items ≡ s.banks.items = is.banks in
-      record {
-        fit = all_push (Fits shape) records r stands.fit may.fits;
-        logs = is.logs;
-        count_ports = is.count_ports;
-        count_banks = ap length banks ∙ stands.count_banks;
-        ports = is.ports;
-        given = stands.given;
-        count_given = stands.count_given;
-        banks = λ bank d lt.
-            subst (λ (js : List BankJudge). IsBankSettled shape (bank_part shape bank memory) bank (of_bank bank (records ++ r ∷ [])) (log_at stands.given bank) (get_or js bank d)) (sym banks)
-            (subst (λ (came : List Record). IsBankSettled shape (bank_part shape bank memory) bank came (log_at stands.given bank) (get_or s.banks.items bank d))
-            (sym (of_key-push_other (λ r. r.bank) bank records r (λ e. omega arith))) (stands.banks bank d lt));
       }

@@ -4,7 +4,8 @@ use Rattle.lf_rules.specs.declared.event.Record.{Record}
 use Rattle.lf_codec.specs.Reading.{trace_fault}
 use Rattle.lf_codec.specs.Reader.{HasRead}
 use Rattle.lf_codec.specs.Trace.{IsTrace}
-use Rattle.lf_logs.specs.Lists.{lists_of, logs_of}
+use Rattle.lf_rules.specs.Lists.{lists_of}
+use Rattle.lf_logs.specs.Lists.{logs_of}
 use Rattle.lf_verdict.specs.declared.gathering.Gathered.{Gathered}
 use Rattle.lf_verdict.specs.declared.gathering.Trace.{Trace}
 use Rattle.lf_verdict.specs.declared.answer.Refusal.{Refusal}

@@ -11,16 +11,16 @@ use Rattle.lf_rules.specs.Order.{log_at}
 use Rattle.lf_rules.specs.Ring.{IsRing}
 use Rattle.lf_join.specs.Join.{IsStuckRing}
 use Rattle.lf_logs.specs.declared.order.Place.{Place}
-use Rattle.lf_logs.specs.Lists.{lists_of}
-use Rattle.lf_logs.specs.Places.{IsOrder}
+use Rattle.lf_rules.specs.Lists.{lists_of}
+use Rattle.lf_logs.specs.Places.{IsBankOrder}
 use Rattle.lf_pool.specs.declared.job.Jobs.{Jobs}
 use Rattle.lf_pool.specs.Job.{AreJobs}
 use Rattle.lf_verdict.specs.declared.answer.Fault.TheVariants as faults
 use Rattle.lf_verdict.specs.declared.answer.Refusal.TheVariants as refusals
 use Rattle.lf_verdict.specs.declared.answer.Verdict.{Verdict}
 use Rattle.lf_verdict.specs.declared.answer.Verdict.TheVariants.{Refused}
-use Rattle.lf_verdict.specs.declared.halt.Halt.{Halt}
-use Rattle.lf_verdict.specs.declared.halt.Halt.TheVariants as halts
+use Rattle.lf_verdict.specs.declared.ending.Ending.{Ending}
+use Rattle.lf_verdict.specs.declared.ending.Ending.TheVariants as endings
 use Rattle.lf_verdict.specs.Judging.{AreWholeBelow, IsLogsVerdict, IsAnswer, outcome_at}
 use Rattle.lf_verdict.specs.Parts.{HasWholeNumbers}
 
@@ -31,7 +31,7 @@ LogsFit shape logs = (log : ℕ) → AllByRecursion (Fits shape) (log_at logs lo
 -- for each bank the places of its records, in the order of their numbers
 pub record AreOrders (logs : List (List Record)) (banks : ℕ) (orders : List (List Place)) : Type 0 where
   pub count : length orders ≡ banks
-  pub each : (bank : ℕ) → bank < banks → IsOrder logs bank (log_at orders bank)
+  pub each : (bank : ℕ) → bank < banks → IsBankOrder logs bank (log_at orders bank)
 
 -- what there is to do for these logs, whose banks' numbers are whole
 pub record AreJobsOf (shape : Shape) (memory : FlatMemory) (logs : List (List Record)) (jobs : Jobs) : Type 0 where
@@ -50,10 +50,10 @@ abbrev pub AllAreWhole : List (List Record) → Type 0
 AllAreWhole logs = (bank : ℕ) → bank < no_bank → HasWholeNumbers logs bank
 
 -- the logs that wait for one another, or want of memory
-abbrev pub IsOrderHalt : List (List (ℕ × ℕ)) → Halt → Type 0
-IsOrderHalt skeletons (halts.Found (faults.Cycle ring)) = IsStuckRing skeletons ring.items × IsRing skeletons ring.items
-IsOrderHalt skeletons halts.NoMemory = Unit {0}
-IsOrderHalt skeletons _ = ⊥
+abbrev pub IsOrderEnding : List (List (ℕ × ℕ)) → Ending → Type 0
+IsOrderEnding skeletons (endings.Fault (faults.Cycle ring)) = IsStuckRing skeletons ring.items × IsRing skeletons ring.items
+IsOrderEnding skeletons endings.NoMemory = Unit {0}
+IsOrderEnding skeletons _ = ⊥
 
 -- ---- what several workers answer: the same as one, or that a thread was refused
 

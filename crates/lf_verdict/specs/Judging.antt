@@ -11,8 +11,8 @@ use Rattle.lf_logs.specs.declared.order.NumberFault.{NumberFault}
 use Rattle.lf_logs.specs.declared.order.NumberFault.TheVariants as numbers
 use Rattle.lf_verdict.specs.declared.answer.Fault.TheVariants as faults
 use Rattle.lf_verdict.specs.declared.standing_verdict.Broken.{Broken}
-use Rattle.lf_verdict.specs.declared.halt.Halt.{Halt}
-use Rattle.lf_verdict.specs.declared.halt.Halt.TheVariants as halts
+use Rattle.lf_verdict.specs.declared.ending.Ending.{Ending}
+use Rattle.lf_verdict.specs.declared.ending.Ending.TheVariants as endings
 use Rattle.lf_verdict.specs.declared.answer.Verdict.{Verdict}
 use Rattle.lf_verdict.specs.declared.answer.Verdict.TheVariants.{Yes, No, Refused}
 use Rattle.lf_verdict.specs.declared.answer.Refusal.TheVariants as refusals
@@ -20,19 +20,19 @@ use Rattle.lf_verdict.specs.Parts.{HasWholeNumbers, PartsRun}
 use Rattle.lf_verdict.specs.Verdict.{IsFaultOf, IsTraceVerdict}
 
 -- the fault of the logs, or want of memory
-abbrev pub IsHalt : Shape → FlatMemory → List (List Record) → Halt → Type 0
-IsHalt shape memory logs (halts.Found fault) = IsFaultOf shape memory logs fault
-IsHalt shape memory logs halts.NoMemory = Unit {0}
+abbrev pub IsEnding : Shape → FlatMemory → List (List Record) → Ending → Type 0
+IsEnding shape memory logs (endings.Fault fault) = IsFaultOf shape memory logs fault
+IsEnding shape memory logs endings.NoMemory = Unit {0}
 
 -- the numbers of the banks below this one are whole
 abbrev pub AreWholeBelow : List (List Record) → ℕ → Type 0
 AreWholeBelow logs banks = (bank : ℕ) → bank < banks → HasWholeNumbers logs bank
 
 -- what a fault of the bank's numbers says
-abbrev pub number_halt : ℕ → NumberFault → Halt
-number_halt bank (numbers.Missing k) = halts.Found (faults.Missing bank k)
-number_halt bank (numbers.Double k) = halts.Found (faults.Double bank k)
-number_halt bank numbers.NoMemory = halts.NoMemory
+abbrev pub number_ending : ℕ → NumberFault → Ending
+number_ending bank (numbers.Missing k) = endings.Fault (faults.Missing bank k)
+number_ending bank (numbers.Double k) = endings.Fault (faults.Double bank k)
+number_ending bank numbers.NoMemory = endings.NoMemory
 
 -- ---- outcomes, one for each port or each bank
 

@@ -69,7 +69,7 @@ pub record MayCome (shape : Shape) (records : List Record) (r : Record) : Type 0
 -- These records of the trace came: each log's entries are kept, each port and each bank was judged as far as its records go.
 pub record StandsAfterAll (shape : Shape) (memory : FlatMemory) (records : List Record) (s : Standing) : Type 0 where
   pub fit : AllByRecursion (Fits shape) records
-  pub logs : joins.lists_of s.logs.items ≡ skeletons_of (logs_of (shape.ports + shape.banks) records)
+  pub logs : joins.skeleton_lists s.logs.items ≡ skeletons_of (logs_of (shape.ports + shape.banks) records)
   pub count_ports : length s.ports.items ≡ shape.ports
   pub count_banks : length s.banks.items ≡ shape.banks
   pub ports : (port : ℕ) (d : PortJudge) → port < shape.ports → IsPortJudged shape port (of_log port records) (slice_index_or s.ports.items port d)
@@ -81,7 +81,7 @@ pub record StandsAfterAll (shape : Shape) (memory : FlatMemory) (records : List 
 
 -- The record came, and its port judged it; its bank has not seen it yet.
 pub record IsEntered (shape : Shape) (records : List Record) (r : Record) (before after : Standing) : Type 0 where
-  pub logs : joins.lists_of after.logs.items ≡ skeletons_of (logs_of (shape.ports + shape.banks) (records ++ r ∷ []))
+  pub logs : joins.skeleton_lists after.logs.items ≡ skeletons_of (logs_of (shape.ports + shape.banks) (records ++ r ∷ []))
   pub count_ports : length after.ports.items ≡ shape.ports
   pub ports : (port : ℕ) (d : PortJudge) → port < shape.ports
       → IsPortJudged shape port (of_log port (records ++ r ∷ [])) (slice_index_or after.ports.items port d)

@@ -1,8 +1,11 @@
 //! What is said of a trace.
 
+ghost use Rattle.std.specs.Prelude.{◌≡◌};
+ghost use Rattle.lf_verdict.specs.declared.answer.Refusal.TheVariants as refusals;
+
 use lf_codec::CodecFault;
 use lf_config::ConfigFault;
-use lf_rules::{Ring, Rule};
+use lf_rules::{NoMemory, Ring, Rule};
 
 /// What is said of a trace.
 #[derive(Debug, Drop, PartialEq)]
@@ -47,6 +50,14 @@ pub enum Refusal {
     Memory,
     /// A thread was refused.
     Thread,
+}
+
+impl From<NoMemory> for Refusal {
+    ghost from_gives = { λ _ refusal. refusal ≡ refusals.Memory };
+
+    fn from(_: NoMemory) -> Refusal {
+        Refusal::Memory
+    }
 }
 
 /// The first number of the header that is not that of the shape.

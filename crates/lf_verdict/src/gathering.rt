@@ -1,15 +1,15 @@
 //! A whole trace, whose records are moved to their logs as its pieces are read.
 
-ghost use Rattle.std.specs.Prelude.{◌≡◌, ◌+◌, ◌++◌, ◌∷◌, ◌≤◌, ℕ, List, [], length, IfOk, IfErr, OnOk};
+ghost use Rattle.std.specs.Prelude.{◌≡◌, ◌+◌, ◌++◌, ◌∷◌, ◌≤◌, ℕ, List, [], IfOk, IfErr, OnOk};
 ghost use Rattle.lf_rules.specs.declared.event.Record.{Record};
 ghost use Rattle.lf_rules.specs.Fits.{Bytes};
 ghost use Rattle.lf_codec.specs.Reader.{HasRead};
-ghost use Rattle.lf_logs.specs.Lists.{lists_of, logs_of};
+ghost use Rattle.lf_rules.specs.Lists.{lists_of};
+ghost use Rattle.lf_logs.specs.Lists.{logs_of};
 ghost use Rattle.lf_verdict.specs.Legal.{joined};
 ghost use Rattle.lf_verdict.specs.Gathering.{fault_in, HasGathered, IsWhole, IsReadRefusal, IsFaultOrWant};
 
 use crate::answer::Refusal;
-use crate::halt::push;
 use lf_codec::{CodecCause, CodecFault, Header, Reader, Told};
 use lf_logs::split;
 use lf_rules::{Logs, Memory, NoMemory, Record, Shape};
@@ -60,7 +60,7 @@ fn put(logs: &mut Logs, item: Record) -> Result<(), NoMemory>
     if log >= logs.len() {
         return Ok(());
     }
-    push(&mut logs[log], item)?;
+    logs[log].push(item)?;
     Ok(())
 }
 
@@ -87,7 +87,7 @@ fn take_memory(reader: &mut Reader, memory: &mut Memory) -> Result<(), NoMemory>
     ensures fault { reader.new.fault ≡ reader.old.fault }
 {
     while let Some(item) = reader.take_memory() {
-        push(memory, item)?;
+        memory.push(item)?;
     }
     Ok(())
 }
@@ -109,17 +109,14 @@ impl Gathered {
     /// Takes the next piece, and moves what it has.
     fn feed(&mut self, piece: &[u8]) -> Result<(), Refusal>
         ensures ok { (count : ℕ) (bytes : List ℕ) → HasGathered count self.old bytes → OnOk result (HasGathered count self.new (bytes ++ piece.now)) }
-        ensures err { (count : ℕ) (bytes : List ℕ) (rest : List ℕ) → HasGathered count self.old bytes → IfErr result (IsReadRefusal ((bytes ++ piece.now) ++ rest)) }
+        ensures err { (count : ℕ) (bytes : List ℕ) (rest : List ℕ) → HasGathered count self.old bytes
+            → IfErr result (IsReadRefusal ((bytes ++ piece.now) ++ rest)) }
     {
         if let Err(told) = self.reader.feed(piece) {
             return Err(refusal_of(fault_in(told)));
         }
-        let Ok(()) = take_memory(&mut self.reader, &mut self.memory) else {
-            return Err(Refusal::Memory);
-        };
-        let Ok(()) = take_records(&mut self.reader, &mut self.logs) else {
-            return Err(Refusal::Memory);
-        };
+        take_memory(&mut self.reader, &mut self.memory)?;
+        take_records(&mut self.reader, &mut self.logs)?;
         Ok(())
     }
 
@@ -162,9 +159,7 @@ pub fn read(alloc: Global, shape: &Shape, pieces: &[&[u8]]) -> Result<Trace, Ref
     ensures ok { IfOk result (IsWhole (shape.now.ports + shape.now.banks) (joined pieces.now)) }
     ensures err { IfErr result (IsReadRefusal (joined pieces.now)) }
 {
-    let Ok(mut gathered) = Gathered::new(alloc, shape) else {
-        return Err(Refusal::Memory);
-    };
+    let mut gathered = Gathered::new(alloc, shape)?;
     gathered.feed_all(pieces)?;
     gathered.finish()
 }

@@ -12,7 +12,6 @@ ghost use Rattle.lf_rules.specs.Fits.{Bytes};
 ghost use Rattle.lf_codec.specs.Reader.{HasRead};
 
 use crate::answer::{HeaderField, Refusal, Verdict};
-use crate::halt::push;
 use crate::header::differing;
 use crate::standing::Standing;
 use lf_codec::{
@@ -130,7 +129,7 @@ impl Intake {
         ensures none { OnOk result (self.new.reader.memory ≡ []) }
     {
         while let Some(item) = self.reader.take_memory() {
-            push(&mut self.memory, item)?;
+            self.memory.push(item)?;
         }
         Ok(())
     }

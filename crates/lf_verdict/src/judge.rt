@@ -4,13 +4,13 @@ ghost use Rattle.std.specs.Prelude.{◌≡◌, ◌+◌, ◌≤◌, ◌^◌, leng
 ghost use Rattle.std.specs.List.{All};
 ghost use Rattle.lf_rules.specs.Address.{flat_memory};
 ghost use Rattle.lf_rules.specs.InRange.{IsShape};
-ghost use Rattle.lf_logs.specs.Lists.{lists_of};
+ghost use Rattle.lf_rules.specs.Lists.{lists_of};
 ghost use Rattle.lf_pool.specs.Job.{AreJobs, AreJobOutcomes};
-ghost use Rattle.lf_verdict.specs.Judging.{IsHalt, IsOrderOf, IsLogsVerdict, AreWholeBelow};
+ghost use Rattle.lf_verdict.specs.Judging.{IsEnding, IsOrderOf, IsLogsVerdict, AreWholeBelow};
 ghost use Rattle.lf_verdict.specs.Jobs.{LogsFit, AreJobsOf, IsWorkersVerdict};
 
 use crate::answer::{Refusal, Verdict};
-use crate::halt::Halt;
+use crate::ending::Ending;
 use crate::numbers::number_banks;
 use crate::order::order_of;
 use crate::parts::judge_outcomes;
@@ -22,13 +22,13 @@ use std::thread::Threads;
 
 /// What there is to do for the logs of a trace, or the fault of the lowest bank whose numbers are not
 /// whole.
-pub fn jobs_of(alloc: Global, shape: &Shape, memory: Memory, logs: Logs) -> Result<Jobs, Halt>
+pub fn jobs_of(alloc: Global, shape: &Shape, memory: Memory, logs: Logs) -> Result<Jobs, Ending>
     requires shape { IsShape shape.now }
     requires count { length logs.items ≡ shape.now.ports + shape.now.banks }
     requires short { All (λ log. length log.items ≤ 2 ^ 24) logs.items }
     requires fit { LogsFit shape.now (lists_of logs) }
     ensures jobs { IfOk result (AreJobsOf shape.now (flat_memory memory.items) (lists_of logs)) }
-    ensures fault { IfErr result (IsHalt shape.now (flat_memory memory.items) (lists_of logs)) }
+    ensures fault { IfErr result (IsEnding shape.now (flat_memory memory.items) (lists_of logs)) }
 {
     let orders = number_banks(alloc, shape, &logs)?;
     Ok(Jobs {
@@ -41,13 +41,13 @@ pub fn jobs_of(alloc: Global, shape: &Shape, memory: Memory, logs: Logs) -> Resu
 
 /// The least order of the logs, where no outcome is a fault. The ports are judged first, then the banks,
 /// then whether the logs wait for one another.
-fn judged_order(alloc: Global, jobs: &Jobs, outcomes: &[Outcome]) -> Result<Vec<u8>, Halt>
+fn judged_order(alloc: Global, jobs: &Jobs, outcomes: &[Outcome]) -> Result<Vec<u8>, Ending>
     requires ready { AreJobs jobs.now }
     requires whole { AreWholeBelow (lists_of jobs.now.logs) jobs.now.shape.banks }
     requires outcomes { AreJobOutcomes jobs.now outcomes.now }
     ensures order { IfOk result (λ order.
         IsOrderOf jobs.now.shape (flat_memory jobs.now.memory.items) (lists_of jobs.now.logs) order.items) }
-    ensures fault { IfErr result (IsHalt jobs.now.shape (flat_memory jobs.now.memory.items) (lists_of jobs.now.logs)) }
+    ensures fault { IfErr result (IsEnding jobs.now.shape (flat_memory jobs.now.memory.items) (lists_of jobs.now.logs)) }
 {
     judge_outcomes(jobs, outcomes)?;
     order_of(alloc, &jobs.logs)
@@ -65,8 +65,8 @@ fn jobs_verdict(alloc: Global, jobs: &Jobs, outcomes: &[Outcome]) -> Verdict
             events: order.len() as u32,
             order,
         },
-        Err(Halt::Found(fault)) => Verdict::No(fault),
-        Err(Halt::NoMemory) => Verdict::Refused(Refusal::Memory),
+        Err(Ending::Fault(fault)) => Verdict::No(fault),
+        Err(Ending::NoMemory) => Verdict::Refused(Refusal::Memory),
     }
 }
 
@@ -93,7 +93,7 @@ pub fn logs_verdict<G: Gate + Sync, R: Threads + Wait + Sync>(
             Err(PoolFault::Spawn) => Verdict::Refused(Refusal::Thread),
             Err(_) => Verdict::Refused(Refusal::Memory),
         },
-        Err(Halt::Found(fault)) => Verdict::No(fault),
-        Err(Halt::NoMemory) => Verdict::Refused(Refusal::Memory),
+        Err(Ending::Fault(fault)) => Verdict::No(fault),
+        Err(Ending::NoMemory) => Verdict::Refused(Refusal::Memory),
     }
 }

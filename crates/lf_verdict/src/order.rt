@@ -4,11 +4,11 @@ ghost use Rattle.std.specs.Prelude.{◌≤◌, ◌^◌, length, IfOk, IfErr};
 ghost use Rattle.std.specs.List.{All};
 ghost use Rattle.lf_rules.specs.Order.{IsLeastOrder};
 ghost use Rattle.lf_rules.specs.Ring.{skeletons_of};
-ghost use Rattle.lf_logs.specs.Lists.{lists_of};
-ghost use Rattle.lf_verdict.specs.Jobs.{AllAreWhole, IsOrderHalt};
+ghost use Rattle.lf_rules.specs.Lists.{lists_of};
+ghost use Rattle.lf_verdict.specs.Jobs.{AllAreWhole, IsOrderEnding};
 
 use crate::answer::Fault;
-use crate::halt::Halt;
+use crate::ending::Ending;
 use lf_join::{JoinFault, join};
 use lf_logs::skeletons;
 use lf_rules::Logs;
@@ -16,17 +16,17 @@ use std::alloc::Global;
 
 /// The least order that keeps each log's order and each bank's numbers, or the logs that wait for
 /// one another.
-pub fn order_of(alloc: Global, logs: &Logs) -> Result<Vec<u8>, Halt>
+pub fn order_of(alloc: Global, logs: &Logs) -> Result<Vec<u8>, Ending>
     requires few { length logs.now.items ≤ 32 }
     requires short { All (λ log. length log.items ≤ 2 ^ 24) logs.now.items }
     requires whole { AllAreWhole (lists_of logs.now) }
     ensures order { IfOk result (λ order. IsLeastOrder (skeletons_of (lists_of logs.now)) order.items) }
-    ensures ring { IfErr result (IsOrderHalt (skeletons_of (lists_of logs.now))) }
+    ensures ring { IfErr result (IsOrderEnding (skeletons_of (lists_of logs.now))) }
 {
     let all = skeletons(alloc, logs)?;
     match join(alloc, &all) {
         Ok(order) => Ok(order),
-        Err(JoinFault::Cycle(ring)) => Err(Halt::Found(Fault::Cycle(ring))),
-        Err(JoinFault::NoMemory) => Err(Halt::NoMemory),
+        Err(JoinFault::Cycle(ring)) => Err(Ending::Fault(Fault::Cycle(ring))),
+        Err(JoinFault::NoMemory) => Err(Ending::NoMemory),
     }
 }

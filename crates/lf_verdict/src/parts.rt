@@ -3,14 +3,14 @@
 ghost use Rattle.std.specs.Prelude.{◌≤◌, length, IfErr, OnOk, IfSome, IfNone};
 ghost use Rattle.std.specs.Bool.{OnFalse};
 ghost use Rattle.lf_rules.specs.Address.{flat_memory};
-ghost use Rattle.lf_logs.specs.Lists.{lists_of};
+ghost use Rattle.lf_rules.specs.Lists.{lists_of};
 ghost use Rattle.lf_pool.specs.Job.{AreJobs, AreJobOutcomes};
 ghost use Rattle.lf_verdict.specs.Parts.{PartsRun};
-ghost use Rattle.lf_verdict.specs.Judging.{IsHalt, AreWholeBelow, NoneBroken, IsFirstBroken};
+ghost use Rattle.lf_verdict.specs.Judging.{IsEnding, AreWholeBelow, NoneBroken, IsFirstBroken};
 ghost use Rattle.lf_verdict.specs.Jobs.{NoneRanOut};
 
 use crate::answer::Fault;
-use crate::halt::Halt;
+use crate::ending::Ending;
 use crate::standing_verdict::Broken;
 use lf_pool::Jobs;
 use lf_rules::Outcome;
@@ -47,24 +47,24 @@ fn first_broken(all: &[Outcome]) -> Option<Broken>
 
 /// Names what the outcomes of all jobs say: want of memory first, then the lowest port that is broken,
 /// then the lowest bank.
-pub fn judge_outcomes(jobs: &Jobs, outcomes: &[Outcome]) -> Result<(), Halt>
+pub fn judge_outcomes(jobs: &Jobs, outcomes: &[Outcome]) -> Result<(), Ending>
     requires ready { AreJobs jobs.now }
     requires whole { AreWholeBelow (lists_of jobs.now.logs) jobs.now.shape.banks }
     requires outcomes { AreJobOutcomes jobs.now outcomes.now }
     ensures run { OnOk result (PartsRun jobs.now.shape (flat_memory jobs.now.memory.items) (lists_of jobs.now.logs)) }
-    ensures fault { IfErr result (IsHalt jobs.now.shape (flat_memory jobs.now.memory.items) (lists_of jobs.now.logs)) }
+    ensures fault { IfErr result (IsEnding jobs.now.shape (flat_memory jobs.now.memory.items) (lists_of jobs.now.logs)) }
 {
     if ran_out(outcomes) {
-        return Err(Halt::NoMemory);
+        return Err(Ending::NoMemory);
     }
     let (of_ports, of_banks) = outcomes.split_at(jobs.shape.ports as usize);
     if let Some(Broken { part, at, rule }) = first_broken(of_ports) {
         let port = part;
-        return Err(Halt::Found(Fault::Port { port, at, rule }));
+        return Err(Ending::Fault(Fault::Port { port, at, rule }));
     }
     if let Some(Broken { part, at, rule }) = first_broken(of_banks) {
         let (bank, number) = (part, at);
-        return Err(Halt::Found(Fault::Bank { bank, number, rule }));
+        return Err(Ending::Fault(Fault::Bank { bank, number, rule }));
     }
     Ok(())
 }

@@ -1,15 +1,13 @@
 //! The parts of a trace, judged while its records come.
 
-ghost use Rattle.std.specs.Prelude.{◌≡◌, ◌<◌, ℕ, List, [], ◌∷◌, ◌++◌, length, IsTrue, IfOk, OnOk};
+ghost use Rattle.std.specs.Prelude.{◌≡◌, ◌<◌, ℕ, List, [], ◌∷◌, ◌++◌, IsTrue, IfOk, OnOk};
 ghost use Rattle.lf_rules.specs.declared.shape.Shape.{Shape};
 ghost use Rattle.lf_rules.specs.declared.event.Record.{Record};
-ghost use Rattle.lf_rules.specs.Address.{FlatMemory, flat_memory};
-ghost use Rattle.lf_rules.specs.InRange.{IsShape};
+ghost use Rattle.lf_rules.specs.Address.{FlatMemory};
 ghost use Rattle.lf_verdict.specs.declared.standing.Standing.{Standing};
 ghost use Rattle.lf_verdict.specs.Standing.{MayCome, IsEntered, StandsAfterAll};
 
 use crate::bank_judge::BankJudge;
-use crate::halt::push;
 use crate::port_judge::PortJudge;
 use lf_rules::{NoMemory, Record, Skeleton};
 
@@ -31,7 +29,7 @@ impl Standing {
     {
         let log = usize::from(item.log);
         let at = self.logs[log].len() as u32;
-        push(&mut self.logs[log], (item.bank, item.number))?;
+        self.logs[log].push((item.bank, item.number))?;
         if log < self.ports.len() {
             self.ports[log].take(at, item);
         }

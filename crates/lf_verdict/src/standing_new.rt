@@ -3,25 +3,24 @@
 ghost use Rattle.std.specs.Prelude.{◌≡◌, ◌+◌, ◌≤◌, ◌<◌, ℕ, [], IfOk, length, replicate, slice_index_or};
 ghost use Rattle.lf_rules.specs.Address.{flat_memory};
 ghost use Rattle.lf_rules.specs.InRange.{IsShape};
-ghost use Rattle.lf_join.specs.Join.{lists_of};
+ghost use Rattle.lf_join.specs.Join.{skeleton_lists};
 ghost use Rattle.lf_replay.specs.Bytes.{bank_part};
 ghost use Rattle.lf_verdict.specs.declared.port_judge.PortJudge.{PortJudge};
 ghost use Rattle.lf_verdict.specs.declared.bank_judge.BankJudge.{BankJudge};
 ghost use Rattle.lf_verdict.specs.Standing.{IsPortJudged, IsBankSettled, StandsAfterAll};
 
 use crate::bank_judge::BankJudge;
-use crate::halt::push;
 use crate::port_judge::PortJudge;
 use crate::standing::Standing;
 use lf_rules::{Memory, NoMemory, Shape, Skeleton};
 use std::alloc::Global;
 
 fn empty_logs(alloc: Global, count: u32) -> Result<Vec<Skeleton>, NoMemory>
-    ensures { IfOk result (λ logs. lists_of logs.items ≡ replicate count []) }
+    ensures { IfOk result (λ logs. skeleton_lists logs.items ≡ replicate count []) }
 {
     let mut logs = Vec::new(alloc);
     for _ in 0..count {
-        push(&mut logs, Vec::new(alloc))?;
+        logs.push(Vec::new(alloc))?;
     }
     Ok(logs)
 }
@@ -34,7 +33,7 @@ fn port_judges(alloc: Global, shape: &Shape) -> Result<Vec<PortJudge>, NoMemory>
 {
     let mut judges = Vec::new(alloc);
     for port in 0..shape.ports {
-        push(&mut judges, PortJudge::new(shape, port as u8))?;
+        judges.push(PortJudge::new(shape, port as u8))?;
     }
     Ok(judges)
 }
@@ -48,7 +47,7 @@ fn bank_judges(alloc: Global, shape: &Shape, memory: &Memory) -> Result<Vec<Bank
     let mut judges = Vec::new(alloc);
     for bank in 0..shape.banks {
         let judge = BankJudge::new(alloc, shape, memory, bank as u8)?;
-        push(&mut judges, judge)?;
+        judges.push(judge)?;
     }
     Ok(judges)
 }

@@ -5,12 +5,12 @@ ghost use Rattle.lf_rules.specs.declared.shape.Shape.{Shape};
 ghost use Rattle.lf_rules.specs.declared.event.Record.{Record};
 ghost use Rattle.lf_rules.specs.Address.{FlatMemory};
 ghost use Rattle.lf_verdict.specs.Parts.{PartsRun};
-ghost use Rattle.lf_verdict.specs.Judging.{IsHalt, number_halt, AreWholeBelow, IsOrderOf, IsLogsVerdict, IsFirstBroken, NoneBroken};
+ghost use Rattle.lf_verdict.specs.Judging.{IsEnding, number_ending, AreWholeBelow, IsOrderOf, IsLogsVerdict, IsFirstBroken, NoneBroken};
 ghost use Rattle.lf_verdict.specs.Standing.{logs_so_far, IsShort, StandsAfterAll};
 
 use crate::answer::{Fault, Refusal, Verdict};
 use crate::bank_judge::BankJudge;
-use crate::halt::Halt;
+use crate::ending::Ending;
 use crate::port_judge::PortJudge;
 use crate::standing::Standing;
 use lf_join::{JoinFault, join};
@@ -61,73 +61,69 @@ fn first_broken_bank(banks: &[BankJudge]) -> Option<Broken>
 }
 
 /// What a fault of the bank's numbers says.
-pub fn number_halt(bank: u8, fault: NumberFault) -> Halt
-    ensures { result ≡ number_halt bank fault }
+pub fn number_ending(bank: u8, fault: NumberFault) -> Ending
+    ensures { result ≡ number_ending bank fault }
 {
     match fault {
-        NumberFault::Missing(k) => Halt::Found(Fault::Missing { bank, k }),
-        NumberFault::Double(k) => Halt::Found(Fault::Double { bank, k }),
-        NumberFault::NoMemory => Halt::NoMemory,
+        NumberFault::Missing(k) => Ending::Fault(Fault::Missing { bank, k }),
+        NumberFault::Double(k) => Ending::Fault(Fault::Double { bank, k }),
+        NumberFault::NoMemory => Ending::NoMemory,
     }
 }
 
 impl Standing {
     /// The least number of the lowest bank that is missing or double.
-    fn judge_numbers(&self) -> Result<(), Halt>
+    fn judge_numbers(&self) -> Result<(), Ending>
         requires { length self.now.banks.items ≤ 16 }
         ensures whole { (shape : Shape) (memory : FlatMemory) (records : List Record) → StandsAfterAll shape memory records self.now
             → OnOk result (AreWholeBelow (logs_so_far shape records) shape.banks) }
         ensures fault { (shape : Shape) (memory : FlatMemory) (records : List Record) → StandsAfterAll shape memory records self.now
-            → IfErr result (IsHalt shape memory (logs_so_far shape records)) }
+            → IfErr result (IsEnding shape memory (logs_so_far shape records)) }
     {
         for (bank, judge) in self.banks.iter().enumerate() {
             if let Some(fault) = judge.order.fault() {
-                return Err(number_halt(bank as u8, fault));
+                return Err(number_ending(bank as u8, fault));
             }
         }
         Ok(())
     }
 
     /// The lowest port that is broken, then the lowest bank.
-    fn judge_rules(&self) -> Result<(), Halt>
+    fn judge_rules(&self) -> Result<(), Ending>
         requires ports { length self.now.ports.items ≤ 16 }
         requires banks { length self.now.banks.items ≤ 16 }
         ensures run { (shape : Shape) (memory : FlatMemory) (records : List Record) → StandsAfterAll shape memory records self.now
             → AreWholeBelow (logs_so_far shape records) shape.banks → OnOk result (PartsRun shape memory (logs_so_far shape records)) }
         ensures fault { (shape : Shape) (memory : FlatMemory) (records : List Record) → StandsAfterAll shape memory records self.now
-            → AreWholeBelow (logs_so_far shape records) shape.banks → IfErr result (IsHalt shape memory (logs_so_far shape records)) }
+            → AreWholeBelow (logs_so_far shape records) shape.banks → IfErr result (IsEnding shape memory (logs_so_far shape records)) }
     {
         if let Some(Broken { part, at, rule }) = first_broken_port(&self.ports) {
             let port = part;
-            return Err(Halt::Found(Fault::Port { port, at, rule }));
+            return Err(Ending::Fault(Fault::Port { port, at, rule }));
         }
         if let Some(Broken { part, at, rule }) = first_broken_bank(&self.banks) {
             let (bank, number) = (part, at);
-            return Err(Halt::Found(Fault::Bank { bank, number, rule }));
+            return Err(Ending::Fault(Fault::Bank { bank, number, rule }));
         }
         Ok(())
     }
 
     /// The least order of the logs. Numbers are judged first, then the ports, then the banks, then
     /// whether the logs wait for one another.
-    fn judged_order(&self, alloc: Global) -> Result<Vec<u8>, Halt>
+    fn judged_order(&self, alloc: Global) -> Result<Vec<u8>, Ending>
         requires { (shape : Shape) × ((memory : FlatMemory) × ((records : List Record) ×
             (StandsAfterAll shape memory records self.now × IsShort shape records))) }
         ensures order { (shape : Shape) (memory : FlatMemory) (records : List Record) → StandsAfterAll shape memory records self.now → IsShort shape records
             → IfOk result (λ order. IsOrderOf shape memory (logs_so_far shape records) order.items) }
         ensures fault { (shape : Shape) (memory : FlatMemory) (records : List Record) → StandsAfterAll shape memory records self.now → IsShort shape records
-            → IfErr result (IsHalt shape memory (logs_so_far shape records)) }
+            → IfErr result (IsEnding shape memory (logs_so_far shape records)) }
     {
-        if let Err(halt) = self.judge_numbers() {
-            return Err(halt);
-        }
-        if let Err(halt) = self.judge_rules() {
-            return Err(halt);
-        }
+        self.judge_numbers()?;
+        self.judge_rules()?;
         match join(alloc, &self.logs) {
             Ok(order) => Ok(order),
-            Err(JoinFault::Cycle(ring)) => Err(Halt::Found(Fault::Cycle(ring))),
-            Err(JoinFault::NoMemory) => Err(Halt::NoMemory),
+            Err(JoinFault::Cycle(ring)) => Err(Ending::Fault(Fault::Cycle(ring))),
+            Err(JoinFault::NoMemory) => Err(Ending::NoMemory),
         }
     }
 
@@ -143,8 +139,8 @@ impl Standing {
                 events: order.len() as u32,
                 order,
             },
-            Err(Halt::Found(fault)) => Verdict::No(fault),
-            Err(Halt::NoMemory) => Verdict::Refused(Refusal::Memory),
+            Err(Ending::Fault(fault)) => Verdict::No(fault),
+            Err(Ending::NoMemory) => Verdict::Refused(Refusal::Memory),
         }
     }
 }

@@ -4,13 +4,13 @@ use Rattle.lf_rules.specs.Address.{no_bank}
 use Rattle.std.specs.List.{list_any}
 use Rattle.lf_rules.specs.Order.{log_at}
 use Rattle.lf_rules.specs.Ring.{entry_at}
-use Rattle.lf_join.specs.Join.{lists_of}
+use Rattle.lf_join.specs.Join.{skeleton_lists}
 use Rattle.lf_join.proofs.Entries.{entry_at-get_or, wait_from_smaller, smaller_from_wait, no_wait, waits_at_bank, smaller_from_test, test_from_smaller, is_smaller}
 use Rattle.lf_join.proofs.check.waits.Goals as goal
 
 pub returns-then-bank-lt-NO_BANK : goal.returns-then-bank-lt-NO_BANK
 returns-then-bank-lt-NO_BANK c =
-    let skeletons = lists_of c.args.skeletons.now in
+    let skeletons = skeleton_lists c.args.skeletons.now in
     let waiting = c.in-Some.field-0.now in
     let h = c.in-Some.ensures.lookup in
     let named : entry_at (log_at skeletons c.args.knot.log) c.args.knot.at ≡ Some waiting =
@@ -23,7 +23,7 @@ returns-then-bank-lt-NO_BANK c =
 
 pub returns-else-bank-lt-NO_BANK : goal.returns-else-bank-lt-NO_BANK
 returns-else-bank-lt-NO_BANK c =
-    let skeletons = lists_of c.args.skeletons.now in
+    let skeletons = skeleton_lists c.args.skeletons.now in
     let waiting = c.in-Some.field-0.now in
     let h = c.in-Some.ensures.lookup in
     let named : entry_at (log_at skeletons c.args.knot.log) c.args.knot.at ≡ Some waiting =
@@ -37,5 +37,5 @@ pub returns-in-None : goal.returns-in-None
 returns-in-None c =
     let h = c.in-None.ensures.lookup in (
       λ told. cc,
-      λ wait. absurd (no_wait (lists_of c.args.skeletons.now) c.args.knot c.args.next (subst (λ xs. length xs ≤ c.args.knot.at) c.entries.ensures h.3) wait),
+      λ wait. absurd (no_wait (skeleton_lists c.args.skeletons.now) c.args.knot c.args.next (subst (λ xs. length xs ≤ c.args.knot.at) c.entries.ensures h.3) wait),
     )

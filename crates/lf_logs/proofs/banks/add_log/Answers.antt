@@ -33,7 +33,7 @@ loop-item-preserved c =
     let new = c.push.new.self in
     let split = ap (λ (xs : List Record). c.loop-item.yielded ++ xs) (sym rest.0) ∙ c.loop-item.invariant.left in
     let inside : item.bank < length c.args.banks.now.items = omega (arith, c.if-bank-len.false, c.from-bank.ensures, c.len.ensures, c.loop-item.banks.ok.0, c.loop-item.invariant.len) in
-    let pushed : new.items ≡ c.index_mut.result.now.items ++ item ∷ [] = rw c.if-is_err.ensures.negation at c.push.ensures.items in
+    let pushed : new.items ≡ c.index_mut.result.now.items ++ item ∷ [] = c.in_ok-push.ensures.items in
     record {
       can_next = tt;
       finite = tt;

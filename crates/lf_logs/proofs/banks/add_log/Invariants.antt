@@ -1,7 +1,8 @@
 use Rattle.std.proofs.Common.{◌≡◌, ℕ, List, length, ◌++◌}
 use Rattle.std.specs.Vec.Iter.{into_iter_items}
 use Rattle.lf_rules.specs.declared.event.Record.{Record}
-use Rattle.lf_logs.specs.Lists.{lists_of, banks_of}
+use Rattle.lf_rules.specs.Lists.{lists_of}
+use Rattle.lf_logs.specs.Lists.{banks_of}
 use Rattle.lf_logs.proofs.banks.add_log.Given as goal
 
 abbrev pub invariant-loop-item : goal.invariant-loop-item

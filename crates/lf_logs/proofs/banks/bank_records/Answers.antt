@@ -4,7 +4,7 @@ use Rattle.std.specs.Vec.{with_items}
 use Rattle.std.proofs.lemmas.List.Sorted.{length_permutation}
 use Rattle.std.proofs.lemmas.List.{with_items_is}
 use Rattle.lf_rules.specs.Numbers.{numbers_of, IsWhole}
-use Rattle.lf_logs.specs.Lists.{lists_of}
+use Rattle.lf_rules.specs.Lists.{lists_of}
 use Rattle.lf_logs.proofs.BankLists.{OrderedBelow-start, OrderedBelow-more, whole_list}
 use Rattle.lf_logs.proofs.banks.bank_records.Goals as goal
 

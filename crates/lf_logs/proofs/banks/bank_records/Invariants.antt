@@ -1,4 +1,4 @@
-use Rattle.lf_logs.specs.Lists.{lists_of}
+use Rattle.lf_rules.specs.Lists.{lists_of}
 use Rattle.lf_logs.proofs.BankLists.{OrderedBelow}
 use Rattle.lf_logs.proofs.banks.bank_records.Given as goal
 

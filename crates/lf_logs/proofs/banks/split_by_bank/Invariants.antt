@@ -1,7 +1,8 @@
 use Rattle.std.proofs.Common.{◌≡◌, map, ◌++◌}
 use Rattle.std.specs.Vec.Iter.{into_iter_items}
 use Rattle.lf_rules.specs.Numbers.{all_records}
-use Rattle.lf_logs.specs.Lists.{lists_of, banks_of}
+use Rattle.lf_rules.specs.Lists.{lists_of}
+use Rattle.lf_logs.specs.Lists.{banks_of}
 use Rattle.lf_logs.proofs.banks.split_by_bank.Given as goal
 
 abbrev pub invariant-loop-log : goal.invariant-loop-log

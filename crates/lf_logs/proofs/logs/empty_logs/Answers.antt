@@ -6,7 +6,7 @@ use Rattle.lf_logs.proofs.logs.empty_logs.Goals as goal
 
 pub loop-preserved : goal.loop-preserved
 loop-preserved c =
-    let pushed : c.push.new.self.items ≡ c.loop.logs.items ++ c.new.result ∷ [] = rw c.if-is_err.ensures.negation at c.push.ensures.items in
+    let pushed : c.push.new.self.items ≡ c.loop.logs.items ++ c.new.result ∷ [] = c.in_ok-push.ensures.items in
     ap (map (λ v. v.items)) pushed
     ∙ map_push (λ v. v.items) c.loop.logs.items c.new.result
     ∙ ap (λ xs. map (λ v. v.items) c.loop.logs.items ++ xs ∷ []) c.new.ensures.items

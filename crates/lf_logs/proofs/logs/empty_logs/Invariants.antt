@@ -1,5 +1,6 @@
 use Rattle.std.proofs.Common.{◌≡◌, []}
-use Rattle.lf_logs.specs.Lists.{lists_of, logs_of}
+use Rattle.lf_rules.specs.Lists.{lists_of}
+use Rattle.lf_logs.specs.Lists.{logs_of}
 use Rattle.lf_logs.proofs.logs.empty_logs.Given as goal
 
 abbrev pub invariant-loop : goal.invariant-loop

@@ -18,7 +18,7 @@ loop-item-preserved c =
     let rest = c.in-Some.ensures.steps in
     let split = ap (λ xs. c.loop-item.yielded ++ xs) (sym rest.0) ∙ c.loop-item.invariant.left in
     let inside : c.in-Some.item.log < c.args.ports + c.args.banks = All-between (λ r. r.log < c.args.ports + c.args.banks) c.loop-item.yielded c.in-Some.item _ _ split c.requires.logs in
-    let pushed : c.push.new.self.items ≡ c.index_mut.result.now.items ++ c.in-Some.item ∷ [] = rw c.if-is_err.ensures.negation at c.push.ensures.items in
+    let pushed : c.push.new.self.items ≡ c.index_mut.result.now.items ++ c.in-Some.item ∷ [] = c.in_ok-push.ensures.items in
     record {
       can_next = tt;
       finite = tt;

@@ -1,6 +1,7 @@
 use Rattle.std.proofs.Common.{◌≡◌, ◌+◌, ◌++◌}
 use Rattle.std.specs.Vec.Iter.{into_iter_items}
-use Rattle.lf_logs.specs.Lists.{lists_of, logs_of}
+use Rattle.lf_rules.specs.Lists.{lists_of}
+use Rattle.lf_logs.specs.Lists.{logs_of}
 use Rattle.lf_logs.proofs.logs.split.Given as goal
 
 abbrev pub invariant-loop-item : goal.invariant-loop-item

@@ -1,13 +1,11 @@
 use Rattle.std.proofs.Common.{map, length, ap, ◌∙◌, subst, arith}
-use Rattle.std.proofs.lemmas.Result.{err_from_is_err_and, IfOk-weaker}
-use Rattle.lf_logs.specs.Lists.{lists_of}
+use Rattle.std.proofs.lemmas.Result.{err_from_is_err_and}
+use Rattle.lf_rules.specs.Lists.{lists_of}
 use Rattle.lf_logs.specs.Tallies.{AreOnceBelow, IsFirstFault}
-use Rattle.lf_logs.specs.Places.{IsOrder}
 use Rattle.lf_logs.specs.declared.order.Tally.{Tally}
-use Rattle.lf_rules.specs.Numbers.{bank_numbers, IsWhole}
 use Rattle.lf_logs.proofs.Joined.{all_records-le}
 use Rattle.lf_logs.proofs.Tallying.{whole_from, fault_from, no_fault_from}
-use Rattle.lf_logs.proofs.Judged.{IsOrder-from_tallies}
+use Rattle.lf_logs.proofs.Judged.{IsBankOrder-from_tallies}
 use Rattle.lf_logs.proofs.order.bank_order.Goals as goal
 
 pub judge-requires : goal.judge-requires
@@ -34,13 +32,10 @@ pub returns-clause-order : goal.returns-clause-order
 returns-clause-order c =
     let tallies = c.in_ok-tallies.tallies.items in
     let lists = lists_of c.args.logs.now in
-    IfOk-weaker c.last_places.result _ (λ places. IsOrder lists c.args.bank places.items)
-    (λ places is. IsOrder-from_tallies lists c.args.bank tallies places.items c.in_ok-tallies.ensures.len c.in_ok-tallies.ensures.counted (once c) (is ∙ ap (map (λ (t : Tally). t.last)) c.deref-2.ensures.value))
-    c.last_places.ensures.places
+    IsBankOrder-from_tallies lists c.args.bank tallies c.in_ok-last_places.field-0.items c.in_ok-tallies.ensures.len c.in_ok-tallies.ensures.counted (once c)
+    (c.in_ok-last_places.ensures ∙ ap (map (λ (t : Tally). t.last)) c.deref-2.ensures.value)
 
 pub returns-clause-whole : goal.returns-clause-whole
 returns-clause-whole c =
     let tallies = c.in_ok-tallies.tallies.items in
-    IfOk-weaker c.last_places.result _ (λ _. IsWhole (bank_numbers (lists_of c.args.logs.now) c.args.bank))
-    (λ places is. whole_from (lists_of c.args.logs.now) c.args.bank tallies c.in_ok-tallies.ensures.len c.in_ok-tallies.ensures.counted (once c))
-    c.last_places.ensures.places
+    whole_from (lists_of c.args.logs.now) c.args.bank tallies c.in_ok-tallies.ensures.len c.in_ok-tallies.ensures.counted (once c)

@@ -3,7 +3,7 @@ use Rattle.std.proofs.lemmas.List.{with_items_is, get_or-map}
 use Rattle.std.specs.Global.{Vec}
 use Rattle.lf_rules.specs.declared.event.Record.{Record}
 use Rattle.lf_logs.specs.declared.order.Tally.{Tally}
-use Rattle.lf_logs.specs.Lists.{lists_of}
+use Rattle.lf_rules.specs.Lists.{lists_of}
 use Rattle.lf_logs.specs.Tallies.{AreTallies}
 use Rattle.lf_logs.proofs.Joined.{of_first, of_first-more, of_first-le}
 use Rattle.lf_logs.proofs.Tallying.{times-le}

@@ -1,7 +1,7 @@
 use Rattle.std.proofs.Common.{◌≡◌, length}
 use Rattle.lf_rules.specs.Run.{of_bank}
 use Rattle.lf_rules.specs.Numbers.{all_records}
-use Rattle.lf_logs.specs.Lists.{lists_of}
+use Rattle.lf_rules.specs.Lists.{lists_of}
 use Rattle.lf_logs.specs.Tallies.{AreTallies}
 use Rattle.lf_logs.proofs.Joined.{of_first}
 use Rattle.lf_logs.proofs.order.tallies_of.Given as goal

@@ -1,12 +1,11 @@
-use Rattle.std.proofs.Common.{◌≡◌, ◌∙◌, ap, sym, subst, List, length, ◌<◌, arith}
+use Rattle.std.proofs.Common.{◌≡◌, ◌∙◌, ap, sym, subst, length, ◌<◌, arith}
 use Rattle.std.specs.Prelude.{IsSome}
 use Rattle.std.specs.List.{All}
 use Rattle.std.specs.Global.{Vec}
-use Rattle.lf_rules.specs.declared.event.Record.{Record}
 use Rattle.lf_replay.specs.Step.{IsBankOrder}
 use Rattle.lf_replay.specs.Lent.{lent}
 use Rattle.lf_logs.specs.declared.order.Place.{Place}
-use Rattle.lf_logs.specs.Lists.{lists_of}
+use Rattle.lf_rules.specs.Lists.{lists_of}
 use Rattle.lf_logs.specs.Places.{record_at, records_at}
 use Rattle.lf_pool.specs.Job.{places_of}
 use Rattle.lf_pool.proofs.Records.{list_of, bank_list}

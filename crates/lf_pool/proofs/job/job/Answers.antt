@@ -3,7 +3,7 @@ use Rattle.std.specs.Global.{Vec}
 use Rattle.lf_rules.specs.declared.event.Record.{Record}
 use Rattle.lf_rules.specs.Order.{log_at}
 use Rattle.lf_rules.specs.Outcomes.{IsPortOutcome}
-use Rattle.lf_logs.specs.Lists.{lists_of}
+use Rattle.lf_rules.specs.Lists.{lists_of}
 use Rattle.lf_pool.proofs.Records.{list_of}
 use Rattle.lf_pool.proofs.job.job.Goals as goal
 

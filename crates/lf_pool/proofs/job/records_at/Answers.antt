@@ -1,5 +1,5 @@
 use Rattle.std.proofs.Common.{◌+◌, ◌∷◌, [], length, ap, ◌∙◌, arith, length-append}
-use Rattle.lf_logs.specs.Lists.{lists_of}
+use Rattle.lf_rules.specs.Lists.{lists_of}
 use Rattle.lf_logs.specs.declared.order.Place.{Place}
 use Rattle.lf_pool.proofs.Records.{record_more}
 use Rattle.lf_pool.proofs.job.records_at.Goals as goal

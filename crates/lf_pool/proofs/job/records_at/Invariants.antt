@@ -1,5 +1,5 @@
 use Rattle.std.proofs.Common.{◌≡◌, ◌≤◌, length, take, vec_capacity}
-use Rattle.lf_logs.specs.Lists.{lists_of}
+use Rattle.lf_rules.specs.Lists.{lists_of}
 use Rattle.lf_logs.specs.Places.{records_at}
 use Rattle.lf_replay.specs.Lent.{lent}
 use Rattle.lf_pool.proofs.job.records_at.Given as goal

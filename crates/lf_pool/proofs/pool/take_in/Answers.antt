@@ -5,7 +5,7 @@ use Rattle.std.proofs.lemmas.List.Elements.{All-head, All-tail}
 use Rattle.atomic_table.specs.Table.{Joins}
 use Rattle.lf_pool.specs.declared.worker.Worked.{Worked}
 use Rattle.lf_pool.specs.declared.rule.View.TheVariants.{Spent}
-use Rattle.lf_pool.specs.Rule.{Kept, Mine, with_worker}
+use Rattle.lf_pool.specs.Rule.{AreClaimed, Mine, with_worker}
 use Rattle.lf_pool.specs.Worked.{IsWorked, claims_of, entry_of, put_all}
 use Rattle.lf_pool.proofs.Steps.{takes}
 use Rattle.lf_pool.proofs.Placing.{put_each_snoc, keeper_after}
@@ -24,7 +24,7 @@ join_seat-requires c =
       ap (λ (m : Mine). m.1) own.view,
       c.requires.table.1,
       subst
-          (λ (z : Mine × Mine). Joins (Kept shared.key) at.keeper.id z.0.0 x.seat.id z.1.0 (with_worker z.0.0 z.1.0) Spent)
+          (λ (z : Mine × Mine). Joins (AreClaimed shared.key) at.keeper.id z.0.0 x.seat.id z.1.0 (with_worker z.0.0 z.1.0) Spent)
           (λ i. (sym at.invariant.made i, sym own.view i))
           (takes shared.key at.keeper.id c.args.made (map entry_of at.yielded) x.seat.id x.number (claims_of x)),
     )

@@ -1,7 +1,7 @@
 use Rattle.std.proofs.Common.{◌+◌, ◌%◌, ◌^◌, sym, subst}
 use mathlib.Core.Option.{none}
 use Rattle.atomic_table.specs.Table.{step, Allows}
-use Rattle.lf_pool.specs.Rule.{Kept, Mine, Claims}
+use Rattle.lf_pool.specs.Rule.{AreClaimed, Mine, Claims}
 use Rattle.std.specs.Prelude.{All, ◌<◌}
 use Rattle.lf_pool.specs.Rule.{claims_of}
 use Rattle.lf_pool.proofs.Steps.{claims}
@@ -16,7 +16,7 @@ fetch_add-requires c =
       c.requires.table.0,
       c.requires.table.1,
       subst
-          (λ (me : Mine). Allows (Kept shared.key) slots seat.id me 0 (λ n. (n + 1) % 2 ^ 64) (Claims (step slots 0 1 0 none) me))
+          (λ (me : Mine). Allows (AreClaimed shared.key) slots seat.id me 0 (λ n. (n + 1) % 2 ^ 64) (Claims (step slots 0 1 0 none) me))
           (sym c.requires.seat)
           (claims shared.key slots seat.id c.args.number _ (none_past shared.key c.args.done.now.items c.requires.done) c.requires.table.2),
     )

@@ -1,5 +1,5 @@
 use Rattle.std.proofs.Common.{◌≡◌, ◌+◌, ℕ, ◌<◌, take, get_or}
-use Rattle.lf_logs.specs.Lists.{lists_of}
+use Rattle.lf_rules.specs.Lists.{lists_of}
 use Rattle.lf_logs.specs.Places.{records_at}
 use Rattle.lf_stats.specs.Standing.{IsHeld}
 use Rattle.lf_stats.specs.Statistics.{accepted, held, held_count, greatest, kinds, is_hit, is_primary, is_merge, is_stall}

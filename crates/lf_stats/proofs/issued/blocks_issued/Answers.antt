@@ -3,12 +3,12 @@ use Rattle.std.specs.List.{cons_option}
 use Rattle.std.specs.Global.{Vec}
 use Rattle.std.proofs.lemmas.List.{length-set}
 use Rattle.lf_rules.specs.Address.{block_of}
-use Rattle.lf_logs.specs.Lists.{lists_of}
+use Rattle.lf_rules.specs.Lists.{lists_of}
 use Rattle.lf_logs.specs.Places.{records_at}
 use Rattle.lf_stats.specs.Statistics.{issued}
 use Rattle.lf_stats.proofs.Blocks.{block_if, issued_same, issued_new, placed}
 use Rattle.lf_stats.proofs.issued.blocks_issued.Goals as goal
-use Rattle.lf_stats.proofs.issued.blocks_issued.Goals.{in-Issue+else-is_err, in_default}
+use Rattle.lf_stats.proofs.issued.blocks_issued.Goals.{in-Issue+in_ok-push, in_default}
 
 pub loop-place-preserved : goal.loop-place-preserved
 loop-place-preserved c =
@@ -18,12 +18,12 @@ loop-place-preserved c =
     let item = c.record_at-item.result.now in
     let vecs : List (Vec ℕ) = c.loop-place.lists.items in
     elim c.match-item.branch [
-      | in-Issue+else-is_err w ↦
+      | in-Issue+in_ok-push w ↦
           let log = w.from-in-Issue.result in
           let own : log ≡ item.log = w.from-in-Issue.ensures in
           let block = w.in-Issue.address / w.from.result in
           let is : block ≡ block_of c.args.shape.now w.in-Issue.address = ap (λ n. w.in-Issue.address / n) w.from.ensures in
-          let pushed : w.push.new.self.items ≡ w.index_mut.result.now.items ++ block ∷ [] = rw w.if-is_err.ensures.negation at w.push.ensures.items in
+          let pushed : w.push.new.self.items ≡ w.index_mut.result.now.items ++ block ∷ [] = w.in_ok-push.ensures.items in
           let changed : c.match-item.lists.items ≡ set vecs log w.push.new.self = ap (λ (v : Vec (Vec ℕ)). v.items) w.lists-is in
           record {
             len = ap length changed ∙ length-set vecs log w.push.new.self ∙ c.loop-place.invariant.len;

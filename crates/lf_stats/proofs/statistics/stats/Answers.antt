@@ -2,7 +2,7 @@ use Rattle.std.proofs.Common.{◌≡◌, ℕ, List, [], ◌∷◌, ◌++◌, len
 use Rattle.std.specs.Global.{Vec}
 use Rattle.std.proofs.lemmas.List.{length-append, get_or-map}
 use Rattle.lf_rules.specs.declared.event.Record.{Record}
-use Rattle.lf_logs.specs.Lists.{lists_of}
+use Rattle.lf_rules.specs.Lists.{lists_of}
 use Rattle.lf_stats.specs.declared.counts.BankStats.{BankStats}
 use Rattle.lf_stats.specs.Statistics.{unanswered}
 use Rattle.lf_stats.specs.Answer.{IsBankStats}
@@ -16,7 +16,7 @@ pub loop-bank-preserved : goal.loop-bank-preserved
 loop-bank-preserved c =
     let banks : List BankStats = c.loop-bank.banks.items in
     let counts = c.in_ok-counts.counts in
-    let pushed : c.push.new.self.items ≡ banks ++ counts ∷ [] = rw c.if-is_err.ensures.negation at c.push.ensures.items in
+    let pushed : c.push.new.self.items ≡ banks ++ counts ∷ [] = c.in_ok-push.ensures.items in
     record {
       each_bank = omega (arith, ap length pushed, length-append banks (counts ∷ []), c.loop-bank.invariant.each_bank);
       bank = λ b d h.
@@ -30,7 +30,7 @@ loop-port-preserved c =
     let ports : List ℕ = c.loop-port.ports.items in
     let lists = lists_of c.args.logs.now in
     let waiting = c.unanswered.result in
-    let pushed : c.push-in-loop-port.new.self.items ≡ ports ++ waiting ∷ [] = rw c.if-is_err-2.ensures.negation at c.push-in-loop-port.ensures.items in
+    let pushed : c.push-in-loop-port.new.self.items ≡ ports ++ waiting ∷ [] = c.in_ok-push-2.ensures.items in
     let last : waiting ≡ unanswered (get_or lists c.loop-port.port []) =
     let items = λ (v : Vec Record). v.items in
     c.unanswered.ensures

@@ -1,5 +1,5 @@
 use Rattle.std.proofs.Common.{◌≡◌, ℕ, ◌<◌, [], length, get_or}
-use Rattle.lf_logs.specs.Lists.{lists_of}
+use Rattle.lf_rules.specs.Lists.{lists_of}
 use Rattle.lf_stats.specs.declared.counts.BankStats.{BankStats}
 use Rattle.lf_stats.specs.Statistics.{unanswered}
 use Rattle.lf_stats.specs.Answer.{IsBankStats}

@@ -15,5 +15,5 @@ pub returns : goal.returns
 returns c count records was =
     let before = c.args.logs.now.items in
     let long : length before ≡ count = sym (length-map before (λ (v : Vec Record). v.items)) ∙ ap length was ∙ length-parts_of (λ r. r.log) count records in
-    placed (λ r. r.log) before count records c.args.item c.from-log.result c.index_mut.result.now c.push.new.list c.from-log.ensures
-    (omega (arith, long, c.if-log-len.false, c.from-log.ensures, c.len.ensures, c.args.logs.now.ok.0)) was c.index_mut.ensures.value c.in_ok-push.ensures
+    placed (λ r. r.log) before count records c.args.item c.from-log.result c.index_mut.result.now c.push.new.self c.from-log.ensures
+    (omega (arith, long, c.if-log-len.false, c.from-log.ensures, c.len.ensures, c.args.logs.now.ok.0)) was c.index_mut.ensures.value c.in_ok-push.ensures.items

@@ -8,7 +8,7 @@ use Rattle.lf_verdict.proofs.gathering.take_memory.Goals as goal
 pub loop-item-preserved : goal.loop-item-preserved
 loop-item-preserved c = record {
   taken = λ bytes records was.
-      subst (λ (items : List (ℕ × Bytes)). HasRead c.take_memory.new.self bytes items records) (sym c.in_ok-push.ensures)
+      subst (λ (items : List (ℕ × Bytes)). HasRead c.take_memory.new.self bytes items records) (sym c.in_ok-push.ensures.items)
       (c.in-Some.ensures.taken bytes c.loop-item.memory.items records (c.loop-item.invariant.taken bytes records was));
   fault = ap (λ (q : Reading). q.fault) c.in-Some.ensures.rest ∙ c.loop-item.invariant.fault;
 }

@@ -2,7 +2,8 @@ use Rattle.std.proofs.Common.{◌≡◌, ℕ, List, length}
 use Rattle.lf_rules.specs.Fits.{Bytes}
 use Rattle.lf_rules.specs.declared.event.Record.{Record}
 use Rattle.lf_codec.specs.Reader.{HasRead}
-use Rattle.lf_logs.specs.Lists.{lists_of, logs_of}
+use Rattle.lf_rules.specs.Lists.{lists_of}
+use Rattle.lf_logs.specs.Lists.{logs_of}
 use Rattle.lf_verdict.proofs.gathering.take_records.Given as goal
 
 abbrev pub invariant-loop-item : goal.invariant-loop-item

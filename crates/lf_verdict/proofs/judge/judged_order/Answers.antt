@@ -1,4 +1,4 @@
-use Rattle.lf_logs.specs.Lists.{lists_of}
+use Rattle.lf_rules.specs.Lists.{lists_of}
 use Rattle.lf_verdict.proofs.Entries.{all_whole}
 use Rattle.lf_verdict.proofs.judge.judged_order.Goals as goal
 

@@ -1,5 +1,5 @@
 use Rattle.lf_rules.specs.Address.{flat_memory}
-use Rattle.lf_logs.specs.Lists.{lists_of}
+use Rattle.lf_rules.specs.Lists.{lists_of}
 use Rattle.lf_verdict.proofs.Answered.{of_jobs}
 use Rattle.lf_verdict.proofs.judge.logs_verdict.Goals as goal
 

@@ -1,4 +1,4 @@
-use Rattle.lf_logs.specs.Lists.{lists_of}
+use Rattle.lf_rules.specs.Lists.{lists_of}
 use Rattle.lf_verdict.specs.Judging.{AreWholeBelow}
 use Rattle.lf_verdict.specs.Jobs.{AreOrders}
 use Rattle.lf_verdict.proofs.numbers.number_banks.Given as goal

@@ -1,6 +1,5 @@
-use Rattle.std.proofs.Common.{List, length}
 use Rattle.lf_rules.specs.Address.{flat_memory}
-use Rattle.lf_logs.specs.Lists.{lists_of}
+use Rattle.lf_rules.specs.Lists.{lists_of}
 use Rattle.lf_verdict.proofs.Outcomes.{judged, port_fault, bank_fault, parts_run}
 use Rattle.lf_verdict.proofs.parts.judge_outcomes.Goals as goal
 

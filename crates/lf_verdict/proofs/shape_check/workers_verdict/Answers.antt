@@ -1,4 +1,4 @@
-use Rattle.lf_logs.specs.Lists.{lists_of}
+use Rattle.lf_rules.specs.Lists.{lists_of}
 use Rattle.lf_verdict.specs.Legal.{joined}
 use Rattle.lf_verdict.proofs.Traces.{records_fit}
 use Rattle.lf_verdict.proofs.Answered.{logs_count, logs_short, logs_fit_shape, of_workers_logs, of_header, of_reading}

@@ -9,4 +9,4 @@ use Rattle.lf_verdict.proofs.standing_new.bank_judges.Goals as goal
 pub loop-bank-preserved : goal.loop-bank-preserved
 loop-bank-preserved c =
     each_more (λ (bank : ℕ) (judge : BankJudge). IsBankSettled c.args.shape.now (bank_part c.args.shape.now bank (flat_memory c.args.memory.now.items)) bank [] [] judge)
-    c.loop-bank.judges.items c.push.new.list.items c.loop-bank.bank c.in_ok-judge.judge c.loop-bank.invariant.0 c.in_ok-push.ensures c.loop-bank.invariant.1 c.in_ok-judge.ensures
+    c.loop-bank.judges.items c.push.new.self.items c.loop-bank.bank c.in_ok-judge.judge c.loop-bank.invariant.0 c.in_ok-push.ensures.items c.loop-bank.invariant.1 c.in_ok-judge.ensures

@@ -1,7 +1,7 @@
 use Rattle.std.proofs.Common.{◌≡◌, ◌<◌, ◌≤◌, ◌-◌, ◌++◌, ◌^◌, ℕ, List, length, take, drop, map, slice_index, All, subst, sym, ap, ◌∙◌}
 use Rattle.std.proofs.lemmas.List.{take_rest}
 use Rattle.std.proofs.lemmas.List.Elements.{All-drop}
-use Rattle.lf_join.specs.Join.{lists_of}
+use Rattle.lf_join.specs.Join.{skeleton_lists}
 use Rattle.lf_join.specs.Heads.{HeadsWait, knot_of}
 use Rattle.lf_join.proofs.Rounds.{round_of}
 use Rattle.lf_join.proofs.Waits.{path_fits}
@@ -20,7 +20,7 @@ from_lowest-requires-clause-logs c =
 pub returns : goal.returns
 returns c =
     let heads = c.args.self.now in
-    let L = lists_of c.args.skeletons.now in
+    let L = skeleton_lists c.args.skeletons.now in
     let path = c.walk-path.result.0.items in
     let again = c.walk-path.result.1 in
     let is : take (length c.as_slice.result.now - again) (drop again c.as_slice.result.now) ≡ drop again path = take_rest c.as_slice.result.now again ∙ ap (drop again) c.as_slice.ensures.value in

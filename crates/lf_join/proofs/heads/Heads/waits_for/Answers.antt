@@ -1,12 +1,12 @@
 use Rattle.std.proofs.Common.{◌≡◌, Bool, true, false, sym, arith}
-use Rattle.lf_join.specs.Join.{lists_of}
+use Rattle.lf_join.specs.Join.{skeleton_lists}
 use Rattle.lf_join.specs.Heads.{holds_next}
 use Rattle.lf_join.proofs.Waits.{waits_from_test, test_from_waits, is_log}
 use Rattle.lf_join.proofs.heads.Heads.waits_for.Goals as goal
 
 pub returns-then-holds_next-clause-waits : goal.returns-then-holds_next-clause-waits
 returns-then-holds_next-clause-waits c =
-    let L = lists_of c.args.skeletons.now in
+    let L = skeleton_lists c.args.skeletons.now in
     let heads = c.args.self.now in
     waits_from_test L heads.places heads.next c.args.log c.loop-other.other (c.in-Some.bank, c.in-Some.field-0-1) (sym c.in-Some.ensures.entry) (sym c.if-holds_next.ensures)
 
@@ -15,7 +15,7 @@ true_false b t f = cc
 
 pub unreachable-requires-2 : goal.unreachable-requires-2
 unreachable-requires-2 c =
-    let L = lists_of c.args.skeletons.now in
+    let L = skeleton_lists c.args.skeletons.now in
     let heads = c.args.self.now in
     let is = sym c.in-Some.ensures.entry in
     let waits = c.requires.waits c.args.log (c.in-Some.bank, c.in-Some.field-0-1) is in

@@ -1,7 +1,7 @@
 use Rattle.std.proofs.Common.{◌≢◌, ◌<◌, ℕ, List, length, All, slice_index, subst, sym, ap, ◌∙◌, arith}
 use Rattle.std.proofs.lemmas.List.{length_push}
 use Rattle.std.proofs.lemmas.List.Elements.{All-push}
-use Rattle.lf_join.specs.Join.{lists_of}
+use Rattle.lf_join.specs.Join.{skeleton_lists}
 use Rattle.lf_join.specs.Heads.{HeadsWait, IsPath}
 use Rattle.lf_join.proofs.Rounds.{room_left, path_more}
 use Rattle.lf_join.proofs.Waits.{has_next}
@@ -29,7 +29,7 @@ loop-again-preserved c =
     let inv = c.loop-again.invariant in
     let path = c.loop-again.path.items in
     let heads = c.args.self.now in
-    let L = lists_of c.args.skeletons.now in
+    let L = skeleton_lists c.args.skeletons.now in
     let n = length c.args.skeletons.now in
     let new : (k : ℕ) → k < length path → slice_index path k ≢ c.loop-again.log =
     subst (λ (xs : List ℕ). (k : ℕ) → k < length xs → slice_index xs k ≢ c.loop-again.log) c.as_slice.ensures.value c.in_default.ensures.none in

@@ -1,5 +1,5 @@
 use Rattle.std.proofs.Common.{◌+◌, subst}
-use Rattle.lf_join.specs.Join.{lists_of}
+use Rattle.lf_join.specs.Join.{skeleton_lists}
 use Rattle.lf_join.specs.Standings.{Nowhere, IsCalled}
 use Rattle.lf_join.proofs.RosterLemmas.{stands_after, all_settled}
 use Rattle.lf_join.proofs.roster.Roster.let_go.Goals as goal
@@ -9,7 +9,7 @@ settle-requires-clause-nowhere c = c.call.ensures c.args.log Nowhere c.requires.
 
 pub returns-clause-stand : goal.returns-clause-stand
 returns-clause-stand c =
-    let L = lists_of c.args.skeletons.now in
+    let L = skeleton_lists c.args.skeletons.now in
     let old = c.args.heads.now in
     let new = c.advance-bank.new.self in
     let bank = c.advance-bank.result.0 in

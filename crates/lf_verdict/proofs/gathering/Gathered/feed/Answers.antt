@@ -1,4 +1,4 @@
-use Rattle.std.proofs.Common.{◌++◌, List, ℕ, sym, subst, ◌∙◌}
+use Rattle.std.proofs.Common.{◌++◌, ℕ, sym, subst, ◌∙◌}
 use Rattle.lf_codec.specs.declared.fault.CodecFault.{CodecFault}
 use Rattle.lf_verdict.specs.Gathering.{IsFaultOrWant}
 use Rattle.lf_verdict.proofs.Pieces.{feed_failed, told_fine}
@@ -8,14 +8,14 @@ pub returns-clause-ok : goal.returns-clause-ok
 returns-clause-ok c count bytes was =
     let s = c.args.self.now in
     let fed = c.in_default.ensures.ok bytes s.memory.items was.records was.read in
-    let m = c.in-Ok-take_records.ensures.taken count (bytes ++ c.args.piece.now) _ was.records (c.in-Ok.ensures.taken (bytes ++ c.args.piece.now) was.records fed) was.logs in
+    let m = c.in_ok-take_records.ensures.taken count (bytes ++ c.args.piece.now) _ was.records (c.in_ok-take_memory.ensures.taken (bytes ++ c.args.piece.now) was.records fed) was.logs in
     record {
       records = m.0;
       read = m.1.0;
-      fine = c.in-Ok-take_records.ensures.fault ∙ (c.in-Ok.ensures.fault ∙ told_fine s.reader.fault c.feed.new.self.fault was.fine (sym c.in_default.ensures.told));
+      fine = c.in_ok-take_records.ensures.fault ∙ (c.in_ok-take_memory.ensures.fault ∙ told_fine s.reader.fault c.feed.new.self.fault was.fine (sym c.in_default.ensures.told));
       logs = m.1.1;
-      no_memory = c.in-Ok-take_records.ensures.memory ∙ c.in-Ok.ensures.none;
-      no_records = c.in-Ok-take_records.ensures.none;
+      no_memory = c.in_ok-take_records.ensures.memory ∙ c.in_ok-take_memory.ensures.none;
+      no_records = c.in_ok-take_records.ensures.none;
     }
 
 pub returns-in-Err-clause-err : goal.returns-in-Err-clause-err

@@ -17,7 +17,7 @@ loop-item-preserved c = (
         m.0,
         record {
           in_range = m.1.in_range;
-          read = subst (λ (items : List (ℕ × Bytes)). HasRead c.take_memory.new.self bytes items m.0) (sym c.in_ok-push.ensures) (c.in-Some.ensures.taken bytes s.memory.items m.0 m.1.read);
+          read = subst (λ (items : List (ℕ × Bytes)). HasRead c.take_memory.new.self bytes items m.0) (sym c.in_ok-push.ensures.items) (c.in-Some.ensures.taken bytes s.memory.items m.0 m.1.read);
           fine = ap (λ (q : Reading). q.fault) c.in-Some.ensures.rest ∙ m.1.fine;
           judging = waiting_any s.shape bytes s.memory.items _ m.0 s.judging c.loop-item.invariant.2 m.1.judging;
         },

@@ -44,7 +44,7 @@ returns-then-log-len c shape memory records may stands =
     let here = c.take.ensures shape item.log (of_log item.log records)
     (omega (arith, c.len-at.ensures, log_length shape memory records s stands item may c.from-log.result c.index.result.now c.from-log.ensures c.index.ensures)) before in
     record {
-      logs = logs_more shape memory records s stands item may c.from-log.result c.index_mut.result.now c.push.new.list c.from-log.ensures c.index_mut.ensures.value c.in_ok-push.ensures;
+      logs = logs_more shape memory records s stands item may c.from-log.result c.index_mut.result.now c.push.new.self c.from-log.ensures c.index_mut.ensures.value c.in_ok-push.ensures.items;
       count_ports = ap length ports ∙ length-set s.ports.items item.log c.take.new.self ∙ stands.count_ports;
       ports = λ port d lt. subst (λ (js : List PortJudge). IsPortJudged shape port (of_log port (records ++ item ∷ [])) (get_or js port d)) (sym ports)
           (ports_more shape records item s.ports.items c.take.new.self stands.count_ports stands.ports own here port d lt);
@@ -57,7 +57,7 @@ returns-else-log-len c shape memory records may stands =
     let item = c.args.item.now in
     let past : shape.ports ≤ item.log = omega (arith, c.from-log.ensures, c.len.ensures, stands.count_ports, c.if-log-len.false) in
     record {
-      logs = logs_more shape memory records s stands item may c.from-log.result c.index_mut.result.now c.push.new.list c.from-log.ensures c.index_mut.ensures.value c.in_ok-push.ensures;
+      logs = logs_more shape memory records s stands item may c.from-log.result c.index_mut.result.now c.push.new.self c.from-log.ensures c.index_mut.ensures.value c.in_ok-push.ensures.items;
       count_ports = stands.count_ports;
       ports = ports_same shape records item s.ports.items stands.ports past;
       banks = refl;

@@ -1,7 +1,7 @@
 use Rattle.std.proofs.Common.{◌<◌, sym, subst, arith}
 use Rattle.lf_rules.specs.Run.{of_bank}
 use Rattle.lf_rules.specs.Order.{log_at}
-use Rattle.lf_verdict.specs.Judging.{IsHalt}
+use Rattle.lf_verdict.specs.Judging.{IsEnding}
 use Rattle.lf_verdict.specs.Standing.{logs_so_far}
 use Rattle.lf_verdict.proofs.Numbering.{first_fault, whole_more}
 use Rattle.lf_verdict.proofs.Settled.{bank_read, bank_whole, bank_fault}
@@ -13,7 +13,7 @@ returns-in-Some-clause-fault c shape memory records stands =
     let bank = c.loop-bank.bank in
     let lt : bank < shape.banks = omega (arith, c.loop-bank-test.true, c.deref-judge-items.ensures.len, stands.count_banks) in
     let here = bank_read shape memory records s stands bank c.deref-judge-items.result.now c.judge-item.result c.deref-judge-items.ensures.value c.judge-item.is lt in
-    subst (IsHalt shape memory (logs_so_far shape records)) (sym c.number_halt.ensures)
+    subst (IsEnding shape memory (logs_so_far shape records)) (sym c.number_ending.ensures)
     (first_fault shape (logs_so_far shape records) bank c.in-Some.fault lt (c.loop-bank.invariant shape memory records stands)
     (bank_fault shape memory records s stands bank c.in-Some.fault (c.in-Some.ensures.fault (of_bank bank records) (log_at stands.given bank) here.bank_judged.ordered)) memory)
 

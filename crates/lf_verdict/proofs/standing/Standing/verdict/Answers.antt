@@ -11,5 +11,5 @@ overflow_cast-result c =
 pub returns-in-Ok : goal.returns-in-Ok
 returns-in-Ok c shape memory records stands short = (c.in-Ok.ensures.order shape memory records stands short, omega (arith, c.len.ensures))
 
-pub returns-in-Err-Found : goal.returns-in-Err-Found
-returns-in-Err-Found c shape memory records stands short = rw c.in-Err-Found.field-0-is at (c.in-Err-Found.ensures.fault shape memory records stands short)
+pub returns-in-Err-Fault : goal.returns-in-Err-Fault
+returns-in-Err-Fault c shape memory records stands short = rw c.in-Err-Fault.field-0-is at (c.in-Err-Fault.ensures.fault shape memory records stands short)
