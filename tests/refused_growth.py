@@ -5,8 +5,8 @@ until a run meets no refusal, and tells each run in which a refused growth was n
     refused_growth.py [WORD]      only the runs whose name has the word
 
 The programs are those that `rt run` in crates/score and `rt test` in each crate left in out/. It needs a C compiler
-(cc, or the one that CC names), for a library that refuses one call of malloc or of pthread_create. Where a growth
-is refused, the program must print `refused memory`, or `refused thread` where it was the making of a thread. Runs
+(cc, or the one that CC names), for a library that refuses one call of malloc, of realloc or of pthread_create. Where a
+growth is refused, the program must print `refused memory`, or `refused thread` where it was the making of a thread. Runs
 of `demo` are tried at some growths alone, since their number changes from run to run.
 
 Each test whose name begins with `refused_growth_of_` must then end with `want of memory`, where the call told it
@@ -40,6 +40,7 @@ SHIM = r"""
 #include <unistd.h>
 
 extern void *__libc_malloc(size_t);
+extern void *__libc_realloc(void *, size_t);
 static long turn;
 
 static int is_refused(const char *what, size_t size) {
@@ -61,6 +62,14 @@ void *malloc(size_t size) {
         return 0;
     }
     return __libc_malloc(size);
+}
+
+void *realloc(void *block, size_t size) {
+    if (is_refused("bytes", size)) {
+        errno = ENOMEM;
+        return 0;
+    }
+    return __libc_realloc(block, size);
 }
 
 int pthread_create(pthread_t *thread, const pthread_attr_t *how, void *(*start)(void *), void *with) {

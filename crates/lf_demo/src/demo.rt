@@ -1,8 +1,9 @@
 //! A demonstration from its threads to its trace.
 
-ghost use Rattle.std.specs.Prelude.{All, IfOk, map};
+ghost use Rattle.std.specs.Prelude.{◌≡◌, All, Err, IfOk, map};
 ghost use Rattle.lf_rules.specs.InRange.{IsShape};
 ghost use Rattle.lf_demo.specs.Demo.{IsDemo, IsRecording, IsTraceOf};
+ghost use Rattle.lf_demo.specs.declared.fault.DemoFault.{DemoFault};
 ghost use Rattle.lf_demo.specs.Threads.{IsNew, IsRecorded, IsWhole};
 
 use crate::fault::DemoFault;
@@ -159,15 +160,21 @@ fn written(alloc: Global, shape: &Shape, logs: Logs) -> Result<(u32, Vec<u8>), D
 
 /// Runs the design of this shape, a thread for each port and for each bank, and gives the number of
 /// its events and its trace. A thread that makes so many turns without an event gives up, and so do
-/// all others then: with no turns the answer is `Turns`.
+/// all others then, which is `Turns`; with no turns none is started. `Memory` where a growth was refused, and
+/// `Thread` where a thread was.
 pub fn demo_trace<R: Threads + Wait + AllocGlobal + Sync>(
     rt: &R,
     shape: &Shape,
     turns: u32,
 ) -> Result<(u32, Vec<u8>), DemoFault>
     requires { IsShape shape.now }
-    ensures { IfOk result (λ demo. IsDemo shape.now demo.0 demo.1.items) }
+    ensures demo { IfOk result (λ demo. IsDemo shape.now demo.0 demo.1.items) }
+    ensures no_turns { turns ≡ 0 → result ≡ Err DemoFault.Turns }
 {
+    if turns == 0 {
+        // No thread could come to anything, so none is started.
+        return Err(DemoFault::Turns);
+    }
     let alloc = rt.alloc();
     let logs = recorded(rt, alloc, shape, turns)?;
     let (count, bytes) = written(alloc, shape, logs)?;

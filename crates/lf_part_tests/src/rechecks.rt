@@ -27,7 +27,7 @@ fn log_is_sound(shape: &Shape, log: usize, records: &[Record]) -> bool
     true
 }
 
-fn are_sound(shape: &Shape, logs: &Logs) -> bool
+pub fn are_sound(shape: &Shape, logs: &Logs) -> bool
     requires { IsShape shape.now }
     ensures few { IsTrue result → length logs.now.items ≤ 32 }
     ensures short { IsTrue result → All (λ log. length log.items ≤ 2 ^ 24) logs.now.items }

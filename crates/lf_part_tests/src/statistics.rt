@@ -6,7 +6,7 @@ ghost use Rattle.lf_rules.specs.InRange.{IsShape};
 use lf_logs::bank_order;
 use lf_rules::Shape;
 use lf_samples::{C1, LOAD, LOADED, logs, records};
-use lf_stats::stats;
+use lf_stats::{Stats, stats};
 use std::alloc::Global;
 use std::test::Fail;
 
@@ -19,42 +19,47 @@ fn shape() -> Shape
     C1
 }
 
-/// The lines of the statistics.
-fn lines(alloc: Global, parts: &[&str]) -> Result<String, Fail> {
+/// The statistics of these events, or nothing where memory ran out for them.
+pub fn counted(alloc: Global, parts: &[&str]) -> Result<Option<Stats>, Fail> {
     let records = records(alloc, &C1, parts)?;
     let logs = logs(alloc, 2, records)?;
     if logs.len() != 2 || !logs.iter().all(|log| log.len() <= 1 << 24) {
         return Err(Fail::from("too long"));
     }
     match bank_order(alloc, &logs, 0) {
-        Ok(_) => {
-            let stats = stats(alloc, &shape(), &logs).ok().ok_or("no memory")?;
-            Ok(format!(in alloc; "{stats}")?)
-        }
+        Ok(_) => Ok(stats(alloc, &shape(), &logs).ok()),
         Err(_) => Err(Fail::from("no order")),
     }
 }
 
+/// The lines of the statistics.
+fn lines(alloc: Global, parts: &[&str]) -> Result<String, Fail> {
+    let stats = counted(alloc, parts)?.ok_or("no memory")?;
+    Ok(format!(in alloc; "{stats}")?)
+}
+
+/// The events of three examples, and the lines of their statistics.
+pub const THREE: [(&str, &str); 3] = [
+    // load_merges_behind_store
+    (
+        "S 0 1@0=aa, P 0 0, L 1 1@0, M 1 0, SP 0 0, F2 0, F1 0, R 0, R 1=aa",
+        "bank=0 hits=0 primary=1 merges=1 stalls=0 peak=1\nport=0 unanswered=0\n",
+    ),
+    // explicit_entries_full
+    (
+        "L 0 8@0, P 0 0, L 1 8@0, M 1 0, L 2 8@0, X 2",
+        "bank=0 hits=0 primary=1 merges=1 stalls=1 peak=1\nport=0 unanswered=3\n",
+    ),
+    // inverted_two_registers
+    (
+        "L 0 8@0, P 0 0, L 1 8@0, M 1 1",
+        "bank=0 hits=0 primary=1 merges=1 stalls=0 peak=2\nport=0 unanswered=2\n",
+    ),
+];
+
 #[test]
 fn statistics_of_three(rt: HostRuntime) -> Result<(), Fail> {
-    let stored = "S 0 1@0=aa, P 0 0, L 1 1@0, M 1 0, SP 0 0, F2 0, F1 0, R 0, R 1=aa";
-    for (events, told) in [
-        // load_merges_behind_store
-        (
-            stored,
-            "bank=0 hits=0 primary=1 merges=1 stalls=0 peak=1\nport=0 unanswered=0\n",
-        ),
-        // explicit_entries_full
-        (
-            "L 0 8@0, P 0 0, L 1 8@0, M 1 0, L 2 8@0, X 2",
-            "bank=0 hits=0 primary=1 merges=1 stalls=1 peak=1\nport=0 unanswered=3\n",
-        ),
-        // inverted_two_registers
-        (
-            "L 0 8@0, P 0 0, L 1 8@0, M 1 1",
-            "bank=0 hits=0 primary=1 merges=1 stalls=0 peak=2\nport=0 unanswered=2\n",
-        ),
-    ] {
+    for (events, told) in THREE {
         assert_eq!(rt; lines(rt.alloc(), &[events])?.as_str(), told);
     }
     Ok(())

@@ -62,6 +62,7 @@ CONFIG is a TOML document with the keys ports, banks, block (bytes) and tags (of
 tables level1 and level2 with the keys sets, ways, organisation (\"implicit\", \"explicit\" or
 \"inverted\"), registers (not for inverted) and entries (only for explicit). level2 may have the key
 blocks (level2.blocks): of how many first-level blocks its blocks are, 1, 2 or 4. Without it that is 1.
+A file of more than 1 MiB is no configuration, and told as one that cannot be read.
 
 TRACE is of version 1, 2 or 3 of the format. Version 2 adds fences and longer logs, version 3 blocks of
 level two that have 2 or 4 blocks.";

@@ -12,7 +12,7 @@ mod tests;
 mod trace;
 
 use command::{CommandFault, Request, asked};
-use configuration::text_in;
+use configuration::{bytes_at, text_in};
 use demonstration::{Demonstration, demonstrate};
 use lf_engine::{Counted, InputFault, Line, RunFault, are_workers, run, run_stats};
 use lf_verdict::Verdict;
@@ -66,7 +66,7 @@ where
     if !are_workers(workers) {
         return Ok(judge(rt, "", io::empty(), workers));
     }
-    let read = std::fs::read(rt, config);
+    let read = bytes_at(rt, config);
     match text_in(&read) {
         Ok(text) => Ok(judge(rt, text, Trace::open(rt, trace), workers)),
         Err(why) => refused(rt, why),
@@ -78,7 +78,7 @@ fn stats<T: Print + Files + AllocGlobal>(rt: &T, config: &str, trace: &str) -> i
 where
     T::File: Drop,
 {
-    let read = std::fs::read(rt, config);
+    let read = bytes_at(rt, config);
     let text = match text_in(&read) {
         Ok(text) => text,
         Err(why) => return refused(rt, why),
@@ -94,8 +94,11 @@ fn demo<T: Print + Files + AllocGlobal + Threads + Wait + Sync>(
     rt: &T,
     config: &str,
     out: &str,
-) -> io::Result<ExitCode> {
-    let read = std::fs::read(rt, config);
+) -> io::Result<ExitCode>
+where
+    T::File: Drop,
+{
+    let read = bytes_at(rt, config);
     let text = match text_in(&read) {
         Ok(text) => text,
         Err(why) => return refused(rt, why),

@@ -1,7 +1,7 @@
 //! What the words of the command line ask for, and files that cannot be read.
 
 use crate::command::{CommandFault, Request, asked};
-use crate::configuration::text_in;
+use crate::configuration::{MOST_BYTES, bytes_at, bytes_within, text_in};
 use crate::tests::demonstration::SMALL_TEXT;
 use crate::trace::Trace;
 use lf_engine::{Counted, InputFault, RunFault, run};
@@ -149,7 +149,7 @@ fn file_that_cannot_be_opened(rt: HostRuntime) -> Result<(), Fail> {
 #[test]
 fn missing_files_and_directories(rt: HostRuntime) -> Result<(), Fail> {
     for path in ["no such file", "."] {
-        let config = std::fs::read(&rt, path);
+        let config = bytes_at(&rt, path);
         assert_eq!(rt; text_in(&config), Err(InputFault::ReadConfig), "{path}");
         let mut reader = Counted::new(Trace::open(&rt, path));
         let mut writer = Counted::new(Vec::new(rt.alloc()));
@@ -191,6 +191,17 @@ fn configuration_files(rt: HostRuntime) -> Result<(), Fail> {
     let mut bytes = Vec::new(rt.alloc());
     bytes.extend_from_slice(b"ports = 1")?;
     assert_text(&rt, &Ok(bytes), Ok("ports = 1"))
+}
+
+/// A configuration may have so many bytes and no more, and one that never ends has more.
+#[test]
+fn configuration_that_never_ends(rt: HostRuntime) -> Result<(), Fail> {
+    let short = bytes_within(rt.alloc(), b"ports = 1".as_slice(), 9);
+    assert_text(&rt, &short, Ok("ports = 1"))?;
+    let long = bytes_within(rt.alloc(), b"ports = 1\n".as_slice(), 9);
+    assert_text(&rt, &long, Err(InputFault::ReadConfig))?;
+    let endless = bytes_within(rt.alloc(), io::repeat(b'#'), MOST_BYTES);
+    assert_text(&rt, &endless, Err(InputFault::ReadConfig))
 }
 
 #[test]
