@@ -3,9 +3,9 @@
 ghost use Rattle.std.specs.Prelude.{◌≡◌};
 ghost use Rattle.lf_rules.specs.InRange.{IsShape};
 
-use lf_replay::Step;
+use lf_replay::{BankFault, Step};
 use lf_rules::{Record, Shape, fits};
-use lf_samples::{C1, records};
+use lf_samples::{C1, records, want_of_memory};
 use std::alloc::Global;
 use std::test::Fail;
 
@@ -50,4 +50,42 @@ fn a_step_goes_on_after_a_fault(rt: HostRuntime) -> Result<(), Fail> {
     let refused = refused_by_step(rt.alloc(), &C1, &[misses, fills, replies])?;
     assert_eq!(rt; refused, 9);
     Ok(())
+}
+
+/// Applies these records of bank 0, each again where that was refused for want of memory. Whether any was, or
+/// nothing where one is no record of the bank or is refused otherwise.
+fn applied(step: &mut Step, shape: &Shape, records: &[Record]) -> Option<bool>
+    requires in_range { IsShape shape.now }
+    requires shape { step.old.kept.shape ≡ shape.now }
+    requires bank { step.old.bank ≡ 0 }
+{
+    let mut is_told = false;
+    for item in records {
+        if !fits(shape.ports, shape.banks, shape.block, shape.factor, item) || item.bank != 0 {
+            return None;
+        }
+        let mut answer = step.apply(item);
+        if answer == Err(BankFault::NoMemory) {
+            is_told = true;
+            answer = step.apply(item);
+        }
+        answer.ok()?;
+    }
+    Some(is_told)
+}
+
+/// A record that is refused for want of memory is taken when it comes again.
+#[test]
+fn refused_growth_of_a_step(rt: HostRuntime) -> Result<(), Fail> {
+    let events = "S 0 1@0=aa, P 0 0, L 1 1@0, M 1 0, SP 0 0, F2 0, F1 0, R 0, R 1=aa";
+    let records = records(rt.alloc(), &C1, &[events])?;
+    let memory = Vec::new(rt.alloc());
+    let Ok(mut step) = Step::new(rt.alloc(), &C1, &memory, 0) else {
+        return Err(want_of_memory());
+    };
+    match applied(&mut step, &C1, &records) {
+        Some(false) => Ok(()),
+        Some(true) => Err(want_of_memory()),
+        None => Err(Fail::new("a record is refused twice")),
+    }
 }
