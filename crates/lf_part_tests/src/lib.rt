@@ -9,6 +9,8 @@ mod fitting;
 #[cfg(test)]
 mod growth;
 #[cfg(test)]
+mod kept_values;
+#[cfg(test)]
 mod lines;
 #[cfg(test)]
 mod logs_of_traces;

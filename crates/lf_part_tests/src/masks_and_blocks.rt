@@ -2,7 +2,8 @@
 
 ghost use Rattle.std.specs.Prelude.{◌≡◌, length};
 
-use lf_rules::{Block, Mask, agree_off, overlay};
+use lf_rules::{Block, Mask, agree_off, clean_masks, mask_at, overlay, same_masks};
+use lf_samples::masks;
 
 fn block_of(first: u8, second: u8, third: u8) -> Block
     ensures { length result.items ≡ 3 }
@@ -38,4 +39,14 @@ fn blocks_under_a_mask(rt: HostRuntime) {
     assert!(rt; !agree_off(&old, &new, Mask::of(0, 1)));
     assert!(rt; overlay(&old, &new, Mask::of(1, 2)) == new);
     assert!(rt; overlay(&old, &new, Mask::of(2, 1)) == old);
+}
+
+#[test]
+fn masks_of_a_second_level_block(rt: HostRuntime) {
+    let two = masks("3,c0");
+    assert_eq!(rt; mask_at(&two, 1), 0xc0);
+    assert_eq!(rt; mask_at(&two, 2), 0);
+    assert!(rt; same_masks(1, &two, &masks("3,0")));
+    assert!(rt; !same_masks(2, &two, &masks("3,0")));
+    assert!(rt; clean_masks(2) == masks("0,0"));
 }

@@ -1,0 +1,71 @@
+//! What a run keeps beside its lines and registers: memory, the queue of a port, ready replies.
+
+use lf_rules::Op;
+use lf_samples::{C1, TWO_PORTS_TWO_BANKS, memory};
+use lf_state::{
+    Data, FlatMemory, Ready, Request, drop_head, drop_ready, empty_queues, enqueue, head, push,
+    ready_for,
+};
+use std::test::Fail;
+
+/// Block 0 is of bank 0, and block 1 of bank 1.
+#[test]
+fn a_bank_has_its_own_blocks(rt: HostRuntime) -> Result<(), Fail> {
+    let named = memory(
+        rt.alloc(),
+        &[(0, "0011223344556677"), (1, "8899aabbccddeeff")],
+    )?;
+    let whole = FlatMemory::new(rt.alloc(), &named).ok().ok_or("no memory")?;
+    assert_eq!(rt; whole.bytes_of(0)[1], 0x11);
+    assert_eq!(rt; whole.bytes_of(1)[1], 0x99);
+    let part = FlatMemory::of_bank(rt.alloc(), &named, &TWO_PORTS_TWO_BANKS, 1)
+        .ok()
+        .ok_or("no memory")?;
+    assert_eq!(rt; part.bytes_of(0)[1], 0);
+    assert_eq!(rt; part.bytes_of(1)[1], 0x99);
+    Ok(())
+}
+
+#[test]
+fn a_load_finds_what_a_store_wrote(rt: HostRuntime) -> Result<(), Fail> {
+    let mut flat = FlatMemory::new(rt.alloc(), &[]).ok().ok_or("no memory")?;
+    let store = Request::of_issue(&C1, Op::Store, 0, 2, 10, &[7, 9]);
+    let load = Request::of_issue(&C1, Op::Load, 1, 4, 8, &[]);
+    flat.accept(&store).ok().ok_or("no memory")?;
+    assert_eq!(rt; flat.value_of(&load).as_slice(), [0, 0, 7, 9].as_slice());
+    assert_eq!(rt; flat.value_of(&store).len(), 0);
+    assert_eq!(rt; store.store_mask(), 0b1100);
+    Ok(())
+}
+
+#[test]
+fn a_queue_gives_its_oldest_request(rt: HostRuntime) -> Result<(), Fail> {
+    let mut queues = empty_queues(rt.alloc(), 1).ok().ok_or("no memory")?;
+    for tag in [3, 2] {
+        let load = Request::of_issue(&C1, Op::Load, tag, 4, 8, &[]);
+        enqueue(&mut queues, 0, load).ok().ok_or("no memory")?;
+    }
+    assert!(rt; head(&queues, 0, 2).is_none());
+    assert_eq!(rt; head(&queues, 0, 3).map(|request| request.block()), Some(1));
+    drop_head(&mut queues, 0);
+    assert!(rt; head(&queues, 0, 2).is_some());
+    Ok(())
+}
+
+#[test]
+fn a_reply_leaves_once(rt: HostRuntime) -> Result<(), Fail> {
+    let mut ready = Vec::new(rt.alloc());
+    for port in [0, 1] {
+        push(&mut ready, Ready::new(port, 5, Data::new()))
+            .ok()
+            .ok_or("no memory")?;
+    }
+    assert!(rt; ready_for(&ready, 1, 5).is_some());
+    drop_ready(&mut ready, 1, 5);
+    assert!(rt; ready_for(&ready, 1, 5).is_none());
+    assert_eq!(rt;
+        ready_for(&ready, 0, 5).map(|reply| reply.value().len()),
+        Some(0)
+    );
+    Ok(())
+}
