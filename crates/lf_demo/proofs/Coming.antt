@@ -1,13 +1,12 @@
--- A port's log grows by a request, by a reply, and by the fence.
-use Rattle.std.proofs.Common.{◌≡◌, ℕ, ◌+◌, ◌%◌, ◌<◌, ◌≤◌, ◌≢◌, List, [], ◌∷◌, ◌++◌, replicate, cond, refl, sym, ap, subst, ◌∙◌, arith, length-append}
-use Rattle.std.proofs.lemmas.List.{map_push, append-nil}
+-- A port's log grows by a request and by the fence.
+use Rattle.std.proofs.Common.{◌≡◌, ℕ, ◌+◌, ◌%◌, ◌<◌, ◌≤◌, List, [], ◌∷◌, ◌++◌, replicate, cond, refl, sym, ap, subst, ◌∙◌, arith, length-append}
+use Rattle.std.proofs.lemmas.List.{map_push}
 use Rattle.std.proofs.lemmas.List.Elements.{filter-append}
 use Rattle.std.proofs.lemmas.List.FromFn.{map-range_with_len_more}
 use Rattle.std.proofs.lemmas.List.Sums.{sum_by-append}
-use Rattle.lf_rules.specs.Fits.{Bytes}
 use Rattle.lf_rules.specs.declared.shape.Shape.{Shape}
 use Rattle.lf_rules.specs.declared.event.Event.{Event}
-use Rattle.lf_rules.specs.declared.event.Event.TheVariants.{Reply, Fence}
+use Rattle.lf_rules.specs.declared.event.Event.TheVariants.{Fence}
 use Rattle.lf_rules.specs.declared.event.Op.{Op}
 use Rattle.lf_recorder.specs.Desk.{SeatView, with_record}
 use Rattle.lf_demo.specs.declared.port.Port.{Port}
@@ -22,14 +21,6 @@ come_issue shape port issued replied events h = record {
   count = length-append events (request_of shape port issued ∷ []) ∙ (let was = h.count in omega arith);
 }
 
-come_reply : (shape : Shape) (port issued replied : ℕ) (events : List Event) (tag size : ℕ) (bytes : Bytes) → HasCome shape port issued replied events
-    → HasCome shape port issued (replied + 1) (events ++ Reply tag size bytes ∷ [])
-come_reply shape port issued replied events tag size bytes h = record {
-  issues = filter-append is_issue events (Reply tag size bytes ∷ []) ∙ (append-nil _ ∙ h.issues);
-  replies = sum_by-append (λ e. cond (is_reply e) 1 0) events (Reply tag size bytes ∷ []) ∙ (let was = h.replies in omega arith);
-  count = length-append events (Reply tag size bytes ∷ []) ∙ (let was = h.count in omega arith);
-}
-
 -- a request as it is made is the port's request of its number
 pub request_made : (shape : Shape) (port i : ℕ) (op : Op) (tag block : ℕ) (bytes : List ℕ) → op ≡ op_of i → tag ≡ i % shape.tags → block ≡ block_of shape port i → bytes ≡ replicate 8 i
     → issue_of shape op tag block bytes ≡ request_of shape port i
@@ -38,14 +29,6 @@ request_made shape port i op tag block bytes is_op is_tag is_block is_bytes = rw
 -- the events of a seat with one more record
 more_events : (seat : SeatView) (bank number : ℕ) (event : Event) → events_of (with_record seat bank number event).records ≡ events_of seat.records ++ event ∷ []
 more_events seat bank number event = map_push (λ r. r.event) seat.records (record { log = seat.log; bank = bank; number = number; event = event })
-
-pub counts_nothing : (shape : Shape) (port : Port) (seat : SeatView) → port.number ≡ seat.log → port.issued ≡ 0 → port.replied ≡ 0 → seat.records ≡ [] → Counts shape port seat
-counts_nothing shape port seat number issued replied empty = record {
-  number = number;
-  few = omega (arith, issued);
-  owed = omega (arith, replied);
-  come = rw (issued, replied, empty) (record { issues = refl; replies = refl; count = refl });
-}
 
 pub counts_issue : (shape : Shape) (port port' : Port) (seat seat' : SeatView) (bank number : ℕ) (event : Event) → Counts shape port seat → port.issued < 64
     → event ≡ request_of shape port.number port.issued → seat' ≡ with_record seat bank number event
@@ -57,18 +40,6 @@ counts_issue shape port port' seat seat' bank number event h few is grown same i
       few = omega (arith, issued);
       owed = let was = h.owed in omega (arith, issued, replied);
       come = rw (log, events, issued, replied) (come_issue shape seat.log port.issued port.replied (events_of seat.records) h.come);
-    }
-
-pub counts_reply : (shape : Shape) (port port' : Port) (seat seat' : SeatView) (bank number tag size : ℕ) (bytes : Bytes) → Counts shape port seat → port.replied ≢ port.issued
-    → seat' ≡ with_record seat bank number (Reply tag size bytes)
-    → port'.number ≡ port.number → port'.issued ≡ port.issued → port'.replied ≡ port.replied + 1 → Counts shape port' seat'
-counts_reply shape port port' seat seat' bank number tag size bytes h less grown same issued replied =
-    let log : seat'.log ≡ seat.log = ap (λ (s : SeatView). s.log) grown in
-    let events : events_of seat'.records ≡ events_of seat.records ++ Reply tag size bytes ∷ [] = ap (λ (s : SeatView). events_of s.records) grown ∙ more_events seat bank number (Reply tag size bytes) in record {
-      number = same ∙ (h.number ∙ sym log);
-      few = let was = h.few in omega (arith, issued);
-      owed = let was = h.owed in omega (arith, issued, replied, less);
-      come = rw (log, events, issued, replied) (come_reply shape seat.log port.issued port.replied (events_of seat.records) tag size bytes h.come);
     }
 
 pub whole_log : (shape : Shape) (port : Port) (seat seat' : SeatView) (bank number : ℕ) → Counts shape port seat → 64 ≤ port.replied

@@ -2,14 +2,14 @@
 
 ghost use Rattle.std.specs.Prelude.{◌≡◌, ◌≢◌, ◌≤◌, ◌<◌, ◌↔◌, ◌++◌, ℕ, List, [], length, IfOk, IfErr, OnOk, IsErrOf, IsTrue, vec_len};
 ghost use Rattle.lf_codec.specs.Laws.{AreBytes};
-ghost use Rattle.lf_verdict.specs.Session.{HasFed, refusal_in};
+ghost use Rattle.lf_verdict.specs.Session.{HasFed};
 ghost use Rattle.lf_engine.specs.Counted.{calls_of, failures_of, inner_of};
 ghost use Rattle.lf_engine.specs.declared.gathering.Stop.{Stop};
 ghost use Rattle.lf_engine.specs.Gathered.{HasFault};
 ghost use Rattle.lf_engine.specs.Run.{GaveSound, HasGathered, piece_len};
 
 use crate::counted::Counted;
-use lf_codec::{Told, fault_so_far};
+use lf_codec::fault_so_far;
 use lf_rules::NoMemory;
 use lf_verdict::{Refusal, Session};
 use std::alloc::{AllocError, Global};
@@ -44,20 +44,10 @@ pub fn feed(session: &mut Session, piece: &[u8]) -> Result<bool, NoMemory>
     fault_so_far();
     match session.feed(piece) {
         Ok(()) => Ok(false),
-        Err(told) => match refusal_in(told) {
+        Err(told) => match told.fault() {
             Refusal::Memory => Err(NoMemory),
             _ => Ok(true),
         },
-    }
-}
-
-/// The refusal, however often it was told.
-fn refusal_in(told: Told<Refusal>) -> Refusal
-    ensures { result ≡ refusal_in told }
-{
-    match told {
-        Told::Fault(refusal) => refusal,
-        Told::Failed(refusal) => refusal,
     }
 }
 

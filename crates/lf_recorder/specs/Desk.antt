@@ -1,5 +1,6 @@
 -- What contracts see of a desk and of a seat, and what they say.
-use Rattle.std.specs.Prelude.{◌≡◌, ◌==◌, ◌+◌, ◌^◌, ℕ, Bool, true, false, cond, not, ◌||◌, ◌&&◌, nat_lt, nat_le, List, [], ◌∷◌, ◌++◌, length, slice_get, slice_set, ◌≢◌, Any, All, ◌<◌, Option, None, Some}
+use Rattle.std.specs.Prelude.{◌≡◌, ◌==◌, ◌+◌, ◌^◌, ℕ, Bool, true, false, cond, not, ◌||◌, ◌&&◌, nat_lt, nat_le, List, [], ◌∷◌, ◌++◌, length}
+use Rattle.std.specs.Prelude.{slice_get, slice_set, ◌≢◌, Any, All, ◌<◌, Option, None, Some}
 use Rattle.atomic_table.specs.Seated.{TableId}
 use Rattle.lf_rules.specs.Address.{no_bank}
 use Rattle.lf_rules.specs.declared.event.Record.{Record}
@@ -40,7 +41,8 @@ most_records version = cond (version == 1) (2 ^ 20) (2 ^ 24)
 
 -- the seat after a record
 abbrev pub with_record : SeatView → ℕ → ℕ → Event → SeatView
-with_record v bank number event = record { desk = v.desk; log = v.log; records = v.records ++ record { log = v.log; bank = bank; number = number; event = event } ∷ [] }
+with_record v bank number event =
+    record v { records = v.records ++ record { log = v.log; bank = bank; number = number; event = event } ∷ [] }
 
 -- whether the seat is that of a port's log
 abbrev pub is_port_log : DeskView → SeatView → Bool
@@ -57,7 +59,10 @@ is_own_bank d v bank event = nat_lt bank d.banks && (is_port_log d v || (v.log =
 
 -- the first cause, other than memory, for which an event is refused
 abbrev pub refusal_of : DeskView → SeatView → ℕ → Event → Option RecordFault
-refusal_of d v bank event = cond (is_own_kind d v event) (cond (is_own_bank d v bank event) (cond (nat_lt (length v.records) (most_records d.version)) None (Some LogFull)) (Some BankRange)) (Some LogKind)
+refusal_of d v bank event =
+    cond (is_own_kind d v event)
+    (cond (is_own_bank d v bank event) (cond (nat_lt (length v.records) (most_records d.version)) None (Some LogFull)) (Some BankRange))
+    (Some LogKind)
 
 -- the seat of a log with no record
 abbrev pub new_seat : TableId → ℕ → SeatView

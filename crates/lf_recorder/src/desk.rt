@@ -1,9 +1,11 @@
 //! A desk with a word per bank, and a seat per log.
-ghost use Rattle.std.specs.Prelude.{◌≡◌, ◌+◌, ◌^◌, ◌<◌, ◌≤◌, ℕ, [], ◌∷◌, ◌++◌, length, None, IfOk, IfErr, IfSome, IfNone, OnOk, OnErr, IsOkUnless, ◌↔◌, true, false, ◌≢◌, All, map, replicate};
+ghost use Rattle.std.specs.Prelude.{◌≡◌, ◌+◌, ◌^◌, ◌<◌, ◌≤◌, ℕ, [], ◌∷◌, ◌++◌, length, None, IfOk, IfErr, IfSome, IfNone, OnOk, OnErr, IsOkUnless};
+ghost use Rattle.std.specs.Prelude.{◌↔◌, true, false, ◌≢◌, All, map, replicate};
 ghost use Rattle.std.specs.Bool.{OnTrue, OnFalse};
 ghost use Rattle.lf_recorder.specs.declared.rule.View.TheVariants.{Collector, Log};
 ghost use Rattle.lf_recorder.specs.Rule.{IsAbove, fence_of};
-ghost use Rattle.lf_recorder.specs.Desk.{with_record, refusal_of, is_port_event, first_version, most_records, is_own_bank, new_seat as new_seat_of, logs_of, opened, entry_of, placed, AreNewSeats, HasSeat, HoldSeats, IsLowestWithout};
+ghost use Rattle.lf_recorder.specs.Desk.{with_record, refusal_of, is_port_event, first_version, most_records, is_own_bank, new_seat as new_seat_of};
+ghost use Rattle.lf_recorder.specs.Desk.{logs_of, opened, entry_of, placed, AreNewSeats, HasSeat, HoldSeats, IsLowestWithout};
 ghost use Rattle.lf_recorder.specs.Closing.{HandsBack};
 ghost use Rattle.lf_rules.specs.Address.{no_bank};
 ghost use Rattle.lf_rules.specs.declared.event.Event.TheVariants as Event;
@@ -66,7 +68,10 @@ impl Model for Desk {
 
     ghost view = { λ d. record { desk = d.table.shared.table_id; version = d.version; ports = d.ports; banks = d.banks; is_open = d.is_open } };
 
-    ghost invariant = { λ d. (d.table.shared.table_id.words ≡ d.banks) × (d.table.shared.table_id.slots ≡ 0) × (d.table.shared.key ≡ d.banks) × IsSomeAnd d.collector (λ k. (k.seat.table_id ≡ d.table.shared.table_id) × (k.seat.me ≡ (Collector (cond d.is_open (d.ports + d.banks) 0) [], []))) × (d.ports ≤ 16) × (d.banks ≤ 16) × (0 < d.banks) };
+    ghost invariant = { λ d. (d.table.shared.table_id.words ≡ d.banks) × (d.table.shared.table_id.slots ≡ 0) × (d.table.shared.key ≡ d.banks)
+        × IsSomeAnd d.collector (λ k. (k.seat.table_id ≡ d.table.shared.table_id)
+        × (k.seat.me ≡ (Collector (cond d.is_open (d.ports + d.banks) 0) [], [])))
+        × (d.ports ≤ 16) × (d.banks ≤ 16) × (0 < d.banks) };
 }
 
 // Draws the bank's next number, and gives the seat the record that carries it.
@@ -156,7 +161,7 @@ fn new_seats(
     collector: &mut Seat<(), View>,
     alloc: Global,
     logs: u8,
-) -> Result<Vec<LogSeat>, AllocError>
+) -> Result<Vec<LogSeat>, NoMemory>
     requires table { (collector.old.table_id ≡ shared.now.table_id) × (0 < shared.now.table_id.words) }
     requires made { (collector.old.me ≡ (Collector 0 [], [])) × (logs ≤ 32) }
     ensures table { collector.new.table_id ≡ collector.old.table_id }
@@ -250,9 +255,7 @@ impl Desk {
     {
         let zeros = [0u64; 16];
         let words = &zeros[..banks as usize];
-        let Ok((table, seat)) = DeskTable::of_words(alloc, words, &u64::from(banks)) else {
-            return Err(NoMemory);
-        };
+        let (table, seat) = DeskTable::of_words(alloc, words, &u64::from(banks))?;
         Ok(Desk {
             table,
             collector: Some(DeskSeat::new(seat)),
@@ -284,13 +287,9 @@ impl Desk {
         let mut seat = collector.into_seat();
         let seats = new_seats(&table.shared, &mut seat, alloc, logs);
         self.collector = Some(DeskSeat::new(seat));
-        match seats {
-            Ok(seats) => {
-                self.is_open = true;
-                Ok(seats)
-            }
-            Err(_) => Err(OpenFault::NoMemory),
-        }
+        let seats = seats?;
+        self.is_open = true;
+        Ok(seats)
     }
 
     // Whether the seat's log may name this bank, or none in the record of a fence.

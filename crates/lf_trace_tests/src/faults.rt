@@ -1,7 +1,7 @@
 //! Traces that are refused, each with its cause and its place.
 
 use crate::reading::assert_fault;
-use lf_codec::CodecCause;
+use lf_codec::{CodecCause, CodecFault, Told};
 use lf_samples::{EMPTY_TRACE, FENCE_LAST, LOAD_MISSES_BOTH_LEVELS};
 use std::alloc::Global;
 use std::process::Abort;
@@ -203,4 +203,15 @@ fn bank_by_wide_block(rt: HostRuntime) {
         0x00, 0x00, 0x00, 0x00, 0x00, 0x00,
     ];
     assert_fault(&rt, rt.alloc(), &trace, CodecCause::WrongBank, 16);
+}
+
+/// A fault is the same however often it was told.
+#[test]
+fn fault_told_again(rt: HostRuntime) {
+    let fault = CodecFault {
+        cause: CodecCause::Truncated,
+        offset: 16,
+    };
+    assert_eq!(rt; Told::Fault(fault).fault(), fault);
+    assert_eq!(rt; Told::Failed(fault).fault(), fault);
 }

@@ -10,10 +10,10 @@ use Rattle.lf_codec.specs.Reading.{Reading, nothing_read, byte_read, byte_unless
 use Rattle.lf_rules.specs.Fits.{Bytes}
 use Rattle.lf_rules.specs.declared.event.Record.{Record}
 use Rattle.lf_codec.specs.Trace.{IsTrace}
-use Rattle.lf_codec.specs.Reader.{told, finish_gives, HasRead, RanOut}
+use Rattle.lf_codec.specs.Reader.{told, fault_in, finish_gives, HasRead, RanOut}
 use Rattle.lf_codec.specs.declared.header.Header.{Header}
 use Rattle.lf_verdict.specs.Legal.{joined}
-use Rattle.lf_verdict.specs.Reading.{fault_in, IsFaultOrWant}
+use Rattle.lf_verdict.specs.Reading.{IsFaultOrWant}
 
 pub joined_more : (pieces : List (Bor (List ℕ))) (i : ℕ) (none : Bor (List ℕ)) → i < length pieces → joined (take i pieces) ++ (get_or pieces i none).now ≡ joined (take (i + 1) pieces)
 joined_more pieces i none lt =

@@ -22,7 +22,7 @@ use Rattle.lf_verdict.proofs.Pieces.{fault_told}
 use Rattle.lf_verdict.proofs.Traces.{fits_shape}
 use Rattle.lf_verdict.proofs.Answered.{limit_is_small}
 use Rattle.lf_codec.specs.Reading.{Reading, reading_of, fault_so_far, header_now, header_of}
-use Rattle.lf_codec.specs.Reader.{HasRead, RanOut, told}
+use Rattle.lf_codec.specs.Reader.{HasRead, RanOut, told, fault_in}
 use Rattle.lf_codec.specs.Trace.{IsTrace, FitsIn}
 use Rattle.lf_verdict.specs.declared.answer.Verdict.TheVariants.{Refused}
 use Rattle.lf_verdict.specs.declared.answer.HeaderField.{HeaderField}
@@ -32,9 +32,9 @@ use Rattle.lf_verdict.specs.declared.intake.Stop.TheVariants as stops
 use Rattle.lf_verdict.specs.declared.standing.Standing.{Standing}
 use Rattle.lf_verdict.specs.Legal.{Agrees, IsTraceFor}
 use Rattle.lf_verdict.specs.Judging.{IsAnswer}
-use Rattle.lf_verdict.specs.Reading.{IsFaultOrWant, fault_in}
+use Rattle.lf_verdict.specs.Reading.{IsFaultOrWant}
 use Rattle.lf_verdict.specs.Standing.{MayCome, IsShort, StandsAfterAll, logs_so_far}
-use Rattle.lf_verdict.specs.Session.{IsRunning, IsOfAnotherHeader, IsJudging, HasJudged, IsAt, HasTaken, IsLacking, IsDrained, HasFed, refusal_of, stop_told, refusal_in, IsRefusalSoFar, IsStopOf}
+use Rattle.lf_verdict.specs.Session.{IsRunning, IsOfAnotherHeader, IsJudging, HasJudged, IsAt, HasTaken, IsLacking, IsDrained, HasFed, refusal_of, stop_told, IsRefusalSoFar, IsStopOf}
 use Rattle.lf_verdict.specs.declared.answer.Refusal.{Refusal}
 use Rattle.lf_codec.specs.declared.fault.Told.TheVariants as tolds
 use Rattle.std.specs.Prelude.{IsSome}
@@ -150,14 +150,14 @@ fed_fine s bytes None None e told fed = no_fault_so_far s bytes e fed
 fed_fine s bytes None (Some stop) e told fed = absurd (cc)
 fed_fine s bytes (Some stop) new e told fed = absurd (cc)
 
-pub fed_fault : (s : Intake) (bytes : List ℕ) (old new : Option Stop) (t : Told Refusal) → s.stop ≡ new → (IsSome old → old ≡ new) → Err t ≡ stop_told old new → HasFed s bytes → IsRefusalSoFar bytes (refusal_in t)
+pub fed_fault : (s : Intake) (bytes : List ℕ) (old new : Option Stop) (t : Told Refusal) → s.stop ≡ new → (IsSome old → old ≡ new) → Err t ≡ stop_told old new → HasFed s bytes → IsRefusalSoFar bytes (fault_in t)
 fed_fault s bytes None None t e same told fed = absurd (cc)
 fed_fault s bytes None (Some stop) t e same told fed =
     let is : t ≡ tolds.Fault (refusal_of stop) = cc in
-    subst (λ (u : Told Refusal). IsRefusalSoFar bytes (refusal_in u)) (sym is) (refusal_so_far s bytes stop (subst (λ (o : Option Stop). IsAt s bytes o) e fed))
+    subst (λ (u : Told Refusal). IsRefusalSoFar bytes (fault_in u)) (sym is) (refusal_so_far s bytes stop (subst (λ (o : Option Stop). IsAt s bytes o) e fed))
 fed_fault s bytes (Some stop) new t e same told fed =
     let is : t ≡ tolds.Failed (refusal_of stop) = cc in
-    subst (λ (u : Told Refusal). IsRefusalSoFar bytes (refusal_in u)) (sym is) (refusal_so_far s bytes stop (subst (λ (o : Option Stop). IsAt s bytes o) (e ∙ sym (same refl)) fed))
+    subst (λ (u : Told Refusal). IsRefusalSoFar bytes (fault_in u)) (sym is) (refusal_so_far s bytes stop (subst (λ (o : Option Stop). IsAt s bytes o) (e ∙ sym (same refl)) fed))
 
 -- ---- a session that waits
 

@@ -10,7 +10,7 @@ use Rattle.lf_verdict.specs.declared.gathering.Gathered.{Gathered}
 use Rattle.lf_verdict.specs.declared.gathering.Trace.{Trace}
 use Rattle.lf_verdict.specs.declared.answer.Refusal.{Refusal}
 use Rattle.lf_verdict.specs.declared.answer.Refusal.TheVariants as refusals
-pub use Rattle.lf_verdict.specs.Reading.{fault_in, IsFaultOrWant}
+pub use Rattle.lf_verdict.specs.Reading.{IsFaultOrWant}
 
 -- These bytes were read without a fault; all records that stand in them are in their logs, of which there are so many.
 pub record HasGathered (count : ℕ) (g : Gathered) (bytes : List ℕ) : Type 0 where

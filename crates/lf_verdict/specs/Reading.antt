@@ -2,13 +2,7 @@
 use Rattle.std.specs.Prelude.{◌≡◌, ◌⊎◌, ℕ, List, Some}
 use Rattle.lf_codec.specs.declared.fault.CodecCause.TheVariants.{NoMemory}
 use Rattle.lf_codec.specs.declared.fault.CodecFault.{CodecFault}
-use Rattle.lf_codec.specs.declared.fault.Told.{Told}
-use Rattle.lf_codec.specs.declared.fault.Told.TheVariants.{Fault, Failed}
 use Rattle.lf_codec.specs.Reading.{trace_fault}
-
-abbrev pub fault_in : Told CodecFault → CodecFault
-fault_in (Fault fault) = fault
-fault_in (Failed fault) = fault
 
 -- the fault of these bytes, or want of memory
 abbrev pub IsFaultOrWant : List ℕ → CodecFault → Type 0

@@ -98,11 +98,6 @@ stop_told (Some stop) after = Err (tolds.Failed (refusal_of stop))
 stop_told None (Some stop) = Err (tolds.Fault (refusal_of stop))
 stop_told None None = Ok tt
 
--- the refusal, however often it was told
-abbrev pub refusal_in : Told Refusal → Refusal
-refusal_in (tolds.Fault refusal) = refusal
-refusal_in (tolds.Failed refusal) = refusal
-
 -- The fault of the format that stands in the bytes so far, whatever comes after them, or want of memory.
 abbrev pub IsRefusalSoFar : List ℕ → Refusal → Type 0
 IsRefusalSoFar bytes (refusals.Format fault) = fault_so_far bytes ≡ Some fault

@@ -7,10 +7,10 @@ ghost use Rattle.lf_codec.specs.Reader.{HasRead};
 ghost use Rattle.lf_rules.specs.Lists.{lists_of};
 ghost use Rattle.lf_logs.specs.Lists.{logs_of};
 ghost use Rattle.lf_verdict.specs.Legal.{joined};
-ghost use Rattle.lf_verdict.specs.Gathering.{fault_in, HasGathered, IsWhole, IsReadRefusal, IsFaultOrWant};
+ghost use Rattle.lf_verdict.specs.Gathering.{HasGathered, IsWhole, IsReadRefusal, IsFaultOrWant};
 
 use crate::answer::Refusal;
-use lf_codec::{CodecCause, CodecFault, Header, Reader, Told};
+use lf_codec::{CodecCause, CodecFault, Header, Reader};
 use lf_logs::split;
 use lf_rules::{Logs, Memory, NoMemory, Record, Shape};
 use std::alloc::Global;
@@ -29,15 +29,6 @@ pub struct Gathered {
     pub reader: Reader,
     pub memory: Memory,
     pub logs: Logs,
-}
-
-fn fault_in(told: Told<CodecFault>) -> CodecFault
-    ensures { result ≡ fault_in told }
-{
-    match told {
-        Told::Fault(fault) => fault,
-        Told::Failed(fault) => fault,
-    }
 }
 
 fn refusal_of(fault: CodecFault) -> Refusal
@@ -113,7 +104,7 @@ impl Gathered {
             → IfErr result (IsReadRefusal ((bytes ++ piece.now) ++ rest)) }
     {
         if let Err(told) = self.reader.feed(piece) {
-            return Err(refusal_of(fault_in(told)));
+            return Err(refusal_of(told.fault()));
         }
         take_memory(&mut self.reader, &mut self.memory)?;
         take_records(&mut self.reader, &mut self.logs)?;
@@ -147,7 +138,7 @@ impl Gathered {
                 memory,
                 logs,
             }),
-            Err(told) => Err(refusal_of(fault_in(told))),
+            Err(told) => Err(refusal_of(told.fault())),
         }
     }
 }

@@ -4,7 +4,7 @@ ghost use Rattle.std.specs.Prelude.{◌≡◌, ◌++◌, ℕ, List, [], Some, No
 ghost use Rattle.lf_rules.specs.InRange.{IsShape};
 ghost use Rattle.lf_verdict.specs.Judging.{IsAnswer};
 ghost use Rattle.lf_verdict.specs.Session.{refusal_of, stop_told, IsStopOf, IsRunning, HasTaken, IsLackingIf, IsDrained, HasFed};
-ghost use Rattle.lf_verdict.specs.Reading.{fault_in};
+ghost use Rattle.lf_codec.specs.Reader.{fault_in};
 ghost use Rattle.lf_verdict.specs.declared.intake.Judging.TheVariants.{Waiting};
 ghost use Rattle.lf_rules.specs.declared.shape.Shape.{Shape};
 ghost use Rattle.lf_rules.specs.declared.event.Record.{Record};
@@ -60,10 +60,7 @@ fn refusal_of(stop: Stop) -> Refusal
 fn stop_of(told: Told<CodecFault>) -> Stop
     ensures { IsStopOf (fault_in told) result }
 {
-    let fault = match told {
-        Told::Fault(fault) => fault,
-        Told::Failed(fault) => fault,
-    };
+    let fault = told.fault();
     if fault.cause == CodecCause::NoMemory {
         Stop::Memory
     } else {

@@ -2,13 +2,14 @@
 
 ghost use Rattle.std.specs.Prelude.{◌≡◌, ◌++◌, ℕ, List, [], Ok, None, IfOk, IfErr, IfSome, IsSome, OnOk};
 ghost use Rattle.lf_rules.specs.InRange.{IsShape};
+ghost use Rattle.lf_codec.specs.Reader.{fault_in};
 ghost use Rattle.lf_codec.specs.Reading.{fault_so_far};
 ghost use Rattle.lf_config.specs.Configuration.{configuration_of};
 ghost use Rattle.lf_verdict.specs.declared.answer.Verdict.{Verdict};
 ghost use Rattle.lf_verdict.specs.declared.answer.Refusal.{Refusal};
 ghost use Rattle.lf_verdict.specs.Verdict.{IsJudged, IsVerdictOf, IsLegalYes};
 ghost use Rattle.lf_verdict.specs.Laws.{IsRunlessNo};
-ghost use Rattle.lf_verdict.specs.Session.{IsConfigRefusal, refusal_of, stop_told, refusal_in, IsRefusalSoFar, HasFed};
+ghost use Rattle.lf_verdict.specs.Session.{IsConfigRefusal, refusal_of, stop_told, IsRefusalSoFar, HasFed};
 
 use crate::answer::{Refusal, Verdict};
 use crate::intake::Intake;
@@ -70,7 +71,7 @@ impl Session {
         ensures told { result ≡ stop_told self.old.stop self.new.stop }
         ensures failed { IsSome self.old.stop → self.new ≡ self.old }
         ensures fine { OnOk result ((bytes : List ℕ) → HasFed self.old bytes → fault_so_far (bytes ++ piece.now) ≡ None) }
-        ensures fault { IfErr result (λ t. (bytes : List ℕ) → HasFed self.old bytes → IsRefusalSoFar (bytes ++ piece.now) (refusal_in t)) }
+        ensures fault { IfErr result (λ t. (bytes : List ℕ) → HasFed self.old bytes → IsRefusalSoFar (bytes ++ piece.now) (fault_in t)) }
     {
         self.intake.feed(piece)
     }

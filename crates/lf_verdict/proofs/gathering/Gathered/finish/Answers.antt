@@ -20,4 +20,4 @@ returns-clause-err c count bytes was =
     let s = c.args.self in
     let fine : fault_so_far bytes ≡ None = ap (λ (r : Reading). r.fault) was.read.same ∙ was.fine in
     let said = finish_failed _ _ _ bytes c.in-Err.told fine refl (sym (c.in-Err.ensures.ends bytes s.memory.items was.records was.read)) in
-    c.refusal_of.ensures bytes (subst (λ (f : CodecFault). IsFaultOrWant bytes f) (sym c.fault_in.ensures) said)
+    c.refusal_of.ensures bytes (subst (λ (f : CodecFault). IsFaultOrWant bytes f) (sym c.fault.ensures) said)

@@ -5,7 +5,7 @@ use Rattle.lf_verdict.specs.declared.answer.Refusal.{Refusal}
 use Rattle.lf_verdict.specs.declared.answer.Verdict.TheVariants.{Refused}
 use Rattle.lf_verdict.specs.declared.intake.Judging.{Judging}
 use Rattle.lf_verdict.specs.Judging.{IsAnswer}
-use Rattle.lf_verdict.specs.Reading.{fault_in}
+use Rattle.lf_codec.specs.Reader.{fault_in}
 use Rattle.lf_verdict.specs.Session.{IsJudging, IsDrained}
 use Rattle.lf_verdict.specs.Standing.{logs_so_far}
 use Rattle.lf_verdict.proofs.Answered.{of_logs}

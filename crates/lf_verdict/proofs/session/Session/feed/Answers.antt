@@ -1,10 +1,11 @@
 use Rattle.std.proofs.Common.{◌≡◌, ◌++◌, ℕ, List, None, Result, Ok, Err, refl, sym, ap, subst}
 use Rattle.std.specs.Prelude.{OnOk, IfErr}
 use Rattle.lf_codec.specs.declared.fault.Told.{Told}
+use Rattle.lf_codec.specs.Reader.{fault_in}
 use Rattle.lf_codec.specs.Reading.{fault_so_far}
 use Rattle.lf_verdict.specs.declared.answer.Refusal.{Refusal}
 use Rattle.lf_verdict.specs.declared.intake.Intake.{Intake}
-use Rattle.lf_verdict.specs.Session.{HasFed, stop_told, refusal_in, IsRefusalSoFar}
+use Rattle.lf_verdict.specs.Session.{HasFed, stop_told, IsRefusalSoFar}
 use Rattle.lf_verdict.proofs.Sessions.{fed_fine, fed_fault}
 use Rattle.lf_verdict.proofs.session.Session.feed.Goals as goal
 
@@ -27,7 +28,7 @@ pub returns-clause-fault : goal.returns-clause-fault
 returns-clause-fault c = go c.feed.result c.feed.ensures.told
   where
     go : (r : Result (Unit {0}) (Told Refusal)) → r ≡ stop_told c.self.inside.intake.stop c.feed.new.self.stop
-        → IfErr r (λ t. (bytes : List ℕ) → HasFed c.args.self.now bytes → IsRefusalSoFar (bytes ++ c.args.piece.now) (refusal_in t))
+        → IfErr r (λ t. (bytes : List ℕ) → HasFed c.args.self.now bytes → IsRefusalSoFar (bytes ++ c.args.piece.now) (fault_in t))
     go (Ok tt) told = tt
     go (Err t) told = λ bytes fed. fed_fault c.feed.new.self (bytes ++ c.args.piece.now) c.self.inside.intake.stop c.feed.new.self.stop t refl
         (λ some. sym (ap (λ (s : Intake). s.stop) (c.feed.ensures.failed some))) told
