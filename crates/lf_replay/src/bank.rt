@@ -15,7 +15,7 @@ use crate::fault::BankFault;
 use lf_levels::{Lines, One, Two};
 use lf_mshr::{Organisation, Request1, Request2, Targets};
 use lf_rules::{Block, NoMemory, OrgShape, Record, Shape};
-use lf_state::{FlatMemory, Queue, Ready};
+use lf_state::{FlatMemory, Queue, Ready, empty_queues};
 use std::alloc::Global;
 use std::marker::Model;
 
@@ -62,20 +62,6 @@ impl<O1: Organisation<Target = Request1>, O2: Organisation<Target = Request2>> M
     } };
 
     ghost invariant = { λ b. IsFramed b.shape b.queues.items b.lines1 b.lines2 (O1.seen b.waiting) (O2.seen b.regs2) };
-}
-
-/// An empty queue for each port.
-fn empty_queues(alloc: Global, ports: u32) -> Result<Vec<Queue>, NoMemory>
-    ensures ports { IfOk result (λ queues. length queues.items ≡ ports) }
-    ensures empty { IfOk result (λ queues. (port : ℕ) → queue_at queues.items port ≡ []) }
-{
-    let mut queues = Vec::new(alloc);
-    for _ in 0..ports {
-        if queues.push(Queue::new(alloc)).is_err() {
-            return Err(NoMemory);
-        }
-    }
-    Ok(queues)
 }
 
 /// How many requests may wait at level one: one for each port and tag.

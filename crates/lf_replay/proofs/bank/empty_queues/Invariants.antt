@@ -1,6 +1,0 @@
-use Rattle.std.proofs.Common.{◌≡◌, ℕ, [], length}
-use Rattle.lf_replay.specs.Kept.{queue_at}
-use Rattle.lf_replay.proofs.bank.empty_queues.Given as goal
-
-abbrev pub invariant-loop : goal.invariant-loop
-invariant-loop l = record { count : length l.queues.items ≡ l.counter; empty : (port : ℕ) → queue_at l.queues.items port ≡ [] }
