@@ -7,7 +7,6 @@ ghost use Rattle.lf_rules.specs.InRange.{IsShape};
 ghost use Rattle.lf_rules.specs.Outcomes.{first_local};
 ghost use Rattle.lf_rules.specs.Table.{destinations, destinations2};
 ghost use Rattle.lf_state.specs.Bytes.{bank_part};
-ghost use Rattle.lf_replay.specs.Kept.{queue_at};
 ghost use Rattle.lf_replay.specs.Shows.{Keeps, Shows};
 ghost use Rattle.lf_replay.specs.Step.{GoesOn, IsFaultOf};
 
