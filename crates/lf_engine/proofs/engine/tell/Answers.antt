@@ -17,3 +17,6 @@ pub returns-in_err-put-in-Err-text_of-clause-prefix :
     goal.returns-in_err-put-in-Err-text_of-clause-prefix
 returns-in_err-put-in-Err-text_of-clause-prefix g c = λ _.
     (Ok (Refused Memory), rw c.in-Ok.is (inr refl), rw c.no_memory.ensures at c.in_err-put-in-Err-text_of.ensures.prefix)
+
+pub returns-in-Err-clause-follows : goal.returns-in-Err-clause-follows
+returns-in-Err-clause-follows g c = λ _. rw c.in-Err.is refl
