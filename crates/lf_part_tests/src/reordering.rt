@@ -52,11 +52,14 @@ fn passes(alloc: Global, order: &mut Reorder, tag: u8, number: u32) -> Result<bo
 #[test]
 fn records_come_out_by_number(rt: HostRuntime) -> Result<(), Fail> {
     let mut order = Reorder::new(rt.alloc(), 0);
+    assert!(rt; order.is_empty());
     assert!(rt; gives(rt.alloc(), &mut order, &[])?);
     put(rt.alloc(), &mut order, &[(2, 2), (1, 1)])?;
     assert!(rt; gives(rt.alloc(), &mut order, &[])?);
     put(rt.alloc(), &mut order, &[(0, 0)])?;
+    assert!(rt; !order.is_empty());
     assert!(rt; gives(rt.alloc(), &mut order, &[(0, 0), (1, 1), (2, 2)])?);
+    assert!(rt; order.is_empty());
     assert_eq!(rt; order.fault(), None);
     Ok(())
 }

@@ -31,8 +31,10 @@ pub fn encoded(
 /// Fails where other records come out than these.
 pub fn assert_taken(rt: &impl Abort, reader: &mut Reader, records: &[Record]) {
     for item in records {
+        assert_eq!(rt; reader.front(), Some(item));
         assert_eq!(rt; reader.take().as_ref(), Some(item));
     }
+    assert_eq!(rt; reader.front(), None);
     assert_eq!(rt; reader.take(), None);
 }
 
