@@ -52,40 +52,50 @@ fn a_step_goes_on_after_a_fault(rt: HostRuntime) -> Result<(), Fail> {
     Ok(())
 }
 
-/// Applies these records of bank 0, each again where that was refused for want of memory. Whether any was, or
-/// nothing where one is no record of the bank or is refused otherwise.
+/// Applies these records of bank 0, and once more the one that is refused for want of memory. Whether one
+/// was, or nothing where one is no record of the bank or is refused otherwise.
 fn applied(step: &mut Step, shape: &Shape, records: &[Record]) -> Option<bool>
     requires in_range { IsShape shape.now }
     requires shape { step.old.kept.shape ≡ shape.now }
     requires bank { step.old.bank ≡ 0 }
 {
     let mut is_told = false;
-    for item in records {
+    let mut at = 0;
+    for _turn in 0..=records.len() {
+        let Some(item) = records.get(at) else {
+            return Some(is_told);
+        };
         if !fits(shape.ports, shape.banks, shape.block, shape.factor, item) || item.bank != 0 {
             return None;
         }
-        let mut answer = step.apply(item);
-        if answer == Err(BankFault::NoMemory) {
-            is_told = true;
-            answer = step.apply(item);
+        match step.apply(item) {
+            Ok(()) => at += 1,
+            Err(BankFault::NoMemory) => is_told = true,
+            Err(BankFault::Rule(_)) => return None,
         }
-        answer.ok()?;
     }
-    Some(is_told)
+    (at == records.len()).then_some(is_told)
+}
+
+/// Whether want of memory was told of a new step or of one of these events of bank 0, each of which is then
+/// taken when it comes again.
+fn told_by_step(alloc: Global, shape: &Shape, parts: &[&str]) -> Result<bool, Fail>
+    requires { IsShape shape.now }
+{
+    let records = records(alloc, shape, parts)?;
+    let told = match Step::new(alloc, shape, &Vec::new(alloc), 0) {
+        Ok(mut step) => applied(&mut step, shape, &records),
+        Err(_) => Some(true),
+    };
+    Ok(told.ok_or("a record is refused twice")?)
 }
 
 /// A record that is refused for want of memory is taken when it comes again.
 #[test]
 fn refused_growth_of_a_step(rt: HostRuntime) -> Result<(), Fail> {
     let events = "S 0 1@0=aa, P 0 0, L 1 1@0, M 1 0, SP 0 0, F2 0, F1 0, R 0, R 1=aa";
-    let records = records(rt.alloc(), &C1, &[events])?;
-    let memory = Vec::new(rt.alloc());
-    let Ok(mut step) = Step::new(rt.alloc(), &C1, &memory, 0) else {
+    if told_by_step(rt.alloc(), &C1, &[events])? {
         return Err(want_of_memory());
-    };
-    match applied(&mut step, &C1, &records) {
-        Some(false) => Ok(()),
-        Some(true) => Err(want_of_memory()),
-        None => Err(Fail::new("a record is refused twice")),
     }
+    Ok(())
 }

@@ -1,5 +1,5 @@
 use Rattle.std.proofs.Common.{◌≡◌}
 use Rattle.lf_replay_tests.proofs.steps.applied.Given as goal
 
-abbrev pub invariant-loop-item : goal.invariant-loop-item
-invariant-loop-item l = record { same_shape : l.step.kept.shape ≡ l.shape; first_bank : l.step.bank ≡ 0 }
+abbrev pub invariant-loop-turn : goal.invariant-loop-turn
+invariant-loop-turn l = record { same_shape : l.step.kept.shape ≡ l.shape; first_bank : l.step.bank ≡ 0 }
