@@ -3,7 +3,6 @@ pub mod RegisterFile
 pub mod Faults
 pub mod Alike
 pub mod Names
-
 -- What serves the crate's own contracts.
 pub mod Bounds
 pub mod Size

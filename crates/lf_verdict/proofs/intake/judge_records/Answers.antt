@@ -58,7 +58,7 @@ loop-item-preserved-in-Continue-branch-2 c = (
           c.in-Some-take.ensures.taken bytes memory m.0 m.1.0,
           running_more shape bytes memory m.0 (m.0 ++ taken ∷ []) c.loop-item.standing c.keep.new.self m.1.1
               (c.in_ok-keep.ensures shape (flat_memory memory) m.0 c.loop-item.standing (subst (MayCome shape m.0) same may) m.1.1.stands
-                (subst (λ (item : Record). IsEntered shape m.0 item c.loop-item.standing c.offer.new.self) same entered)),
+              (subst (λ (item : Record). IsEntered shape m.0 item c.loop-item.standing c.offer.new.self) same entered)),
         ),
       ),
 )
@@ -78,7 +78,7 @@ loop-item-preserved-else-not-is_judged c = (
           c.in-Some-take.ensures.taken bytes memory m.0 m.1.0,
           running_more shape bytes memory m.0 (m.0 ++ taken ∷ []) c.loop-item.standing c.offer.new.self m.1.1
               (subst (λ (item : Record). StandsAfterAll shape (flat_memory memory) (m.0 ++ item ∷ []) c.offer.new.self) same
-                (c.in_ok-is_judged.ensures.judged shape (flat_memory memory) m.0 may m.1.1.stands c.if-not-is_judged.false)),
+              (c.in_ok-is_judged.ensures.judged shape (flat_memory memory) m.0 may m.1.1.stands c.if-not-is_judged.false)),
         ),
       ),
 )
