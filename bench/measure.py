@@ -6,16 +6,20 @@ nothing else.
 
 A row for each trace: the least processor time of five turns, its ratio to that of BEFORE where another
 build is given, its ratio to that of plain/decode.rs where there is a Rust compiler (a program that decodes
-the same trace and counts its records), the most memory that the program held, and that over the size of
-the file. All take turns, so that each meets the same machine."""
+the same trace and counts its records), the least time on the clock with 1 worker, the ratios of that with 2
+and with 4 workers to it, the most memory that the program held with 1 worker, and that over the size of the
+file. All take turns, so that each meets the same machine."""
 
 import os
 import shutil
 import subprocess
 import sys
 import tempfile
+import time
+from dataclasses import dataclass
 
 TURNS = 5
+WORKERS = (2, 4)
 TRACES = (
     ("10,000", "--events 10000"),
     ("100,000", "--events 100000"),
@@ -30,47 +34,67 @@ TRACES = (
 HERE = os.path.dirname(os.path.abspath(__file__))
 
 
-def spent(words):
-    """The seconds of processor time and the megabytes that one run takes, and its exit status."""
+@dataclass
+class Run:
+    """One run: seconds of processor time, seconds on the clock, megabytes, exit status."""
+    processor: float
+    clock: float
+    memory: float
+    status: int
+
+
+def run(words):
+    start = time.monotonic()
     child = os.fork()
     if child == 0:
         os.dup2(os.open(os.devnull, os.O_WRONLY), 1)
         os.execv(words[0], words)
     _, status, used = os.wait4(child, 0)
-    return used.ru_utime + used.ru_stime, used.ru_maxrss / 1024, status
+    return Run(used.ru_utime + used.ru_stime, time.monotonic() - start, used.ru_maxrss / 1024, status)
 
 
-def row(name, options, programs, work):
-    """The programs take turns; the first is the one that the row is about."""
+def ratio(runs, others, time_of):
+    """The least time of the runs over that of the others, where these have one."""
+    other = min(map(time_of, others))
+    return f"{min(map(time_of, runs)) / other:.2f}" if other and all(r.status == 0 for r in others) else "none"
+
+
+def row(name, options, commands, work):
+    """The commands take turns; the first is the one that the row is about, the last are its runs with more workers."""
     trace, shape = work + "/trace.lfts", work + "/shape.toml"
     subprocess.run([sys.executable, HERE + "/make_trace.py", "--out", trace, "--config", shape, *options.split()],
                    check=True, stdout=subprocess.DEVNULL)
     words = {"trace": trace, "shape": shape}
-    runs = [[] for _ in programs]
+    runs = [[] for _ in commands]
     for _ in range(TURNS):
-        for own, program in zip(runs, programs):
-            own.append(spent([word.format(**words) for word in program]))
-    least = [min(run[0] for run in own) if all(run[2] == 0 for run in own) else None for own in runs]
-    memory, size = max(run[1] for run in runs[0]), os.path.getsize(trace) / 1048576
-    if least[0] is None:
+        for own, command in zip(runs, commands):
+            own.append(run([word.format(**words) for word in command]))
+    one, others, more = runs[0], runs[1:-len(WORKERS)], runs[-len(WORKERS):]
+    if any(r.status for own in (one, *more) for r in own):
         print(f"| {name} | NOT YES |", flush=True)
         return
-    ratios = "".join(f"{least[0] / other:.2f} | " if other else "none | " for other in least[1:])
-    print(f"| {name} | yes | {least[0] * 1000:.0f} ms | {ratios}{memory:.0f} MB | {size:.1f} MB | {memory / size:.2f} |", flush=True)
+    memory, size = max(r.memory for r in one), os.path.getsize(trace) / 1048576
+    cells = [name, "yes", f"{min(r.processor for r in one) * 1000:.0f} ms"]
+    cells += [ratio(one, own, lambda r: r.processor) for own in others]
+    cells += [f"{min(r.clock for r in one) * 1000:.0f} ms", *(ratio(own, one, lambda r: r.clock) for own in more)]
+    cells += [f"{memory:.0f} MB", f"{size:.1f} MB", f"{memory / size:.2f}"]
+    print(f"| {' | '.join(cells)} |", flush=True)
 
 
 def main():
     checks = [[os.path.abspath(program), "check", "{shape}", "{trace}"] for program in sys.argv[1:3]]
-    columns = ["events", "answer", "time", *["over before"] * (len(checks) - 1)]
+    by_workers = [[*checks[0], "--workers", str(workers)] for workers in WORKERS]
+    columns = ["events", "answer", "processor time", *["over before"] * (len(checks) - 1)]
     with tempfile.TemporaryDirectory() as work:
         if shutil.which("rustc"):
             subprocess.run(["rustc", "-O", HERE + "/plain/decode.rs", "-o", work + "/decode"], check=True)
             checks.append([work + "/decode", "{trace}"])
             columns.append("over plain reading")
+        columns += ["time", *(f"{workers} workers over 1" for workers in WORKERS)]
         columns += ["memory", "file", "memory over file"]
         print(f"| {' | '.join(columns)} |\n|{'---|' * len(columns)}")
         for name, options in TRACES:
-            row(name, options, checks, work)
+            row(name, options, checks + by_workers, work)
 
 
 if __name__ == "__main__":
