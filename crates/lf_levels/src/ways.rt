@@ -18,9 +18,7 @@ pub struct Line<M> {
 pub fn free_ways<M>(alloc: Global, count: usize) -> Result<Vec<Option<Line<M>>>, NoMemory>
     ensures { IfOk result (λ ways. ways.items ≡ replicate count None) }
 {
-    let Ok(mut ways) = Vec::with_capacity(alloc, count) else {
-        return Err(NoMemory);
-    };
+    let mut ways = Vec::with_capacity(alloc, count)?;
     for _ in 0..count {
         ways.push_reserved(None);
     }

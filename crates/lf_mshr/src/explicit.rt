@@ -109,15 +109,13 @@ impl<T: Target> Organisation for Explicit<T> {
         let OrgShape::Explicit { registers, entries } = *organisation else {
             unreachable!()
         };
-        match Vec::with_capacity(alloc, (registers * entries) as usize) {
-            Ok(held) => Ok(ExplicitFile {
-                registers,
-                entries,
-                destinations,
-                held,
-            }),
-            Err(_) => Err(NoMemory),
-        }
+        let held = Vec::with_capacity(alloc, (registers * entries) as usize)?;
+        Ok(ExplicitFile {
+            registers,
+            entries,
+            destinations,
+            held,
+        })
     }
 
     fn room(file: &ExplicitFile<T>, block: u32, _target: &T) -> bool {

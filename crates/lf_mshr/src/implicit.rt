@@ -110,14 +110,12 @@ impl<T: Target> Organisation for Implicit<T> {
         let OrgShape::Implicit { registers } = *organisation else {
             unreachable!()
         };
-        match Vec::with_capacity(alloc, registers as usize * FIELDS) {
-            Ok(held) => Ok(ImplicitFile {
-                registers,
-                destinations,
-                held,
-            }),
-            Err(_) => Err(NoMemory),
-        }
+        let held = Vec::with_capacity(alloc, registers as usize * FIELDS)?;
+        Ok(ImplicitFile {
+            registers,
+            destinations,
+            held,
+        })
     }
 
     fn room(file: &ImplicitFile<T>, block: u32, target: &T) -> bool {

@@ -68,10 +68,8 @@ impl<T: Target> Organisation for Inverted<T> {
         _organisation: &OrgShape,
         destinations: u16,
     ) -> Result<InvertedFile<T>, NoMemory> {
-        match Vec::with_capacity(alloc, usize::from(destinations)) {
-            Ok(held) => Ok(InvertedFile { destinations, held }),
-            Err(_) => Err(NoMemory),
-        }
+        let held = Vec::with_capacity(alloc, usize::from(destinations))?;
+        Ok(InvertedFile { destinations, held })
     }
 
     fn room(file: &InvertedFile<T>, _block: u32, target: &T) -> bool {

@@ -28,10 +28,8 @@ use lf_state::{
 fn put_line(lines: &mut LineMap, block: u32, mask: u64) -> Result<(), NoMemory>
     ensures { OnOk result (lines.new.entries ≡ with_line lines.old.entries block mask) }
 {
-    match lines.insert(block, mask) {
-        Ok(_) => Ok(()),
-        Err(_) => Err(NoMemory),
-    }
+    lines.insert(block, mask)?;
+    Ok(())
 }
 
 /// The line's mask gains these bytes.
@@ -45,10 +43,8 @@ fn mark(lines: &mut LineMap, block: u32, mask: u64) -> Result<(), NoMemory>
 fn put_wide_line(lines: &mut WideLineMap, second: u32, masks: Masks) -> Result<(), NoMemory>
     ensures { OnOk result (lines.new.entries ≡ with_line lines.old.entries second masks) }
 {
-    match lines.insert(second, masks) {
-        Ok(_) => Ok(()),
-        Err(_) => Err(NoMemory),
-    }
+    lines.insert(second, masks)?;
+    Ok(())
 }
 
 impl PlainSlice {

@@ -202,9 +202,7 @@ fn new_slices(alloc: Global, shape: &Shape) -> Result<Vec<PlainSlice>, NoMemory>
     let mut slices = Vec::new(alloc);
     for _ in 0..shape.banks {
         let slice = PlainSlice::new(alloc, shape.ports)?;
-        if slices.push(slice).is_err() {
-            return Err(NoMemory);
-        }
+        slices.push(slice)?;
     }
     Ok(slices)
 }

@@ -13,10 +13,8 @@ pub fn push<T: Drop>(items: &mut Vec<T>, item: T) -> Result<(), NoMemory>
     ensures ok { OnOk result (items.new.items ≡ items.old.items ++ item ∷ []) }
     ensures err { OnErr result (items.new.items ≡ items.old.items) }
 {
-    match items.push(item) {
-        Ok(()) => Ok(()),
-        Err(_) => Err(NoMemory),
-    }
+    items.push(item)?;
+    Ok(())
 }
 
 fn asked_entry(asked: &[(u32, u16)], block: u32) -> Option<&(u32, u16)>

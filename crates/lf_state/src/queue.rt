@@ -52,10 +52,8 @@ impl Queue {
         ensures ok { OnOk result (self.new ≡ self.old ++ request ∷ []) }
         ensures err { OnErr result (self.new ≡ self.old) }
     {
-        match self.requests.push_back(request) {
-            Ok(()) => Ok(()),
-            Err(_) => Err(NoMemory),
-        }
+        self.requests.push_back(request)?;
+        Ok(())
     }
 
     /// The oldest request leaves.
@@ -74,9 +72,7 @@ pub fn empty_queues(alloc: Global, ports: u32) -> Result<Vec<Queue>, NoMemory>
 {
     let mut queues = Vec::new(alloc);
     for _ in 0..ports {
-        if queues.push(Queue::new(alloc)).is_err() {
-            return Err(NoMemory);
-        }
+        queues.push(Queue::new(alloc))?;
     }
     Ok(queues)
 }
