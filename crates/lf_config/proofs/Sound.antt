@@ -1,5 +1,6 @@
 -- A document that breaks no rule says a shape whose numbers are in their ranges.
-use Rattle.std.proofs.Common.{◌≡◌, ℕ, pos, negsuc, ◌^◌, ◌<◌, nat_le, List, [], ◌∷◌, Option, Some, None, Result, Ok, Err, IfOk, Bool, true, false, not, ◌&&◌, if◌then◌else◌, is_none, is_some, option_map, option_and_then, find, refl, subst, arith, codes}
+use Rattle.std.proofs.Common.{◌≡◌, ℕ, pos, negsuc, ◌^◌, ◌<◌, nat_le, List, [], ◌∷◌, Option, Some, None, Result, Ok, Err, IfOk, Bool, true, false}
+use Rattle.std.proofs.Common.{not, ◌&&◌, if◌then◌else◌, is_none, is_some, option_map, option_and_then, find, refl, subst, arith, codes}
 use Rattle.std.proofs.lemmas.Bool.Decides.{nat_tests}
 use Rattle.std.proofs.lemmas.Slice.Eq.{bytes_eq-Decides}
 use Rattle.std.specs.Option.{option_map_or}
@@ -19,7 +20,8 @@ use Rattle.lf_config.specs.Key.{all_keys, level_keys, level_name, need_of}
 use Rattle.lf_config.specs.Unknown.{first_unknown}
 use Rattle.lf_rules.specs.Fits.{is_block_size, is_factor}
 use Rattle.lf_config.specs.Lookup.{level_at, value_at}
-use Rattle.lf_config.specs.Rules.{is_between, is_size_of_block, is_number_of_blocks, is_missing, is_misfit, is_out_of_range, is_required, is_needed, organisation_at, first_missing, first_misfit, first_out_of_range}
+use Rattle.lf_config.specs.Rules.{is_between, is_size_of_block, is_number_of_blocks, is_missing, is_misfit, is_out_of_range}
+use Rattle.lf_config.specs.Rules.{is_required, is_needed, organisation_at, first_missing, first_misfit, first_out_of_range}
 use Rattle.lf_config.specs.Told.{number_of, number_at, organisation_named, level_of, shape_of}
 use Rattle.lf_config.specs.declared.fault.ConfigFault.{ConfigFault}
 use Rattle.lf_config.specs.Configuration.{unknown, missing, kind, range, ◌otherwise◌, judged, Gives}

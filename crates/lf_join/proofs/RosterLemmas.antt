@@ -1,5 +1,6 @@
 -- The roster of a merge, step by step.
-use Rattle.std.proofs.Common.{◌≡◌, ◌≢◌, ℕ, zero, suc, ◌+◌, ◌%◌, ◌<◌, ◌≤◌, Bool, true, false, cond, not, ltb, ◌==◌, ◌&&◌, ◌||◌, inl, inr, ◌⊎◌, List, [], length, replicate, get_or, set, Option, Some, None, slice_index, refl, sym, ap, ◌∙◌, subst, eqb-true, eq-eqb, arith}
+use Rattle.std.proofs.Common.{◌≡◌, ◌≢◌, ℕ, zero, suc, ◌+◌, ◌%◌, ◌<◌, ◌≤◌, Bool, true, false, cond, not, ltb, ◌==◌, ◌&&◌, ◌||◌, inl, inr, ◌⊎◌, List, []}
+use Rattle.std.proofs.Common.{length, replicate, get_or, set, Option, Some, None, slice_index, refl, sym, ap, ◌∙◌, subst, eqb-true, eq-eqb, arith}
 use Rattle.std.proofs.lemmas.Bool.{cases_Bool, cases_eq, cases_lt, cond-true, cond-false, ne_eqb}
 use Rattle.std.proofs.lemmas.List.{get_or-set_same, get_or-set_other, length-replicate}
 use Rattle.lf_rules.specs.Address.{no_bank}

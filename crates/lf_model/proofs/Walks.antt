@@ -1,5 +1,6 @@
 -- A walk along an order of the logs.
-use Rattle.std.proofs.Common.{◌≡◌, ℕ, zero, suc, ◌+◌, ◌<◌, ◌≤◌, Bool, true, false, cond, ◌&&◌, ◌==◌, List, [], ◌∷◌, map, length, get_or, set, drop, Option, Some, None, ◌⊎◌, inl, inr, refl, sym, ap, ◌∙◌, eq-eqb, eqb-true, ne_eqb, arith, ltb-true, get_or-set_same, get_or-set_other}
+use Rattle.std.proofs.Common.{◌≡◌, ℕ, zero, suc, ◌+◌, ◌<◌, ◌≤◌, Bool, true, false, cond, ◌&&◌, ◌==◌, List, [], ◌∷◌, map, length, get_or, set, drop, Option}
+use Rattle.std.proofs.Common.{Some, None, ◌⊎◌, inl, inr, refl, sym, ap, ◌∙◌, eq-eqb, eqb-true, ne_eqb, arith, ltb-true, get_or-set_same, get_or-set_other}
 use mathlib.Core.Path.{ap₂, fun_ext}
 use Rattle.std.specs.Prelude.{nat_lt, slice_index, MatchOption}
 use Rattle.std.specs.List.{All, Contains, HoldsAt, list_all}

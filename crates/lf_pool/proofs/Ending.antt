@@ -1,5 +1,6 @@
 -- Every job has its outcome at the end.
-use Rattle.std.proofs.Common.{◌≡◌, ℕ, zero, suc, ◌+◌, ◌<◌, ◌≤◌, cond, List, [], ◌∷◌, ◌++◌, length, get_or, map, replicate, Option, Some, None, refl, sym, ap, ◌∙◌, subst, arith, length-append, ne_eqb, true≢false}
+use Rattle.std.proofs.Common.{◌≡◌, ℕ, zero, suc, ◌+◌, ◌<◌, ◌≤◌, cond, List, [], ◌∷◌, ◌++◌, length, get_or, map, replicate}
+use Rattle.std.proofs.Common.{Option, Some, None, refl, sym, ap, ◌∙◌, subst, arith, length-append, ne_eqb, true≢false}
 use Rattle.std.specs.Prelude.{◌==◌, slice_get, All, IfSome, IsSome, sum_by}
 use mathlib.Core.Logic.{dite}
 use mathlib.Core.Option.{some}

@@ -14,7 +14,8 @@ use Rattle.lf_rules.proofs.Wide.{second_of_sub, bank_of_sub, flat_same, part_of_
 use Rattle.lf_rules.specs.Registers.{Held, holds, targets_of}
 use Rattle.lf_rules.specs.Lines.{line_at, has_line, dirty_mask}
 use Rattle.lf_rules.specs.State.{update, Request, Missed, Ready, Slice, State, opening, seen_by}
-use Rattle.lf_rules.specs.Table.{OfBoth, oldest, is_head, value_of, read, written, accepts, miss, replies_at, value_at, carries, rules_of, slice_after, memory_after, busy_after, clauses, block_asked, second_miss}
+use Rattle.lf_rules.specs.Table.{OfBoth, oldest, is_head, value_of, read, written, accepts, miss, replies_at, value_at, carries}
+use Rattle.lf_rules.specs.Table.{rules_of, slice_after, memory_after, busy_after, clauses, block_asked, second_miss}
 use Rattle.lf_rules.specs.Run.{first_failing, state_after, IsRunFrom}
 use Rattle.lf_rules.specs.Fits.{Fits}
 use Rattle.lf_rules.proofs.FitFacts.{NamesHome, names_home}
@@ -25,7 +26,8 @@ use Rattle.lf_rules.proofs.Locality.{IsHome, accepts_home, accepted_apart}
 use Rattle.lf_rules.proofs.Parts.{AreHome, home_step}
 use Rattle.lf_rules.proofs.Masks.{serve_off, all_range}
 use Rattle.lf_rules.proofs.CopyBlock.{BlockOk, none_waits, some_is, none_is, base, base-some, base-none, mask_of_stores, waiting_absent, held_absent}
-use Rattle.lf_rules.proofs.CopyStep.{around, waits_some, hit_block, primary_block, merge_block, fill1_block, evict1_block, second_hit_block, second_miss_block, fill2_block, evict2_block, is_apart_at, RegsHome, push_all, filter_all}
+use Rattle.lf_rules.proofs.CopyStep.{around, waits_some, hit_block, primary_block, merge_block, fill1_block, evict1_block, second_hit_block}
+use Rattle.lf_rules.proofs.CopyStep.{second_miss_block, fill2_block, evict2_block, is_apart_at, RegsHome, push_all, filter_all}
 use Rattle.lf_rules.proofs.Forget.{without_value, forget, rules_same, targets_same, served_same, SameHit, NoMissValue, slice_same}
 
 head_home : (shape : Shape) (bank : ℕ) (qs : List Request) (tag : ℕ) → is_head qs tag ≡ true → AllByRecursion (λ q. bank_of shape q.block ≡ bank) qs → bank_of shape (oldest qs).block ≡ bank

@@ -1,5 +1,6 @@
 -- In a run each load's reply is the initial memory changed by the stores accepted before the load.
-use Rattle.std.proofs.Common.{◌≡◌, ℕ, ◌+◌, ◌≤◌, Bool, true, false, cond, ◌&&◌, ◌||◌, ◌==◌, List, [], ◌∷◌, ◌++◌, map, drop, length, Option, Some, None, is_none, inl, inr, refl, sym, ap, ◌∙◌, subst, eqb-true, eq-eqb, arith}
+use Rattle.std.proofs.Common.{◌≡◌, ℕ, ◌+◌, ◌≤◌, Bool, true, false, cond, ◌&&◌, ◌||◌, ◌==◌, List, [], ◌∷◌, ◌++◌, map, drop, length}
+use Rattle.std.proofs.Common.{Option, Some, None, is_none, inl, inr, refl, sym, ap, ◌∙◌, subst, eqb-true, eq-eqb, arith}
 use mathlib.Core.Path.{ap₂}
 use Rattle.std.specs.Prelude.{bytes_eq}
 use Rattle.std.proofs.lemmas.Bool.{and_parts, both_ways, cases_Bool, cond-false, eqb-false}
@@ -12,9 +13,11 @@ use Rattle.lf_rules.specs.declared.event.Event.TheVariants.{Issue, Reply, Hit, P
 use Rattle.lf_rules.specs.Address.{FlatMemory}
 use Rattle.lf_rules.specs.Registers.{Held, targets_of}
 use Rattle.lf_rules.specs.State.{update, Request, Missed, Ready, Slice, State, opening, seen_by}
-use Rattle.lf_rules.specs.Table.{request_of, OfBoth, is_store, oldest, is_head, value_of, accepted_if, value_at, is_at, is_ready_for, first_ready, without_ready, reply_of, replies_at, miss, carries, rules_of, accepts, slice_after, clauses}
+use Rattle.lf_rules.specs.Table.{request_of, OfBoth, is_store, oldest, is_head, value_of, accepted_if, value_at, is_at, is_ready_for, first_ready}
+use Rattle.lf_rules.specs.Table.{without_ready, reply_of, replies_at, miss, carries, rules_of, accepts, slice_after, clauses}
 use Rattle.lf_rules.specs.Run.{first_failing, state_after, IsRunFrom}
-use Rattle.lf_rules.specs.History.{Act, Issues, Accepts, Replies, Nothing, act_if, act_of, act, latest_issue, before_acceptance, times_after, times_accepted, accepted_by, bytes_after, issue_after, acceptance_after, IsFlatAt, IsFlatFrom}
+use Rattle.lf_rules.specs.History.{Act, Issues, Accepts, Replies, Nothing, act_if, act_of, act, latest_issue, before_acceptance, times_after}
+use Rattle.lf_rules.specs.History.{times_accepted, accepted_by, bytes_after, issue_after, acceptance_after, IsFlatAt, IsFlatFrom}
 use Rattle.lf_rules.specs.Laws.{RunsAreFlat}
 use Rattle.lf_rules.proofs.Clauses.{AllHold, all_hold}
 use Rattle.lf_rules.proofs.Busy.{next_busy, busy_at}

@@ -13,7 +13,8 @@ use Rattle.lf_rules.specs.State.{update, Missed, Ready, Slice}
 use Rattle.lf_rules.specs.Lines.{has_line, dirty_masks, same_masks, with_line}
 use Rattle.lf_rules.specs.Address.{sub_block, places}
 use Rattle.lf_rules.specs.Table.{oldest, is_head, position, destination, destinations, store_mask, store_bytes, miss, bank_wants, written, without, rules_of, slice_after}
-use Rattle.lf_rules.specs.declared.rule.Rule.TheVariants.{NotHead, Present, PrimaryInFlight, NotInFlight, RegisterRange, WrongRegister, RegisterBusy, MergeFull, NeedlessStall, EvictAbsent, Inclusion, EvictMask, EvictData}
+use Rattle.lf_rules.specs.declared.rule.Rule.TheVariants.{NotHead, Present, PrimaryInFlight, NotInFlight, RegisterRange, WrongRegister, RegisterBusy}
+use Rattle.lf_rules.specs.declared.rule.Rule.TheVariants.{MergeFull, NeedlessStall, EvictAbsent, Inclusion, EvictMask, EvictData}
 use Rattle.lf_rules.proofs.CopyBlock.{answer}
 use Rattle.lf_rules.specs.Copies.{served}
 
