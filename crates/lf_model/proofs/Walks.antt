@@ -23,7 +23,7 @@ use Rattle.lf_rules.specs.Table.{OfBoth, clauses}
 use Rattle.lf_rules.specs.Run.{first_failing, state_after}
 use Rattle.lf_rules.specs.Address.{no_bank}
 use Rattle.lf_rules.specs.Order.{log_at, after_next}
-use Rattle.lf_model.specs.Walk.{count_left, is_empty, is_numbered, next_after, NamesBankBelow, left_of, judged, recheck_from}
+use Rattle.lf_model.specs.Walk.{count_left, is_empty, is_numbered, next_after, NamesBankBelow, left_of, judged_at, recheck_from}
 
 -- ---- what is left behind the places
 
@@ -55,7 +55,7 @@ pub none_next : (shape : Shape) (state : State) (left : List (List Record)) (nex
 none_next shape state left next place log order e =
     ap (λ (xs : List Record). elim xs as (λ _. Recheck) [
       | [] ↦ NotAnOrder place
-      | r ∷ rest ↦ judged (is_numbered next r) (first_failing OfBoth (clauses shape (seen_by r.log r.bank state) r)) place
+      | r ∷ rest ↦ judged_at (is_numbered next r) (first_failing OfBoth (clauses shape (seen_by r.log r.bank state) r)) place
           (recheck_from shape (state_after shape state r) (after_next left log) (next_after next r) (place + 1) order)
     ]) e
 
@@ -122,12 +122,12 @@ abbrev later : Shape → State → List (List Record) → (ℕ → ℕ) → ℕ 
 later shape state left next place log order r = recheck_from shape (state_after shape state r) (after_next left log) (next_after next r) (place + 1) order
 
 at_next : (shape : Shape) (state : State) (left : List (List Record)) (next : ℕ → ℕ) (place log : ℕ) (order : List ℕ) (r : Record) → log_at left log ≡ r ∷ drop 1 (log_at left log)
-    → recheck_from shape state left next place (log ∷ order) ≡ judged (is_numbered next r) (first_failing OfBoth (clauses shape (seen_by r.log r.bank state) r)) place
+    → recheck_from shape state left next place (log ∷ order) ≡ judged_at (is_numbered next r) (first_failing OfBoth (clauses shape (seen_by r.log r.bank state) r)) place
     (recheck_from shape (state_after shape state r) (after_next left log) (next_after next r) (place + 1) order)
 at_next shape state left next place log order r e =
     ap (λ (xs : List Record). elim xs as (λ _. Recheck) [
       | [] ↦ NotAnOrder place
-      | q ∷ rest ↦ judged (is_numbered next q) (first_failing OfBoth (clauses shape (seen_by q.log q.bank state) q)) place
+      | q ∷ rest ↦ judged_at (is_numbered next q) (first_failing OfBoth (clauses shape (seen_by q.log q.bank state) q)) place
           (recheck_from shape (state_after shape state q) (after_next left log) (next_after next q) (place + 1) order)
     ]) e
 
@@ -152,14 +152,14 @@ next_at next r bank named = go (nat_lt r.bank no_bank) refl
 pub wrong_number : (shape : Shape) (state : State) (left : List (List Record)) (next : ℕ → ℕ) (place log : ℕ) (order : List ℕ) (r : Record) → log_at left log ≡ r ∷ drop 1 (log_at left log)
     → is_numbered next r ≡ false → recheck_from shape state left next place (log ∷ order) ≡ NotAnOrder place
 wrong_number shape state left next place log order r e wrong =
-    at_next shape state left next place log order r e ∙ ap (λ b. judged b (first_failing OfBoth (clauses shape (seen_by r.log r.bank state) r)) place (later shape state left next place log order r)) wrong
+    at_next shape state left next place log order r e ∙ ap (λ b. judged_at b (first_failing OfBoth (clauses shape (seen_by r.log r.bank state) r)) place (later shape state left next place log order r)) wrong
 
 pub right_number : (shape : Shape) (state : State) (left : List (List Record)) (next : ℕ → ℕ) (place log : ℕ) (order : List ℕ) (r : Record) (o : Option Rule) → log_at left log ≡ r ∷ drop 1 (log_at left log)
     → is_numbered next r ≡ true → first_failing OfBoth (clauses shape (seen_by r.log r.bank state) r) ≡ o
-    → recheck_from shape state left next place (log ∷ order) ≡ judged true o place
+    → recheck_from shape state left next place (log ∷ order) ≡ judged_at true o place
     (recheck_from shape (state_after shape state r) (after_next left log) (next_after next r) (place + 1) order)
 right_number shape state left next place log order r o e number rule =
-    at_next shape state left next place log order r e ∙ ap₂ (λ b p. judged b p place (later shape state left next place log order r)) number rule
+    at_next shape state left next place log order r e ∙ ap₂ (λ b p. judged_at b p place (later shape state left next place log order r)) number rule
 
 pub rule_broken : (shape : Shape) (state : State) (left : List (List Record)) (next : ℕ → ℕ) (place log : ℕ) (order : List ℕ) (r : Record) (rule : Rule) → log_at left log ≡ r ∷ drop 1 (log_at left log)
     → is_numbered next r ≡ true → first_failing OfBoth (clauses shape (seen_by r.log r.bank state) r) ≡ Some rule

@@ -15,7 +15,7 @@ use Rattle.atomic_table.specs.Table.{Final, Seen}
 use Rattle.lf_rules.specs.declared.event.Record.{Record}
 use Rattle.lf_recorder.specs.declared.rule.View.TheVariants.{Collector, Log, Spent}
 use Rattle.lf_rules.specs.Run.{of_log}
-use Rattle.lf_recorder.specs.Rule.{DeskState, Mine, IsListOf, Kept, with_log}
+use Rattle.lf_recorder.specs.Rule.{DeskState, Mine, IsListOf, HasRecords, with_log}
 use Rattle.lf_recorder.proofs.Places.{at_within}
 use Rattle.lf_recorder.specs.Desk.{SeatView, entry_of, placed, HasSeat, HoldSeats}
 use Rattle.lf_rules.specs.CommonOrder.{HasCommonOrder}
@@ -55,7 +55,7 @@ module _ (all : List Record) where
       placed_has (set logs x.log x.records) xs k s (λ i y e. agree (suc i) y e) at (let same = length-set logs x.log x.records in omega arith)
 
 -- the logs are those of one list, once the desk took in a seat for each
-pub closes : (banks seat made logs : ℕ) (seats : List SeatView) (s : DeskState) → Kept banks s → get_elem? s.views seat ≡ some (Collector made (map entry_of seats)) → made ≤ logs
+pub closes : (banks seat made logs : ℕ) (seats : List SeatView) (s : DeskState) → HasRecords banks s → get_elem? s.views seat ≡ some (Collector made (map entry_of seats)) → made ≤ logs
     → ((log : ℕ) → log < logs → HasSeat seats log) → HasCommonOrder (placed (replicate logs []) seats) × HoldSeats (placed (replicate logs []) seats) seats
 closes banks seat made logs seats s kept at few has = (
   record { all = all; interleaves = record { each = each }; numbers = keeps_numbers all was.numbers },
@@ -109,7 +109,7 @@ module _ {B : Type 0} (f : B → List Record) (first : List (List Record)) (ss :
 
 -- what the desk ends with, from the last state of its table
 pub closing : (banks seat made count : ℕ) (seats : List SeatView) (me : Mine) (words : List ℕ) (slots : List (Unit {0})) (first logs : List (List Record))
-    → Final (Seen (Kept banks) seat me.0) words slots → me ≡ (Collector made (map entry_of seats), []) → made ≤ count → ((log : ℕ) → log < count → HasSeat seats log) → first ≡ replicate count [] → logs ≡ placed first seats
+    → Final (Seen (HasRecords banks) seat me.0) words slots → me ≡ (Collector made (map entry_of seats), []) → made ≤ count → ((log : ℕ) → log < count → HasSeat seats log) → first ≡ replicate count [] → logs ≡ placed first seats
     → HasCommonOrder logs × HoldSeats logs seats
 closing banks seat made count seats me words slots first logs final is few has empty done =
     subst (λ ls. HasCommonOrder ls × HoldSeats ls seats) (sym (done ∙ ap (λ ls. placed ls seats) empty))

@@ -23,9 +23,9 @@ pub enum View {
 pub struct Numbering;
 
 impl TableRule<(), View, u64> for Numbering {
-    ghost use Rattle.lf_recorder.specs.Rule.{Kept, new_collector};
+    ghost use Rattle.lf_recorder.specs.Rule.{HasRecords, new_collector};
 
-    ghost holds = { Kept };
+    ghost holds = { HasRecords };
 
     ghost first = { λ _. new_collector };
 }
