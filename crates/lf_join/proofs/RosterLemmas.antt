@@ -82,7 +82,8 @@ module _ (old roster : Roster) (bank number : ℕ) (called rest : LogSet) (log :
       not_both b t f = cc
 
   -- its number was called
-  pub one_woken : (new : Roster) → slice_index roster.numbers log ≡ number → (Stands roster log (Waits bank number) → Stands new log Goes) → OthersStay roster new log → IsCalling old new bank number rest
+  pub one_woken : (new : Roster) → slice_index roster.numbers log ≡ number → (Stands roster log (Waits bank number) → Stands new log Goes)
+      → OthersStay roster new log → IsCalling old new bank number rest
   one_woken new is woken stay = one_called new stay (λ standing stands.
       let waits = waited standing stands ∙ ap (Waits bank) is in
       subst (Stands new log) (sym (ap (λ (st : Standing). once_called st bank number) waits ∙ wakes bank number)) (woken (subst (Stands roster log) waits (stood standing stands))))

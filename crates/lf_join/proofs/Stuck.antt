@@ -125,7 +125,8 @@ module _ (skeletons : List (List (ℕ × ℕ))) (order places next : List ℕ) (
       found test at.left (omega (arith, once, none_gone, all))
 
   -- the log that holds it is the one that is waited for
-  waits_there : (log : ℕ) (x : ℕ × ℕ) → x.0 < no_bank → next_entry skeletons places log ≡ Some x → (f : Found (is_next x.0 (next_number at.gone x.0)) at.left) → HeadsWait skeletons places next log f.log
+  waits_there : (log : ℕ) (x : ℕ × ℕ) → x.0 < no_bank → next_entry skeletons places log ≡ Some x → (f : Found (is_next x.0 (next_number at.gone x.0)) at.left)
+      → HeadsWait skeletons places next log f.log
   waits_there log x lt is f =
       let parts = and_parts (f.entry.0 == x.0) (f.entry.1 == next_number at.gone x.0) f.passes in
       let same : f.entry ≡ (x.0, slice_index next x.0) = ap₂ (λ a b. (a, b)) (eqb-true f.entry.0 x.0 parts.0) (eqb-true f.entry.1 (next_number at.gone x.0) parts.1 ∙ sym (at.counted x.0 lt)) in

@@ -46,7 +46,8 @@ module _ {M : Type 0} {set : ℕ → ℕ → ℕ → ℕ → ℕ} {sets ways ban
   on_set block (Some line) e = eq-eqb (of line.block) (of block) (ap of (eqb-true line.block block e))
 
   -- a line in the row of a set is of the set
-  in_row : (block place : ℕ) (way : Option (Line M)) → of block * ways ≤ place → place < of block * ways + ways → IsInOwnRow of ways place way → is_free way ≡ false → passes (λ b. of b == of block) way ≡ true
+  in_row : (block place : ℕ) (way : Option (Line M)) → of block * ways ≤ place → place < of block * ways + ways → IsInOwnRow of ways place way
+      → is_free way ≡ false → passes (λ b. of b == of block) way ≡ true
   in_row block place None low high h e = absurd (cc e)
   in_row block place (Some line) low high h e =
       eq-eqb (of line.block) (of block)

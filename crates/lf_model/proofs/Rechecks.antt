@@ -164,7 +164,8 @@ heads_same e = cc
 first_of : (xs : List Record) (r : Record) (rest : List Record) → xs ≡ r ∷ rest → xs ≡ r ∷ drop 1 xs
 first_of xs r rest e = e ∙ ap (λ (ys : List Record). r ∷ ys) (sym (ap (drop 1) e))
 
-means : (shape : Shape) (order : List ℕ) (state : State) (logs : List (List Record)) (next : ℕ → ℕ) (place : ℕ) (a : Recheck) → recheck_from shape state logs next place order ≡ a → Means shape state logs next place order a
+means : (shape : Shape) (order : List ℕ) (state : State) (logs : List (List Record)) (next : ℕ → ℕ) (place : ℕ) (a : Recheck)
+    → recheck_from shape state logs next place order ≡ a → Means shape state logs next place order a
 means shape [] state logs next place a e = go (list_all is_empty logs) refl e
   where
     go : (b : Bool) → list_all is_empty logs ≡ b → finished b place ≡ a → Means shape state logs next place [] a
@@ -190,7 +191,8 @@ means shape (log ∷ order) state logs next place a e =
       stops = inr (omega arith, none);
     }
 
-    fail : (r : Record) (rule : Rule) → IsNextFrom logs log next [] r → first_failing OfBoth (clauses shape (seen_by r.log r.bank state) r) ≡ Some rule → Means shape state logs next place (log ∷ order) (Broken place rule)
+    fail : (r : Record) (rule : Rule) → IsNextFrom logs log next [] r → first_failing OfBoth (clauses shape (seen_by r.log r.bank state) r) ≡ Some rule
+        → Means shape state logs next place (log ∷ order) (Broken place rule)
     fail r rule is fails = record {
       n = 0;
       rs = [];
@@ -203,7 +205,8 @@ means shape (log ∷ order) state logs next place a e =
       fails = fails;
     }
 
-    judge : (r : Record) (b : Bool) (o : Option Rule) → log_at logs log ≡ r ∷ drop 1 (log_at logs log) → is_numbered next r ≡ b → first_failing OfBoth (clauses shape (seen_by r.log r.bank state) r) ≡ o
+    judge : (r : Record) (b : Bool) (o : Option Rule) → log_at logs log ≡ r ∷ drop 1 (log_at logs log) → is_numbered next r ≡ b
+        → first_failing OfBoth (clauses shape (seen_by r.log r.bank state) r) ≡ o
         → judged_at b o place (recheck_from shape (state_after shape state r) (after_next logs log) (next_after next r) (place + 1) order) ≡ a
         → (recheck_from shape (state_after shape state r) (after_next logs log) (next_after next r) (place + 1) order ≡ a
         → Means shape (state_after shape state r) (after_next logs log) (next_after next r) (place + 1) order a)
@@ -231,7 +234,8 @@ means shape (log ∷ order) state logs next place a e =
 
 -- ---- from the opening state on
 
-told_of : (shape : Shape) (memory : FlatMemory) (logs : List (List Record)) (order : List ℕ) (a : Recheck) → NameTheirLogs logs → Means shape (opening memory) logs (λ _. 0) 0 order a → IsRecheck shape memory logs order a
+told_of : (shape : Shape) (memory : FlatMemory) (logs : List (List Record)) (order : List ℕ) (a : Recheck) → NameTheirLogs logs
+    → Means shape (opening memory) logs (λ _. 0) 0 order a → IsRecheck shape memory logs order a
 told_of shape memory logs order Accepted named h =
     let both = (orders_interleave logs order h.rs named).0 h.taken in
     record { records = h.rs; named = both.1; interleaves = both.0; numbers = h.numbers; run = h.run }
@@ -258,7 +262,8 @@ told_of shape memory logs order (Broken at rule) named h =
       fails = h.fails;
     })
 
-pub recheck_tells : (shape : Shape) (memory : FlatMemory) (logs : List (List Record)) (order : List ℕ) (a : Recheck) → NameTheirLogs logs → a ≡ recheck_of shape memory logs order → IsRecheck shape memory logs order a
+pub recheck_tells : (shape : Shape) (memory : FlatMemory) (logs : List (List Record)) (order : List ℕ) (a : Recheck) → NameTheirLogs logs
+    → a ≡ recheck_of shape memory logs order → IsRecheck shape memory logs order a
 recheck_tells shape memory logs order a named e = told_of shape memory logs order a named (means shape order (opening memory) logs (λ _. 0) 0 a (sym e))
 
 -- ---- and there is no other answer
@@ -288,7 +293,8 @@ none_before : (logs left : List (List Record)) (rs : List Record) → TakesTo lo
 none_before logs left [] h = (refl, h)
 none_before logs left (r ∷ rs) h = absurd h
 
-accepted_is : (shape : Shape) (order : List ℕ) (rs : List Record) (state : State) (logs : List (List Record)) (next : ℕ → ℕ) (place : ℕ) → Takes logs order rs → NumbersFrom next rs → IsRunFrom shape state rs
+accepted_is : (shape : Shape) (order : List ℕ) (rs : List Record) (state : State) (logs : List (List Record)) (next : ℕ → ℕ) (place : ℕ) → Takes logs order rs
+    → NumbersFrom next rs → IsRunFrom shape state rs
     → recheck_from shape state logs next place order ≡ Accepted
 accepted_is shape [] [] state logs next place taken numbers run = ap (λ b. finished b place) (are_empty logs taken)
 accepted_is shape [] (r ∷ rs) state logs next place taken numbers run = absurd taken
@@ -359,7 +365,8 @@ failed_is shape (suc n) (log ∷ order) (r ∷ rs) left state logs next place q 
     (is.0, λ named. is.1 named ∙ sym (count_front shape state logs next log r taken.0 number run.0 rs q.bank named)) fails
     ∙ ap (λ k. Broken k rule) (omega arith)
 
-one_of : (shape : Shape) (memory : FlatMemory) (logs : List (List Record)) (order : List ℕ) (a : Recheck) → NameTheirLogs logs → IsRecheck shape memory logs order a → recheck_of shape memory logs order ≡ a
+one_of : (shape : Shape) (memory : FlatMemory) (logs : List (List Record)) (order : List ℕ) (a : Recheck) → NameTheirLogs logs
+    → IsRecheck shape memory logs order a → recheck_of shape memory logs order ≡ a
 one_of shape memory logs order Accepted named h =
     accepted_is shape order h.records (opening memory) logs (λ _. 0) 0 ((orders_interleave logs order h.records named).1 (h.interleaves, h.named)) h.numbers h.run
 one_of shape memory logs order (NotAnOrder place) named h =

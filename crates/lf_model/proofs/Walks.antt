@@ -34,7 +34,8 @@ left_at (n ∷ places) [] log e = absurd (omega arith)
 left_at (n ∷ places) (rs ∷ logs) zero e = refl
 left_at (n ∷ places) (rs ∷ logs) (suc log) e = left_at places logs log (omega arith)
 
-pub left_next : (places : List ℕ) (logs : List (List Record)) (log : ℕ) → length places ≡ length logs → left_of (set places log (slice_index places log + 1)) logs ≡ after_next (left_of places logs) log
+pub left_next : (places : List ℕ) (logs : List (List Record)) (log : ℕ) → length places ≡ length logs
+    → left_of (set places log (slice_index places log + 1)) logs ≡ after_next (left_of places logs) log
 left_next [] [] log e = refl
 left_next [] (rs ∷ logs) log e = absurd (omega arith)
 left_next (n ∷ places) [] log e = absurd (omega arith)
@@ -42,7 +43,8 @@ left_next (n ∷ places) (rs ∷ logs) zero e = ap (λ (xs : List Record). xs �
 left_next (n ∷ places) (rs ∷ logs) (suc log) e = ap (λ (left : List (List Record)). drop n rs ∷ left) (left_next places logs log (omega arith))
 
 -- the record at the place is the first of what is left
-pub left_first : (places : List ℕ) (logs : List (List Record)) (log : ℕ) (r : Record) → length places ≡ length logs → slice_index places log < length (log_at logs log) → r ≡ get_or (log_at logs log) (slice_index places log) r
+pub left_first : (places : List ℕ) (logs : List (List Record)) (log : ℕ) (r : Record) → length places ≡ length logs
+    → slice_index places log < length (log_at logs log) → r ≡ get_or (log_at logs log) (slice_index places log) r
     → log_at (left_of places logs) log ≡ r ∷ drop 1 (log_at (left_of places logs) log)
 left_first places logs log r e inside is =
     let here = left_at places logs log e ∙ drop_more (log_at logs log) (slice_index places log) r inside in
@@ -51,7 +53,8 @@ left_first places logs log r e inside is =
 
 -- ---- the answer at one place
 
-pub none_next : (shape : Shape) (state : State) (left : List (List Record)) (next : ℕ → ℕ) (place log : ℕ) (order : List ℕ) → log_at left log ≡ [] → recheck_from shape state left next place (log ∷ order) ≡ NotAnOrder place
+pub none_next : (shape : Shape) (state : State) (left : List (List Record)) (next : ℕ → ℕ) (place log : ℕ) (order : List ℕ) → log_at left log ≡ []
+    → recheck_from shape state left next place (log ∷ order) ≡ NotAnOrder place
 none_next shape state left next place log order e =
     ap (λ (xs : List Record). elim xs as (λ _. Recheck) [
       | [] ↦ NotAnOrder place
@@ -154,14 +157,16 @@ pub wrong_number : (shape : Shape) (state : State) (left : List (List Record)) (
 wrong_number shape state left next place log order r e wrong =
     at_next shape state left next place log order r e ∙ ap (λ b. judged_at b (first_failing OfBoth (clauses shape (seen_by r.log r.bank state) r)) place (later shape state left next place log order r)) wrong
 
-pub right_number : (shape : Shape) (state : State) (left : List (List Record)) (next : ℕ → ℕ) (place log : ℕ) (order : List ℕ) (r : Record) (o : Option Rule) → log_at left log ≡ r ∷ drop 1 (log_at left log)
+pub right_number : (shape : Shape) (state : State) (left : List (List Record)) (next : ℕ → ℕ) (place log : ℕ) (order : List ℕ) (r : Record) (o : Option Rule)
+    → log_at left log ≡ r ∷ drop 1 (log_at left log)
     → is_numbered next r ≡ true → first_failing OfBoth (clauses shape (seen_by r.log r.bank state) r) ≡ o
     → recheck_from shape state left next place (log ∷ order) ≡ judged_at true o place
     (recheck_from shape (state_after shape state r) (after_next left log) (next_after next r) (place + 1) order)
 right_number shape state left next place log order r o e number rule =
     at_next shape state left next place log order r e ∙ ap₂ (λ b p. judged_at b p place (later shape state left next place log order r)) number rule
 
-pub rule_broken : (shape : Shape) (state : State) (left : List (List Record)) (next : ℕ → ℕ) (place log : ℕ) (order : List ℕ) (r : Record) (rule : Rule) → log_at left log ≡ r ∷ drop 1 (log_at left log)
+pub rule_broken : (shape : Shape) (state : State) (left : List (List Record)) (next : ℕ → ℕ) (place log : ℕ) (order : List ℕ) (r : Record) (rule : Rule)
+    → log_at left log ≡ r ∷ drop 1 (log_at left log)
     → is_numbered next r ≡ true → first_failing OfBoth (clauses shape (seen_by r.log r.bank state) r) ≡ Some rule
     → recheck_from shape state left next place (log ∷ order) ≡ Broken place rule
 rule_broken shape state left next place log order r rule = right_number shape state left next place log order r (Some rule)
@@ -179,7 +184,8 @@ pub found_number : (numbers : List ℕ) (bank k : ℕ) → bank < length numbers
 found_number numbers bank k inside is = get_or_default numbers bank 0 k inside ∙ sym is
 
 -- the record's bank has this number next
-pub has_number : (numbers : List ℕ) (r : Record) (k : ℕ) → NamesBankBelow (length numbers) r → r.bank < length numbers → slice_index numbers r.bank ≡ k → (r.number == k) ≡ is_numbered (slice_index numbers) r
+pub has_number : (numbers : List ℕ) (r : Record) (k : ℕ) → NamesBankBelow (length numbers) r → r.bank < length numbers → slice_index numbers r.bank ≡ k
+    → (r.number == k) ≡ is_numbered (slice_index numbers) r
 has_number numbers r k names inside is =
     ap (λ n. r.number == n) (sym is)
     ∙ sym (cond-true (nat_lt r.bank no_bank) (r.number == slice_index numbers r.bank) true (lt-ltb r.bank no_bank (let few = names.0 in omega (arith, few, inside))))
@@ -238,7 +244,8 @@ next_rises (x ∷ xs) (suc at) v le (suc n) = next_rises xs at v le n
 
 -- ---- whether any are left
 
-pub all_empty : (places : List ℕ) (vs : List (Vec Record)) → length places ≡ length vs → ((log : ℕ) → log < length vs → log_at (left_of places (items_of vs)) log ≡ []) → list_all is_empty (left_of places (items_of vs)) ≡ true
+pub all_empty : (places : List ℕ) (vs : List (Vec Record)) → length places ≡ length vs
+    → ((log : ℕ) → log < length vs → log_at (left_of places (items_of vs)) log ≡ []) → list_all is_empty (left_of places (items_of vs)) ≡ true
 all_empty [] [] e h = refl
 all_empty [] (v ∷ vs) e h = absurd (omega arith)
 all_empty (n ∷ places) [] e h = refl

@@ -45,7 +45,8 @@ module _ (all : List Record) where
   placed_keeps logs [] log agree here = here
   placed_keeps logs (s ∷ ss) log agree here = placed_keeps (set logs s.log s.records) ss log (λ k x e. agree (suc k) x e) (after_one logs s log (agree 0 s refl) here)
 
-  pub placed_has : (logs : List (List Record)) (ss : List SeatView) (k : ℕ) (s : SeatView) → Agree ss → slice_get ss k ≡ Some s → s.log < length logs → get_or (placed logs ss) s.log [] ≡ of_log s.log all
+  pub placed_has : (logs : List (List Record)) (ss : List SeatView) (k : ℕ) (s : SeatView) → Agree ss → slice_get ss k ≡ Some s → s.log < length logs
+      → get_or (placed logs ss) s.log [] ≡ of_log s.log all
   placed_has logs [] k s agree at within = absurd (cc)
   placed_has logs (x ∷ xs) zero s agree at within =
       let is : x ≡ s = cc in
@@ -92,7 +93,8 @@ closes banks seat made logs seats s kept at few has = (
         subst (λ k. of_log k kept.0 ≡ get_or (placed (replicate logs []) seats) k []) h.4 (sym (placed_has kept.0 (replicate logs []) seats h.0 x agree at' in_range)))
 
 -- the desk's view after one more seat
-pub collector_after : (made : ℕ) (ss : List SeatView) (s : SeatView) (old other new : Mine) → old ≡ (Collector made (map entry_of ss), []) → other ≡ (Log s.log s.records, []) → new ≡ (with_log old.0 other.0, old.1)
+pub collector_after : (made : ℕ) (ss : List SeatView) (s : SeatView) (old other new : Mine) → old ≡ (Collector made (map entry_of ss), [])
+    → other ≡ (Log s.log s.records, []) → new ≡ (with_log old.0 other.0, old.1)
     → new ≡ (Collector made (map entry_of (ss ++ s ∷ [])), [])
 collector_after made ss s old other new p q r =
     let a : (with_log old.0 other.0, old.1) ≡ (Collector made (map entry_of ss ++ entry_of s ∷ []), []) = λ i. (with_log (p i).0 (q i).0, (p i).1) in

@@ -111,7 +111,8 @@ targets_gone (g ∷ w) x y = go (g.block == x) refl (targets_gone w x y)
         same false f = ap (λ d. cond d (g ∷ targets_of w y) (targets_of w y)) (sym (ap (λ k. k == y) (eqb-true g.block x e) ∙ f))
     go false e rest = other (x == y) refl (g.block == y) refl
       where
-        other : (c : Bool) → (x == y) ≡ c → (d : Bool) → (g.block == y) ≡ d → cond d (g ∷ targets_of (released w x) y) (targets_of (released w x) y) ≡ cond c [] (cond d (g ∷ targets_of w y) (targets_of w y))
+        other : (c : Bool) → (x == y) ≡ c → (d : Bool) → (g.block == y) ≡ d
+            → cond d (g ∷ targets_of (released w x) y) (targets_of (released w x) y) ≡ cond c [] (cond d (g ∷ targets_of w y) (targets_of w y))
         other true f true u = absurd (both_ways (g.block == x) e (eq-eqb g.block x (eqb-true g.block y u ∙ sym (eqb-true x y f))))
         other true f false u = rest ∙ ap (λ c. cond c [] (targets_of w y)) f
         other false f true u = ap (λ xs. g ∷ xs) (rest ∙ ap (λ c. cond c [] (targets_of w y)) f)

@@ -53,7 +53,8 @@ fold-map : {X Y A : Type 0} (g : A → Y → A) (f : X → Y) (a : A) (xs : List
 fold-map g f a [] = refl
 fold-map g f a (x ∷ xs) = fold-map g f (g a (f x)) xs
 
-merge_same : (o : OrgShape) (w : List (Held Missed)) (block destination register : ℕ) → right_for_merge o (map without_value w) block destination register ≡ right_for_merge o w block destination register
+merge_same : (o : OrgShape) (w : List (Held Missed)) (block destination register : ℕ)
+    → right_for_merge o (map without_value w) block destination register ≡ right_for_merge o w block destination register
 merge_same (Implicit registers) w block destination register = holds_in_same w register block
 merge_same (Explicit registers entries) w block destination register = holds_in_same w register block
 merge_same Inverted w block destination register = refl

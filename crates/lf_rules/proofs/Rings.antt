@@ -87,7 +87,8 @@ of_its_bank (r ∷ rs) log i e is = go (r.log == log) i is (λ j there. of_its_b
     here : r ≡ e → (k : ℕ) × (record_at (cond (r.bank == e.bank) (r ∷ of_bank e.bank rs) (of_bank e.bank rs)) k ≡ Some e)
     here same = (0, ap (λ (xs : List Record). record_at xs 0) (cond-true (r.bank == e.bank) (r ∷ of_bank e.bank rs) (of_bank e.bank rs) (eq-eqb r.bank e.bank (ap (λ (q : Record). q.bank) same))) ∙ ap Some same)
 
-    go : (b : Bool) (i : ℕ) → record_at (cond b (r ∷ of_log log rs) (of_log log rs)) i ≡ Some e → ((j : ℕ) → record_at (of_log log rs) j ≡ Some e → (k : ℕ) × (record_at (of_bank e.bank rs) k ≡ Some e))
+    go : (b : Bool) (i : ℕ) → record_at (cond b (r ∷ of_log log rs) (of_log log rs)) i ≡ Some e
+        → ((j : ℕ) → record_at (of_log log rs) j ≡ Some e → (k : ℕ) × (record_at (of_bank e.bank rs) k ≡ Some e))
         → (k : ℕ) × (record_at (cond (r.bank == e.bank) (r ∷ of_bank e.bank rs) (of_bank e.bank rs)) k ≡ Some e)
     go true zero is rest = here cc
     go true (suc i) is rest = let f = rest i is in further (r.bank == e.bank) f.0 f.1

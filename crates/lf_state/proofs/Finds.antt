@@ -60,7 +60,8 @@ removed_at ready port tag at e = go (nat_lt (position_or_len (is_ready_for port 
 pub none_removed : (ready : List Ready) (port tag : ℕ) → None ≡ position (is_ready_for port tag) ready → ready ≡ without_ready ready port tag
 none_removed ready port tag e = go (nat_lt (position_or_len (is_ready_for port tag) ready) (length ready)) refl e
   where
-    go : (b : Bool) → nat_lt (position_or_len (is_ready_for port tag) ready) (length ready) ≡ b → ◌≡◌ {A = Option ℕ} None (cond b (Some (position_or_len (is_ready_for port tag) ready)) None) → ready ≡ without_ready ready port tag
+    go : (b : Bool) → nat_lt (position_or_len (is_ready_for port tag) ready) (length ready) ≡ b
+        → ◌≡◌ {A = Option ℕ} None (cond b (Some (position_or_len (is_ready_for port tag) ready)) None) → ready ≡ without_ready ready port tag
     go true e f = absurd (cc)
     go false e f =
         let past : length ready ≤ position_or_len (is_ready_for port tag) ready = ltb-false (position_or_len (is_ready_for port tag) ready) (length ready) e in
