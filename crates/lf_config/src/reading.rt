@@ -1,6 +1,6 @@
 //! Reads a configuration.
 
-ghost use Rattle.std.specs.Prelude.{◌≡◌, IfOk};
+ghost use Rattle.std.specs.Prelude.{IfOk};
 ghost use Rattle.lf_rules.specs.InRange.{IsShape};
 ghost use Rattle.toml.specs.View.{table_view};
 ghost use Rattle.lf_config.specs.Configuration.{Answers, configuration_of, said_by};

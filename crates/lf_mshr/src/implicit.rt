@@ -1,6 +1,6 @@
 //! Implicitly addressed files: registers with a field for each position in a block.
 
-ghost use Rattle.std.specs.Prelude.{◌≡◌, ◌⊎◌, ◌*◌, ◌<◌, ◌≤◌, ◌++◌, ◌∷◌, [], vec_capacity, ◌==◌, ◌&&◌, true, false, ℕ};
+ghost use Rattle.std.specs.Prelude.{◌≡◌, ◌⊎◌, ◌*◌, ◌<◌, ◌≤◌, ◌++◌, ◌∷◌, [], vec_capacity, ◌&&◌, true, false, ℕ};
 ghost use Rattle.std.specs.List.{list_any, range_with_len};
 ghost use Rattle.lf_rules.specs.Registers.{holds, holds_in, takes, has_room};
 ghost use Rattle.lf_rules.specs.declared.shape.OrgShape.TheVariants as shape;
