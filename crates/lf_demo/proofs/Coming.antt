@@ -16,9 +16,7 @@ use Rattle.lf_demo.specs.Threads.{Counts}
 come_issue : (shape : Shape) (port issued replied : ℕ) (events : List Event) → HasCome shape port issued replied events
     → HasCome shape port (issued + 1) replied (events ++ request_of shape port issued ∷ [])
 come_issue shape port issued replied events h = record {
-  issues =
-      filter-append is_issue events (request_of shape port issued ∷ [])
-      ∙ (ap (λ es. es ++ request_of shape port issued ∷ []) h.issues ∙ sym (map-range_with_len_more (request_of shape port) 0 issued issued (omega arith)));
+  issues = filter-append is_issue events (request_of shape port issued ∷ []) ∙ (ap (λ es. es ++ request_of shape port issued ∷ []) h.issues ∙ sym (map-range_with_len_more (request_of shape port) 0 issued issued (omega arith)));
   replies = sum_by-append (λ e. cond (is_reply e) 1 0) events (request_of shape port issued ∷ []) ∙ (let was = h.replies in omega arith);
   count = length-append events (request_of shape port issued ∷ []) ∙ (let was = h.count in omega arith);
 }
