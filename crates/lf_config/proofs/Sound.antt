@@ -1,5 +1,6 @@
 -- A document that breaks no rule says a shape whose numbers are in their ranges.
-use Rattle.std.proofs.Common.{◌≡◌, ℕ, pos, negsuc, ◌^◌, ◌<◌, nat_le, List, [], ◌∷◌, Option, Some, None, Result, Ok, Err, IfOk, Bool, true, false, not, ◌&&◌, if◌then◌else◌, is_none, is_some, option_map, option_and_then, find, refl, subst, arith, codes}
+use Rattle.std.proofs.Common.{◌≡◌, ℕ, pos, negsuc, ◌^◌, ◌<◌, nat_le, List, [], ◌∷◌, Option, Some, None, Result, Ok, Err, IfOk, Bool, true, false}
+use Rattle.std.proofs.Common.{not, ◌&&◌, if◌then◌else◌, is_none, is_some, option_map, option_and_then, find, refl, subst, arith, codes}
 use Rattle.std.proofs.lemmas.Bool.Decides.{nat_tests}
 use Rattle.std.proofs.lemmas.Slice.Eq.{bytes_eq-Decides}
 use Rattle.std.specs.Option.{option_map_or}
@@ -19,10 +20,11 @@ use Rattle.lf_config.specs.Key.{all_keys, level_keys, level_name, need_of}
 use Rattle.lf_config.specs.Unknown.{first_unknown}
 use Rattle.lf_rules.specs.Fits.{is_block_size, is_factor}
 use Rattle.lf_config.specs.Lookup.{level_at, value_at}
-use Rattle.lf_config.specs.Rules.{is_between, is_size_of_block, is_number_of_blocks, is_missing, is_misfit, is_out_of_range, is_required, is_needed, organisation_at, first_missing, first_misfit, first_out_of_range}
+use Rattle.lf_config.specs.Rules.{is_between, is_size_of_block, is_number_of_blocks, is_missing, is_misfit, is_out_of_range}
+use Rattle.lf_config.specs.Rules.{is_required, is_needed, organisation_at, first_missing, first_misfit, first_out_of_range}
 use Rattle.lf_config.specs.Told.{number_of, number_at, organisation_named, level_of, shape_of}
 use Rattle.lf_config.specs.declared.fault.ConfigFault.{ConfigFault}
-use Rattle.lf_config.specs.Configuration.{unknown, missing, kind, range, ◌otherwise◌, judged, Gives}
+use Rattle.lf_config.specs.Configuration.{unknown, missing, kind, range, ◌otherwise◌, said_by, Answers}
 use Rattle.lf_rules.specs.InRange.{IsFrom, IsOrganisation, IsLevel, IsShape}
 
 -- what is not found holds of no key
@@ -200,8 +202,8 @@ shape_in ms clean = record {
 }
 
 -- what a document says that breaks no rule
-judged_in : (ms : Members) (s : Shape) → judged ms ≡ Ok s → IsShape s
-judged_in ms s e = go (first_unknown ms) (first_missing ms) (first_misfit ms) (first_out_of_range ms) refl refl refl e
+said_in : (ms : Members) (s : Shape) → said_by ms ≡ Ok s → IsShape s
+said_in ms s e = go (first_unknown ms) (first_missing ms) (first_misfit ms) (first_out_of_range ms) refl refl refl e
   where
     go : (a : Option (List ℕ)) (b c d : Option Key) → first_missing ms ≡ b → first_misfit ms ≡ c → first_out_of_range ms ≡ d
         → (option_map unknown a otherwise option_map missing b otherwise option_map kind c otherwise option_map range d otherwise Ok (shape_of ms)) ≡ Ok s → IsShape s
@@ -214,6 +216,6 @@ judged_in ms s e = go (first_unknown ms) (first_missing ms) (first_misfit ms) (f
         subst IsShape same (shape_in ms (clean_of ms p q r))
 
 -- the same of what was answered
-pub answered_in : (r : Result Shape ConfigFault) (ms : Members) → Gives r (judged ms) → IfOk r IsShape
-answered_in (Ok s) ms h = judged_in ms s h
+pub answered_in : (r : Result Shape ConfigFault) (ms : Members) → Answers r (said_by ms) → IfOk r IsShape
+answered_in (Ok s) ms h = said_in ms s h
 answered_in (Err e) ms h = tt

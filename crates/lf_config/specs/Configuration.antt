@@ -26,8 +26,8 @@ abbrev pub ◌otherwise◌ : Option Fault → Result Shape Fault → Result Shap
 None otherwise later = later
 
 -- what a document says
-abbrev pub judged : Members → Result Shape Fault
-judged document =
+abbrev pub said_by : Members → Result Shape Fault
+said_by document =
     option_map unknown (first_unknown document)
     otherwise option_map missing (first_missing document)
     otherwise option_map kind (first_misfit document)
@@ -36,7 +36,7 @@ judged document =
 
 abbrev pub of_document : Option Members → Result Shape Fault
 of_document None = Err not_toml
-of_document (Some document) = judged document
+of_document (Some document) = said_by document
 
 -- what a text says
 unfoldable pub configuration_of : List ℕ → Result Shape Fault
@@ -52,6 +52,6 @@ Tells (told.Range key) due = due ≡ Err (range key)
 Tells told.NoMemory due = Unit {0}
 
 -- What is answered is what is due, unless memory ran out.
-abbrev pub Gives : Result Shape ConfigFault → Result Shape Fault → Type 0
-Gives (Ok shape) due = due ≡ Ok shape
-Gives (Err fault) due = Tells fault due
+abbrev pub Answers : Result Shape ConfigFault → Result Shape Fault → Type 0
+Answers (Ok shape) due = due ≡ Ok shape
+Answers (Err fault) due = Tells fault due

@@ -1,9 +1,9 @@
 //! Reads a configuration.
 
-ghost use Rattle.std.specs.Prelude.{◌≡◌, IfOk};
+ghost use Rattle.std.specs.Prelude.{IfOk};
 ghost use Rattle.lf_rules.specs.InRange.{IsShape};
 ghost use Rattle.toml.specs.View.{table_view};
-ghost use Rattle.lf_config.specs.Configuration.{Gives, configuration_of, judged};
+ghost use Rattle.lf_config.specs.Configuration.{Answers, configuration_of, said_by};
 
 use crate::fault::ConfigFault;
 use crate::rules::{first_misfit, first_missing, first_out_of_range};
@@ -14,7 +14,7 @@ use std::alloc::Global;
 use toml::Table;
 
 fn judge(alloc: Global, table: &Table) -> Result<Shape, ConfigFault>
-    ensures { Gives result (judged (table_view table.now)) }
+    ensures { Answers result (said_by (table_view table.now)) }
 {
     if let Some(name) = first_unknown(alloc, table)? {
         return Err(ConfigFault::Unknown(name));
@@ -34,7 +34,7 @@ fn judge(alloc: Global, table: &Table) -> Result<Shape, ConfigFault>
 /// The shape that a text says, or the first fault of the text.
 #[tactic(auto, unfolding(crate::specs::Configuration::configuration_of))]
 pub fn read(alloc: Global, text: &str) -> Result<Shape, ConfigFault>
-    ensures gives { Gives result (configuration_of text.now) }
+    ensures gives { Answers result (configuration_of text.now) }
     ensures in_range { IfOk result IsShape }
 {
     match toml::table_from_str(alloc, text) {

@@ -1,8 +1,7 @@
 //! The texts of faults.
 
 ghost use Rattle.std.specs.Prelude.{Some};
-ghost use Rattle.std.specs.List.{flat_map};
-ghost use Rattle.lf_config.specs.Text.{glyph, key_text, printable, fault_text};
+ghost use Rattle.lf_config.specs.Text.{key_text, printable, fault_text};
 
 use crate::fault::ConfigFault;
 use crate::key::Key;

@@ -73,7 +73,8 @@ same_first : {x y : ℕ × ℕ} {xs ys : List (ℕ × ℕ)} → x ∷ xs ≡ y �
 same_first e = cc
 
 -- A log that can go now may as well go first.
-exchange_to : (left left' : List (List (ℕ × ℕ))) (next next' : ℕ → ℕ) (order : List ℕ) (log : ℕ) (goes : Goes left next log) → AtMostOnce left next → IsStuckAt left' next' → RunsTo left next order left' next'
+exchange_to : (left left' : List (List (ℕ × ℕ))) (next next' : ℕ → ℕ) (order : List ℕ) (log : ℕ) (goes : Goes left next log) → AtMostOnce left next
+    → IsStuckAt left' next' → RunsTo left next order left' next'
     → (order' : List ℕ) × RunsTo (after_next left log) (bump next goes.entry.0) order' left' next'
 exchange_to left left' next next' [] log goes once stuck runs =
     absurd (stuck log (subst (λ ls. Goes ls next' log) runs.0 (subst (λ (f : ℕ → ℕ). Goes left f log) runs.1 goes)))
@@ -155,7 +156,8 @@ runs_to left next (log ∷ order) (x ∷ xs) left' takes keeps =
     more : (bank : ℕ) → bump next x.0 bank + next_number xs bank ≡ next bank + next_number (x ∷ xs) bank
     more bank = go (x.0 == bank) (next bank) (entries_of bank xs)
 
-pub gone_runs : (skeletons : List (List (ℕ × ℕ))) (gone : List (ℕ × ℕ)) (left : List (List (ℕ × ℕ))) → HasGone skeletons gone left → (order : List ℕ) × RunsTo skeletons (λ _. 0) order left (next_number gone)
+pub gone_runs : (skeletons : List (List (ℕ × ℕ))) (gone : List (ℕ × ℕ)) (left : List (List (ℕ × ℕ))) → HasGone skeletons gone left
+    → (order : List ℕ) × RunsTo skeletons (λ _. 0) order left (next_number gone)
 gone_runs skeletons gone left h = (h.order, subst (λ (f : ℕ → ℕ). RunsTo skeletons (λ _. 0) h.order left f) (λ i bank. none (next_number gone bank) i) (runs_to skeletons (λ _. 0) h.order gone left h.taken h.kept))
   where
     none : (n : ℕ) → 0 + n ≡ n

@@ -1,5 +1,6 @@
 -- The entries of a log, as the code reads them.
-use Rattle.std.proofs.Common.{◌≡◌, ℕ, zero, suc, ◌+◌, ◌-◌, ◌<◌, ◌≤◌, Bool, true, ◌==◌, ◌&&◌, ltb, List, [], ◌∷◌, length, get_or, drop, Option, Some, None, refl, sym, ap, ◌∙◌, subst, Bor, eqb-true, eq-eqb, arith}
+use Rattle.std.proofs.Common.{◌≡◌, ℕ, zero, suc, ◌+◌, ◌-◌, ◌<◌, ◌≤◌, Bool, true, ◌==◌, ◌&&◌, ltb, List, [], ◌∷◌, length}
+use Rattle.std.proofs.Common.{get_or, drop, Option, Some, None, refl, sym, ap, ◌∙◌, subst, Bor, eqb-true, eq-eqb, arith}
 use mathlib.Core.Path.{ap₂}
 use Rattle.std.specs.List.{slice_get, list_any, HoldsAt}
 use Rattle.std.specs.Option.{MatchOption, IfSome, IsSome, option_copied}

@@ -1,5 +1,6 @@
 -- The merge, step by step: what the loop keeps true.
-use Rattle.std.proofs.Common.{◌≡◌, ℕ, zero, suc, ◌+◌, ◌<◌, Bool, true, false, ◌==◌, inl, inr, List, [], ◌∷◌, ◌++◌, map, filter, length, drop, replicate, slice_index, Option, Some, None, refl, sym, ap, ◌∙◌, subst, eqb-true, eq-eqb, arith}
+use Rattle.std.proofs.Common.{◌≡◌, ℕ, zero, suc, ◌+◌, ◌<◌, Bool, true, false, ◌==◌, inl, inr, List, [], ◌∷◌, ◌++◌, map, filter, length}
+use Rattle.std.proofs.Common.{drop, replicate, slice_index, Option, Some, None, refl, sym, ap, ◌∙◌, subst, eqb-true, eq-eqb, arith}
 use mathlib.Core.Path.{ap₂}
 use Rattle.std.specs.List.{range_with_len, flat_map}
 use Rattle.std.proofs.lemmas.Bool.{cases_Bool, cases_eq, cases_lt, cond-true, cond-false}
@@ -13,7 +14,8 @@ use Rattle.std.specs.Global.{Vec}
 use Rattle.lf_join.proofs.Entries.{log_at-past}
 use Rattle.lf_join.proofs.Due.{due_carries, due_from}
 use Rattle.lf_join.specs.Heads.{next_entry, carries_next, can_go, Advances, IsAt, IsMerged}
-use Rattle.lf_join.proofs.Orders.{after_same, after_other, bump, bump_same, bump_other, Goes, IsLeastRun, HasNone, least_goes_first, none_before, least_at_end, none_where_stuck, runs_from_order, least_order}
+use Rattle.lf_join.proofs.Orders.{after_same, after_other, bump, bump_same, bump_other, Goes, IsLeastRun, HasNone, least_goes_first}
+use Rattle.lf_join.proofs.Orders.{none_before, least_at_end, none_where_stuck, runs_from_order, least_order}
 
 -- ---- the next entry of a log
 

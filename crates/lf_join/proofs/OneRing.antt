@@ -111,7 +111,8 @@ one_wait gone left nothing once log a b w w' = elim (cases_eq a b) [
 ]
 
 -- the same waits, where the same is left and the same numbers go next
-other_wait : (gone gone' : List (ℕ × ℕ)) (left left' : List (List (ℕ × ℕ))) → left ≡ left' → next_number gone ≡ next_number gone' → (log other : ℕ) → WaitsFor gone' left' log other → WaitsFor gone left log other
+other_wait : (gone gone' : List (ℕ × ℕ)) (left left' : List (List (ℕ × ℕ))) → left ≡ left' → next_number gone ≡ next_number gone' → (log other : ℕ)
+    → WaitsFor gone' left' log other → WaitsFor gone left log other
 other_wait gone gone' left left' same_left same_next log other w = record {
   waiting = w.waiting;
   first = subst (λ ls. entry_at (log_at ls log) 0 ≡ Some w.waiting) (sym same_left) w.first;
@@ -163,7 +164,8 @@ stuck_rings_are_one skeletons ring other whole s t =
     ext_get_or no_knot ring other same.0 (λ j lt. same_knot (knot_at ring j) (knot_at other j) (same.1 j lt)
     (same_place (knot_at ring j) (knot_at other j) s.left t.left end.0 (same.1 j lt) (s.places j lt) (t.places j (omega (arith, same.0, lt)))))
   where
-    same_start : (left left' : List (List (ℕ × ℕ))) → left ≡ left' → (a b : ℕ) → log_at left a ≢ [] → log_at left' b ≢ [] → ((log : ℕ) → log < a → log_at left log ≡ []) → ((log : ℕ) → log < b → log_at left' log ≡ []) → a ≡ b
+    same_start : (left left' : List (List (ℕ × ℕ))) → left ≡ left' → (a b : ℕ) → log_at left a ≢ [] → log_at left' b ≢ []
+        → ((log : ℕ) → log < a → log_at left log ≡ []) → ((log : ℕ) → log < b → log_at left' log ≡ []) → a ≡ b
     same_start left left' same a b some_a some_b none_a none_b = elim (cases_lt a b) [
       | inl lt ↦ absurd (some_a (ap (λ ls. log_at ls a) same ∙ none_b a lt))
       | inr le ↦ (elim (cases_lt b a) [

@@ -1,5 +1,6 @@
 -- Orders, step by step: what is left of the logs, and for each bank the number that goes next.
-use Rattle.std.proofs.Common.{◌≡◌, ◌≢◌, ℕ, suc, ◌+◌, ◌<◌, ◌≤◌, Bool, true, false, cond, ◌==◌, inl, inr, List, [], ◌∷◌, map, length, drop, get_or, set, refl, sym, ap, ◌∙◌, subst, eqb-true, eq-eqb, arith}
+use Rattle.std.proofs.Common.{◌≡◌, ◌≢◌, ℕ, suc, ◌+◌, ◌<◌, ◌≤◌, Bool, true, false, cond, ◌==◌, inl, inr, List, [], ◌∷◌}
+use Rattle.std.proofs.Common.{map, length, drop, get_or, set, refl, sym, ap, ◌∙◌, subst, eqb-true, eq-eqb, arith}
 use mathlib.Core.Path.{ap₂}
 use Rattle.std.specs.List.{range_with_len}
 use Rattle.std.proofs.lemmas.Bool.{cases_Bool, cases_eq, cases_lt, cond-true, cond-false}

@@ -11,7 +11,8 @@ use Rattle.lf_join.proofs.Stuck.{times_is, more_of_bank}
 use Rattle.lf_join.proofs.Confluence.{two_apart}
 use Rattle.lf_join.proofs.RosterLemmas.{going_carries}
 
-pub its_own : (skeletons : List (List (ℕ × ℕ))) (order places next : List ℕ) (log : ℕ) → IsAt skeletons order places next → BanksAreWhole skeletons → can_go skeletons places next log ≡ true → IsItsOwn skeletons places log
+pub its_own : (skeletons : List (List (ℕ × ℕ))) (order places next : List ℕ) (log : ℕ) → IsAt skeletons order places next → BanksAreWhole skeletons
+    → can_go skeletons places next log ≡ true → IsItsOwn skeletons places log
 its_own skeletons order places next log at whole goes other x apart lt is is' =
     let test = is_next x.0 x.1 in
     let number : x.1 ≡ next_number at.gone x.0 = can_go_carries next (next_entry skeletons places log) x goes is lt ∙ at.counted x.0 lt in

@@ -31,7 +31,8 @@ leads_by waits waits' by log [] last led = led
 leads_by waits waits' by log (next ∷ path) last led = (by log next led.0, leads_by waits waits' by next path last led.1)
 
 -- at each place of the ring, and at the next one
-around : (waits : ℕ → ℕ → Type 0) (places logs : List ℕ) (P : Knot → Knot → Type 0) → ((log other : ℕ) → waits log other → P (knot_of places log) (knot_of places other)) → (start : ℕ) → IsRound waits start logs
+around : (waits : ℕ → ℕ → Type 0) (places logs : List ℕ) (P : Knot → Knot → Type 0)
+    → ((log other : ℕ) → waits log other → P (knot_of places log) (knot_of places other)) → (start : ℕ) → IsRound waits start logs
     → (j : ℕ) → j < length (map (knot_of places) logs) → P (knot_at (map (knot_of places) logs) j) (knot_at (map (knot_of places) logs) ((j + 1) % length (map (knot_of places) logs)))
 around waits places logs P by start round j lt =
     let ring = map (knot_of places) logs in

@@ -1,5 +1,6 @@
 -- The roster of a merge, step by step.
-use Rattle.std.proofs.Common.{◌≡◌, ◌≢◌, ℕ, zero, suc, ◌+◌, ◌%◌, ◌<◌, ◌≤◌, Bool, true, false, cond, not, ltb, ◌==◌, ◌&&◌, ◌||◌, inl, inr, ◌⊎◌, List, [], length, replicate, get_or, set, Option, Some, None, slice_index, refl, sym, ap, ◌∙◌, subst, eqb-true, eq-eqb, arith}
+use Rattle.std.proofs.Common.{◌≡◌, ◌≢◌, ℕ, zero, suc, ◌+◌, ◌%◌, ◌<◌, ◌≤◌, Bool, true, false, cond, not, ltb, ◌==◌, ◌&&◌, ◌||◌, inl, inr, ◌⊎◌, List, []}
+use Rattle.std.proofs.Common.{length, replicate, get_or, set, Option, Some, None, slice_index, refl, sym, ap, ◌∙◌, subst, eqb-true, eq-eqb, arith}
 use Rattle.std.proofs.lemmas.Bool.{cases_Bool, cases_eq, cases_lt, cond-true, cond-false, ne_eqb}
 use Rattle.std.proofs.lemmas.List.{get_or-set_same, get_or-set_other, length-replicate}
 use Rattle.lf_rules.specs.Address.{no_bank}
@@ -81,7 +82,8 @@ module _ (old roster : Roster) (bank number : ℕ) (called rest : LogSet) (log :
       not_both b t f = cc
 
   -- its number was called
-  pub one_woken : (new : Roster) → slice_index roster.numbers log ≡ number → (Stands roster log (Waits bank number) → Stands new log Goes) → OthersStay roster new log → IsCalling old new bank number rest
+  pub one_woken : (new : Roster) → slice_index roster.numbers log ≡ number → (Stands roster log (Waits bank number) → Stands new log Goes)
+      → OthersStay roster new log → IsCalling old new bank number rest
   one_woken new is woken stay = one_called new stay (λ standing stands.
       let waits = waited standing stands ∙ ap (Waits bank) is in
       subst (Stands new log) (sym (ap (λ (st : Standing). once_called st bank number) waits ∙ wakes bank number)) (woken (subst (Stands roster log) waits (stood standing stands))))

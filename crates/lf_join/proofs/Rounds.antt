@@ -83,7 +83,9 @@ module _ (waits : ℕ → ℕ → Type 0) where
     turned = drop lowest round ++ take lowest round
 
     head_turned : slice_index turned 0 ≡ slice_index round lowest
-    head_turned = get_or_append_left (drop lowest round) (take lowest round) 0 0 (omega (arith, length-drop lowest round, place)) ∙ get_or-drop lowest round 0 0 ∙ ap (λ n. slice_index round n) (add_none lowest)
+    head_turned =
+        get_or_append_left (drop lowest round) (take lowest round) 0 0 (omega (arith, length-drop lowest round, place)) ∙ get_or-drop lowest round 0 0
+        ∙ ap (λ n. slice_index round n) (add_none lowest)
 
     logs_apart : (i j : ℕ) → i < length round → j < length round → i ≢ j → slice_index round i ≢ slice_index round j
     logs_apart i j lt lt' apart same =

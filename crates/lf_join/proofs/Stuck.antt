@@ -1,5 +1,6 @@
 -- Where nothing more can go and the numbers are whole, each log with entries left waits for another.
-use Rattle.std.proofs.Common.{◌≡◌, ℕ, zero, suc, ◌+◌, ◌<◌, ◌≤◌, Bool, true, false, cond, ◌==◌, ◌&&◌, inl, inr, List, [], ◌∷◌, map, filter, length, drop, slice_index, Some, refl, sym, ap, ◌∙◌, subst, eqb-true, eq-eqb, arith}
+use Rattle.std.proofs.Common.{◌≡◌, ℕ, zero, suc, ◌+◌, ◌<◌, ◌≤◌, Bool, true, false, cond, ◌==◌, ◌&&◌, inl, inr, List, [], ◌∷◌, map}
+use Rattle.std.proofs.Common.{filter, length, drop, slice_index, Some, refl, sym, ap, ◌∙◌, subst, eqb-true, eq-eqb, arith}
 use mathlib.Core.Path.{ap₂}
 use Rattle.std.specs.List.{range_with_len}
 use Rattle.std.proofs.lemmas.Bool.{cases_Bool, cases_eq, cases_lt, cond-true, cond-false, and_parts, and_from, ne_eqb}
@@ -124,7 +125,8 @@ module _ (skeletons : List (List (ℕ × ℕ))) (order places next : List ℕ) (
       found test at.left (omega (arith, once, none_gone, all))
 
   -- the log that holds it is the one that is waited for
-  waits_there : (log : ℕ) (x : ℕ × ℕ) → x.0 < no_bank → next_entry skeletons places log ≡ Some x → (f : Found (is_next x.0 (next_number at.gone x.0)) at.left) → HeadsWait skeletons places next log f.log
+  waits_there : (log : ℕ) (x : ℕ × ℕ) → x.0 < no_bank → next_entry skeletons places log ≡ Some x → (f : Found (is_next x.0 (next_number at.gone x.0)) at.left)
+      → HeadsWait skeletons places next log f.log
   waits_there log x lt is f =
       let parts = and_parts (f.entry.0 == x.0) (f.entry.1 == next_number at.gone x.0) f.passes in
       let same : f.entry ≡ (x.0, slice_index next x.0) = ap₂ (λ a b. (a, b)) (eqb-true f.entry.0 x.0 parts.0) (eqb-true f.entry.1 (next_number at.gone x.0) parts.1 ∙ sym (at.counted x.0 lt)) in

@@ -1,5 +1,6 @@
 -- Which log a log waits for.
-use Rattle.std.proofs.Common.{◌≡◌, ℕ, suc, ◌+◌, ◌-◌, ◌<◌, ◌≤◌, true, ◌==◌, inl, inr, List, [], ◌∷◌, ◌++◌, ◌^◌, length, get_or, drop, slice_index, Option, Some, None, refl, sym, ap, ◌∙◌, subst, eqb-true, eq-eqb, arith}
+use Rattle.std.proofs.Common.{◌≡◌, ℕ, suc, ◌+◌, ◌-◌, ◌<◌, ◌≤◌, true, ◌==◌, inl, inr, List, [], ◌∷◌, ◌++◌, ◌^◌, length, get_or}
+use Rattle.std.proofs.Common.{drop, slice_index, Option, Some, None, refl, sym, ap, ◌∙◌, subst, eqb-true, eq-eqb, arith}
 use mathlib.Core.Path.{ap₂}
 use Rattle.std.specs.List.{list_any, All}
 use Rattle.std.proofs.lemmas.List.Elements.{All-from_get_or}

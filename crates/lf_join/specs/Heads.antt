@@ -1,5 +1,6 @@
 -- How far the logs have gone, as the join keeps it: per log the place of its next entry, per bank the number that goes next.
-use Rattle.std.specs.Prelude.{◌≡◌, ◌≢◌, ℕ, ◌+◌, ◌<◌, ◌≤◌, Bool, false, not, nat_lt, ◌==◌, ◌&&◌, ◌||◌, List, [], ◌∷◌, length, map, drop, AllPairs, Option, Some, None, slice_index, slice_set}
+use Rattle.std.specs.Prelude.{◌≡◌, ◌≢◌, ℕ, ◌+◌, ◌<◌, ◌≤◌, Bool, false, not, nat_lt, ◌==◌, ◌&&◌, ◌||◌}
+use Rattle.std.specs.Prelude.{List, [], ◌∷◌, length, map, drop, slice_index, slice_set, AllPairs, Option, Some, None}
 use Rattle.std.specs.List.{list_any}
 use Rattle.lf_rules.specs.declared.ring.Knot.{Knot}
 use Rattle.lf_rules.specs.Address.{no_bank}

@@ -1,5 +1,6 @@
 -- Where the logs stand in a merge: each can go, or waits at a bank, or has nothing left.
-use Rattle.std.specs.Prelude.{◌≡◌, ◌≢◌, ℕ, ◌%◌, ◌<◌, Bool, true, false, ◌==◌, ◌&&◌, List, [], length, Option, Some, None, if◌then◌else◌, slice_index, slice_index_or, ⊤}
+use Rattle.std.specs.Prelude.{◌≡◌, ◌≢◌, ⊤, ℕ, ◌%◌, ◌<◌, Bool, true, false, ◌==◌, ◌&&◌, if◌then◌else◌}
+use Rattle.std.specs.Prelude.{List, [], length, slice_index, slice_index_or, Option, Some, None}
 use Rattle.lf_rules.specs.Address.{no_bank}
 use Rattle.lf_join.specs.declared.log_set.LogSet.{LogSet}
 use Rattle.lf_join.specs.declared.roster.Roster.{Roster}

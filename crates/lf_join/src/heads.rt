@@ -1,6 +1,7 @@
 //! How far each log and each bank has gone.
 
-ghost use Rattle.std.specs.Prelude.{◌≡◌, ◌≢◌, ◌<◌, ◌≤◌, ◌+◌, ◌++◌, ◌^◌, ℕ, true, map, length, take, drop, replicate, slice_index, All, IfNone, IfSome, IsSome, MatchOption};
+ghost use Rattle.std.specs.Prelude.{◌≡◌, ◌≢◌, ◌<◌, ◌≤◌, ◌+◌, ◌^◌, ℕ, true, IfNone, IfSome, IsSome, MatchOption};
+ghost use Rattle.std.specs.Prelude.{◌++◌, map, length, take, drop, replicate, slice_index, All};
 ghost use Rattle.arrayvec.specs.ArrayVec.{array_vec_len};
 ghost use Rattle.lf_join.specs.Join.{skeleton_lists};
 

@@ -1,6 +1,6 @@
 //! One order of all logs.
 
-ghost use Rattle.std.specs.Prelude.{◌≡◌, ◌<◌, ◌≤◌, ◌^◌, ℕ, length, All, IfOk, IfErr};
+ghost use Rattle.std.specs.Prelude.{◌≡◌, ◌≤◌, ◌^◌, length, All, IfOk, IfErr};
 ghost use Rattle.lf_join.specs.Join.{skeleton_lists, BanksAreWhole, HasNoOrder, IsStuckRing};
 ghost use Rattle.lf_join.specs.Fault.{IfCycle};
 ghost use Rattle.lf_join.specs.Heads.{IsMerged};

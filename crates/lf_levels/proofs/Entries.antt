@@ -1,5 +1,6 @@
 -- Lines by rising blocks: as the entries of a sorted map.
-use Rattle.std.proofs.Common.{ℕ, ◌≡◌, Bool, true, false, cond, not, ◌&&◌, ◌==◌, ◌+◌, List, [], ◌∷◌, Some, None, is_some, refl, sym, ap, ◌∙◌, subst, ap₂, arith, eqb-true, eq-eqb, ne_eqb, Ordering, Less, Equal, Greater}
+use Rattle.std.proofs.Common.{ℕ, ◌≡◌, Bool, true, false, cond, not, ◌&&◌, ◌==◌, ◌+◌, List, [], ◌∷◌, Some, None, is_some, refl}
+use Rattle.std.proofs.Common.{sym, ap, ◌∙◌, subst, ap₂, arith, eqb-true, eq-eqb, ne_eqb, Ordering, Less, Equal, Greater}
 use Rattle.std.specs.Prelude.{count_by, T}
 use Rattle.std.specs.Map.{keys_of}
 use Rattle.std.specs.List.{AllByRecursion}

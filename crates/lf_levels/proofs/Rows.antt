@@ -1,5 +1,6 @@
 -- What the rows of a table say of its lines, and how they change.
-use Rattle.std.proofs.Common.{ℕ, ◌≡◌, ◌≢◌, ◌<◌, ◌≤◌, ◌+◌, ◌-◌, ◌*◌, ◌==◌, Bool, true, false, not, List, length, get_or, Option, Some, None, is_some, refl, sym, ap, ◌∙◌, subst, arith, eqb-true, eq-eqb, ne_eqb, get_or-set_same, get_or-set_other, length-set}
+use Rattle.std.proofs.Common.{ℕ, ◌≡◌, ◌≢◌, ◌<◌, ◌≤◌, ◌+◌, ◌-◌, ◌*◌, ◌==◌, Bool, true, false, not, List, length, get_or, Option, Some, None, is_some}
+use Rattle.std.proofs.Common.{refl, sym, ap, ◌∙◌, subst, arith, eqb-true, eq-eqb, ne_eqb, get_or-set_same, get_or-set_other, length-set}
 use Rattle.std.specs.Prelude.{count_by, slice_set}
 use Rattle.std.proofs.Math.Logic.{⊎_elim}
 use Rattle.std.proofs.lemmas.Bool.{cases_Bool, cases_eq, lt-ltb, le-ltb}
@@ -12,7 +13,8 @@ use Rattle.lf_levels.specs.LineTable.{LineTable, IsLineTable, set_in, is_full}
 use Rattle.lf_levels.specs.Rows.{is_free, is_on, lines_of, IsInOwnRow, IsWhole, FindsWay}
 use Rattle.lf_levels.proofs.Counting.{worth-yes, worth-no, worth-le, count-set, count-none, count-all, count-short, part, length-part, part_at, count-part}
 use Rattle.lf_levels.proofs.Entries.{sorted_from_rising}
-use Rattle.lf_levels.proofs.InWays.{dirty_of, line_at-ways, rising, free_is, on_one, dirty_in-at, dirty_in-none, unseen, lines_of-put, lines_of-gone, passes, passing-ways, all_free, length-free, free_at}
+use Rattle.lf_levels.proofs.InWays.{dirty_of, line_at-ways, rising, free_is, on_one, dirty_in-at, dirty_in-none, unseen}
+use Rattle.lf_levels.proofs.InWays.{lines_of-put, lines_of-gone, passes, passing-ways, all_free, length-free, free_at}
 
 -- a way with a line on the block
 abbrev pub line_on : {M : Type 0} → ℕ → M → Option (Line M)
@@ -44,7 +46,8 @@ module _ {M : Type 0} {set : ℕ → ℕ → ℕ → ℕ → ℕ} {sets ways ban
   on_set block (Some line) e = eq-eqb (of line.block) (of block) (ap of (eqb-true line.block block e))
 
   -- a line in the row of a set is of the set
-  in_row : (block place : ℕ) (way : Option (Line M)) → of block * ways ≤ place → place < of block * ways + ways → IsInOwnRow of ways place way → is_free way ≡ false → passes (λ b. of b == of block) way ≡ true
+  in_row : (block place : ℕ) (way : Option (Line M)) → of block * ways ≤ place → place < of block * ways + ways → IsInOwnRow of ways place way
+      → is_free way ≡ false → passes (λ b. of b == of block) way ≡ true
   in_row block place None low high h e = absurd (cc e)
   in_row block place (Some line) low high h e =
       eq-eqb (of line.block) (of block)

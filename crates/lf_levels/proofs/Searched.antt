@@ -8,7 +8,8 @@ use Rattle.lf_levels.specs.LineTable.{LineTable, IsLineTable, ChangesOnly, set_i
 use Rattle.lf_levels.specs.Rows.{is_free, is_on, lines_of, IsWhole, FindsWay}
 use Rattle.lf_levels.proofs.Entries.{flip, line_put, line_gone}
 use Rattle.lf_levels.proofs.InWays.{dirty_of}
-use Rattle.lf_levels.proofs.Rows.{table_of, row_is, row_within, is_table, has-is, full-is, line_at-found, line_at-none, line_on, whole-filled, lines-filled, whole-set, lines-set, whole-gone, lines-gone}
+use Rattle.lf_levels.proofs.Rows.{table_of, row_is, row_within, is_table, has-is, full-is, line_at-found, line_at-none}
+use Rattle.lf_levels.proofs.Rows.{line_on, whole-filled, lines-filled, whole-set, lines-set, whole-gone, lines-gone}
 
 -- no way is free
 pub taken : (none some full : Bool) → some ≡ not none → full ≡ not some → none ≡ full

@@ -33,10 +33,12 @@ module _ {M : Type 0} where
 
   -- the table with a line on the block of which so much is dirty, and with none
   abbrev pub after_fill : LineTable M → ℕ → M → LineTable M
-  after_fill table block dirty = record { sets = table.sets; ways = table.ways; banks = table.banks; factor = table.factor; lines = with_line table.lines block dirty }
+  after_fill table block dirty =
+      record { sets = table.sets; ways = table.ways; banks = table.banks; factor = table.factor; lines = with_line table.lines block dirty }
 
   abbrev pub after_evict : LineTable M → ℕ → LineTable M
-  after_evict table block = record { sets = table.sets; ways = table.ways; banks = table.banks; factor = table.factor; lines = without_line table.lines block }
+  after_evict table block =
+      record { sets = table.sets; ways = table.ways; banks = table.banks; factor = table.factor; lines = without_line table.lines block }
 
   -- The map has this at the block, or nothing, and at each other block what it had.
   abbrev pub ChangesOnly : LineTable M → LineTable M → ℕ → Option M → Type 0

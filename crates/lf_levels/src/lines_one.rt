@@ -1,6 +1,6 @@
 //! The lines of level one, each with one mask.
 
-ghost use Rattle.std.specs.Prelude.{◌≡◌, true, false, Option, Some, None, option_map, IfOk, IfErr, OnErr, bit_or};
+ghost use Rattle.std.specs.Prelude.{◌≡◌, true, false, Option, Some, None, option_map, IfOk, IfErr, OnErr};
 ghost use Rattle.lf_rules.specs.Address.{set1_of};
 ghost use Rattle.lf_rules.specs.Lines.{line_at, has_line, dirty_mask};
 ghost use Rattle.lf_levels.specs.LineTable.{IsLineTable, ChangesOnly, is_full, after_fill, after_evict, joined1};

@@ -1,6 +1,6 @@
 //! The lines of level two, each with a mask for every first-level block of its block.
 
-ghost use Rattle.std.specs.Prelude.{◌≡◌, ◌≤◌, ◌<◌, ◌/◌, ◌&&◌, true, false, not, length, Option, Some, None, option_copied, IfOk, IfErr, OnErr};
+ghost use Rattle.std.specs.Prelude.{◌≡◌, ◌<◌, ◌/◌, ◌&&◌, true, false, not, Option, Some, None, option_copied, IfOk, IfErr, OnErr};
 ghost use Rattle.lf_rules.specs.Fits.{is_factor};
 ghost use Rattle.lf_rules.specs.Lines.{line_at, has_line, dirty_masks, same_masks};
 ghost use Rattle.lf_levels.specs.LineTable.{IsLineTable, ChangesOnly, is_full, wide_set, after_fill, after_evict, joined, joined2, are_absent};

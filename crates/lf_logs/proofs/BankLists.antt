@@ -37,7 +37,8 @@ module _ (logs : List (List Record)) (banks : ℕ) (vecs : List (Vec Record)) (b
   pub whole_list : ((b : ℕ) → b < banks → IsWhole (bank_numbers logs b)) → IsWhole (numbers_of vec.items)
   whole_list whole = subst (λ rs. IsWhole (numbers_of rs)) (sym list_is) (whole bank (omega (arith, before.each_bank, inside)))
 
-  pub OrderedBelow-more : (next : Vec Record) → numbers_of next.items ≡ range_with_len 0 (length next.items) → IsPermutation vec.items next.items → OrderedBelow logs banks (set vecs bank next) (bank + 1)
+  pub OrderedBelow-more : (next : Vec Record) → numbers_of next.items ≡ range_with_len 0 (length next.items) → IsPermutation vec.items next.items
+      → OrderedBelow logs banks (set vecs bank next) (bank + 1)
   OrderedBelow-more next numbers same =
       let changed = map-set (λ (v : Vec Record). v.items) vecs bank next in
       let place : bank < length (map (λ (v : Vec Record). v.items) vecs) = omega (arith, length-map vecs (λ (v : Vec Record). v.items), inside) in

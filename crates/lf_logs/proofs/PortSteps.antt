@@ -10,7 +10,8 @@ use Rattle.lf_rules.specs.Run.{first_failing, IsRunOf, BreaksAt}
 use Rattle.lf_logs.specs.Tags.{PortKept, with_tags, port_after, PortStandsAfter, IsPortFaultAfter}
 
 module _ (shape : Shape) where
-  port_run_more : (now : Local) (rs : List Record) (r : Record) → IsRunOf OfPort shape now rs → first_failing OfPort (clauses shape (port_after shape now rs) r) ≡ None → IsRunOf OfPort shape now (rs ++ r ∷ [])
+  port_run_more : (now : Local) (rs : List Record) (r : Record) → IsRunOf OfPort shape now rs
+      → first_failing OfPort (clauses shape (port_after shape now rs) r) ≡ None → IsRunOf OfPort shape now (rs ++ r ∷ [])
   port_run_more now [] r run none = (none, tt)
   port_run_more now (x ∷ rs) r run none = (run.0, port_run_more (port_effect now x) rs r run.1 none)
 
@@ -24,7 +25,8 @@ module _ (shape : Shape) where
   port_breaks_more now (x ∷ rs) r rule run some = (run.0, port_breaks_more (port_effect now x) rs r rule run.1 some)
 
 module _ (old new : PortKept) (shape : Shape) (rs : List Record) (stands : PortStandsAfter old shape rs) (r : Record) where
-  pub PortStandsAfter-more : ((now : Local) → None ≡ first_failing OfPort (clauses old.shape (with_tags now old.owed_by) r)) → ((now : Local) → port_effect (with_tags now old.owed_by) r ≡ with_tags now new.owed_by)
+  pub PortStandsAfter-more : ((now : Local) → None ≡ first_failing OfPort (clauses old.shape (with_tags now old.owed_by) r))
+      → ((now : Local) → port_effect (with_tags now old.owed_by) r ≡ with_tags now new.owed_by)
       → new.shape ≡ old.shape → PortStandsAfter new shape (rs ++ r ∷ [])
   PortStandsAfter-more passes moves same = record {
     of_shape = same ∙ stands.of_shape;

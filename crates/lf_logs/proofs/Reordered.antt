@@ -1,5 +1,6 @@
 -- The records that are put in and given out in the order of their numbers, one more at a time.
-use Rattle.std.proofs.Common.{◌≡◌, ℕ, ◌+◌, ◌<◌, ◌≤◌, ◌^◌, zero, suc, Bool, true, false, cond, eqb, nat_lt, nat_le, ◌||◌, List, [], ◌∷◌, ◌++◌, length, Option, Some, None, is_some, refl, sym, ap, ◌∙◌, subst, ◌⊎◌, inl, inr, ⊎_elim, arith}
+use Rattle.std.proofs.Common.{◌≡◌, ℕ, ◌+◌, ◌<◌, ◌≤◌, ◌^◌, zero, suc, Bool, true, false, cond, eqb, nat_lt, nat_le, ◌||◌, List, [], ◌∷◌}
+use Rattle.std.proofs.Common.{◌++◌, length, Option, Some, None, is_some, refl, sym, ap, ◌∙◌, subst, ◌⊎◌, inl, inr, ⊎_elim, arith}
 use Rattle.std.specs.List.{AllByRecursion, slice_get}
 use Rattle.std.proofs.lemmas.Bool.Decides.{nat_tests}
 use Rattle.std.proofs.lemmas.Bool.{cases_eq, cases_Bool, cases_order, cond-true, cond-false, eq-eqb, ne_eqb, lt-ltb, le-ltb}
@@ -120,7 +121,8 @@ double-kept rs r None none was = λ k double. was k (same_doubles rs r none k do
 double-kept rs r (Some least) none was = (more_doubles rs r least was.0, λ k h double. was.1 k h (same_doubles rs r none k double))
 
 -- a number that came before is double now
-pub double-more : (rs : List Record) (r : Record) (d : Option ℕ) → is_some (first_with r.number rs) ≡ true → IsLeastDouble (numbers_of rs) d → IsLeastDouble (numbers_of (rs ++ r ∷ [])) (least_double d r.number)
+pub double-more : (rs : List Record) (r : Record) (d : Option ℕ) → is_some (first_with r.number rs) ≡ true → IsLeastDouble (numbers_of rs) d
+    → IsLeastDouble (numbers_of (rs ++ r ∷ [])) (least_double d r.number)
 double-more rs r d there was = go d was
   where
     here : IsDouble (numbers_of (rs ++ r ∷ [])) r.number

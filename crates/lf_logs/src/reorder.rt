@@ -1,6 +1,7 @@
 //! A bank's records, put into the order of their numbers as they come.
 
-ghost use Rattle.std.specs.Prelude.{◌≡◌, ◌≢◌, ◌≤◌, ◌<◌, ◌^◌, ℕ, List, [], ◌∷◌, ◌++◌, length, option_to_list, is_some, IsTrue, None, Some, OnOk, OnErr, IfSome, IfNone};
+ghost use Rattle.std.specs.Prelude.{◌≡◌, ◌≢◌, ◌<◌, ◌^◌, ℕ, IsTrue, List, [], ◌∷◌, ◌++◌, length};
+ghost use Rattle.std.specs.Prelude.{option_to_list, is_some, None, Some, OnOk, OnErr, IfSome, IfNone};
 ghost use Rattle.lf_rules.specs.declared.event.Record.{Record};
 ghost use Rattle.lf_rules.specs.Numbers.{numbers_of, times, IsMissing, IsWhole};
 ghost use Rattle.lf_logs.specs.Places.{IsNumberFault};

@@ -1,5 +1,6 @@
 -- The answer to an order, by what it says of the logs.
-use Rattle.std.proofs.Common.{◌≡◌, ℕ, zero, suc, ◌+◌, ◌*◌, ◌^◌, ◌<◌, ◌≤◌, Bool, true, false, cond, ◌==◌, List, [], ◌∷◌, map, length, take, drop, Option, Some, None, ◌⊎◌, inl, inr, refl, sym, ap, ◌∙◌, subst, eqb-true, eq-eqb, true≢false, arith}
+use Rattle.std.proofs.Common.{◌≡◌, ℕ, zero, suc, ◌+◌, ◌*◌, ◌^◌, ◌<◌, ◌≤◌, Bool, true, false, cond, ◌==◌, List, [], ◌∷◌, map, length, take}
+use Rattle.std.proofs.Common.{drop, Option, Some, None, ◌⊎◌, inl, inr, refl, sym, ap, ◌∙◌, subst, eqb-true, eq-eqb, true≢false, arith}
 use mathlib.Core.Path.{ap₂}
 use Rattle.std.specs.Prelude.{slice_index, IfOk, Result, Ok, Err}
 use Rattle.std.specs.Global.{Vec}
@@ -17,7 +18,7 @@ use Rattle.lf_rules.specs.Table.{OfBoth, clauses}
 use Rattle.lf_rules.specs.Run.{first_failing, state_after, IsRunFrom, of_bank, NameTheirLogs}
 use Rattle.lf_rules.specs.Sharing.{state_after_all}
 use Rattle.lf_rules.specs.Order.{log_at, after_next, Takes}
-use Rattle.lf_model.specs.Walk.{is_empty, is_numbered, next_after, finished, judged, recheck_from, recheck_of, count_left}
+use Rattle.lf_model.specs.Walk.{is_empty, is_numbered, next_after, finished, judged_at, recheck_from, recheck_of, count_left}
 use Rattle.lf_model.specs.Recheck.{TakesTo, IsRecheck, RechecksAreOne}
 use Rattle.lf_rules.proofs.Orders.{orders_interleave}
 use Rattle.lf_model.proofs.Walks.{items_of, numbered_if, if_numbered, next_at, none_next, wrong_number, right_number, rule_broken}
@@ -81,10 +82,11 @@ pub record Fails (shape : Shape) (state : State) (logs : List (List Record)) (ne
   pub is_next : IsNextFrom left (slice_index order n) next rs r
   pub fails : first_failing OfBoth (clauses shape (seen_by r.log r.bank (state_after_all shape state rs)) r) ≡ Some rule
 
-abbrev Tells : Shape → State → List (List Record) → (ℕ → ℕ) → ℕ → List ℕ → Recheck → Type 0
-Tells shape state logs next place order Accepted = Ends shape state logs next order
-Tells shape state logs next place order (NotAnOrder at) = Stops shape state logs next place order at
-Tells shape state logs next place order (Broken at rule) = Fails shape state logs next place order at rule
+-- what an answer means
+abbrev Means : Shape → State → List (List Record) → (ℕ → ℕ) → ℕ → List ℕ → Recheck → Type 0
+Means shape state logs next place order Accepted = Ends shape state logs next order
+Means shape state logs next place order (NotAnOrder at) = Stops shape state logs next place order at
+Means shape state logs next place order (Broken at rule) = Fails shape state logs next place order at rule
 
 nothing_yet : (shape : Shape) (state : State) (logs : List (List Record)) (next : ℕ → ℕ) (order : List ℕ) → UpTo shape state logs next order 0 [] logs
 nothing_yet shape state logs next order = record { inside = omega arith; taken = refl; numbers = λ bank named. refl; run = tt }
@@ -115,9 +117,9 @@ module _ (shape : Shape) (state : State) (logs : List (List Record)) (next : ℕ
       → UpTo shape state logs next (log ∷ order) (suc n) (r ∷ rs) left
   up_front order n rs left h = let le = h.inside in record { inside = omega (arith, le); taken = (first, h.taken); numbers = numbers_front rs h.numbers; run = (holds, h.run) }
 
-  tells_front : (place : ℕ) (order : List ℕ) (a : Recheck) → Tells shape (state_after shape state r) (after_next logs log) then (place + 1) order a → Tells shape state logs next place (log ∷ order) a
-  tells_front place order Accepted h = record { rs = r ∷ h.rs; taken = (first, h.taken); numbers = numbers_front h.rs h.numbers; run = (holds, h.run) }
-  tells_front place order (NotAnOrder at) h = record {
+  means_front : (place : ℕ) (order : List ℕ) (a : Recheck) → Means shape (state_after shape state r) (after_next logs log) then (place + 1) order a → Means shape state logs next place (log ∷ order) a
+  means_front place order Accepted h = record { rs = r ∷ h.rs; taken = (first, h.taken); numbers = numbers_front h.rs h.numbers; run = (holds, h.run) }
+  means_front place order (NotAnOrder at) h = record {
     n = suc h.n;
     rs = r ∷ h.rs;
     left = h.left;
@@ -128,7 +130,7 @@ module _ (shape : Shape) (state : State) (logs : List (List Record)) (next : ℕ
       | inr s ↦ inr (let lt = s.0 in omega (arith, lt), λ q is. s.1 q (is.0, λ named. is.1 named ∙ sym (count_front h.rs q.bank named)))
     ]);
   }
-  tells_front place order (Broken at rule) h = record {
+  means_front place order (Broken at rule) h = record {
     n = suc h.n;
     rs = r ∷ h.rs;
     left = h.left;
@@ -140,7 +142,7 @@ module _ (shape : Shape) (state : State) (logs : List (List Record)) (next : ℕ
     fails = h.fails;
   }
 
--- ---- the answer tells so
+-- ---- the answer means so
 
 empty_all : (left : List (List Record)) → list_all is_empty left ≡ true → (log : ℕ) → log_at left log ≡ []
 empty_all [] e log = refl
@@ -162,12 +164,13 @@ heads_same e = cc
 first_of : (xs : List Record) (r : Record) (rest : List Record) → xs ≡ r ∷ rest → xs ≡ r ∷ drop 1 xs
 first_of xs r rest e = e ∙ ap (λ (ys : List Record). r ∷ ys) (sym (ap (drop 1) e))
 
-tells : (shape : Shape) (order : List ℕ) (state : State) (logs : List (List Record)) (next : ℕ → ℕ) (place : ℕ) (a : Recheck) → recheck_from shape state logs next place order ≡ a → Tells shape state logs next place order a
-tells shape [] state logs next place a e = go (list_all is_empty logs) refl e
+means : (shape : Shape) (order : List ℕ) (state : State) (logs : List (List Record)) (next : ℕ → ℕ) (place : ℕ) (a : Recheck)
+    → recheck_from shape state logs next place order ≡ a → Means shape state logs next place order a
+means shape [] state logs next place a e = go (list_all is_empty logs) refl e
   where
-    go : (b : Bool) → list_all is_empty logs ≡ b → finished b place ≡ a → Tells shape state logs next place [] a
-    go true all e = subst (Tells shape state logs next place []) e (record { rs = []; taken = empty_all logs all; numbers = λ bank named. refl; run = tt })
-    go false some e = subst (Tells shape state logs next place []) e (record {
+    go : (b : Bool) → list_all is_empty logs ≡ b → finished b place ≡ a → Means shape state logs next place [] a
+    go true all e = subst (Means shape state logs next place []) e (record { rs = []; taken = empty_all logs all; numbers = λ bank named. refl; run = tt })
+    go false some e = subst (Means shape state logs next place []) e (record {
       n = 0;
       rs = [];
       left = logs;
@@ -175,10 +178,10 @@ tells shape [] state logs next place a e = go (list_all is_empty logs) refl e
       so_far = nothing_yet shape state logs next [];
       stops = inl (refl, λ none. true≢false (sym (are_empty logs none) ∙ some));
     })
-tells shape (log ∷ order) state logs next place a e =
-    go (log_at logs log) refl e (λ r. tells shape order (state_after shape state r) (after_next logs log) (next_after next r) (place + 1) a)
+means shape (log ∷ order) state logs next place a e =
+    go (log_at logs log) refl e (λ r. means shape order (state_after shape state r) (after_next logs log) (next_after next r) (place + 1) a)
   where
-    stop : ((r : Record) → IsNextFrom logs log next [] r → ⊥) → Tells shape state logs next place (log ∷ order) (NotAnOrder place)
+    stop : ((r : Record) → IsNextFrom logs log next [] r → ⊥) → Means shape state logs next place (log ∷ order) (NotAnOrder place)
     stop none = record {
       n = 0;
       rs = [];
@@ -188,7 +191,8 @@ tells shape (log ∷ order) state logs next place a e =
       stops = inr (omega arith, none);
     }
 
-    fail : (r : Record) (rule : Rule) → IsNextFrom logs log next [] r → first_failing OfBoth (clauses shape (seen_by r.log r.bank state) r) ≡ Some rule → Tells shape state logs next place (log ∷ order) (Broken place rule)
+    fail : (r : Record) (rule : Rule) → IsNextFrom logs log next [] r → first_failing OfBoth (clauses shape (seen_by r.log r.bank state) r) ≡ Some rule
+        → Means shape state logs next place (log ∷ order) (Broken place rule)
     fail r rule is fails = record {
       n = 0;
       rs = [];
@@ -201,35 +205,37 @@ tells shape (log ∷ order) state logs next place a e =
       fails = fails;
     }
 
-    judge : (r : Record) (b : Bool) (o : Option Rule) → log_at logs log ≡ r ∷ drop 1 (log_at logs log) → is_numbered next r ≡ b → first_failing OfBoth (clauses shape (seen_by r.log r.bank state) r) ≡ o
-        → judged b o place (recheck_from shape (state_after shape state r) (after_next logs log) (next_after next r) (place + 1) order) ≡ a
+    judge : (r : Record) (b : Bool) (o : Option Rule) → log_at logs log ≡ r ∷ drop 1 (log_at logs log) → is_numbered next r ≡ b
+        → first_failing OfBoth (clauses shape (seen_by r.log r.bank state) r) ≡ o
+        → judged_at b o place (recheck_from shape (state_after shape state r) (after_next logs log) (next_after next r) (place + 1) order) ≡ a
         → (recheck_from shape (state_after shape state r) (after_next logs log) (next_after next r) (place + 1) order ≡ a
-        → Tells shape (state_after shape state r) (after_next logs log) (next_after next r) (place + 1) order a)
-        → Tells shape state logs next place (log ∷ order) a
+        → Means shape (state_after shape state r) (after_next logs log) (next_after next r) (place + 1) order a)
+        → Means shape state logs next place (log ∷ order) a
     judge r false o first number rule e rest =
-        subst (Tells shape state logs next place (log ∷ order)) e (stop (λ q is.
+        subst (Means shape state logs next place (log ∷ order)) e (stop (λ q is.
         let same : r ≡ q = heads_same (sym first ∙ is.0) in
         let right : q.bank < no_bank → q.number ≡ next q.bank = λ named. let told = is.1 named in omega (arith, told) in
         true≢false (sym (numbered_if next r (subst (λ (s : Record). s.bank < no_bank → s.number ≡ next s.bank) (sym same) right)) ∙ number)))
     judge r true (Some rule) first number fails e rest =
-        subst (Tells shape state logs next place (log ∷ order)) e (fail r rule (first, λ named. let n = if_numbered next r number named in omega (arith, n)) fails)
-    judge r true None first number holds e rest = tells_front shape state logs next log r first number holds place order a (rest e)
+        subst (Means shape state logs next place (log ∷ order)) e (fail r rule (first, λ named. let n = if_numbered next r number named in omega (arith, n)) fails)
+    judge r true None first number holds e rest = means_front shape state logs next log r first number holds place order a (rest e)
 
     go : (xs : List Record) → log_at logs log ≡ xs
         → ◌≡◌ {A = Recheck} (elim xs [
           | [] ↦ NotAnOrder place
-          | r ∷ rest ↦ judged (is_numbered next r) (first_failing OfBoth (clauses shape (seen_by r.log r.bank state) r)) place
+          | r ∷ rest ↦ judged_at (is_numbered next r) (first_failing OfBoth (clauses shape (seen_by r.log r.bank state) r)) place
               (recheck_from shape (state_after shape state r) (after_next logs log) (next_after next r) (place + 1) order)
         ]) a
         → ((r : Record) → recheck_from shape (state_after shape state r) (after_next logs log) (next_after next r) (place + 1) order ≡ a
-        → Tells shape (state_after shape state r) (after_next logs log) (next_after next r) (place + 1) order a)
-        → Tells shape state logs next place (log ∷ order) a
-    go [] is e rest = subst (Tells shape state logs next place (log ∷ order)) e (stop (λ r next_is. cons_nil (sym next_is.0 ∙ is)))
+        → Means shape (state_after shape state r) (after_next logs log) (next_after next r) (place + 1) order a)
+        → Means shape state logs next place (log ∷ order) a
+    go [] is e rest = subst (Means shape state logs next place (log ∷ order)) e (stop (λ r next_is. cons_nil (sym next_is.0 ∙ is)))
     go (r ∷ xs) is e rest = judge r (is_numbered next r) (first_failing OfBoth (clauses shape (seen_by r.log r.bank state) r)) (first_of (log_at logs log) r xs is) refl refl e (rest r)
 
 -- ---- from the opening state on
 
-told_of : (shape : Shape) (memory : FlatMemory) (logs : List (List Record)) (order : List ℕ) (a : Recheck) → NameTheirLogs logs → Tells shape (opening memory) logs (λ _. 0) 0 order a → IsRecheck shape memory logs order a
+told_of : (shape : Shape) (memory : FlatMemory) (logs : List (List Record)) (order : List ℕ) (a : Recheck) → NameTheirLogs logs
+    → Means shape (opening memory) logs (λ _. 0) 0 order a → IsRecheck shape memory logs order a
 told_of shape memory logs order Accepted named h =
     let both = (orders_interleave logs order h.rs named).0 h.taken in
     record { records = h.rs; named = both.1; interleaves = both.0; numbers = h.numbers; run = h.run }
@@ -256,8 +262,9 @@ told_of shape memory logs order (Broken at rule) named h =
       fails = h.fails;
     })
 
-pub recheck_tells : (shape : Shape) (memory : FlatMemory) (logs : List (List Record)) (order : List ℕ) (a : Recheck) → NameTheirLogs logs → a ≡ recheck_of shape memory logs order → IsRecheck shape memory logs order a
-recheck_tells shape memory logs order a named e = told_of shape memory logs order a named (tells shape order (opening memory) logs (λ _. 0) 0 a (sym e))
+pub recheck_tells : (shape : Shape) (memory : FlatMemory) (logs : List (List Record)) (order : List ℕ) (a : Recheck) → NameTheirLogs logs
+    → a ≡ recheck_of shape memory logs order → IsRecheck shape memory logs order a
+recheck_tells shape memory logs order a named e = told_of shape memory logs order a named (means shape order (opening memory) logs (λ _. 0) 0 a (sym e))
 
 -- ---- and there is no other answer
 
@@ -286,7 +293,8 @@ none_before : (logs left : List (List Record)) (rs : List Record) → TakesTo lo
 none_before logs left [] h = (refl, h)
 none_before logs left (r ∷ rs) h = absurd h
 
-accepted_is : (shape : Shape) (order : List ℕ) (rs : List Record) (state : State) (logs : List (List Record)) (next : ℕ → ℕ) (place : ℕ) → Takes logs order rs → NumbersFrom next rs → IsRunFrom shape state rs
+accepted_is : (shape : Shape) (order : List ℕ) (rs : List Record) (state : State) (logs : List (List Record)) (next : ℕ → ℕ) (place : ℕ) → Takes logs order rs
+    → NumbersFrom next rs → IsRunFrom shape state rs
     → recheck_from shape state logs next place order ≡ Accepted
 accepted_is shape [] [] state logs next place taken numbers run = ap (λ b. finished b place) (are_empty logs taken)
 accepted_is shape [] (r ∷ rs) state logs next place taken numbers run = absurd taken
@@ -357,7 +365,8 @@ failed_is shape (suc n) (log ∷ order) (r ∷ rs) left state logs next place q 
     (is.0, λ named. is.1 named ∙ sym (count_front shape state logs next log r taken.0 number run.0 rs q.bank named)) fails
     ∙ ap (λ k. Broken k rule) (omega arith)
 
-one_of : (shape : Shape) (memory : FlatMemory) (logs : List (List Record)) (order : List ℕ) (a : Recheck) → NameTheirLogs logs → IsRecheck shape memory logs order a → recheck_of shape memory logs order ≡ a
+one_of : (shape : Shape) (memory : FlatMemory) (logs : List (List Record)) (order : List ℕ) (a : Recheck) → NameTheirLogs logs
+    → IsRecheck shape memory logs order a → recheck_of shape memory logs order ≡ a
 one_of shape memory logs order Accepted named h =
     accepted_is shape order h.records (opening memory) logs (λ _. 0) 0 ((orders_interleave logs order h.records named).1 (h.interleaves, h.named)) h.numbers h.run
 one_of shape memory logs order (NotAnOrder place) named h =

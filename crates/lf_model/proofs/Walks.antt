@@ -1,5 +1,6 @@
 -- A walk along an order of the logs.
-use Rattle.std.proofs.Common.{◌≡◌, ℕ, zero, suc, ◌+◌, ◌<◌, ◌≤◌, Bool, true, false, cond, ◌&&◌, ◌==◌, List, [], ◌∷◌, map, length, get_or, set, drop, Option, Some, None, ◌⊎◌, inl, inr, refl, sym, ap, ◌∙◌, eq-eqb, eqb-true, ne_eqb, arith, ltb-true, get_or-set_same, get_or-set_other}
+use Rattle.std.proofs.Common.{◌≡◌, ℕ, zero, suc, ◌+◌, ◌<◌, ◌≤◌, Bool, true, false, cond, ◌&&◌, ◌==◌, List, [], ◌∷◌, map, length, get_or, set, drop, Option}
+use Rattle.std.proofs.Common.{Some, None, ◌⊎◌, inl, inr, refl, sym, ap, ◌∙◌, eq-eqb, eqb-true, ne_eqb, arith, ltb-true, get_or-set_same, get_or-set_other}
 use mathlib.Core.Path.{ap₂, fun_ext}
 use Rattle.std.specs.Prelude.{nat_lt, slice_index, MatchOption}
 use Rattle.std.specs.List.{All, Contains, HoldsAt, list_all}
@@ -22,7 +23,7 @@ use Rattle.lf_rules.specs.Table.{OfBoth, clauses}
 use Rattle.lf_rules.specs.Run.{first_failing, state_after}
 use Rattle.lf_rules.specs.Address.{no_bank}
 use Rattle.lf_rules.specs.Order.{log_at, after_next}
-use Rattle.lf_model.specs.Walk.{count_left, is_empty, is_numbered, next_after, NamesBankBelow, left_of, judged, recheck_from}
+use Rattle.lf_model.specs.Walk.{count_left, is_empty, is_numbered, next_after, NamesBankBelow, left_of, judged_at, recheck_from}
 
 -- ---- what is left behind the places
 
@@ -33,7 +34,8 @@ left_at (n ∷ places) [] log e = absurd (omega arith)
 left_at (n ∷ places) (rs ∷ logs) zero e = refl
 left_at (n ∷ places) (rs ∷ logs) (suc log) e = left_at places logs log (omega arith)
 
-pub left_next : (places : List ℕ) (logs : List (List Record)) (log : ℕ) → length places ≡ length logs → left_of (set places log (slice_index places log + 1)) logs ≡ after_next (left_of places logs) log
+pub left_next : (places : List ℕ) (logs : List (List Record)) (log : ℕ) → length places ≡ length logs
+    → left_of (set places log (slice_index places log + 1)) logs ≡ after_next (left_of places logs) log
 left_next [] [] log e = refl
 left_next [] (rs ∷ logs) log e = absurd (omega arith)
 left_next (n ∷ places) [] log e = absurd (omega arith)
@@ -41,7 +43,8 @@ left_next (n ∷ places) (rs ∷ logs) zero e = ap (λ (xs : List Record). xs �
 left_next (n ∷ places) (rs ∷ logs) (suc log) e = ap (λ (left : List (List Record)). drop n rs ∷ left) (left_next places logs log (omega arith))
 
 -- the record at the place is the first of what is left
-pub left_first : (places : List ℕ) (logs : List (List Record)) (log : ℕ) (r : Record) → length places ≡ length logs → slice_index places log < length (log_at logs log) → r ≡ get_or (log_at logs log) (slice_index places log) r
+pub left_first : (places : List ℕ) (logs : List (List Record)) (log : ℕ) (r : Record) → length places ≡ length logs
+    → slice_index places log < length (log_at logs log) → r ≡ get_or (log_at logs log) (slice_index places log) r
     → log_at (left_of places logs) log ≡ r ∷ drop 1 (log_at (left_of places logs) log)
 left_first places logs log r e inside is =
     let here = left_at places logs log e ∙ drop_more (log_at logs log) (slice_index places log) r inside in
@@ -50,11 +53,12 @@ left_first places logs log r e inside is =
 
 -- ---- the answer at one place
 
-pub none_next : (shape : Shape) (state : State) (left : List (List Record)) (next : ℕ → ℕ) (place log : ℕ) (order : List ℕ) → log_at left log ≡ [] → recheck_from shape state left next place (log ∷ order) ≡ NotAnOrder place
+pub none_next : (shape : Shape) (state : State) (left : List (List Record)) (next : ℕ → ℕ) (place log : ℕ) (order : List ℕ) → log_at left log ≡ []
+    → recheck_from shape state left next place (log ∷ order) ≡ NotAnOrder place
 none_next shape state left next place log order e =
     ap (λ (xs : List Record). elim xs as (λ _. Recheck) [
       | [] ↦ NotAnOrder place
-      | r ∷ rest ↦ judged (is_numbered next r) (first_failing OfBoth (clauses shape (seen_by r.log r.bank state) r)) place
+      | r ∷ rest ↦ judged_at (is_numbered next r) (first_failing OfBoth (clauses shape (seen_by r.log r.bank state) r)) place
           (recheck_from shape (state_after shape state r) (after_next left log) (next_after next r) (place + 1) order)
     ]) e
 
@@ -121,12 +125,12 @@ abbrev later : Shape → State → List (List Record) → (ℕ → ℕ) → ℕ 
 later shape state left next place log order r = recheck_from shape (state_after shape state r) (after_next left log) (next_after next r) (place + 1) order
 
 at_next : (shape : Shape) (state : State) (left : List (List Record)) (next : ℕ → ℕ) (place log : ℕ) (order : List ℕ) (r : Record) → log_at left log ≡ r ∷ drop 1 (log_at left log)
-    → recheck_from shape state left next place (log ∷ order) ≡ judged (is_numbered next r) (first_failing OfBoth (clauses shape (seen_by r.log r.bank state) r)) place
+    → recheck_from shape state left next place (log ∷ order) ≡ judged_at (is_numbered next r) (first_failing OfBoth (clauses shape (seen_by r.log r.bank state) r)) place
     (recheck_from shape (state_after shape state r) (after_next left log) (next_after next r) (place + 1) order)
 at_next shape state left next place log order r e =
     ap (λ (xs : List Record). elim xs as (λ _. Recheck) [
       | [] ↦ NotAnOrder place
-      | q ∷ rest ↦ judged (is_numbered next q) (first_failing OfBoth (clauses shape (seen_by q.log q.bank state) q)) place
+      | q ∷ rest ↦ judged_at (is_numbered next q) (first_failing OfBoth (clauses shape (seen_by q.log q.bank state) q)) place
           (recheck_from shape (state_after shape state q) (after_next left log) (next_after next q) (place + 1) order)
     ]) e
 
@@ -151,16 +155,18 @@ next_at next r bank named = go (nat_lt r.bank no_bank) refl
 pub wrong_number : (shape : Shape) (state : State) (left : List (List Record)) (next : ℕ → ℕ) (place log : ℕ) (order : List ℕ) (r : Record) → log_at left log ≡ r ∷ drop 1 (log_at left log)
     → is_numbered next r ≡ false → recheck_from shape state left next place (log ∷ order) ≡ NotAnOrder place
 wrong_number shape state left next place log order r e wrong =
-    at_next shape state left next place log order r e ∙ ap (λ b. judged b (first_failing OfBoth (clauses shape (seen_by r.log r.bank state) r)) place (later shape state left next place log order r)) wrong
+    at_next shape state left next place log order r e ∙ ap (λ b. judged_at b (first_failing OfBoth (clauses shape (seen_by r.log r.bank state) r)) place (later shape state left next place log order r)) wrong
 
-pub right_number : (shape : Shape) (state : State) (left : List (List Record)) (next : ℕ → ℕ) (place log : ℕ) (order : List ℕ) (r : Record) (o : Option Rule) → log_at left log ≡ r ∷ drop 1 (log_at left log)
+pub right_number : (shape : Shape) (state : State) (left : List (List Record)) (next : ℕ → ℕ) (place log : ℕ) (order : List ℕ) (r : Record) (o : Option Rule)
+    → log_at left log ≡ r ∷ drop 1 (log_at left log)
     → is_numbered next r ≡ true → first_failing OfBoth (clauses shape (seen_by r.log r.bank state) r) ≡ o
-    → recheck_from shape state left next place (log ∷ order) ≡ judged true o place
+    → recheck_from shape state left next place (log ∷ order) ≡ judged_at true o place
     (recheck_from shape (state_after shape state r) (after_next left log) (next_after next r) (place + 1) order)
 right_number shape state left next place log order r o e number rule =
-    at_next shape state left next place log order r e ∙ ap₂ (λ b p. judged b p place (later shape state left next place log order r)) number rule
+    at_next shape state left next place log order r e ∙ ap₂ (λ b p. judged_at b p place (later shape state left next place log order r)) number rule
 
-pub rule_broken : (shape : Shape) (state : State) (left : List (List Record)) (next : ℕ → ℕ) (place log : ℕ) (order : List ℕ) (r : Record) (rule : Rule) → log_at left log ≡ r ∷ drop 1 (log_at left log)
+pub rule_broken : (shape : Shape) (state : State) (left : List (List Record)) (next : ℕ → ℕ) (place log : ℕ) (order : List ℕ) (r : Record) (rule : Rule)
+    → log_at left log ≡ r ∷ drop 1 (log_at left log)
     → is_numbered next r ≡ true → first_failing OfBoth (clauses shape (seen_by r.log r.bank state) r) ≡ Some rule
     → recheck_from shape state left next place (log ∷ order) ≡ Broken place rule
 rule_broken shape state left next place log order r rule = right_number shape state left next place log order r (Some rule)
@@ -178,7 +184,8 @@ pub found_number : (numbers : List ℕ) (bank k : ℕ) → bank < length numbers
 found_number numbers bank k inside is = get_or_default numbers bank 0 k inside ∙ sym is
 
 -- the record's bank has this number next
-pub has_number : (numbers : List ℕ) (r : Record) (k : ℕ) → NamesBankBelow (length numbers) r → r.bank < length numbers → slice_index numbers r.bank ≡ k → (r.number == k) ≡ is_numbered (slice_index numbers) r
+pub has_number : (numbers : List ℕ) (r : Record) (k : ℕ) → NamesBankBelow (length numbers) r → r.bank < length numbers → slice_index numbers r.bank ≡ k
+    → (r.number == k) ≡ is_numbered (slice_index numbers) r
 has_number numbers r k names inside is =
     ap (λ n. r.number == n) (sym is)
     ∙ sym (cond-true (nat_lt r.bank no_bank) (r.number == slice_index numbers r.bank) true (lt-ltb r.bank no_bank (let few = names.0 in omega (arith, few, inside))))
@@ -237,7 +244,8 @@ next_rises (x ∷ xs) (suc at) v le (suc n) = next_rises xs at v le n
 
 -- ---- whether any are left
 
-pub all_empty : (places : List ℕ) (vs : List (Vec Record)) → length places ≡ length vs → ((log : ℕ) → log < length vs → log_at (left_of places (items_of vs)) log ≡ []) → list_all is_empty (left_of places (items_of vs)) ≡ true
+pub all_empty : (places : List ℕ) (vs : List (Vec Record)) → length places ≡ length vs
+    → ((log : ℕ) → log < length vs → log_at (left_of places (items_of vs)) log ≡ []) → list_all is_empty (left_of places (items_of vs)) ≡ true
 all_empty [] [] e h = refl
 all_empty [] (v ∷ vs) e h = absurd (omega arith)
 all_empty (n ∷ places) [] e h = refl

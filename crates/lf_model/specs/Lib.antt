@@ -10,7 +10,6 @@ pub use Rattle.lf_rules.specs.State
 pub use Rattle.lf_rules.specs.Table
 pub use Rattle.lf_rules.specs.Run
 pub use Rattle.lf_rules.specs.Order
-pub use Rattle.lf_rules.specs.Examples
 pub use Rattle.lf_rules.specs.History
 pub use Rattle.lf_rules.specs.Sharing
 pub use Rattle.lf_rules.specs.Copies

@@ -28,10 +28,10 @@ finished true place = Accepted
 finished false place = NotAnOrder place
 
 -- what comes of a place: its record's number and its first failing rule decide, or else the rest
-abbrev pub judged : Bool → Option Rule → ℕ → Recheck → Recheck
-judged false rule place rest = NotAnOrder place
-judged true (Some rule) place rest = Broken place rule
-judged true None place rest = rest
+abbrev pub judged_at : Bool → Option Rule → ℕ → Recheck → Recheck
+judged_at false rule place rest = NotAnOrder place
+judged_at true (Some rule) place rest = Broken place rule
+judged_at true None place rest = rest
 
 -- the record carries its bank's next number, where it names a bank
 abbrev pub is_numbered : (ℕ → ℕ) → Record → Bool
@@ -52,7 +52,7 @@ recheck_from shape state left next place (log ∷ order) =
       | [] ↦ NotAnOrder place
       | r ∷ rest ↦
           let later = recheck_from shape (state_after shape state r) (after_next left log) (next_after next r) (place + 1) order in
-          judged (is_numbered next r) (first_failing OfBoth (clauses shape (seen_by r.log r.bank state) r)) place later
+          judged_at (is_numbered next r) (first_failing OfBoth (clauses shape (seen_by r.log r.bank state) r)) place later
     ]
 
 abbrev pub recheck_of : Shape → FlatMemory → List (List Record) → List ℕ → Recheck

@@ -70,7 +70,8 @@ module _ {A B : Type 0} (R : A → B → Type 0) where
     pub released-alike : (block : ℕ) → AreAlike R (released xs block) (released ys block)
     released-alike block = filter_alike (λ h. not (h.block == block)) (λ h. not (h.block == block)) (λ x y e. ap (λ n. not (n == block)) e.block) xs ys alike
 
-    pub primary_clauses-alike : (organisation : OrgShape) (destinations block destination register : ℕ) → primary_clauses organisation destinations xs block destination register ≡ primary_clauses organisation destinations ys block destination register
+    pub primary_clauses-alike : (organisation : OrgShape) (destinations block destination register : ℕ)
+        → primary_clauses organisation destinations xs block destination register ≡ primary_clauses organisation destinations ys block destination register
     primary_clauses-alike organisation destinations block destination register = rw (holds-alike block, is_free-alike register)
 
     -- the positions of the targets agree too
@@ -83,7 +84,8 @@ module _ {A B : Type 0} (R : A → B → Type 0) where
           ap (λ n. nat_lt n entries) (count_alike (λ h. h.register == register) (λ h. h.register == register) (λ x y e. ap (λ n. n == register) e.register) xs ys alike)
       takes-alike Inverted register at = is_free-alike register
 
-      right_for_merge-alike : (organisation : OrgShape) (block destination register : ℕ) → right_for_merge organisation xs block destination register ≡ right_for_merge organisation ys block destination register
+      right_for_merge-alike : (organisation : OrgShape) (block destination register : ℕ)
+          → right_for_merge organisation xs block destination register ≡ right_for_merge organisation ys block destination register
       right_for_merge-alike (Implicit registers) block destination register = holds_in-alike register block
       right_for_merge-alike (Explicit registers entries) block destination register = holds_in-alike register block
       right_for_merge-alike Inverted block destination register = refl

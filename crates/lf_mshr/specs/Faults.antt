@@ -1,7 +1,8 @@
 -- The rule that each fault of a register file stands for.
 use Rattle.std.specs.Prelude.{Option, Some, None, Result, Ok, Err}
 use Rattle.lf_rules.specs.declared.rule.Rule.{Rule}
-use Rattle.lf_rules.specs.declared.rule.Rule.TheVariants.{PrimaryInFlight, NotInFlight as BlockNotInFlight, RegisterRange, WrongRegister, RegisterBusy, MergeFull}
+use Rattle.lf_rules.specs.declared.rule.Rule.TheVariants.{RegisterRange, WrongRegister, RegisterBusy}
+use Rattle.lf_rules.specs.declared.rule.Rule.TheVariants.{PrimaryInFlight, NotInFlight as BlockNotInFlight, MergeFull}
 use Rattle.lf_mshr.specs.declared.fault.RegisterFault.{RegisterFault}
 use Rattle.lf_mshr.specs.declared.fault.RegisterFault.TheVariants.{InFlight, NotInFlight, Range, Wrong, Busy, Full}
 

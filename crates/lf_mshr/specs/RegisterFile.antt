@@ -62,7 +62,9 @@ module _ {T : Type 0} (position destination : T → ℕ) where
   -- some register takes the target, as a primary miss or as a further one
   abbrev pub SomeTakes : RegisterFile T → ℕ → T → Type 0
   SomeTakes file block target =
-      (register : ℕ) × ((first_failing OfBank (primary_wants file register block target) ≡ None) ⊎ (first_failing OfBank (merge_wants file register block target) ≡ None))
+      (register : ℕ)
+      × ((first_failing OfBank (primary_wants file register block target) ≡ None)
+      ⊎ (first_failing OfBank (merge_wants file register block target) ≡ None))
 
 -- which targets are stores, and the bytes that each asks for
 module _ {T : Type 0} (is_store : T → Bool) (bytes : T → Mask) where

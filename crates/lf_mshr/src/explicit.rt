@@ -46,14 +46,17 @@ impl<T: Target> ExplicitFile<T> {
 
     /// Whether the register that holds the block has an entry left.
     fn some_takes(&self, block: u32) -> bool
-        ensures { result ≡ list_any (λ r. holds_in self.now.held.items r block && nat_lt (count_by (λ h. h.register == r) self.now.held.items) self.now.entries) (range_with_len 0 self.now.registers) }
+        ensures { result ≡ list_any
+            (λ r. holds_in self.now.held.items r block && nat_lt (count_by (λ h. h.register == r) self.now.held.items) self.now.entries)
+            (range_with_len 0 self.now.registers) }
     {
         (0..self.registers).any(|r| holds_in(&self.held, r, block) && self.has_entry(r))
     }
 
     /// Whether a register takes a target of the block.
     fn has_room(&self, block: u32) -> bool
-        ensures { (destination at : ℕ) → result ≡ has_room (shape.Explicit self.now.registers self.now.entries) self.now.destinations T.position self.now.held.items block destination at }
+        ensures { (destination at : ℕ) → result ≡ has_room (shape.Explicit self.now.registers self.now.entries)
+            self.now.destinations T.position self.now.held.items block destination at }
     {
         if holds(&self.held, block) {
             self.some_takes(block)

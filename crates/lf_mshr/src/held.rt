@@ -1,6 +1,6 @@
 //! What the registers of a file hold, in the order of acceptance.
 
-ghost use Rattle.std.specs.Prelude.{◌≡◌, ℕ, ◌≤◌, ◌==◌, ◌&&◌, length, map, count_by, vec_capacity, bit_or};
+ghost use Rattle.std.specs.Prelude.{◌≡◌, ◌≤◌, ◌==◌, ◌&&◌, length, map, count_by, vec_capacity, bit_or};
 ghost use Rattle.std.specs.List.{list_any, range_with_len, fold};
 ghost use Rattle.lf_rules.specs.Registers.{holds, is_free, holds_in, targets_of, released};
 ghost use Rattle.lf_mshr.specs.RegisterFile.{released_pair, store_mask};

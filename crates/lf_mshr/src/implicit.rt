@@ -1,6 +1,6 @@
 //! Implicitly addressed files: registers with a field for each position in a block.
 
-ghost use Rattle.std.specs.Prelude.{◌≡◌, ◌⊎◌, ◌*◌, ◌<◌, ◌≤◌, ◌++◌, ◌∷◌, [], vec_capacity, ◌==◌, ◌&&◌, true, false, ℕ};
+ghost use Rattle.std.specs.Prelude.{◌≡◌, ◌⊎◌, ◌*◌, ◌<◌, ◌≤◌, ◌++◌, ◌∷◌, [], vec_capacity, ◌&&◌, true, false, ℕ};
 ghost use Rattle.std.specs.List.{list_any, range_with_len};
 ghost use Rattle.lf_rules.specs.Registers.{holds, holds_in, takes, has_room};
 ghost use Rattle.lf_rules.specs.declared.shape.OrgShape.TheVariants as shape;
@@ -48,14 +48,17 @@ impl<T: Target> ImplicitFile<T> {
 
     /// Whether the register that holds the block has its field at this position left.
     fn some_takes(&self, block: u32, at: u8) -> bool
-        ensures { result ≡ list_any (λ r. holds_in self.now.held.items r block && takes (shape.Implicit self.now.registers) T.position self.now.held.items r at) (range_with_len 0 self.now.registers) }
+        ensures { result ≡ list_any
+            (λ r. holds_in self.now.held.items r block && takes (shape.Implicit self.now.registers) T.position self.now.held.items r at)
+            (range_with_len 0 self.now.registers) }
     {
         (0..self.registers).any(|r| holds_in(&self.held, r, block) && self.has_field(r, at))
     }
 
     /// Whether a register takes a target of the block at this position.
     fn has_room(&self, block: u32, at: u8) -> bool
-        ensures { (destination : ℕ) → result ≡ has_room (shape.Implicit self.now.registers) self.now.destinations T.position self.now.held.items block destination at }
+        ensures { (destination : ℕ) → result ≡ has_room (shape.Implicit self.now.registers)
+            self.now.destinations T.position self.now.held.items block destination at }
     {
         if holds(&self.held, block) {
             self.some_takes(block, at)

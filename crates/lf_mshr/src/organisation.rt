@@ -8,7 +8,8 @@ ghost use Rattle.lf_rules.specs.Run.{first_failing};
 ghost use Rattle.lf_rules.specs.Sharing.{HoldsOnce};
 ghost use Rattle.lf_rules.specs.declared.shape.OrgShape.{OrgShape};
 ghost use Rattle.lf_mshr.specs.Faults.{refusal_of, broken_rule};
-ghost use Rattle.lf_mshr.specs.RegisterFile.{RegisterFile, empty_file, with_target, without_block, released_pair, primary_wants, merge_wants, has_room_for, store_bytes, SomeTakes};
+ghost use Rattle.lf_mshr.specs.RegisterFile.{RegisterFile, empty_file, with_target, without_block, released_pair, store_bytes};
+ghost use Rattle.lf_mshr.specs.RegisterFile.{primary_wants, merge_wants, has_room_for, SomeTakes};
 
 use crate::fault::RegisterFault;
 use crate::held::Targets;
@@ -65,7 +66,8 @@ pub trait Organisation {
         block: u32,
         target: &Self::Target,
     ) -> Option<RegisterFault>
-        ensures { broken_rule result ≡ first_failing OfBank (primary_wants Self.Target.position Self.Target.destination (seen file.now) register block target.now) };
+        ensures { broken_rule result
+            ≡ first_failing OfBank (primary_wants Self.Target.position Self.Target.destination (seen file.now) register block target.now) };
 
     /// Why the register does not take the target of a further miss to the block, if it does not: the
     /// first cause of `NotInFlight`, `Range`, `Wrong` and `Full`.
@@ -75,7 +77,8 @@ pub trait Organisation {
         block: u32,
         target: &Self::Target,
     ) -> Option<RegisterFault>
-        ensures { broken_rule result ≡ first_failing OfBank (merge_wants Self.Target.position Self.Target.destination (seen file.now) register block target.now) };
+        ensures { broken_rule result
+            ≡ first_failing OfBank (merge_wants Self.Target.position Self.Target.destination (seen file.now) register block target.now) };
 
     /// Places the target of a primary miss to the block in the register.
     ///
@@ -86,7 +89,8 @@ pub trait Organisation {
         block: u32,
         target: Self::Target,
     ) -> Result<(), RegisterFault>
-        ensures answer { refusal_of result ≡ first_failing OfBank (primary_wants Self.Target.position Self.Target.destination (seen file.old) register block target) }
+        ensures answer { refusal_of result
+            ≡ first_failing OfBank (primary_wants Self.Target.position Self.Target.destination (seen file.old) register block target) }
         ensures placed { OnOk result (seen file.new ≡ with_target (seen file.old) register block target) }
         ensures unchanged { OnErr result (seen file.new ≡ seen file.old) };
 
@@ -99,7 +103,8 @@ pub trait Organisation {
         block: u32,
         target: Self::Target,
     ) -> Result<(), RegisterFault>
-        ensures answer { refusal_of result ≡ first_failing OfBank (merge_wants Self.Target.position Self.Target.destination (seen file.old) register block target) }
+        ensures answer { refusal_of result
+            ≡ first_failing OfBank (merge_wants Self.Target.position Self.Target.destination (seen file.old) register block target) }
         ensures placed { OnOk result (seen file.new ≡ with_target (seen file.old) register block target) }
         ensures unchanged { OnErr result (seen file.new ≡ seen file.old) };
 

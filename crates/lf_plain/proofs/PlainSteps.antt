@@ -1,5 +1,6 @@
 -- A step of the plain machine is a step of the whole system.
-use Rattle.std.proofs.Common.{◌≡◌, ℕ, zero, suc, ◌<◌, ◌≤◌, ◌==◌, Bool, true, false, cond, List, [], ◌∷◌, Option, map, length, get_or, set, Result, Ok, Err, refl, sym, ap, ◌∙◌, subst, eqb-true, arith, get_or-set_same, get_or-set_other}
+use Rattle.std.proofs.Common.{◌≡◌, ℕ, zero, suc, ◌<◌, ◌≤◌, ◌==◌, Bool, true, false, cond, List, [], ◌∷◌, Option, map, length, get_or}
+use Rattle.std.proofs.Common.{set, Result, Ok, Err, refl, sym, ap, ◌∙◌, subst, eqb-true, arith, get_or-set_same, get_or-set_other}
 use mathlib.Core.Path.{fun_ext}
 use Rattle.std.specs.Prelude.{OnOk}
 use Rattle.std.proofs.lemmas.Bool.{eqb-false}

@@ -5,7 +5,8 @@ ghost use Rattle.std.specs.List.{list_any, range_with_len};
 ghost use Rattle.lf_rules.specs.Registers as model;
 ghost use Rattle.lf_rules.specs.Run.{first_failing};
 ghost use Rattle.lf_rules.specs.Table.{OfBoth, position, store_bytes, store_mask};
-ghost use Rattle.lf_rules.specs.Registers.{holds, is_free, holds_in, registers_of, right_for_primary, right_for_merge, takes, has_room, merge_clauses, released};
+ghost use Rattle.lf_rules.specs.Registers.{holds, is_free, holds_in, takes, has_room, released};
+ghost use Rattle.lf_rules.specs.Registers.{registers_of, right_for_primary, right_for_merge, merge_clauses};
 
 use crate::missed::Missed;
 use lf_rules::{OrgShape, Rule};

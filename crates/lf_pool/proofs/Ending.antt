@@ -1,5 +1,6 @@
 -- Every job has its outcome at the end.
-use Rattle.std.proofs.Common.{◌≡◌, ℕ, zero, suc, ◌+◌, ◌<◌, ◌≤◌, cond, List, [], ◌∷◌, ◌++◌, length, get_or, map, replicate, Option, Some, None, refl, sym, ap, ◌∙◌, subst, arith, length-append, ne_eqb, true≢false}
+use Rattle.std.proofs.Common.{◌≡◌, ℕ, zero, suc, ◌+◌, ◌<◌, ◌≤◌, cond, List, [], ◌∷◌, ◌++◌, length, get_or, map, replicate}
+use Rattle.std.proofs.Common.{Option, Some, None, refl, sym, ap, ◌∙◌, subst, arith, length-append, ne_eqb, true≢false}
 use Rattle.std.specs.Prelude.{◌==◌, slice_get, All, IfSome, IsSome, sum_by}
 use mathlib.Core.Logic.{dite}
 use mathlib.Core.Option.{some}
@@ -63,7 +64,8 @@ module _ (jobs : Jobs) (table : TableId) where
       put_each_keeps rs (put_all slots r.done.items) x (All-tail P r rs all)
       (put_all_keeps (IsJobOutcome jobs) r.done.items slots x (right r.done.items ((All-head P r rs all).done)) here)
 
-  put_each_has : (rs : List Worked) (slots : List (Option Outcome)) (k : ℕ) (r : Worked) (i : ℕ) (p : ℕ × Outcome) → All (IsWorked jobs table) rs → slice_get rs k ≡ Some r → slice_get r.done.items i ≡ Some p → p.0 < length slots
+  put_each_has : (rs : List Worked) (slots : List (Option Outcome)) (k : ℕ) (r : Worked) (i : ℕ) (p : ℕ × Outcome) → All (IsWorked jobs table) rs
+      → slice_get rs k ≡ Some r → slice_get r.done.items i ≡ Some p → p.0 < length slots
       → Filled (put_each slots rs) p.0
   put_each_has [] slots k r i p all at there inside = absurd (cc)
   put_each_has (q ∷ rs) slots zero r i p all at there inside =
@@ -75,7 +77,8 @@ module _ (jobs : Jobs) (table : TableId) where
       let P : Worked → Type 0 = IsWorked jobs table in
       put_each_has rs (put_all slots q.done.items) k r i p (All-tail P q rs all) at there (let same = length-put_all slots q.done.items in omega arith)
 
-  first_past : (rs : List Worked) (d : ℕ) → 0 < length rs → All (IsWorked jobs table) rs → All (λ r. IsSome r.last) rs → (w : ℕ × List ℕ) × (i : ℕ) × (get_elem? (map entry_of rs) 0 ≡ some w) × (i < length w.1) × (count_of jobs ≤ get_or w.1 i d)
+  first_past : (rs : List Worked) (d : ℕ) → 0 < length rs → All (IsWorked jobs table) rs → All (λ r. IsSome r.last) rs
+      → (w : ℕ × List ℕ) × (i : ℕ) × (get_elem? (map entry_of rs) 0 ≡ some w) × (i < length w.1) × (count_of jobs ≤ get_or w.1 i d)
   first_past [] d nonempty all whole = absurd (omega arith)
   first_past (r ∷ rs) d nonempty all whole =
       let P : Worked → Type 0 = IsWorked jobs table in

@@ -1,5 +1,6 @@
 -- Outcomes put at their numbers.
-use Rattle.std.proofs.Common.{◌≡◌, ℕ, zero, suc, ◌<◌, List, [], ◌∷◌, ◌++◌, length, get_or, set, map, Option, Some, None, refl, sym, ap, ◌∙◌, subst, arith, length-set, get_or-set_same, get_or-set_other}
+use Rattle.std.proofs.Common.{◌≡◌, ℕ, zero, suc, ◌<◌, List, [], ◌∷◌, ◌++◌, length, get_or, set, map, Option, Some, None}
+use Rattle.std.proofs.Common.{refl, sym, ap, ◌∙◌, subst, arith, length-set, get_or-set_same, get_or-set_other}
 use Rattle.std.specs.Prelude.{slice_get}
 use mathlib.Core.Logic.{dite}
 use mathlib.Core.List.{map-append}
@@ -28,7 +29,8 @@ length-put_each slots [] = refl
 length-put_each slots (r ∷ rs) = length-put_each (put_all slots r.done.items) rs ∙ length-put_all slots r.done.items
 
 -- the pool's view after one more worker
-pub keeper_after : (made : ℕ) (rs : List Worked) (r : Worked) (old other new : Mine) → old ≡ (Keeper made (map entry_of rs), []) → other ≡ (Worker r.number (claims_of r), []) → new ≡ (with_worker old.0 other.0, old.1)
+pub keeper_after : (made : ℕ) (rs : List Worked) (r : Worked) (old other new : Mine) → old ≡ (Keeper made (map entry_of rs), [])
+    → other ≡ (Worker r.number (claims_of r), []) → new ≡ (with_worker old.0 other.0, old.1)
     → new ≡ (Keeper made (map entry_of (rs ++ r ∷ [])), [])
 keeper_after made rs r old other new p q s =
     let a : (with_worker old.0 other.0, old.1) ≡ (Keeper made (map entry_of rs ++ entry_of r ∷ []), []) = λ i. (with_worker (p i).0 (q i).0, (p i).1) in

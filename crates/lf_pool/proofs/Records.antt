@@ -58,7 +58,8 @@ fits_and_names shape bank (r ∷ rs) fits = go (r.bank == bank) refl (fits_and_n
 all_moved : (P : Record → Type 0) (xs ys : List Record) → IsPermutation xs ys → AllByRecursion P xs → AllByRecursion P ys
 all_moved P xs ys moved all = recursion_from_All P ys (All-permutation P xs ys moved (All-from_recursion P xs all))
 
-pub bank_list : (shape : Shape) (logs : List (List Record)) (bank : ℕ) (rs : List Record) → ((log : ℕ) → AllByRecursion (Fits shape) (log_at logs log)) → IsNumbered logs bank rs → IsBankOrder shape bank rs
+pub bank_list : (shape : Shape) (logs : List (List Record)) (bank : ℕ) (rs : List Record) → ((log : ℕ) → AllByRecursion (Fits shape) (log_at logs log))
+    → IsNumbered logs bank rs → IsBankOrder shape bank rs
 bank_list shape logs bank rs fits is =
     let both = fits_and_names shape bank (all_records logs) (all_of_logs (Fits shape) logs fits) in
     let back = IsPermutation-sym rs (of_bank bank (all_records logs)) is.same in

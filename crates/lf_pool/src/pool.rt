@@ -1,6 +1,7 @@
 //! The pool: workers, each but one in a thread of its own, and what they give.
 
-ghost use Rattle.std.specs.Prelude.{◌≡◌, ◌≤◌, ◌<◌, ◌+◌, ℕ, [], ◌∷◌, length, map, All, IfOk, OnOk, IfErr, None, replicate, slice_get, slice_index_or, ◌↔◌, IsTrue, IsSome};
+ghost use Rattle.std.specs.Prelude.{◌≡◌, ◌↔◌, ◌≤◌, ◌<◌, ◌+◌, ℕ, IsTrue, IfOk, OnOk, IfErr, None, IsSome};
+ghost use Rattle.std.specs.Prelude.{[], length, map, All, replicate, slice_get, slice_index_or};
 ghost use Rattle.std.specs.Bool.{OnTrue};
 ghost use Rattle.lf_pool.specs.declared.rule.View.TheVariants.{Keeper};
 ghost use Rattle.lf_pool.specs.Job.{AreJobs, AreJobOutcomes, count_of};

@@ -1,6 +1,6 @@
 //! One worker, which claims numbers and does their jobs.
 
-ghost use Rattle.std.specs.Prelude.{◌≡◌, ◌≤◌, ◌<◌, ◌+◌, ◌^◌, ℕ, [], ◌∷◌, ◌++◌, map, All, Any};
+ghost use Rattle.std.specs.Prelude.{◌≡◌, ◌≤◌, ◌<◌, ◌+◌, ◌^◌, [], ◌∷◌, ◌++◌, map, All, Any};
 ghost use Rattle.lf_pool.specs.declared.rule.View.TheVariants.{Worker};
 ghost use Rattle.lf_pool.specs.Job.{AreJobs, count_of};
 ghost use Rattle.lf_pool.specs.Worked.{number_of, IsClaimer, IsWorked};

@@ -1,5 +1,6 @@
 -- What the desk has, once it took in every seat.
-use Rattle.std.proofs.Common.{◌+◌, ◌≡◌, ℕ, zero, suc, ◌<◌, ◌≤◌, List, [], ◌∷◌, ◌++◌, length, get_or, set, map, replicate, Some, refl, sym, ap, ◌∙◌, subst, arith, length-set, get_or-set_same, get_or-set_other}
+use Rattle.std.proofs.Common.{◌+◌, ◌≡◌, ℕ, zero, suc, ◌<◌, ◌≤◌, List, [], ◌∷◌, ◌++◌, length, get_or, set, map, replicate}
+use Rattle.std.proofs.Common.{Some, refl, sym, ap, ◌∙◌, subst, arith, length-set, get_or-set_same, get_or-set_other}
 use Rattle.std.specs.Prelude.{slice_get}
 use mathlib.Core.Logic.{dite}
 use mathlib.Core.Option.{some}
@@ -14,7 +15,7 @@ use Rattle.atomic_table.specs.Table.{Final, Seen}
 use Rattle.lf_rules.specs.declared.event.Record.{Record}
 use Rattle.lf_recorder.specs.declared.rule.View.TheVariants.{Collector, Log, Spent}
 use Rattle.lf_rules.specs.Run.{of_log}
-use Rattle.lf_recorder.specs.Rule.{DeskState, Mine, IsListOf, Kept, with_log}
+use Rattle.lf_recorder.specs.Rule.{DeskState, Mine, IsListOf, HasRecords, with_log}
 use Rattle.lf_recorder.proofs.Places.{at_within}
 use Rattle.lf_recorder.specs.Desk.{SeatView, entry_of, placed, HasSeat, HoldSeats}
 use Rattle.lf_rules.specs.CommonOrder.{HasCommonOrder}
@@ -44,7 +45,8 @@ module _ (all : List Record) where
   placed_keeps logs [] log agree here = here
   placed_keeps logs (s ∷ ss) log agree here = placed_keeps (set logs s.log s.records) ss log (λ k x e. agree (suc k) x e) (after_one logs s log (agree 0 s refl) here)
 
-  pub placed_has : (logs : List (List Record)) (ss : List SeatView) (k : ℕ) (s : SeatView) → Agree ss → slice_get ss k ≡ Some s → s.log < length logs → get_or (placed logs ss) s.log [] ≡ of_log s.log all
+  pub placed_has : (logs : List (List Record)) (ss : List SeatView) (k : ℕ) (s : SeatView) → Agree ss → slice_get ss k ≡ Some s → s.log < length logs
+      → get_or (placed logs ss) s.log [] ≡ of_log s.log all
   placed_has logs [] k s agree at within = absurd (cc)
   placed_has logs (x ∷ xs) zero s agree at within =
       let is : x ≡ s = cc in
@@ -54,7 +56,7 @@ module _ (all : List Record) where
       placed_has (set logs x.log x.records) xs k s (λ i y e. agree (suc i) y e) at (let same = length-set logs x.log x.records in omega arith)
 
 -- the logs are those of one list, once the desk took in a seat for each
-pub closes : (banks seat made logs : ℕ) (seats : List SeatView) (s : DeskState) → Kept banks s → get_elem? s.views seat ≡ some (Collector made (map entry_of seats)) → made ≤ logs
+pub closes : (banks seat made logs : ℕ) (seats : List SeatView) (s : DeskState) → HasRecords banks s → get_elem? s.views seat ≡ some (Collector made (map entry_of seats)) → made ≤ logs
     → ((log : ℕ) → log < logs → HasSeat seats log) → HasCommonOrder (placed (replicate logs []) seats) × HoldSeats (placed (replicate logs []) seats) seats
 closes banks seat made logs seats s kept at few has = (
   record { all = all; interleaves = record { each = each }; numbers = keeps_numbers all was.numbers },
@@ -91,7 +93,8 @@ closes banks seat made logs seats s kept at few has = (
         subst (λ k. of_log k kept.0 ≡ get_or (placed (replicate logs []) seats) k []) h.4 (sym (placed_has kept.0 (replicate logs []) seats h.0 x agree at' in_range)))
 
 -- the desk's view after one more seat
-pub collector_after : (made : ℕ) (ss : List SeatView) (s : SeatView) (old other new : Mine) → old ≡ (Collector made (map entry_of ss), []) → other ≡ (Log s.log s.records, []) → new ≡ (with_log old.0 other.0, old.1)
+pub collector_after : (made : ℕ) (ss : List SeatView) (s : SeatView) (old other new : Mine) → old ≡ (Collector made (map entry_of ss), [])
+    → other ≡ (Log s.log s.records, []) → new ≡ (with_log old.0 other.0, old.1)
     → new ≡ (Collector made (map entry_of (ss ++ s ∷ [])), [])
 collector_after made ss s old other new p q r =
     let a : (with_log old.0 other.0, old.1) ≡ (Collector made (map entry_of ss ++ entry_of s ∷ []), []) = λ i. (with_log (p i).0 (q i).0, (p i).1) in
@@ -108,7 +111,7 @@ module _ {B : Type 0} (f : B → List Record) (first : List (List Record)) (ss :
 
 -- what the desk ends with, from the last state of its table
 pub closing : (banks seat made count : ℕ) (seats : List SeatView) (me : Mine) (words : List ℕ) (slots : List (Unit {0})) (first logs : List (List Record))
-    → Final (Seen (Kept banks) seat me.0) words slots → me ≡ (Collector made (map entry_of seats), []) → made ≤ count → ((log : ℕ) → log < count → HasSeat seats log) → first ≡ replicate count [] → logs ≡ placed first seats
+    → Final (Seen (HasRecords banks) seat me.0) words slots → me ≡ (Collector made (map entry_of seats), []) → made ≤ count → ((log : ℕ) → log < count → HasSeat seats log) → first ≡ replicate count [] → logs ≡ placed first seats
     → HasCommonOrder logs × HoldSeats logs seats
 closing banks seat made count seats me words slots first logs final is few has empty done =
     subst (λ ls. HasCommonOrder ls × HoldSeats ls seats) (sym (done ∙ ap (λ ls. placed ls seats) empty))

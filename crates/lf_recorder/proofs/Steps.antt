@@ -1,5 +1,6 @@
 -- Each step keeps the rule.
-use Rattle.std.proofs.Common.{◌≡◌, ◌≢◌, ℕ, zero, suc, ◌+◌, ◌*◌, ◌%◌, ◌^◌, ◌<◌, ◌≤◌, not, List, [], ◌∷◌, ◌++◌, length, set, Some, refl, sym, ap, ◌∙◌, subst, ⊎_elim, arith, length-append, length-set, get_or-set_same, get_or-set_other}
+use Rattle.std.proofs.Common.{◌≡◌, ◌≢◌, ℕ, zero, suc, ◌+◌, ◌*◌, ◌%◌, ◌^◌, ◌<◌, ◌≤◌, not, List, [], ◌∷◌, ◌++◌, length, set, Some, refl}
+use Rattle.std.proofs.Common.{sym, ap, ◌∙◌, subst, ⊎_elim, arith, length-append, length-set, get_or-set_same, get_or-set_other}
 use Rattle.std.specs.Prelude.{◌==◌, slice_get, slice_index}
 use mathlib.Core.Logic.{dite}
 use mathlib.Core.Option.{some, none, some-injective, some-ne-none}
@@ -14,7 +15,7 @@ use Rattle.lf_recorder.specs.declared.rule.View.{View}
 use Rattle.lf_recorder.specs.declared.rule.View.TheVariants.{Collector, Log, Spent}
 use Rattle.lf_rules.specs.Address.{no_bank}
 use Rattle.lf_rules.specs.Run.{of_log, of_bank}
-use Rattle.lf_recorder.specs.Rule.{DeskState, Fits, IsListOf, Kept, IsAbove, Draws, fence_of, Passes, new_collector}
+use Rattle.lf_recorder.specs.Rule.{DeskState, Fits, IsListOf, HasRecords, IsAbove, Draws, fence_of, Passes, new_collector}
 use Rattle.lf_recorder.proofs.Places.{slice_get_snoc, at_snoc_place, at_within}
 use Rattle.lf_recorder.proofs.Growth.{of_log_own, of_log_other, of_bank_own, of_bank_other, size_bound, log_below, keeps_more}
 
@@ -118,7 +119,7 @@ module _ (banks seat log : ℕ) (records : List Record) (bank : ℕ) (event : Ev
 
 -- a draw keeps the rule
 pub draws : (banks slots seat log : ℕ) (records : List Record) (bank : ℕ) (event : Event) → bank < banks → bank < no_bank → length records < 2 ^ 24
-    → Allows (Kept banks) slots seat (Log log records, []) bank (λ n. (n + 1) % 2 ^ 64) (Draws event (step slots bank 1 0 none) (Log log records, []))
+    → Allows (HasRecords banks) slots seat (Log log records, []) bank (λ n. (n + 1) % 2 ^ 64) (Draws event (step slots bank 1 0 none) (Log log records, []))
 draws banks slots seat log records bank event there is_bank room s kept homes at small =
     let all = kept.0 in let was = kept.1 in
     let new : Record = record { log = log; bank = bank; number = slice_index s.words bank; event = event } in (
@@ -131,7 +132,7 @@ draws banks slots seat log records bank event there is_bank room s kept homes at
 
 -- a fence keeps the rule: the word of bank 0 is what it was
 pub passes : (banks slots seat log : ℕ) (records : List Record) → 0 < banks → length records < 2 ^ 24
-    → Allows (Kept banks) slots seat (Log log records, []) 0 (λ n. (n + 0) % 2 ^ 64) (Passes (step slots 0 0 0 none) (Log log records, []))
+    → Allows (HasRecords banks) slots seat (Log log records, []) 0 (λ n. (n + 0) % 2 ^ 64) (Passes (step slots 0 0 0 none) (Log log records, []))
 passes banks slots seat log records there room s kept homes at small =
     let all = kept.0 in let was = kept.1 in
     let new = fence_of log in
@@ -200,7 +201,7 @@ module _ (banks seat made : ℕ) (joined : List (ℕ × List Record)) (room : ma
     seats = seats_opened;
   }
 
-pub opens : (banks seat made : ℕ) (joined : List (ℕ × List Record)) → made < 32 → Splits (Kept banks) seat (Collector made joined) (Collector (made + 1) joined) (Log made [])
+pub opens : (banks seat made : ℕ) (joined : List (ℕ × List Record)) → made < 32 → Splits (HasRecords banks) seat (Collector made joined) (Collector (made + 1) joined) (Log made [])
 opens banks seat made joined room s kept at = (kept.0, opened banks seat made joined room s kept.0 kept.1 at)
 
 -- the desk takes in the log that comes next
@@ -268,11 +269,11 @@ module _ (banks seat made : ℕ) (joined : List (ℕ × List Record)) (other log
   }
 
 pub takes : (banks seat made : ℕ) (joined : List (ℕ × List Record)) (other log : ℕ) (records : List Record)
-    → Joins (Kept banks) seat (Collector made joined) other (Log log records) (Collector made (joined ++ (log, records) ∷ [])) Spent
+    → Joins (HasRecords banks) seat (Collector made joined) other (Log log records) (Collector made (joined ++ (log, records) ∷ [])) Spent
 takes banks seat made joined other log records s kept at apart there = (kept.0, took banks seat made joined other log records s kept.0 kept.1 at apart there)
 
 -- the table at the start
-pub starts : (banks : ℕ) (words : List ℕ) → length words ≡ banks → ((bank : ℕ) → slice_index words bank ≡ 0) → Kept banks (opening words [] new_collector)
+pub starts : (banks : ℕ) (words : List ℕ) → length words ≡ banks → ((bank : ℕ) → slice_index words bank ≡ 0) → HasRecords banks (opening words [] new_collector)
 starts banks words wide zeros = (
   [],
   record {

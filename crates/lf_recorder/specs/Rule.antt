@@ -43,8 +43,9 @@ pub record IsListOf (banks : ℕ) (s : DeskState) (all : List Record) : Type 0 w
   pub unmade : (log : ℕ) → length s.views ≤ log + 1 → of_log log all ≡ []
   pub seats : (seat : ℕ) (v : View) → get_elem? s.views seat ≡ some v → Fits all s.views seat v
 
-abbrev pub Kept : ℕ → DeskState → Type 0
-Kept banks s = (all : List Record) × IsListOf banks s all
+-- there is such a list
+abbrev pub HasRecords : ℕ → DeskState → Type 0
+HasRecords banks s = (all : List Record) × IsListOf banks s all
 
 abbrev pub records_of : View → List Record
 records_of (Collector made joined) = []

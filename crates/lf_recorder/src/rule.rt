@@ -1,8 +1,6 @@
 //! The rule over the banks' words and over what each seat knows, and the four kinds of step that keep
 //! it: a draw of a number, a fence, a seat for a further log, and a log that is taken in.
 
-ghost use Rattle.std.specs.Prelude.{ℕ};
-
 use atomic_table::{Join, Play, Shared, Split, Table, TableRule};
 use lf_rules::Record;
 use std::alloc::Global;
@@ -23,9 +21,9 @@ pub enum View {
 pub struct Numbering;
 
 impl TableRule<(), View, u64> for Numbering {
-    ghost use Rattle.lf_recorder.specs.Rule.{Kept, new_collector};
+    ghost use Rattle.lf_recorder.specs.Rule.{HasRecords, new_collector};
 
-    ghost holds = { Kept };
+    ghost holds = { HasRecords };
 
     ghost first = { λ _. new_collector };
 }

@@ -1,5 +1,6 @@
 -- What holds of one block in a copy run: its copies, its line masks and its waiting targets agree with flat memory.
-use Rattle.std.proofs.Common.{◌≡◌, ℕ, ◌<◌, Bool, true, false, cond, ◌||◌, List, [], ◌∷◌, ◌++◌, length, map, Option, Some, None, inl, inr, is_some, refl, sym, ap, ◌∙◌, subst, arith, get_or-set_same, get_or-set_other}
+use Rattle.std.proofs.Common.{◌≡◌, ℕ, ◌<◌, Bool, true, false, cond, ◌||◌, List, [], ◌∷◌, ◌++◌, length, map, Option, Some, None}
+use Rattle.std.proofs.Common.{inl, inr, is_some, refl, sym, ap, ◌∙◌, subst, arith, get_or-set_same, get_or-set_other}
 use mathlib.Core.Path.{ap₂, fun_ext}
 use Rattle.std.specs.Prelude.{bit_or, unwrap_or}
 use Rattle.std.specs.List.{fold}

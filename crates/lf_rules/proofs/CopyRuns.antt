@@ -14,7 +14,8 @@ use Rattle.lf_rules.proofs.Wide.{second_of_sub, bank_of_sub, flat_same, part_of_
 use Rattle.lf_rules.specs.Registers.{Held, holds, targets_of}
 use Rattle.lf_rules.specs.Lines.{line_at, has_line, dirty_mask}
 use Rattle.lf_rules.specs.State.{update, Request, Missed, Ready, Slice, State, opening, seen_by}
-use Rattle.lf_rules.specs.Table.{OfBoth, oldest, is_head, value_of, read, written, accepts, miss, replies_at, value_at, carries, rules_of, slice_after, memory_after, busy_after, clauses, block_asked, second_miss}
+use Rattle.lf_rules.specs.Table.{OfBoth, oldest, is_head, value_of, read, written, accepts, miss, replies_at, value_at, carries}
+use Rattle.lf_rules.specs.Table.{rules_of, slice_after, memory_after, busy_after, clauses, block_asked, second_miss}
 use Rattle.lf_rules.specs.Run.{first_failing, state_after, IsRunFrom}
 use Rattle.lf_rules.specs.Fits.{Fits}
 use Rattle.lf_rules.proofs.FitFacts.{NamesHome, names_home}
@@ -25,7 +26,8 @@ use Rattle.lf_rules.proofs.Locality.{IsHome, accepts_home, accepted_apart}
 use Rattle.lf_rules.proofs.Parts.{AreHome, home_step}
 use Rattle.lf_rules.proofs.Masks.{serve_off, all_range}
 use Rattle.lf_rules.proofs.CopyBlock.{BlockOk, none_waits, some_is, none_is, base, base-some, base-none, mask_of_stores, waiting_absent, held_absent}
-use Rattle.lf_rules.proofs.CopyStep.{around, waits_some, hit_block, primary_block, merge_block, fill1_block, evict1_block, second_hit_block, second_miss_block, fill2_block, evict2_block, is_apart_at, RegsHome, push_all, filter_all}
+use Rattle.lf_rules.proofs.CopyStep.{around, waits_some, hit_block, primary_block, merge_block, fill1_block, evict1_block, second_hit_block}
+use Rattle.lf_rules.proofs.CopyStep.{second_miss_block, fill2_block, evict2_block, is_apart_at, RegsHome, push_all, filter_all}
 use Rattle.lf_rules.proofs.Forget.{without_value, forget, rules_same, targets_same, served_same, SameHit, NoMissValue, slice_same}
 
 head_home : (shape : Shape) (bank : ℕ) (qs : List Request) (tag : ℕ) → is_head qs tag ≡ true → AllByRecursion (λ q. bank_of shape q.block ≡ bank) qs → bank_of shape (oldest qs).block ≡ bank
@@ -42,7 +44,8 @@ fill_agrees bytes line now held n moved serves =
     test : ℕ → Bool
     test = λ i. is_under (mask_of_stores held) i || slice_index (map line (range_with_len 0 n)) i == slice_index (map now (range_with_len 0 n)) i
 
-    at : (i : ℕ) → i < n → (b : Bool) → is_under (mask_of_stores held) i ≡ b → (is_under (mask_of_stores held) i || slice_index (map line (range_with_len 0 n)) i == slice_index (map now (range_with_len 0 n)) i) ≡ true
+    at : (i : ℕ) → i < n → (b : Bool) → is_under (mask_of_stores held) i ≡ b
+        → (is_under (mask_of_stores held) i || slice_index (map line (range_with_len 0 n)) i == slice_index (map now (range_with_len 0 n)) i) ≡ true
     at i lt true e = or_left _ _ e
     at i lt false e = or_right _ _ (eq-eqb _ _
         (get_or-map-range_with_len line 0 n i i 0 lt (omega arith) ∙ sym (serve_off held 0 line i e).1 ∙ ap (λ (f : ℕ → ℕ). f i) serves ∙ sym (get_or-map-range_with_len now 0 n i i 0 lt (omega arith))))
@@ -65,7 +68,8 @@ copies_same shape copies slice (Hit port tag) = refl
 copies_same shape copies slice _ = refl
 
 -- what there is about a block of another bank stays
-copies_apart : (shape : Shape) (bank : ℕ) (copies : Copies) (memory : FlatMemory) (slice : Slice) (log : ℕ) (e : Event) → NamesHome shape bank e → IsHome shape bank slice → (x : ℕ) → (bank_of shape x ≡ bank → ⊥)
+copies_apart : (shape : Shape) (bank : ℕ) (copies : Copies) (memory : FlatMemory) (slice : Slice) (log : ℕ) (e : Event) → NamesHome shape bank e
+    → IsHome shape bank slice → (x : ℕ) → (bank_of shape x ≡ bank → ⊥)
     → ((copies_after shape copies slice e).one x ≡ copies.one x) × ((copies_after shape copies slice e).two x ≡ copies.two x) × ((copies_after shape copies slice e).below x ≡ copies.below x)
 copies_apart shape bank copies memory slice log (Hit port tag) fit home x apart =
     (accepted_apart shape bank copies.one (Some (oldest (slice.queue port))) (accepts_home shape bank slice (Hit port tag) home) x apart, refl, refl)
@@ -168,7 +172,8 @@ module _ (shape : Shape) (copies : Copies) (memory : FlatMemory) (bank : ℕ) (b
   miss_value (Merge port tag register) = refl
   miss_value _ = tt
 
-regs_after : (shape : Shape) (value : List ℕ) (replies : List Ready) (slice : Slice) (log : ℕ) (e : Event) → RegsHome shape slice.regs2 → RegsHome shape (slice_after shape value replies slice log e).regs2
+regs_after : (shape : Shape) (value : List ℕ) (replies : List Ready) (slice : Slice) (log : ℕ) (e : Event) → RegsHome shape slice.regs2
+    → RegsHome shape (slice_after shape value replies slice log e).regs2
 regs_after shape value replies slice log (SecondPrimary x register) home = push_all (λ h. second_of shape (block_asked h) ≡ h.block) slice.regs2 (second_miss shape slice x register) home refl
 regs_after shape value replies slice log (SecondMerge x register) home = push_all (λ h. second_of shape (block_asked h) ≡ h.block) slice.regs2 (second_miss shape slice x register) home refl
 regs_after shape value replies slice log (Fill2 second bytes) home = filter_all (λ h. second_of shape (block_asked h) ≡ h.block) (λ h. not (h.block == second)) slice.regs2 home

@@ -1,5 +1,6 @@
 -- Each record keeps what holds of each block in a copy run.
-use Rattle.std.proofs.Common.{◌≡◌, ℕ, ◌<◌, arith, map, Bool, true, false, cond, not, ◌&&◌, ◌||◌, ◌==◌, List, [], ◌∷◌, ◌++◌, Option, Some, None, refl, sym, ap, ◌∙◌, subst, eqb-true, eq-eqb, ne_eqb, Ordering, Less, Equal, Greater}
+use Rattle.std.proofs.Common.{◌≡◌, ℕ, ◌<◌, arith, map, Bool, true, false, cond, not, ◌&&◌, ◌||◌, ◌==◌, List, [], ◌∷◌, ◌++◌, Option}
+use Rattle.std.proofs.Common.{Some, None, refl, sym, ap, ◌∙◌, subst, eqb-true, eq-eqb, ne_eqb, Ordering, Less, Equal, Greater}
 use mathlib.Core.Path.{ap₂}
 use Rattle.std.specs.Prelude.{bit_or, unwrap_or}
 use Rattle.std.specs.Ordering.{nat_cmp, eq_by_cmp, match_ordering}
@@ -17,7 +18,8 @@ use Rattle.lf_rules.specs.Lines.{line_at, has_line, dirty_mask, dirty_masks, sam
 use Rattle.lf_rules.specs.State.{update, Asked, Request, Missed, Ready, Slice}
 use Rattle.lf_rules.specs.Table.{read, written, accepted, store_mask, store_bytes, is_asked, without_asked, is_among, without, is_apart, block_asked, second_miss}
 use Rattle.lf_rules.specs.Copies.{Copies, serve, update_second}
-use Rattle.lf_rules.proofs.CopyBlock.{Around, BlockOk, some_wait, some_is, none_is, hit_ok, primary_ok, merge_ok, fill1_ok, evict1_ok, other_marked_ok, second_hit_ok, second_miss_ok, other_held_ok, fill2_ok, evict2_ok}
+use Rattle.lf_rules.proofs.CopyBlock.{Around, BlockOk, some_wait, some_is, none_is, hit_ok, primary_ok, merge_ok, fill1_ok, evict1_ok}
+use Rattle.lf_rules.proofs.CopyBlock.{other_marked_ok, second_hit_ok, second_miss_ok, other_held_ok, fill2_ok, evict2_ok}
 
 -- ---- parts of a slice at a block
 
@@ -109,7 +111,8 @@ targets_gone (g ∷ w) x y = go (g.block == x) refl (targets_gone w x y)
         same false f = ap (λ d. cond d (g ∷ targets_of w y) (targets_of w y)) (sym (ap (λ k. k == y) (eqb-true g.block x e) ∙ f))
     go false e rest = other (x == y) refl (g.block == y) refl
       where
-        other : (c : Bool) → (x == y) ≡ c → (d : Bool) → (g.block == y) ≡ d → cond d (g ∷ targets_of (released w x) y) (targets_of (released w x) y) ≡ cond c [] (cond d (g ∷ targets_of w y) (targets_of w y))
+        other : (c : Bool) → (x == y) ≡ c → (d : Bool) → (g.block == y) ≡ d
+            → cond d (g ∷ targets_of (released w x) y) (targets_of (released w x) y) ≡ cond c [] (cond d (g ∷ targets_of w y) (targets_of w y))
         other true f true u = absurd (both_ways (g.block == x) e (eq-eqb g.block x (eqb-true g.block y u ∙ sym (eqb-true x y f))))
         other true f false u = rest ∙ ap (λ c. cond c [] (targets_of w y)) f
         other false f true u = ap (λ xs. g ∷ xs) (rest ∙ ap (λ c. cond c [] (targets_of w y)) f)

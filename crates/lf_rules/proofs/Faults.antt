@@ -12,7 +12,8 @@ no_fault_in_run side shape [] now place run = refl
 no_fault_in_run side shape (r ∷ rs) now place run =
     ap (λ o. fault_here place o (first_fault_of side shape (effect side shape now r) (place + 1) rs)) run.0 ∙ no_fault_in_run side shape rs (effect side shape now r) (place + 1) run.1
 
-pub fault_at : (side : Side) (shape : Shape) (rs : List Record) (now : Local) (place n : ℕ) (rule : Rule) → BreaksAt side shape now rs n rule → first_fault_of side shape now place rs ≡ Some (place + n, rule)
+pub fault_at : (side : Side) (shape : Shape) (rs : List Record) (now : Local) (place n : ℕ) (rule : Rule) → BreaksAt side shape now rs n rule
+    → first_fault_of side shape now place rs ≡ Some (place + n, rule)
 fault_at side shape [] now place n rule b = absurd b
 fault_at side shape (r ∷ rs) now place zero rule b =
     ap (λ o. fault_here place o (first_fault_of side shape (effect side shape now r) (place + 1) rs)) b ∙ ap (λ k. Some (k, rule)) (omega arith)

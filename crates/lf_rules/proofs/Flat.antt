@@ -1,5 +1,6 @@
 -- In a run each load's reply is the initial memory changed by the stores accepted before the load.
-use Rattle.std.proofs.Common.{◌≡◌, ℕ, ◌+◌, ◌≤◌, Bool, true, false, cond, ◌&&◌, ◌||◌, ◌==◌, List, [], ◌∷◌, ◌++◌, map, drop, length, Option, Some, None, is_none, inl, inr, refl, sym, ap, ◌∙◌, subst, eqb-true, eq-eqb, arith}
+use Rattle.std.proofs.Common.{◌≡◌, ℕ, ◌+◌, ◌≤◌, Bool, true, false, cond, ◌&&◌, ◌||◌, ◌==◌, List, [], ◌∷◌, ◌++◌, map, drop, length}
+use Rattle.std.proofs.Common.{Option, Some, None, is_none, inl, inr, refl, sym, ap, ◌∙◌, subst, eqb-true, eq-eqb, arith}
 use mathlib.Core.Path.{ap₂}
 use Rattle.std.specs.Prelude.{bytes_eq}
 use Rattle.std.proofs.lemmas.Bool.{and_parts, both_ways, cases_Bool, cond-false, eqb-false}
@@ -12,9 +13,11 @@ use Rattle.lf_rules.specs.declared.event.Event.TheVariants.{Issue, Reply, Hit, P
 use Rattle.lf_rules.specs.Address.{FlatMemory}
 use Rattle.lf_rules.specs.Registers.{Held, targets_of}
 use Rattle.lf_rules.specs.State.{update, Request, Missed, Ready, Slice, State, opening, seen_by}
-use Rattle.lf_rules.specs.Table.{request_of, OfBoth, is_store, oldest, is_head, value_of, accepted_if, value_at, is_at, is_ready_for, first_ready, without_ready, reply_of, replies_at, miss, carries, rules_of, accepts, slice_after, clauses}
+use Rattle.lf_rules.specs.Table.{request_of, OfBoth, is_store, oldest, is_head, value_of, accepted_if, value_at, is_at, is_ready_for, first_ready}
+use Rattle.lf_rules.specs.Table.{without_ready, reply_of, replies_at, miss, carries, rules_of, accepts, slice_after, clauses}
 use Rattle.lf_rules.specs.Run.{first_failing, state_after, IsRunFrom}
-use Rattle.lf_rules.specs.History.{Act, Issues, Accepts, Replies, Nothing, act_if, act_of, act, latest_issue, before_acceptance, times_after, times_accepted, accepted_by, bytes_after, issue_after, acceptance_after, IsFlatAt, IsFlatFrom}
+use Rattle.lf_rules.specs.History.{Act, Issues, Accepts, Replies, Nothing, act_if, act_of, act, latest_issue, before_acceptance, times_after}
+use Rattle.lf_rules.specs.History.{times_accepted, accepted_by, bytes_after, issue_after, acceptance_after, IsFlatAt, IsFlatFrom}
 use Rattle.lf_rules.specs.Laws.{RunsAreFlat}
 use Rattle.lf_rules.proofs.Clauses.{AllHold, all_hold}
 use Rattle.lf_rules.proofs.Busy.{next_busy, busy_at}
@@ -244,11 +247,13 @@ without_all P (r ∷ rs) port tag h = go (is_ready_for port tag r) (without_all 
     go true rest = h.1
     go false rest = (h.0, rest)
 
-replies_all : (shape : Shape) (initial : FlatMemory) (history : List Record) (hs : List (Held Missed)) → AllByRecursion (WaitingOk shape initial history) hs → AllByRecursion (ReadyOk shape initial history) (map reply_of hs)
+replies_all : (shape : Shape) (initial : FlatMemory) (history : List Record) (hs : List (Held Missed)) → AllByRecursion (WaitingOk shape initial history) hs
+    → AllByRecursion (ReadyOk shape initial history) (map reply_of hs)
 replies_all shape initial history [] h = tt
 replies_all shape initial history (x ∷ hs) h = ((x.target.request, h.0), replies_all shape initial history hs h.1)
 
-head_issued : (shape : Shape) (history : List Record) (port : ℕ) (qs : List Request) (tag : ℕ) → is_head qs tag ≡ true → AllByRecursion (QueuedOk shape history port) qs → latest_issue shape port tag history ≡ Some (oldest qs)
+head_issued : (shape : Shape) (history : List Record) (port : ℕ) (qs : List Request) (tag : ℕ) → is_head qs tag ≡ true
+    → AllByRecursion (QueuedOk shape history port) qs → latest_issue shape port tag history ≡ Some (oldest qs)
 head_issued shape history port [] tag e h = absurd (both_ways false refl e)
 head_issued shape history port (q ∷ qs) tag e h = ap (λ k. latest_issue shape port k history) (sym (eqb-true q.tag tag e)) ∙ h.0
 
@@ -340,7 +345,8 @@ bytes_are (x ∷ xs) [] e = absurd (both_ways false refl e)
 bytes_are (x ∷ xs) (y ∷ ys) e =
     let parts = and_parts (x == y) (bytes_eq xs ys) e in ap₂ (λ a as'. a ∷ as') (eqb-true x y parts.0) (bytes_are xs ys parts.1)
 
-first_is : (shape : Shape) (initial : FlatMemory) (history : List Record) (rs : List Ready) (port tag : ℕ) → list_any (is_ready_for port tag) rs ≡ true → AllByRecursion (ReadyOk shape initial history) rs
+first_is : (shape : Shape) (initial : FlatMemory) (history : List Record) (rs : List Ready) (port tag : ℕ) → list_any (is_ready_for port tag) rs ≡ true
+    → AllByRecursion (ReadyOk shape initial history) rs
     → (q : Request) × IsAccepted shape initial history port tag q (first_ready rs port tag)
 first_is shape initial history [] port tag there ok = absurd (both_ways false refl there)
 first_is shape initial history (r ∷ rs) port tag there ok = go (is_ready_for port tag r) refl (λ there. first_is shape initial history rs port tag there ok.1)

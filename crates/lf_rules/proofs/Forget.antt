@@ -13,7 +13,8 @@ use Rattle.lf_rules.specs.State.{update, Missed, Ready, Slice}
 use Rattle.lf_rules.specs.Lines.{has_line, dirty_masks, same_masks, with_line}
 use Rattle.lf_rules.specs.Address.{sub_block, places}
 use Rattle.lf_rules.specs.Table.{oldest, is_head, position, destination, destinations, store_mask, store_bytes, miss, bank_wants, written, without, rules_of, slice_after}
-use Rattle.lf_rules.specs.declared.rule.Rule.TheVariants.{NotHead, Present, PrimaryInFlight, NotInFlight, RegisterRange, WrongRegister, RegisterBusy, MergeFull, NeedlessStall, EvictAbsent, Inclusion, EvictMask, EvictData}
+use Rattle.lf_rules.specs.declared.rule.Rule.TheVariants.{NotHead, Present, PrimaryInFlight, NotInFlight, RegisterRange, WrongRegister, RegisterBusy}
+use Rattle.lf_rules.specs.declared.rule.Rule.TheVariants.{MergeFull, NeedlessStall, EvictAbsent, Inclusion, EvictMask, EvictData}
 use Rattle.lf_rules.proofs.CopyBlock.{answer}
 use Rattle.lf_rules.specs.Copies.{served}
 
@@ -52,7 +53,8 @@ fold-map : {X Y A : Type 0} (g : A → Y → A) (f : X → Y) (a : A) (xs : List
 fold-map g f a [] = refl
 fold-map g f a (x ∷ xs) = fold-map g f (g a (f x)) xs
 
-merge_same : (o : OrgShape) (w : List (Held Missed)) (block destination register : ℕ) → right_for_merge o (map without_value w) block destination register ≡ right_for_merge o w block destination register
+merge_same : (o : OrgShape) (w : List (Held Missed)) (block destination register : ℕ)
+    → right_for_merge o (map without_value w) block destination register ≡ right_for_merge o w block destination register
 merge_same (Implicit registers) w block destination register = holds_in_same w register block
 merge_same (Explicit registers entries) w block destination register = holds_in_same w register block
 merge_same Inverted w block destination register = refl

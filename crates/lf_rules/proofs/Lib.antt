@@ -20,6 +20,7 @@ pub mod Permuted
 pub mod Numbered
 pub mod Orders
 pub mod MaskBits
+pub mod Examples
 pub mod RingExamples
 pub mod Bytes
 pub mod Wide

@@ -1,5 +1,6 @@
 -- Masks by their bits.
-use Rattle.std.proofs.Common.{◌≡◌, ℕ, zero, suc, ◌+◌, ◌-◌, ◌*◌, ◌/◌, ◌%◌, ◌^◌, ◌<◌, ◌≤◌, min, max, Bool, true, false, ◌&&◌, ◌||◌, ◌==◌, List, get_or, inl, inr, refl, sym, ap, ◌∙◌, subst, eqb-true, eq-eqb, lt-ltb, le-leb, arith}
+use Rattle.std.proofs.Common.{◌≡◌, ℕ, zero, suc, ◌+◌, ◌-◌, ◌*◌, ◌/◌, ◌%◌, ◌^◌, ◌<◌, ◌≤◌, min, max, Bool, true, false, ◌&&◌, ◌||◌}
+use Rattle.std.proofs.Common.{◌==◌, List, get_or, inl, inr, refl, sym, ap, ◌∙◌, subst, eqb-true, eq-eqb, lt-ltb, le-leb, arith}
 use mathlib.Core.Path.{ap₂}
 use Rattle.std.specs.Prelude.{bit_or, bit_and, slice_index, nat_le, nat_lt, nat_eq, IsTrue, ◌↔◌}
 use Rattle.std.specs.Int.{bit_at}

@@ -187,7 +187,8 @@ popped_queue slice p tag port t head =
     subst (QueueMoves (act_if (p == port && tag == t) Accepts) (counted (queued_as t) (slice.queue port))) (sym (queue_count (queued_as t) slice.queue p (drop 1 (slice.queue p)) port))
     (accept_queue (p == port) (tag == t) _ _ (λ e. ap (λ k. counted (queued_as t) (slice.queue k)) (sym (eqb-true p port e)) ∙ head_count (slice.queue p) tag t head))
 
-queue_after : (shape : Shape) (right : Bool) (busy : ℕ → Option ℕ) (value : List ℕ) (replies : List Ready) (slice : Slice) (log bank : ℕ) (e : Event) → AllHold (rules_of shape right busy slice log bank e)
+queue_after : (shape : Shape) (right : Bool) (busy : ℕ → Option ℕ) (value : List ℕ) (replies : List Ready) (slice : Slice) (log bank : ℕ) (e : Event)
+    → AllHold (rules_of shape right busy slice log bank e)
     → (port t : ℕ) → QueueMoves (act_of shape port t log e) (counted (queued_as t) (slice.queue port)) (counted (queued_as t) ((slice_after shape value replies slice log e).queue port))
 queue_after shape right busy value replies slice log bank (Issue op tag size address bytes) holds port t =
     let request = request_of shape tag op size address bytes.items in

@@ -1,5 +1,6 @@
 -- Where logs wait in a ring, no list of all logs keeps the numbers.
-use Rattle.std.proofs.Common.{◌≡◌, ℕ, zero, suc, ◌+◌, ◌-◌, ◌%◌, ◌<◌, ◌≤◌, Bool, true, false, cond, ◌&&◌, ◌==◌, List, [], ◌∷◌, map, length, get_or, drop, Option, Some, None, ◌⊎◌, inl, inr, refl, sym, ap, ◌∙◌, subst, eqb-true, eq-eqb, arith}
+use Rattle.std.proofs.Common.{◌≡◌, ℕ, zero, suc, ◌+◌, ◌-◌, ◌%◌, ◌<◌, ◌≤◌, Bool, true, false, cond, ◌&&◌, ◌==◌, List, [], ◌∷◌, map, length}
+use Rattle.std.proofs.Common.{get_or, drop, Option, Some, None, ◌⊎◌, inl, inr, refl, sym, ap, ◌∙◌, subst, eqb-true, eq-eqb, arith}
 use mathlib.Core.Path.{ap₂}
 use Rattle.std.proofs.lemmas.Bool.{and_parts, cases_Bool, cases_eq, cond-true, cond-false}
 use Rattle.std.proofs.lemmas.List.{drop-drop}
@@ -86,7 +87,8 @@ of_its_bank (r ∷ rs) log i e is = go (r.log == log) i is (λ j there. of_its_b
     here : r ≡ e → (k : ℕ) × (record_at (cond (r.bank == e.bank) (r ∷ of_bank e.bank rs) (of_bank e.bank rs)) k ≡ Some e)
     here same = (0, ap (λ (xs : List Record). record_at xs 0) (cond-true (r.bank == e.bank) (r ∷ of_bank e.bank rs) (of_bank e.bank rs) (eq-eqb r.bank e.bank (ap (λ (q : Record). q.bank) same))) ∙ ap Some same)
 
-    go : (b : Bool) (i : ℕ) → record_at (cond b (r ∷ of_log log rs) (of_log log rs)) i ≡ Some e → ((j : ℕ) → record_at (of_log log rs) j ≡ Some e → (k : ℕ) × (record_at (of_bank e.bank rs) k ≡ Some e))
+    go : (b : Bool) (i : ℕ) → record_at (cond b (r ∷ of_log log rs) (of_log log rs)) i ≡ Some e
+        → ((j : ℕ) → record_at (of_log log rs) j ≡ Some e → (k : ℕ) × (record_at (of_bank e.bank rs) k ≡ Some e))
         → (k : ℕ) × (record_at (cond (r.bank == e.bank) (r ∷ of_bank e.bank rs) (of_bank e.bank rs)) k ≡ Some e)
     go true zero is rest = here cc
     go true (suc i) is rest = let f = rest i is in further (r.bank == e.bank) f.0 f.1

@@ -1,5 +1,6 @@
 -- There is room exactly where some register would take the target.
-use Rattle.std.proofs.Common.{◌≡◌, ℕ, zero, suc, ◌+◌, ◌<◌, ◌≤◌, Bool, true, false, cond, ◌&&◌, ◌==◌, nat_lt, List, ◌⊎◌, inl, inr, ◌↔◌, refl, sym, ap, ◌∙◌, subst, eqb-true, eq-eqb, lt-ltb, ltb-true, arith}
+use Rattle.std.proofs.Common.{◌≡◌, ℕ, zero, suc, ◌+◌, ◌<◌, ◌≤◌, Bool, true, false, cond, ◌&&◌, ◌==◌, nat_lt, List, ◌⊎◌}
+use Rattle.std.proofs.Common.{inl, inr, ◌↔◌, refl, sym, ap, ◌∙◌, subst, eqb-true, eq-eqb, lt-ltb, ltb-true, arith}
 use Rattle.std.proofs.lemmas.Bool.{eqb-false, cases_Bool, and_parts, and_from, or_cases, or_left, or_right, both_ways, cond-true, cond-false}
 use Rattle.std.specs.List.{list_any, range_with_len}
 use Rattle.lf_rules.specs.declared.shape.OrgShape.{OrgShape}

@@ -124,7 +124,8 @@ AllApart shape state = (bank : ℕ) → KeepsApart shape (state.slice bank)
 update_keeps : {X : Type 0} (P : X → Type 0) (f : ℕ → X) (k : ℕ) (v : X) → P v → ((n : ℕ) → P (f n)) → (n : ℕ) → P (update f k v n)
 update_keeps P f k v now rest n = elim (k == n) as (λ b. P (cond b v (f n))) [ true ↦ now | false ↦ rest n ]
 
-shared_from : (shape : Shape) (rs : List Record) (state : State) → AllApart shape state → IsRunFrom shape state rs → (n bank : ℕ) → KeepsApart shape ((state_after_all shape state (take n rs)).slice bank)
+shared_from : (shape : Shape) (rs : List Record) (state : State) → AllApart shape state → IsRunFrom shape state rs → (n bank : ℕ)
+    → KeepsApart shape ((state_after_all shape state (take n rs)).slice bank)
 unfolding AllApart
 shared_from shape rs state apart run zero bank = apart bank
 shared_from shape [] state apart run (suc n) bank = apart bank

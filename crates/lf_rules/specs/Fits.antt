@@ -5,7 +5,8 @@ use Rattle.arrayvec.specs.ArrayVec.{ArrayVec}
 use Rattle.lf_rules.specs.declared.event.Op.{Op}
 use Rattle.lf_rules.specs.declared.event.Op.TheVariants.{Load, Store}
 use Rattle.lf_rules.specs.declared.event.Event.{Event}
-use Rattle.lf_rules.specs.declared.event.Event.TheVariants.{Issue, Reply, Hit, Primary, Merge, Stall, Fill1, Evict1, SecondHit, SecondPrimary, SecondStall, Fill2, Evict2, SecondMerge, Fence}
+use Rattle.lf_rules.specs.declared.event.Event.TheVariants.{Issue, Reply, Fence, Hit, Primary, Merge, Stall, Fill1, Evict1}
+use Rattle.lf_rules.specs.declared.event.Event.TheVariants.{SecondHit, SecondPrimary, SecondMerge, SecondStall, Fill2, Evict2}
 use Rattle.lf_rules.specs.declared.event.Record.{Record}
 use Rattle.lf_rules.specs.declared.shape.Shape.{Shape}
 use Rattle.lf_rules.specs.Address.{Masks, mask_at, no_bank}

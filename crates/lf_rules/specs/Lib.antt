@@ -15,10 +15,9 @@ pub mod Text
 -- Which records, shapes and configurations there may be.
 pub mod Fits
 pub mod InRange
--- What the laws say of these definitions, and examples of what they say.
+-- What the laws say of these definitions.
 pub mod History
 pub mod Sharing
 pub mod Copies
 pub mod CommonOrder
 pub mod Laws
-pub mod Examples

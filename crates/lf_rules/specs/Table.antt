@@ -1,15 +1,20 @@
 -- The rules: for each event its clauses in order, and its effect.
-use Rattle.std.specs.Prelude.{ℕ, ◌+◌, ◌-◌, ◌*◌, ◌/◌, Bool, true, false, not, ◌&&◌, ◌==◌, nat_le, nat_lt, List, [], ◌∷◌, ◌++◌, map, length, drop, slice_index, Option, Some, None, is_none, bit_or, bytes_eq, if◌then◌else◌}
+use Rattle.std.specs.Prelude.{ℕ, ◌+◌, ◌-◌, ◌*◌, ◌/◌, bit_or, Bool, true, false, not, ◌&&◌, ◌==◌, nat_le, nat_lt, if◌then◌else◌}
+use Rattle.std.specs.Prelude.{List, [], ◌∷◌, ◌++◌, map, length, drop, slice_index, bytes_eq, Option, Some, None, is_none}
 use Rattle.std.specs.List.{range_with_len, list_all, list_any, filter, fold}
 use Rattle.lf_rules.specs.declared.event.Op.{Op}
 use Rattle.lf_rules.specs.declared.event.Op.TheVariants.{Load, Store}
 use Rattle.lf_rules.specs.declared.shape.Shape.{Shape}
 use Rattle.lf_rules.specs.declared.event.Record.{Record}
 use Rattle.lf_rules.specs.declared.event.Event.{Event}
-use Rattle.lf_rules.specs.declared.event.Event.TheVariants.{Issue, Reply, Hit, Primary, Merge, Stall, Fill1, Evict1, SecondHit, SecondPrimary, SecondStall, Fill2, Evict2, SecondMerge, Fence}
-use Rattle.lf_rules.specs.declared.rule.Rule.TheVariants.{TagRange, TagBusy, NotOutstanding, NotReady, ReplySize, ReplyData, NotHead, NotPresent, Present, NeedlessStall, NotSupplied, SetFull, FillData, EvictAbsent, EvictMask, EvictData, NotAsked, SecondAbsent, SecondPresent, NotFetched, Inclusion, FenceBusy}
+use Rattle.lf_rules.specs.declared.event.Event.TheVariants.{Issue, Reply, Fence, Hit, Primary, Merge, Stall, Fill1, Evict1}
+use Rattle.lf_rules.specs.declared.event.Event.TheVariants.{SecondHit, SecondPrimary, SecondMerge, SecondStall, Fill2, Evict2}
+use Rattle.lf_rules.specs.declared.rule.Rule.TheVariants.{TagRange, TagBusy, NotOutstanding, NotReady, ReplySize, ReplyData, FenceBusy}
+use Rattle.lf_rules.specs.declared.rule.Rule.TheVariants.{NotHead, NotPresent, Present, NeedlessStall, NotSupplied, SetFull, FillData}
+use Rattle.lf_rules.specs.declared.rule.Rule.TheVariants.{EvictAbsent, EvictMask, EvictData, NotAsked, SecondAbsent, SecondPresent, NotFetched, Inclusion}
 pub use Rattle.lf_rules.specs.Clauses.{Side, OfPort, OfBank, OfBoth, Clause, port_wants, bank_wants, both_want}
-use Rattle.lf_rules.specs.Address.{FlatMemory, block_of, offset_of, second_of, place_of, sub_block, places, set1_of, set2_of, block_bytes, part_at, wide_masked, mask_of, agree_off, masked}
+use Rattle.lf_rules.specs.Address.{FlatMemory, block_of, offset_of, second_of, place_of, sub_block, places, set1_of, set2_of}
+use Rattle.lf_rules.specs.Address.{block_bytes, part_at, wide_masked, mask_of, agree_off, masked}
 use Rattle.lf_rules.specs.Registers.{Held, registers_of, holds, targets_of, released, has_room, primary_clauses, merge_clauses}
 use Rattle.lf_rules.specs.State.{update, Request, Missed, Ready, Asked, Slice, Local}
 use Rattle.lf_rules.specs.Lines.{has_line, dirty_mask, dirty_masks, same_masks, has_way, with_line, without_line, mark, mark_at, clean_masks}

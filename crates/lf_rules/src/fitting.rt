@@ -2,7 +2,9 @@
 
 ghost use Rattle.std.specs.Prelude.{◌≡◌, ℕ, ◌+◌, ◌<◌, ◌≤◌, ◌↔◌, ◌^◌, IsTrue, nat_lt, slice_index, slice_index_or, length, true};
 ghost use Rattle.lf_rules.specs.Address.{clean_mask};
-ghost use Rattle.lf_rules.specs.Fits.{is_size, is_block_size, is_factor, is_of_bank, masks_len, FitsSecond, FitsWideEvict, IsData, FitsBank, FitsIssue, FitsReply, FitsRequest, FitsBlock, FitsEvict, FitsEvent, FitsLog, FitsRecord, is_of_level_two};
+ghost use Rattle.lf_rules.specs.Fits.{is_size, is_block_size, is_factor, is_of_bank, is_of_level_two, masks_len};
+ghost use Rattle.lf_rules.specs.Fits.{FitsIssue, FitsReply, FitsRequest, FitsBlock, FitsEvict, FitsSecond, FitsWideEvict};
+ghost use Rattle.lf_rules.specs.Fits.{IsData, FitsEvent, FitsBank, FitsLog, FitsRecord};
 
 use crate::event::{Block, Event, Masks, NO_BANK, Op, Record, WideBlock};
 use crate::mask::Mask;

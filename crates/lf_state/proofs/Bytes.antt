@@ -1,5 +1,6 @@
 -- Bytes of a block, and blocks of a memory.
-use Rattle.std.proofs.Common.{◌≡◌, ℕ, ◌+◌, ◌-◌, ◌≤◌, Bool, true, false, cond, ◌&&◌, ◌==◌, List, [], ◌∷◌, ◌++◌, Option, Some, replicate, get_or, take, drop, refl, ap, sym, ◌∙◌, ⊎_elim, length, arith, slice_index, map, leb, ltb}
+use Rattle.std.proofs.Common.{◌≡◌, ℕ, ◌+◌, ◌-◌, ◌≤◌, Bool, true, false, cond, ◌&&◌, ◌==◌, List, [], ◌∷◌, ◌++◌, Option, Some, replicate}
+use Rattle.std.proofs.Common.{get_or, take, drop, refl, ap, sym, ◌∙◌, ⊎_elim, length, arith, slice_index, map, leb, ltb}
 use mathlib.Core.Path.{fun_ext}
 use Rattle.std.specs.Prelude.{unwrap_or}
 use Rattle.std.specs.Map.{lookup}

@@ -1,5 +1,6 @@
 -- The first entry of a list that passes.
-use Rattle.std.proofs.Common.{◌≡◌, ℕ, Bool, true, false, cond, ◌||◌, ◌==◌, List, [], ◌∷◌, Option, Some, None, refl, ap, sym, ◌∙◌, subst, take, drop, ◌++◌, suc, not, length, nat_lt, ◌+◌, ◌≤◌, arith, append-nil}
+use Rattle.std.proofs.Common.{◌≡◌, ℕ, Bool, true, false, cond, ◌||◌, ◌==◌, List, [], ◌∷◌, Option, Some, None, refl, ap}
+use Rattle.std.proofs.Common.{sym, ◌∙◌, subst, take, drop, ◌++◌, suc, not, length, nat_lt, ◌+◌, ◌≤◌, arith, append-nil}
 use mathlib.Core.Path.{ap₂}
 use Rattle.std.proofs.lemmas.Bool.{ltb-false}
 use Rattle.std.proofs.lemmas.List.{take_all, drop_all}
@@ -59,7 +60,8 @@ removed_at ready port tag at e = go (nat_lt (position_or_len (is_ready_for port 
 pub none_removed : (ready : List Ready) (port tag : ℕ) → None ≡ position (is_ready_for port tag) ready → ready ≡ without_ready ready port tag
 none_removed ready port tag e = go (nat_lt (position_or_len (is_ready_for port tag) ready) (length ready)) refl e
   where
-    go : (b : Bool) → nat_lt (position_or_len (is_ready_for port tag) ready) (length ready) ≡ b → ◌≡◌ {A = Option ℕ} None (cond b (Some (position_or_len (is_ready_for port tag) ready)) None) → ready ≡ without_ready ready port tag
+    go : (b : Bool) → nat_lt (position_or_len (is_ready_for port tag) ready) (length ready) ≡ b
+        → ◌≡◌ {A = Option ℕ} None (cond b (Some (position_or_len (is_ready_for port tag) ready)) None) → ready ≡ without_ready ready port tag
     go true e f = absurd (cc)
     go false e f =
         let past : length ready ≤ position_or_len (is_ready_for port tag) ready = ltb-false (position_or_len (is_ready_for port tag) ready) (length ready) e in

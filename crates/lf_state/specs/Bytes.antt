@@ -21,7 +21,7 @@ abbrev pub put : (ℕ → ℕ) → ℕ → List ℕ → ℕ → ℕ
 put bytes offset new place = if nat_le offset place && nat_lt place (offset + length new) then slice_index new (place - offset) else bytes place
 
 -- a request that lies within a block, whose store writes as many bytes as it says
-pub record IsSound (request : Request) : Type 0 where
+pub record IsWellSized (request : Request) : Type 0 where
   pub within : request.offset + request.size ≤ 64
   pub some : 0 < request.size
   pub small : request.size ≤ 8

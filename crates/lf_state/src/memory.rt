@@ -1,6 +1,6 @@
 //! Flat memory, as far as a trace names it and stores wrote it. All other bytes are zero.
 
-ghost use Rattle.std.specs.Prelude.{◌≡◌, ℕ, ◌+◌, ◌-◌, ◌/◌, ◌<◌, ◌≤◌, ◌||◌, ◌==◌, map, length, slice_index, bytes_eq, IfOk, OnOk, OnErr};
+ghost use Rattle.std.specs.Prelude.{◌≡◌, ℕ, ◌+◌, ◌/◌, ◌<◌, ◌≤◌, ◌||◌, ◌==◌, map, length, slice_index, bytes_eq, IfOk, OnOk, OnErr};
 ghost use Rattle.std.specs.List.{range_with_len, list_all, filter};
 ghost use Rattle.lf_rules.specs.Address.{agree_off, block_bytes, flat_memory, is_under, masked, wide_masked};
 ghost use Rattle.lf_rules.specs.InRange.{IsShape};

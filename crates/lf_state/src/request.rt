@@ -5,7 +5,7 @@ ghost use Rattle.lf_rules.specs.Fits.{is_size, issue_len};
 ghost use Rattle.lf_rules.specs.InRange.{IsShape};
 ghost use Rattle.lf_rules.specs.Table.{store_mask, request_of};
 ghost use Rattle.lf_rules.specs.State as model;
-ghost use Rattle.lf_state.specs.Bytes.{IsSound};
+ghost use Rattle.lf_state.specs.Bytes.{IsWellSized};
 
 use arrayvec::ArrayVec;
 use lf_rules::{Mask, Op, Shape};
@@ -28,7 +28,7 @@ pub struct Request {
 
 impl Model for Request {
     ghost use Rattle.lf_rules.specs.State as model;
-    ghost use Rattle.lf_state.specs.Bytes.{IsSound};
+    ghost use Rattle.lf_state.specs.Bytes.{IsWellSized};
 
     ghost Value = { model.Request };
 
@@ -36,7 +36,7 @@ impl Model for Request {
 
     ghost invariant = { λ r.
         let request : model.Request = record { tag = r.tag; op = r.op; block = r.block; offset = r.offset; size = r.size; bytes = r.bytes.items } in
-        IsSound request };
+        IsWellSized request };
 }
 
 /// The reply that a request may have: a load's value, and nothing for a store.
@@ -126,7 +126,7 @@ impl Request {
     /// Where in the block its bytes begin.
     pub fn offset(&self) -> u8
         ensures value { result ≡ self.now.offset }
-        ensures sound { IsSound self.now }
+        ensures sound { IsWellSized self.now }
     {
         self.offset
     }

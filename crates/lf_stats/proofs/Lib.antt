@@ -6,3 +6,4 @@ mod Waits
 mod Sizes
 mod Pushed
 mod Lines
+mod Examples

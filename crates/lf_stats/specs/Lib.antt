@@ -1,7 +1,6 @@
--- For callers: the counts of a trace and their text, with examples of both.
+-- For callers: the counts of a trace and their text.
 pub mod Statistics
 pub mod Answer
 pub mod Text
-pub mod Examples
 -- For the contracts of the crate alone: what is held between two records.
 pub mod Standing

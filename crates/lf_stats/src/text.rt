@@ -1,6 +1,6 @@
 //! The lines of statistics.
 
-ghost use Rattle.std.specs.Prelude.{◌≡◌, Some};
+ghost use Rattle.std.specs.Prelude.{Some};
 ghost use Rattle.lf_stats.specs.Text.{bank_text, bank_line, port_line, lines_from, stats_text};
 
 use crate::counts::{BankStats, Stats};

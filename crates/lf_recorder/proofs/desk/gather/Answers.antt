@@ -4,7 +4,7 @@ use Rattle.std.specs.Vec.Iter.{into_iter_items}
 use Rattle.std.proofs.lemmas.List.Elements.{All-head, All-tail}
 use Rattle.atomic_table.specs.Table.{Joins}
 use Rattle.lf_recorder.specs.declared.rule.View.TheVariants.{Log, Spent}
-use Rattle.lf_recorder.specs.Rule.{Kept, Mine, with_log}
+use Rattle.lf_recorder.specs.Rule.{HasRecords, Mine, with_log}
 use Rattle.lf_recorder.specs.Desk.{SeatView, entry_of}
 use Rattle.lf_recorder.proofs.Steps.{takes}
 use Rattle.lf_recorder.proofs.Closing.{collector_after, logs_after, logs_same}
@@ -23,7 +23,7 @@ join_seat-requires c =
       ap (λ (m : Mine). m.1) c.seat.invariant,
       c.requires.table.1,
       subst
-          (λ (z : Mine × Mine). Joins (Kept shared.key) at.collector.id z.0.0 inside.seat.id z.1.0 (with_log z.0.0 z.1.0) Spent)
+          (λ (z : Mine × Mine). Joins (HasRecords shared.key) at.collector.id z.0.0 inside.seat.id z.1.0 (with_log z.0.0 z.1.0) Spent)
           (λ i. (sym at.invariant.made i, sym c.seat.invariant i))
           (takes shared.key at.collector.id c.args.made (map entry_of at.yielded) inside.seat.id inside.log inside.records.items),
     )

@@ -1,7 +1,7 @@
 use Rattle.std.proofs.Common.{◌+◌, ◌%◌, ◌^◌, sym, subst, arith}
 use mathlib.Core.Option.{none}
 use Rattle.atomic_table.specs.Table.{step, Allows}
-use Rattle.lf_recorder.specs.Rule.{Kept, Mine, Passes}
+use Rattle.lf_recorder.specs.Rule.{HasRecords, Mine, Passes}
 use Rattle.lf_recorder.proofs.Steps.{passes}
 use Rattle.lf_recorder.proofs.desk.pass.Goals as goal
 
@@ -14,7 +14,7 @@ fetch_add-requires c =
       table.0,
       table.1,
       subst
-          (λ (me : Mine). Allows (Kept shared.key) slots seat.id me 0 (λ n. (n + 0) % 2 ^ 64) (Passes (step slots 0 0 0 none) me))
+          (λ (me : Mine). Allows (HasRecords shared.key) slots seat.id me 0 (λ n. (n + 0) % 2 ^ 64) (Passes (step slots 0 0 0 none) me))
           (sym c.requires.seat)
           (passes shared.key slots seat.id c.args.log c.args.records.now.items (omega arith) c.requires.room),
     )

@@ -1,5 +1,8 @@
 -- The seat comes out of the struct.
-use Rattle.atomic_table.proofs.Names.{◌≡◌, List, [], ◌∷◌, refl, Val, SProp, emp, ‵, raw, ◌⊛◌, ◌$◌, ◌∵◌, !, qed, by, move, keep, drop, split, fsplit, fsplit3, fjoin, fpick, use0, rewrite, stop, fld, of_opd, returns, enter, alloc_all, pass_all, free_all, look_at, get, get_in, sets, sub, whole, tables, yes, RattleType, owns, types_at, plain, nothing, alive, Stays, stay_dropped, walk_of, fact, fact_i, Is, shows, peeks}
+use Rattle.atomic_table.proofs.Names.{◌≡◌, List, [], ◌∷◌, refl, Val, SProp, emp, ‵, raw, ◌⊛◌, ◌$◌, ◌∵◌, !, qed, by, move, keep, drop}
+use Rattle.atomic_table.proofs.Names.{split, fsplit, fsplit3, fjoin, fpick, use0, rewrite, stop, fld, of_opd, returns, enter, alloc_all}
+use Rattle.atomic_table.proofs.Names.{pass_all, free_all, look_at, get, get_in, sets, sub, whole, tables, yes, RattleType, owns, types_at}
+use Rattle.atomic_table.proofs.Names.{plain, nothing, alive, Stays, stay_dropped, walk_of, fact, fact_i, Is, shows, peeks}
 use Rattle.atomic_table.proofs.Walks.{proved, leaves}
 use Rattle.atomic_table.proofs.Fields.{token_val, token_told}
 use denote.Builtin.{unit}

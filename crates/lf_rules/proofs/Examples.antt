@@ -8,9 +8,11 @@ use Rattle.lf_rules.specs.declared.shape.Level.{Level}
 use Rattle.lf_rules.specs.declared.shape.Shape.{Shape}
 use Rattle.lf_rules.specs.declared.event.Record.{Record}
 use Rattle.lf_rules.specs.declared.event.Event.{Event}
-use Rattle.lf_rules.specs.declared.event.Event.TheVariants.{Issue, Reply, Hit, Primary, Merge, Stall, Fill1, Evict1, SecondHit, SecondPrimary, SecondStall, Fill2, Evict2, SecondMerge, Fence}
+use Rattle.lf_rules.specs.declared.event.Event.TheVariants.{Issue, Reply, Fence, Hit, Primary, Merge, Stall, Fill1, Evict1}
+use Rattle.lf_rules.specs.declared.event.Event.TheVariants.{SecondHit, SecondPrimary, SecondMerge, SecondStall, Fill2, Evict2}
 use Rattle.lf_rules.specs.declared.rule.Rule.{Rule}
-use Rattle.lf_rules.specs.declared.rule.Rule.TheVariants.{NotHead, ReplyData, MergeFull, NeedlessStall, WrongRegister, PrimaryInFlight, Inclusion, EvictMask, EvictData, FillData, SetFull, TagBusy, NotOutstanding, TagRange, FenceBusy}
+use Rattle.lf_rules.specs.declared.rule.Rule.TheVariants.{TagRange, TagBusy, NotOutstanding, ReplyData, FenceBusy, NotHead, NeedlessStall}
+use Rattle.lf_rules.specs.declared.rule.Rule.TheVariants.{PrimaryInFlight, WrongRegister, MergeFull, SetFull, FillData, Inclusion, EvictMask, EvictData}
 use Rattle.lf_rules.specs.Address.{Masks, no_bank, flat_memory}
 use Rattle.lf_rules.specs.State.{opening}
 use Rattle.lf_rules.specs.Table.{OfPort, OfBoth}
