@@ -1,5 +1,5 @@
 -- Each event that breaks no rule leads to a state that a run may reach.
-use Rattle.std.proofs.Common.{◌≡◌, ◌<◌, ℕ, Bool, true, false, cond, ◌==◌, List, [], ◌∷◌, ◌++◌, drop, Result, Ok, Err, None, refl, sym, ap, ◌∙◌, subst, ltb-true}
+use Rattle.std.proofs.Common.{◌≡◌, ◌<◌, ℕ, Bool, true, false, cond, ◌==◌, List, [], ◌∷◌, ◌++◌, drop, Result, Ok, Err, None, refl, sym, ap, subst, ltb-true}
 use Rattle.std.specs.List.{AllByRecursion}
 use Rattle.std.specs.Prelude.{OnErr}
 use Rattle.lf_rules.specs.declared.shape.Shape.{Shape}

@@ -1,8 +1,8 @@
 -- Runs of a bank, one record longer.
-use Rattle.std.proofs.Common.{◌≡◌, ℕ, zero, suc, ◌<◌, List, [], ◌∷◌, ◌++◌, length, get_or, take, drop, drop-cons, ◌+◌, Some, None, Result, Ok, Err, refl, sym, ap, ◌∙◌, subst, arith, cond, eq-eqb}
+use Rattle.std.proofs.Common.{◌≡◌, ℕ, zero, suc, ◌<◌, List, [], ◌∷◌, ◌++◌, map, length, get_or, take, drop, drop-cons, ◌+◌, Some, None, Result, Ok, Err, refl, sym, ap, ◌∙◌, subst, arith, cond, eq-eqb}
 use mathlib.Core.Path.{ap₂, fun_ext}
 use Rattle.std.specs.List.{AllByRecursion, range_with_len}
-use Rattle.std.proofs.lemmas.List.{get_or-map, take_more, take-append-drop, length-take-le, length-append, map-append}
+use Rattle.std.proofs.lemmas.List.{get_or-map, length-map, take_more, take-append-drop, length-take-le, length-append, map-append}
 use Rattle.lf_rules.proofs.Bytes.{range_more}
 use Rattle.lf_rules.specs.Fits.{Fits}
 use Rattle.std.proofs.lemmas.List.FromFn.{get_or-range_with_len}
@@ -83,7 +83,13 @@ pub on_ok : {T E : Type 0} {P Q : Type 0} (r : Result T E) → (P → Q) → OnO
 on_ok (Ok t) f p = f p
 on_ok (Err e) f p = tt
 
--- ---- a loop over the records
+-- ---- a loop over places that lend the records
+
+pub lent_count : {X : Type 0} (lent : X → Record) (places : List X) (i : ℕ) → i < length places → i < length (map lent places)
+lent_count lent places i lt = omega (arith, length-map places lent, lt)
+
+pub lent_at : {X : Type 0} (lent : X → Record) (places : List X) (i : ℕ) (place : X) (r : Record) → i < length places → place ≡ get_or places i place → r ≡ lent place → r ≡ get_or (map lent places) i r
+lent_at lent places i place r lt is told = told ∙ ap lent is ∙ sym (get_or-map lent places i place r lt)
 
 pub stands_next : (kept : BankView) (shape : Shape) (memory : FlatMemory) (rs : List Record) (k : ℕ) (r : Record) → k < length rs → r ≡ get_or rs k r
     → KeptAfter kept shape memory (take k rs ++ r ∷ []) → KeptAfter kept shape memory (take (k + 1) rs)

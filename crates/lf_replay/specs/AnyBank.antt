@@ -1,15 +1,16 @@
--- What a bank of any pair of organisations keeps.
+-- What a bank of any two organisations is seen as.
 use Rattle.lf_replay.specs.declared.any_bank.AnyBank.{AnyBank}
-use Rattle.lf_replay.specs.declared.any_bank.AnyBank.TheVariants.{ImplicitImplicit, ImplicitExplicit, ImplicitInverted, ExplicitImplicit, ExplicitExplicit, ExplicitInverted, InvertedImplicit, InvertedExplicit, InvertedInverted}
+use Rattle.lf_replay.specs.declared.any_bank.AnyBank.TheVariants as any
+use Rattle.lf_replay.specs.declared.any_bank.SecondBank.{SecondBank}
+use Rattle.lf_replay.specs.declared.any_bank.SecondBank.TheVariants as second
 use Rattle.lf_replay.specs.Kept.{BankView}
 
-abbrev pub kept_of : AnyBank → BankView
-kept_of (ImplicitImplicit kept) = kept
-kept_of (ImplicitExplicit kept) = kept
-kept_of (ImplicitInverted kept) = kept
-kept_of (ExplicitImplicit kept) = kept
-kept_of (ExplicitExplicit kept) = kept
-kept_of (ExplicitInverted kept) = kept
-kept_of (InvertedImplicit kept) = kept
-kept_of (InvertedExplicit kept) = kept
-kept_of (InvertedInverted kept) = kept
+abbrev pub second_view_of : {O1 File1 : Type 0} → SecondBank O1 File1 → BankView
+second_view_of (second.Implicit bank) = bank
+second_view_of (second.Explicit bank) = bank
+second_view_of (second.Inverted bank) = bank
+
+abbrev pub view_of : AnyBank → BankView
+view_of (any.Implicit bank) = second_view_of bank
+view_of (any.Explicit bank) = second_view_of bank
+view_of (any.Inverted bank) = second_view_of bank

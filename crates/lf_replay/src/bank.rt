@@ -1,15 +1,10 @@
 //! A bank, with two organisations of registers.
 
-ghost use Rattle.std.specs.Prelude.{◌≡◌, ℕ, ◌≤◌, true, [], length, IfOk, OnErr};
-ghost use Rattle.lf_rules.specs.Address.{flat_memory};
-ghost use Rattle.lf_rules.specs.Fits.{Fits};
+ghost use Rattle.std.specs.Prelude.{◌≡◌, ◌≤◌, true};
 ghost use Rattle.lf_rules.specs.InRange.{IsShape};
-ghost use Rattle.lf_rules.specs.Outcomes.{first_local};
 ghost use Rattle.lf_rules.specs.Table.{destinations, destinations2};
-ghost use Rattle.lf_state.specs.Bytes.{bank_part};
-ghost use Rattle.lf_replay.specs.Shows.{Keeps, Shows};
-ghost use Rattle.lf_replay.specs.Step.{GoesOn, IsFaultOf};
 
+use crate::bank_state::BankState;
 use crate::fault::BankFault;
 use lf_levels::{Lines, One, Two};
 use lf_mshr::{Organisation, Request1, Request2, Targets};
@@ -84,22 +79,18 @@ fn destinations2(shape: &Shape) -> u16
     }
 }
 
-impl<O1: Organisation<Target = Request1>, O2: Organisation<Target = Request2>> Bank<O1, O2> {
-    /// The opening state, with the bank's blocks of the memory that a trace names. The shape's levels
-    /// name the two organisations.
-    pub fn new(
+impl<O1: Organisation<Target = Request1>, O2: Organisation<Target = Request2>> BankState
+    for Bank<O1, O2> {
+    ghost view = { λ bank. bank };
+
+    ghost suits = { λ shape. (O1.names shape.level1.organisation ≡ true) × (O2.names shape.level2.organisation ≡ true) };
+
+    fn new(
         alloc: Global,
         shape: &Shape,
         memory: &[(u32, Block)],
         bank: u32,
-    ) -> Result<Bank<O1, O2>, NoMemory>
-        requires in_range { IsShape shape.now }
-        requires level1 { O1.names shape.now.level1.organisation ≡ true }
-        requires level2 { O2.names shape.now.level2.organisation ≡ true }
-        ensures opening { IfOk result (λ empty. Shows empty (first_local (bank_part shape.now bank (flat_memory memory.now)))) }
-        ensures keeps { IfOk result (λ empty. Keeps empty) }
-        ensures shape { IfOk result (λ empty. empty.shape ≡ shape.now) }
-    {
+    ) -> Result<Bank<O1, O2>, NoMemory> {
         let level1 = shape.level1;
         let level2 = shape.level2;
         Ok(Bank {
@@ -118,16 +109,7 @@ impl<O1: Organisation<Target = Request1>, O2: Organisation<Target = Request2>> B
         })
     }
 
-    /// Judges the record, and carries it out where it breaks no rule of the bank.
-    pub fn apply(&mut self, item: &Record) -> Result<(), BankFault>
-        requires keeps { Keeps self.old }
-        requires fits { Fits self.old.shape item.now }
-        ensures keeps { Keeps self.new }
-        ensures shape { self.new.shape ≡ self.old.shape }
-        ensures unchanged { OnErr result (self.new ≡ self.old) }
-        ensures stands { GoesOn self.old self.new item.now result }
-        ensures broken { IsFaultOf self.old item.now result }
-    {
+    fn apply(&mut self, item: &Record) -> Result<(), BankFault> {
         self.answer(item)
     }
 }

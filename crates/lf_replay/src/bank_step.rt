@@ -9,6 +9,7 @@ ghost use Rattle.lf_state.specs.Bytes.{bank_part};
 ghost use Rattle.lf_replay.specs.Step.{StandsAfter, IsForStep, IsFaultAfter};
 
 use crate::any_bank::AnyBank;
+use crate::bank_state::BankState;
 use crate::fault::BankFault;
 use lf_rules::{Memory, NoMemory, Record, Shape};
 use std::alloc::Global;
@@ -27,12 +28,12 @@ impl Model for Step {
 
     ghost Value = { BankKept };
 
-    ghost use Rattle.lf_replay.specs.AnyBank.{kept_of};
+    ghost use Rattle.lf_replay.specs.AnyBank.{view_of};
     ghost use Rattle.lf_replay.specs.Shows.{Keeps};
 
-    ghost view = { λ s. record { bank = s.bank; kept = kept_of s.state } };
+    ghost view = { λ s. record { bank = s.bank; kept = view_of s.state } };
 
-    ghost invariant = { λ s. Keeps (kept_of s.state) };
+    ghost invariant = { λ s. Keeps (view_of s.state) };
 }
 
 impl Step {

@@ -3,7 +3,7 @@ use Rattle.lf_levels.specs.LineTable.{LineTable}
 use Rattle.lf_rules.specs.Address.{Masks, flat_memory}
 use Rattle.lf_state.specs.Bytes.{bank_part}
 use Rattle.lf_replay.proofs.Reached.{opens, opening_reached}
-use Rattle.lf_replay.proofs.bank.Bank.new.Goals as goal
+use Rattle.lf_replay.proofs.bank.BankBankState.new.Goals as goal
 
 pub returns-clause-opening : goal.returns-clause-opening
 returns-clause-opening g c =

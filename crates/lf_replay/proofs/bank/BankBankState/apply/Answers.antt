@@ -1,6 +1,6 @@
 use Rattle.lf_replay.proofs.Reached.{keeps_after, same_after, same_shape}
 use Rattle.lf_replay.proofs.Runs.{kept_more, fault_more}
-use Rattle.lf_replay.proofs.bank.Bank.apply.Goals as goal
+use Rattle.lf_replay.proofs.bank.BankBankState.apply.Goals as goal
 
 pub returns-clause-keeps : goal.returns-clause-keeps
 returns-clause-keeps g c = keeps_after c.args.self.now _ c.args.item.now.log c.args.item.now.event c.answer.result c.requires.keeps c.answer.ensures
