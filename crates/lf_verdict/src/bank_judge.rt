@@ -74,6 +74,17 @@ impl BankJudge {
         if self.order.is_empty() {
             return Ok(());
         }
+        self.settle_waiting()
+    }
+
+    /// Judges those of the waiting records whose turn has come. It is apart from `settle`, since it has
+    /// a place for a record, which costs time where none waits.
+    fn settle_waiting(&mut self) -> Result<(), NoMemory>
+        requires { (shape : Shape) × ((memory : FlatMemory) × ((bank : ℕ) ×
+            ((came : List Record) × ((gave : List Record) × IsBankJudged shape memory bank came gave self.old)))) }
+        ensures { (shape : Shape) (memory : FlatMemory) (bank : ℕ) (came : List Record) (gave : List Record) → IsBankJudged shape memory bank came gave self.old
+            → OnOk result ((more : List Record) × IsBankSettled shape memory bank came more self.new) }
+    {
         while let Some(item) = self.order.next() {
             self.judge(&item)?;
         }

@@ -1,10 +1,10 @@
 //! What a session keeps of the bytes that it was fed.
 
-ghost use Rattle.std.specs.Prelude.{◌≡◌, ◌++◌, ℕ, List, [], Some, None, IsSome, IfSome, Ok, OnOk};
+ghost use Rattle.std.specs.Prelude.{◌≡◌, ◌++◌, ℕ, List, [], Some, None, IsSome, IfSome, IfOk, Ok, OnOk};
 ghost use Rattle.lf_rules.specs.InRange.{IsShape};
 ghost use Rattle.lf_verdict.specs.Judging.{IsAnswer};
 ghost use Rattle.lf_verdict.specs.Session.{refusal_of, stop_told, IsStopOf, IsRunning, HasTaken, IsLackingIf, IsDrained, HasFed};
-ghost use Rattle.lf_codec.specs.Reader.{fault_in};
+ghost use Rattle.lf_codec.specs.Reader.{fault_in, answer_of, bytes_taken, TakesSome};
 ghost use Rattle.lf_verdict.specs.declared.intake.Judging.TheVariants.{Waiting};
 ghost use Rattle.lf_rules.specs.declared.shape.Shape.{Shape};
 ghost use Rattle.lf_rules.specs.declared.event.Record.{Record};
@@ -90,10 +90,10 @@ fn judge_records(reader: &mut Reader, standing: &mut Standing) -> Result<(), NoM
     read_so_far();
     while let Some(item) = reader.front() {
         let is_judged = standing.offer(item)?;
-        if let Some(item) = reader.take() {
-            if !is_judged {
-                standing.keep(item)?;
-            }
+        if is_judged {
+            reader.drop_front();
+        } else if let Some(item) = reader.take() {
+            standing.keep(item)?;
         }
     }
     Ok(())
@@ -200,7 +200,7 @@ impl Intake {
         Ok(())
     }
 
-    /// Takes the next piece of the trace.
+    /// Takes the next piece of the trace, a record at a time.
     pub fn feed(&mut self, piece: &[u8]) -> Result<(), Told<Refusal>>
         requires { (bytes : List ℕ) × HasFed self.old bytes }
         ensures shape { self.new.shape ≡ self.old.shape }
@@ -209,17 +209,39 @@ impl Intake {
         ensures failed { IsSome self.old.stop → self.new ≡ self.old }
     {
         faults_stand();
-        header_of_bytes();
         if let Some(stop) = self.stop {
             return Err(Told::Failed(refusal_of(stop)));
         }
-        if let Err(told) = self.reader.feed(piece) {
-            let stop = stop_of(told);
-            self.stop = Some(stop);
-            return Err(Told::Fault(refusal_of(stop)));
+        let mut at = 0;
+        while at < piece.len() {
+            match self.feed_some(&piece[at..]) {
+                Ok(n) => at += n,
+                Err(told) => return Err(told),
+            }
         }
+        Ok(())
+    }
+
+    /// Takes the next record of these bytes, or what there is of it, and judges it.
+    fn feed_some(&mut self, bytes: &[u8]) -> Result<usize, Told<Refusal>>
+        requires fed { (fed : List ℕ) × HasFed self.old fed }
+        requires going { self.old.stop ≡ None }
+        ensures shape { self.new.shape ≡ self.old.shape }
+        ensures some { IfOk result (TakesSome bytes.now) }
+        ensures fed { (fed : List ℕ) → HasFed self.old fed → HasFed self.new (fed ++ bytes_taken result bytes.now) }
+        ensures told { answer_of result ≡ stop_told self.old.stop self.new.stop }
+    {
+        header_of_bytes();
+        let n = match self.reader.feed_some(bytes) {
+            Ok(n) => n,
+            Err(told) => {
+                let stop = stop_of(told);
+                self.stop = Some(stop);
+                return Err(Told::Fault(refusal_of(stop)));
+            }
+        };
         match self.take_all() {
-            Ok(()) => Ok(()),
+            Ok(()) => Ok(n),
             Err(NoMemory) => {
                 self.stop = Some(Stop::Memory);
                 Err(Told::Fault(Refusal::Memory))

@@ -2,7 +2,9 @@ use Rattle.std.proofs.Common.{◌++◌, ◌∷◌, [], List, ap, ◌∙◌, subs
 use Rattle.lf_rules.specs.declared.event.Record.{Record}
 use Rattle.lf_rules.specs.Address.{flat_memory}
 use Rattle.lf_codec.specs.Reading.{Reading}
-use Rattle.lf_verdict.specs.Standing.{IsEntered, MayCome, StandsAfterAll}
+use Rattle.lf_codec.specs.Reader.{HasRead}
+use Rattle.lf_verdict.specs.Standing.{IsEntered, MayCome}
+use Rattle.lf_verdict.proofs.Feeding.{front_of}
 use Rattle.lf_verdict.proofs.Sessions.{may_come, running_more, same_front}
 use Rattle.lf_verdict.proofs.intake.judge_records.Goals as goal
 
@@ -63,22 +65,19 @@ loop-item-preserved-in-Continue-branch-2 c = (
       ),
 )
 
-pub loop-item-preserved-else-not-is_judged : goal.loop-item-preserved-else-not-is_judged
-loop-item-preserved-else-not-is_judged c = (
-  ap (λ (q : Reading). q.fault) c.take.ensures.rest ∙ c.loop-item.invariant.0,
+pub loop-item-preserved-then-is_judged : goal.loop-item-preserved-then-is_judged
+loop-item-preserved-then-is_judged c = (
+  ap (λ (q : Reading). q.fault) c.drop_front.ensures.rest ∙ c.loop-item.invariant.0,
   λ shape bytes memory records read run.
       let m = c.loop-item.invariant.1 shape bytes memory records read run in
       let there = c.loop-item.reader.records in
       let front = c.in-Some.item.now in
-      let taken = c.in-Some-take.item in
-      let may = may_come c.read_so_far.ensures shape bytes memory m.0 c.loop-item.reader c.loop-item.standing front (drop 1 there) m.1.0 m.1.1 c.in-Some.ensures in
-      let same = same_front there (drop 1 there) c.take.new.self.records front taken c.in-Some.ensures c.in-Some-take.ensures.first in (
-        m.0 ++ taken ∷ [],
+      let may = may_come c.read_so_far.ensures shape bytes memory m.0 c.loop-item.reader c.loop-item.standing front (drop 1 there) m.1.0 m.1.1 c.in-Some.ensures in (
+        m.0 ++ front ∷ [],
         (
-          c.in-Some-take.ensures.taken bytes memory m.0 m.1.0,
-          running_more shape bytes memory m.0 (m.0 ++ taken ∷ []) c.loop-item.standing c.offer.new.self m.1.1
-              (subst (λ (item : Record). StandsAfterAll shape (flat_memory memory) (m.0 ++ item ∷ []) c.offer.new.self) same
-              (c.in_ok-is_judged.ensures.judged shape (flat_memory memory) m.0 may m.1.1.stands c.if-not-is_judged.false)),
+          subst (λ (rs : List Record). HasRead c.drop_front.new.self bytes memory (m.0 ++ rs)) (front_of there (drop 1 there) front c.in-Some.ensures) (c.drop_front.ensures.taken bytes memory m.0 m.1.0),
+          running_more shape bytes memory m.0 (m.0 ++ front ∷ []) c.loop-item.standing c.offer.new.self m.1.1
+              (c.in_ok-is_judged.ensures.judged shape (flat_memory memory) m.0 may m.1.1.stands c.if-is_judged.true),
         ),
       ),
 )
