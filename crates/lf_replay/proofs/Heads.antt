@@ -11,7 +11,7 @@ use Rattle.lf_rules.specs.Registers.{Held, primary_clauses, merge_clauses}
 use Rattle.lf_rules.specs.Run.{first_failing}
 use Rattle.lf_rules.specs.State.{Request, Missed}
 use Rattle.lf_rules.specs.Table.{is_head, oldest, destination, destinations, position}
-use Rattle.lf_replay.specs.Kept.{queue_at}
+use Rattle.lf_replay.specs.BankView.{queue_at}
 
 one_holds : (rule : Rule) (a : Bool) (rest : List Clause) → a ≡ true → first_failing OfBank (bank_wants rule a ∷ rest) ≡ first_failing OfBank rest
 one_holds rule true rest e = refl

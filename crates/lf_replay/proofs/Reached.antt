@@ -12,14 +12,14 @@ use Rattle.lf_mshr.specs.RegisterFile.{RegisterFile, empty_file}
 use Rattle.lf_mshr.specs.declared.level_one.Request1.{Request1}
 use Rattle.lf_mshr.specs.declared.level_two.Request2.{Request2}
 use Rattle.lf_state.specs.Bytes.{flat_of}
-use Rattle.lf_replay.specs.Tells.{Tells, TellsAsked}
+use Rattle.lf_replay.specs.Targets.{IsTarget1, IsTarget2}
 use Rattle.lf_rules.specs.declared.event.Event.TheVariants.{Issue, Reply, Hit, Primary, Merge, Stall, Fill1, Evict1, SecondHit, SecondPrimary, SecondStall, Fill2, Evict2, SecondMerge, Fence}
 use Rattle.lf_rules.specs.State.{Request, Ready, Slice, Local, idle, update}
 use Rattle.lf_rules.specs.Table.{OfBank, rules_of, slice_after, carries, value_at, accepts, replies_at, request_of}
 use Rattle.lf_rules.specs.Run.{first_failing}
 use Rattle.lf_replay.specs.declared.fault.BankFault.{BankFault}
-use Rattle.lf_replay.specs.Kept.{BankView, local_of, after_event, queue_at}
-use Rattle.lf_replay.specs.Shows.{AreTagged, IsReached, Keeps, Shows, IsAnswer, AnswerOf}
+use Rattle.lf_replay.specs.BankView.{BankView, local_of, after_event, queue_at}
+use Rattle.lf_replay.specs.Shows.{AreTagged, IsReached, ShowsReached, Shows, IsAnswer, AnswerOf}
 use Rattle.lf_rules.specs.InRange.{IsShape}
 use Rattle.lf_replay.proofs.Places.{factor_some}
 use Rattle.lf_replay.proofs.Apart.{facts, stands_after}
@@ -63,8 +63,8 @@ tagged_after shape right value replies slice log bank (SecondMerge block registe
 tagged_after shape right value replies slice log bank Fence each none = each
 
 -- a bank that keeps a state that a run may reach keeps one after each answer
-pub keeps_after : {A : Type 0} (old new : BankView) (log : ℕ) (e : Event) (result : Result A BankFault) → Keeps old → IsAnswer old new log e result → Keeps new
-keeps_after old new log e result keeps answer = go result (answer 0 keeps.now.slice.waiting keeps.now.slice.regs2 keeps.shows.registers)
+pub reached_after : {A : Type 0} (old new : BankView) (log : ℕ) (e : Event) (result : Result A BankFault) → ShowsReached old → IsAnswer old new log e result → ShowsReached new
+reached_after old new log e result keeps answer = go result (answer 0 keeps.now.slice.waiting keeps.now.slice.regs2 keeps.shows.registers)
   where
     here : Local
     here = local_of old keeps.now.slice.waiting keeps.now.slice.regs2
@@ -72,7 +72,7 @@ keeps_after old new log e result keeps answer = go result (answer 0 keeps.now.sl
     reached : IsReached old.shape here
     reached = subst (IsReached old.shape) (sym keeps.shows.rest) keeps.reached
 
-    go : {A : Type 0} (r : Result A BankFault) → AnswerOf old new here log 0 e r → Keeps new
+    go : {A : Type 0} (r : Result A BankFault) → AnswerOf old new here log 0 e r → ShowsReached new
     go (Ok done) a = record {
       now = after_event old.shape here log e;
       shows = a.2;
@@ -82,15 +82,15 @@ keeps_after old new log e result keeps answer = go result (answer 0 keeps.now.sl
         tagged = tagged_after old.shape (carries old.shape here.memory here.slice e) (value_at here.memory (accepts here.slice e)) (replies_at here.slice e) here.slice log 0 e reached.tagged a.0;
       });
     }
-    go (Err fault) a = subst Keeps (sym a.1) keeps
+    go (Err fault) a = subst ShowsReached (sym a.1) keeps
 
 -- no answer changes the shape
-pub same_shape : {A : Type 0} (old new : BankView) (log : ℕ) (e : Event) (result : Result A BankFault) → Keeps old → IsAnswer old new log e result → new.shape ≡ old.shape
+pub same_shape : {A : Type 0} (old new : BankView) (log : ℕ) (e : Event) (result : Result A BankFault) → ShowsReached old → IsAnswer old new log e result → new.shape ≡ old.shape
 same_shape old new log e (Ok done) keeps answer = (answer 0 keeps.now.slice.waiting keeps.now.slice.regs2 keeps.shows.registers).1
 same_shape old new log e (Err fault) keeps answer = ap (λ (k : BankView). k.shape) (answer 0 keeps.now.slice.waiting keeps.now.slice.regs2 keeps.shows.registers).1
 
 -- a fault leaves what a bank keeps as it was
-pub same_after : {A : Type 0} (old new : BankView) (log : ℕ) (e : Event) (result : Result A BankFault) → Keeps old → IsAnswer old new log e result → OnErr result (new ≡ old)
+pub same_after : {A : Type 0} (old new : BankView) (log : ℕ) (e : Event) (result : Result A BankFault) → ShowsReached old → IsAnswer old new log e result → OnErr result (new ≡ old)
 same_after old new log e (Ok done) keeps answer = tt
 same_after old new log e (Err fault) keeps answer = (answer 0 keeps.now.slice.waiting keeps.now.slice.regs2 keeps.shows.registers).1
 
@@ -100,14 +100,14 @@ pub opening_reached : (shape : Shape) (memory : FlatMemory) → IsShape shape �
 opening_reached shape memory in_range = record { in_range = in_range; stands = record { blocks = λ block. refl; fetched = λ second. refl }; tagged = λ port. tt }
 
 -- a bank with nothing but the memory keeps the opening state
-pub opens : (kept : BankView) (memory : FlatMemory) (organisation1 organisation2 : OrgShape) (destinations1 destinations2 : ℕ)
-    → kept.waiting ≡ empty_file organisation1 destinations1 → kept.regs2 ≡ empty_file organisation2 destinations2
-    → flat_of kept.memory ≡ memory → ((port : ℕ) → queue_at kept.queues port ≡ []) → kept.lines1.lines ≡ [] → kept.lines2.lines ≡ []
-    → kept.asked ≡ [] → kept.supplied ≡ [] → kept.ready ≡ [] → Shows kept (first_local memory)
-opens kept memory organisation1 organisation2 destinations1 destinations2 free1 free2 bytes queues lines1 lines2 asked supplied ready = record {
+pub opens : (view : BankView) (memory : FlatMemory) (organisation1 organisation2 : OrgShape) (destinations1 destinations2 : ℕ)
+    → view.waiting ≡ empty_file organisation1 destinations1 → view.regs2 ≡ empty_file organisation2 destinations2
+    → flat_of view.memory ≡ memory → ((port : ℕ) → queue_at view.queues port ≡ []) → view.lines1.lines ≡ [] → view.lines2.lines ≡ []
+    → view.asked ≡ [] → view.supplied ≡ [] → view.ready ≡ [] → Shows view (first_local memory)
+opens view memory organisation1 organisation2 destinations1 destinations2 free1 free2 bytes queues lines1 lines2 asked supplied ready = record {
   registers = record {
-    level1 = subst (λ (f : RegisterFile Request1). AreAlike (Tells kept.shape) f.held []) (sym free1) tt;
-    level2 = subst (λ (f : RegisterFile Request2). AreAlike (TellsAsked kept.shape) f.held []) (sym free2) tt;
+    level1 = subst (λ (f : RegisterFile Request1). AreAlike (IsTarget1 view.shape) f.held []) (sym free1) tt;
+    level2 = subst (λ (f : RegisterFile Request2). AreAlike (IsTarget2 view.shape) f.held []) (sym free2) tt;
     home = tt;
   };
   rest = λ i. record {

@@ -23,9 +23,9 @@ use Rattle.lf_rules.proofs.FitFacts.{names_home}
 use Rattle.lf_rules.proofs.Locality.{SameBank, IsHome, bank_clauses_same, bank_effect_same, home_after}
 use Rattle.lf_state.specs.Bytes.{bank_part}
 use Rattle.std.specs.Prelude.{OnOk, IfErr}
-use Rattle.lf_replay.specs.Kept.{BankView, after_event}
-use Rattle.lf_replay.specs.Shows.{Shows, broken_rule, AnswerOf, IsAnswer}
-use Rattle.lf_replay.specs.Step.{bank_after, KeptAfter, IsFaultAfter, IsBankOrder}
+use Rattle.lf_replay.specs.BankView.{BankView, after_event}
+use Rattle.lf_replay.specs.Shows.{Shows, rule_broken, AnswerOf, IsAnswer}
+use Rattle.lf_replay.specs.Step.{bank_after, IsBankAfter, IsFaultAfter, IsBankOrder}
 
 module _ (shape : Shape) where
   pub run_more : (now : Local) (rs : List Record) (r : Record) → IsRunOf OfBank shape now rs → first_failing OfBank (clauses shape (bank_after shape now rs) r) ≡ None → IsRunOf OfBank shape now (rs ++ r ∷ [])
@@ -46,22 +46,22 @@ module _ {A : Type 0} (old new : BankView) (r : Record) (result : Result A BankF
   pub answer_at : (now : Local) → Shows old now → AnswerOf old new now r.log r.bank r.event result
   answer_at now shows = subst (λ (s : Local). AnswerOf old new s r.log r.bank r.event result) shows.rest (answer r.bank now.slice.waiting now.slice.regs2 shows.registers)
 
-module _ (old new : BankView) (shape : Shape) (memory : FlatMemory) (rs : List Record) (stands : KeptAfter old shape memory rs) (r : Record) where
+module _ (old new : BankView) (shape : Shape) (memory : FlatMemory) (rs : List Record) (stands : IsBankAfter old shape memory rs) (r : Record) where
   at_shape : {A : Type 0} (result : Result A BankFault) → IsAnswer old new r.log r.event result → AnswerOf old new (bank_after shape (first_local memory) rs) r.log r.bank r.event result
-  at_shape result answer = answer_at old new r result answer (bank_after shape (first_local memory) rs) stands.state
+  at_shape result answer = answer_at old new r result answer (bank_after shape (first_local memory) rs) stands.shows
 
-  rule_at : broken_rule old.shape (bank_after shape (first_local memory) rs) r.log r.bank r.event ≡ first_failing OfBank (clauses shape (bank_after shape (first_local memory) rs) r)
-  rule_at = ap (λ s. broken_rule s (bank_after shape (first_local memory) rs) r.log r.bank r.event) stands.of_shape
+  rule_at : rule_broken old.shape (bank_after shape (first_local memory) rs) r.log r.bank r.event ≡ first_failing OfBank (clauses shape (bank_after shape (first_local memory) rs) r)
+  rule_at = ap (λ s. rule_broken s (bank_after shape (first_local memory) rs) r.log r.bank r.event) stands.of_shape
 
-  pub kept_more : {A : Type 0} (result : Result A BankFault) → IsAnswer old new r.log r.event result → OnOk result (KeptAfter new shape memory (rs ++ r ∷ []))
-  kept_more (Ok done) answer =
+  pub bank_after_more : {A : Type 0} (result : Result A BankFault) → IsAnswer old new r.log r.event result → OnOk result (IsBankAfter new shape memory (rs ++ r ∷ []))
+  bank_after_more (Ok done) answer =
       let a = at_shape (Ok done) answer in
       record {
         of_shape = a.1 ∙ stands.of_shape;
         is_run = run_more shape (first_local memory) rs r stands.is_run (sym rule_at ∙ a.0);
-        state = subst (Shows new) (ap (λ s. after_event s (bank_after shape (first_local memory) rs) r.log r.event) stands.of_shape ∙ sym (after_more shape (first_local memory) rs r)) a.2;
+        shows = subst (Shows new) (ap (λ s. after_event s (bank_after shape (first_local memory) rs) r.log r.event) stands.of_shape ∙ sym (after_more shape (first_local memory) rs r)) a.2;
       }
-  kept_more (Err fault) answer = tt
+  bank_after_more (Err fault) answer = tt
 
   pub fault_more : {A : Type 0} (result : Result A BankFault) → IsAnswer old new r.log r.event result → IfErr result (IsFaultAfter shape memory rs r)
   fault_more {A = A} (Ok done) answer = tt
@@ -91,9 +91,9 @@ lent_count lent places i lt = omega (arith, length-map places lent, lt)
 pub lent_at : {X : Type 0} (lent : X → Record) (places : List X) (i : ℕ) (place : X) (r : Record) → i < length places → place ≡ get_or places i place → r ≡ lent place → r ≡ get_or (map lent places) i r
 lent_at lent places i place r lt is told = told ∙ ap lent is ∙ sym (get_or-map lent places i place r lt)
 
-pub stands_next : (kept : BankView) (shape : Shape) (memory : FlatMemory) (rs : List Record) (k : ℕ) (r : Record) → k < length rs → r ≡ get_or rs k r
-    → KeptAfter kept shape memory (take k rs ++ r ∷ []) → KeptAfter kept shape memory (take (k + 1) rs)
-stands_next kept shape memory rs k r lt is stands = subst (KeptAfter kept shape memory) (ap (λ x. take k rs ++ x ∷ []) is ∙ sym (take_more rs k r lt)) stands
+pub stands_next : (view : BankView) (shape : Shape) (memory : FlatMemory) (rs : List Record) (k : ℕ) (r : Record) → k < length rs → r ≡ get_or rs k r
+    → IsBankAfter view shape memory (take k rs ++ r ∷ []) → IsBankAfter view shape memory (take (k + 1) rs)
+stands_next view shape memory rs k r lt is stands = subst (IsBankAfter view shape memory) (ap (λ x. take k rs ++ x ∷ []) is ∙ sym (take_more rs k r lt)) stands
 
 breaks_longer : (shape : Shape) (now : Local) (xs : List Record) (r : Record) (rest : List Record) (rule : model.Rule) → BreaksAt OfBank shape now (xs ++ r ∷ []) (length xs) rule
     → BreaksAt OfBank shape now (xs ++ r ∷ rest) (length xs) rule

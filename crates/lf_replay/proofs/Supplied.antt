@@ -14,7 +14,7 @@ use Rattle.lf_mshr.specs.Alike.{AreAlike}
 use Rattle.lf_mshr.specs.RegisterFile.{released_pair}
 use Rattle.lf_mshr.proofs.Alike.{targets_of-alike}
 use Rattle.lf_replay.specs.Apart.{AreHome}
-use Rattle.lf_replay.specs.Tells.{TellsAsked}
+use Rattle.lf_replay.specs.Targets.{IsTarget2}
 
 -- what stands past the end of a list
 nobody : Held Asked
@@ -37,31 +37,31 @@ of_at shape second [] i home lt = absurd (omega arith)
 of_at shape second (h ∷ held) zero home lt = home.0
 of_at shape second (h ∷ held) (suc i) home lt = of_at shape second held i home.1 (omega arith)
 
-module _ (shape : Shape) (held : List (Held Request2)) (fetched : List (Held Asked)) (alike : AreAlike (TellsAsked shape) held fetched) (second : ℕ) (pairs : List (ℕ × Request2)) (are : pairs ≡ map released_pair (targets_of held second)) where
-  told_in : (xs : List (Held Request2)) (ys : List (Held Asked)) → AreAlike (TellsAsked shape) xs ys → (i : ℕ) (pair : ℕ × Request2) → i < length (map released_pair xs)
-      → TellsAsked shape (get_or (map released_pair xs) i pair).1 (get_or ys i nobody).target
+module _ (shape : Shape) (held : List (Held Request2)) (fetched : List (Held Asked)) (alike : AreAlike (IsTarget2 shape) held fetched) (second : ℕ) (pairs : List (ℕ × Request2)) (are : pairs ≡ map released_pair (targets_of held second)) where
+  told_in : (xs : List (Held Request2)) (ys : List (Held Asked)) → AreAlike (IsTarget2 shape) xs ys → (i : ℕ) (pair : ℕ × Request2) → i < length (map released_pair xs)
+      → IsTarget2 shape (get_or (map released_pair xs) i pair).1 (get_or ys i nobody).target
   told_in (x ∷ xs) (y ∷ ys) all zero pair lt = all.0.target
   told_in (x ∷ xs) (y ∷ ys) all (suc i) pair lt = told_in xs ys all.1 i pair (omega arith)
   told_in [] ys all i pair lt = absurd (omega arith)
   told_in (x ∷ xs) [] all i pair lt = absurd all
 
-  same_count : (xs : List (Held Request2)) (ys : List (Held Asked)) → AreAlike (TellsAsked shape) xs ys → length (map released_pair xs) ≡ length ys
+  same_count : (xs : List (Held Request2)) (ys : List (Held Asked)) → AreAlike (IsTarget2 shape) xs ys → length (map released_pair xs) ≡ length ys
   same_count [] [] all = refl
   same_count (x ∷ xs) (y ∷ ys) all = ap suc (same_count xs ys all.1)
   same_count [] (y ∷ ys) all = absurd all
   same_count (x ∷ xs) [] all = absurd all
 
-  released_alike : AreAlike (TellsAsked shape) (targets_of held second) (targets_of fetched second)
-  released_alike = targets_of-alike (TellsAsked shape) held fetched alike second
+  released_alike : AreAlike (IsTarget2 shape) (targets_of held second) (targets_of fetched second)
+  released_alike = targets_of-alike (IsTarget2 shape) held fetched alike second
 
   pairs_count : length pairs ≡ length (targets_of fetched second)
   pairs_count = ap length are ∙ same_count (targets_of held second) (targets_of fetched second) released_alike
 
   -- a released target tells of the block at its place
-  tells_at : (i : ℕ) (pair : ℕ × Request2) → i < length pairs → pair ≡ get_or pairs i pair → TellsAsked shape pair.1 (get_or (targets_of fetched second) i nobody).target
+  tells_at : (i : ℕ) (pair : ℕ × Request2) → i < length pairs → pair ≡ get_or pairs i pair → IsTarget2 shape pair.1 (get_or (targets_of fetched second) i nobody).target
   tells_at i pair lt is =
       let here : get_or (map released_pair (targets_of held second)) i pair ≡ pair = ap (λ (ps : List (ℕ × Request2)). get_or ps i pair) (sym are) ∙ sym is in
-      subst (λ (p : ℕ × Request2). TellsAsked shape p.1 (get_or (targets_of fetched second) i nobody).target) here
+      subst (λ (p : ℕ × Request2). IsTarget2 shape p.1 (get_or (targets_of fetched second) i nobody).target) here
       (told_in (targets_of held second) (targets_of fetched second) released_alike i pair (omega (arith, ap length are)))
 
   -- it names a place

@@ -24,7 +24,7 @@ use Rattle.lf_mshr.specs.RegisterFile as file
 use Rattle.lf_mshr.specs.RegisterFile.{RegisterFile, released_pair}
 use Rattle.lf_mshr.proofs.Alike.{targets_of-alike}
 use Rattle.lf_state.proofs.Bytes.{zeros}
-use Rattle.lf_replay.specs.Tells.{IsNumberOf, IsTold, Tells, reply_to}
+use Rattle.lf_replay.specs.Targets.{IsNumberOf, IsSomeTarget, IsTarget1, reply_to}
 
 -- ---- a value as a number
 
@@ -87,7 +87,7 @@ nobody = record { register = 0; block = 0; target = record { port = 0; request =
 
 module _ (shape : Shape) where
   -- the parts of a reply, read from the target
-  pub reply_told : (target : Request1) (missed : Missed) (reply : Ready) → Tells shape target missed → reply.port ≡ target.destination / shape.tags → reply.tag ≡ target.destination % shape.tags
+  pub reply_told : (target : Request1) (missed : Missed) (reply : Ready) → IsTarget1 shape target missed → reply.port ≡ target.destination / shape.tags → reply.tag ≡ target.destination % shape.tags
       → reply.value ≡ cond target.is_store [] (take (count_ones target.bytes.0) (to_le_bytes w64 target.value)) → reply ≡ reply_to missed
   reply_told target missed reply tells port tag value =
       let here : reply.port ≡ missed.port = port ∙ ap (λ n. n / shape.tags) tells.destination ∙ div-mul-add missed.port shape.tags missed.request.tag tells.tag in
@@ -100,57 +100,57 @@ module _ (shape : Shape) where
 
   -- ---- the bytes that a block's stores write
 
-  fold_alike : (xs : List (Held Request1)) (ys : List (Held Missed)) → AreAlike (Tells shape) xs ys → (mask : ℕ)
+  fold_alike : (xs : List (Held Request1)) (ys : List (Held Missed)) → AreAlike (IsTarget1 shape) xs ys → (mask : ℕ)
       → fold (λ m h. bit_or m (file.store_mask (λ (r : Request1). r.is_store) (λ (r : Request1). r.bytes) h.target)) mask xs ≡ fold (λ m h. bit_or m (table.store_mask h.target.request)) mask ys
   fold_alike [] [] alike mask = refl
   fold_alike (x ∷ xs) (y ∷ ys) alike mask =
-      let tells : Tells shape x.target y.target = alike.0.target in
+      let tells : IsTarget1 shape x.target y.target = alike.0.target in
       let same : file.store_mask (λ (r : Request1). r.is_store) (λ (r : Request1). r.bytes) x.target ≡ table.store_mask y.target.request = ap₂ (λ b m. cond b m 0) tells.store tells.bytes in
       ap (λ n. fold (λ m h. bit_or m (file.store_mask (λ (r : Request1). r.is_store) (λ (r : Request1). r.bytes) h.target)) (bit_or mask n) xs) same
       ∙ fold_alike xs ys alike.1 (bit_or mask (table.store_mask y.target.request))
   fold_alike [] (y ∷ ys) alike mask = absurd alike
   fold_alike (x ∷ xs) [] alike mask = absurd alike
 
-  pub store_bytes_alike : (registers : RegisterFile Request1) (waiting : List (Held Missed)) → AreAlike (Tells shape) registers.held waiting → (block : ℕ)
+  pub store_bytes_alike : (registers : RegisterFile Request1) (waiting : List (Held Missed)) → AreAlike (IsTarget1 shape) registers.held waiting → (block : ℕ)
       → file.store_bytes (λ (r : Request1). r.is_store) (λ (r : Request1). r.bytes) registers block ≡ table.store_bytes waiting block
   store_bytes_alike registers waiting alike block =
-      fold_alike (targets_of registers.held block) (targets_of waiting block) (targets_of-alike (Tells shape) registers.held waiting alike block) 0
+      fold_alike (targets_of registers.held block) (targets_of waiting block) (targets_of-alike (IsTarget1 shape) registers.held waiting alike block) 0
 
   -- ---- the replies of a block's targets
 
-  module _ (held : List (Held Request1)) (waiting : List (Held Missed)) (alike : AreAlike (Tells shape) held waiting) (block : ℕ) (pairs : List (ℕ × Request1)) (are : pairs ≡ map released_pair (targets_of held block)) where
-    told_in : (xs : List (Held Request1)) (ys : List (Held Missed)) → AreAlike (Tells shape) xs ys → (i : ℕ) (pair : ℕ × Request1) → i < length (map released_pair xs)
-        → Tells shape (get_or (map released_pair xs) i pair).1 (get_or ys i nobody).target
+  module _ (held : List (Held Request1)) (waiting : List (Held Missed)) (alike : AreAlike (IsTarget1 shape) held waiting) (block : ℕ) (pairs : List (ℕ × Request1)) (are : pairs ≡ map released_pair (targets_of held block)) where
+    told_in : (xs : List (Held Request1)) (ys : List (Held Missed)) → AreAlike (IsTarget1 shape) xs ys → (i : ℕ) (pair : ℕ × Request1) → i < length (map released_pair xs)
+        → IsTarget1 shape (get_or (map released_pair xs) i pair).1 (get_or ys i nobody).target
     told_in (x ∷ xs) (y ∷ ys) all zero pair lt = all.0.target
     told_in (x ∷ xs) (y ∷ ys) all (suc i) pair lt = told_in xs ys all.1 i pair (omega arith)
     told_in [] ys all i pair lt = absurd (omega arith)
     told_in (x ∷ xs) [] all i pair lt = absurd all
 
-    same_count : (xs : List (Held Request1)) (ys : List (Held Missed)) → AreAlike (Tells shape) xs ys → length (map released_pair xs) ≡ length ys
+    same_count : (xs : List (Held Request1)) (ys : List (Held Missed)) → AreAlike (IsTarget1 shape) xs ys → length (map released_pair xs) ≡ length ys
     same_count [] [] all = refl
     same_count (x ∷ xs) (y ∷ ys) all = ap suc (same_count xs ys all.1)
     same_count [] (y ∷ ys) all = absurd all
     same_count (x ∷ xs) [] all = absurd all
 
-    released_alike : AreAlike (Tells shape) (targets_of held block) (targets_of waiting block)
-    released_alike = targets_of-alike (Tells shape) held waiting alike block
+    released_alike : AreAlike (IsTarget1 shape) (targets_of held block) (targets_of waiting block)
+    released_alike = targets_of-alike (IsTarget1 shape) held waiting alike block
 
     pairs_count : length pairs ≡ length (targets_of waiting block)
     pairs_count = ap length are ∙ same_count (targets_of held block) (targets_of waiting block) released_alike
 
     -- a released target tells of the request at its place
-    tells_at : (i : ℕ) (pair : ℕ × Request1) → i < length pairs → pair ≡ get_or pairs i pair → Tells shape pair.1 (get_or (targets_of waiting block) i nobody).target
+    tells_at : (i : ℕ) (pair : ℕ × Request1) → i < length pairs → pair ≡ get_or pairs i pair → IsTarget1 shape pair.1 (get_or (targets_of waiting block) i nobody).target
     tells_at i pair lt is =
         let here : get_or (map released_pair (targets_of held block)) i pair ≡ pair = ap (λ (ps : List (ℕ × Request1)). get_or ps i pair) (sym are) ∙ sym is in
-        subst (λ (p : ℕ × Request1). Tells shape p.1 (get_or (targets_of waiting block) i nobody).target) here
+        subst (λ (p : ℕ × Request1). IsTarget1 shape p.1 (get_or (targets_of waiting block) i nobody).target) here
         (told_in (targets_of held block) (targets_of waiting block) released_alike i pair (omega (arith, ap length are)))
 
     -- so it tells of some request
-    pub told_at : (i : ℕ) (pair : ℕ × Request1) → i < length pairs → pair ≡ get_or pairs i pair → IsTold shape pair.1
+    pub told_at : (i : ℕ) (pair : ℕ × Request1) → i < length pairs → pair ≡ get_or pairs i pair → IsSomeTarget shape pair.1
     told_at i pair lt is = ((get_or (targets_of waiting block) i nobody).target, tells_at i pair lt is)
 
     -- one more target has its reply
-    pub replies_more : (i : ℕ) (pair : ℕ × Request1) (reply : Ready) (before old new : List Ready) → i < length pairs → pair ≡ get_or pairs i pair → ((missed : Missed) → Tells shape pair.1 missed → reply ≡ reply_to missed)
+    pub replies_more : (i : ℕ) (pair : ℕ × Request1) (reply : Ready) (before old new : List Ready) → i < length pairs → pair ≡ get_or pairs i pair → ((missed : Missed) → IsTarget1 shape pair.1 missed → reply ≡ reply_to missed)
         → old ≡ before ++ map reply_of (take i (targets_of waiting block)) → new ≡ old ++ reply ∷ [] → new ≡ before ++ map reply_of (take (i + 1) (targets_of waiting block))
     replies_more i pair reply before old new lt is told so_far pushed =
         let ys : List (Held Missed) = targets_of waiting block in

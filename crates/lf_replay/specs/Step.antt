@@ -12,17 +12,17 @@ use Rattle.lf_rules.specs.Table.{OfBank, bank_effect}
 use Rattle.lf_rules.specs.Run.{IsRunOf, BreaksAt}
 use Rattle.lf_replay.specs.declared.fault.BankFault.{BankFault}
 use Rattle.lf_replay.specs.declared.fault.BankFault.TheVariants.{Rule, NoMemory}
-use Rattle.lf_replay.specs.Kept.{BankView}
+use Rattle.lf_replay.specs.BankView.{BankView}
 use Rattle.lf_replay.specs.Shows.{Shows}
 
--- what a step is seen as: its bank, and what it keeps of it
-pub record BankKept : Type 0 where
+-- what a step is seen as: its bank, and the state of it
+pub record StepView : Type 0 where
   pub bank : ℕ
-  pub kept : BankView
+  pub state : BankView
 
 -- a record that a trace of the shape may have, and that names the bank
-pub record IsForStep (step : BankKept) (r : Record) : Type 0 where
-  pub fits : Fits step.kept.shape r
+pub record IsForStep (step : StepView) (r : Record) : Type 0 where
+  pub fits : Fits step.state.shape r
   pub named : r.bank ≡ step.bank
 
 -- the bank's state after these records
@@ -30,30 +30,30 @@ abbrev pub bank_after : Shape → Local → List Record → Local
 bank_after shape now [] = now
 bank_after shape now (r ∷ rs) = bank_after shape (bank_effect shape now r) rs
 
--- The records are a run of the bank from the opening state with this memory, and what is kept is the state where it ends.
-pub record KeptAfter (kept : BankView) (shape : Shape) (memory : FlatMemory) (rs : List Record) : Type 0 where
-  pub of_shape : kept.shape ≡ shape
+-- The records are a run of the bank from the opening state with this memory, and the bank shows the state where it ends.
+pub record IsBankAfter (view : BankView) (shape : Shape) (memory : FlatMemory) (rs : List Record) : Type 0 where
+  pub of_shape : view.shape ≡ shape
   pub is_run : IsRunOf OfBank shape (first_local memory) rs
-  pub state : Shows kept (bank_after shape (first_local memory) rs)
+  pub shows : Shows view (bank_after shape (first_local memory) rs)
 
 -- the same of a step of the bank
-pub record StandsAfter (step : BankKept) (shape : Shape) (memory : FlatMemory) (bank : ℕ) (rs : List Record) : Type 0 where
+pub record IsStepAfter (step : StepView) (shape : Shape) (memory : FlatMemory) (bank : ℕ) (rs : List Record) : Type 0 where
   pub of_bank : step.bank ≡ bank
-  pub kept : KeptAfter step.kept shape memory rs
+  pub state : IsBankAfter step.state shape memory rs
 
 -- After these records the next breaks the rule first; want of memory says that it breaks none.
 abbrev pub IsFaultAfter : Shape → FlatMemory → List Record → Record → BankFault → Type 0
 IsFaultAfter shape memory rs r (Rule rule) = BreaksAt OfBank shape (first_local memory) (rs ++ r ∷ []) (length rs) rule
 IsFaultAfter shape memory rs r NoMemory = IsRunOf OfBank shape (first_local memory) (rs ++ r ∷ [])
 
--- what is kept after an answer to the record is what a bank keeps after one record more
+-- a record that is carried out leaves the bank as it is after one record more
 abbrev pub GoesOn : {A : Type 0} → BankView → BankView → Record → Result A BankFault → Type 0
-GoesOn old new r result = (shape : Shape) (memory : FlatMemory) (rs : List Record) → KeptAfter old shape memory rs
-    → OnOk result (KeptAfter new shape memory (rs ++ r ∷ []))
+GoesOn old new r result = (shape : Shape) (memory : FlatMemory) (rs : List Record) → IsBankAfter old shape memory rs
+    → OnOk result (IsBankAfter new shape memory (rs ++ r ∷ []))
 
--- a fault is that of the record, after whatever records what was kept stands
+-- a fault is that of the record, after whatever records the bank stood
 abbrev pub IsFaultOf : {A : Type 0} → BankView → Record → Result A BankFault → Type 0
-IsFaultOf old r result = (shape : Shape) (memory : FlatMemory) (rs : List Record) → KeptAfter old shape memory rs
+IsFaultOf old r result = (shape : Shape) (memory : FlatMemory) (rs : List Record) → IsBankAfter old shape memory rs
     → IfErr result (IsFaultAfter shape memory rs r)
 
 -- records of the bank that a trace of the shape may have, in the order of their numbers

@@ -1,7 +1,7 @@
 //! One event, judged and carried out.
 
 ghost use Rattle.lf_rules.specs.Fits.{Fits};
-ghost use Rattle.lf_replay.specs.Shows.{IsAnswer, Keeps};
+ghost use Rattle.lf_replay.specs.Shows.{IsAnswer, ShowsReached};
 
 use crate::bank::Bank;
 use crate::fault::BankFault;
@@ -12,7 +12,7 @@ use lf_state::Request;
 impl<O1: Organisation<Target = Request1>, O2: Organisation<Target = Request2>> Bank<O1, O2> {
     /// Judges the record, and carries it out where it breaks no rule of the bank.
     pub fn answer(&mut self, item: &Record) -> Result<(), BankFault>
-        requires keeps { Keeps self.old }
+        requires reached { ShowsReached self.old }
         requires fits { Fits self.old.shape item.now }
         ensures { IsAnswer self.old self.new item.now.log item.now.event result }
     {

@@ -38,7 +38,7 @@ pub struct Bank<O1: Organisation<Target = Request1>, O2: Organisation<Target = R
 
 impl<O1: Organisation<Target = Request1>, O2: Organisation<Target = Request2>> Model
     for Bank<O1, O2> {
-    ghost use Rattle.lf_replay.specs.Kept.{BankView, IsFramed};
+    ghost use Rattle.lf_replay.specs.BankView.{BankView, IsFramed};
 
     ghost Value = { BankView };
 

@@ -7,8 +7,8 @@ ghost use Rattle.lf_rules.specs.Fits.{Fits};
 ghost use Rattle.lf_rules.specs.InRange.{IsShape};
 ghost use Rattle.lf_rules.specs.Outcomes.{first_local};
 ghost use Rattle.lf_state.specs.Bytes.{bank_part};
-ghost use Rattle.lf_replay.specs.Kept.{BankView};
-ghost use Rattle.lf_replay.specs.Shows.{Keeps, Shows};
+ghost use Rattle.lf_replay.specs.BankView.{BankView};
+ghost use Rattle.lf_replay.specs.Shows.{ShowsReached, Shows};
 ghost use Rattle.lf_replay.specs.Step.{GoesOn, IsFaultOf};
 
 use crate::fault::BankFault;
@@ -33,16 +33,16 @@ pub trait BankState {
         requires in_range { IsShape shape.now }
         requires suits { suits shape.now }
         ensures opening { IfOk result (λ state. Shows (view state) (first_local (bank_part shape.now bank (flat_memory memory.now)))) }
-        ensures keeps { IfOk result (λ state. Keeps (view state)) }
+        ensures reached { IfOk result (λ state. ShowsReached (view state)) }
         ensures shape { IfOk result (λ state. (view state).shape ≡ shape.now) };
 
     /// Judges the record, and carries it out where it breaks no rule of the bank.
     fn apply(&mut self, item: &Record) -> Result<(), BankFault>
-        requires keeps { Keeps (view self.old) }
+        requires reached { ShowsReached (view self.old) }
         requires fits { Fits (view self.old).shape item.now }
         ensures unchanged { OnErr result (view self.new ≡ view self.old) }
         ensures stands { GoesOn (view self.old) (view self.new) item.now result }
         ensures broken { IsFaultOf (view self.old) item.now result }
-        ensures keeps { Keeps (view self.new) }
+        ensures reached { ShowsReached (view self.new) }
         ensures shape { (view self.new).shape ≡ (view self.old).shape };
 }

@@ -6,7 +6,7 @@ ghost use Rattle.lf_rules.specs.declared.event.Record.{Record};
 ghost use Rattle.lf_rules.specs.Address.{FlatMemory, flat_memory};
 ghost use Rattle.lf_rules.specs.InRange.{IsShape};
 ghost use Rattle.lf_state.specs.Bytes.{bank_part};
-ghost use Rattle.lf_replay.specs.Step.{StandsAfter, IsForStep, IsFaultAfter};
+ghost use Rattle.lf_replay.specs.Step.{IsStepAfter, IsForStep, IsFaultAfter};
 
 use crate::any_bank::AnyBank;
 use crate::bank_state::BankState;
@@ -24,16 +24,16 @@ pub struct Step {
 }
 
 impl Model for Step {
-    ghost use Rattle.lf_replay.specs.Step.{BankKept};
+    ghost use Rattle.lf_replay.specs.Step.{StepView};
 
-    ghost Value = { BankKept };
+    ghost Value = { StepView };
 
     ghost use Rattle.lf_replay.specs.AnyBank.{view_of};
-    ghost use Rattle.lf_replay.specs.Shows.{Keeps};
+    ghost use Rattle.lf_replay.specs.Shows.{ShowsReached};
 
-    ghost view = { λ s. record { bank = s.bank; kept = view_of s.state } };
+    ghost view = { λ s. record { bank = s.bank; state = view_of s.state } };
 
-    ghost invariant = { λ s. Keeps (view_of s.state) };
+    ghost invariant = { λ s. ShowsReached (view_of s.state) };
 }
 
 impl Step {
@@ -43,7 +43,7 @@ impl Step {
     pub fn new(alloc: Global, shape: &Shape, memory: &Memory, bank: u32) -> Result<Step, NoMemory>
         requires in_range { IsShape shape.now }
         requires bank { bank < shape.now.banks }
-        ensures { IfOk result (λ step. StandsAfter step shape.now (bank_part shape.now bank (flat_memory memory.now.items)) bank []) }
+        ensures { IfOk result (λ step. IsStepAfter step shape.now (bank_part shape.now bank (flat_memory memory.now.items)) bank []) }
     {
         let state = AnyBank::new(alloc, shape, memory, bank)?;
         Ok(Step { bank, state })
@@ -54,11 +54,11 @@ impl Step {
     pub fn apply(&mut self, item: &Record) -> Result<(), BankFault>
         requires { IsForStep self.old item.now }
         ensures bank { self.new.bank ≡ self.old.bank }
-        ensures shape { self.new.kept.shape ≡ self.old.kept.shape }
+        ensures shape { self.new.state.shape ≡ self.old.state.shape }
         ensures unchanged { OnErr result (self.new ≡ self.old) }
-        ensures stands { (shape : Shape) (memory : FlatMemory) (bank : ℕ) (rs : List Record) → StandsAfter self.old shape memory bank rs
-            → OnOk result (StandsAfter self.new shape memory bank (rs ++ item.now ∷ [])) }
-        ensures broken { (shape : Shape) (memory : FlatMemory) (bank : ℕ) (rs : List Record) → StandsAfter self.old shape memory bank rs
+        ensures stands { (shape : Shape) (memory : FlatMemory) (bank : ℕ) (rs : List Record) → IsStepAfter self.old shape memory bank rs
+            → OnOk result (IsStepAfter self.new shape memory bank (rs ++ item.now ∷ [])) }
+        ensures broken { (shape : Shape) (memory : FlatMemory) (bank : ℕ) (rs : List Record) → IsStepAfter self.old shape memory bank rs
             → IfErr result (IsFaultAfter shape memory rs item.now) }
     {
         self.state.apply(item)

@@ -5,7 +5,7 @@ ghost use Rattle.std.specs.List.{list_all};
 ghost use Rattle.lf_rules.specs.InRange.{IsShape};
 ghost use Rattle.lf_rules.specs.Address.{places};
 ghost use Rattle.lf_state.specs.Bytes.{flat_of};
-ghost use Rattle.lf_replay.specs.Judged.{OfMissed, part_agrees};
+ghost use Rattle.lf_replay.specs.RegisterRules.{OfMissed, part_agrees};
 
 use crate::registers::store_bytes;
 use lf_mshr::{Organisation, Request1};

@@ -7,9 +7,9 @@ ghost use Rattle.lf_rules.specs.Registers.{Held};
 ghost use Rattle.lf_rules.specs.State.{Asked};
 ghost use Rattle.lf_rules.specs.Table.{is_apart};
 ghost use Rattle.lf_rules.specs.declared.event.Event.TheVariants as event;
-ghost use Rattle.lf_replay.specs.Judged.{OfMissed};
-ghost use Rattle.lf_replay.specs.Kept.{slice_of};
-ghost use Rattle.lf_replay.specs.Shows.{IsAnswer, Keeps};
+ghost use Rattle.lf_replay.specs.RegisterRules.{OfMissed};
+ghost use Rattle.lf_replay.specs.BankView.{slice_of};
+ghost use Rattle.lf_replay.specs.Shows.{IsAnswer, ShowsReached};
 
 use crate::bank::Bank;
 use crate::carried::wide_agrees;
@@ -119,7 +119,7 @@ impl<O1: Organisation<Target = Request1>, O2: Organisation<Target = Request2>> B
 
     /// The second-level block comes into level two, and each block of it that was fetched is supplied.
     pub fn fill2(&mut self, second: u32, bytes: &WideBlock) -> Result<(), BankFault>
-        requires keeps { Keeps self.old }
+        requires reached { ShowsReached self.old }
         requires fits { second < 0x1_0000_0000 / self.old.shape.factor }
         requires whole { length bytes.now.items ≡ self.old.shape.factor * self.old.shape.block }
         ensures { (log : ℕ) → IsAnswer self.old self.new log (event.Fill2 second bytes.now) result }

@@ -7,9 +7,9 @@ ghost use Rattle.lf_rules.specs.InRange.{IsShape};
 ghost use Rattle.lf_rules.specs.Registers.{holds, has_room};
 ghost use Rattle.lf_rules.specs.Table.{destinations, destinations2, position, position2, store_bytes};
 ghost use Rattle.lf_rules.specs.declared.shape.Shape.{Shape};
-ghost use Rattle.lf_replay.specs.Kept.{IsFile1, IsFile2};
-ghost use Rattle.lf_replay.specs.Judged.{OfMissed, OfAsked, primary_held, merge_held, primary_told, merge_told, second_primary_held};
-ghost use Rattle.lf_replay.specs.Judged.{second_merge_held, second_primary_told, second_merge_told};
+ghost use Rattle.lf_replay.specs.BankView.{IsFile1, IsFile2};
+ghost use Rattle.lf_replay.specs.RegisterRules.{OfMissed, OfAsked, primary_held, merge_held, primary_told, merge_told, second_primary_held};
+ghost use Rattle.lf_replay.specs.RegisterRules.{second_merge_held, second_primary_told, second_merge_told};
 
 use lf_mshr::{Organisation, Request1, Request2};
 use lf_rules::{Rule, Shape};

@@ -8,7 +8,7 @@ ghost use Rattle.lf_rules.specs.Table.{reply_of};
 ghost use Rattle.lf_mshr.specs.Alike.{AreAlike};
 ghost use Rattle.lf_mshr.specs.RegisterFile.{released_pair};
 ghost use Rattle.lf_mshr.specs.declared.level_one.Request1.{Request1};
-ghost use Rattle.lf_replay.specs.Tells.{Tells};
+ghost use Rattle.lf_replay.specs.Targets.{IsTarget1};
 
 use crate::target::reply_of;
 use lf_mshr::Request1;
@@ -20,9 +20,9 @@ pub fn add_replies(ready: &mut Vec<Ready>, shape: &Shape, targets: &[(u16, Reque
     requires in_range { IsShape shape.now }
     requires room { length ready.old.items + length targets.now ≤ vec_capacity ready.old }
     requires told { (held : List (Held Request1)) × (waiting : List (Held Missed)) × (block : ℕ)
-        × (AreAlike (Tells shape.now) held waiting) × (targets.now ≡ map released_pair (targets_of held block)) }
+        × (AreAlike (IsTarget1 shape.now) held waiting) × (targets.now ≡ map released_pair (targets_of held block)) }
     ensures { (held : List (Held Request1)) (waiting : List (Held Missed)) (block : ℕ)
-        → AreAlike (Tells shape.now) held waiting → targets.now ≡ map released_pair (targets_of held block)
+        → AreAlike (IsTarget1 shape.now) held waiting → targets.now ≡ map released_pair (targets_of held block)
         → ready.new.items ≡ ready.old.items ++ map reply_of (targets_of waiting block) }
 {
     for (_, target) in targets {

@@ -9,7 +9,7 @@ ghost use Rattle.lf_mshr.specs.Alike.{AreAlike};
 ghost use Rattle.lf_mshr.specs.RegisterFile.{released_pair};
 ghost use Rattle.lf_mshr.specs.declared.level_two.Request2.{Request2};
 ghost use Rattle.lf_replay.specs.Apart.{AreHome};
-ghost use Rattle.lf_replay.specs.Tells.{TellsAsked};
+ghost use Rattle.lf_replay.specs.Targets.{IsTarget2};
 
 use lf_mshr::Request2;
 use lf_rules::Shape;
@@ -22,9 +22,9 @@ pub fn add_blocks(supplied: &mut Vec<u32>, shape: &Shape, second: u32, targets: 
     requires fits { second < 0x1_0000_0000 / shape.now.factor }
     requires room { length supplied.old.items + length targets.now ≤ vec_capacity supplied.old }
     requires told { (held : List (Held Request2)) × (fetched : List (Held Asked))
-        × (AreAlike (TellsAsked shape.now) held fetched) × (targets.now ≡ map released_pair (targets_of held second)) }
+        × (AreAlike (IsTarget2 shape.now) held fetched) × (targets.now ≡ map released_pair (targets_of held second)) }
     ensures { (held : List (Held Request2)) (fetched : List (Held Asked))
-        → AreAlike (TellsAsked shape.now) held fetched → AreHome shape.now fetched → targets.now ≡ map released_pair (targets_of held second)
+        → AreAlike (IsTarget2 shape.now) held fetched → AreHome shape.now fetched → targets.now ≡ map released_pair (targets_of held second)
         → supplied.new.items ≡ supplied.old.items ++ map block_asked (targets_of fetched second) }
 {
     for (_, target) in targets {

@@ -6,7 +6,7 @@ ghost use Rattle.lf_rules.specs.InRange.{IsShape};
 ghost use Rattle.lf_rules.specs.State as model;
 ghost use Rattle.lf_rules.specs.Table.{destination, is_store, value_of};
 ghost use Rattle.lf_state.specs.Bytes.{flat_of};
-ghost use Rattle.lf_replay.specs.Tells.{IsNumberOf, IsTold, Tells, reply_to};
+ghost use Rattle.lf_replay.specs.Targets.{IsNumberOf, IsSomeTarget, IsTarget1, reply_to};
 
 use lf_mshr::Request1;
 use lf_rules::{Mask, Op, Shape};
@@ -18,7 +18,7 @@ fn target_of(shape: &Shape, port: u8, request: &Request, value: &[u8]) -> Reques
     requires port { port < shape.now.ports }
     requires tag { request.now.tag < shape.now.tags }
     requires size { length value.now ≡ (if is_store request.now then 0 else request.now.size) }
-    ensures tells { let missed : model.Missed = record { port = port; request = request.now; value = value.now } in Tells shape.now result missed }
+    ensures tells { let missed : model.Missed = record { port = port; request = request.now; value = value.now } in IsTarget1 shape.now result missed }
     ensures position { result.position ≡ request.now.offset / 8 }
     ensures destination { result.destination ≡ destination shape.now port request.now.tag }
 {
@@ -38,7 +38,7 @@ pub fn missed(shape: &Shape, memory: &FlatMemory, port: u8, request: &Request) -
     requires port { port < shape.now.ports }
     requires tag { request.now.tag < shape.now.tags }
     ensures tells { let missed : model.Missed = record { port = port; request = request.now; value = value_of (flat_of memory.now) request.now } in
-        Tells shape.now result missed }
+        IsTarget1 shape.now result missed }
     ensures position { result.position ≡ request.now.offset / 8 }
     ensures destination { result.destination ≡ destination shape.now port request.now.tag }
 {
@@ -48,8 +48,8 @@ pub fn missed(shape: &Shape, memory: &FlatMemory, port: u8, request: &Request) -
 /// The reply to the request that the target tells of.
 pub fn reply_of(shape: &Shape, target: &Request1) -> Ready
     requires in_range { IsShape shape.now }
-    requires told { IsTold shape.now target.now }
-    ensures { (missed : model.Missed) → Tells shape.now target.now missed → result ≡ reply_to missed }
+    requires told { IsSomeTarget shape.now target.now }
+    ensures { (missed : model.Missed) → IsTarget1 shape.now target.now missed → result ≡ reply_to missed }
 {
     let destination = u32::from(target.destination);
     let value = if target.is_store {

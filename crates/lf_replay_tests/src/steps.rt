@@ -13,7 +13,7 @@ use std::test::Fail;
 /// one is no record of the bank.
 fn refused(step: &mut Step, shape: &Shape, records: &[Record]) -> Option<u32>
     requires in_range { IsShape shape.now }
-    requires shape { step.old.kept.shape ≡ shape.now }
+    requires shape { step.old.state.shape ≡ shape.now }
     requires bank { step.old.bank ≡ 0 }
 {
     let mut refused = 0u32;
@@ -56,7 +56,7 @@ fn a_step_goes_on_after_a_fault(rt: HostRuntime) -> Result<(), Fail> {
 /// was, or nothing where one is no record of the bank or is refused otherwise.
 fn applied(step: &mut Step, shape: &Shape, records: &[Record]) -> Option<bool>
     requires in_range { IsShape shape.now }
-    requires shape { step.old.kept.shape ≡ shape.now }
+    requires shape { step.old.state.shape ≡ shape.now }
     requires bank { step.old.bank ≡ 0 }
 {
     let mut is_told = false;

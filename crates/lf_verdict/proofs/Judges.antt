@@ -17,7 +17,7 @@ use Rattle.lf_logs.specs.Reordering.{Reordering, first_with, HasOrdered}
 use Rattle.lf_logs.specs.Tags.{PortKept}
 use Rattle.lf_logs.proofs.Reordered.{first_with-number, first_with-push_other}
 use Rattle.lf_logs.proofs.GivenOut.{first_with-all}
-use Rattle.lf_replay.specs.Step.{BankKept, IsForStep}
+use Rattle.lf_replay.specs.Step.{StepView, IsForStep}
 use Rattle.lf_verdict.specs.declared.bank_judge.BankJudge.{BankJudge}
 use Rattle.lf_verdict.specs.Standing.{IsPortAt, IsBankAt, IsBankJudged, IsBankSettled}
 
@@ -32,7 +32,7 @@ port_kept shape rs r step outcomes.Passed broken at = absurd (broken refl)
 port_kept shape rs r step (outcomes.Broken n rule) broken at = λ memory. breaks_longer OfPort shape (first_local memory) rs r n rule (at memory)
 port_kept shape rs r step outcomes.NoMemory broken at = at
 
-pub bank_kept : (shape : Shape) (memory : FlatMemory) (bank : ℕ) (rs : List Record) (r : Record) (step : BankKept) (outcome : Outcome) → (outcome ≡ outcomes.Passed → ⊥)
+pub bank_kept : (shape : Shape) (memory : FlatMemory) (bank : ℕ) (rs : List Record) (r : Record) (step : StepView) (outcome : Outcome) → (outcome ≡ outcomes.Passed → ⊥)
     → IsBankAt shape memory bank rs step outcome → IsBankAt shape memory bank (rs ++ r ∷ []) step outcome
 bank_kept shape memory bank rs r step outcomes.Passed broken at = absurd (broken refl)
 bank_kept shape memory bank rs r step (outcomes.Broken n rule) broken at = breaks_longer OfBank shape (first_local memory) rs r n rule at
@@ -48,7 +48,7 @@ module _ (shape : Shape) (memory : FlatMemory) (bank : ℕ) (came gave : List Re
   }
 
   pub judged_more : (r : Record) (new : BankJudge) → Some r ≡ first_with (length gave) came → HasOrdered new.order came (gave ++ r ∷ []) → new.order.bank ≡ old.order.bank
-      → new.step.bank ≡ old.step.bank → new.step.kept.shape ≡ old.step.kept.shape
+      → new.step.bank ≡ old.step.bank → new.step.state.shape ≡ old.step.state.shape
       → (r.number ≡ length gave → IsBankAt shape memory bank gave old.step old.outcome → IsBankAt shape memory bank (gave ++ r ∷ []) new.step new.outcome)
       → IsBankJudged shape memory bank came (gave ++ r ∷ []) new
   judged_more r new turn ordered same_order same_bank same_shape goes = record {
@@ -93,7 +93,7 @@ module _ (shape : Shape) (memory : FlatMemory) (bank : ℕ) (came gave : List Re
 
   -- a record that was passed on in its turn
   pub judged_pass : (r : Record) (new : BankJudge) → Fits shape r → r.bank ≡ bank → r.number ≡ length gave → HasOrdered new.order (came ++ r ∷ []) (gave ++ r ∷ []) → new.order.bank ≡ old.order.bank
-      → new.step.bank ≡ old.step.bank → new.step.kept.shape ≡ old.step.kept.shape
+      → new.step.bank ≡ old.step.bank → new.step.state.shape ≡ old.step.state.shape
       → (r.number ≡ length gave → IsBankAt shape memory bank gave old.step old.outcome → IsBankAt shape memory bank (gave ++ r ∷ []) new.step new.outcome)
       → IsBankJudged shape memory bank (came ++ r ∷ []) (gave ++ r ∷ []) new
   judged_pass r new fits named turn ordered same_order same_bank same_shape goes = record {

@@ -29,7 +29,7 @@ use Rattle.lf_logs.specs.Places.{IsNumberFault}
 use Rattle.lf_logs.specs.Tags.{PortKept}
 use Rattle.lf_logs.proofs.GivenOut.{given_numbers, given_all, given_whole}
 use Rattle.lf_replay.specs.Bytes.{bank_part}
-use Rattle.lf_replay.specs.Step.{BankKept, IsBankOrder}
+use Rattle.lf_replay.specs.Step.{StepView, IsBankOrder}
 use Rattle.lf_replay.proofs.Runs.{outcome_same}
 use Rattle.lf_verdict.specs.declared.port_judge.PortJudge.{PortJudge}
 use Rattle.lf_verdict.specs.declared.bank_judge.BankJudge.{BankJudge}
@@ -102,8 +102,8 @@ port_outcome shape rs step outcomes.Passed at = (at.is_run, λ e. cc)
 port_outcome shape rs step (outcomes.Broken n rule) at = (at, λ e. cc)
 port_outcome shape rs step outcomes.NoMemory at = absurd at
 
-bank_outcome : (shape : Shape) (memory : FlatMemory) (bank : ℕ) (rs : List Record) (step : BankKept) (outcome : Outcome) → IsBankAt shape memory bank rs step outcome → IsBankOutcome shape memory rs outcome × (outcome ≡ outcomes.NoMemory → ⊥)
-bank_outcome shape memory bank rs step outcomes.Passed at = (at.kept.is_run, λ e. cc)
+bank_outcome : (shape : Shape) (memory : FlatMemory) (bank : ℕ) (rs : List Record) (step : StepView) (outcome : Outcome) → IsBankAt shape memory bank rs step outcome → IsBankOutcome shape memory rs outcome × (outcome ≡ outcomes.NoMemory → ⊥)
+bank_outcome shape memory bank rs step outcomes.Passed at = (at.state.is_run, λ e. cc)
 bank_outcome shape memory bank rs step (outcomes.Broken n rule) at = (at, λ e. cc)
 bank_outcome shape memory bank rs step outcomes.NoMemory at = absurd at
 

@@ -18,7 +18,7 @@ use Rattle.lf_logs.specs.Reordering.{first_with, HasOrdered}
 use Rattle.lf_logs.specs.Tags.{PortKept, PortStandsAfter}
 use Rattle.lf_join.specs.Join as joins
 use Rattle.lf_replay.specs.Bytes.{bank_part}
-use Rattle.lf_replay.specs.Step.{BankKept, StandsAfter}
+use Rattle.lf_replay.specs.Step.{StepView, IsStepAfter}
 use Rattle.lf_verdict.specs.declared.port_judge.PortJudge.{PortJudge}
 use Rattle.lf_verdict.specs.declared.bank_judge.BankJudge.{BankJudge}
 use Rattle.lf_verdict.specs.declared.standing.Standing.{Standing}
@@ -39,8 +39,8 @@ pub record IsPortJudged (shape : Shape) (port : ℕ) (rs : List Record) (judge :
 -- ---- one bank
 
 -- The same of a bank's records in the order of their numbers.
-abbrev pub IsBankAt : Shape → FlatMemory → ℕ → List Record → BankKept → Outcome → Type 0
-IsBankAt shape memory bank rs step outcomes.Passed = StandsAfter step shape memory bank rs
+abbrev pub IsBankAt : Shape → FlatMemory → ℕ → List Record → StepView → Outcome → Type 0
+IsBankAt shape memory bank rs step outcomes.Passed = IsStepAfter step shape memory bank rs
 IsBankAt shape memory bank rs step (outcomes.Broken number rule) = BreaksAt OfBank shape (first_local memory) rs number rule
 IsBankAt shape memory bank rs step outcomes.NoMemory = ⊥
 
@@ -51,7 +51,7 @@ pub record IsBankJudged (shape : Shape) (memory : FlatMemory) (bank : ℕ) (came
   pub ordered : HasOrdered judge.order came gave
   pub order_of_bank : judge.order.bank ≡ bank
   pub of_bank : judge.step.bank ≡ bank
-  pub of_shape : judge.step.kept.shape ≡ shape
+  pub of_shape : judge.step.state.shape ≡ shape
   pub judged : IsBankAt shape memory bank gave judge.step judge.outcome
 
 -- ... and the next one has not come.

@@ -47,7 +47,7 @@ impl BankJudge {
         requires { IsForStep self.old.step item.now }
         ensures order { self.new.order ≡ self.old.order }
         ensures bank { self.new.step.bank ≡ self.old.step.bank }
-        ensures shape { self.new.step.kept.shape ≡ self.old.step.kept.shape }
+        ensures shape { self.new.step.state.shape ≡ self.old.step.state.shape }
         ensures judged { (shape : Shape) (memory : FlatMemory) (bank : ℕ) (rs : List Record) → item.now.number ≡ length rs
             → IsBankAt shape memory bank rs self.old.step self.old.outcome
             → OnOk result (IsBankAt shape memory bank (rs ++ item.now ∷ []) self.new.step self.new.outcome) }

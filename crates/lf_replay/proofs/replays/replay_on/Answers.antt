@@ -30,7 +30,7 @@ loop-place-preserved g c =
     let lt = lent_count lent c.args.records.now i c.loop-place-test.true in
     let is = lent_at lent c.args.records.now i c.place-item.result c.lend-item.result.now c.loop-place-test.true c.place-item.is c.lend-item.ensures in
     record {
-      keeps = c.in-Ok-apply.ensures.keeps;
+      reached = c.in-Ok-apply.ensures.reached;
       after = stands_next (g.B.BankState.view c.apply.new.self) c.args.shape.now memory rs i c.lend-item.result.now lt is
           (c.in-Ok-apply.ensures.stands c.args.shape.now memory (take i rs) c.loop-place.invariant.after);
     }

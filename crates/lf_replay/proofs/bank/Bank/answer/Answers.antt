@@ -1,6 +1,6 @@
 use Rattle.std.proofs.Common.{◌≡◌, ap, ◌∙◌, subst}
 use Rattle.lf_rules.specs.Table.{request_of}
-use Rattle.lf_replay.specs.Kept.{BankView}
+use Rattle.lf_replay.specs.BankView.{BankView}
 use Rattle.lf_replay.proofs.bank.Bank.answer.Goals as goal
 
 pub returns-in-Issue : goal.returns-in-Issue

@@ -8,11 +8,11 @@ use Rattle.lf_replay.proofs.Three.{free_way, three_hold}
 use Rattle.lf_replay.proofs.bank.Bank.fill1.Goals as goal
 
 pub fill-requires : goal.fill-requires
-fill-requires g c = let keeps = rw (← c.self.view_is) at c.requires.keeps in absent1 _ keeps c.args.block (sym (rw c.deref.ensures.value at c.if-not-is_among.ensures))
+fill-requires g c = let keeps = rw (← c.self.view_is) at c.requires.reached in absent1 _ keeps c.args.block (sym (rw c.deref.ensures.value at c.if-not-is_among.ensures))
 
 pub add_replies-requires-clause-told : goal.add_replies-requires-clause-told
 add_replies-requires-clause-told g c =
-    let keeps = rw (← c.self.view_is) at c.requires.keeps in
+    let keeps = rw (← c.self.view_is) at c.requires.reached in
     ((g.O1.Organisation.seen c.self.inside.waiting).held, keeps.now.slice.waiting, c.args.block, keeps.shows.registers.level1, c.as_slice.ensures.value ∙ c.release_into.ensures.targets)
 
 pub returns : goal.returns

@@ -7,11 +7,11 @@ use Rattle.lf_replay.proofs.Three.{free_way, three_hold, second_fails, third_fai
 use Rattle.lf_replay.proofs.bank.Bank.fill2.Goals as goal
 
 pub fill-requires : goal.fill-requires
-fill-requires g c = let keeps = rw (← c.self.view_is) at c.requires.keeps in absent2 _ keeps c.args.second (sym c.if-not-is_fetched.ensures.held)
+fill-requires g c = let keeps = rw (← c.self.view_is) at c.requires.reached in absent2 _ keeps c.args.second (sym c.if-not-is_fetched.ensures.held)
 
 pub add_blocks-requires-clause-told : goal.add_blocks-requires-clause-told
 add_blocks-requires-clause-told g c =
-    let keeps = rw (← c.self.view_is) at c.requires.keeps in
+    let keeps = rw (← c.self.view_is) at c.requires.reached in
     ((g.O2.Organisation.seen c.self.inside.regs2).held, keeps.now.slice.regs2, keeps.shows.registers.level2, c.as_slice.ensures.value ∙ c.release_into.ensures.targets)
 
 pub returns-then-full : goal.returns-then-full

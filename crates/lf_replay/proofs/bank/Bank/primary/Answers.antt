@@ -2,8 +2,8 @@ use Rattle.std.proofs.Common.{◌≡◌, ◌<◌, ℕ, List, [], ◌∷◌, ◌+
 use Rattle.lf_rules.specs.State.{Request, idle}
 use Rattle.lf_rules.specs.Table.{oldest}
 use Rattle.lf_state.specs.Bytes.{flat_of}
-use Rattle.lf_replay.specs.Kept.{queue_at}
-use Rattle.lf_replay.specs.Tells.{miss_of}
+use Rattle.lf_replay.specs.BankView.{queue_at}
+use Rattle.lf_replay.specs.Targets.{miss_of}
 use Rattle.lf_replay.proofs.Heads.{primary_judged}
 use Rattle.lf_replay.proofs.Keeping.{oldest_tagged}
 use Rattle.lf_replay.proofs.Placed.{placed1}

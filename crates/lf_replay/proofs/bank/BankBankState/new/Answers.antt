@@ -11,5 +11,5 @@ returns-clause-opening g c =
     c.in_ok-empty_queues.ensures.empty (ap (λ (t : LineTable ℕ). t.lines) c.in_ok-new.ensures) (ap (λ (t : LineTable Masks). t.lines) c.in_ok-new-2.ensures)
     (search rules) (search rules) (search rules)
 
-pub returns-clause-keeps : goal.returns-clause-keeps
-returns-clause-keeps g c = record { now = _; shows = returns-clause-opening g c; reached = opening_reached _ _ c.requires.in_range }
+pub returns-clause-reached : goal.returns-clause-reached
+returns-clause-reached g c = record { now = _; shows = returns-clause-opening g c; reached = opening_reached _ _ c.requires.in_range }

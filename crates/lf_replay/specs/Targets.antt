@@ -1,4 +1,4 @@
--- What the registers of a bank tell of the requests that wait in them.
+-- The targets by which the registers of a bank hold the requests that wait in them.
 use Rattle.std.specs.Prelude.{◌≡◌, ℕ, ◌<◌, List, take, length, if◌then◌else◌}
 use Rattle.std.specs.Int.{to_le_bytes, w64}
 use Rattle.lf_rules.specs.declared.shape.Shape.{Shape}
@@ -13,8 +13,8 @@ use Rattle.lf_mshr.specs.declared.level_two.Request2.{Request2}
 abbrev pub IsNumberOf : List ℕ → ℕ → Type 0
 IsNumberOf bytes number = take (length bytes) (to_le_bytes w64 number) ≡ bytes
 
--- A level-one target tells all of a request that its reply and its fill need: not what a store writes.
-pub record Tells (shape : Shape) (target : Request1) (missed : Missed) : Type 0 where
+-- A level-one target has all of a request that its reply and its fill need: not what a store writes.
+pub record IsTarget1 (shape : Shape) (target : Request1) (missed : Missed) : Type 0 where
   pub position : target.position ≡ position missed
   pub port : missed.port < shape.ports
   pub tag : missed.request.tag < shape.tags
@@ -24,16 +24,16 @@ pub record Tells (shape : Shape) (target : Request1) (missed : Missed) : Type 0 
   pub size : length missed.value ≡ (if is_store missed.request then 0 else missed.request.size)
   pub value : IsNumberOf missed.value target.value
 
--- the target tells of some request
-abbrev pub IsTold : Shape → Request1 → Type 0
-IsTold shape target = (missed : Missed) × Tells shape target missed
+-- the target is one of some request
+abbrev pub IsSomeTarget : Shape → Request1 → Type 0
+IsSomeTarget shape target = (missed : Missed) × IsTarget1 shape target missed
 
 -- the reply to a request that missed
 abbrev pub reply_to : Missed → Ready
 reply_to missed = record { port = missed.port; tag = missed.request.tag; value = missed.value }
 
--- A level-two target tells the place of a block in its second-level block, and which level-one register asked for it.
-pub record TellsAsked (shape : Shape) (target : Request2) (asked : Asked) : Type 0 where
+-- A level-two target has the place of a block in its second-level block, and which level-one register asked for it.
+pub record IsTarget2 (shape : Shape) (target : Request2) (asked : Asked) : Type 0 where
   pub position : target.position ≡ place_of shape asked.0
   pub destination : target.destination ≡ asked.1
 

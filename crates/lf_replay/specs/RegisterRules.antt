@@ -1,4 +1,4 @@
--- What a bank judges of its registers: by what a file holds, and by the requests that the file tells of.
+-- The rules of a bank's registers: by what a file holds, and by the requests that wait in it.
 use Rattle.std.specs.Prelude.{ℕ, Bool, List, Option}
 use Rattle.lf_rules.specs.declared.rule.Rule.{Rule}
 use Rattle.lf_rules.specs.declared.shape.Shape.{Shape}
@@ -11,13 +11,13 @@ use Rattle.lf_mshr.specs.Alike.{AreAlike}
 use Rattle.lf_mshr.specs.RegisterFile.{RegisterFile, primary_wants, merge_wants}
 use Rattle.lf_mshr.specs.declared.level_one.Request1.{Request1}
 use Rattle.lf_mshr.specs.declared.level_two.Request2.{Request2}
-use Rattle.lf_replay.specs.Tells.{Tells, TellsAsked}
+use Rattle.lf_replay.specs.Targets.{IsTarget1, IsTarget2}
 
 -- ---- level one
 
--- so it is of any requests that the file tells of
+-- so it is of any requests that wait in the file
 abbrev pub OfMissed : Shape → RegisterFile Request1 → (List (Held Missed) → Type 0) → Type 0
-OfMissed shape file Judged = (missed : List (Held Missed)) → AreAlike (Tells shape) file.held missed → Judged missed
+OfMissed shape file Holds = (missed : List (Held Missed)) → AreAlike (IsTarget1 shape) file.held missed → Holds missed
 
 -- the first rule that a target breaks as a primary miss of a register of the file
 abbrev pub primary_held : RegisterFile Request1 → ℕ → ℕ → Request1 → Option Rule
@@ -47,7 +47,7 @@ part_agrees shape memory missed second bytes place =
 -- ---- level two
 
 abbrev pub OfAsked : Shape → RegisterFile Request2 → (List (Held Asked) → Type 0) → Type 0
-OfAsked shape file Judged = (fetched : List (Held Asked)) → AreAlike (TellsAsked shape) file.held fetched → Judged fetched
+OfAsked shape file Holds = (fetched : List (Held Asked)) → AreAlike (IsTarget2 shape) file.held fetched → Holds fetched
 
 abbrev pub second_primary_held : RegisterFile Request2 → ℕ → ℕ → Request2 → Option Rule
 second_primary_held file register second target =
@@ -63,4 +63,5 @@ second_primary_told shape fetched register second target =
 
 abbrev pub second_merge_told : Shape → List (Held Asked) → ℕ → ℕ → Request2 → Option Rule
 second_merge_told shape fetched register second target =
-    first_failing OfBank (merge_clauses shape.level2.organisation (destinations2 shape) (position2 shape) fetched second target.destination target.position register)
+    first_failing OfBank
+        (merge_clauses shape.level2.organisation (destinations2 shape) (position2 shape) fetched second target.destination target.position register)

@@ -28,20 +28,20 @@ pub record BankView : Type 0 where
 
 -- the bank's slice, where these requests wait in its registers
 abbrev pub slice_of : BankView → List (Held Missed) → List (Held Asked) → Slice
-slice_of kept waiting regs2 = record {
-  queue = queue_at kept.queues;
-  lines1 = kept.lines1.lines;
-  lines2 = kept.lines2.lines;
+slice_of view waiting regs2 = record {
+  queue = queue_at view.queues;
+  lines1 = view.lines1.lines;
+  lines2 = view.lines2.lines;
   waiting = waiting;
   regs2 = regs2;
-  asked = kept.asked;
-  supplied = kept.supplied;
-  ready = kept.ready;
+  asked = view.asked;
+  supplied = view.supplied;
+  ready = view.ready;
 }
 
 -- what the bank sees of the whole, busy tags aside
 abbrev pub local_of : BankView → List (Held Missed) → List (Held Asked) → Local
-local_of kept waiting regs2 = record { busy = idle; memory = flat_of kept.memory; slice = slice_of kept waiting regs2 }
+local_of view waiting regs2 = record { busy = idle; memory = flat_of view.memory; slice = slice_of view waiting regs2 }
 
 -- a register file of the shape's level one
 pub record IsFile1 {T : Type 0} (shape : Shape) (file : RegisterFile T) : Type 0 where
@@ -54,7 +54,8 @@ pub record IsFile2 {T : Type 0} (shape : Shape) (file : RegisterFile T) : Type 0
   pub destinations : file.destinations ≡ destinations2 shape
 
 -- there is a queue for each port, and the lines and the registers are those of the shape's levels
-pub record IsFramed (shape : Shape) (queues : List (List Request)) (lines1 : LineTable ℕ) (lines2 : LineTable Masks) (waiting : RegisterFile Request1) (regs2 : RegisterFile Request2) : Type 0 where
+pub record IsFramed (shape : Shape) (queues : List (List Request)) (lines1 : LineTable ℕ) (lines2 : LineTable Masks)
+    (waiting : RegisterFile Request1) (regs2 : RegisterFile Request2) : Type 0 where
   pub in_range : IsShape shape
   pub ports : length queues ≡ shape.ports
   pub sets1 : lines1.sets ≡ shape.level1.sets
