@@ -16,6 +16,8 @@ mod port;
 mod recording;
 mod registers;
 mod request;
+#[cfg(test)]
+mod tests;
 
 pub use demo::demo_trace;
 pub use fault::DemoFault;
