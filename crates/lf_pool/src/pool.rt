@@ -14,10 +14,10 @@ use crate::rule::{NextWorker, PoolShared, PoolTable, Takes, View};
 use crate::worker::{Claimer, Worked, WorkedBy, work};
 use atomic_table::Seat;
 use lf_rules::{NoMemory, Outcome};
-use std::alloc::Global;
+use std::alloc::{AllocError, AllocFailed, Global};
 use std::sync::Wait;
 use std::thread;
-use std::thread::{Promise, PromisedHandle, Scope, Threads};
+use std::thread::{Promise, Scope, Threads};
 
 /// Why there are no outcomes.
 #[derive(Clone, Copy, Debug, PartialEq, Eq)]
@@ -36,6 +36,27 @@ impl From<NoMemory> for PoolFault {
     ghost from_gives = { λ _ fault. fault ≡ PoolFault.NoMemory };
 
     fn from(_: NoMemory) -> PoolFault {
+        PoolFault::NoMemory
+    }
+}
+
+impl From<AllocError> for PoolFault {
+    ghost use Rattle.lf_pool.specs.declared.pool.PoolFault.{PoolFault};
+
+    ghost from_gives = { λ _ fault. fault ≡ PoolFault.NoMemory };
+
+    fn from(_: AllocError) -> PoolFault {
+        PoolFault::NoMemory
+    }
+}
+
+/// The value that was not stored is dropped.
+impl<T: Drop> From<AllocFailed<T>> for PoolFault {
+    ghost use Rattle.lf_pool.specs.declared.pool.PoolFault.{PoolFault};
+
+    ghost from_gives = { λ _ fault. fault ≡ PoolFault.NoMemory };
+
+    fn from(_: AllocFailed<T>) -> PoolFault {
         PoolFault::NoMemory
     }
 }
@@ -101,9 +122,7 @@ fn run_in<'s, E, G: Gate + Sync, R: Threads + Sync>(
 {
     let mut claimers = claimers;
     let own = claimers.pop().unwrap();
-    let Ok(mut handles) = Vec::with_capacity(alloc, claimers.len()) else {
-        return Err(PoolFault::NoMemory);
-    };
+    let mut handles = Vec::with_capacity(alloc, claimers.len())?;
     for claimer in claimers {
         let promise = WorkedBy { jobs, shared };
         match scope.spawn_with(promise, move || work(shared, jobs, gate, alloc, claimer)) {
@@ -112,13 +131,9 @@ fn run_in<'s, E, G: Gate + Sync, R: Threads + Sync>(
         }
     }
     let own = work(shared, jobs, gate, alloc, own);
-    let Ok(mut all) = thread::join_promised(rt, handles) else {
-        return Err(PoolFault::NoMemory);
-    };
-    match all.push(own) {
-        Ok(()) => Ok(all),
-        Err(_) => Err(PoolFault::NoMemory),
-    }
+    let mut all = thread::join_promised(rt, handles)?;
+    all.push(own)?;
+    Ok(all)
 }
 
 /// The same in a scope of its own, which ends when each of its threads has.
@@ -242,9 +257,7 @@ pub fn run_jobs<G: Gate + Sync, R: Threads + Wait + Sync>(
         return Err(PoolFault::Workers(workers));
     }
     let count = count(jobs);
-    let Ok((table, mut keeper)) = PoolTable::of_words(alloc, &[0], &u64::from(count)) else {
-        return Err(PoolFault::NoMemory);
-    };
+    let (table, mut keeper) = PoolTable::of_words(alloc, &[0], &u64::from(count))?;
     let claimers = new_claimers(&table.shared, &mut keeper, alloc, workers)?;
     let worked = in_threads(rt, &table.shared, jobs, gate, alloc, claimers)?;
     let mut outcomes = blank(alloc, count as usize)?;

@@ -19,31 +19,31 @@ loop-claimer-preserved g c =
     let steps : into_iter_items at.claimer-iterator ≡ x ∷ into_iter_items c.next.new.self = c.in-Some.ensures.steps.0 in
     let short = ap length steps in
     let long = ap length c.push_reserved.ensures.items in
-    let grown = length-append at.handles.items (c.in-Ok-spawn_with.handle ∷ []) in record {
+    let grown = length-append at.handles.items (c.in-Ok.handle ∷ []) in record {
       left = (let was = at.invariant.left in let gone = c.in-Some.ensures.steps.1 in omega arith);
       own = All-tail P x (into_iter_items c.next.new.self) (subst (All P) steps at.invariant.own);
       count = (let was = at.invariant.count in omega arith);
       room = (let was = at.invariant.room in let cap = c.push_reserved.ensures.capacity in omega arith);
-      promises = subst (All Q) (sym c.push_reserved.ensures.items) (All-push Q at.handles.items c.in-Ok-spawn_with.handle at.invariant.promises (ap (λ (p : WorkedBy). p.jobs.now) c.in-Ok-spawn_with.ensures.ok, ap (λ (p : WorkedBy). p.shared.now.table_id) c.in-Ok-spawn_with.ensures.ok));
+      promises = subst (All Q) (sym c.push_reserved.ensures.items) (All-push Q at.handles.items c.in-Ok.handle at.invariant.promises (ap (λ (p : WorkedBy). p.jobs.now) c.in-Ok.ensures.ok, ap (λ (p : WorkedBy). p.shared.now.table_id) c.in-Ok.ensures.ok));
     }
 
 nothing_left : {X : Type 0} (l : List X) → length l ≡ 0 → l ≡ []
 nothing_left [] h = refl
 nothing_left (x ∷ xs) h = absurd (omega arith)
 
-pub returns-in-Ok-push-clause-worked : goal.returns-in-Ok-push-clause-worked
-returns-in-Ok-push-clause-worked g c =
+pub returns-clause-worked : goal.returns-clause-worked
+returns-clause-worked g c =
     let at = c.loop-claimer in
     let none = c.in-None.ensures.steps in
     let jobs = c.args.jobs.now in
     let table = c.args.shared.now.table_id in
-    let all : List Worked = c.in-Ok-join_promised.all.items in
-    let items : c.push.new.self.items ≡ all ++ c.work-own.result ∷ [] = c.in-Ok-push.ensures.items in
+    let all : List Worked = c.in_ok-all.all.items in
+    let items : c.push.new.self.items ≡ all ++ c.work-own.result ∷ [] = c.in_ok-push.ensures.items in
     let count : at.handles.len ≡ length at.handles.items = (let ok = at.handles.ok in omega arith) in
-    let same : length all ≡ at.handles.len = (let ok = c.in-Ok-join_promised.all.ok in let len = c.in-Ok-join_promised.ensures.len in omega arith) in
+    let same : length all ≡ at.handles.len = (let ok = c.in_ok-all.all.ok in let len = c.in_ok-all.ensures.len in omega arith) in
     let was = at.invariant.count in
     let left = at.invariant.left in
     let long = length-append all (c.work-own.result ∷ []) in (
       (ap length items ∙ omega arith),
-      subst (All (IsWorked jobs table)) (sym items) (All-push (IsWorked jobs table) all c.work-own.result (each_worked jobs table _ (λ p r k. k) at.handles.items at.invariant.promises at.handles.len all count same c.in-Ok-join_promised.ensures.each) c.work-own.ensures),
+      subst (All (IsWorked jobs table)) (sym items) (All-push (IsWorked jobs table) all c.work-own.result (each_worked jobs table _ (λ p r k. k) at.handles.items at.invariant.promises at.handles.len all count same c.in_ok-all.ensures.each) c.work-own.ensures),
     )
