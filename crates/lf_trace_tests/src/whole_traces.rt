@@ -91,6 +91,33 @@ fn bytes_that_wait(rt: HostRuntime) -> Result<(), Fail> {
     assert_pending(&rt, rt.alloc(), &whole, 255)
 }
 
+/// No record waits when the next is fed, and after the last byte a further one is a fault.
+#[test]
+fn record_by_record(rt: HostRuntime) -> Result<(), Fail> {
+    let records = records(rt.alloc(), &C1, &[LOAD, LOADED])?;
+    let mut expected = records.iter();
+    let mut reader = Reader::new(rt.alloc());
+    let mut rest: &[u8] = &LOAD_MISSES_BOTH_LEVELS;
+    for _ in 0..132u8 {
+        let n = reader.feed_some(rest)?;
+        let (_, behind) = rest.split_at(n.min(rest.len()));
+        rest = behind;
+        if reader.front().is_some() {
+            assert_eq!(rt; reader.front(), expected.next());
+            reader.drop_front();
+            assert_eq!(rt; reader.front(), None);
+        }
+    }
+    assert!(rt; rest.is_empty());
+    assert_eq!(rt; expected.next(), None);
+    assert_eq!(rt; reader.finish()?, ONE_BANK);
+    let cause = CodecCause::Trailing;
+    let fault = CodecFault { cause, offset: 132 };
+    assert_eq!(rt; reader.feed_some(&[0]), Err(Told::Fault(fault)));
+    assert_eq!(rt; reader.feed_some(&[0]), Err(Told::Failed(fault)));
+    Ok(())
+}
+
 #[test]
 fn records_before_a_fault(rt: HostRuntime) -> Result<(), Fail> {
     let mut reader = Reader::new(rt.alloc());
