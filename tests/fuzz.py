@@ -234,9 +234,10 @@ def main():
                     with open(os.path.join(asked.keep, name), "wb") as file:
                         file.write(data)
                 print(f"finding {findings}: {command}, {fault}, {ran[1][:80]!r}", flush=True)
-            elif (command, ran[1]) not in places and len(pool) < MOST_KEPT:
+            elif (command, ran[1]) not in places:
                 places.add((command, ran[1]))
-                pool.append((config, trace))
+                if len(pool) < MOST_KEPT:
+                    pool.append((config, trace))
     print(f"runs={runs} places={len(places)} findings={findings}")
     return 1 if findings else 0
 
