@@ -16,8 +16,6 @@ mod port;
 mod recording;
 mod registers;
 mod request;
-#[cfg(test)]
-mod tests;
 
 pub use demo::demo_trace;
 pub use fault::DemoFault;
