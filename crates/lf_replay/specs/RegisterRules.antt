@@ -64,4 +64,4 @@ second_primary_told shape fetched register second target =
 abbrev pub second_merge_told : Shape → List (Held Asked) → ℕ → ℕ → Request2 → Option Rule
 second_merge_told shape fetched register second target =
     first_failing OfBank
-        (merge_clauses shape.level2.organisation (destinations2 shape) (position2 shape) fetched second target.destination target.position register)
+    (merge_clauses shape.level2.organisation (destinations2 shape) (position2 shape) fetched second target.destination target.position register)
