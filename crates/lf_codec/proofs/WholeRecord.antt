@@ -1,10 +1,11 @@
 -- An event record that stands whole in a piece is what its steps read.
 use Rattle.std.proofs.Common.{◌≡◌, ℕ, ◌+◌, ◌<◌, ◌≤◌, List, [], ◌∷◌, ◌++◌, length, take, Option, None, Ok, refl, sym, ap, subst, ◌∙◌, arith, append_assoc, inl, inr}
-use Rattle.std.specs.Prelude.{◌==◌}
+use Rattle.std.specs.Prelude.{◌==◌, false}
 use Rattle.std.proofs.lemmas.Bool.{cases_Bool, eqb-true, eqb-false}
 use Rattle.std.proofs.lemmas.List.{append-nil, nil_from_length, length-append, take-append-le}
 use Rattle.std.proofs.Math.Seq.{take-length}
 use Rattle.lf_rules.specs.Fits.{Bytes}
+use Rattle.lf_rules.specs.declared.event.Event.{Event}
 use Rattle.lf_rules.specs.declared.event.Record.{Record}
 use Rattle.lf_codec.specs.declared.fault.CodecFault.{CodecFault}
 use Rattle.lf_codec.specs.declared.stage.Found.{Found}
@@ -12,7 +13,7 @@ use Rattle.lf_codec.specs.declared.stage.Head.{Head}
 use Rattle.lf_codec.specs.declared.stage.Stage.{Stage}
 use Rattle.lf_codec.specs.declared.stage.Stage.TheVariants as stages
 use Rattle.lf_codec.specs.declared.progress.Progress.{Progress}
-use Rattle.lf_codec.specs.Checks.{judged, fixed_checks, stage_checks}
+use Rattle.lf_codec.specs.Checks.{byte_at, judged, head_checks, fixed_checks, stage_checks}
 use Rattle.lf_codec.specs.Steps.{fixed_len, data_len, head_at, counted, record_of, past_head, advanced}
 use Rattle.lf_codec.specs.Sound.{IsInRange, HasRoom, IsSoundAt, IsSound, most_data}
 use Rattle.lf_codec.specs.Reading.{Reading, read_on, memory_in, records_in}
@@ -25,9 +26,22 @@ use Rattle.lf_codec.proofs.Forward.{clean, step_read}
 abbrev pub whole_len : List ℕ → List ℕ → ℕ
 whole_len fixed carried = 8 + length fixed + length carried
 
+-- the head, the fixed part and the data stand at the front of these bytes, and their checks pass
+pub record HasParts (p : Progress) (bytes : List ℕ) (head : Head) (fixed carried : List ℕ) : Type 0 where
+  pub first : List ℕ
+  pub more : List ℕ
+  pub joined : bytes ≡ first ++ (fixed ++ (carried ++ more))
+  pub first_whole : length first ≡ 8
+  pub is_event : (byte_at 0 first == 0) ≡ false
+  pub first_passes : judged (head_checks p.header p.counts first) ≡ Ok tt
+  pub head_is : head ≡ head_at first
+  pub fixed_whole : length fixed ≡ fixed_len p.header head.kind
+  pub fixed_passes : judged (fixed_checks p.header head.bank head.kind fixed) ≡ Ok tt
+  pub carried_whole : length carried ≡ data_len p.header head.kind fixed
+
 -- ---- what is known of the record
 
-module _ (p : Progress) (bytes : List ℕ) (head : Head) (fixed carried : List ℕ) (whole : IsWhole p bytes head fixed carried) (range : IsInRange p.header) where
+module _ (p : Progress) (bytes : List ℕ) (head : Head) (fixed carried : List ℕ) (whole : HasParts p bytes head fixed carried) (range : IsInRange p.header) where
   pub whole_room : HasRoom p.header p.counts head.log
   whole_room = rw whole.head_is (room_of_head p.header p.counts whole.first range whole.first_passes)
 
@@ -132,7 +146,7 @@ steps_behind q memory records head fixed carried whole passes carried_whole =
 -- the head and what is behind it
 head_steps : (q : Progress) (memory : List (ℕ × Bytes)) (records : List Record) (bytes : List ℕ) (head : Head) (fixed carried : List ℕ)
     → let p : Progress = record q { stage = stages.Head } in
-    (whole : IsWhole p bytes head fixed carried)
+    (whole : HasParts p bytes head fixed carried)
     → read_on (clean p memory records) (whole.first ++ (fixed ++ carried)) ≡ clean (counted p (whole_len fixed carried) head.log) memory (records ++ record_of q.header head fixed carried ∷ [])
 unfolding stage_checks advanced
 head_steps q memory records bytes head fixed carried whole =
@@ -145,7 +159,7 @@ head_steps q memory records bytes head fixed carried whole =
 
 -- ---- the record at once
 
-module _ (p : Progress) (at : p.stage ≡ stages.Head) (bytes : List ℕ) (head : Head) (fixed carried : List ℕ) (whole : IsWhole p bytes head fixed carried) (sound : IsSound p) where
+module _ (p : Progress) (at : p.stage ≡ stages.Head) (bytes : List ℕ) (head : Head) (fixed carried : List ℕ) (whole : HasParts p bytes head fixed carried) (sound : IsSound p) where
   pub range_here : IsInRange p.header
   range_here = subst (λ (s : Stage). IsSoundAt s p) at sound.at_stage
 
@@ -160,20 +174,59 @@ module _ (p : Progress) (at : p.stage ≡ stages.Head) (bytes : List ℕ) (head 
 
   pub whole_taken_in : (memory : List (ℕ × Bytes)) (records : List Record) → TakesPart (clean p memory records) bytes (Ok (whole_len fixed carried)) (clean (counted p (whole_len fixed carried) head.log) memory (records ++ record_of p.header head fixed carried ∷ []))
   whole_taken_in memory records =
-      let own : IsWhole (record p { stage = stages.Head }) bytes head fixed carried = subst (λ (q : Progress). IsWhole q bytes head fixed carried) same_here whole in
+      let own : HasParts (record p { stage = stages.Head }) bytes head fixed carried = subst (λ (q : Progress). HasParts q bytes head fixed carried) same_here whole in
       let steps : read_on (clean p memory records) (take (whole_len fixed carried) bytes) ≡ clean (counted p (whole_len fixed carried) head.log) memory (records ++ record_of p.header head fixed carried ∷ []) =
       ap (read_on (clean p memory records)) (whole_taken (record p { stage = stages.Head }) bytes head fixed carried own range_here)
       ∙ ap (λ (q : Progress). read_on (clean q memory records) (own.first ++ (fixed ++ carried))) same_here
       ∙ head_steps p memory records bytes head fixed carried own in
       (omega arith, whole_within p bytes head fixed carried whole range_here, sym steps, refl)
 
+-- ---- a record that stands whole
+
+module _ (p : Progress) (bytes : List ℕ) (item : Record) (len : ℕ) (whole : IsWhole p bytes item len) where
+  pub parts_of : HasParts p bytes whole.head whole.behind.fixed whole.behind.carried
+  parts_of = record {
+    first = whole.at_front.first;
+    more = whole.behind.more;
+    joined = whole.at_front.joined ∙ ap (λ (xs : List ℕ). whole.at_front.first ++ xs) whole.behind.joined;
+    first_whole = whole.at_front.first_whole;
+    is_event = whole.at_front.is_event;
+    first_passes = whole.at_front.first_passes;
+    head_is = whole.at_front.head_is;
+    fixed_whole = whole.behind.fixed_whole;
+    fixed_passes = whole.behind.fixed_passes;
+    carried_whole = whole.behind.carried_whole;
+  }
+
+  pub log_of : item.log ≡ whole.head.log
+  log_of = ap (λ (r : Record). r.log) whole.item_is
+
+  pub item_of : item ≡ record_of p.header whole.head whole.behind.fixed whole.behind.carried
+  item_of = whole.item_is ∙ ap (λ (e : Event). record { log = whole.head.log; bank = whole.head.bank; number = whole.head.number; event = e }) whole.behind.event_is
+
+  module _ (at : p.stage ≡ stages.Head) (sound : IsSound p) where
+    pub log_exists : item.log < 32
+    log_exists = rw log_of (whole_room p bytes whole.head whole.behind.fixed whole.behind.carried parts_of (range_here p at bytes whole.head whole.behind.fixed whole.behind.carried parts_of sound)).exists
+
+    pub sound_behind : IsSound (counted p len item.log)
+    sound_behind = rw (log_of, whole.behind.len_is) (whole_sound p at bytes whole.head whole.behind.fixed whole.behind.carried parts_of sound)
+
 -- the same of any reading between two steps
-pub taken_at_once : (r new : Reading) (bytes : List ℕ) (head : Head) (fixed carried : List ℕ) → r.fault ≡ None → r.pending ≡ [] → r.progress.stage ≡ stages.Head → IsWhole r.progress bytes head fixed carried → IsSound r.progress
-    → new ≡ record r { progress = counted r.progress (whole_len fixed carried) head.log; records = r.records ++ record_of r.progress.header head fixed carried ∷ [] }
-    → TakesPart r bytes (Ok (whole_len fixed carried)) new
-taken_at_once r new bytes head fixed carried fine empty at whole sound is =
-    let bare : r ≡ clean r.progress r.memory r.records = ap (λ (xs : List ℕ). record r { pending = xs }) empty ∙ ap (λ (f : Option CodecFault). record r { pending = []; fault = f }) fine in
-    let took = whole_taken_in r.progress at bytes head fixed carried whole sound r.memory r.records in
-    let after : new ≡ clean (counted r.progress (whole_len fixed carried) head.log) r.memory (r.records ++ record_of r.progress.header head fixed carried ∷ []) =
-    is ∙ ap (λ (q : Reading). record q { progress = counted r.progress (whole_len fixed carried) head.log; records = r.records ++ record_of r.progress.header head fixed carried ∷ [] }) bare in
-    (took.0, took.1, after ∙ took.2 ∙ ap (λ (q : Reading). read_on q (take (whole_len fixed carried) bytes)) (sym bare), ap (λ (q : Reading). q.fault) after)
+pub taken_at_once : (r new : Reading) (bytes : List ℕ) (item : Record) (len : ℕ) → r.fault ≡ None → r.pending ≡ [] → r.progress.stage ≡ stages.Head → IsWhole r.progress bytes item len → IsSound r.progress
+    → new ≡ record r { progress = counted r.progress len item.log; records = r.records ++ item ∷ [] }
+    → TakesPart r bytes (Ok len) new
+taken_at_once r new bytes item len fine empty at whole sound is =
+    let p = r.progress in
+    let b = whole.behind in
+    let bare : r ≡ clean p r.memory r.records = ap (λ (xs : List ℕ). record r { pending = xs }) empty ∙ ap (λ (f : Option CodecFault). record r { pending = []; fault = f }) fine in
+    let took = whole_taken_in p at bytes whole.head b.fixed b.carried (parts_of p bytes item len whole) sound r.memory r.records in
+    let own : clean (counted p len item.log) r.memory (r.records ++ item ∷ []) ≡ clean (counted p (whole_len b.fixed b.carried) whole.head.log) r.memory (r.records ++ record_of p.header whole.head b.fixed b.carried ∷ []) =
+    ap (λ (n : ℕ). clean (counted p n item.log) r.memory (r.records ++ item ∷ [])) b.len_is
+    ∙ ap (λ (log : ℕ). clean (counted p (whole_len b.fixed b.carried) log) r.memory (r.records ++ item ∷ [])) (log_of p bytes item len whole)
+    ∙ ap (λ (i : Record). clean (counted p (whole_len b.fixed b.carried) whole.head.log) r.memory (r.records ++ i ∷ [])) (item_of p bytes item len whole) in
+    let after : new ≡ clean (counted p len item.log) r.memory (r.records ++ item ∷ []) =
+    is ∙ ap (λ (q : Reading). record q { progress = counted p len item.log; records = r.records ++ item ∷ [] }) bare in
+    let kept : TakesPart (clean p r.memory r.records) bytes (Ok len) (clean (counted p len item.log) r.memory (r.records ++ item ∷ [])) =
+    subst (λ (n : ℕ). TakesPart (clean p r.memory r.records) bytes (Ok n) (clean (counted p len item.log) r.memory (r.records ++ item ∷ []))) (sym b.len_is)
+    (subst (λ (q : Reading). TakesPart (clean p r.memory r.records) bytes (Ok (whole_len b.fixed b.carried)) q) (sym own) took) in
+    (kept.0, kept.1, after ∙ kept.2 ∙ ap (λ (q : Reading). read_on q (take len bytes)) (sym bare), ap (λ (q : Reading). q.fault) after)

@@ -1,14 +1,18 @@
 -- What the reader's own steps do with the bytes of a piece.
-use Rattle.std.specs.Prelude.{◌≡◌, ◌⊎◌, ◌==◌, ◌++◌, ℕ, List, ◌<◌, ◌≤◌, false, length, take, slice_index, Some, None, Result, Ok, Err}
+use Rattle.std.specs.Prelude.{◌≡◌, ◌⊎◌, ◌==◌, ◌++◌, ℕ, ◌+◌, List, ◌<◌, ◌≤◌, false, length, take, slice_index, Some, None, Result, Ok, Err}
+use Rattle.lf_rules.specs.declared.event.Event.{Event}
+use Rattle.lf_rules.specs.declared.event.Record.{Record}
 use Rattle.lf_codec.specs.declared.fault.CodecCause.{CodecCause}
 use Rattle.lf_codec.specs.declared.fault.CodecCause.TheVariants.{NoMemory}
 use Rattle.lf_codec.specs.declared.fault.CodecFault.{CodecFault}
+use Rattle.lf_codec.specs.declared.header.Header.{Header}
+use Rattle.lf_codec.specs.declared.stage.Kind.{Kind}
 use Rattle.lf_codec.specs.declared.stage.Head.{Head}
 use Rattle.lf_codec.specs.declared.stage.Found.{Found}
 use Rattle.lf_codec.specs.declared.progress.Progress.{Progress}
 use Rattle.lf_codec.specs.declared.stage.Found.TheVariants as found
 use Rattle.lf_codec.specs.Checks.{byte_at, judged, head_checks, fixed_checks, stage_checks}
-use Rattle.lf_codec.specs.Steps.{fixed_len, data_len, head_at, advanced}
+use Rattle.lf_codec.specs.Steps.{fixed_len, data_len, head_at, event_at, advanced}
 use Rattle.lf_codec.specs.Reading.{Reading, stepped, end_of, truncated_at, byte_read, read_on, header_now}
 use Rattle.lf_codec.specs.Reader.{HasOneMore}
 
@@ -41,18 +45,34 @@ pub record WasRefused (old : Reading) (bytes : List ℕ) (new : Reading) : Type 
   pub refused : IsRefused (read_on old (take count bytes)) (slice_index bytes count) new fault
   pub fine : (read_on old (take count bytes)).fault ≡ None
 
--- at the front of these bytes an event record stands whole, and its checks pass
-pub record IsWhole (p : Progress) (bytes : List ℕ) (head : Head) (fixed carried : List ℕ) : Type 0 where
+-- at the front of these bytes the head of an event record stands whole, and its checks pass
+pub record IsWholeHead (p : Progress) (bytes : List ℕ) (head : Head) (rest : List ℕ) : Type 0 where
   pub first : List ℕ
-  pub more : List ℕ
-  pub joined : bytes ≡ first ++ (fixed ++ (carried ++ more))
+  pub joined : bytes ≡ first ++ rest
   pub first_whole : length first ≡ 8
   pub is_event : (byte_at 0 first == 0) ≡ false
   pub first_passes : judged (head_checks p.header p.counts first) ≡ all_passed
   pub head_is : head ≡ head_at first
-  pub fixed_whole : length fixed ≡ fixed_len p.header head.kind
-  pub fixed_passes : judged (fixed_checks p.header head.bank head.kind fixed) ≡ all_passed
-  pub carried_whole : length carried ≡ data_len p.header head.kind fixed
+
+-- at the front of the bytes behind a head its event stands whole, and its checks pass; the record has so many bytes
+pub record IsWholeEvent (h : Header) (kind : Kind) (bank : ℕ) (bytes : List ℕ) (event : Event) (len : ℕ) : Type 0 where
+  pub fixed : List ℕ
+  pub carried : List ℕ
+  pub more : List ℕ
+  pub joined : bytes ≡ fixed ++ (carried ++ more)
+  pub fixed_whole : length fixed ≡ fixed_len h kind
+  pub fixed_passes : judged (fixed_checks h bank kind fixed) ≡ all_passed
+  pub carried_whole : length carried ≡ data_len h kind fixed
+  pub event_is : event ≡ event_at h kind fixed (record { items = carried })
+  pub len_is : len ≡ 8 + length fixed + length carried
+
+-- at the front of these bytes an event record of so many bytes stands whole, and its checks pass
+pub record IsWhole (p : Progress) (bytes : List ℕ) (item : Record) (len : ℕ) : Type 0 where
+  pub head : Head
+  pub rest : List ℕ
+  pub at_front : IsWholeHead p bytes head rest
+  pub behind : IsWholeEvent p.header head.kind head.bank rest item.event len
+  pub item_is : item ≡ record { log = head.log; bank = head.bank; number = head.number; event = item.event }
 
 -- what the first bytes do, up to the end of a step or to the end of the piece
 abbrev pub TakesPart : Reading → List ℕ → Result ℕ CodecFault → Reading → Type 0

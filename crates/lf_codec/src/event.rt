@@ -13,6 +13,7 @@ use arrayvec::ArrayVec;
 use lf_rules::{Block, Event, Mask, Op, WideBlock};
 
 /// A copy of so many bytes as a block may have.
+#[inline(always)]
 pub(crate) fn block_of(bytes: &[u8]) -> Block
     requires { length bytes.now ≤ 64 }
     ensures { result ≡ record { items = bytes.now } }
@@ -23,6 +24,7 @@ pub(crate) fn block_of(bytes: &[u8]) -> Block
 }
 
 /// A copy of so many bytes as a block of level two may have.
+#[inline(always)]
 fn wide_block_of(bytes: &[u8]) -> WideBlock
     requires { length bytes.now ≤ 256 }
     ensures { result ≡ record { items = bytes.now } }
@@ -32,6 +34,7 @@ fn wide_block_of(bytes: &[u8]) -> WideBlock
     block
 }
 
+#[inline(always)]
 fn issue_at(fixed: &[u8], bytes: &[u8]) -> Event
     requires len { length fixed.now ≡ 12 }
     requires few { length bytes.now ≤ 64 }
@@ -47,6 +50,7 @@ fn issue_at(fixed: &[u8], bytes: &[u8]) -> Event
     }
 }
 
+#[inline(always)]
 fn reply_at(fixed: &[u8], bytes: &[u8]) -> Event
     requires len { length fixed.now ≡ 4 }
     requires few { length bytes.now ≤ 64 }
@@ -101,6 +105,7 @@ fn stall_at(fixed: &[u8]) -> Event
     }
 }
 
+#[inline(always)]
 fn fill_at(fixed: &[u8], bytes: &[u8]) -> Event
     requires len { length fixed.now ≡ 4 }
     requires few { length bytes.now ≤ 64 }
@@ -112,6 +117,7 @@ fn fill_at(fixed: &[u8], bytes: &[u8]) -> Event
     }
 }
 
+#[inline(always)]
 fn evict_at(fixed: &[u8], bytes: &[u8]) -> Event
     requires len { length fixed.now ≡ 12 }
     requires few { length bytes.now ≤ 64 }
@@ -144,6 +150,7 @@ fn second_merge_at(fixed: &[u8]) -> Event
     }
 }
 
+#[inline(always)]
 fn second_fill_at(fixed: &[u8], bytes: &[u8]) -> Event
     requires len { length fixed.now ≡ 4 }
     requires few { length bytes.now ≤ 256 }
@@ -155,6 +162,7 @@ fn second_fill_at(fixed: &[u8], bytes: &[u8]) -> Event
     }
 }
 
+#[inline(always)]
 fn second_evict_at(factor: u16, fixed: &[u8], bytes: &[u8]) -> Event
     requires factor { factor ≤ 4 }
     requires len { length fixed.now ≡ 4 + 8 * factor }
@@ -170,6 +178,7 @@ fn second_evict_at(factor: u16, fixed: &[u8], bytes: &[u8]) -> Event
 }
 
 /// The event of this kind, fixed part and carried bytes.
+#[inline(always)]
 pub(crate) fn event_at(header: &Header, kind: Kind, fixed: &[u8], bytes: &[u8]) -> Event
     requires factor { header.now.factor ≤ 4 }
     requires len { length fixed.now ≡ fixed_len header.now kind }

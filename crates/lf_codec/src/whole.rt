@@ -2,12 +2,14 @@
 
 ghost use Rattle.std.specs.Prelude.{◌≡◌, ◌++◌, length, IfSome};
 ghost use Rattle.lf_codec.specs.declared.stage.Stage.TheVariants as stages;
-ghost use Rattle.lf_codec.specs.Takes.{IsWhole};
+ghost use Rattle.lf_codec.specs.Takes.{IsWholeHead, IsWholeEvent, IsWhole};
 
 use crate::checks::{check_fixed, check_head};
+use crate::event::event_at;
 use crate::progress::Progress;
-use crate::stage::{Head, Stage};
+use crate::stage::{Head, Kind, Stage};
 use crate::step::{data_len, fixed_len};
+use lf_rules::{Event, Record};
 
 /// The first bytes and those behind them, where there are so many.
 fn split(bytes: &[u8], len: usize) -> Option<(&[u8], &[u8])>
@@ -20,14 +22,15 @@ fn split(bytes: &[u8], len: usize) -> Option<(&[u8], &[u8])>
 }
 
 impl Progress {
-    ghost use Rattle.lf_codec.specs.Sound.{IsSound};
+    ghost use Rattle.lf_codec.specs.Sound.{IsInRange, IsSound};
 
-    /// The head, the fixed part and the data of the next record, where the bytes have them whole and all
-    /// of its checks pass.
-    pub(crate) fn whole_record<'a>(&self, bytes: &'a [u8]) -> Option<(Head, &'a [u8], &'a [u8])>
+    /// The head of the next record and the bytes behind it, where the bytes have it whole and its checks
+    /// pass.
+    fn whole_head<'a>(&self, bytes: &'a [u8]) -> Option<(Head, &'a [u8])>
         requires { IsSound self.now }
         ensures stage { IfSome result (λ parts. self.now.stage ≡ stages.Head) }
-        ensures parts { IfSome result (λ parts. IsWhole self.now bytes.now parts.0 parts.1.now parts.2.now) }
+        ensures range { IfSome result (λ parts. IsInRange self.now.header) }
+        ensures head { IfSome result (λ parts. IsWholeHead self.now bytes.now parts.0 parts.1.now) }
     {
         let Stage::Head = self.stage else {
             return None;
@@ -39,11 +42,65 @@ impl Progress {
         let Ok(head) = check_head(&self.header, &self.counts, first) else {
             return None;
         };
-        let (fixed, rest) = split(rest, fixed_len(&self.header, head.kind))?;
-        if check_fixed(&self.header, head.bank, head.kind, fixed).is_err() {
+        Some((head, rest))
+    }
+
+    /// The event of this kind at the front of the bytes behind its head, and how many bytes its record
+    /// has, where the bytes have it whole and its checks pass.
+    #[inline(always)]
+    fn whole_event(&self, kind: Kind, bank: u8, bytes: &[u8]) -> Option<(Event, usize)>
+        requires { IsInRange self.now.header }
+        ensures { IfSome result (λ found. IsWholeEvent self.now.header kind bank bytes.now found.0 found.1) }
+    {
+        let (fixed, rest) = split(bytes, fixed_len(&self.header, kind))?;
+        let Ok(()) = check_fixed(&self.header, bank, kind, fixed) else {
             return None;
+        };
+        let (carried, _) = split(rest, data_len(&self.header, kind, fixed))?;
+        let event = event_at(&self.header, kind, fixed, carried);
+        Some((event, 8 + fixed.len() + carried.len()))
+    }
+
+    /// The event behind this head, as `whole_event` gives it. Each call names its kind, so that the
+    /// compiler makes the code of each kind apart, which moves no bytes but those of that kind.
+    fn event_behind(&self, head: Head, bytes: &[u8]) -> Option<(Event, usize)>
+        requires { IsInRange self.now.header }
+        ensures { IfSome result (λ found. IsWholeEvent self.now.header head.kind head.bank bytes.now found.0 found.1) }
+    {
+        match head.kind {
+            Kind::Issue => self.whole_event(Kind::Issue, head.bank, bytes),
+            Kind::Reply => self.whole_event(Kind::Reply, head.bank, bytes),
+            Kind::Hit => self.whole_event(Kind::Hit, head.bank, bytes),
+            Kind::Primary => self.whole_event(Kind::Primary, head.bank, bytes),
+            Kind::Merge => self.whole_event(Kind::Merge, head.bank, bytes),
+            Kind::Stall => self.whole_event(Kind::Stall, head.bank, bytes),
+            Kind::Fill1 => self.whole_event(Kind::Fill1, head.bank, bytes),
+            Kind::Evict1 => self.whole_event(Kind::Evict1, head.bank, bytes),
+            Kind::SecondHit => self.whole_event(Kind::SecondHit, head.bank, bytes),
+            Kind::SecondPrimary => self.whole_event(Kind::SecondPrimary, head.bank, bytes),
+            Kind::SecondStall => self.whole_event(Kind::SecondStall, head.bank, bytes),
+            Kind::Fill2 => self.whole_event(Kind::Fill2, head.bank, bytes),
+            Kind::Evict2 => self.whole_event(Kind::Evict2, head.bank, bytes),
+            Kind::Fence => self.whole_event(Kind::Fence, head.bank, bytes),
+            Kind::SecondMerge => self.whole_event(Kind::SecondMerge, head.bank, bytes),
         }
-        let (carried, _) = split(rest, data_len(&self.header, head.kind, fixed))?;
-        Some((head, fixed, carried))
+    }
+
+    /// The next record and how many bytes it has, where the bytes have it whole and all of its checks
+    /// pass.
+    pub(crate) fn whole_record(&self, bytes: &[u8]) -> Option<(Record, usize)>
+        requires { IsSound self.now }
+        ensures stage { IfSome result (λ found. self.now.stage ≡ stages.Head) }
+        ensures whole { IfSome result (λ found. IsWhole self.now bytes.now found.0 found.1) }
+    {
+        let (head, rest) = self.whole_head(bytes)?;
+        let (event, len) = self.event_behind(head, rest)?;
+        let item = Record {
+            log: head.log,
+            bank: head.bank,
+            number: head.number,
+            event,
+        };
+        Some((item, len))
     }
 }
