@@ -2,11 +2,8 @@
 use Rattle.std.proofs.Common.{◌≡◌, ℕ, ◌+◌, ◌-◌, ◌≤◌, Bool, true, false, cond, ◌&&◌, ◌==◌, List, [], ◌∷◌, ◌++◌, Option, Some, replicate}
 use Rattle.std.proofs.Common.{get_or, take, drop, refl, ap, sym, ◌∙◌, ⊎_elim, length, arith, slice_index, map, leb, ltb}
 use mathlib.Core.Path.{fun_ext}
-use Rattle.std.specs.Prelude.{unwrap_or}
+use Rattle.std.specs.Prelude.{unwrap_or, nat_eq}
 use Rattle.std.specs.Map.{lookup}
-use Rattle.std.specs.BTreeMap.{is_at}
-use Rattle.std.specs.Ordering.{nat_cmp}
-use Rattle.std.specs.Cmp.{unsigned_tied}
 use Rattle.std.proofs.lemmas.List.{get_or-replicate, get_or_past, length-replicate, get_or_append_left, get_or-take, get_or-append_right, get_or-drop, length-take}
 use Rattle.std.proofs.lemmas.Bool.{cases_lt, leb-true, leb-false, ltb-true, ltb-false}
 use Rattle.std.proofs.lemmas.List.FromFn.{map-range_with_len_more}
@@ -23,11 +20,10 @@ zeros n place = ⊎_elim (λ lt. get_or-replicate n place 0 0 lt) (λ le. get_or
 
 -- a block's bytes, written at once
 pub flat_put : (old new : List (ℕ × List ℕ)) (block : ℕ) (bytes : List ℕ)
-    → ((q : ℕ) → lookup (is_at (nat_cmp q)) new ≡ cond (is_at (nat_cmp block) q) (Some bytes) (lookup (is_at (nat_cmp q)) old))
+    → ((q : ℕ) → lookup (nat_eq q) new ≡ cond (nat_eq block q) (Some bytes) (lookup (nat_eq q) old))
     → flat_of new ≡ update (flat_of old) block (slice_index bytes)
 flat_put old new block bytes written = fun_ext (λ at.
-    ap (λ (o : Option (List ℕ)). slice_index (unwrap_or o [])) (written at ∙ ap (λ b. cond b (Some bytes) (lookup (is_at (nat_cmp at)) old)) (unsigned_tied block at))
-    ∙ split (block == at) (lookup (is_at (nat_cmp at)) old))
+    ap (λ (o : Option (List ℕ)). slice_index (unwrap_or o [])) (written at) ∙ split (block == at) (lookup (nat_eq at) old))
   where
     split : (b : Bool) (o : Option (List ℕ)) → slice_index (unwrap_or (cond b (Some bytes) o) []) ≡ cond b (slice_index bytes) (slice_index (unwrap_or o []))
     split true o = refl

@@ -1,8 +1,6 @@
 -- The bytes of a memory and of a request.
-use Rattle.std.specs.Prelude.{◌≡◌, ℕ, ◌+◌, ◌-◌, ◌==◌, ◌<◌, ◌≤◌, true, ◌&&◌, nat_le, nat_lt, List, [], length, slice_index, unwrap_or, if◌then◌else◌}
+use Rattle.std.specs.Prelude.{◌≡◌, ℕ, ◌+◌, ◌-◌, ◌==◌, ◌<◌, ◌≤◌, true, ◌&&◌, nat_eq, nat_le, nat_lt, List, [], length, slice_index, unwrap_or, if◌then◌else◌}
 use Rattle.std.specs.Map.{lookup}
-use Rattle.std.specs.BTreeMap.{is_at}
-use Rattle.std.specs.Ordering.{nat_cmp}
 use Rattle.lf_rules.specs.declared.shape.Shape.{Shape}
 use Rattle.lf_rules.specs.Address.{FlatMemory, bank_of}
 use Rattle.lf_rules.specs.State.{Request}
@@ -10,7 +8,7 @@ use Rattle.lf_rules.specs.Table.{is_store}
 
 -- the memory that has these bytes at these blocks, and zeros elsewhere
 abbrev pub flat_of : List (ℕ × List ℕ) → FlatMemory
-flat_of blocks block place = slice_index (unwrap_or (lookup (is_at (nat_cmp block)) blocks) []) place
+flat_of blocks block place = slice_index (unwrap_or (lookup (nat_eq block) blocks) []) place
 
 -- the memory on the blocks of one bank, and zeros elsewhere
 abbrev pub bank_part : Shape → ℕ → FlatMemory → FlatMemory

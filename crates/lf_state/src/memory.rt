@@ -12,7 +12,7 @@ use crate::places::{bank_of, sub_block};
 use crate::request::{Data, Request};
 use lf_rules::{Block, Mask, Masks, NoMemory, Op, Shape, WideBlock};
 use std::alloc::Global;
-use std::collections::BTreeMap;
+use std::collections::HashMap;
 use std::marker::Model;
 
 /// The bytes of a block, and zeros behind them.
@@ -23,7 +23,7 @@ static ZEROS: Bytes = [0; 64];
 /// Flat memory, as far as a trace names it and stores wrote it.
 #[derive(Drop)]
 pub struct FlatMemory {
-    blocks: BTreeMap<u32, Bytes>,
+    blocks: HashMap<u32, Bytes>,
 }
 
 impl Model for FlatMemory {
@@ -71,7 +71,7 @@ impl FlatMemory {
         ensures { IfOk result (λ flat. flat_of flat ≡ flat_memory memory.now) }
     {
         let mut flat = FlatMemory {
-            blocks: BTreeMap::new(alloc),
+            blocks: HashMap::new(alloc),
         };
         for at in (0..memory.len()).rev() {
             let (block, bytes) = &memory[at];
@@ -91,7 +91,7 @@ impl FlatMemory {
         ensures { IfOk result (λ flat. flat_of flat ≡ bank_part shape.now bank (flat_memory memory.now)) }
     {
         let mut flat = FlatMemory {
-            blocks: BTreeMap::new(alloc),
+            blocks: HashMap::new(alloc),
         };
         let mut left = memory.len();
         while left > 0 {
@@ -149,9 +149,17 @@ impl FlatMemory {
         ensures ok { OnOk result (flat_of self.new ≡ update (flat_of self.old) block (put (flat_of self.old block) offset new.now)) }
         ensures err { OnErr result (self.new ≡ self.old) }
     {
-        let mut bytes = *self.bytes_of(block);
-        put(&mut bytes, offset, new);
-        self.set(block, bytes)
+        match self.blocks.get_mut(&block) {
+            Some(bytes) => {
+                put(bytes, offset, new);
+                Ok(())
+            }
+            None => {
+                let mut bytes = ZEROS;
+                put(&mut bytes, offset, new);
+                self.set(block, bytes)
+            }
+        }
     }
 
     fn set(&mut self, block: u32, bytes: Bytes) -> Result<(), NoMemory>
