@@ -3,6 +3,7 @@
 use crate::streams::{Pieces, Sink};
 use lf_engine::{Counted, RunFault, run_shape};
 use lf_samples::{C1, LOAD_MISSES_BOTH_LEVELS};
+use std::io::ErrorKind;
 use std::process::Abort;
 use std::test::Fail;
 
@@ -81,14 +82,19 @@ fn read_fails_midway(rt: HostRuntime) -> Result<(), Fail> {
     Ok(())
 }
 
+/// A write that is interrupted is a failed one too.
 #[test]
 fn write_fails(rt: HostRuntime) -> Result<(), Fail> {
-    for (room, written) in [(3, "yes"), (0, "")] {
+    for (room, failure, written) in [
+        (3, Some(ErrorKind::Other), "yes"),
+        (3, Some(ErrorKind::Interrupted), "yes"),
+        (0, None, ""),
+    ] {
         let mut reader = Counted::new(Pieces::new(&LOAD_MISSES_BOTH_LEVELS, 132));
         let mut writer = Counted::new(Sink {
             taken: Vec::new(rt.alloc()),
             room,
-            takes_nothing: room == 0,
+            failure,
         });
         let answer = run_shape(&rt, &mut reader, &mut writer, &C1, 1, 1000);
         assert_eq!(rt; answer.err(), Some(RunFault::Write));

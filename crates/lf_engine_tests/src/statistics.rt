@@ -5,6 +5,7 @@ use lf_engine::{Counted, RunFault, run_stats};
 use lf_samples::{
     C1, C1_TEXT, FENCE_LAST, LOAD, LOAD_MISSES_BOTH_LEVELS, LOADED, changed, trace_of,
 };
+use std::io::ErrorKind;
 use std::process::Abort;
 use std::test::Fail;
 
@@ -100,12 +101,12 @@ fn statistics_that_are_not_read_or_not_written(rt: HostRuntime) -> Result<(), Fa
         let line = b"refused read trace\n".as_slice();
         assert_eq!(rt; writer.inner().as_slice(), line);
     }
-    for (room, written) in [(6, "bank=0"), (0, "")] {
+    for (room, failure, written) in [(6, Some(ErrorKind::Other), "bank=0"), (0, None, "")] {
         let mut reader = Counted::new(Pieces::new(bytes, 50));
         let mut writer = Counted::new(Sink {
             taken: Vec::new(rt.alloc()),
             room,
-            takes_nothing: room == 0,
+            failure,
         });
         let answer = run_stats(&rt, &mut reader, &mut writer, C1_TEXT, 1000);
         assert_eq!(rt; answer.err(), Some(RunFault::Write));

@@ -62,21 +62,21 @@ impl Read for Endless<'_> {
     }
 }
 
-/// Takes so many bytes, and then fails, or takes nothing where it had no room from the first.
+/// Takes so many bytes, and then fails, or takes nothing where it has no failure.
 #[derive(Drop)]
 pub struct Sink {
     pub taken: Vec<u8>,
     pub room: usize,
-    pub takes_nothing: bool,
+    pub failure: Option<ErrorKind>,
 }
 
 impl Write for Sink {
     fn write(&mut self, buf: &[u8]) -> io::Result<usize> {
         if self.room == 0 {
-            if self.takes_nothing {
-                return Ok(0);
-            }
-            return Err(io::Error::from(ErrorKind::Other));
+            return match self.failure {
+                None => Ok(0),
+                Some(kind) => Err(io::Error::from(kind)),
+            };
         }
         let n = self.room.min(buf.len());
         self.taken.extend_from_slice(&buf[..n])?;
