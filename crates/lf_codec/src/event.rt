@@ -13,7 +13,6 @@ use arrayvec::ArrayVec;
 use lf_rules::{Block, Event, Mask, Op, WideBlock};
 
 /// A copy of so many bytes as a block may have.
-#[inline(always)]
 pub(crate) fn block_of(bytes: &[u8]) -> Block
     requires { length bytes.now ≤ 64 }
     ensures { result ≡ record { items = bytes.now } }
@@ -24,7 +23,6 @@ pub(crate) fn block_of(bytes: &[u8]) -> Block
 }
 
 /// A copy of so many bytes as a block of level two may have.
-#[inline(always)]
 fn wide_block_of(bytes: &[u8]) -> WideBlock
     requires { length bytes.now ≤ 256 }
     ensures { result ≡ record { items = bytes.now } }

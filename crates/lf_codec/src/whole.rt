@@ -61,40 +61,32 @@ impl Progress {
         Some((event, 8 + fixed.len() + carried.len()))
     }
 
-    /// The event behind this head, as `whole_event` gives it. Each call names its kind, so that the
-    /// compiler makes the code of each kind apart, which moves no bytes but those of that kind.
-    fn event_behind(&self, head: Head, bytes: &[u8]) -> Option<(Event, usize)>
-        requires { IsInRange self.now.header }
-        ensures { IfSome result (λ found. IsWholeEvent self.now.header head.kind head.bank bytes.now found.0 found.1) }
-    {
-        match head.kind {
-            Kind::Issue => self.whole_event(Kind::Issue, head.bank, bytes),
-            Kind::Reply => self.whole_event(Kind::Reply, head.bank, bytes),
-            Kind::Hit => self.whole_event(Kind::Hit, head.bank, bytes),
-            Kind::Primary => self.whole_event(Kind::Primary, head.bank, bytes),
-            Kind::Merge => self.whole_event(Kind::Merge, head.bank, bytes),
-            Kind::Stall => self.whole_event(Kind::Stall, head.bank, bytes),
-            Kind::Fill1 => self.whole_event(Kind::Fill1, head.bank, bytes),
-            Kind::Evict1 => self.whole_event(Kind::Evict1, head.bank, bytes),
-            Kind::SecondHit => self.whole_event(Kind::SecondHit, head.bank, bytes),
-            Kind::SecondPrimary => self.whole_event(Kind::SecondPrimary, head.bank, bytes),
-            Kind::SecondStall => self.whole_event(Kind::SecondStall, head.bank, bytes),
-            Kind::Fill2 => self.whole_event(Kind::Fill2, head.bank, bytes),
-            Kind::Evict2 => self.whole_event(Kind::Evict2, head.bank, bytes),
-            Kind::Fence => self.whole_event(Kind::Fence, head.bank, bytes),
-            Kind::SecondMerge => self.whole_event(Kind::SecondMerge, head.bank, bytes),
-        }
-    }
-
     /// The next record and how many bytes it has, where the bytes have it whole and all of its checks
-    /// pass.
+    /// pass. Each call names its kind, so that the compiler makes the code of each kind apart, with no
+    /// test of another kind and no byte moved that the kind has not.
     pub(crate) fn whole_record(&self, bytes: &[u8]) -> Option<(Record, usize)>
         requires { IsSound self.now }
         ensures stage { IfSome result (λ found. self.now.stage ≡ stages.Head) }
         ensures whole { IfSome result (λ found. IsWhole self.now bytes.now found.0 found.1) }
     {
         let (head, rest) = self.whole_head(bytes)?;
-        let (event, len) = self.event_behind(head, rest)?;
+        let (event, len) = match head.kind {
+            Kind::Issue => self.whole_event(Kind::Issue, head.bank, rest)?,
+            Kind::Reply => self.whole_event(Kind::Reply, head.bank, rest)?,
+            Kind::Hit => self.whole_event(Kind::Hit, head.bank, rest)?,
+            Kind::Primary => self.whole_event(Kind::Primary, head.bank, rest)?,
+            Kind::Merge => self.whole_event(Kind::Merge, head.bank, rest)?,
+            Kind::Stall => self.whole_event(Kind::Stall, head.bank, rest)?,
+            Kind::Fill1 => self.whole_event(Kind::Fill1, head.bank, rest)?,
+            Kind::Evict1 => self.whole_event(Kind::Evict1, head.bank, rest)?,
+            Kind::SecondHit => self.whole_event(Kind::SecondHit, head.bank, rest)?,
+            Kind::SecondPrimary => self.whole_event(Kind::SecondPrimary, head.bank, rest)?,
+            Kind::SecondStall => self.whole_event(Kind::SecondStall, head.bank, rest)?,
+            Kind::Fill2 => self.whole_event(Kind::Fill2, head.bank, rest)?,
+            Kind::Evict2 => self.whole_event(Kind::Evict2, head.bank, rest)?,
+            Kind::Fence => self.whole_event(Kind::Fence, head.bank, rest)?,
+            Kind::SecondMerge => self.whole_event(Kind::SecondMerge, head.bank, rest)?,
+        };
         let item = Record {
             log: head.log,
             bank: head.bank,
