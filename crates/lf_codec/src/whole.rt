@@ -62,8 +62,8 @@ impl Progress {
     }
 
     /// The next record and how many bytes it has, where the bytes have it whole and all of its checks
-    /// pass. Each call names its kind, so that the compiler makes the code of each kind apart, with no
-    /// test of another kind and no byte moved that the kind has not.
+    /// pass. Each call names its kind: `whole_event` and what it calls are inlined, so that the code of a
+    /// kind has its own lengths and no test of another kind.
     pub(crate) fn whole_record(&self, bytes: &[u8]) -> Option<(Record, usize)>
         requires { IsSound self.now }
         ensures stage { IfSome result (λ found. self.now.stage ≡ stages.Head) }
