@@ -194,6 +194,10 @@ impl FlatMemory {
         requires { shape.now.block ≤ 64 }
         ensures { result ≡ bytes_eq bytes.now.items (masked (block_bytes shape.now (flat_of self.now) block) mask.0) }
     {
+        // A clean block is given up with no bytes.
+        if mask.0 == 0 {
+            return bytes.is_empty();
+        }
         let masked = self.masked(block, shape.block, mask.0);
         bytes.as_slice() == masked.as_slice()
     }
