@@ -1,7 +1,7 @@
 //! What a run keeps beside its lines and registers: memory, the queue of a port, ready replies.
 
-use lf_rules::Op;
-use lf_samples::{C1, TWO_PORTS_TWO_BANKS, memory};
+use lf_rules::{Mask, Op};
+use lf_samples::{C1, TWO_PORTS_TWO_BANKS, block, memory};
 use lf_state::{
     Data, FlatMemory, Ready, Request, drop_head, drop_ready, empty_queues, enqueue, head, push,
     ready_for,
@@ -35,6 +35,21 @@ fn a_load_finds_what_a_store_wrote(rt: HostRuntime) -> Result<(), Fail> {
     assert_eq!(rt; flat.value_of(&load).as_slice(), [0, 0, 7, 9].as_slice());
     assert_eq!(rt; flat.value_of(&store).len(), 0);
     assert_eq!(rt; store.store_mask(), 0b1100);
+    let again = Request::of_issue(&C1, Op::Store, 2, 1, 11, &[5]);
+    flat.accept(&again).ok().ok_or("no memory")?;
+    assert_eq!(rt; flat.value_of(&load).as_slice(), [0, 0, 7, 5].as_slice());
+    Ok(())
+}
+
+/// A clean block is given up with no bytes.
+#[test]
+fn a_block_carries_its_dirty_bytes(rt: HostRuntime) -> Result<(), Fail> {
+    let named = memory(rt.alloc(), &[(0, "0011223344556677")])?;
+    let flat = FlatMemory::new(rt.alloc(), &named).ok().ok_or("no memory")?;
+    assert!(rt; flat.carries(&C1, 0, Mask(0b110), &block("1122")));
+    assert!(rt; !flat.carries(&C1, 0, Mask(0b110), &block("1133")));
+    assert!(rt; flat.carries(&C1, 0, Mask(0), &block("")));
+    assert!(rt; !flat.carries(&C1, 0, Mask(0), &block("11")));
     Ok(())
 }
 

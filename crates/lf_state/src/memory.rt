@@ -1,6 +1,7 @@
 //! Flat memory, as far as a trace names it and stores wrote it. All other bytes are zero.
 
-ghost use Rattle.std.specs.Prelude.{◌≡◌, ℕ, ◌+◌, ◌/◌, ◌<◌, ◌≤◌, ◌||◌, ◌==◌, map, length, slice_index, bytes_eq, IfOk, OnOk, OnErr};
+ghost use Rattle.std.specs.Prelude.{◌≡◌, ℕ, ◌+◌, ◌-◌, ◌/◌, ◌<◌, ◌≤◌, ◌||◌, ◌==◌, map, length, slice_index, bytes_eq, IfOk, OnOk, OnErr};
+ghost use Rattle.std.specs.Int.{from_le_bytes, w64};
 ghost use Rattle.std.specs.List.{range_with_len, list_all, filter};
 ghost use Rattle.lf_rules.specs.Address.{agree_off, block_bytes, flat_memory, is_under, masked, wide_masked};
 ghost use Rattle.lf_rules.specs.InRange.{IsShape};
@@ -194,6 +195,10 @@ impl FlatMemory {
         requires { shape.now.block ≤ 64 }
         ensures { result ≡ bytes_eq bytes.now.items (masked (block_bytes shape.now (flat_of self.now) block) mask.0) }
     {
+        // A clean block is given up with no bytes.
+        if mask.0 == 0 {
+            return bytes.is_empty();
+        }
         let masked = self.masked(block, shape.block, mask.0);
         bytes.as_slice() == masked.as_slice()
     }
@@ -235,11 +240,49 @@ fn is_under(mask: u64, place: usize) -> bool
     mask >> place & 1 == 1
 }
 
+/// Eight bytes as one number.
+fn word(bytes: &[u8]) -> u64
+    requires { length bytes.now ≡ 8 }
+    ensures { result ≡ from_le_bytes w64 bytes.now }
+{
+    let mut all = [0; 8];
+    all.copy_from_slice(bytes);
+    u64::from_le_bytes(all)
+}
+
+/// How many of the first bytes are the stored ones, counted by whole words.
+fn same_words(bytes: &[u8], stored: &Bytes) -> usize
+    requires { length bytes.now ≤ 64 }
+    ensures within { result ≤ length bytes.now }
+    ensures same { (i : ℕ) → i < result → slice_index bytes.now i ≡ slice_index stored.now i }
+{
+    let mut at = 0;
+    while at + 8 <= bytes.len() {
+        if word(&bytes[at..at + 8]) != word(&stored[at..at + 8]) {
+            return at;
+        }
+        at += 8;
+    }
+    at
+}
+
+/// Whether the bytes from a place on are the stored ones, off the mask.
+fn agree_from(bytes: &[u8], stored: &Bytes, mask: u64, from: usize) -> bool
+    requires within { from ≤ length bytes.now }
+    requires small { length bytes.now ≤ 64 }
+    ensures { result ≡ list_all (λ i. is_under mask i || slice_index bytes.now i == slice_index stored.now i)
+        (range_with_len from (length bytes.now - from)) }
+{
+    (from..bytes.len()).all(|i| is_under(mask, i) || bytes[i] == stored[i])
+}
+
 fn agree_off(bytes: &[u8], stored: &Bytes, mask: u64) -> bool
     requires { length bytes.now ≤ 64 }
     ensures { result ≡ list_all (λ i. is_under mask i || slice_index bytes.now i == slice_index stored.now i) (range_with_len 0 (length bytes.now)) }
 {
-    (0..bytes.len()).all(|i| is_under(mask, i) || bytes[i] == stored[i])
+    // Most fills carry memory's bytes, so that whole words tell.
+    let from = same_words(bytes, stored);
+    agree_from(bytes, stored, mask, from)
 }
 
 fn masked(stored: &Bytes, size: u32, mask: u64) -> Block

@@ -1,4 +1,4 @@
-use Rattle.std.proofs.Common.{◌≡◌, ℕ, List, [], Option, Some, IsSome, slice_index, replicate, sym, ap, ◌∙◌}
+use Rattle.std.proofs.Common.{◌≡◌, ℕ, List, [], Option, IsSome, slice_index, replicate, sym, ap, ◌∙◌}
 use mathlib.Core.Path.{fun_ext}
 use Rattle.std.specs.Prelude.{unwrap_or, is_some, nat_eq}
 use Rattle.std.specs.Map.{lookup}
