@@ -1,5 +1,5 @@
 -- What a session takes from its reader, and what it answers.
-use Rattle.std.proofs.Common.{◌≡◌, ℕ, ◌-◌, ◌<◌, ◌≤◌, List, [], ◌∷◌, ◌++◌, length, Option, Some, None, Ok, Err, refl, sym, ap, ◌∙◌, subst, ◌⊎◌, inl, inr, ⊎_elim, arith}
+use Rattle.std.proofs.Common.{◌≡◌, ℕ, ◌-◌, ◌<◌, ◌≤◌, List, [], ◌∷◌, ◌++◌, length, Option, Some, None, Ok, Err, refl, sym, ap, ◌∙◌, subst, ◌⊎◌, inl, inr, ⊎_elim, ◌^◌, append_assoc, arith}
 use Rattle.std.specs.Prelude.{◌==◌, slice_index}
 use Rattle.std.specs.List.{AllByRecursion}
 use Rattle.std.proofs.lemmas.List.{append-nil, length-append, take-append-le, get_or_append_left, get_or-append_right}
@@ -21,6 +21,7 @@ use Rattle.std.proofs.lemmas.Bool.{cases_lt}
 use Rattle.lf_verdict.proofs.Pieces.{fault_told}
 use Rattle.lf_verdict.proofs.Traces.{fits_shape}
 use Rattle.lf_verdict.proofs.Answered.{limit_is_small}
+use Rattle.lf_verdict.proofs.Pendings.{none_pending}
 use Rattle.lf_codec.specs.Reading.{Reading, reading_of, fault_so_far, header_now, header_of}
 use Rattle.lf_codec.specs.Reader.{HasRead, RanOut, told, fault_in}
 use Rattle.lf_codec.specs.Trace.{IsTrace, FitsIn}
@@ -29,11 +30,11 @@ use Rattle.lf_verdict.specs.declared.answer.HeaderField.{HeaderField}
 use Rattle.lf_verdict.specs.declared.intake.Intake.{Intake}
 use Rattle.lf_verdict.specs.declared.intake.Stop.{Stop}
 use Rattle.lf_verdict.specs.declared.intake.Stop.TheVariants as stops
-use Rattle.lf_verdict.specs.declared.standing.Standing.{Standing}
+use Rattle.lf_verdict.specs.declared.pending.Pending.{Pending}
 use Rattle.lf_verdict.specs.Legal.{Agrees, IsTraceFor}
 use Rattle.lf_verdict.specs.Judging.{IsAnswer}
 use Rattle.lf_verdict.specs.Reading.{IsFaultOrWant}
-use Rattle.lf_verdict.specs.Standing.{MayCome, IsShort, StandsAfterAll, logs_so_far}
+use Rattle.lf_verdict.specs.Standing.{MayCome, MayAllCome, IsShort, StandsAfterAll, IsPendingAfter, logs_so_far}
 use Rattle.lf_verdict.specs.Session.{IsRunning, IsOfAnotherHeader, IsJudging, HasJudged, IsAt, HasTaken, IsLacking, IsDrained, HasFed, refusal_of, stop_told, IsRefusalSoFar, IsStopOf}
 use Rattle.lf_verdict.specs.declared.answer.Refusal.{Refusal}
 use Rattle.lf_codec.specs.declared.fault.Told.TheVariants as tolds
@@ -56,7 +57,7 @@ one_of_log xs r ys =
     let own = cond-true (r.log == r.log) (r ∷ of_log r.log ys) (of_log r.log ys) (eq-eqb r.log r.log refl) in
     omega (arith, ap length whole, length-append (of_log r.log xs) (of_log r.log (r ∷ ys)), ap length own)
 
-pub may_come : WhatIsReadFits → (shape : Shape) (bytes : List ℕ) (memory : List (ℕ × Bytes)) (records : List Record) (r : Reading) (running : Standing) (item : Record) (rest : List Record)
+pub may_come : WhatIsReadFits → (shape : Shape) (bytes : List ℕ) (memory : List (ℕ × Bytes)) (records : List Record) (r : Reading) (running : Pending) (item : Record) (rest : List Record)
     → HasRead r bytes memory records → IsRunning shape bytes memory records running → r.records ≡ item ∷ rest → MayCome shape records item
 may_come law shape bytes memory records r running item rest read run next =
     let fits = law bytes run.header read.are_bytes run.read in
@@ -70,10 +71,30 @@ may_come law shape bytes memory records r running item rest read run next =
 pub same_front : (records xs ys : List Record) (front taken : Record) → records ≡ front ∷ xs → records ≡ taken ∷ ys → front ≡ taken
 same_front records xs ys front taken stood first = ap (λ (rs : List Record). get_or rs 0 front) (sym stood ∙ first)
 
-pub running_more : (shape : Shape) (bytes : List ℕ) (memory : List (ℕ × Bytes)) (records more : List Record) (old new : Standing) → IsRunning shape bytes memory records old
-    → StandsAfterAll shape (flat_memory memory) more new → IsRunning shape bytes memory more new
-running_more shape bytes memory records more old new running stands =
-    record { header = running.header; read = running.read; agrees = running.agrees; whole = running.whole; stands = stands }
+pub running_more : (shape : Shape) (bytes : List ℕ) (memory : List (ℕ × Bytes)) (records more : List Record) (old new : Pending) → IsRunning shape bytes memory records old
+    → new.records.items ≡ [] → StandsAfterAll shape (flat_memory memory) more new.standing → IsRunning shape bytes memory more new
+running_more shape bytes memory records more old new running none stands =
+    record { header = running.header; read = running.read; agrees = running.agrees; whole = running.whole; stands = none_pending shape (flat_memory memory) more new none stands }
+
+-- all that the reader has found may come
+pub may_all_come : WhatIsReadFits → (shape : Shape) (bytes : List ℕ) (memory : List (ℕ × Bytes)) (records : List Record) (r : Reading) (running : Pending)
+    → HasRead r bytes memory records → IsRunning shape bytes memory records running → MayAllCome shape records r.records
+may_all_come law shape bytes memory records r running read run =
+    let fits = law bytes run.header read.are_bytes run.read in
+    let all : (reading_of bytes).records ≡ records ++ r.records = ap (λ (q : Reading). q.records) read.same in
+    go records r.records (subst (AllByRecursion (FitsIn run.header)) all fits.each)
+    (λ log. omega (arith, limit_is_small run.header.version, ap (λ (xs : List Record). length (of_log log xs)) all, fits.logs log))
+  where
+    go : (before rs : List Record) → AllByRecursion (FitsIn run.header) (before ++ rs) → ((log : ℕ) → length (of_log log (before ++ rs)) ≤ 2 ^ 24) → MayAllCome shape before rs
+    go before [] each few = tt
+    go before (item ∷ rs) each few =
+        let same : before ++ item ∷ rs ≡ (before ++ item ∷ []) ++ rs = sym (append_assoc before (item ∷ []) rs) in (
+          record {
+            fits = fits_shape shape run.header item run.agrees (middle (FitsIn run.header) before item rs each).fits;
+            room = omega (arith, one_of_log before item rs, few item.log);
+          },
+          go (before ++ item ∷ []) rs (subst (AllByRecursion (FitsIn run.header)) same each) (λ log. subst (λ (xs : List Record). length (of_log log xs) ≤ 2 ^ 24) same (few log)),
+        )
 
 -- ---- what a session answers
 
@@ -96,7 +117,7 @@ module _ (exact : ReadingIsExact) (shape : Shape) (bytes : List ℕ) (are_bytes 
     differs = subst (λ (g : Header). Differs shape g field) (same_header other.header other.read) other.differs;
   }
 
-  module _ (running : Standing) (run : IsRunning shape bytes memory records running) (drained : rest ≡ []) where
+  module _ (running : Pending) (run : IsRunning shape bytes memory records running) (drained : rest ≡ []) where
     none_left : left ≡ []
     none_left =
         let one = same_header run.header run.read in
@@ -215,3 +236,26 @@ judged_feed law s bytes piece records new was read fine = record { in_range = wa
     go Waiting h = h
     go (Running running) h = record { header = h.header; read = header_stays law bytes piece h.header h.read; agrees = h.agrees; whole = h.whole; stands = h.stands }
     go (Another field) h = record { header = h.header; read = header_stays law bytes piece h.header h.read; differs = h.differs }
+
+-- a piece was read, all records before it were judged, and its own wait
+pub fed_beside : HeaderIsOfItsBytes → WhatIsReadFits → (s : Intake) (bytes piece : List ℕ) (records : List Record) (r swapped : Reading) (old new : Pending) → s.stop ≡ None → HasJudged s bytes records
+    → IsRunning s.shape bytes s.memory.items records old → HasRead r (bytes ++ piece) s.memory.items records → r.fault ≡ None
+    → StandsAfterAll s.shape (flat_memory s.memory.items) records new.standing → new.records.items ≡ r.records
+    → swapped ≡ record r { records = [] } → HasRead swapped (bytes ++ piece) s.memory.items (records ++ r.records)
+    → HasFed (record s { reader = swapped; judging = Running new }) (bytes ++ piece)
+fed_beside law fits s bytes piece records r swapped old new going was run read fine stands gave rest has =
+    let header = header_stays law bytes piece run.header run.read in
+    let further : IsRunning s.shape (bytes ++ piece) s.memory.items records old = record { header = run.header; read = header; agrees = run.agrees; whole = run.whole; stands = run.stands } in
+    let may = may_all_come fits s.shape (bytes ++ piece) s.memory.items records r old read further in
+    let pending : IsPendingAfter s.shape (flat_memory s.memory.items) (records ++ r.records) new = record {
+      done = records;
+      all = ap (λ (xs : List Record). records ++ xs) (sym gave);
+      may_come = subst (MayAllCome s.shape records) (sym gave) may;
+      stands = stands;
+    } in
+    let judging : IsRunning s.shape (bytes ++ piece) s.memory.items (records ++ r.records) new =
+    record { header = run.header; read = header; agrees = run.agrees; whole = run.whole; stands = pending } in
+    let after = record s { reader = swapped; judging = Running new } in
+    let judged : HasJudged after (bytes ++ piece) (records ++ r.records) =
+    record { in_range = was.in_range; read = has; fine = ap (λ (q : Reading). q.fault) rest ∙ fine; judging = judging } in
+    subst (λ (stop : Option Stop). IsAt after (bytes ++ piece) stop) (sym going) ((records ++ r.records, judged), ap (λ (q : Reading). q.records) rest)

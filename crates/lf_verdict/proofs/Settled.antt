@@ -119,8 +119,8 @@ module _ (shape : Shape) (memory : FlatMemory) (records : List Record) (s : Stan
 
   port_here : (port : ℕ) → port < shape.ports → (judge : PortJudge) × ((outcome_at (map (λ (j : PortJudge). j.outcome) s.ports.items) port ≡ judge.outcome) × IsPortJudged shape port (of_log port records) judge)
   port_here port lt =
-      let at = map_at (λ (j : PortJudge). j.outcome) s.ports.items port (omega (arith, stands.count_ports)) in
-      (at.0, (at.1.1, subst (λ (j : PortJudge). IsPortJudged shape port (of_log port records) j) (at.1.0 at.0) (stands.ports port at.0 lt)))
+      let at = map_at (λ (j : PortJudge). j.outcome) s.ports.items port (omega (arith, stands.entered.count_ports)) in
+      (at.0, (at.1.1, subst (λ (j : PortJudge). IsPortJudged shape port (of_log port records) j) (at.1.0 at.0) (stands.entered.ports port at.0 lt)))
 
   -- what the loop over the banks reads
   pub bank_read : (bank : ℕ) (items : List BankJudge) (judge : BankJudge) → items ≡ s.banks.items → judge ≡ get_or items bank judge → bank < shape.banks
@@ -175,7 +175,7 @@ module _ (shape : Shape) (memory : FlatMemory) (records : List Record) (s : Stan
               };
         };
         of_ports = record {
-          count = long_ports ∙ stands.count_ports;
+          count = long_ports ∙ stands.entered.count_ports;
           each = λ port lt.
               let here = port_here port lt in
               subst (λ (log : List Record). IsPortOutcome shape log (outcome_at (map (λ (j : PortJudge). j.outcome) s.ports.items) port)) (sym (log_of_logs (shape.ports + shape.banks) port records (omega arith)))
@@ -192,7 +192,7 @@ module _ (shape : Shape) (memory : FlatMemory) (records : List Record) (s : Stan
               (bank_outcome shape (bank_part shape bank memory) bank gave here.0.step here.0.outcome here.1.1.bank_judged.judged).0);
         };
         ports_had = λ port h.
-            let here = port_here port (omega (arith, long_ports, stands.count_ports)) in
+            let here = port_here port (omega (arith, long_ports, stands.entered.count_ports)) in
             λ e. (port_outcome shape (of_log port records) here.0.step here.0.outcome here.1.1.judged).1 (sym here.1.0 ∙ e);
         banks_had = λ bank h.
             let lt : bank < shape.banks = omega (arith, long_banks, stands.count_banks) in
@@ -220,7 +220,7 @@ none_broken_more f xs at x inside read fine before part lt = ⊎_elim
 
 module _ (shape : Shape) (memory : FlatMemory) (records : List Record) (s : Standing) (stands : StandsAfterAll shape memory records s) (short : IsShort shape records) where
   pub few_logs : length s.logs.items ≤ 32
-  few_logs = omega (arith, entries_count (shape.ports + shape.banks) records s.logs.items stands.logs, short.in_range.ports.1, short.in_range.banks.1)
+  few_logs = omega (arith, entries_count (shape.ports + shape.banks) records s.logs.items stands.entered.logs, short.in_range.ports.1, short.in_range.banks.1)
 
   pub skeletons_short : All (λ (entries : List (ℕ × ℕ)). length entries ≤ 2 ^ 24) (skeletons_of (logs_so_far shape records))
   skeletons_short k d lt =

@@ -1,5 +1,5 @@
 -- How the parts of a trace stand while its records come.
-use Rattle.std.specs.Prelude.{◌≡◌, ℕ, ◌+◌, ◌<◌, ◌≤◌, ◌^◌, ◌++◌, List, [], ◌∷◌, length, slice_index_or, None}
+use Rattle.std.specs.Prelude.{◌≡◌, ◌≢◌, ℕ, ◌+◌, ◌<◌, ◌≤◌, ◌^◌, ◌++◌, List, [], ◌∷◌, length, slice_index_or, None, Result, OnOk}
 use Rattle.std.specs.List.{AllByRecursion}
 use Rattle.lf_rules.specs.declared.shape.Shape.{Shape}
 use Rattle.lf_rules.specs.declared.event.Record.{Record}
@@ -22,6 +22,7 @@ use Rattle.lf_replay.specs.Step.{StepView, IsStepAfter}
 use Rattle.lf_verdict.specs.declared.port_judge.PortJudge.{PortJudge}
 use Rattle.lf_verdict.specs.declared.bank_judge.BankJudge.{BankJudge}
 use Rattle.lf_verdict.specs.declared.standing.Standing.{Standing}
+use Rattle.lf_verdict.specs.declared.pending.Pending.{Pending}
 
 -- ---- one port
 
@@ -66,13 +67,22 @@ pub record MayCome (shape : Shape) (records : List Record) (r : Record) : Type 0
   pub fits : Fits shape r
   pub room : length (of_log r.log records) < 2 ^ 24
 
--- These records of the trace came: each log's entries are kept, each port and each bank was judged as far as its records go.
-pub record StandsAfterAll (shape : Shape) (memory : FlatMemory) (records : List Record) (s : Standing) : Type 0 where
-  pub fit : AllByRecursion (Fits shape) records
+-- ... and behind it each of these in its turn
+abbrev pub MayAllCome : Shape → List Record → List Record → Type 0
+MayAllCome shape records [] = Unit {0}
+MayAllCome shape records (r ∷ rs) = MayCome shape records r × MayAllCome shape (records ++ r ∷ []) rs
+
+-- These records of the trace came: each log's entries are kept, and each port was judged as far as its records go.
+pub record AreEntered (shape : Shape) (records : List Record) (s : Standing) : Type 0 where
   pub logs : joins.skeleton_lists s.logs.items ≡ skeletons_of (logs_of (shape.ports + shape.banks) records)
   pub count_ports : length s.ports.items ≡ shape.ports
-  pub count_banks : length s.banks.items ≡ shape.banks
   pub ports : (port : ℕ) (d : PortJudge) → port < shape.ports → IsPortJudged shape port (of_log port records) (slice_index_or s.ports.items port d)
+
+-- ... and so was each bank.
+pub record StandsAfterAll (shape : Shape) (memory : FlatMemory) (records : List Record) (s : Standing) : Type 0 where
+  pub fit : AllByRecursion (Fits shape) records
+  pub entered : AreEntered shape records s
+  pub count_banks : length s.banks.items ≡ shape.banks
   -- what each bank was judged on
   pub given : List (List Record)
   pub count_given : length given ≡ shape.banks
@@ -81,11 +91,41 @@ pub record StandsAfterAll (shape : Shape) (memory : FlatMemory) (records : List 
 
 -- The record came, and its port judged it; its bank has not seen it yet.
 pub record IsEntered (shape : Shape) (records : List Record) (r : Record) (before after : Standing) : Type 0 where
-  pub logs : joins.skeleton_lists after.logs.items ≡ skeletons_of (logs_of (shape.ports + shape.banks) (records ++ r ∷ []))
-  pub count_ports : length after.ports.items ≡ shape.ports
-  pub ports : (port : ℕ) (d : PortJudge) → port < shape.ports
-      → IsPortJudged shape port (of_log port (records ++ r ∷ [])) (slice_index_or after.ports.items port d)
+  pub entered : AreEntered shape (records ++ r ∷ []) after
   pub banks : after.banks.items ≡ before.banks.items
+
+-- ---- records that wait
+
+-- These records of the trace came: the last of them wait, and the parts stand where those before them lead.
+pub record IsPendingAfter (shape : Shape) (memory : FlatMemory) (records : List Record) (p : Pending) : Type 0 where
+  pub done : List Record
+  pub all : records ≡ done ++ p.records.items
+  pub may_come : MayAllCome shape done p.records.items
+  pub stands : StandsAfterAll shape memory done p.standing
+
+-- Each record was judged and none waits, unless memory ran out.
+abbrev pub JudgesAll : {F : Type 0} → Pending → Result (Unit {0}) F → Pending → Type 0
+JudgesAll before result after = (shape : Shape) (memory : FlatMemory) (records : List Record) → IsPendingAfter shape memory records before
+    → OnOk result (StandsAfterAll shape memory records after.standing × (after.records.items ≡ []))
+
+-- Some records of a trace came.
+abbrev pub CanBeJudged : Pending → Type 0
+CanBeJudged p = (shape : Shape) × ((memory : FlatMemory) × ((records : List Record) × IsPendingAfter shape memory records p))
+
+-- The bank can be judged on those of the records that are its own.
+pub record CanTakeAll (bank : ℕ) (records : List Record) (judge : BankJudge) : Type 0 where
+  pub shape : Shape
+  pub memory : FlatMemory
+  pub came : List Record
+  pub gave : List Record
+  pub fit : AllByRecursion (Fits shape) records
+  pub settled : IsBankSettled shape memory bank came gave judge
+
+-- It was, unless memory ran out.
+abbrev pub TakesAll : ℕ → List Record → BankJudge → BankJudge → Type 0
+TakesAll bank records before after = (shape : Shape) (memory : FlatMemory) (came gave : List Record) → AllByRecursion (Fits shape) records
+    → IsBankSettled shape memory bank came gave before → after.outcome ≢ outcomes.NoMemory
+    → (more : List Record) × IsBankSettled shape memory bank (came ++ of_bank bank records) more after
 
 -- the logs of the records that came
 abbrev pub logs_so_far : Shape → List Record → List (List Record)

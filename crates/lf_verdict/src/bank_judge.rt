@@ -9,8 +9,11 @@ ghost use Rattle.lf_rules.specs.InRange.{IsShape};
 ghost use Rattle.lf_logs.specs.Reordering.{HasOrdered, first_with};
 ghost use Rattle.lf_replay.specs.Bytes.{bank_part};
 ghost use Rattle.lf_replay.specs.Step.{IsForStep};
-ghost use Rattle.lf_verdict.specs.Standing.{IsBankAt, IsBankJudged, IsBankSettled};
+ghost use Rattle.std.specs.List.{AllByRecursion};
+ghost use Rattle.lf_rules.specs.Run.{of_bank};
+ghost use Rattle.lf_verdict.specs.Standing.{IsBankAt, IsBankJudged, IsBankSettled, CanTakeAll, TakesAll};
 
+use crate::copying::record_of;
 use lf_logs::Reorder;
 use lf_replay::{BankFault, Step};
 use lf_rules::{Memory, NoMemory, Outcome, Record, Shape};
@@ -123,5 +126,45 @@ impl BankJudge {
             return Ok(());
         }
         self.order.put(item)
+    }
+
+    /// The same of a record that stays with the caller: it is copied where its turn has not come.
+    fn take_lent(&mut self, item: &Record) -> Result<(), NoMemory>
+        requires { (shape : Shape) × ((memory : FlatMemory) × ((bank : ℕ) × ((came : List Record) × ((gave : List Record) ×
+            (Fits shape item.now × ((item.now.bank ≡ bank) × IsBankSettled shape memory bank came gave self.old)))))) }
+        ensures { (shape : Shape) (memory : FlatMemory) (bank : ℕ) (came : List Record) (gave : List Record) → Fits shape item.now → item.now.bank ≡ bank
+            → IsBankSettled shape memory bank came gave self.old
+            → OnOk result ((more : List Record) × IsBankSettled shape memory bank (came ++ item.now ∷ []) more self.new) }
+    {
+        if self.offer(item)? {
+            return Ok(());
+        }
+        self.order.put(record_of(item))
+    }
+
+    /// Judges those of the records that are of this bank, in their order.
+    fn take_own(&mut self, bank: usize, records: &[Record]) -> Result<(), NoMemory>
+        requires { CanTakeAll bank records.now self.old }
+        ensures { (shape : Shape) (memory : FlatMemory) (came : List Record) (gave : List Record) → AllByRecursion (Fits shape) records.now
+            → IsBankSettled shape memory bank came gave self.old
+            → OnOk result ((more : List Record) × IsBankSettled shape memory bank (came ++ of_bank bank records.now) more self.new) }
+    {
+        for item in records {
+            if usize::from(item.bank) == bank {
+                self.take_lent(item)?;
+            }
+        }
+        Ok(())
+    }
+
+    /// The same for a thread, which has nobody to tell that memory ran out: then that is the outcome.
+    pub fn take_all(&mut self, bank: usize, records: &[Record])
+        requires { CanTakeAll bank records.now self.old }
+        ensures { TakesAll bank records.now self.old self.new }
+    {
+        match self.take_own(bank, records) {
+            Ok(()) => {}
+            Err(NoMemory) => self.outcome = Outcome::NoMemory,
+        }
     }
 }

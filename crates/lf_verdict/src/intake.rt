@@ -1,24 +1,32 @@
 //! What a session keeps of the bytes that it was fed.
 
-ghost use Rattle.std.specs.Prelude.{◌≡◌, ◌++◌, ℕ, List, [], Some, None, IsSome, IfSome, IfOk, Ok, OnOk};
+ghost use Rattle.std.specs.Prelude.{◌≡◌, ◌<◌, ◌++◌, ℕ, List, [], Some, None, IsSome, IfSome, IfOk, Ok, OnOk};
 ghost use Rattle.lf_rules.specs.InRange.{IsShape};
 ghost use Rattle.lf_verdict.specs.Judging.{IsAnswer};
-ghost use Rattle.lf_verdict.specs.Session.{refusal_of, stop_told, IsStopOf, IsRunning, HasTaken, IsLackingIf, IsDrained, HasFed};
+ghost use Rattle.lf_verdict.specs.Session.{refusal_of, stop_told, IsStopOf, IsRunning, HasTaken, IsLackingIf, IsDrained, HasFed, HasReadOn};
 ghost use Rattle.lf_codec.specs.Reader.{fault_in, answer_of, bytes_taken, TakesSome};
 ghost use Rattle.lf_verdict.specs.declared.intake.Judging.TheVariants.{Waiting};
 ghost use Rattle.lf_rules.specs.declared.shape.Shape.{Shape};
 ghost use Rattle.lf_rules.specs.declared.event.Record.{Record};
 ghost use Rattle.lf_rules.specs.Fits.{Bytes};
 ghost use Rattle.lf_codec.specs.Reader.{HasRead};
+ghost use Rattle.std.specs.Thread.{IsSync};
+ghost use Rattle.lf_verdict.specs.Standing.{CanBeJudged, JudgesAll};
 
 use crate::answer::{HeaderField, Refusal, Verdict};
 use crate::header::differing;
+use crate::pending::Pending;
 use crate::standing::Standing;
 use lf_codec::{
     CodecCause, CodecFault, Reader, Told, exact_reading, faults_stand, header_of_bytes, read_so_far,
 };
 use lf_rules::{Memory, NoMemory, Shape};
 use std::alloc::Global;
+use std::mem;
+use std::thread::{Threads, join_mut};
+
+/// A shorter piece is not worth a thread.
+const SHORT: usize = 1024;
 
 /// What ended the judging.
 #[derive(Clone, Copy, Debug, PartialEq, Eq)]
@@ -32,7 +40,7 @@ pub enum Stop {
 pub enum Judging {
     /// The header and the memory are not whole yet.
     Waiting,
-    Running(Standing),
+    Running(Pending),
     /// The trace is of another hierarchy: its format alone is judged further.
     Another(HeaderField),
 }
@@ -68,6 +76,31 @@ fn stop_of(told: Told<CodecFault>) -> Stop
     }
 }
 
+/// Reads the piece in a thread of its own, beside the records that wait, which are judged in the others.
+fn read_beside<T: Threads + Sync>(
+    rt: &T,
+    threads: u32,
+    reader: &mut Reader,
+    piece: &[u8],
+    pending: &mut Pending,
+) -> (Result<(), Told<CodecFault>>, Result<(), NoMemory>)
+    requires threads { 0 < threads }
+    requires pending { CanBeJudged pending.old }
+    ensures read { HasReadOn reader.old piece.now result.0 reader.new }
+    ensures judged { JudgesAll pending.old result.1 pending.new }
+{
+    join_mut(
+        rt,
+        &mut || -> Result<(), Told<CodecFault>>
+            ensures { HasReadOn reader.entry.now piece.entry.now result reader.exit.now }
+        { reader.feed(piece) },
+        &mut || -> Result<(), NoMemory>
+            requires { IsSync T.row × ((0 < threads) × CanBeJudged pending.now) }
+            ensures { JudgesAll pending.entry.now result pending.exit.now }
+        { pending.judge_by(rt, threads as usize) },
+    )
+}
+
 /// Takes the records that the reader has found, so that it need not keep them.
 fn discard(reader: &mut Reader)
     ensures fault { reader.new.fault ≡ reader.old.fault }
@@ -78,22 +111,23 @@ fn discard(reader: &mut Reader)
 }
 
 /// Judges the records that the reader has found.
-fn judge_records(reader: &mut Reader, standing: &mut Standing) -> Result<(), NoMemory>
+fn judge_records(reader: &mut Reader, pending: &mut Pending) -> Result<(), NoMemory>
     requires { (shape : Shape) × ((bytes : List ℕ) × ((memory : List (ℕ × Bytes)) × ((records : List Record) ×
-        (HasRead reader.old bytes memory records × IsRunning shape bytes memory records standing.old)))) }
+        (HasRead reader.old bytes memory records × IsRunning shape bytes memory records pending.old)))) }
     ensures judged { (shape : Shape) (bytes : List ℕ) (memory : List (ℕ × Bytes)) (records : List Record) → HasRead reader.old bytes memory records
-        → IsRunning shape bytes memory records standing.old
-        → OnOk result ((more : List Record) × (HasRead reader.new bytes memory more × IsRunning shape bytes memory more standing.new)) }
+        → IsRunning shape bytes memory records pending.old
+        → OnOk result ((more : List Record) × (HasRead reader.new bytes memory more × IsRunning shape bytes memory more pending.new)) }
     ensures fault { reader.new.fault ≡ reader.old.fault }
     ensures drained { OnOk result (reader.new.records ≡ []) }
 {
     read_so_far();
+    pending.judge()?;
     while let Some(item) = reader.front() {
-        let is_judged = standing.offer(item)?;
+        let is_judged = pending.standing.offer(item)?;
         if is_judged {
             reader.drop_front();
         } else if let Some(item) = reader.take() {
-            standing.keep(item)?;
+            pending.standing.keep(item)?;
         }
     }
     Ok(())
@@ -173,7 +207,7 @@ impl Intake {
                 discard(&mut self.reader);
                 Ok(())
             }
-            Judging::Running(standing) => judge_records(&mut self.reader, standing),
+            Judging::Running(pending) => judge_records(&mut self.reader, pending),
         }
     }
 
@@ -195,7 +229,8 @@ impl Intake {
             return Ok(());
         }
         if self.memory.len() as u64 == u64::from(header.memory_count) {
-            self.judging = Judging::Running(Standing::new(self.alloc, &self.shape, &self.memory)?);
+            let standing = Standing::new(self.alloc, &self.shape, &self.memory)?;
+            self.judging = Judging::Running(Pending::new(self.alloc, standing));
         }
         Ok(())
     }
@@ -219,6 +254,63 @@ impl Intake {
                 Err(told) => return Err(told),
             }
         }
+        Ok(())
+    }
+
+    /// The same by so many workers: this piece is read beside the banks, which are judged on what the
+    /// piece before gave.
+    pub fn feed_by<T: Threads + Sync>(
+        &mut self,
+        rt: &T,
+        workers: u32,
+        piece: &[u8],
+    ) -> Result<(), Told<Refusal>>
+        requires { (bytes : List ℕ) × HasFed self.old bytes }
+        ensures shape { self.new.shape ≡ self.old.shape }
+        ensures fed { (bytes : List ℕ) → HasFed self.old bytes → HasFed self.new (bytes ++ piece.now) }
+        ensures told { result ≡ stop_told self.old.stop self.new.stop }
+        ensures failed { IsSome self.old.stop → self.new ≡ self.old }
+    {
+        if workers < 2 || piece.len() < SHORT || self.stop.is_some() {
+            return self.feed(piece);
+        }
+        self.feed_beside(rt, workers - 1, piece)
+    }
+
+    /// Reads the piece beside so many threads that judge what waits.
+    fn feed_beside<T: Threads + Sync>(
+        &mut self,
+        rt: &T,
+        threads: u32,
+        piece: &[u8],
+    ) -> Result<(), Told<Refusal>>
+        requires fed { (bytes : List ℕ) × HasFed self.old bytes }
+        requires going { self.old.stop ≡ None }
+        requires threads { 0 < threads }
+        ensures shape { self.new.shape ≡ self.old.shape }
+        ensures fed { (bytes : List ℕ) → HasFed self.old bytes → HasFed self.new (bytes ++ piece.now) }
+        ensures told { result ≡ stop_told self.old.stop self.new.stop }
+    {
+        let Judging::Running(_) = self.judging else {
+            return self.feed(piece);
+        };
+        let Judging::Running(mut pending) = mem::replace(&mut self.judging, Judging::Waiting) else {
+            unreachable!()
+        };
+        header_of_bytes();
+        read_so_far();
+        let (read, judged) = read_beside(rt, threads, &mut self.reader, piece, &mut pending);
+        if let Err(told) = read {
+            let stop = stop_of(told);
+            self.stop = Some(stop);
+            return Err(Told::Fault(refusal_of(stop)));
+        }
+        if let Err(NoMemory) = judged {
+            self.stop = Some(Stop::Memory);
+            return Err(Told::Fault(Refusal::Memory));
+        }
+        self.reader.swap_records(&mut pending.records);
+        self.judging = Judging::Running(pending);
         Ok(())
     }
 
@@ -262,10 +354,10 @@ impl Intake {
         if let Err(told) = self.reader.finish() {
             return Verdict::Refused(refusal_of(stop_of(told)));
         }
-        match &self.judging {
+        match &mut self.judging {
             Judging::Waiting => unreachable!(),
             Judging::Another(field) => Verdict::Refused(Refusal::Header(*field)),
-            Judging::Running(standing) => standing.verdict(self.alloc),
+            Judging::Running(pending) => pending.verdict(self.alloc),
         }
     }
 }

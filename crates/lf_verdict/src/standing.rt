@@ -5,7 +5,7 @@ ghost use Rattle.lf_rules.specs.declared.shape.Shape.{Shape};
 ghost use Rattle.lf_rules.specs.declared.event.Record.{Record};
 ghost use Rattle.lf_rules.specs.Address.{FlatMemory};
 ghost use Rattle.lf_verdict.specs.declared.standing.Standing.{Standing};
-ghost use Rattle.lf_verdict.specs.Standing.{MayCome, IsEntered, StandsAfterAll};
+ghost use Rattle.lf_verdict.specs.Standing.{MayCome, MayAllCome, AreEntered, IsEntered, StandsAfterAll};
 
 use crate::bank_judge::BankJudge;
 use crate::port_judge::PortJudge;
@@ -22,16 +22,29 @@ pub struct Standing {
 impl Standing {
     /// Keeps the entry of the next record, and judges it by its port where it stands in a port's log.
     fn enter(&mut self, item: &Record) -> Result<(), NoMemory>
-        requires { (shape : Shape) × ((memory : FlatMemory) × ((records : List Record) ×
-            (MayCome shape records item.now × StandsAfterAll shape memory records self.old))) }
-        ensures { (shape : Shape) (memory : FlatMemory) (records : List Record) → MayCome shape records item.now → StandsAfterAll shape memory records self.old
-            → OnOk result (IsEntered shape records item.now self.old self.new) }
+        requires { (shape : Shape) × ((records : List Record) × (MayCome shape records item.now × AreEntered shape records self.old)) }
+        ensures entered { (shape : Shape) (records : List Record) → MayCome shape records item.now → AreEntered shape records self.old
+            → OnOk result (AreEntered shape (records ++ item.now ∷ []) self.new) }
+        ensures banks { self.new.banks ≡ self.old.banks }
     {
         let log = usize::from(item.log);
         let at = self.logs[log].len() as u32;
         self.logs[log].push((item.bank, item.number))?;
         if log < self.ports.len() {
             self.ports[log].take(at, item);
+        }
+        Ok(())
+    }
+
+    /// The same of these records. Their banks have not seen them then.
+    pub fn enter_all(&mut self, records: &[Record]) -> Result<(), NoMemory>
+        requires { (shape : Shape) × ((before : List Record) × (MayAllCome shape before records.now × AreEntered shape before self.old)) }
+        ensures entered { (shape : Shape) (before : List Record) → MayAllCome shape before records.now → AreEntered shape before self.old
+            → OnOk result (AreEntered shape (before ++ records.now) self.new) }
+        ensures banks { self.new.banks ≡ self.old.banks }
+    {
+        for item in records {
+            self.enter(item)?;
         }
         Ok(())
     }
@@ -67,5 +80,18 @@ impl Standing {
             return Ok(());
         }
         self.banks[bank].take(item)
+    }
+
+    /// Judges the next record of the trace.
+    pub fn take(&mut self, item: Record) -> Result<(), NoMemory>
+        requires { (shape : Shape) × ((memory : FlatMemory) × ((records : List Record) ×
+            (MayCome shape records item × StandsAfterAll shape memory records self.old))) }
+        ensures { (shape : Shape) (memory : FlatMemory) (records : List Record) → MayCome shape records item → StandsAfterAll shape memory records self.old
+            → OnOk result (StandsAfterAll shape memory (records ++ item ∷ []) self.new) }
+    {
+        if self.offer(&item)? {
+            return Ok(());
+        }
+        self.keep(item)
     }
 }

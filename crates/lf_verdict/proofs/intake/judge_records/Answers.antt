@@ -1,40 +1,42 @@
-use Rattle.std.proofs.Common.{◌++◌, ◌∷◌, [], List, ap, ◌∙◌, subst, drop}
+use Rattle.std.proofs.Common.{◌++◌, ◌∷◌, [], List, ap, ◌∙◌, subst, drop, refl}
 use Rattle.lf_rules.specs.declared.event.Record.{Record}
 use Rattle.lf_rules.specs.Address.{flat_memory}
 use Rattle.lf_codec.specs.Reading.{Reading}
 use Rattle.lf_codec.specs.Reader.{HasRead}
 use Rattle.lf_verdict.specs.Standing.{IsEntered, MayCome}
 use Rattle.lf_verdict.proofs.Feeding.{front_of}
+use Rattle.lf_verdict.proofs.Pendings.{pending_done}
 use Rattle.lf_verdict.proofs.Sessions.{may_come, running_more, same_front}
 use Rattle.lf_verdict.proofs.intake.judge_records.Goals as goal
 
 pub offer-requires : goal.offer-requires
 offer-requires c =
     let r = c.requires in
-    let m = c.loop-item.invariant.1 r.0 r.1.0 r.1.1.0 r.1.1.1.0 r.1.1.1.1.0 r.1.1.1.1.1 in
+    let m = c.loop-item.invariant.read r.0 r.1.0 r.1.1.0 r.1.1.1.0 r.1.1.1.1.0 r.1.1.1.1.1 in
     let rest = drop 1 c.loop-item.reader.records in
-    (r.0, (flat_memory r.1.1.0, (m.0, (may_come c.read_so_far.ensures r.0 r.1.0 r.1.1.0 m.0 c.loop-item.reader c.loop-item.standing c.in-Some.item.now rest m.1.0 m.1.1 c.in-Some.ensures, m.1.1.stands))))
+    (r.0, (flat_memory r.1.1.0, (m.0, (may_come c.read_so_far.ensures r.0 r.1.0 r.1.1.0 m.0 c.loop-item.reader c.loop-item.pending c.in-Some.item.now rest m.1.0 m.1.1 c.in-Some.ensures, pending_done r.0 (flat_memory r.1.1.0) m.0 c.loop-item.pending m.1.1.stands c.loop-item.invariant.none))))
 
 pub keep-requires : goal.keep-requires
 keep-requires c =
     let r = c.requires in
-    let m = c.loop-item.invariant.1 r.0 r.1.0 r.1.1.0 r.1.1.1.0 r.1.1.1.1.0 r.1.1.1.1.1 in
+    let m = c.loop-item.invariant.read r.0 r.1.0 r.1.1.0 r.1.1.1.0 r.1.1.1.1.0 r.1.1.1.1.1 in
     let there = c.loop-item.reader.records in
     let front = c.in-Some.item.now in
     let taken = c.in-Some-take.item in
-    let may = may_come c.read_so_far.ensures r.0 r.1.0 r.1.1.0 m.0 c.loop-item.reader c.loop-item.standing front (drop 1 there) m.1.0 m.1.1 c.in-Some.ensures in
+    let may = may_come c.read_so_far.ensures r.0 r.1.0 r.1.1.0 m.0 c.loop-item.reader c.loop-item.pending front (drop 1 there) m.1.0 m.1.1 c.in-Some.ensures in
     let same = same_front there (drop 1 there) c.take.new.self.records front taken c.in-Some.ensures c.in-Some-take.ensures.first in
-    let entered = c.in_ok-is_judged.ensures.entered r.0 (flat_memory r.1.1.0) m.0 may m.1.1.stands (λ e. cc) in (
+    let stands = pending_done r.0 (flat_memory r.1.1.0) m.0 c.loop-item.pending m.1.1.stands c.loop-item.invariant.none in
+    let entered = c.in_ok-is_judged.ensures.entered r.0 (flat_memory r.1.1.0) m.0 may stands (λ e. cc) in (
       r.0,
       (
         flat_memory r.1.1.0,
         (
           m.0,
           (
-            c.loop-item.standing,
+            c.loop-item.pending.standing,
             (
               subst (MayCome r.0 m.0) same may,
-              (m.1.1.stands, subst (λ (item : Record). IsEntered r.0 m.0 item c.loop-item.standing c.offer.new.self) same entered),
+              (stands, subst (λ (item : Record). IsEntered r.0 m.0 item c.loop-item.pending.standing c.offer.new.self) same entered),
             ),
           ),
         ),
@@ -44,43 +46,59 @@ keep-requires c =
 pub loop-item-preserved : goal.loop-item-preserved
 loop-item-preserved c = let none = c.in_default-take.ensures.none in let some = c.in-Some.ensures in absurd (cc)
 
-pub loop-item-preserved-in-Continue-branch-2 : goal.loop-item-preserved-in-Continue-branch-2
-loop-item-preserved-in-Continue-branch-2 c = (
-  ap (λ (q : Reading). q.fault) c.take.ensures.rest ∙ c.loop-item.invariant.0,
-  λ shape bytes memory records read run.
-      let m = c.loop-item.invariant.1 shape bytes memory records read run in
+pub loop-item-preserved-in-Continue-branch-3 : goal.loop-item-preserved-in-Continue-branch-3
+loop-item-preserved-in-Continue-branch-3 c = record {
+  fault = ap (λ (q : Reading). q.fault) c.take.ensures.rest ∙ c.loop-item.invariant.fault;
+  none = c.loop-item.invariant.none;
+  read = λ shape bytes memory records read run.
+      let m = c.loop-item.invariant.read shape bytes memory records read run in
       let there = c.loop-item.reader.records in
       let front = c.in-Some.item.now in
       let taken = c.in-Some-take.item in
-      let may = may_come c.read_so_far.ensures shape bytes memory m.0 c.loop-item.reader c.loop-item.standing front (drop 1 there) m.1.0 m.1.1 c.in-Some.ensures in
+      let may = may_come c.read_so_far.ensures shape bytes memory m.0 c.loop-item.reader c.loop-item.pending front (drop 1 there) m.1.0 m.1.1 c.in-Some.ensures in
       let same = same_front there (drop 1 there) c.take.new.self.records front taken c.in-Some.ensures c.in-Some-take.ensures.first in
-      let entered = c.in_ok-is_judged.ensures.entered shape (flat_memory memory) m.0 may m.1.1.stands (λ e. cc) in (
+      let stands = pending_done shape (flat_memory memory) m.0 c.loop-item.pending m.1.1.stands c.loop-item.invariant.none in
+      let entered = c.in_ok-is_judged.ensures.entered shape (flat_memory memory) m.0 may stands (λ e. cc) in (
         m.0 ++ taken ∷ [],
         (
           c.in-Some-take.ensures.taken bytes memory m.0 m.1.0,
-          running_more shape bytes memory m.0 (m.0 ++ taken ∷ []) c.loop-item.standing c.keep.new.self m.1.1
-              (c.in_ok-keep.ensures shape (flat_memory memory) m.0 c.loop-item.standing (subst (MayCome shape m.0) same may) m.1.1.stands
-              (subst (λ (item : Record). IsEntered shape m.0 item c.loop-item.standing c.offer.new.self) same entered)),
+          running_more shape bytes memory m.0 (m.0 ++ taken ∷ []) c.loop-item.pending (record { standing = c.keep.new.self; records = c.loop-item.pending.records }) m.1.1 c.loop-item.invariant.none
+              (c.in_ok-keep.ensures shape (flat_memory memory) m.0 c.loop-item.pending.standing (subst (MayCome shape m.0) same may) stands
+              (subst (λ (item : Record). IsEntered shape m.0 item c.loop-item.pending.standing c.offer.new.self) same entered)),
         ),
-      ),
-)
+      );
+}
 
 pub loop-item-preserved-then-is_judged : goal.loop-item-preserved-then-is_judged
-loop-item-preserved-then-is_judged c = (
-  ap (λ (q : Reading). q.fault) c.drop_front.ensures.rest ∙ c.loop-item.invariant.0,
-  λ shape bytes memory records read run.
-      let m = c.loop-item.invariant.1 shape bytes memory records read run in
+loop-item-preserved-then-is_judged c = record {
+  fault = ap (λ (q : Reading). q.fault) c.drop_front.ensures.rest ∙ c.loop-item.invariant.fault;
+  none = c.loop-item.invariant.none;
+  read = λ shape bytes memory records read run.
+      let m = c.loop-item.invariant.read shape bytes memory records read run in
       let there = c.loop-item.reader.records in
       let front = c.in-Some.item.now in
-      let may = may_come c.read_so_far.ensures shape bytes memory m.0 c.loop-item.reader c.loop-item.standing front (drop 1 there) m.1.0 m.1.1 c.in-Some.ensures in (
+      let may = may_come c.read_so_far.ensures shape bytes memory m.0 c.loop-item.reader c.loop-item.pending front (drop 1 there) m.1.0 m.1.1 c.in-Some.ensures in (
         m.0 ++ front ∷ [],
         (
           subst (λ (rs : List Record). HasRead c.drop_front.new.self bytes memory (m.0 ++ rs)) (front_of there (drop 1 there) front c.in-Some.ensures) (c.drop_front.ensures.taken bytes memory m.0 m.1.0),
-          running_more shape bytes memory m.0 (m.0 ++ front ∷ []) c.loop-item.standing c.offer.new.self m.1.1
-              (c.in_ok-is_judged.ensures.judged shape (flat_memory memory) m.0 may m.1.1.stands c.if-is_judged.true),
+          running_more shape bytes memory m.0 (m.0 ++ front ∷ []) c.loop-item.pending (record { standing = c.offer.new.self; records = c.loop-item.pending.records }) m.1.1 c.loop-item.invariant.none
+              (c.in_ok-is_judged.ensures.judged shape (flat_memory memory) m.0 may (pending_done shape (flat_memory memory) m.0 c.loop-item.pending m.1.1.stands c.loop-item.invariant.none) c.if-is_judged.true),
         ),
-      ),
-)
+      );
+}
 
 pub returns-clause-judged : goal.returns-clause-judged
-returns-clause-judged c shape bytes memory records read run = c.loop-item.invariant.1 shape bytes memory records read run
+returns-clause-judged c shape bytes memory records read run = c.loop-item.invariant.read shape bytes memory records read run
+
+pub loop-item-init : goal.loop-item-init
+loop-item-init c =
+    let r = c.requires in record {
+      fault = refl;
+      none = (c.in_ok-judge.ensures r.0 (flat_memory r.1.1.0) r.1.1.1.0 r.1.1.1.1.1.stands).1;
+      read = λ shape bytes memory records read run.
+          let judged = c.in_ok-judge.ensures shape (flat_memory memory) records run.stands in
+          (records, (read, running_more shape bytes memory records records c.args.pending.now c.judge.new.self run judged.1 judged.0));
+    }
+
+pub judge-requires : goal.judge-requires
+judge-requires c = let r = c.requires in (r.0, (flat_memory r.1.1.0, (r.1.1.1.0, r.1.1.1.1.1.stands)))

@@ -39,7 +39,7 @@ verdict-requires c =
           m.0,
           (
             run.stands,
-            short_logs c.exact_reading.ensures s.shape bytes m.1.read.are_bytes c.in_default-finish.field-0 s.memory.items s.reader.memory m.0 s.reader.records trace c.in-Running.standing run drained m.1.in_range,
+            short_logs c.exact_reading.ensures s.shape bytes m.1.read.are_bytes c.in_default-finish.field-0 s.memory.items s.reader.memory m.0 s.reader.records trace c.in-Running.pending run drained m.1.in_range,
           ),
         ),
       ),
@@ -75,6 +75,6 @@ returns-in-Running-clause-answer c bytes given =
     let run = subst (λ (j : Judging). IsJudging s.shape bytes s.memory.items m.0 j) c.in-Running.is m.1.judging in
     let drained = subst (λ (j : Judging). IsDrained j s.reader s.memory.items) c.in-Running.is fed.1 in
     of_logs s.shape bytes s.memory.items (logs_so_far s.shape m.0) c.verdict.result
-    (trace_for c.exact_reading.ensures s.shape bytes m.1.read.are_bytes h s.memory.items s.reader.memory m.0 s.reader.records trace c.in-Running.standing run drained)
+    (trace_for c.exact_reading.ensures s.shape bytes m.1.read.are_bytes h s.memory.items s.reader.memory m.0 s.reader.records trace c.in-Running.pending run drained)
     (c.verdict.ensures s.shape (flat_memory s.memory.items) m.0 run.stands
-    (short_logs c.exact_reading.ensures s.shape bytes m.1.read.are_bytes h s.memory.items s.reader.memory m.0 s.reader.records trace c.in-Running.standing run drained m.1.in_range))
+    (short_logs c.exact_reading.ensures s.shape bytes m.1.read.are_bytes h s.memory.items s.reader.memory m.0 s.reader.records trace c.in-Running.pending run drained m.1.in_range))

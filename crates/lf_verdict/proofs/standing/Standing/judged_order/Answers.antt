@@ -26,18 +26,18 @@ join-requires-clause-few c =
 pub join-requires-clause-short : goal.join-requires-clause-short
 join-requires-clause-short c =
     let r = c.requires in
-    let same = ap joins.skeleton_lists c.deref.ensures.value ∙ r.1.1.1.0.logs in
+    let same = ap joins.skeleton_lists c.deref.ensures.value ∙ r.1.1.1.0.entered.logs in
     subst (All (λ (entries : List (ℕ × ℕ)). length entries ≤ 2 ^ 24)) (sym same) (skeletons_short r.0 r.1.0 r.1.1.0 c.args.self.now r.1.1.1.0 r.1.1.1.1)
 
 pub join-requires-clause-whole : goal.join-requires-clause-whole
 join-requires-clause-whole c =
     let r = c.requires in
-    let same = ap joins.skeleton_lists c.deref.ensures.value ∙ r.1.1.1.0.logs in
+    let same = ap joins.skeleton_lists c.deref.ensures.value ∙ r.1.1.1.0.entered.logs in
     subst BanksAreWhole (sym same) (skeletons_whole r.0 r.1.0 r.1.1.0 c.args.self.now r.1.1.1.0 r.1.1.1.1 (c.in_ok-judge_numbers.ensures.whole r.0 r.1.0 r.1.1.0 r.1.1.1.0))
 
 pub returns-in-Ok-clause-order : goal.returns-in-Ok-clause-order
 returns-in-Ok-clause-order c shape memory records stands short =
-    let same = ap joins.skeleton_lists c.deref.ensures.value ∙ stands.logs in
+    let same = ap joins.skeleton_lists c.deref.ensures.value ∙ stands.entered.logs in
     record {
       parts = c.in_ok-judge_rules.ensures.run shape memory records stands (c.in_ok-judge_numbers.ensures.whole shape memory records stands);
       least = subst (λ (ls : List (List (ℕ × ℕ))). IsLeastOrder ls c.in-Ok.order.items) same c.in-Ok.ensures.least;
@@ -47,7 +47,7 @@ pub returns-in-Err-Cycle-clause-fault : goal.returns-in-Err-Cycle-clause-fault
 returns-in-Err-Cycle-clause-fault c shape memory records stands short =
     let ring = rw c.in-Err-Cycle.field-0-is at c.in-Err-Cycle.ensures.ring in
     let shown = rw c.in-Err-Cycle.field-0-is at c.in-Err-Cycle.ensures.shown in
-    let same = ap joins.skeleton_lists c.deref.ensures.value ∙ stands.logs in
+    let same = ap joins.skeleton_lists c.deref.ensures.value ∙ stands.entered.logs in
     record {
       parts = c.in_ok-judge_rules.ensures.run shape memory records stands (c.in_ok-judge_numbers.ensures.whole shape memory records stands);
       stuck = subst (λ (ls : List (List (ℕ × ℕ))). IsStuckRing ls c.in-Err-Cycle.ring.items) same ring;

@@ -13,10 +13,12 @@ returns c =
     let shape = c.args.shape.now in
     record {
       fit = tt;
-      logs = c.in_ok-logs.ensures ∙ no_entries 0 (shape.ports + shape.banks);
-      count_ports = c.in_ok-ports.ensures.count;
+      entered = record {
+        logs = c.in_ok-logs.ensures ∙ no_entries 0 (shape.ports + shape.banks);
+        count_ports = c.in_ok-ports.ensures.count;
+        ports = c.in_ok-ports.ensures.each;
+      };
       count_banks = c.in_ok-banks.ensures.count;
-      ports = c.in_ok-ports.ensures.each;
       given = replicate {A = List Record} shape.banks [];
       count_given = length-nothing Record shape.banks;
       banks = λ bank d lt.

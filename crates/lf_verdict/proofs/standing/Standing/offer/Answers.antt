@@ -6,7 +6,8 @@ use Rattle.lf_rules.specs.Order.{log_at}
 use Rattle.lf_replay.specs.Bytes.{bank_part}
 use Rattle.lf_verdict.specs.declared.bank_judge.BankJudge.{BankJudge}
 use Rattle.lf_verdict.specs.Standing.{IsEntered, StandsAfterAll}
-use Rattle.lf_verdict.proofs.Standings.{bank_before, entered_same, stands_more}
+use Rattle.std.specs.Global.{Vec}
+use Rattle.lf_verdict.proofs.Standings.{bank_before, entered_by, entered_same, stands_more}
 use Rattle.lf_verdict.proofs.standing.Standing.offer.Goals as goal
 
 pub offer-requires : goal.offer-requires
@@ -17,8 +18,8 @@ offer-requires c =
     let item = c.args.item.now in
     let i = c.from-bank.result in
     let v = c.index_mut.result.now in
-    let is = c.in_ok-enter.ensures r.0 r.1.0 r.1.1.0 may stands in
-    let within : item.bank < r.0.banks = omega (arith, c.from-bank.ensures, c.len.ensures, ap length is.banks, stands.count_banks, c.if-bank-len.false) in (
+    let banks = ap (λ (v : Vec BankJudge). v.items) c.in_ok-enter.ensures.banks in
+    let within : item.bank < r.0.banks = omega (arith, c.from-bank.ensures, c.len.ensures, ap length banks, stands.count_banks, c.if-bank-len.false) in (
       r.0,
       (
         bank_part r.0 item.bank r.1.0,
@@ -32,7 +33,7 @@ offer-requires c =
                 may.fits,
                 (
                   refl,
-                  bank_before r.0 r.1.0 r.1.1.0 c.args.self.now stands item may i v c.from-bank.ensures (c.index_mut.ensures.value ∙ ap (λ (js : List BankJudge). get_or js i v) is.banks) within,
+                  bank_before r.0 r.1.0 r.1.1.0 c.args.self.now stands item may i v c.from-bank.ensures (c.index_mut.ensures.value ∙ ap (λ (js : List BankJudge). get_or js i v) banks) within,
                 ),
               ),
             ),
@@ -46,7 +47,7 @@ returns-clause-judged c shape memory records may stands =
     let item = c.args.item.now in
     let i = c.from-bank.result in
     let v = c.index_mut.result.now in
-    let is = c.in_ok-enter.ensures shape memory records may stands in
+    let is = entered_by shape records c.args.item.now c.args.self.now c.enter.new.self (c.in_ok-enter.ensures.entered shape records may stands.entered) c.in_ok-enter.ensures.banks in
     let within : item.bank < shape.banks = omega (arith, c.from-bank.ensures, c.len.ensures, ap length is.banks, stands.count_banks, c.if-bank-len.false) in
     IfOk-weaker c.offer.result _ (λ judged. IsTrue judged → StandsAfterAll shape memory (records ++ item ∷ []) _)
     (λ judged settled so. stands_more shape memory records c.args.self.now stands item may c.enter.new.self _ i c.offer.new.self is within refl c.from-bank.ensures (settled so))
@@ -56,7 +57,7 @@ returns-clause-judged c shape memory records may stands =
 pub returns-clause-entered : goal.returns-clause-entered
 returns-clause-entered c shape memory records may stands =
     let v = c.index_mut.result.now in
-    let is = c.in_ok-enter.ensures shape memory records may stands in
+    let is = entered_by shape records c.args.item.now c.args.self.now c.enter.new.self (c.in_ok-enter.ensures.entered shape records may stands.entered) c.in_ok-enter.ensures.banks in
     IfOk-weaker c.offer.result _ (λ judged. ¬ IsTrue judged → IsEntered shape records c.args.item.now c.args.self.now _)
     (λ judged same so. entered_same shape memory records c.args.self.now stands c.args.item.now may c.enter.new.self _ c.from-bank.result c.offer.new.self v is refl (same so) c.index_mut.ensures.value)
     c.offer.ensures.unchanged

@@ -1,0 +1,13 @@
+use Rattle.std.proofs.Common.{◌++◌, List, take}
+use Rattle.std.specs.List.{AllByRecursion}
+use Rattle.lf_rules.specs.declared.shape.Shape.{Shape}
+use Rattle.lf_rules.specs.declared.event.Record.{Record}
+use Rattle.lf_rules.specs.Address.{FlatMemory}
+use Rattle.lf_rules.specs.Fits.{Fits}
+use Rattle.lf_rules.specs.Run.{of_bank}
+use Rattle.lf_verdict.specs.Standing.{IsBankSettled}
+use Rattle.lf_verdict.proofs.bank_judge.BankJudge.take_own.Given as goal
+
+abbrev pub invariant-loop-item : goal.invariant-loop-item
+invariant-loop-item l = (shape : Shape) (memory : FlatMemory) (came gave : List Record) → AllByRecursion (Fits shape) l.records → IsBankSettled shape memory l.bank came gave l.fn.self
+    → (more : List Record) × IsBankSettled shape memory l.bank (came ++ of_bank l.bank (take l.item-index l.records)) more l.self

@@ -1,0 +1,42 @@
+use Rattle.std.proofs.Common.{◌++◌, List, take, refl, sym, ◌∙◌, subst}
+use Rattle.std.proofs.lemmas.List.{append-nil, take_all}
+use Rattle.lf_rules.specs.declared.event.Record.{Record}
+use Rattle.lf_verdict.specs.Standing.{AreEntered}
+use Rattle.lf_verdict.proofs.Pendings.{may_at, one_more}
+use Rattle.lf_verdict.proofs.standing.Standing.enter_all.Goals as goal
+
+pub loop-item-init : goal.loop-item-init
+loop-item-init c = record {
+  entered = λ shape before all entered. subst (λ (rs : List Record). AreEntered shape rs c.args.self.now) (sym (append-nil before)) entered;
+  banks = refl;
+}
+
+pub enter-requires : goal.enter-requires
+enter-requires c =
+    let r = c.requires in
+    let k = c.loop-item.item-index in (
+      r.0,
+      (
+        r.1.0 ++ take k c.args.records.now,
+        (
+          may_at r.0 r.1.0 c.args.records.now k c.item-item.result r.1.1.0 c.loop-item-test.true c.item-item.is,
+          c.loop-item.invariant.entered r.0 r.1.0 r.1.1.0 r.1.1.1,
+        ),
+      ),
+    )
+
+pub loop-item-preserved : goal.loop-item-preserved
+loop-item-preserved c =
+    let rs = c.args.records.now in
+    let k = c.loop-item.item-index in
+    let item = c.item-item.result in record {
+      entered = λ shape before all entered.
+          subst (λ (xs : List Record). AreEntered shape xs c.enter.new.self) (one_more before rs k item c.loop-item-test.true c.item-item.is)
+          (c.in_ok-enter.ensures.entered shape (before ++ take k rs) (may_at shape before rs k item all c.loop-item-test.true c.item-item.is) (c.loop-item.invariant.entered shape before all entered));
+      banks = c.in_ok-enter.ensures.banks ∙ c.loop-item.invariant.banks;
+    }
+
+pub returns-clause-entered : goal.returns-clause-entered
+returns-clause-entered c shape before all entered =
+    subst (λ (xs : List Record). AreEntered shape (before ++ xs) c.loop-item.self) (take_all c.loop-item.item-index c.args.records.now c.loop-item-test.false)
+    (c.loop-item.invariant.entered shape before all entered)

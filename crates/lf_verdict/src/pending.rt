@@ -1,0 +1,112 @@
+//! Records that were read and are not judged yet.
+
+ghost use Rattle.std.specs.Prelude.{◌≡◌, ◌≢◌, ◌<◌, ℕ, List, [], length, slice_index_or, IsTrue};
+ghost use Rattle.lf_rules.specs.declared.outcome.Outcome.{Outcome};
+ghost use Rattle.lf_verdict.specs.declared.bank_judge.BankJudge.{BankJudge};
+ghost use Rattle.lf_rules.specs.declared.shape.Shape.{Shape};
+ghost use Rattle.lf_rules.specs.declared.event.Record.{Record};
+ghost use Rattle.lf_rules.specs.Address.{FlatMemory};
+ghost use Rattle.lf_verdict.specs.Judging.{IsLogsVerdict};
+ghost use Rattle.lf_verdict.specs.Standing.{logs_so_far, IsShort, IsPendingAfter, CanBeJudged, JudgesAll, CanTakeAll, TakesAll};
+
+use crate::answer::{Refusal, Verdict};
+use crate::bank_judge::BankJudge;
+use crate::standing::Standing;
+use lf_rules::{NoMemory, Outcome, Record};
+use std::alloc::Global;
+use std::collections::VecDeque;
+use std::thread::{Threads, for_each_mut};
+
+/// How the parts of a trace stand, and the records that were read and wait to be judged.
+#[derive(Drop)]
+pub struct Pending {
+    pub standing: Standing,
+    pub records: VecDeque<Record>,
+}
+
+/// Each bank is judged on those of the records that are its own, in so many threads.
+fn judge_banks<R: Threads + Sync>(
+    rt: &R,
+    banks: &mut [BankJudge],
+    threads: usize,
+    records: &[Record],
+)
+    requires threads { 0 < threads }
+    requires each { (bank : ℕ) (d : BankJudge) → bank < length banks.old → CanTakeAll bank records.now (slice_index_or banks.old bank d) }
+    ensures { (bank : ℕ) (d : BankJudge) → bank < length banks.old → TakesAll bank records.now (slice_index_or banks.old bank d) (slice_index_or banks.new bank d) }
+{
+    for_each_mut(
+        rt,
+        banks,
+        threads,
+        &|bank: usize, judge: &mut BankJudge|
+            requires { CanTakeAll bank records.now judge.now }
+            ensures { TakesAll bank records.entry.now judge.entry.now judge.exit.now }
+        { judge.take_all(bank, records) },
+    );
+}
+
+/// Whether memory ran out for a bank.
+fn ran_out(banks: &[BankJudge]) -> bool
+    ensures { ¬ IsTrue result → (bank : ℕ) (d : BankJudge) → bank < length banks.now → (slice_index_or banks.now bank d).outcome ≢ Outcome.NoMemory }
+{
+    for judge in banks {
+        if let Outcome::NoMemory = judge.outcome {
+            return true;
+        }
+    }
+    false
+}
+
+impl Pending {
+    /// No record waits.
+    pub fn new(alloc: Global, standing: Standing) -> Pending
+        ensures standing { result.standing ≡ standing }
+        ensures none { result.records.items ≡ [] }
+    {
+        Pending {
+            standing,
+            records: VecDeque::new(alloc),
+        }
+    }
+
+    /// Judges the records that wait.
+    pub fn judge(&mut self) -> Result<(), NoMemory>
+        requires { CanBeJudged self.old }
+        ensures { JudgesAll self.old result self.new }
+    {
+        while let Some(item) = self.records.pop_front() {
+            self.standing.take(item)?;
+        }
+        Ok(())
+    }
+
+    /// The same, where the banks are judged in so many threads.
+    pub fn judge_by<R: Threads + Sync>(&mut self, rt: &R, threads: usize) -> Result<(), NoMemory>
+        requires threads { 0 < threads }
+        requires pending { CanBeJudged self.old }
+        ensures { JudgesAll self.old result self.new }
+    {
+        let records: &[Record] = self.records.make_contiguous();
+        self.standing.enter_all(records)?;
+        judge_banks(rt, self.standing.banks.as_mut_slice(), threads, records);
+        if ran_out(&self.standing.banks) {
+            return Err(NoMemory);
+        }
+        self.records.clear();
+        Ok(())
+    }
+
+    /// The verdict of the records so far, as those of a whole trace.
+    pub fn verdict(&mut self, alloc: Global) -> Verdict
+        requires { (shape : Shape) × ((memory : FlatMemory) × ((records : List Record) ×
+            (IsPendingAfter shape memory records self.old × IsShort shape records))) }
+        ensures { (shape : Shape) (memory : FlatMemory) (records : List Record) → IsPendingAfter shape memory records self.old → IsShort shape records
+            → IsLogsVerdict shape memory (logs_so_far shape records) result }
+    {
+        match self.judge() {
+            Ok(()) => self.standing.verdict(alloc),
+            Err(NoMemory) => Verdict::Refused(Refusal::Memory),
+        }
+    }
+}
