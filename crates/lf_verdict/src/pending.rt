@@ -75,6 +75,18 @@ impl Pending {
         requires { CanBeJudged self.old }
         ensures { JudgesAll self.old result self.new }
     {
+        if self.records.is_empty() {
+            return Ok(());
+        }
+        self.judge_waiting()
+    }
+
+    /// Judges the records that wait. It is apart from `judge`, since it has a place for a record, which
+    /// costs time where none waits.
+    fn judge_waiting(&mut self) -> Result<(), NoMemory>
+        requires { CanBeJudged self.old }
+        ensures { JudgesAll self.old result self.new }
+    {
         while let Some(item) = self.records.pop_front() {
             self.standing.take(item)?;
         }

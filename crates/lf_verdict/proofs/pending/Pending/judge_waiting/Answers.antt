@@ -1,6 +1,6 @@
 use Rattle.std.proofs.Common.{◌≡◌, [], rules}
 use Rattle.lf_verdict.proofs.Pendings.{next_may, pending_more, pending_done}
-use Rattle.lf_verdict.proofs.pending.Pending.judge.Goals as goal
+use Rattle.lf_verdict.proofs.pending.Pending.judge_waiting.Goals as goal
 
 pub take-requires : goal.take-requires
 take-requires c =
