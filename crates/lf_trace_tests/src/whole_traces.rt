@@ -7,6 +7,7 @@ use lf_samples::{
     records_at,
 };
 use std::alloc::Global;
+use std::collections::VecDeque;
 use std::process::Abort;
 use std::test::Fail;
 
@@ -115,6 +116,27 @@ fn record_by_record(rt: HostRuntime) -> Result<(), Fail> {
     let fault = CodecFault { cause, offset: 132 };
     assert_eq!(rt; reader.feed_some(&[0]), Err(Told::Fault(fault)));
     assert_eq!(rt; reader.feed_some(&[0]), Err(Told::Failed(fault)));
+    Ok(())
+}
+
+/// All records at once, in their order. The queue that the reader takes for them is the next to be filled.
+#[test]
+fn records_all_at_once(rt: HostRuntime) -> Result<(), Fail> {
+    let records = records(rt.alloc(), &C1, &[LOAD, LOADED])?;
+    let mut reader = Reader::new(rt.alloc());
+    let mut given = VecDeque::new(rt.alloc());
+    let (front, back) = LOAD_MISSES_BOTH_LEVELS.split_at(100);
+    reader.feed(front)?;
+    reader.swap_records(&mut given);
+    assert_eq!(rt; reader.front(), None);
+    let mut later = VecDeque::new(rt.alloc());
+    reader.feed(back)?;
+    reader.swap_records(&mut later);
+    given.append(&mut later)?;
+    assert!(rt; given.iter().eq(records.iter()));
+    reader.swap_records(&mut later);
+    assert!(rt; later.is_empty());
+    assert_eq!(rt; reader.finish()?, ONE_BANK);
     Ok(())
 }
 
