@@ -14,6 +14,8 @@ mod later_versions;
 #[cfg(test)]
 mod mixtures;
 #[cfg(test)]
+mod several_workers;
+#[cfg(test)]
 mod verdicts;
 #[cfg(test)]
 mod workers;

@@ -1,0 +1,96 @@
+//! Sessions that are fed by several workers answer as one that is fed by one.
+
+ghost use Rattle.lf_rules.specs.InRange.{IsShape};
+
+use crate::verdicts::{format_fault, port_fault};
+use lf_codec::CodecCause;
+use lf_rules::{Rule, Shape};
+use lf_samples::{C1, LOAD, LOADED, trace_of};
+use lf_verdict::{Fault, Session, Verdict};
+use std::alloc::Global;
+use std::process::Abort;
+use std::test::Fail;
+use std::thread::Threads;
+
+/// A load that hits, and its reply.
+const HIT: &str = "L 0 8@0, H 0, R 0=0000000000000000";
+
+/// Pieces are long enough for several workers, and a trace has many.
+const PIECE: usize = 2048;
+
+/// The bytes of a load that misses both levels, of 300 that hit, and of these events.
+fn hits_and(alloc: Global, last: &str) -> Result<Vec<u8>, Fail> {
+    let mut parts = Vec::new(alloc);
+    parts.push(LOAD)?;
+    parts.push(LOADED)?;
+    for _ in 0..300 {
+        parts.push(HIT)?;
+    }
+    parts.push(last)?;
+    trace_of(alloc, &C1, &parts)
+}
+
+/// The answer of a session that is fed by so many workers; each third piece is fed by one.
+fn by_workers<T: AllocGlobal + Threads + Sync>(
+    rt: &T,
+    shape: &Shape,
+    bytes: &[u8],
+    workers: u32,
+) -> Verdict
+    requires { IsShape shape.now }
+{
+    let mut session = Session::for_shape(rt.alloc(), shape);
+    for (at, piece) in bytes.chunks(PIECE).enumerate() {
+        let _ = if at % 3 == 2 {
+            session.feed(piece)
+        } else {
+            session.feed_by(rt, workers, piece)
+        };
+    }
+    session.finish()
+}
+
+/// Fails where a number of workers gives another verdict.
+fn assert_by_workers<T: Abort + AllocGlobal + Threads + Sync>(
+    rt: &T,
+    bytes: &[u8],
+    verdict: &Verdict,
+) -> Result<(), Fail> {
+    for workers in [1u32, 2, 4, 16] {
+        let answer = by_workers(rt, &C1, bytes, workers);
+        assert_eq!(rt; answer, *verdict);
+    }
+    Ok(())
+}
+
+#[test]
+fn legal_by_several_workers(rt: HostRuntime) -> Result<(), Fail> {
+    let bytes = hits_and(rt.alloc(), HIT)?;
+    for workers in [1u32, 2, 4, 16] {
+        match by_workers(&rt, &C1, &bytes, workers) {
+            Verdict::Yes { events, order } => {
+                assert_eq!(rt; events, 909);
+                assert_eq!(rt; order.len(), 909);
+            }
+            _ => return Err(Fail::from("no yes")),
+        }
+    }
+    Ok(())
+}
+
+#[test]
+fn faults_by_several_workers(rt: HostRuntime) -> Result<(), Fail> {
+    let wrong_reply = hits_and(rt.alloc(), "L 0 8@0, H 0, R 0=0000000000000001")?;
+    let verdict = Verdict::No(Fault::Bank {
+        bank: 0,
+        number: 908,
+        rule: Rule::ReplyData,
+    });
+    assert_by_workers(&rt, &wrong_reply, &verdict)?;
+    let busy_tag = hits_and(rt.alloc(), "L 0 8@0, L 0 8@0")?;
+    assert_by_workers(&rt, &busy_tag, &port_fault(603, Rule::TagBusy))?;
+    let mut cut = hits_and(rt.alloc(), HIT)?;
+    let _ = cut.pop();
+    let start = cut.len() as u64 - 7;
+    assert_by_workers(&rt, &cut, &format_fault(CodecCause::Truncated, start))
+}
