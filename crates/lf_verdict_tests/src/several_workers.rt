@@ -91,6 +91,6 @@ fn faults_by_several_workers(rt: HostRuntime) -> Result<(), Fail> {
     assert_by_workers(&rt, &busy_tag, &port_fault(603, Rule::TagBusy))?;
     let mut cut = hits_and(rt.alloc(), HIT)?;
     let _ = cut.pop();
-    let start = cut.len() as u64 - 7;
+    let start = (cut.len() as u64).saturating_sub(7);
     assert_by_workers(&rt, &cut, &format_fault(CodecCause::Truncated, start))
 }
