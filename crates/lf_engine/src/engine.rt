@@ -26,6 +26,7 @@ use lf_rules::Shape;
 use lf_verdict::{Refusal, Session, Verdict, is_worker_count, no_has_no_run};
 use std::alloc::{AllocError, Global};
 use std::io::{Read, Write};
+use std::thread::Threads;
 
 /// The most bytes that one read asks for.
 pub const PIECE: usize = 65536;
@@ -38,7 +39,7 @@ pub fn are_workers(workers: u32) -> bool
 }
 
 /// Reads and judges.
-fn judge<T: AllocGlobal, R: Read>(
+fn judge<T: AllocGlobal + Threads + Sync, R: Read>(
     rt: &T,
     reader: &mut Counted<R>,
     shape: &Shape,
@@ -55,7 +56,14 @@ fn judge<T: AllocGlobal, R: Read>(
         return Ok(Verdict::Refused(Refusal::Memory));
     };
     let mut session = Session::for_shape(rt.alloc(), shape);
-    match gather(reader, buffer.as_mut_slice(), &mut session, turns) {
+    match gather(
+        rt,
+        reader,
+        buffer.as_mut_slice(),
+        &mut session,
+        workers,
+        turns,
+    ) {
         Ok(()) => Ok(session.finish()),
         Err(Stop::Memory) => Ok(Verdict::Refused(Refusal::Memory)),
         Err(Stop::Read) => Err(RunFault::Read),
@@ -64,7 +72,7 @@ fn judge<T: AllocGlobal, R: Read>(
 }
 
 /// Judges the workers, and only then reads.
-fn decide<T: AllocGlobal, R: Read>(
+fn decide<T: AllocGlobal + Threads + Sync, R: Read>(
     rt: &T,
     reader: &mut Counted<R>,
     shape: &Shape,
@@ -109,7 +117,7 @@ pub fn shape_for(alloc: Global, config: &str, workers: u32) -> Result<Shape, Ref
 }
 
 /// Judges the workers and the configuration, and only then reads.
-fn decide_configured<T: AllocGlobal, R: Read>(
+fn decide_configured<T: AllocGlobal + Threads + Sync, R: Read>(
     rt: &T,
     reader: &mut Counted<R>,
     config: &str,
@@ -175,7 +183,7 @@ pub fn tell<W: Write>(
 /// `RunFault::Read` says that a read failed, and `RunFault::Turns` that the turns were used up before
 /// the trace was read: then the line is `refused read trace`. `RunFault::Write` says that a write
 /// failed: what went out is the beginning of the line.
-pub fn run_shape<T: AllocGlobal, R: Read, W: Write>(
+pub fn run_shape<T: AllocGlobal + Threads + Sync, R: Read, W: Write>(
     rt: &T,
     reader: &mut Counted<R>,
     writer: &mut Counted<W>,
@@ -206,7 +214,7 @@ pub fn run_shape<T: AllocGlobal, R: Read, W: Write>(
 /// `RunFault::Read` says that a read failed, and `RunFault::Turns` that the turns were used up before
 /// the trace was read: then the line is `refused read trace`. `RunFault::Write` says that a write
 /// failed: what went out is the beginning of the line.
-pub fn run<T: AllocGlobal, R: Read, W: Write>(
+pub fn run<T: AllocGlobal + Threads + Sync, R: Read, W: Write>(
     rt: &T,
     reader: &mut Counted<R>,
     writer: &mut Counted<W>,

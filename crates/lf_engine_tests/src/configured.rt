@@ -8,9 +8,10 @@ use lf_samples::{C1, C1_TEXT, LOAD, LOAD_MISSES_BOTH_LEVELS, changed, trace_of};
 use std::io::ErrorKind;
 use std::process::Abort;
 use std::test::Fail;
+use std::thread::Threads;
 
 /// Fails where the engine reads, or writes another line, for this configuration.
-fn assert_unread<T: Abort + AllocGlobal>(
+fn assert_unread<T: Abort + AllocGlobal + Threads + Sync>(
     rt: &T,
     config: &str,
     workers: u32,
@@ -29,7 +30,7 @@ fn assert_unread<T: Abort + AllocGlobal>(
 }
 
 /// Fails where the engine reads, or writes another line, for `C1_TEXT` with other words in this place.
-fn assert_unread_with<T: Abort + AllocGlobal>(
+fn assert_unread_with<T: Abort + AllocGlobal + Threads + Sync>(
     rt: &T,
     old: &str,
     new: &str,
@@ -100,7 +101,7 @@ fn judged_for_a_configuration(rt: HostRuntime) -> Result<(), Fail> {
 }
 
 /// Fails where the engine writes another line for loads of block 0 with these numbers.
-fn assert_numbered<T: Abort + AllocGlobal>(
+fn assert_numbered<T: Abort + AllocGlobal + Threads + Sync>(
     rt: &T,
     numbers: &[u32],
     line: &str,

@@ -8,6 +8,7 @@ use lf_samples::{C1, C1_TEXT, EMPTY_TRACE, LOAD_MISSES_BOTH_LEVELS, record, trac
 use lf_verdict::{Session, Verdict, check};
 use std::process::Abort;
 use std::test::Fail;
+use std::thread::Threads;
 
 #[test]
 fn memory_count_off(rt: HostRuntime) -> Result<(), Fail> {
@@ -33,7 +34,7 @@ fn memory_count_without_bytes(rt: HostRuntime) -> Result<(), Fail> {
 }
 
 /// Fails where the engine writes another line of what never ends, or makes another number of reads.
-fn assert_endless<T: Abort + AllocGlobal>(
+fn assert_endless<T: Abort + AllocGlobal + Threads + Sync>(
     rt: &T,
     reader: Endless<'_>,
     line: &str,

@@ -5,6 +5,7 @@ use lf_rules::Shape;
 use lf_samples::{C1, C1_TEXT, EMPTY_TRACE, LOAD_MISSES_BOTH_LEVELS};
 use std::process::Abort;
 use std::test::Fail;
+use std::thread::Threads;
 
 const BLOCKS_OF_16: Shape = Shape { block: 16, ..C1 };
 
@@ -15,7 +16,7 @@ const TWO_PORTS_BLOCKS_OF_16: Shape = Shape {
 };
 
 /// Fails where another line is written of these bytes with another byte at one place.
-fn assert_changed<T: Abort + AllocGlobal>(
+fn assert_changed<T: Abort + AllocGlobal + Threads + Sync>(
     rt: &T,
     bytes: &[u8],
     at: usize,

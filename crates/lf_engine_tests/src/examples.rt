@@ -8,6 +8,7 @@ use lf_samples::{
 };
 use std::process::Abort;
 use std::test::Fail;
+use std::thread::Threads;
 
 #[test]
 fn empty_trace(rt: HostRuntime) -> Result<(), Fail> {
@@ -116,7 +117,7 @@ fn cycle_of_two_logs(rt: HostRuntime) -> Result<(), Fail> {
 }
 
 /// Fails where another line is written of loads with these numbers.
-fn assert_numbered<T: Abort + AllocGlobal>(
+fn assert_numbered<T: Abort + AllocGlobal + Threads + Sync>(
     rt: &T,
     numbers: &[u32],
     line: &str,

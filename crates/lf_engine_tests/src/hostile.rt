@@ -6,13 +6,14 @@ use lf_samples::{C1, LOAD_MISSES_BOTH_LEVELS};
 use std::io::ErrorKind;
 use std::process::Abort;
 use std::test::Fail;
+use std::thread::Threads;
 
 const YES: &str = "yes events=6\n";
 
 const NOT_READ: &str = "refused read trace\n";
 
 /// Fails where the engine, with so many turns, comes to another fault or writes another line.
-fn assert_run<T: Abort + AllocGlobal>(
+fn assert_run<T: Abort + AllocGlobal + Threads + Sync>(
     rt: &T,
     reader: Pieces<'_>,
     turns: u32,

@@ -8,9 +8,10 @@ use lf_rules::Shape;
 use lf_samples::trace_of;
 use std::process::Abort;
 use std::test::Fail;
+use std::thread::Threads;
 
 /// Fails where another line is written of these bytes by so many workers.
-pub fn assert_line_by<T: Abort + AllocGlobal>(
+pub fn assert_line_by<T: Abort + AllocGlobal + Threads + Sync>(
     rt: &T,
     shape: &Shape,
     bytes: &[u8],
@@ -28,7 +29,7 @@ pub fn assert_line_by<T: Abort + AllocGlobal>(
 }
 
 /// Fails where another line is written of these bytes by one worker.
-pub fn assert_line<T: Abort + AllocGlobal>(
+pub fn assert_line<T: Abort + AllocGlobal + Threads + Sync>(
     rt: &T,
     shape: &Shape,
     bytes: &[u8],
@@ -40,7 +41,7 @@ pub fn assert_line<T: Abort + AllocGlobal>(
 }
 
 /// The same for the trace of these events of port 0 and bank 0.
-pub fn assert_told<T: Abort + AllocGlobal>(
+pub fn assert_told<T: Abort + AllocGlobal + Threads + Sync>(
     rt: &T,
     shape: &Shape,
     parts: &[&str],
@@ -53,7 +54,7 @@ pub fn assert_told<T: Abort + AllocGlobal>(
 }
 
 /// Fails where another line is written of these bytes for the configuration.
-pub fn assert_configured<T: Abort + AllocGlobal>(
+pub fn assert_configured<T: Abort + AllocGlobal + Threads + Sync>(
     rt: &T,
     config: &str,
     bytes: &[u8],

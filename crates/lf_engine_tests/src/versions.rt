@@ -10,8 +10,13 @@ use lf_samples::{
 };
 use std::process::Abort;
 use std::test::Fail;
+use std::thread::Threads;
 
-fn assert_fenced<T: Abort + AllocGlobal>(rt: &T, parts: &[&str], line: &str) -> Result<(), Fail> {
+fn assert_fenced<T: Abort + AllocGlobal + Threads + Sync>(
+    rt: &T,
+    parts: &[&str],
+    line: &str,
+) -> Result<(), Fail> {
     let bytes = trace_of_version(rt.alloc(), 2, &C1, parts)?;
     assert_line(rt, &C1, &bytes, line)?;
     assert_configured(rt, C1_TEXT, &bytes, line)
@@ -57,7 +62,7 @@ fn first_version_as_later_ones(rt: HostRuntime) -> Result<(), Fail> {
     Ok(())
 }
 
-fn assert_wide_of<T: Abort + AllocGlobal>(
+fn assert_wide_of<T: Abort + AllocGlobal + Threads + Sync>(
     rt: &T,
     shape: &Shape,
     parts: &[&str],
@@ -70,7 +75,11 @@ fn assert_wide_of<T: Abort + AllocGlobal>(
 }
 
 /// Fails where the line for `C2` is another.
-fn assert_wide<T: Abort + AllocGlobal>(rt: &T, parts: &[&str], line: &str) -> Result<(), Fail> {
+fn assert_wide<T: Abort + AllocGlobal + Threads + Sync>(
+    rt: &T,
+    parts: &[&str],
+    line: &str,
+) -> Result<(), Fail> {
     let bytes = trace_of_version(rt.alloc(), 3, &C2, parts)?;
     assert_line(rt, &C2, &bytes, line)?;
     assert_configured(rt, C2_TEXT, &bytes, line)

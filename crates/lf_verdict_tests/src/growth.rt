@@ -3,11 +3,12 @@
 //! its own, so in a run with one growth refused it was one of the call.
 
 use crate::examples::cycle_of;
+use crate::several_workers::{HIT, hits_and};
 use lf_codec::Told;
 use lf_engine::{Counted, run};
 use lf_rules::Rule;
 use lf_samples::{
-    C1_TEXT, CYCLE_OF_TWO_LOGS, EMPTY_TRACE, FOUR_BANKS_TEXT, LOAD_MERGES_BEHIND_STORE,
+    C1, C1_TEXT, CYCLE_OF_TWO_LOGS, EMPTY_TRACE, FOUR_BANKS_TEXT, LOAD_MERGES_BEHIND_STORE,
     LOAD_MISSES_BOTH_LEVELS, LOWEST_BANK, TWO_PORTS_TWO_BANKS_TEXT, want_of_a_thread,
     want_of_memory,
 };
@@ -152,8 +153,29 @@ fn refused_growth_of_session_on_cycle_of_two_logs(rt: HostRuntime) -> Result<(),
     assert_fed(&rt, config, &[&CYCLE_OF_TWO_LOGS], &two_logs())
 }
 
+/// By a session that is fed by two workers, in pieces that are long enough for both.
+#[test]
+fn refused_growth_of_session_by_two_workers(rt: HostRuntime) -> Result<(), Fail> {
+    let bytes = hits_and(rt.alloc(), 60, HIT)?;
+    let mut session = Session::for_shape(rt.alloc(), &C1);
+    for piece in bytes.chunks(1024) {
+        if let Err(told) = session.feed_by(&rt, 2, piece) {
+            assert_eq!(rt; told, Told::Fault(Refusal::Memory));
+            assert_eq!(rt; session.finish(), Verdict::Refused(Refusal::Memory));
+            return Err(want_of_memory());
+        }
+    }
+    match session.finish() {
+        Verdict::Yes { events, .. } => {
+            assert_eq!(rt; events, 189);
+            Ok(())
+        }
+        other => assert_due(&rt, &other, &Due::Yes(&[])),
+    }
+}
+
 /// By `run`, which writes this line.
-fn assert_run<T: Abort + AllocGlobal>(
+fn assert_run<T: Abort + AllocGlobal + Threads + Sync>(
     rt: &T,
     config: &str,
     bytes: &[u8],

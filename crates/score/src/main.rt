@@ -42,7 +42,7 @@ fn status_of(answer: &Result<Verdict, RunFault>) -> ExitCode {
     }
 }
 
-fn judge<T: Print + AllocGlobal, R: Read + Drop>(
+fn judge<T: Print + AllocGlobal + Threads + Sync, R: Read + Drop>(
     rt: &T,
     config: &str,
     trace: R,
@@ -54,7 +54,7 @@ fn judge<T: Print + AllocGlobal, R: Read + Drop>(
 }
 
 /// Judges the workers before it opens a file, and the configuration before the trace is read.
-fn check<T: Print + Files + AllocGlobal>(
+fn check<T: Print + Files + AllocGlobal + Threads + Sync>(
     rt: &T,
     config: &str,
     trace: &str,
