@@ -1,0 +1,12 @@
+use Rattle.std.proofs.Common.{◌++◌, rules}
+use Rattle.std.proofs.lemmas.Result.{IfOk-weaker, IfErr-weaker}
+use Rattle.lf_engine.proofs.gathering.feed_by.Goals as goal
+
+pub returns-clause-told : goal.returns-clause-told
+returns-clause-told g c = λ bytes fed.
+    c.has_fault.ensures.told (bytes ++ c.args.piece.now)
+    (IfOk-weaker c.feed_by.result _ _ (λ _ fine. fine bytes fed) c.feed_by.ensures.fine)
+    (IfErr-weaker c.feed_by.result _ _ (λ _ stands. stands bytes fed) c.feed_by.ensures.fault)
+
+pub returns-clause-fed : goal.returns-clause-fed
+returns-clause-fed g c = search rules
