@@ -109,7 +109,8 @@ pub record HasReadOn (old : Reading) (piece : List ℕ) (result : Result (Unit {
   pub is_told : result ≡ told old.fault new.fault
   pub pieces : (fed : List ℕ) (memory : List (ℕ × Bytes)) (records : List Record) → HasRead old fed memory records
       → HasRead new (fed ++ piece) memory records ⊎ RanOut new (fed ++ piece) memory records
-  pub ok : OnOk result ((fed : List ℕ) (memory : List (ℕ × Bytes)) (records : List Record) → HasRead old fed memory records → HasRead new (fed ++ piece) memory records)
+  pub ok : OnOk result ((fed : List ℕ) (memory : List (ℕ × Bytes)) (records : List Record) → HasRead old fed memory records
+      → HasRead new (fed ++ piece) memory records)
 
 -- what a fault of the reader stops with
 abbrev pub IsStopOf : CodecFault → Stop → Type 0

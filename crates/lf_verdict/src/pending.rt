@@ -33,7 +33,8 @@ fn judge_banks<R: Threads + Sync>(
 )
     requires threads { 0 < threads }
     requires each { (bank : ℕ) (d : BankJudge) → bank < length banks.old → CanTakeAll bank records.now (slice_index_or banks.old bank d) }
-    ensures { (bank : ℕ) (d : BankJudge) → bank < length banks.old → TakesAll bank records.now (slice_index_or banks.old bank d) (slice_index_or banks.new bank d) }
+    ensures { (bank : ℕ) (d : BankJudge) → bank < length banks.old
+        → TakesAll bank records.now (slice_index_or banks.old bank d) (slice_index_or banks.new bank d) }
 {
     for_each_mut(
         rt,

@@ -54,10 +54,10 @@ impl Standing {
     pub fn offer(&mut self, item: &Record) -> Result<bool, NoMemory>
         requires { (shape : Shape) × ((memory : FlatMemory) × ((records : List Record) ×
             (MayCome shape records item.now × StandsAfterAll shape memory records self.old))) }
-        ensures judged { (shape : Shape) (memory : FlatMemory) (records : List Record) → MayCome shape records item.now → StandsAfterAll shape memory records self.old
-            → IfOk result (λ judged. IsTrue judged → StandsAfterAll shape memory (records ++ item.now ∷ []) self.new) }
-        ensures entered { (shape : Shape) (memory : FlatMemory) (records : List Record) → MayCome shape records item.now → StandsAfterAll shape memory records self.old
-            → IfOk result (λ judged. ¬ IsTrue judged → IsEntered shape records item.now self.old self.new) }
+        ensures judged { (shape : Shape) (memory : FlatMemory) (records : List Record) → MayCome shape records item.now
+            → StandsAfterAll shape memory records self.old → IfOk result (λ judged. IsTrue judged → StandsAfterAll shape memory (records ++ item.now ∷ []) self.new) }
+        ensures entered { (shape : Shape) (memory : FlatMemory) (records : List Record) → MayCome shape records item.now
+            → StandsAfterAll shape memory records self.old → IfOk result (λ judged. ¬ IsTrue judged → IsEntered shape records item.now self.old self.new) }
     {
         self.enter(item)?;
         let bank = usize::from(item.bank);
