@@ -2,6 +2,7 @@
 
 ghost use Rattle.std.specs.Prelude.{◌≡◌, ◌*◌, ◌<◌, ◌/◌, ℕ, true, false, IfNone, List, length};
 ghost use Rattle.std.specs.List.{list_all};
+ghost use Rattle.arrayvec.specs.ArrayVec.{ArrayVec};
 ghost use Rattle.lf_levels.specs.LineTable.{is_full, wide_set};
 ghost use Rattle.lf_rules.specs.Address.{places, set1_of};
 ghost use Rattle.lf_rules.specs.Lines.{has_line, dirty_mask, dirty_masks, same_masks};
@@ -9,6 +10,7 @@ ghost use Rattle.lf_rules.specs.Registers.{Held, holds};
 ghost use Rattle.lf_rules.specs.State.{Asked};
 ghost use Rattle.lf_rules.specs.Table.{is_among, is_apart, is_head, oldest, store_bytes};
 ghost use Rattle.lf_rules.specs.declared.event.Event.TheVariants as event;
+ghost use Rattle.lf_rules.specs.declared.event.Op.{Op};
 ghost use Rattle.lf_replay.specs.BankView.{queue_at, slice_of};
 ghost use Rattle.lf_replay.specs.RegisterRules.{OfMissed, TakesPrimary, TakesMerge, TakesSecondPrimary, TakesSecondMerge};
 ghost use Rattle.lf_replay.specs.Shows.{IsJudged, ShowsReached};
@@ -25,6 +27,15 @@ use lf_rules::{Block, Mask, Masks, Rule, WideBlock};
 use lf_state::{head, ready_for, second_of};
 
 impl<O1: Organisation<Target = Request1>, O2: Organisation<Target = Request2>> Bank<O1, O2> {
+    pub fn judge_issue(&self, tag: u8) -> Option<Rule>
+        ensures { (log size address : ℕ) (op : Op) (bytes : ArrayVec ℕ) → IsJudged self.now log (event.Issue op tag size address bytes) result }
+    {
+        if u32::from(tag) >= self.shape.tags {
+            return Some(Rule::TagRange);
+        }
+        None
+    }
+
     pub fn judge_reply(&self, log: u8, tag: u8, size: u8, bytes: &Block) -> Option<Rule>
         ensures { IsJudged self.now log (event.Reply tag size bytes.now) result }
     {

@@ -69,8 +69,8 @@ impl<O1: Organisation<Target = Request1>, O2: Organisation<Target = Request2>> B
         ensures { (op : Op) (tag size address : ℕ) (bytes : ArrayVec ℕ) → request ≡ request_of self.old.shape tag op size address bytes.items
             → IsAnswer self.old self.new log (event.Issue op tag size address bytes) result }
     {
-        if u32::from(request.tag()) >= self.shape.tags {
-            return Err(BankFault::Rule(Rule::TagRange));
+        if let Some(rule) = self.judge_issue(request.tag()) {
+            return Err(BankFault::Rule(rule));
         }
         if enqueue(&mut self.queues, log, request).is_err() {
             return Err(BankFault::NoMemory);
