@@ -1,5 +1,5 @@
 -- There is room exactly where some register takes the target.
-use Rattle.std.proofs.Common.{◌≡◌, ℕ, [], ◌∷◌, Bool, true, false, not, ◌↔◌, inl, inr, nat_lt, None, refl, sym, ap, ◌∙◌, lt-ltb, ltb-true}
+use Rattle.std.proofs.Common.{◌≡◌, ℕ, ◌<◌, ◌⊎◌, [], ◌∷◌, Bool, true, false, not, ◌↔◌, inl, inr, nat_lt, None, refl, sym, ap, ◌∙◌, lt-ltb, ltb-true}
 use Rattle.std.proofs.lemmas.Bool.{not-true}
 use Rattle.std.specs.Bool.{IsTrue}
 use Rattle.lf_rules.specs.declared.rule.Rule.{Rule}
@@ -8,7 +8,7 @@ use Rattle.lf_rules.specs.Clauses.{OfBank, bank_wants}
 use Rattle.lf_rules.specs.Registers.{registers_of, holds, is_free, right_for_primary, right_for_merge, takes}
 use Rattle.lf_rules.specs.Run.{first_failing}
 use Rattle.lf_rules.proofs.Room.{room_is}
-use Rattle.lf_mshr.specs.RegisterFile.{RegisterFile, primary_wants, has_room_for, SomeTakes}
+use Rattle.lf_mshr.specs.RegisterFile.{RegisterFile, has_room_for, Takes, SomeTakes}
 
 -- four clauses hold
 module _ (first second third fourth : Rule) where
@@ -62,8 +62,17 @@ module _ {T : Type 0} (position destination : T → ℕ) (file : RegisterFile T)
   pub has_room_is : (answer : Bool) → answer ≡ has_room_for position destination file block target → IsTrue answer ↔ SomeTakes position destination file block target
   has_room_is answer e = (λ is. room_to (sym e ∙ is), λ some. e ∙ room_from some)
 
-  -- a register that takes a primary miss is free
-  pub free_for_primary : (register : ℕ) → first_failing OfBank (primary_wants position destination file register block target) ≡ None → is_free file.held register ≡ true
-  free_for_primary register e =
-      (all_of PrimaryInFlight RegisterRange WrongRegister RegisterBusy
-      (not (holds file.held block)) (nat_lt register (registers_of file.organisation file.destinations)) (right_for_primary file.organisation (destination target) register) (is_free file.held register) e).3
+  -- a register that takes a target is there, and is free or has a place left
+  pub taken : (register : ℕ) → Takes position destination file block target register
+      → (register < registers_of file.organisation file.destinations)
+      × (((holds file.held block ≡ false) × (is_free file.held register ≡ true))
+      ⊎ ((holds file.held block ≡ true) × (right_for_merge file.organisation file.held block (destination target) register ≡ true)
+      × (takes file.organisation position file.held register (position target) ≡ true)))
+  taken register (inl e) =
+      let q = all_of PrimaryInFlight RegisterRange WrongRegister RegisterBusy
+      (not (holds file.held block)) (nat_lt register (registers_of file.organisation file.destinations)) (right_for_primary file.organisation (destination target) register) (is_free file.held register) e in
+      (ltb-true register (registers_of file.organisation file.destinations) q.1, inl (not-true (holds file.held block) q.0, q.3))
+  taken register (inr e) =
+      let q = all_of NotInFlight RegisterRange WrongRegister MergeFull
+      (holds file.held block) (nat_lt register (registers_of file.organisation file.destinations)) (right_for_merge file.organisation file.held block (destination target) register) (takes file.organisation position file.held register (position target)) e in
+      (ltb-true register (registers_of file.organisation file.destinations) q.1, inr (q.0, q.2, q.3))

@@ -68,7 +68,7 @@ impl<T: Target> ImplicitFile<T> {
     }
 
     /// Appends a target of a register that has its field left, and that no other shares the block with.
-    fn place(&mut self, register: u16, block: u32, target: T)
+    fn append(&mut self, register: u16, block: u32, target: T)
         requires exists { register < self.old.registers }
         requires field { takes (shape.Implicit self.old.registers) T.position self.old.held.items register (T.position target) ≡ true }
         requires apart { (holds self.old.held.items block ≡ false) ⊎ (holds_in self.old.held.items register block ≡ true) }
@@ -164,30 +164,8 @@ impl<T: Target> Organisation for Implicit<T> {
         None
     }
 
-    fn primary(
-        file: &mut ImplicitFile<T>,
-        register: u16,
-        block: u32,
-        target: T,
-    ) -> Result<(), RegisterFault> {
-        if let Some(fault) = Self::primary_fault(file, register, block, &target) {
-            return Err(fault);
-        }
-        file.place(register, block, target);
-        Ok(())
-    }
-
-    fn merge(
-        file: &mut ImplicitFile<T>,
-        register: u16,
-        block: u32,
-        target: T,
-    ) -> Result<(), RegisterFault> {
-        if let Some(fault) = Self::merge_fault(file, register, block, &target) {
-            return Err(fault);
-        }
-        file.place(register, block, target);
-        Ok(())
+    fn place(file: &mut ImplicitFile<T>, register: u16, block: u32, target: T) {
+        file.append(register, block, target);
     }
 
     fn release_into(file: &mut ImplicitFile<T>, block: u32, targets: &mut Targets<T>) {

@@ -28,7 +28,7 @@ pub struct InvertedFile<T> {
 
 impl<T: Target> InvertedFile<T> {
     /// Appends a target of a free register.
-    fn place(&mut self, register: u16, block: u32, target: T)
+    fn append(&mut self, register: u16, block: u32, target: T)
         requires exists { register < self.old.destinations }
         requires free { is_free self.old.held.items register ≡ true }
         ensures items { self.new.held.items ≡ self.old.held.items ++ held_item register block target ∷ [] }
@@ -119,30 +119,8 @@ impl<T: Target> Organisation for Inverted<T> {
         None
     }
 
-    fn primary(
-        file: &mut InvertedFile<T>,
-        register: u16,
-        block: u32,
-        target: T,
-    ) -> Result<(), RegisterFault> {
-        if let Some(fault) = Self::primary_fault(file, register, block, &target) {
-            return Err(fault);
-        }
-        file.place(register, block, target);
-        Ok(())
-    }
-
-    fn merge(
-        file: &mut InvertedFile<T>,
-        register: u16,
-        block: u32,
-        target: T,
-    ) -> Result<(), RegisterFault> {
-        if let Some(fault) = Self::merge_fault(file, register, block, &target) {
-            return Err(fault);
-        }
-        file.place(register, block, target);
-        Ok(())
+    fn place(file: &mut InvertedFile<T>, register: u16, block: u32, target: T) {
+        file.append(register, block, target);
     }
 
     fn release_into(file: &mut InvertedFile<T>, block: u32, targets: &mut Targets<T>) {

@@ -9,7 +9,7 @@ ghost use Rattle.lf_rules.specs.Sharing.{HoldsOnce};
 ghost use Rattle.lf_rules.specs.declared.shape.OrgShape.{OrgShape};
 ghost use Rattle.lf_mshr.specs.Faults.{refusal_of, broken_rule};
 ghost use Rattle.lf_mshr.specs.RegisterFile.{RegisterFile, empty_file, with_target, without_block, released_pair, store_bytes};
-ghost use Rattle.lf_mshr.specs.RegisterFile.{primary_wants, merge_wants, has_room_for, SomeTakes};
+ghost use Rattle.lf_mshr.specs.RegisterFile.{primary_wants, merge_wants, has_room_for, Takes, SomeTakes};
 
 use crate::fault::RegisterFault;
 use crate::held::Targets;
@@ -80,6 +80,12 @@ pub trait Organisation {
         ensures { broken_rule result
             ≡ first_failing OfBank (merge_wants Self.Target.position Self.Target.destination (seen file.now) register block target.now) };
 
+    /// Places the target in the register, which takes it as a primary miss or as a further one. Nothing
+    /// is judged here.
+    fn place(file: &mut Self::File, register: u16, block: u32, target: Self::Target)
+        requires { Takes Self.Target.position Self.Target.destination (seen file.old) block target register }
+        ensures { seen file.new ≡ with_target (seen file.old) register block target };
+
     /// Places the target of a primary miss to the block in the register.
     ///
     /// Refuses, with nothing changed and in this order, `InFlight`, `Range`, `Wrong` and `Busy`.
@@ -92,7 +98,14 @@ pub trait Organisation {
         ensures answer { refusal_of result
             ≡ first_failing OfBank (primary_wants Self.Target.position Self.Target.destination (seen file.old) register block target) }
         ensures placed { OnOk result (seen file.new ≡ with_target (seen file.old) register block target) }
-        ensures unchanged { OnErr result (seen file.new ≡ seen file.old) };
+        ensures unchanged { OnErr result (seen file.new ≡ seen file.old) }
+    {
+        if let Some(fault) = Self::primary_fault(file, register, block, &target) {
+            return Err(fault);
+        }
+        Self::place(file, register, block, target);
+        Ok(())
+    }
 
     /// Places the target of a further miss to the block in the register.
     ///
@@ -106,7 +119,14 @@ pub trait Organisation {
         ensures answer { refusal_of result
             ≡ first_failing OfBank (merge_wants Self.Target.position Self.Target.destination (seen file.old) register block target) }
         ensures placed { OnOk result (seen file.new ≡ with_target (seen file.old) register block target) }
-        ensures unchanged { OnErr result (seen file.new ≡ seen file.old) };
+        ensures unchanged { OnErr result (seen file.new ≡ seen file.old) }
+    {
+        if let Some(fault) = Self::merge_fault(file, register, block, &target) {
+            return Err(fault);
+        }
+        Self::place(file, register, block, target);
+        Ok(())
+    }
 
     /// Takes out every target of the block, each once, in the order of acceptance. The others stay. The
     /// list gets them in place of what it had, so that it can be used again.

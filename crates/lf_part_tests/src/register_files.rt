@@ -58,7 +58,7 @@ fn assert_released<O: Organisation>(rt: &impl Abort, file: &mut O::File, count: 
     assert!(rt; !O::holds(file, 0));
 }
 
-/// A primary miss to block 0, a merge, and the release of both.
+/// A primary miss to block 0, a merge, and the release of both; then the same, placed where it was judged.
 fn miss_twice<O: Organisation>(
     rt: &impl Abort,
     alloc: Global,
@@ -82,7 +82,33 @@ fn miss_twice<O: Organisation>(
     assert_merged::<O>(rt, &mut file, joined, second);
     assert_released::<O>(rt, &mut file, 2);
     assert_released::<O>(rt, &mut file, 0);
+    place_two::<O>(rt, &mut file, first, second);
     Ok(())
+}
+
+/// A primary miss and a merge, each judged once and then placed.
+fn place_two<O: Organisation>(
+    rt: &impl Abort,
+    file: &mut O::File,
+    first: O::Target,
+    second: O::Target,
+) {
+    let register = first.destination();
+    let joined = if O::SHARES {
+        second.destination()
+    } else {
+        register
+    };
+    let None = O::primary_fault(file, register, 0, &first) else {
+        panic!(rt; "the register takes a primary miss");
+    };
+    O::place(file, register, 0, first);
+    let None = O::merge_fault(file, joined, 0, &second) else {
+        panic!(rt; "the register takes a merge");
+    };
+    O::place(file, joined, 0, second);
+    assert!(rt; O::holds(file, 0));
+    assert_released::<O>(rt, file, 2);
 }
 
 fn load(position: u8, destination: u16) -> Request1

@@ -1,5 +1,5 @@
 -- What a bank says of a miss of level one.
-use Rattle.std.proofs.Common.{◌≡◌, ℕ, zero, suc, ◌/◌, ◌<◌, Bool, true, false, not, ◌&&◌, nat_lt, List, [], ◌∷◌, length, Option, refl, sym, ap, ◌∙◌, eqb-true, arith}
+use Rattle.std.proofs.Common.{◌≡◌, ℕ, zero, suc, ◌/◌, ◌<◌, Bool, true, false, not, ◌&&◌, nat_lt, List, [], ◌∷◌, length, Option, Some, None, IfNone, refl, sym, ap, ◌∙◌, eqb-true, arith}
 use Rattle.std.proofs.lemmas.Bool.{lt-ltb}
 use mathlib.Core.Path.{ap₂}
 use Rattle.lf_rules.specs.declared.rule.Rule.{Rule}
@@ -16,6 +16,11 @@ use Rattle.lf_replay.specs.BankView.{queue_at}
 one_holds : (rule : Rule) (a : Bool) (rest : List Clause) → a ≡ true → first_failing OfBank (bank_wants rule a ∷ rest) ≡ first_failing OfBank rest
 one_holds rule true rest e = refl
 one_holds rule false rest e = absurd (cc e)
+
+-- what holds where there is none
+pub if_none : {A P : Type 0} (o : Option A) → (o ≡ None → P) → IfNone o P
+if_none None holds = holds refl
+if_none (Some x) holds = tt
 
 head_tag : (queue : List Request) (tag : ℕ) → is_head queue tag ≡ true → (oldest queue).tag ≡ tag
 head_tag [] tag e = absurd (cc e)

@@ -48,6 +48,12 @@ pub record ShowsReached (view : BankView) : Type 0 where
 abbrev pub rule_broken : Shape → Local → ℕ → ℕ → Event → Option Rule
 rule_broken shape now log bank event = first_failing OfBank (rules_of shape (carries shape now.memory now.slice event) now.busy now.slice log bank event)
 
+-- It is the first rule that the event breaks, whatever the state that the bank shows.
+abbrev pub IsJudged : BankView → ℕ → Event → Option Rule → Type 0
+IsJudged view log event broken =
+    (bank : ℕ) (waiting : List (Held Missed)) (regs2 : List (Held Asked)) → AreWaiting view waiting regs2
+    → rule_broken view.shape (local_of view waiting regs2) log bank event ≡ broken
+
 -- An event that breaks no rule is carried out; a fault names the first that it breaks, and nothing changes.
 abbrev pub AnswerOf : {A : Type 0} → BankView → BankView → Local → ℕ → ℕ → Event → Result A BankFault → Type 0
 AnswerOf old new now log bank event (Ok done) =

@@ -2,8 +2,9 @@
 //! where it breaks none. What may be refused memory comes before what is not undone, so that a refusal
 //! leaves the state as it was.
 
-ghost use Rattle.std.specs.Prelude.{◌≡◌, ◌<◌, ℕ, true, drop, length, OnOk, OnErr};
+ghost use Rattle.std.specs.Prelude.{◌≡◌, ◌<◌, ℕ, true, drop, length, IfOk, OnOk, OnErr};
 ghost use Rattle.arrayvec.specs.ArrayVec.{ArrayVec};
+ghost use Rattle.lf_rules.specs.InRange.{IsShape};
 ghost use Rattle.lf_rules.specs.declared.event.Event.TheVariants as event;
 ghost use Rattle.lf_rules.specs.declared.event.Op.{Op};
 ghost use Rattle.lf_rules.specs.State.{update};
@@ -11,32 +12,40 @@ ghost use Rattle.lf_rules.specs.Table.{request_of, is_head, oldest, accepted};
 ghost use Rattle.lf_state.specs.Bytes.{flat_of};
 ghost use Rattle.lf_replay.specs.BankView.{queue_at};
 ghost use Rattle.lf_replay.specs.Shows.{IsAnswer, ShowsReached};
+ghost use Rattle.lf_replay.specs.Targets.{IsTarget1, miss_of};
 
 use crate::bank::Bank;
 use crate::fault::BankFault;
-use crate::lookup::{dirty1, is_among};
-use crate::registers::{has_room1, merge_rule, primary_rule, store_bytes};
+use crate::registers::{has_room1, store_bytes};
 use crate::replies::add_replies;
-use crate::target::missed;
+use crate::target::{asking, missed};
 use crate::wide::mark_at;
 use lf_mshr::{Organisation, Request1, Request2};
-use lf_rules::{Block, Mask, NoMemory, Rule};
+use lf_rules::{Block, Mask, NoMemory, Rule, Shape};
 use lf_state::{
     FlatMemory, Queue, Ready, Request, drop_block, drop_head, drop_ready, enqueue, head, place_of,
-    push, ready_for, second_of,
+    push, second_of,
 };
 
 /// No more targets than these wait for one block.
 pub const MOST_TARGETS: usize = 1024;
 
-/// The port's oldest request takes effect and leaves its queue.
+/// The port's oldest request takes effect and leaves its queue: its block, and what a register keeps of
+/// it.
 fn accept_head(
+    shape: &Shape,
     memory: &mut FlatMemory,
     queues: &mut Vec<Queue>,
     port: u8,
     tag: u8,
-) -> Result<(), NoMemory>
-    requires { is_head (queue_at queues.old.items port) tag ≡ true }
+) -> Result<(u32, Request1), NoMemory>
+    requires in_range { IsShape shape.now }
+    requires ports { length queues.old.items ≡ shape.now.ports }
+    requires head { is_head (queue_at queues.old.items port) tag ≡ true }
+    requires tagged { (oldest (queue_at queues.old.items port)).tag < shape.now.tags }
+    ensures block { IfOk result (λ taken. taken.0 ≡ (oldest (queue_at queues.old.items port)).block) }
+    ensures tells { IfOk result (λ taken. let request = oldest (queue_at queues.old.items port) in
+        IsTarget1 shape.now taken.1 (miss_of port 0 (flat_of memory.old) request).target) }
     ensures effect { OnOk result (flat_of memory.new ≡ accepted (flat_of memory.old) (oldest (queue_at queues.old.items port))) }
     ensures rest { OnOk result (queue_at queues.new.items ≡ update (queue_at queues.old.items) port (drop 1 (queue_at queues.old.items port))) }
     ensures count { length queues.new.items ≡ length queues.old.items }
@@ -46,9 +55,11 @@ fn accept_head(
     let Some(request) = head(queues, port, tag) else {
         unreachable!()
     };
+    let block = request.block();
+    let target = missed(shape, memory, port, request);
     memory.accept(request)?;
     drop_head(queues, port);
-    Ok(())
+    Ok((block, target))
 }
 
 impl<O1: Organisation<Target = Request1>, O2: Organisation<Target = Request2>> Bank<O1, O2> {
@@ -58,8 +69,8 @@ impl<O1: Organisation<Target = Request1>, O2: Organisation<Target = Request2>> B
         ensures { (op : Op) (tag size address : ℕ) (bytes : ArrayVec ℕ) → request ≡ request_of self.old.shape tag op size address bytes.items
             → IsAnswer self.old self.new log (event.Issue op tag size address bytes) result }
     {
-        if u32::from(request.tag()) >= self.shape.tags {
-            return Err(BankFault::Rule(Rule::TagRange));
+        if let Some(rule) = self.judge_issue(request.tag()) {
+            return Err(BankFault::Rule(rule));
         }
         if enqueue(&mut self.queues, log, request).is_err() {
             return Err(BankFault::NoMemory);
@@ -71,14 +82,8 @@ impl<O1: Organisation<Target = Request1>, O2: Organisation<Target = Request2>> B
     pub fn reply(&mut self, log: u8, tag: u8, size: u8, bytes: &Block) -> Result<(), BankFault>
         ensures { IsAnswer self.old self.new log (event.Reply tag size bytes.now) result }
     {
-        let Some(ready) = ready_for(&self.ready, log, tag) else {
-            return Err(BankFault::Rule(Rule::NotReady));
-        };
-        if usize::from(size) != ready.value().len() {
-            return Err(BankFault::Rule(Rule::ReplySize));
-        }
-        if bytes.as_slice() != ready.value() {
-            return Err(BankFault::Rule(Rule::ReplyData));
+        if let Some(rule) = self.judge_reply(log, tag, size, bytes) {
+            return Err(BankFault::Rule(rule));
         }
         drop_ready(&mut self.ready, log, tag);
         Ok(())
@@ -88,12 +93,12 @@ impl<O1: Organisation<Target = Request1>, O2: Organisation<Target = Request2>> B
     pub fn hit(&mut self, port: u8, tag: u8) -> Result<(), BankFault>
         ensures { (log : ℕ) → IsAnswer self.old self.new log (event.Hit port tag) result }
     {
-        let Some(request) = head(&self.queues, port, tag) else {
-            return Err(BankFault::Rule(Rule::NotHead));
-        };
-        if !self.lines1.has(request.block()) {
-            return Err(BankFault::Rule(Rule::NotPresent));
+        if let Some(rule) = self.judge_hit(port, tag) {
+            return Err(BankFault::Rule(rule));
         }
+        let Some(request) = head(&self.queues, port, tag) else {
+            unreachable!()
+        };
         let value = self.memory.value_of(request);
         if push(&mut self.ready, Ready::new(port, tag, value)).is_err() {
             return Err(BankFault::NoMemory);
@@ -113,33 +118,23 @@ impl<O1: Organisation<Target = Request1>, O2: Organisation<Target = Request2>> B
         requires { ShowsReached self.old }
         ensures { (log : ℕ) → IsAnswer self.old self.new log (event.Primary port tag register) result }
     {
-        let Some(request) = head(&self.queues, port, tag) else {
-            return Err(BankFault::Rule(Rule::NotHead));
-        };
-        let block = request.block();
-        if self.lines1.has(block) {
-            return Err(BankFault::Rule(Rule::Present));
-        }
-        let target = missed(&self.shape, &self.memory, port, request);
-        if let Some(rule) = primary_rule::<O1>(
-            &self.waiting,
-            &self.shape,
-            block,
-            &target,
-            register,
-        ) {
+        if let Some(rule) = self.judge_primary(port, tag, register) {
             return Err(BankFault::Rule(rule));
         }
         if self.asked.reserve(1).is_err() {
             return Err(BankFault::NoMemory);
         }
-        let Ok(()) = accept_head(&mut self.memory, &mut self.queues, port, tag) else {
+        let Ok((block, target)) = accept_head(
+            &self.shape,
+            &mut self.memory,
+            &mut self.queues,
+            port,
+            tag,
+        ) else {
             return Err(BankFault::NoMemory);
         };
         self.asked.push_reserved((block, register));
-        let Ok(()) = O1::primary(&mut self.waiting, register, block, target) else {
-            unreachable!()
-        };
+        O1::place(&mut self.waiting, register, block, target);
         Ok(())
     }
 
@@ -148,20 +143,19 @@ impl<O1: Organisation<Target = Request1>, O2: Organisation<Target = Request2>> B
         requires { ShowsReached self.old }
         ensures { (log : ℕ) → IsAnswer self.old self.new log (event.Merge port tag register) result }
     {
-        let Some(request) = head(&self.queues, port, tag) else {
-            return Err(BankFault::Rule(Rule::NotHead));
-        };
-        let block = request.block();
-        let target = missed(&self.shape, &self.memory, port, request);
-        if let Some(rule) = merge_rule::<O1>(&self.waiting, &self.shape, block, &target, register) {
+        if let Some(rule) = self.judge_merge(port, tag, register) {
             return Err(BankFault::Rule(rule));
         }
-        let Ok(()) = accept_head(&mut self.memory, &mut self.queues, port, tag) else {
+        let Ok((block, target)) = accept_head(
+            &self.shape,
+            &mut self.memory,
+            &mut self.queues,
+            port,
+            tag,
+        ) else {
             return Err(BankFault::NoMemory);
         };
-        let Ok(()) = O1::merge(&mut self.waiting, register, block, target) else {
-            unreachable!()
-        };
+        O1::place(&mut self.waiting, register, block, target);
         Ok(())
     }
 
@@ -176,7 +170,7 @@ impl<O1: Organisation<Target = Request1>, O2: Organisation<Target = Request2>> B
         if self.lines1.has(request.block()) {
             return Err(BankFault::Rule(Rule::Present));
         }
-        let target = missed(&self.shape, &self.memory, port, request);
+        let target = asking(&self.shape, port, request);
         if has_room1::<O1>(&self.waiting, &self.shape, request.block(), &target) {
             return Err(BankFault::Rule(Rule::NeedlessStall));
         }
@@ -189,15 +183,9 @@ impl<O1: Organisation<Target = Request1>, O2: Organisation<Target = Request2>> B
         requires whole { length bytes.now.items ≡ self.old.shape.block }
         ensures { (log : ℕ) → IsAnswer self.old self.new log (event.Fill1 block bytes.now) result }
     {
-        if !is_among(&self.supplied, block) {
-            return Err(BankFault::Rule(Rule::NotSupplied));
-        }
-        if self.lines1.full(block) {
-            return Err(BankFault::Rule(Rule::SetFull));
-        }
         let stores = store_bytes::<O1>(&self.waiting, block);
-        if !self.memory.agrees_off(&self.shape, block, bytes, stores) {
-            return Err(BankFault::Rule(Rule::FillData));
+        if let Some(rule) = self.judge_fill1(block, bytes, stores) {
+            return Err(BankFault::Rule(rule));
         }
         if self.ready.reserve(MOST_TARGETS).is_err() {
             return Err(BankFault::NoMemory);
@@ -216,14 +204,8 @@ impl<O1: Organisation<Target = Request1>, O2: Organisation<Target = Request2>> B
         requires { ShowsReached self.old }
         ensures { (log : ℕ) → IsAnswer self.old self.new log (event.Evict1 block mask bytes.now) result }
     {
-        if !self.lines1.has(block) {
-            return Err(BankFault::Rule(Rule::EvictAbsent));
-        }
-        if mask.0 != dirty1(&self.lines1, block) {
-            return Err(BankFault::Rule(Rule::EvictMask));
-        }
-        if !self.memory.carries(&self.shape, block, mask, bytes) {
-            return Err(BankFault::Rule(Rule::EvictData));
+        if let Some(rule) = self.judge_evict1(block, mask, bytes) {
+            return Err(BankFault::Rule(rule));
         }
         if self.lines1.evict(block, mask).is_err() {
             unreachable!()

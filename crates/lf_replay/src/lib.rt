@@ -14,6 +14,7 @@ mod bank_state;
 mod bank_step;
 mod carried;
 mod fault;
+mod judge;
 mod laws;
 mod lends;
 mod level_one;

@@ -12,6 +12,23 @@ use lf_mshr::Request1;
 use lf_rules::{Mask, Op, Shape};
 use lf_state::{Data, FlatMemory, Ready, Request};
 
+/// What a port's request asks of a level-one register: its place in the block and where its reply goes.
+pub fn asking(shape: &Shape, port: u8, request: &Request) -> Request1
+    requires in_range { IsShape shape.now }
+    requires port { port < shape.now.ports }
+    requires tag { request.now.tag < shape.now.tags }
+    ensures position { result.position ≡ request.now.offset / 8 }
+    ensures destination { result.destination ≡ destination shape.now port request.now.tag }
+{
+    Request1 {
+        position: request.offset() / 8,
+        destination: (u32::from(port) * shape.tags + u32::from(request.tag())) as u16,
+        is_store: false,
+        bytes: Mask(0),
+        value: 0,
+    }
+}
+
 /// What a level-one register keeps of a port's request and of the value that a load has.
 fn target_of(shape: &Shape, port: u8, request: &Request, value: &[u8]) -> Request1
     requires in_range { IsShape shape.now }

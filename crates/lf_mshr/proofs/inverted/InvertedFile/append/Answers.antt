@@ -1,7 +1,7 @@
 use Rattle.std.proofs.Common.{arith}
 use Rattle.lf_mshr.specs.RegisterFile.{held_item}
 use Rattle.lf_mshr.proofs.Bounds.{IsWithin-push, free-count, length-lt}
-use Rattle.lf_mshr.proofs.inverted.InvertedFile.place.Goals as goal
+use Rattle.lf_mshr.proofs.inverted.InvertedFile.append.Goals as goal
 
 pub push_reserved-requires : goal.push_reserved-requires
 push_reserved-requires g c =

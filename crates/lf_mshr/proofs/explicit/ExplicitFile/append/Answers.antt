@@ -2,7 +2,7 @@ use Rattle.std.proofs.Common.{arith}
 use Rattle.lf_mshr.specs.RegisterFile.{held_item}
 use Rattle.lf_mshr.proofs.Bounds.{IsWithin-push, length-lt}
 use Rattle.lf_mshr.proofs.Once.{HoldsOnce-push}
-use Rattle.lf_mshr.proofs.explicit.ExplicitFile.place.Goals as goal
+use Rattle.lf_mshr.proofs.explicit.ExplicitFile.append.Goals as goal
 
 pub push_reserved-requires : goal.push_reserved-requires
 push_reserved-requires g c =

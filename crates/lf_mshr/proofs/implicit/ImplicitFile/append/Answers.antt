@@ -3,7 +3,7 @@ use Rattle.lf_mshr.specs.RegisterFile.{held_item}
 use Rattle.lf_mshr.proofs.Bounds.{length-lt}
 use Rattle.lf_mshr.proofs.Fields.{IsBelow-push, HasFields-push, IsWithin-from_fields}
 use Rattle.lf_mshr.proofs.Once.{HoldsOnce-push}
-use Rattle.lf_mshr.proofs.implicit.ImplicitFile.place.Goals as goal
+use Rattle.lf_mshr.proofs.implicit.ImplicitFile.append.Goals as goal
 
 pub push_reserved-requires : goal.push_reserved-requires
 push_reserved-requires g c =

@@ -1,0 +1,228 @@
+//! Which rule of the bank an event breaks first. Nothing changes here.
+
+ghost use Rattle.std.specs.Prelude.{◌≡◌, ◌*◌, ◌<◌, ◌/◌, ℕ, true, false, IfNone, List, length};
+ghost use Rattle.std.specs.List.{list_all};
+ghost use Rattle.arrayvec.specs.ArrayVec.{ArrayVec};
+ghost use Rattle.lf_levels.specs.LineTable.{is_full, wide_set};
+ghost use Rattle.lf_rules.specs.Address.{places, set1_of};
+ghost use Rattle.lf_rules.specs.Lines.{has_line, dirty_mask, dirty_masks, same_masks};
+ghost use Rattle.lf_rules.specs.Registers.{Held, holds};
+ghost use Rattle.lf_rules.specs.State.{Asked};
+ghost use Rattle.lf_rules.specs.Table.{is_among, is_apart, is_head, oldest, store_bytes};
+ghost use Rattle.lf_rules.specs.declared.event.Event.TheVariants as event;
+ghost use Rattle.lf_rules.specs.declared.event.Op.{Op};
+ghost use Rattle.lf_replay.specs.BankView.{queue_at, slice_of};
+ghost use Rattle.lf_replay.specs.RegisterRules.{OfMissed, TakesPrimary, TakesMerge, TakesSecondPrimary, TakesSecondMerge};
+ghost use Rattle.lf_replay.specs.Shows.{IsJudged, ShowsReached};
+
+use crate::bank::Bank;
+use crate::carried::wide_agrees;
+use crate::lookup::{are_dirty2, dirty1, fetch, is_among, is_asked};
+use crate::registers::{
+    is_fetched, is_waited_for, merge_rule, primary_rule, second_merge_rule, second_primary_rule,
+};
+use crate::target::asking;
+use lf_mshr::{Organisation, Request1, Request2};
+use lf_rules::{Block, Mask, Masks, Rule, WideBlock};
+use lf_state::{head, ready_for, second_of};
+
+impl<O1: Organisation<Target = Request1>, O2: Organisation<Target = Request2>> Bank<O1, O2> {
+    pub fn judge_issue(&self, tag: u8) -> Option<Rule>
+        ensures { (log size address : ℕ) (op : Op) (bytes : ArrayVec ℕ) → IsJudged self.now log (event.Issue op tag size address bytes) result }
+    {
+        if u32::from(tag) >= self.shape.tags {
+            return Some(Rule::TagRange);
+        }
+        None
+    }
+
+    pub fn judge_reply(&self, log: u8, tag: u8, size: u8, bytes: &Block) -> Option<Rule>
+        ensures { IsJudged self.now log (event.Reply tag size bytes.now) result }
+    {
+        let Some(ready) = ready_for(&self.ready, log, tag) else {
+            return Some(Rule::NotReady);
+        };
+        if usize::from(size) != ready.value().len() {
+            return Some(Rule::ReplySize);
+        }
+        if bytes.as_slice() != ready.value() {
+            return Some(Rule::ReplyData);
+        }
+        None
+    }
+
+    pub fn judge_hit(&self, port: u8, tag: u8) -> Option<Rule>
+        ensures judged { (log : ℕ) → IsJudged self.now log (event.Hit port tag) result }
+        ensures head { IfNone result (is_head (queue_at self.now.queues port) tag ≡ true) }
+        ensures line { IfNone result (has_line self.now.lines1.lines (oldest (queue_at self.now.queues port)).block ≡ true) }
+    {
+        let Some(request) = head(&self.queues, port, tag) else {
+            return Some(Rule::NotHead);
+        };
+        if !self.lines1.has(request.block()) {
+            return Some(Rule::NotPresent);
+        }
+        None
+    }
+
+    pub fn judge_primary(&self, port: u8, tag: u8, register: u16) -> Option<Rule>
+        requires { ShowsReached self.now }
+        ensures judged { (log : ℕ) → IsJudged self.now log (event.Primary port tag register) result }
+        ensures head { IfNone result (is_head (queue_at self.now.queues port) tag ≡ true) }
+        ensures takes { IfNone result (TakesPrimary self.now.shape self.now.waiting port (oldest (queue_at self.now.queues port)) register) }
+    {
+        let Some(request) = head(&self.queues, port, tag) else {
+            return Some(Rule::NotHead);
+        };
+        let block = request.block();
+        if self.lines1.has(block) {
+            return Some(Rule::Present);
+        }
+        let target = asking(&self.shape, port, request);
+        primary_rule::<O1>(&self.waiting, &self.shape, block, &target, register)
+    }
+
+    pub fn judge_merge(&self, port: u8, tag: u8, register: u16) -> Option<Rule>
+        requires { ShowsReached self.now }
+        ensures judged { (log : ℕ) → IsJudged self.now log (event.Merge port tag register) result }
+        ensures head { IfNone result (is_head (queue_at self.now.queues port) tag ≡ true) }
+        ensures takes { IfNone result (TakesMerge self.now.shape self.now.waiting port (oldest (queue_at self.now.queues port)) register) }
+    {
+        let Some(request) = head(&self.queues, port, tag) else {
+            return Some(Rule::NotHead);
+        };
+        let block = request.block();
+        let target = asking(&self.shape, port, request);
+        merge_rule::<O1>(&self.waiting, &self.shape, block, &target, register)
+    }
+
+    /// `stores` are the bytes that waiting stores of the block write.
+    pub fn judge_fill1(&self, block: u32, bytes: &Block, stores: u64) -> Option<Rule>
+        requires whole { length bytes.now.items ≡ self.now.shape.block }
+        requires stores { OfMissed self.now.shape self.now.waiting (λ missed. stores ≡ store_bytes missed block) }
+        ensures judged { (log : ℕ) → IsJudged self.now log (event.Fill1 block bytes.now) result }
+        ensures supplied { IfNone result (is_among self.now.supplied block ≡ true) }
+        ensures room { IfNone result (is_full set1_of self.now.lines1 block ≡ false) }
+    {
+        if !is_among(&self.supplied, block) {
+            return Some(Rule::NotSupplied);
+        }
+        if self.lines1.full(block) {
+            return Some(Rule::SetFull);
+        }
+        if !self.memory.agrees_off(&self.shape, block, bytes, stores) {
+            return Some(Rule::FillData);
+        }
+        None
+    }
+
+    pub fn judge_evict1(&self, block: u32, mask: Mask, bytes: &Block) -> Option<Rule>
+        ensures judged { (log : ℕ) → IsJudged self.now log (event.Evict1 block mask bytes.now) result }
+        ensures line { IfNone result (has_line self.now.lines1.lines block ≡ true) }
+        ensures dirty { IfNone result (mask.0 ≡ dirty_mask self.now.lines1.lines block) }
+    {
+        if !self.lines1.has(block) {
+            return Some(Rule::EvictAbsent);
+        }
+        if mask.0 != dirty1(&self.lines1, block) {
+            return Some(Rule::EvictMask);
+        }
+        if !self.memory.carries(&self.shape, block, mask, bytes) {
+            return Some(Rule::EvictData);
+        }
+        None
+    }
+
+    pub fn judge_second_hit(&self, block: u32) -> Option<Rule>
+        ensures { (log : ℕ) → IsJudged self.now log (event.SecondHit block) result }
+    {
+        if !is_asked(&self.asked, block) {
+            return Some(Rule::NotAsked);
+        }
+        if !self.lines2.has(second_of(&self.shape, block)) {
+            return Some(Rule::SecondAbsent);
+        }
+        None
+    }
+
+    pub fn judge_second_primary(&self, block: u32, register: u16) -> Option<Rule>
+        ensures judged { (log : ℕ) → IsJudged self.now log (event.SecondPrimary block register) result }
+        ensures takes { IfNone result (TakesSecondPrimary self.now.shape self.now.regs2 self.now.asked block register) }
+    {
+        if !is_asked(&self.asked, block) {
+            return Some(Rule::NotAsked);
+        }
+        let second = second_of(&self.shape, block);
+        if self.lines2.has(second) {
+            return Some(Rule::SecondPresent);
+        }
+        let target = fetch(&self.shape, &self.asked, block);
+        second_primary_rule::<O2>(&self.regs2, &self.shape, second, &target, register)
+    }
+
+    pub fn judge_second_merge(&self, block: u32, register: u16) -> Option<Rule>
+        ensures judged { (log : ℕ) → IsJudged self.now log (event.SecondMerge block register) result }
+        ensures takes { IfNone result (TakesSecondMerge self.now.shape self.now.regs2 self.now.asked block register) }
+    {
+        if !is_asked(&self.asked, block) {
+            return Some(Rule::NotAsked);
+        }
+        let second = second_of(&self.shape, block);
+        if self.lines2.has(second) {
+            return Some(Rule::SecondPresent);
+        }
+        let target = fetch(&self.shape, &self.asked, block);
+        second_merge_rule::<O2>(&self.regs2, &self.shape, second, &target, register)
+    }
+
+    pub fn judge_fill2(&self, second: u32, bytes: &WideBlock) -> Option<Rule>
+        requires fits { second < 0x1_0000_0000 / self.now.shape.factor }
+        requires whole { length bytes.now.items ≡ self.now.shape.factor * self.now.shape.block }
+        ensures judged { (log : ℕ) → IsJudged self.now log (event.Fill2 second bytes.now) result }
+        ensures fetched { IfNone result (holds self.now.regs2.held second ≡ true) }
+        ensures room { IfNone result (is_full wide_set self.now.lines2 second ≡ false) }
+    {
+        if !is_fetched::<O2>(&self.regs2, second) {
+            return Some(Rule::NotFetched);
+        }
+        if self.lines2.full(second) {
+            return Some(Rule::SetFull);
+        }
+        if !wide_agrees::<O1>(&self.shape, &self.memory, &self.waiting, second, bytes) {
+            return Some(Rule::FillData);
+        }
+        None
+    }
+
+    /// Whether level one has neither a line nor a register on any block of the second-level block.
+    fn may_leave(&self, second: u32) -> bool
+        requires { second < 0x1_0000_0000 / self.now.shape.factor }
+        ensures { OfMissed self.now.shape self.now.waiting (λ missed. (fetched : List (Held Asked))
+            → result ≡ list_all (is_apart self.now.shape (slice_of self.now missed fetched) second) (places self.now.shape)) }
+    {
+        let in_register = is_waited_for::<O1>(&self.waiting, &self.shape, second);
+        self.lines2.may_leave(second, &self.lines1, in_register)
+    }
+
+    pub fn judge_evict2(&self, second: u32, masks: &Masks, bytes: &WideBlock) -> Option<Rule>
+        requires fits { second < 0x1_0000_0000 / self.now.shape.factor }
+        requires count { length masks.now.items ≡ self.now.shape.factor }
+        ensures judged { (log : ℕ) → IsJudged self.now log (event.Evict2 second masks.now bytes.now) result }
+        ensures line { IfNone result (has_line self.now.lines2.lines second ≡ true) }
+        ensures dirty { IfNone result (same_masks self.now.shape.factor masks.now (dirty_masks self.now.lines2.lines second) ≡ true) }
+    {
+        if !self.lines2.has(second) {
+            return Some(Rule::EvictAbsent);
+        }
+        if !self.may_leave(second) {
+            return Some(Rule::Inclusion);
+        }
+        if !are_dirty2(self.shape.factor, &self.lines2, second, masks) {
+            return Some(Rule::EvictMask);
+        }
+        if !self.memory.wide_carries(&self.shape, second, masks, bytes) {
+            return Some(Rule::EvictData);
+        }
+        None
+    }
+}
