@@ -1,5 +1,5 @@
 -- What the reader's own steps do with the bytes of a piece.
-use Rattle.std.specs.Prelude.{◌≡◌, ◌⊎◌, ◌==◌, ◌++◌, ℕ, ◌+◌, List, ◌<◌, ◌≤◌, false, length, take, slice_index, Some, None, Result, Ok, Err}
+use Rattle.std.specs.Prelude.{◌≡◌, ◌⊎◌, ◌==◌, ◌++◌, ℕ, ◌+◌, List, ◌<◌, ◌≤◌, false, Option, length, take, slice_index, Some, None, Result, Ok, Err}
 use Rattle.lf_rules.specs.declared.event.Event.{Event}
 use Rattle.lf_rules.specs.declared.event.Record.{Record}
 use Rattle.lf_codec.specs.declared.fault.CodecCause.{CodecCause}
@@ -11,8 +11,9 @@ use Rattle.lf_codec.specs.declared.stage.Head.{Head}
 use Rattle.lf_codec.specs.declared.stage.Found.{Found}
 use Rattle.lf_codec.specs.declared.progress.Progress.{Progress}
 use Rattle.lf_codec.specs.declared.stage.Found.TheVariants as found
+use Rattle.lf_codec.specs.declared.stage.Stage.TheVariants as stages
 use Rattle.lf_codec.specs.Checks.{byte_at, judged, head_checks, fixed_checks, stage_checks}
-use Rattle.lf_codec.specs.Steps.{fixed_len, data_len, head_at, event_at, advanced}
+use Rattle.lf_codec.specs.Steps.{fixed_len, data_len, head_at, event_at, counted, advanced}
 use Rattle.lf_codec.specs.Reading.{Reading, stepped, end_of, truncated_at, byte_read, read_on, header_now}
 use Rattle.lf_codec.specs.Reader.{HasOneMore}
 
@@ -93,3 +94,11 @@ pub record IsUnkept (old : Reading) (bytes : List ℕ) (new : Reading) (fault : 
 abbrev pub TakesStep : Reading → List ℕ → Result (Unit {0}) CodecFault → Reading → Type 0
 TakesStep old bytes (Ok _) new = (new ≡ stepped old bytes) × (new.fault ≡ None)
 TakesStep old bytes (Err fault) new = (new.fault ≡ Some fault) × ((new ≡ stepped old bytes) ⊎ IsUnkept old bytes new fault)
+
+-- the record at the front of these bytes, of so many of them, is put into the place and counted
+pub record ReadsInto (old : Progress) (bytes : List ℕ) (n : ℕ) (place : Option Record) (new : Progress) : Type 0 where
+  pub item : Record
+  pub is_placed : place ≡ Some item
+  pub stage : old.stage ≡ stages.Head
+  pub whole : IsWhole old bytes item n
+  pub is_counted : new ≡ counted old n item.log

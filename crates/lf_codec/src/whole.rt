@@ -1,8 +1,8 @@
 //! An event record that stands whole in a piece.
 
-ghost use Rattle.std.specs.Prelude.{◌≡◌, ◌++◌, length, IfSome};
+ghost use Rattle.std.specs.Prelude.{◌≡◌, ◌++◌, length, IfSome, IfNone};
 ghost use Rattle.lf_codec.specs.declared.stage.Stage.TheVariants as stages;
-ghost use Rattle.lf_codec.specs.Takes.{IsWholeHead, IsWholeEvent, IsWhole};
+ghost use Rattle.lf_codec.specs.Takes.{IsWholeHead, IsWholeEvent, ReadsInto};
 
 use crate::checks::{check_fixed, check_head};
 use crate::event::event_at;
@@ -61,38 +61,62 @@ impl Progress {
         Some((event, 8 + fixed.len() + carried.len()))
     }
 
-    /// The next record and how many bytes it has, where the bytes have it whole and all of its checks
-    /// pass. Each call names its kind: `whole_event` and what it calls are inlined, so that the code of a
-    /// kind has its own lengths and no test of another kind.
-    pub(crate) fn whole_record(&self, bytes: &[u8]) -> Option<(Record, usize)>
-        requires { IsSound self.now }
-        ensures stage { IfSome result (λ found. self.now.stage ≡ stages.Head) }
-        ensures whole { IfSome result (λ found. IsWhole self.now bytes.now found.0 found.1) }
+    /// Reads the event of this kind behind its record's head, where the bytes have it whole and its checks
+    /// pass: puts the record into `place`, counts it and says how many bytes it has. Otherwise nothing
+    /// changes.
+    #[inline(always)]
+    fn read_event(
+        &mut self,
+        kind: Kind,
+        head: Head,
+        bytes: &[u8],
+        rest: &[u8],
+        place: &mut Option<Record>,
+    ) -> Option<usize>
+        requires sound { IsSound self.old }
+        requires stage { self.old.stage ≡ stages.Head }
+        requires kind { kind ≡ head.kind }
+        requires front { IsWholeHead self.old bytes.now head rest.now }
+        ensures some { IfSome result (λ n. ReadsInto self.old bytes.now n place.new self.new) }
+        ensures none { IfNone result (self.new ≡ self.old) }
     {
-        let (head, rest) = self.whole_head(bytes)?;
-        let (event, len) = match head.kind {
-            Kind::Issue => self.whole_event(Kind::Issue, head.bank, rest)?,
-            Kind::Reply => self.whole_event(Kind::Reply, head.bank, rest)?,
-            Kind::Hit => self.whole_event(Kind::Hit, head.bank, rest)?,
-            Kind::Primary => self.whole_event(Kind::Primary, head.bank, rest)?,
-            Kind::Merge => self.whole_event(Kind::Merge, head.bank, rest)?,
-            Kind::Stall => self.whole_event(Kind::Stall, head.bank, rest)?,
-            Kind::Fill1 => self.whole_event(Kind::Fill1, head.bank, rest)?,
-            Kind::Evict1 => self.whole_event(Kind::Evict1, head.bank, rest)?,
-            Kind::SecondHit => self.whole_event(Kind::SecondHit, head.bank, rest)?,
-            Kind::SecondPrimary => self.whole_event(Kind::SecondPrimary, head.bank, rest)?,
-            Kind::SecondStall => self.whole_event(Kind::SecondStall, head.bank, rest)?,
-            Kind::Fill2 => self.whole_event(Kind::Fill2, head.bank, rest)?,
-            Kind::Evict2 => self.whole_event(Kind::Evict2, head.bank, rest)?,
-            Kind::Fence => self.whole_event(Kind::Fence, head.bank, rest)?,
-            Kind::SecondMerge => self.whole_event(Kind::SecondMerge, head.bank, rest)?,
-        };
-        let item = Record {
+        let (event, len) = self.whole_event(kind, head.bank, rest)?;
+        *place = Some(Record {
             log: head.log,
             bank: head.bank,
             number: head.number,
             event,
-        };
-        Some((item, len))
+        });
+        self.count(len as u64, head.log);
+        Some(len)
+    }
+
+    /// Reads the next record, where the bytes have it whole and all of its checks pass: puts it into
+    /// `place`, counts it and says how many bytes it has. Otherwise nothing changes. Each call of
+    /// `read_event` names its kind: that and what it calls are inlined, so that the code of a kind has its
+    /// own lengths, has no test of another kind, and writes the record once.
+    pub(crate) fn read_record(&mut self, bytes: &[u8], place: &mut Option<Record>) -> Option<usize>
+        requires { IsSound self.old }
+        ensures some { IfSome result (λ n. ReadsInto self.old bytes.now n place.new self.new) }
+        ensures none { IfNone result (self.new ≡ self.old) }
+    {
+        let (head, rest) = self.whole_head(bytes)?;
+        match head.kind {
+            Kind::Issue => self.read_event(Kind::Issue, head, bytes, rest, place),
+            Kind::Reply => self.read_event(Kind::Reply, head, bytes, rest, place),
+            Kind::Hit => self.read_event(Kind::Hit, head, bytes, rest, place),
+            Kind::Primary => self.read_event(Kind::Primary, head, bytes, rest, place),
+            Kind::Merge => self.read_event(Kind::Merge, head, bytes, rest, place),
+            Kind::Stall => self.read_event(Kind::Stall, head, bytes, rest, place),
+            Kind::Fill1 => self.read_event(Kind::Fill1, head, bytes, rest, place),
+            Kind::Evict1 => self.read_event(Kind::Evict1, head, bytes, rest, place),
+            Kind::SecondHit => self.read_event(Kind::SecondHit, head, bytes, rest, place),
+            Kind::SecondPrimary => self.read_event(Kind::SecondPrimary, head, bytes, rest, place),
+            Kind::SecondStall => self.read_event(Kind::SecondStall, head, bytes, rest, place),
+            Kind::Fill2 => self.read_event(Kind::Fill2, head, bytes, rest, place),
+            Kind::Evict2 => self.read_event(Kind::Evict2, head, bytes, rest, place),
+            Kind::Fence => self.read_event(Kind::Fence, head, bytes, rest, place),
+            Kind::SecondMerge => self.read_event(Kind::SecondMerge, head, bytes, rest, place),
+        }
     }
 }

@@ -119,6 +119,49 @@ fn record_by_record(rt: HostRuntime) -> Result<(), Fail> {
     Ok(())
 }
 
+/// Each record is put into the place, and none where the bytes end within a step.
+#[test]
+fn records_into_a_place(rt: HostRuntime) -> Result<(), Fail> {
+    let records = records(rt.alloc(), &C1, &[LOAD, LOADED])?;
+    let mut expected = records.iter();
+    let mut reader = Reader::new(rt.alloc());
+    let mut place = None;
+    let mut rest: &[u8] = &LOAD_MISSES_BOTH_LEVELS;
+    for _ in 0..132u8 {
+        let n = reader.feed_one(rest, &mut place)?;
+        let (_, behind) = rest.split_at(n.min(rest.len()));
+        rest = behind;
+        if place.is_some() {
+            assert_eq!(rt; place.as_ref(), expected.next());
+        }
+        assert_eq!(rt; reader.front(), None);
+    }
+    assert!(rt; rest.is_empty());
+    assert_eq!(rt; expected.next(), None);
+    assert_eq!(rt; reader.finish()?, ONE_BANK);
+    assert!(rt; reader.feed_one(&[0], &mut place).is_err());
+    assert_eq!(rt; place, None);
+    Ok(())
+}
+
+/// A record that waits with the reader is put into the place before any later one.
+#[test]
+fn waiting_records_into_a_place(rt: HostRuntime) -> Result<(), Fail> {
+    let records = records(rt.alloc(), &C1, &[LOAD, LOADED])?;
+    let mut reader = Reader::new(rt.alloc());
+    let mut place = None;
+    let (front, back) = LOAD_MISSES_BOTH_LEVELS.split_at(100);
+    reader.feed(front)?;
+    let mut rest = back;
+    for item in records.iter() {
+        let n = reader.feed_one(rest, &mut place)?;
+        let (_, behind) = rest.split_at(n.min(rest.len()));
+        rest = behind;
+        assert_eq!(rt; place.as_ref(), Some(item));
+    }
+    Ok(())
+}
+
 /// All records at once, in their order. The queue that the reader takes for them is the next to be filled.
 #[test]
 fn records_all_at_once(rt: HostRuntime) -> Result<(), Fail> {

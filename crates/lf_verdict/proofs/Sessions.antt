@@ -1,6 +1,6 @@
 -- What a session takes from its reader, and what it answers.
 use Rattle.std.proofs.Common.{◌≡◌, ℕ, ◌-◌, ◌<◌, ◌≤◌, List, [], ◌∷◌, ◌++◌, length, Option, Some, None, Ok, Err, refl, sym, ap, ◌∙◌, subst, ◌⊎◌, inl, inr, ⊎_elim, ◌^◌, append_assoc, arith}
-use Rattle.std.specs.Prelude.{◌==◌, slice_index}
+use Rattle.std.specs.Prelude.{◌==◌, slice_index, option_to_list, OnOk, Result}
 use Rattle.std.specs.List.{AllByRecursion}
 use Rattle.std.proofs.lemmas.List.{append-nil, length-append, take-append-le, get_or_append_left, get_or-append_right}
 use Rattle.std.proofs.lemmas.List.Elements.{filter-append}
@@ -23,7 +23,7 @@ use Rattle.lf_verdict.proofs.Traces.{fits_shape}
 use Rattle.lf_verdict.proofs.Answered.{limit_is_small}
 use Rattle.lf_verdict.proofs.Pendings.{none_pending}
 use Rattle.lf_codec.specs.Reading.{Reading, reading_of, fault_so_far, header_now, header_of}
-use Rattle.lf_codec.specs.Reader.{HasRead, RanOut, told, fault_in}
+use Rattle.lf_codec.specs.Reader.{HasRead, RanOut, told, fault_in, with_record}
 use Rattle.lf_codec.specs.Trace.{IsTrace, FitsIn}
 use Rattle.lf_verdict.specs.declared.answer.Verdict.TheVariants.{Refused}
 use Rattle.lf_verdict.specs.declared.answer.HeaderField.{HeaderField}
@@ -75,6 +75,25 @@ pub running_more : (shape : Shape) (bytes : List ℕ) (memory : List (ℕ × Byt
     → new.records.items ≡ [] → StandsAfterAll shape (flat_memory memory) more new.standing → IsRunning shape bytes memory more new
 running_more shape bytes memory records more old new running none stands =
     record { header = running.header; read = running.read; agrees = running.agrees; whole = running.whole; stands = none_pending shape (flat_memory memory) more new none stands }
+
+-- where it ends well
+pub on_ok : {F : Type 0} {P Q : Type 0} (result : Result (Unit {0}) F) → OnOk result P → (P → Q) → OnOk result Q
+on_ok (Ok u) p f = f p
+on_ok (Err e) p f = tt
+
+-- the record that the reader gave last may come
+pub place_may_come : WhatIsReadFits → (shape : Shape) (bytes : List ℕ) (memory : List (ℕ × Bytes)) (records : List Record) (r : Reading) (running : Pending) (place : Option Record)
+    → HasRead (with_record place r) bytes memory records → IsRunning shape bytes memory records running → MayAllCome shape records (option_to_list place)
+place_may_come law shape bytes memory records r running None read run = tt
+place_may_come law shape bytes memory records r running (Some item) read run = (may_come law shape bytes memory records (with_record (Some item) r) running item r.records read run refl, tt)
+
+-- what the reader gave stood in front
+pub given_one : (r : Reading) (place : Option Record) (bytes : List ℕ) (memory : List (ℕ × Bytes)) (records : List Record) → HasRead (with_record place r) bytes memory records
+    → HasRead r bytes memory (records ++ option_to_list place)
+given_one r place bytes memory records read = record {
+  are_bytes = read.are_bytes;
+  same = read.same ∙ ap (λ (rs : List Record). record r { memory = memory ++ r.memory; records = rs }) (sym (append_assoc records (option_to_list place) r.records));
+}
 
 -- all that the reader has found may come
 pub may_all_come : WhatIsReadFits → (shape : Shape) (bytes : List ℕ) (memory : List (ℕ × Bytes)) (records : List Record) (r : Reading) (running : Pending)

@@ -58,6 +58,11 @@ pub record HasJudged (s : Intake) (bytes : List ℕ) (records : List Record) : T
 abbrev pub HasTaken : Intake → List ℕ → Type 0
 HasTaken s bytes = (records : List Record) × HasJudged s bytes records
 
+-- Records are judged.
+abbrev pub IsRunningNow : Judging → Type 0
+IsRunningNow (Running running) = Unit {0}
+IsRunningNow _ = ⊥
+
 -- No memory record waits in the reader, and the header is not there or lacks memory records.
 pub record IsLacking (reader : Reading) (memory : List (ℕ × Bytes)) : Type 0 where
   pub none : reader.memory ≡ []

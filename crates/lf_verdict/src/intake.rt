@@ -1,17 +1,18 @@
 //! What a session keeps of the bytes that it was fed.
 
-ghost use Rattle.std.specs.Prelude.{◌≡◌, ◌<◌, ◌++◌, ℕ, List, [], Some, None, IsSome, IfSome, IfOk, Ok, OnOk};
+ghost use Rattle.std.specs.Prelude.{◌≡◌, ◌<◌, ◌++◌, ℕ, List, [], Some, None, IsSome, IfSome, IfOk, Ok, OnOk, option_to_list};
 ghost use Rattle.lf_rules.specs.InRange.{IsShape};
 ghost use Rattle.lf_verdict.specs.Judging.{IsAnswer};
-ghost use Rattle.lf_verdict.specs.Session.{refusal_of, stop_told, IsStopOf, IsRunning, HasTaken, IsLackingIf, IsDrained, HasFed, HasReadOn};
-ghost use Rattle.lf_codec.specs.Reader.{fault_in, answer_of, bytes_taken, TakesSome};
+ghost use Rattle.lf_verdict.specs.Session.{refusal_of, stop_told, IsStopOf, IsRunning, HasTaken, IsLackingIf, IsDrained, IsRunningNow, HasFed, HasReadOn};
+ghost use Rattle.lf_codec.specs.Reader.{fault_in, answer_of, bytes_taken, with_record, TakesSome};
 ghost use Rattle.lf_verdict.specs.declared.intake.Judging.TheVariants.{Waiting};
 ghost use Rattle.lf_rules.specs.declared.shape.Shape.{Shape};
 ghost use Rattle.lf_rules.specs.declared.event.Record.{Record};
 ghost use Rattle.lf_rules.specs.Fits.{Bytes};
 ghost use Rattle.lf_codec.specs.Reader.{HasRead};
 ghost use Rattle.std.specs.Thread.{IsSync};
-ghost use Rattle.lf_verdict.specs.Standing.{CanBeJudged, JudgesAll};
+ghost use Rattle.lf_rules.specs.Address.{FlatMemory};
+ghost use Rattle.lf_verdict.specs.Standing.{CanBeJudged, JudgesAll, IsPendingAfter, MayAllCome, StandsAfterAll};
 
 use crate::answer::{HeaderField, Refusal, Verdict};
 use crate::header::differing;
@@ -20,7 +21,7 @@ use crate::standing::Standing;
 use lf_codec::{
     CodecCause, CodecFault, Reader, Told, exact_reading, faults_stand, header_of_bytes, read_so_far,
 };
-use lf_rules::{Memory, NoMemory, Shape};
+use lf_rules::{Memory, NoMemory, Record, Shape};
 use std::alloc::Global;
 use std::mem;
 use std::thread::{Threads, join_mut};
@@ -133,6 +134,46 @@ fn judge_records(reader: &mut Reader, pending: &mut Pending) -> Result<(), NoMem
     Ok(())
 }
 
+/// Judges the record in the place, where there is one.
+fn judge_one(pending: &mut Pending, place: &mut Option<Record>) -> Result<(), NoMemory>
+    requires { (shape : Shape) × ((memory : FlatMemory) × ((records : List Record) ×
+        (IsPendingAfter shape memory records pending.old × MayAllCome shape records (option_to_list place.old)))) }
+    ensures { (shape : Shape) (memory : FlatMemory) (records : List Record) → IsPendingAfter shape memory records pending.old
+        → MayAllCome shape records (option_to_list place.old)
+        → OnOk result (StandsAfterAll shape memory (records ++ option_to_list place.old) pending.new.standing × (pending.new.records.items ≡ [])) }
+{
+    pending.judge()?;
+    let Some(item) = place.as_ref() else {
+        return Ok(());
+    };
+    if pending.standing.offer(item)? {
+        return Ok(());
+    }
+    match place.take() {
+        Some(item) => pending.standing.keep(item),
+        None => unreachable!(),
+    }
+}
+
+/// Judges the record in the place, and those that the reader has found beside it.
+fn judge_placed(
+    reader: &mut Reader,
+    pending: &mut Pending,
+    place: &mut Option<Record>,
+) -> Result<(), NoMemory>
+    requires { (shape : Shape) × ((bytes : List ℕ) × ((memory : List (ℕ × Bytes)) × ((records : List Record) ×
+        (HasRead (with_record place.old reader.old) bytes memory records × IsRunning shape bytes memory records pending.old)))) }
+    ensures judged { (shape : Shape) (bytes : List ℕ) (memory : List (ℕ × Bytes)) (records : List Record)
+        → HasRead (with_record place.old reader.old) bytes memory records → IsRunning shape bytes memory records pending.old
+        → OnOk result ((more : List Record) × (HasRead reader.new bytes memory more × IsRunning shape bytes memory more pending.new)) }
+    ensures fault { reader.new.fault ≡ reader.old.fault }
+    ensures drained { OnOk result (reader.new.records ≡ []) }
+{
+    read_so_far();
+    judge_one(pending, place)?;
+    judge_records(reader, pending)
+}
+
 impl Intake {
     /// Nothing was fed yet.
     pub fn new(alloc: Global, shape: &Shape) -> Intake
@@ -211,6 +252,22 @@ impl Intake {
         }
     }
 
+    /// Judges the record in the place, while the records are judged.
+    fn judge_with(&mut self, place: &mut Option<Record>) -> Result<(), NoMemory>
+        requires taken { (bytes : List ℕ) × HasTaken (record self.old { reader = with_record place.old self.old.reader }) bytes }
+        requires running { IsRunningNow self.old.judging }
+        ensures shape { self.new.shape ≡ self.old.shape }
+        ensures stop { self.new.stop ≡ self.old.stop }
+        ensures taken { (bytes : List ℕ) → HasTaken (record self.old { reader = with_record place.old self.old.reader }) bytes
+            → OnOk result (HasTaken self.new bytes) }
+        ensures drained { OnOk result (IsDrained self.new.judging self.new.reader self.new.memory.items) }
+    {
+        match &mut self.judging {
+            Judging::Running(pending) => judge_placed(&mut self.reader, pending, place),
+            _ => unreachable!(),
+        }
+    }
+
     /// Begins to judge once the header and the memory are whole.
     fn open(&mut self) -> Result<(), NoMemory>
         requires taken { (bytes : List ℕ) × HasTaken self.old bytes }
@@ -247,9 +304,10 @@ impl Intake {
         if let Some(stop) = self.stop {
             return Err(Told::Failed(refusal_of(stop)));
         }
+        let mut place = None;
         let mut at = 0;
         while at < piece.len() {
-            match self.feed_some(&piece[at..]) {
+            match self.feed_record(&piece[at..], &mut place) {
                 Ok(n) => at += n,
                 Err(told) => return Err(told),
             }
@@ -333,6 +391,40 @@ impl Intake {
             }
         };
         match self.take_all() {
+            Ok(()) => Ok(n),
+            Err(NoMemory) => {
+                self.stop = Some(Stop::Memory);
+                Err(Told::Fault(Refusal::Memory))
+            }
+        }
+    }
+
+    /// The same. While the records are judged each is written to the place and judged there.
+    fn feed_record(
+        &mut self,
+        bytes: &[u8],
+        place: &mut Option<Record>,
+    ) -> Result<usize, Told<Refusal>>
+        requires fed { (fed : List ℕ) × HasFed self.old fed }
+        requires going { self.old.stop ≡ None }
+        ensures shape { self.new.shape ≡ self.old.shape }
+        ensures some { IfOk result (TakesSome bytes.now) }
+        ensures fed { (fed : List ℕ) → HasFed self.old fed → HasFed self.new (fed ++ bytes_taken result bytes.now) }
+        ensures told { answer_of result ≡ stop_told self.old.stop self.new.stop }
+    {
+        let Judging::Running(_) = self.judging else {
+            return self.feed_some(bytes);
+        };
+        header_of_bytes();
+        let n = match self.reader.feed_one(bytes, place) {
+            Ok(n) => n,
+            Err(told) => {
+                let stop = stop_of(told);
+                self.stop = Some(stop);
+                return Err(Told::Fault(refusal_of(stop)));
+            }
+        };
+        match self.judge_with(place) {
             Ok(()) => Ok(n),
             Err(NoMemory) => {
                 self.stop = Some(Stop::Memory);

@@ -1,29 +1,33 @@
-use Rattle.std.proofs.Common.{◌≡◌, ◌++◌, ◌∷◌, [], None, refl, sym}
+use Rattle.std.proofs.Common.{◌≡◌, ◌++◌, ◌∷◌, [], List, Some, None, sym, ap, ◌∙◌}
 use Rattle.std.proofs.lemmas.Bool.{eqb-true}
 use Rattle.std.proofs.lemmas.List.{nil_from_length}
+use Rattle.lf_rules.specs.declared.event.Record.{Record}
+use Rattle.lf_codec.specs.declared.progress.Progress.{Progress}
 use Rattle.lf_codec.specs.Steps.{counted}
 use Rattle.lf_codec.specs.Reading.{Reading}
 use Rattle.lf_codec.proofs.Soundness.{sound_reader}
-use Rattle.lf_codec.proofs.WholeRecord.{log_exists, sound_behind, taken_at_once}
+use Rattle.lf_codec.proofs.WholeRecord.{sound_behind, taken_at_once}
 use Rattle.lf_codec.proofs.reader.Reader.take_record.Goals as goal
 
-pub count-requires-clause-log : goal.count-requires-clause-log
-count-requires-clause-log c =
-    log_exists c.self.inside.progress c.args.bytes.now c.in-Some.item c.in-Some.len c.in-Some.ensures.whole c.in-Some.ensures.stage c.self.invariant.sound
-
-pub invariant_of-self : goal.invariant_of-self
-invariant_of-self c =
+pub invariant_of-self-in-Some : goal.invariant_of-self-in-Some
+invariant_of-self-in-Some c =
     let p = c.self.inside.progress in
+    let into = c.in_ok-len.ensures.some in
     let empty : c.self.inside.pending.items ≡ [] = nil_from_length c.self.inside.pending.items (eqb-true _ _ (sym c.if-not-is_empty.ensures)) in
-    let sound = sound_behind p c.args.bytes.now c.in-Some.item c.in-Some.len c.in-Some.ensures.whole c.in-Some.ensures.stage c.self.invariant.sound in
-    rw (empty, c.count.ensures) (sound_reader (counted p c.in-Some.len c.in-Some.item.log) sound)
+    rw (empty, into.is_counted) (sound_reader (counted p c.in_ok-len.len into.item.log) (sound_behind p c.args.bytes.now into.item c.in_ok-len.len into.whole into.stage c.self.invariant.sound))
 
 pub returns-clause-some : goal.returns-clause-some
 returns-clause-some c =
     let r : Reading = record { progress = c.self.inside.progress; pending = c.self.inside.pending.items; memory = c.self.inside.memory.items; records = c.self.inside.records.items; fault = c.self.inside.fault } in
-    let new : Reading = record { progress = c.count.new.self; pending = c.self.inside.pending.items; memory = c.self.inside.memory.items; records = c.push_back_reserved.new.self.items; fault = c.self.inside.fault } in
+    let new : Reading = record r { progress = c.read_record.new.self; records = c.push_back_reserved.new.self.items } in
+    let len = c.in_ok-len.len in
+    let into = c.in_ok-len.ensures.some in
     let fine : r.fault ≡ None = rw (← c.self.view_is) at c.requires in
     let empty : r.pending ≡ [] = nil_from_length c.self.inside.pending.items (eqb-true _ _ (sym c.if-not-is_empty.ensures)) in
-    let same : new ≡ record r { progress = counted r.progress c.in-Some.len c.in-Some.item.log; records = r.records ++ c.in-Some.item ∷ [] } =
-    rw (c.count.ensures, c.push_back_reserved.ensures.items) refl in
-    rw (← c.self.view_is) (taken_at_once r new c.args.bytes.now c.in-Some.item c.in-Some.len fine empty c.in-Some.ensures.stage c.in-Some.ensures.whole c.self.invariant.sound same)
+    let placed : Some c.in-Some.item ≡ Some into.item = sym c.in-Some.is ∙ into.is_placed in
+    let one : c.in-Some.item ≡ into.item = cc in
+    let longer : c.push_back_reserved.new.self.items ≡ r.records ++ into.item ∷ [] = c.push_back_reserved.ensures.items ∙ ap (λ (i : Record). r.records ++ i ∷ []) one in
+    let same : new ≡ record r { progress = counted r.progress len into.item.log; records = r.records ++ into.item ∷ [] } =
+    ap (λ (p : Progress). record r { progress = p; records = c.push_back_reserved.new.self.items }) into.is_counted
+    ∙ ap (λ (rs : List Record). record r { progress = counted r.progress len into.item.log; records = rs }) longer in
+    rw (← c.self.view_is) (taken_at_once r new c.args.bytes.now into.item len fine empty into.stage into.whole c.self.invariant.sound same)

@@ -1,0 +1,31 @@
+use Rattle.std.proofs.Common.{◌++◌, List}
+use Rattle.std.specs.Prelude.{option_to_list}
+use Rattle.lf_rules.specs.Address.{flat_memory}
+use Rattle.lf_verdict.proofs.Sessions.{running_more, place_may_come, given_one}
+use Rattle.lf_verdict.proofs.intake.judge_placed.Goals as goal
+
+pub judge_one-requires : goal.judge_one-requires
+judge_one-requires c =
+    let r = c.requires in
+    let run = r.1.1.1.1.1 in
+    (r.0, (flat_memory r.1.1.0, (r.1.1.1.0, (run.stands, place_may_come c.read_so_far.ensures r.0 r.1.0 r.1.1.0 r.1.1.1.0 c.args.reader.now c.args.pending.now c.args.place.now r.1.1.1.1.0 run))))
+
+pub judge_records-requires : goal.judge_records-requires
+judge_records-requires c =
+    let r = c.requires in
+    let place = c.args.place.now in
+    let read = r.1.1.1.1.0 in
+    let run = r.1.1.1.1.1 in
+    let may = place_may_come c.read_so_far.ensures r.0 r.1.0 r.1.1.0 r.1.1.1.0 c.args.reader.now c.args.pending.now place read run in
+    let judged = c.in_ok-judge_one.ensures r.0 (flat_memory r.1.1.0) r.1.1.1.0 run.stands may in
+    let more = r.1.1.1.0 ++ option_to_list place in
+    (r.0, (r.1.0, (r.1.1.0, (more, (given_one c.args.reader.now place r.1.0 r.1.1.0 r.1.1.1.0 read, running_more r.0 r.1.0 r.1.1.0 r.1.1.1.0 more c.args.pending.now c.judge_one.new.pending run judged.1 judged.0)))))
+
+pub returns-clause-judged : goal.returns-clause-judged
+returns-clause-judged c shape bytes memory records read run =
+    let place = c.args.place.now in
+    let may = place_may_come c.read_so_far.ensures shape bytes memory records c.args.reader.now c.args.pending.now place read run in
+    let judged = c.in_ok-judge_one.ensures shape (flat_memory memory) records run.stands may in
+    let more = records ++ option_to_list place in
+    c.judge_records.ensures.judged shape bytes memory more (given_one c.args.reader.now place bytes memory records read)
+    (running_more shape bytes memory records more c.args.pending.now c.judge_one.new.pending run judged.1 judged.0)
