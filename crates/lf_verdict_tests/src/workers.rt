@@ -86,7 +86,7 @@ fn assert_met_by_run_jobs<T: Abort + AllocGlobal + Threads + Wait + Sync>(
     let gate = Meeting::of(workers);
     match run_jobs(rt, rt.alloc(), &jobs, workers, &gate) {
         Ok(outcomes) => {
-            assert_eq!(rt; outcomes.as_slice(), &[Outcome::Passed; 5]);
+            assert_eq!(rt; outcomes.as_slice(), [Outcome::Passed; 5].as_slice());
             assert_eq!(rt; gate.met.load(Ordering::SeqCst), u64::from(workers));
             Ok(())
         }
