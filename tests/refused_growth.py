@@ -12,7 +12,8 @@ of `demo` are tried at some growths alone, since their number changes from run t
 Each test whose name begins with `refused_growth_of_` must then end with `want of memory`, where the call told it
 and what it left was right, or with `want of a thread` where the making of a thread was refused, which may have been
 the memory that it takes (a call with one worker has a clause that it never tells so); with AllocError or no memory
-where the growth was one of the samples that the test makes, before the call. Other ends are findings: a test that
+where the growth was one of the samples that the test makes, before the call. The test of a session that is fed by
+two workers also ends well where a thread was refused, or the memory for one. Other ends are findings: a test that
 ends well, since an answer was given in place of want of memory, and one that an assertion stopped. The tests of
 `TOLD` are examples of further calls: they must fail and name the want of memory. A test of which no crate in out/
 has the name is told as not built.
@@ -102,7 +103,7 @@ SWEPT = "refused_growth_of_"
 RUNS = [
     *[f"{call}_on_{trace}" for call in ("check", "session", "run") for trace in (
         "empty_trace", "load_misses_both_levels", "load_merges_behind_store", "cycle_of_two_logs")],
-    "check_with_two_workers", "read", "recheck", "encode", "stats", "ten_events", "a_step", "a_reader",
+    "check_with_two_workers", "session_by_two_workers", "read", "recheck", "encode", "stats", "ten_events", "a_step", "a_reader",
 ]
 
 # Examples that fail where a growth is refused, in whichever crates have one of the name.
@@ -113,6 +114,10 @@ TOLD = [
     "load_merges_behind_store_by_replay",
 ]
 
+
+# A session that is fed by several workers goes on without a thread that was refused, or the memory for it.
+BESIDE = "refused_growth_of_session_by_two_workers"
+THREAD_BYTES = b"56"
 
 # The status of a test that returned an error. One that an assertion stops ends by a signal.
 FAILED = 101
@@ -213,6 +218,12 @@ def judge_swept(ran, told):
     return None if ran.returncode == FAILED and is_told else said
 
 
+def judge_beside(ran, told):
+    if told and ran.returncode == 0 and (told[1] == b"thread" or told[2] == THREAD_BYTES):
+        return None
+    return judge_swept(ran, told)
+
+
 def judge_demo(ran, told):
     text = ran.stdout.decode(errors="replace")
     if not told:
@@ -252,7 +263,7 @@ def sweep_tests(runs, folder):
     built = tests_by_name()
     swept = sorted({SWEPT + run for run in RUNS} | {name for name in built if name.startswith(SWEPT)})
     for name in swept + TOLD:
-        judge = judge_told if name in TOLD else judge_swept
+        judge = judge_told if name in TOLD else judge_beside if name == BESIDE else judge_swept
         if name not in built:
             runs.lacks(name)
         for program, test in built.get(name, []):
