@@ -157,11 +157,15 @@ head_steps q memory records bytes head fixed carried whole =
     first ∙ ap (λ (x : Progress × Found). read_on (clean x.0 (memory ++ memory_in x.1) (records ++ records_in x.1)) (fixed ++ carried)) next
     ∙ steps_behind q memory records head fixed carried whole.fixed_whole whole.fixed_passes whole.carried_whole
 
+-- between two steps the header is in range
+pub range_at : (p : Progress) → p.stage ≡ stages.Head → IsSound p → IsInRange p.header
+range_at p at sound = subst (λ (s : Stage). IsSoundAt s p) at sound.at_stage
+
 -- ---- the record at once
 
 module _ (p : Progress) (at : p.stage ≡ stages.Head) (bytes : List ℕ) (head : Head) (fixed carried : List ℕ) (whole : HasParts p bytes head fixed carried) (sound : IsSound p) where
   pub range_here : IsInRange p.header
-  range_here = subst (λ (s : Stage). IsSoundAt s p) at sound.at_stage
+  range_here = range_at p at sound
 
   same_here : p ≡ record p { stage = stages.Head }
   same_here = ap (λ (s : Stage). record p { stage = s }) at
@@ -184,7 +188,7 @@ module _ (p : Progress) (at : p.stage ≡ stages.Head) (bytes : List ℕ) (head 
 -- ---- a record that stands whole
 
 module _ (p : Progress) (bytes : List ℕ) (item : Record) (len : ℕ) (whole : IsWhole p bytes item len) where
-  pub parts_of : HasParts p bytes whole.head whole.behind.fixed whole.behind.carried
+  pub parts_of : HasParts p bytes whole.head whole.fixed whole.carried
   parts_of = record {
     first = whole.at_front.first;
     more = whole.behind.more;
@@ -201,15 +205,12 @@ module _ (p : Progress) (bytes : List ℕ) (item : Record) (len : ℕ) (whole : 
   pub log_of : item.log ≡ whole.head.log
   log_of = ap (λ (r : Record). r.log) whole.item_is
 
-  pub item_of : item ≡ record_of p.header whole.head whole.behind.fixed whole.behind.carried
-  item_of = whole.item_is ∙ ap (λ (e : Event). record { log = whole.head.log; bank = whole.head.bank; number = whole.head.number; event = e }) whole.behind.event_is
-
   module _ (at : p.stage ≡ stages.Head) (sound : IsSound p) where
     pub log_exists : item.log < 32
-    log_exists = rw log_of (whole_room p bytes whole.head whole.behind.fixed whole.behind.carried parts_of (range_here p at bytes whole.head whole.behind.fixed whole.behind.carried parts_of sound)).exists
+    log_exists = rw log_of (whole_room p bytes whole.head whole.fixed whole.carried parts_of (range_here p at bytes whole.head whole.fixed whole.carried parts_of sound)).exists
 
     pub sound_behind : IsSound (counted p len item.log)
-    sound_behind = rw (log_of, whole.behind.len_is) (whole_sound p at bytes whole.head whole.behind.fixed whole.behind.carried parts_of sound)
+    sound_behind = rw (log_of, whole.len_is) (whole_sound p at bytes whole.head whole.fixed whole.carried parts_of sound)
 
 -- the same of any reading between two steps
 pub taken_at_once : (r new : Reading) (bytes : List ℕ) (item : Record) (len : ℕ) → r.fault ≡ None → r.pending ≡ [] → r.progress.stage ≡ stages.Head → IsWhole r.progress bytes item len → IsSound r.progress
@@ -217,16 +218,15 @@ pub taken_at_once : (r new : Reading) (bytes : List ℕ) (item : Record) (len : 
     → TakesPart r bytes (Ok len) new
 taken_at_once r new bytes item len fine empty at whole sound is =
     let p = r.progress in
-    let b = whole.behind in
     let bare : r ≡ clean p r.memory r.records = ap (λ (xs : List ℕ). record r { pending = xs }) empty ∙ ap (λ (f : Option CodecFault). record r { pending = []; fault = f }) fine in
-    let took = whole_taken_in p at bytes whole.head b.fixed b.carried (parts_of p bytes item len whole) sound r.memory r.records in
-    let own : clean (counted p len item.log) r.memory (r.records ++ item ∷ []) ≡ clean (counted p (whole_len b.fixed b.carried) whole.head.log) r.memory (r.records ++ record_of p.header whole.head b.fixed b.carried ∷ []) =
-    ap (λ (n : ℕ). clean (counted p n item.log) r.memory (r.records ++ item ∷ [])) b.len_is
-    ∙ ap (λ (log : ℕ). clean (counted p (whole_len b.fixed b.carried) log) r.memory (r.records ++ item ∷ [])) (log_of p bytes item len whole)
-    ∙ ap (λ (i : Record). clean (counted p (whole_len b.fixed b.carried) whole.head.log) r.memory (r.records ++ i ∷ [])) (item_of p bytes item len whole) in
+    let took = whole_taken_in p at bytes whole.head whole.fixed whole.carried (parts_of p bytes item len whole) sound r.memory r.records in
+    let own : clean (counted p len item.log) r.memory (r.records ++ item ∷ []) ≡ clean (counted p (whole_len whole.fixed whole.carried) whole.head.log) r.memory (r.records ++ record_of p.header whole.head whole.fixed whole.carried ∷ []) =
+    ap (λ (n : ℕ). clean (counted p n item.log) r.memory (r.records ++ item ∷ [])) whole.len_is
+    ∙ ap (λ (log : ℕ). clean (counted p (whole_len whole.fixed whole.carried) log) r.memory (r.records ++ item ∷ [])) (log_of p bytes item len whole)
+    ∙ ap (λ (i : Record). clean (counted p (whole_len whole.fixed whole.carried) whole.head.log) r.memory (r.records ++ i ∷ [])) whole.item_is in
     let after : new ≡ clean (counted p len item.log) r.memory (r.records ++ item ∷ []) =
     is ∙ ap (λ (q : Reading). record q { progress = counted p len item.log; records = r.records ++ item ∷ [] }) bare in
     let kept : TakesPart (clean p r.memory r.records) bytes (Ok len) (clean (counted p len item.log) r.memory (r.records ++ item ∷ [])) =
-    subst (λ (n : ℕ). TakesPart (clean p r.memory r.records) bytes (Ok n) (clean (counted p len item.log) r.memory (r.records ++ item ∷ []))) (sym b.len_is)
-    (subst (λ (q : Reading). TakesPart (clean p r.memory r.records) bytes (Ok (whole_len b.fixed b.carried)) q) (sym own) took) in
+    subst (λ (n : ℕ). TakesPart (clean p r.memory r.records) bytes (Ok n) (clean (counted p len item.log) r.memory (r.records ++ item ∷ []))) (sym whole.len_is)
+    (subst (λ (q : Reading). TakesPart (clean p r.memory r.records) bytes (Ok (whole_len whole.fixed whole.carried)) q) (sym own) took) in
     (kept.0, kept.1, after ∙ kept.2 ∙ ap (λ (q : Reading). read_on q (take len bytes)) (sym bare), ap (λ (q : Reading). q.fault) after)

@@ -1,6 +1,5 @@
 -- What the reader's own steps do with the bytes of a piece.
 use Rattle.std.specs.Prelude.{◌≡◌, ◌⊎◌, ◌==◌, ◌++◌, ℕ, ◌+◌, List, ◌<◌, ◌≤◌, false, Option, length, take, slice_index, Some, None, Result, Ok, Err}
-use Rattle.lf_rules.specs.declared.event.Event.{Event}
 use Rattle.lf_rules.specs.declared.event.Record.{Record}
 use Rattle.lf_codec.specs.declared.fault.CodecCause.{CodecCause}
 use Rattle.lf_codec.specs.declared.fault.CodecCause.TheVariants.{NoMemory}
@@ -13,7 +12,7 @@ use Rattle.lf_codec.specs.declared.progress.Progress.{Progress}
 use Rattle.lf_codec.specs.declared.stage.Found.TheVariants as found
 use Rattle.lf_codec.specs.declared.stage.Stage.TheVariants as stages
 use Rattle.lf_codec.specs.Checks.{byte_at, judged, head_checks, fixed_checks, stage_checks}
-use Rattle.lf_codec.specs.Steps.{fixed_len, data_len, head_at, event_at, counted, advanced}
+use Rattle.lf_codec.specs.Steps.{fixed_len, data_len, head_at, record_of, counted, advanced}
 use Rattle.lf_codec.specs.Reading.{Reading, stepped, end_of, truncated_at, byte_read, read_on, header_now}
 use Rattle.lf_codec.specs.Reader.{HasOneMore}
 
@@ -55,25 +54,24 @@ pub record IsWholeHead (p : Progress) (bytes : List ℕ) (head : Head) (rest : L
   pub first_passes : judged (head_checks p.header p.counts first) ≡ all_passed
   pub head_is : head ≡ head_at first
 
--- at the front of the bytes behind a head its event stands whole, and its checks pass; the record has so many bytes
-pub record IsWholeEvent (h : Header) (kind : Kind) (bank : ℕ) (bytes : List ℕ) (event : Event) (len : ℕ) : Type 0 where
-  pub fixed : List ℕ
-  pub carried : List ℕ
+-- at the front of the bytes behind a head the fixed part of its event and the bytes that it carries stand whole, and its checks pass
+pub record AreWholeParts (h : Header) (kind : Kind) (bank : ℕ) (bytes fixed carried : List ℕ) : Type 0 where
   pub more : List ℕ
   pub joined : bytes ≡ fixed ++ (carried ++ more)
   pub fixed_whole : length fixed ≡ fixed_len h kind
   pub fixed_passes : judged (fixed_checks h bank kind fixed) ≡ all_passed
   pub carried_whole : length carried ≡ data_len h kind fixed
-  pub event_is : event ≡ event_at h kind fixed (record { items = carried })
-  pub len_is : len ≡ 8 + length fixed + length carried
 
 -- at the front of these bytes an event record of so many bytes stands whole, and its checks pass
 pub record IsWhole (p : Progress) (bytes : List ℕ) (item : Record) (len : ℕ) : Type 0 where
   pub head : Head
   pub rest : List ℕ
+  pub fixed : List ℕ
+  pub carried : List ℕ
   pub at_front : IsWholeHead p bytes head rest
-  pub behind : IsWholeEvent p.header head.kind head.bank rest item.event len
-  pub item_is : item ≡ record { log = head.log; bank = head.bank; number = head.number; event = item.event }
+  pub behind : AreWholeParts p.header head.kind head.bank rest fixed carried
+  pub item_is : item ≡ record_of p.header head fixed carried
+  pub len_is : len ≡ 8 + length fixed + length carried
 
 -- what the first bytes do, up to the end of a step or to the end of the piece
 abbrev pub TakesPart : Reading → List ℕ → Result ℕ CodecFault → Reading → Type 0

@@ -1,9 +1,10 @@
 //! The event of a fixed part and of the bytes that came after it.
 
-ghost use Rattle.std.specs.Prelude.{◌≡◌, ◌+◌, ◌*◌, ◌≤◌, length, drop};
+ghost use Rattle.std.specs.Prelude.{◌≡◌, ◌+◌, ◌*◌, ◌++◌, ◌≤◌, length, drop};
 ghost use Rattle.lf_rules.specs.declared.event.Event.TheVariants as events;
 ghost use Rattle.lf_codec.specs.Checks.{byte_at, u16_at, u32_at, u64_at, masks_at};
 ghost use Rattle.lf_codec.specs.Sound.{most_data};
+ghost use Rattle.lf_codec.specs.Carrying.{carrying, CanCarry};
 ghost use Rattle.lf_codec.specs.Steps.{op_at, fixed_len, event_at};
 
 use crate::fields::{masks_at, u16_at, u32_at, u64_at};
@@ -203,5 +204,31 @@ pub(crate) fn event_at(header: &Header, kind: Kind, fixed: &[u8], bytes: &[u8]) 
         Kind::Evict2 => second_evict_at(header.factor, fixed, bytes),
         Kind::Fence => Event::Fence,
         Kind::SecondMerge => second_merge_at(fixed),
+    }
+}
+
+/// Puts the bytes behind those that are there.
+#[inline(always)]
+fn extend<const CAP: usize>(bytes: &mut ArrayVec<u8, CAP>, more: &[u8])
+    requires { length bytes.old.items + length more.now ≤ CAP }
+    ensures { bytes.new ≡ record { items = bytes.old.items ++ more.now } }
+{
+    let _ = bytes.try_extend_from_slice(more);
+}
+
+/// Puts the bytes behind those that the event carries, where its kind carries any.
+#[inline(always)]
+pub(crate) fn put_bytes(event: &mut Event, more: &[u8])
+    requires { CanCarry event.old more.now }
+    ensures { event.new ≡ carrying event.old more.now }
+{
+    match event {
+        Event::Issue { bytes, .. } => extend(bytes, more),
+        Event::Reply { bytes, .. } => extend(bytes, more),
+        Event::Fill1 { bytes, .. } => extend(bytes, more),
+        Event::Evict1 { bytes, .. } => extend(bytes, more),
+        Event::Fill2 { bytes, .. } => extend(bytes, more),
+        Event::Evict2 { bytes, .. } => extend(bytes, more),
+        _ => {}
     }
 }

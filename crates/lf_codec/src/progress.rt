@@ -94,6 +94,7 @@ impl Progress {
         self.least = u64::from(block) + 1;
     }
 
+    #[inline(always)]
     pub(crate) fn count(&mut self, n: u64, log: u8)
         requires room { self.old.position + n < 2 ^ 64 }
         requires log { log < 32 }

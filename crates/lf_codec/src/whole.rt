@@ -1,15 +1,16 @@
 //! An event record that stands whole in a piece.
 
-ghost use Rattle.std.specs.Prelude.{◌≡◌, ◌++◌, length, IfSome, IfNone};
+ghost use Rattle.std.specs.Prelude.{◌≡◌, ◌++◌, length, Some, IfSome, IfNone};
 ghost use Rattle.lf_codec.specs.declared.stage.Stage.TheVariants as stages;
-ghost use Rattle.lf_codec.specs.Takes.{IsWholeHead, IsWholeEvent, ReadsInto};
+ghost use Rattle.lf_codec.specs.Carrying.{carrying, CanCarry};
+ghost use Rattle.lf_codec.specs.Takes.{IsWholeHead, AreWholeParts, ReadsInto};
 
 use crate::checks::{check_fixed, check_head};
-use crate::event::event_at;
+use crate::event::{event_at, put_bytes};
 use crate::progress::Progress;
 use crate::stage::{Head, Kind, Stage};
 use crate::step::{data_len, fixed_len};
-use lf_rules::{Event, Record};
+use lf_rules::Record;
 
 /// The first bytes and those behind them, where there are so many.
 fn split(bytes: &[u8], len: usize) -> Option<(&[u8], &[u8])>
@@ -19,6 +20,19 @@ fn split(bytes: &[u8], len: usize) -> Option<(&[u8], &[u8])>
         return None;
     }
     Some(bytes.split_at(len))
+}
+
+/// Puts the record into the place, and then the bytes into its event, so that neither is copied.
+#[inline(always)]
+fn put_record(place: &mut Option<Record>, bare: Record, carried: &[u8])
+    requires { CanCarry bare.event carried.now }
+    ensures { place.new ≡ Some (record bare { event = carrying bare.event carried.now }) }
+{
+    *place = Some(bare);
+    match place {
+        Some(item) => put_bytes(&mut item.event, carried),
+        None => unreachable!(),
+    }
 }
 
 impl Progress {
@@ -45,20 +59,19 @@ impl Progress {
         Some((head, rest))
     }
 
-    /// The event of this kind at the front of the bytes behind its head, and how many bytes its record
-    /// has, where the bytes have it whole and its checks pass.
+    /// The fixed part of an event of this kind and the bytes that it carries, at the front of the bytes
+    /// behind its head, where the bytes have it whole and its checks pass.
     #[inline(always)]
-    fn whole_event(&self, kind: Kind, bank: u8, bytes: &[u8]) -> Option<(Event, usize)>
+    fn whole_parts<'a>(&self, kind: Kind, bank: u8, bytes: &'a [u8]) -> Option<(&'a [u8], &'a [u8])>
         requires { IsInRange self.now.header }
-        ensures { IfSome result (λ found. IsWholeEvent self.now.header kind bank bytes.now found.0 found.1) }
+        ensures { IfSome result (λ parts. AreWholeParts self.now.header kind bank bytes.now parts.0.now parts.1.now) }
     {
         let (fixed, rest) = split(bytes, fixed_len(&self.header, kind))?;
         let Ok(()) = check_fixed(&self.header, bank, kind, fixed) else {
             return None;
         };
         let (carried, _) = split(rest, data_len(&self.header, kind, fixed))?;
-        let event = event_at(&self.header, kind, fixed, carried);
-        Some((event, 8 + fixed.len() + carried.len()))
+        Some((fixed, carried))
     }
 
     /// Reads the event of this kind behind its record's head, where the bytes have it whole and its checks
@@ -80,13 +93,15 @@ impl Progress {
         ensures some { IfSome result (λ n. ReadsInto self.old bytes.now n place.new self.new) }
         ensures none { IfNone result (self.new ≡ self.old) }
     {
-        let (event, len) = self.whole_event(kind, head.bank, rest)?;
-        *place = Some(Record {
+        let (fixed, carried) = self.whole_parts(kind, head.bank, rest)?;
+        let len = 8 + fixed.len() + carried.len();
+        let bare = Record {
             log: head.log,
             bank: head.bank,
             number: head.number,
-            event,
-        });
+            event: event_at(&self.header, kind, fixed, &[]),
+        };
+        put_record(place, bare, carried);
         self.count(len as u64, head.log);
         Some(len)
     }

@@ -373,6 +373,7 @@ impl Intake {
     }
 
     /// Takes the next record of these bytes, or what there is of it, and judges it.
+    #[inline(never)]
     fn feed_some(&mut self, bytes: &[u8]) -> Result<usize, Told<Refusal>>
         requires fed { (fed : List ℕ) × HasFed self.old fed }
         requires going { self.old.stop ≡ None }

@@ -1,30 +1,29 @@
-use Rattle.std.proofs.Common.{◌≡◌, ℕ, refl, subst, sym}
-use Rattle.lf_codec.specs.declared.stage.Kind.{Kind}
-use Rattle.lf_codec.specs.Takes.{IsWhole, IsWholeEvent}
-use Rattle.lf_codec.proofs.WholeRecord.{log_exists}
+use Rattle.std.proofs.Common.{◌≡◌, ◌+◌, ◌∙◌, length, ap, Some}
+use Rattle.lf_rules.specs.declared.event.Event.{Event}
+use Rattle.lf_codec.specs.Steps.{record_of}
+use Rattle.lf_codec.proofs.WholeRecord.{log_exists, range_at}
+use Rattle.lf_codec.proofs.Carried.{whole_record, event_carries, bare_can_carry}
 use Rattle.lf_codec.proofs.progress.Progress.read_event.Goals as goal
+
+pub put_record-requires : goal.put_record-requires
+put_record-requires c =
+    let a = c.args in let n = c.in_ok-fixed in
+    bare_can_carry a.self.now a.bytes.now a.rest.now n.fixed.now n.carried.now a.kind a.head c.requires.front c.requires.kind n.ensures c.event_at.result c.event_at.ensures
+    (range_at a.self.now c.requires.stage c.requires.sound)
 
 pub count-requires-clause-log : goal.count-requires-clause-log
 count-requires-clause-log c =
-    let p = c.args.self.now in
-    let head = c.args.head in
-    let event = c.in_ok-event.event in
-    let len = c.in_ok-event.len in
-    let behind = subst (λ (kind : Kind). IsWholeEvent p.header kind head.bank c.args.rest.now event len) c.requires.kind c.in_ok-event.ensures in
-    let whole : IsWhole p c.args.bytes.now (record { log = head.log; bank = head.bank; number = head.number; event = event }) len =
-    record { head = head; rest = c.args.rest.now; at_front = c.requires.front; behind = behind; item_is = refl } in
-    log_exists p c.args.bytes.now (record { log = head.log; bank = head.bank; number = head.number; event = event }) len whole c.requires.stage c.requires.sound
+    let a = c.args in let n = c.in_ok-fixed in
+    let whole = whole_record a.self.now a.bytes.now a.rest.now n.fixed.now n.carried.now a.kind a.head c.requires.front c.requires.kind n.ensures in
+    log_exists a.self.now a.bytes.now (record_of a.self.now.header a.head n.fixed.now n.carried.now) (8 + length n.fixed.now + length n.carried.now) whole c.requires.stage c.requires.sound
 
 pub returns-clause-some : goal.returns-clause-some
 returns-clause-some c =
-    let p = c.args.self.now in
-    let head = c.args.head in
-    let event = c.in_ok-event.event in
-    let len = c.in_ok-event.len in
-    let behind = subst (λ (kind : Kind). IsWholeEvent p.header kind head.bank c.args.rest.now event len) c.requires.kind c.in_ok-event.ensures in record {
-      item = record { log = head.log; bank = head.bank; number = head.number; event = event };
-      is_placed = refl;
+    let a = c.args in let n = c.in_ok-fixed in
+    let event = event_carries a.self.now a.bytes.now a.rest.now n.fixed.now n.carried.now a.kind a.head c.requires.front c.requires.kind n.ensures c.event_at.result c.event_at.ensures in record {
+      item = record_of a.self.now.header a.head n.fixed.now n.carried.now;
+      is_placed = c.put_record.ensures ∙ ap (λ (e : Event). Some (record { log = a.head.log; bank = a.head.bank; number = a.head.number; event = e })) event;
       stage = c.requires.stage;
-      whole = record { head = head; rest = c.args.rest.now; at_front = c.requires.front; behind = behind; item_is = refl };
+      whole = whole_record a.self.now a.bytes.now a.rest.now n.fixed.now n.carried.now a.kind a.head c.requires.front c.requires.kind n.ensures;
       is_counted = c.count.ensures;
     }
