@@ -34,7 +34,7 @@ use Rattle.lf_verdict.specs.Laws.{SameVerdict, VerdictsAreOne, WorkersAreAlike}
 use Rattle.lf_verdict.specs.Verdict.{Differs, IsFaultOf, IsNo, IsYes, IsOfAnother, IsTraceVerdict, IsVerdictOf, IsWorkerCount}
 use Rattle.lf_verdict.proofs.Traces.{trace_names, trace_fits}
 use Rattle.lf_verdict.specs.Jobs.{LogsFit}
-use Rattle.lf_verdict.proofs.Entries.{banks_whole, all_whole}
+use Rattle.lf_verdict.proofs.Skeletons.{banks_whole, all_whole}
 use Rattle.lf_join.specs.Laws.{LeastOrdersAreOne, StuckRingsAreOne}
 use Rattle.lf_verdict.proofs.Counts.{no_gap, no_double}
 

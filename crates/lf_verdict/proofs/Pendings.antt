@@ -111,7 +111,7 @@ place_at (x ∷ xs) zero lt = (x, λ d. refl)
 place_at (x ∷ xs) (suc i) lt = place_at xs i (omega arith)
 
 pub stands_together : (shape : Shape) (memory : FlatMemory) (done rs : List Record) (old new : Standing) → StandsAfterAll shape memory done old → AllByRecursion (Fits shape) rs
-    → AreEntered shape (done ++ rs) new → length new.banks.items ≡ length old.banks.items
+    → AreEntered shape (done ++ rs) new.entries → length new.banks.items ≡ length old.banks.items
     → ((bank : ℕ) (x : BankJudge) → bank < length old.banks.items → get_or new.banks.items bank x ≡ x → TakesAll bank rs (get_or old.banks.items bank x) x)
     → ((bank : ℕ) (d : BankJudge) → bank < length new.banks.items → (get_or new.banks.items bank d).outcome ≡ outcomes.NoMemory → ⊥)
     → StandsAfterAll shape memory (done ++ rs) new

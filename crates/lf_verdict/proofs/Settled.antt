@@ -39,7 +39,7 @@ use Rattle.lf_verdict.specs.Judging.{AreWholeBelow, NoneBroken, IsBroken, outcom
 use Rattle.lf_verdict.specs.Standing.{IsPortAt, IsBankAt, IsPortJudged, IsBankSettled, StandsAfterAll, IsShort, logs_so_far}
 use Rattle.lf_verdict.proofs.Answered.{log_below}
 use Rattle.lf_verdict.proofs.Outcomes.{Judged}
-use Rattle.lf_verdict.proofs.Entries.{banks_whole, all_whole, order_len}
+use Rattle.lf_verdict.proofs.Skeletons.{banks_whole, all_whole, order_len}
 use Rattle.lf_verdict.proofs.Standings.{entries_count}
 use Rattle.lf_verdict.proofs.Traces.{log_of_logs, no_log, logs_fit}
 
@@ -117,9 +117,9 @@ module _ (shape : Shape) (memory : FlatMemory) (records : List Record) (s : Stan
       let at = map_at (λ (j : BankJudge). j.outcome) s.banks.items bank (omega (arith, stands.count_banks)) in
       (at.0, (at.1.1, subst (λ (j : BankJudge). IsBankSettled shape (bank_part shape bank memory) bank (of_bank bank records) (log_at stands.given bank) j) (at.1.0 at.0) (stands.banks bank at.0 lt)))
 
-  port_here : (port : ℕ) → port < shape.ports → (judge : PortJudge) × ((outcome_at (map (λ (j : PortJudge). j.outcome) s.ports.items) port ≡ judge.outcome) × IsPortJudged shape port (of_log port records) judge)
+  port_here : (port : ℕ) → port < shape.ports → (judge : PortJudge) × ((outcome_at (map (λ (j : PortJudge). j.outcome) s.entries.ports.items) port ≡ judge.outcome) × IsPortJudged shape port (of_log port records) judge)
   port_here port lt =
-      let at = map_at (λ (j : PortJudge). j.outcome) s.ports.items port (omega (arith, stands.entered.count_ports)) in
+      let at = map_at (λ (j : PortJudge). j.outcome) s.entries.ports.items port (omega (arith, stands.entered.count_ports)) in
       (at.0, (at.1.1, subst (λ (j : PortJudge). IsPortJudged shape port (of_log port records) j) (at.1.0 at.0) (stands.entered.ports port at.0 lt)))
 
   -- what the loop over the banks reads
@@ -154,9 +154,9 @@ module _ (shape : Shape) (memory : FlatMemory) (records : List Record) (s : Stan
       }
 
   pub judged_parts : AreWholeBelow (logs_so_far shape records) shape.banks
-      → Judged shape memory (logs_so_far shape records) stands.given (map (λ (j : PortJudge). j.outcome) s.ports.items) (map (λ (j : BankJudge). j.outcome) s.banks.items)
+      → Judged shape memory (logs_so_far shape records) stands.given (map (λ (j : PortJudge). j.outcome) s.entries.ports.items) (map (λ (j : BankJudge). j.outcome) s.banks.items)
   judged_parts whole =
-      let long_ports = length-map s.ports.items (λ (j : PortJudge). j.outcome) in
+      let long_ports = length-map s.entries.ports.items (λ (j : PortJudge). j.outcome) in
       let long_banks = length-map s.banks.items (λ (j : BankJudge). j.outcome) in
       record {
         whole = whole;
@@ -178,7 +178,7 @@ module _ (shape : Shape) (memory : FlatMemory) (records : List Record) (s : Stan
           count = long_ports ∙ stands.entered.count_ports;
           each = λ port lt.
               let here = port_here port lt in
-              subst (λ (log : List Record). IsPortOutcome shape log (outcome_at (map (λ (j : PortJudge). j.outcome) s.ports.items) port)) (sym (log_of_logs (shape.ports + shape.banks) port records (omega arith)))
+              subst (λ (log : List Record). IsPortOutcome shape log (outcome_at (map (λ (j : PortJudge). j.outcome) s.entries.ports.items) port)) (sym (log_of_logs (shape.ports + shape.banks) port records (omega arith)))
               (subst (IsPortOutcome shape (of_log port records)) (sym here.1.0) (port_outcome shape (of_log port records) here.0.step here.0.outcome here.1.1.judged).0);
         };
         of_banks = record {
@@ -219,8 +219,8 @@ none_broken_more f xs at x inside read fine before part lt = ⊎_elim
 -- ---- the skeletons
 
 module _ (shape : Shape) (memory : FlatMemory) (records : List Record) (s : Standing) (stands : StandsAfterAll shape memory records s) (short : IsShort shape records) where
-  pub few_logs : length s.logs.items ≤ 32
-  few_logs = omega (arith, entries_count (shape.ports + shape.banks) records s.logs.items stands.entered.logs, short.in_range.ports.1, short.in_range.banks.1)
+  pub few_logs : length s.entries.logs.items ≤ 32
+  few_logs = omega (arith, entries_count (shape.ports + shape.banks) records s.entries.logs.items stands.entered.logs, short.in_range.ports.1, short.in_range.banks.1)
 
   pub skeletons_short : All (λ (entries : List (ℕ × ℕ)). length entries ≤ 2 ^ 24) (skeletons_of (logs_so_far shape records))
   skeletons_short k d lt =

@@ -18,6 +18,7 @@ use Rattle.lf_join.specs.Join as joins
 use Rattle.lf_replay.specs.Bytes.{bank_part}
 use Rattle.lf_verdict.specs.declared.port_judge.PortJudge.{PortJudge}
 use Rattle.lf_verdict.specs.declared.bank_judge.BankJudge.{BankJudge}
+use Rattle.lf_verdict.specs.declared.entries.Entries.{Entries}
 use Rattle.lf_verdict.specs.declared.standing.Standing.{Standing}
 use Rattle.lf_verdict.specs.Standing.{IsPortJudged, IsBankSettled, MayCome, AreEntered, IsEntered, StandsAfterAll}
 use Rattle.lf_verdict.proofs.Answered.{log_below}
@@ -104,36 +105,28 @@ all_push : (P : Record → Type 0) (rs : List Record) (r : Record) → AllByRecu
 all_push P [] r all p = (p, tt)
 all_push P (x ∷ rs) r all p = (all.0, all_push P rs r all.1 p)
 
-module _ (shape : Shape) (records : List Record) (s : Standing) (entered : AreEntered shape records s) (r : Record) (may : MayCome shape records r) where
+module _ (shape : Shape) (records : List Record) (e : Entries) (entered : AreEntered shape records e) (r : Record) (may : MayCome shape records r) where
   pub log_below_all : r.log < shape.ports + shape.banks
   log_below_all = log_below shape.ports r.bank r.number r.log shape.banks r.event may.fits.bank may.fits.log
 
-  pub log_length : (i : ℕ) (v : Vec (ℕ × ℕ)) → i ≡ r.log → v ≡ get_or s.logs.items i v → length v.items ≡ length (of_log r.log records)
+  pub log_length : (i : ℕ) (v : Vec (ℕ × ℕ)) → i ≡ r.log → v ≡ get_or e.logs.items i v → length v.items ≡ length (of_log r.log records)
   log_length i v at read =
-      ap (λ (u : Vec (ℕ × ℕ)). length u.items) (read ∙ ap (λ n. get_or s.logs.items n v) at)
-      ∙ ap length (entries_at (shape.ports + shape.banks) records s.logs.items r.log v entered.logs log_below_all)
+      ap (λ (u : Vec (ℕ × ℕ)). length u.items) (read ∙ ap (λ n. get_or e.logs.items n v) at)
+      ∙ ap length (entries_at (shape.ports + shape.banks) records e.logs.items r.log v entered.logs log_below_all)
       ∙ length-map (of_log r.log records) entry_of
 
-  pub logs_more : (i : ℕ) (v w : Vec (ℕ × ℕ)) → i ≡ r.log → v ≡ get_or s.logs.items i v → w.items ≡ v.items ++ (r.bank, r.number) ∷ []
-      → joins.skeleton_lists (set s.logs.items i w) ≡ skeletons_of (logs_of (shape.ports + shape.banks) (records ++ r ∷ []))
+  pub logs_more : (i : ℕ) (v w : Vec (ℕ × ℕ)) → i ≡ r.log → v ≡ get_or e.logs.items i v → w.items ≡ v.items ++ (r.bank, r.number) ∷ []
+      → joins.skeleton_lists (set e.logs.items i w) ≡ skeletons_of (logs_of (shape.ports + shape.banks) (records ++ r ∷ []))
   logs_more i v w at read pushed =
-      ap (λ n. joins.skeleton_lists (set s.logs.items n w)) at
-      ∙ entries_more (shape.ports + shape.banks) records r s.logs.items v w log_below_all entered.logs (read ∙ ap (λ n. get_or s.logs.items n v) at) pushed
+      ap (λ n. joins.skeleton_lists (set e.logs.items n w)) at
+      ∙ entries_more (shape.ports + shape.banks) records r e.logs.items v w log_below_all entered.logs (read ∙ ap (λ n. get_or e.logs.items n v) at) pushed
 
-  pub port_before : (i : ℕ) (v : PortJudge) → i ≡ r.log → v ≡ get_or s.ports.items i v → i < shape.ports → IsPortJudged shape r.log (of_log r.log records) v
+  pub port_before : (i : ℕ) (v : PortJudge) → i ≡ r.log → v ≡ get_or e.ports.items i v → i < shape.ports → IsPortJudged shape r.log (of_log r.log records) v
   port_before i v at read lt =
-      subst (λ (j : PortJudge). IsPortJudged shape r.log (of_log r.log records) j) (sym (read ∙ ap (λ n. get_or s.ports.items n v) at)) (entered.ports r.log v (omega arith))
+      subst (λ (j : PortJudge). IsPortJudged shape r.log (of_log r.log records) j) (sym (read ∙ ap (λ n. get_or e.ports.items n v) at)) (entered.ports r.log v (omega arith))
 
--- the entries and the ports alone count
-pub entered_with : (shape : Shape) (records : List Record) (old new : Standing) → new.logs.items ≡ old.logs.items → new.ports.items ≡ old.ports.items → AreEntered shape records old → AreEntered shape records new
-entered_with shape records old new logs ports is = record {
-  logs = ap joins.skeleton_lists logs ∙ is.logs;
-  count_ports = ap length ports ∙ is.count_ports;
-  ports = λ port d lt. subst (λ (js : List PortJudge). IsPortJudged shape port (of_log port records) (get_or js port d)) (sym ports) (is.ports port d lt);
-}
-
-pub entered_by : (shape : Shape) (records : List Record) (r : Record) (before after : Standing) → AreEntered shape (records ++ r ∷ []) after → after.banks ≡ before.banks → IsEntered shape records r before after
-entered_by shape records r before after is banks = record { entered = is; banks = ap (λ (v : Vec BankJudge). v.items) banks }
+pub entered_by : (shape : Shape) (records : List Record) (r : Record) (before : Standing) (entries : Entries) → AreEntered shape (records ++ r ∷ []) entries → IsEntered shape records r before (record before { entries = entries })
+entered_by shape records r before entries is = record { entered = is; banks = refl }
 
 module _ (shape : Shape) (memory : FlatMemory) (records : List Record) (s : Standing) (stands : StandsAfterAll shape memory records s) (r : Record) (may : MayCome shape records r) where
   pub bank_before : (i : ℕ) (v : BankJudge) → i ≡ r.bank → v ≡ get_or s.banks.items i v → r.bank < shape.banks
@@ -152,7 +145,7 @@ module _ (shape : Shape) (memory : FlatMemory) (records : List Record) (s : Stan
       ap (λ (t : Standing). t.banks.items) same ∙ ap (λ (js : List BankJudge). set js i new) is.banks ∙ ap (λ n. set s.banks.items n new) at in
       record {
         fit = all_push (Fits shape) records r stands.fit may.fits;
-        entered = entered_with shape (records ++ r ∷ []) entered after (ap (λ (t : Standing). t.logs.items) same) (ap (λ (t : Standing). t.ports.items) same) is.entered;
+        entered = subst (AreEntered shape (records ++ r ∷ [])) (sym (ap (λ (t : Standing). t.entries) same)) is.entered;
         count_banks = ap length banks ∙ length-set s.banks.items r.bank new ∙ stands.count_banks;
         given = set stands.given r.bank settled.0;
         count_given = length-set stands.given r.bank settled.0 ∙ stands.count_given;
@@ -169,6 +162,6 @@ module _ (shape : Shape) (memory : FlatMemory) (records : List Record) (s : Stan
       let banks : set entered.banks.items i new ≡ entered.banks.items =
       ap (set entered.banks.items i) (unchanged ∙ read) ∙ set-get_or entered.banks.items i was in
       record {
-        entered = entered_with shape (records ++ r ∷ []) entered after (ap (λ (t : Standing). t.logs.items) same) (ap (λ (t : Standing). t.ports.items) same) is.entered;
+        entered = subst (AreEntered shape (records ++ r ∷ [])) (sym (ap (λ (t : Standing). t.entries) same)) is.entered;
         banks = ap (λ (t : Standing). t.banks.items) same ∙ banks ∙ is.banks;
       }

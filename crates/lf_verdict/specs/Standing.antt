@@ -21,6 +21,7 @@ use Rattle.lf_replay.specs.Bytes.{bank_part}
 use Rattle.lf_replay.specs.Step.{StepView, IsStepAfter}
 use Rattle.lf_verdict.specs.declared.port_judge.PortJudge.{PortJudge}
 use Rattle.lf_verdict.specs.declared.bank_judge.BankJudge.{BankJudge}
+use Rattle.lf_verdict.specs.declared.entries.Entries.{Entries}
 use Rattle.lf_verdict.specs.declared.standing.Standing.{Standing}
 use Rattle.lf_verdict.specs.declared.pending.Pending.{Pending}
 
@@ -73,15 +74,24 @@ MayAllCome shape records [] = Unit {0}
 MayAllCome shape records (r ∷ rs) = MayCome shape records r × MayAllCome shape (records ++ r ∷ []) rs
 
 -- These records of the trace came: each log's entries are kept, and each port was judged as far as its records go.
-pub record AreEntered (shape : Shape) (records : List Record) (s : Standing) : Type 0 where
-  pub logs : joins.skeleton_lists s.logs.items ≡ skeletons_of (logs_of (shape.ports + shape.banks) records)
-  pub count_ports : length s.ports.items ≡ shape.ports
-  pub ports : (port : ℕ) (d : PortJudge) → port < shape.ports → IsPortJudged shape port (of_log port records) (slice_index_or s.ports.items port d)
+pub record AreEntered (shape : Shape) (records : List Record) (e : Entries) : Type 0 where
+  pub logs : joins.skeleton_lists e.logs.items ≡ skeletons_of (logs_of (shape.ports + shape.banks) records)
+  pub count_ports : length e.ports.items ≡ shape.ports
+  pub ports : (port : ℕ) (d : PortJudge) → port < shape.ports → IsPortJudged shape port (of_log port records) (slice_index_or e.ports.items port d)
+
+-- Some records of a trace came, and these may come next.
+abbrev pub CanEnterAll : List Record → Entries → Type 0
+CanEnterAll records entries = (shape : Shape) × ((before : List Record) × (MayAllCome shape before records × AreEntered shape before entries))
+
+-- They came too, unless memory ran out.
+abbrev pub EntersAll : {F : Type 0} → List Record → Entries → Result (Unit {0}) F → Entries → Type 0
+EntersAll records old result new = (shape : Shape) (before : List Record) → MayAllCome shape before records → AreEntered shape before old
+    → OnOk result (AreEntered shape (before ++ records) new)
 
 -- ... and so was each bank.
 pub record StandsAfterAll (shape : Shape) (memory : FlatMemory) (records : List Record) (s : Standing) : Type 0 where
   pub fit : AllByRecursion (Fits shape) records
-  pub entered : AreEntered shape records s
+  pub entered : AreEntered shape records s.entries
   pub count_banks : length s.banks.items ≡ shape.banks
   -- what each bank was judged on
   pub given : List (List Record)
@@ -91,7 +101,7 @@ pub record StandsAfterAll (shape : Shape) (memory : FlatMemory) (records : List 
 
 -- The record came, and its port judged it; its bank has not seen it yet.
 pub record IsEntered (shape : Shape) (records : List Record) (r : Record) (before after : Standing) : Type 0 where
-  pub entered : AreEntered shape (records ++ r ∷ []) after
+  pub entered : AreEntered shape (records ++ r ∷ []) after.entries
   pub banks : after.banks.items ≡ before.banks.items
 
 -- ---- records that wait
@@ -126,6 +136,14 @@ abbrev pub TakesAll : ℕ → List Record → BankJudge → BankJudge → Type 0
 TakesAll bank records before after = (shape : Shape) (memory : FlatMemory) (came gave : List Record) → AllByRecursion (Fits shape) records
     → IsBankSettled shape memory bank came gave before → after.outcome ≢ outcomes.NoMemory
     → (more : List Record) × IsBankSettled shape memory bank (came ++ of_bank bank records) more after
+
+-- Each of the banks can be judged on those of the records that are its own.
+abbrev pub CanAllTake : List Record → List BankJudge → Type 0
+CanAllTake records judges = (bank : ℕ) (d : BankJudge) → bank < length judges → CanTakeAll bank records (slice_index_or judges bank d)
+
+-- Each was, unless memory ran out for it.
+pub record AllTake (records : List Record) (before after : List BankJudge) : Type 0 where
+  pub each : (bank : ℕ) (d : BankJudge) → bank < length before → TakesAll bank records (slice_index_or before bank d) (slice_index_or after bank d)
 
 -- the logs of the records that came
 abbrev pub logs_so_far : Shape → List Record → List (List Record)

@@ -14,6 +14,7 @@ mod configured;
 mod configured_laws;
 mod copying;
 mod ending;
+mod entries;
 mod gathering;
 mod header;
 mod intake;

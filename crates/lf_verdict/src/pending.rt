@@ -1,21 +1,23 @@
 //! Records that were read and are not judged yet.
 
-ghost use Rattle.std.specs.Prelude.{◌≡◌, ◌≢◌, ◌<◌, ℕ, List, [], length, slice_index_or, IsTrue};
+ghost use Rattle.std.specs.Prelude.{◌≡◌, ◌≢◌, ◌<◌, ℕ, List, [], length, slice_index_or, IsTrue, OnOk};
 ghost use Rattle.lf_rules.specs.declared.outcome.Outcome.{Outcome};
 ghost use Rattle.lf_verdict.specs.declared.bank_judge.BankJudge.{BankJudge};
 ghost use Rattle.lf_rules.specs.declared.shape.Shape.{Shape};
 ghost use Rattle.lf_rules.specs.declared.event.Record.{Record};
 ghost use Rattle.lf_rules.specs.Address.{FlatMemory};
 ghost use Rattle.lf_verdict.specs.Judging.{IsLogsVerdict};
-ghost use Rattle.lf_verdict.specs.Standing.{logs_so_far, IsShort, IsPendingAfter, CanBeJudged, JudgesAll, CanTakeAll, TakesAll};
+ghost use Rattle.std.specs.Thread.{IsSync};
+ghost use Rattle.lf_verdict.specs.Standing.{logs_so_far, IsShort, IsPendingAfter, CanBeJudged, JudgesAll, CanEnterAll, EntersAll, CanTakeAll, TakesAll, CanAllTake, AllTake};
 
 use crate::answer::{Refusal, Verdict};
 use crate::bank_judge::BankJudge;
+use crate::entries::Entries;
 use crate::standing::Standing;
 use lf_rules::{NoMemory, Outcome, Record};
 use std::alloc::Global;
 use std::collections::VecDeque;
-use std::thread::{Threads, for_each_mut};
+use std::thread::{Threads, for_each_mut, join_mut};
 
 /// How the parts of a trace stand, and the records that were read and wait to be judged.
 #[derive(Drop)]
@@ -27,14 +29,13 @@ pub struct Pending {
 /// Each bank is judged on those of the records that are its own, in so many threads.
 fn judge_banks<R: Threads + Sync>(
     rt: &R,
-    banks: &mut [BankJudge],
     threads: usize,
     records: &[Record],
+    banks: &mut [BankJudge],
 )
     requires threads { 0 < threads }
-    requires each { (bank : ℕ) (d : BankJudge) → bank < length banks.old → CanTakeAll bank records.now (slice_index_or banks.old bank d) }
-    ensures { (bank : ℕ) (d : BankJudge) → bank < length banks.old
-        → TakesAll bank records.now (slice_index_or banks.old bank d) (slice_index_or banks.new bank d) }
+    requires each { CanAllTake records.now banks.old }
+    ensures { AllTake records.now banks.old banks.new }
 {
     for_each_mut(
         rt,
@@ -45,6 +46,56 @@ fn judge_banks<R: Threads + Sync>(
             ensures { TakesAll bank records.entry.now judge.entry.now judge.exit.now }
         { judge.take_all(bank, records) },
     );
+}
+
+/// Enters the records in a thread of its own, beside the banks, which are judged in so many others.
+fn enter_beside<R: Threads + Sync>(
+    rt: &R,
+    threads: usize,
+    records: &[Record],
+    entries: &mut Entries,
+    banks: &mut [BankJudge],
+) -> Result<(), NoMemory>
+    requires threads { 0 < threads }
+    requires entries { CanEnterAll records.now entries.old }
+    requires banks { CanAllTake records.now banks.old }
+    ensures entries { EntersAll records.now entries.old result entries.new }
+    ensures banks { AllTake records.now banks.old banks.new }
+{
+    let (entered, ()) = join_mut(
+        rt,
+        &mut || -> Result<(), NoMemory>
+            requires { CanEnterAll records.now entries.now }
+            ensures { EntersAll records.entry.now entries.entry.now result entries.exit.now }
+        { entries.enter_all(records) },
+        &mut ||
+            requires { IsSync R.row × ((0 < threads) × CanAllTake records.now banks.now) }
+            ensures { AllTake records.entry.now banks.entry.now banks.exit.now }
+        { judge_banks(rt, threads, records, banks) },
+    );
+    entered
+}
+
+/// Enters the records and judges the banks on them, in so many threads. Two are both for the banks.
+fn judge_parts<R: Threads + Sync>(
+    rt: &R,
+    threads: usize,
+    records: &[Record],
+    entries: &mut Entries,
+    banks: &mut [BankJudge],
+) -> Result<(), NoMemory>
+    requires threads { 0 < threads }
+    requires entries { CanEnterAll records.now entries.old }
+    requires banks { CanAllTake records.now banks.old }
+    ensures entries { EntersAll records.now entries.old result entries.new }
+    ensures banks { OnOk result (AllTake records.now banks.old banks.new) }
+{
+    if threads > 2 {
+        return enter_beside(rt, threads - 1, records, entries, banks);
+    }
+    entries.enter_all(records)?;
+    judge_banks(rt, threads, records, banks);
+    Ok(())
 }
 
 /// Whether memory ran out for a bank.
@@ -102,8 +153,8 @@ impl Pending {
         ensures { JudgesAll self.old result self.new }
     {
         let records: &[Record] = self.records.make_contiguous();
-        self.standing.enter_all(records)?;
-        judge_banks(rt, self.standing.banks.as_mut_slice(), threads, records);
+        let banks = self.standing.banks.as_mut_slice();
+        judge_parts(rt, threads, records, &mut self.standing.entries, banks)?;
         if ran_out(&self.standing.banks) {
             return Err(NoMemory);
         }

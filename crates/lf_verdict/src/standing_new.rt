@@ -10,6 +10,7 @@ ghost use Rattle.lf_verdict.specs.declared.bank_judge.BankJudge.{BankJudge};
 ghost use Rattle.lf_verdict.specs.Standing.{IsPortJudged, IsBankSettled, StandsAfterAll};
 
 use crate::bank_judge::BankJudge;
+use crate::entries::Entries;
 use crate::port_judge::PortJudge;
 use crate::standing::Standing;
 use lf_rules::{Memory, NoMemory, Shape, Skeleton};
@@ -61,6 +62,7 @@ impl Standing {
         let logs = empty_logs(alloc, shape.ports + shape.banks)?;
         let ports = port_judges(alloc, shape)?;
         let banks = bank_judges(alloc, shape, memory)?;
-        Ok(Standing { logs, ports, banks })
+        let entries = Entries { logs, ports };
+        Ok(Standing { entries, banks })
     }
 }

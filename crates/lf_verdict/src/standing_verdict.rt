@@ -90,14 +90,14 @@ impl Standing {
 
     /// The lowest port that is broken, then the lowest bank.
     fn judge_rules(&self) -> Result<(), Ending>
-        requires ports { length self.now.ports.items ≤ 16 }
+        requires ports { length self.now.entries.ports.items ≤ 16 }
         requires banks { length self.now.banks.items ≤ 16 }
         ensures run { (shape : Shape) (memory : FlatMemory) (records : List Record) → StandsAfterAll shape memory records self.now
             → AreWholeBelow (logs_so_far shape records) shape.banks → OnOk result (PartsRun shape memory (logs_so_far shape records)) }
         ensures fault { (shape : Shape) (memory : FlatMemory) (records : List Record) → StandsAfterAll shape memory records self.now
             → AreWholeBelow (logs_so_far shape records) shape.banks → IfErr result (IsEnding shape memory (logs_so_far shape records)) }
     {
-        if let Some(Broken { part, at, rule }) = first_broken_port(&self.ports) {
+        if let Some(Broken { part, at, rule }) = first_broken_port(&self.entries.ports) {
             let port = part;
             return Err(Ending::Fault(Fault::Port { port, at, rule }));
         }
@@ -120,7 +120,7 @@ impl Standing {
     {
         self.judge_numbers()?;
         self.judge_rules()?;
-        match join(alloc, &self.logs) {
+        match join(alloc, &self.entries.logs) {
             Ok(order) => Ok(order),
             Err(JoinFault::Cycle(ring)) => Err(Ending::Fault(Fault::Cycle(ring))),
             Err(JoinFault::NoMemory) => Err(Ending::NoMemory),

@@ -1,4 +1,4 @@
-use Rattle.std.proofs.Common.{◌++◌, List}
+use Rattle.std.proofs.Common.{◌++◌}
 use Rattle.std.specs.Prelude.{option_to_list}
 use Rattle.lf_rules.specs.Address.{flat_memory}
 use Rattle.lf_verdict.proofs.Sessions.{running_more, place_may_come, given_one}

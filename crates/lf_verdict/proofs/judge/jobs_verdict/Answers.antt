@@ -1,5 +1,5 @@
 use Rattle.std.proofs.Common.{◌*◌, ◌≤◌, ◌^◌, length, arith}
-use Rattle.lf_verdict.proofs.Entries.{order_short}
+use Rattle.lf_verdict.proofs.Skeletons.{order_short}
 use Rattle.lf_verdict.proofs.judge.jobs_verdict.Goals as goal
 
 pub overflow_cast-result : goal.overflow_cast-result

@@ -1,5 +1,5 @@
 use Rattle.lf_rules.specs.Lists.{lists_of}
-use Rattle.lf_verdict.proofs.Entries.{all_whole}
+use Rattle.lf_verdict.proofs.Skeletons.{all_whole}
 use Rattle.lf_verdict.proofs.judge.judged_order.Goals as goal
 
 pub order_of-requires-clause-whole : goal.order_of-requires-clause-whole

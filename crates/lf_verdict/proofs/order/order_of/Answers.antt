@@ -3,7 +3,7 @@ use Rattle.lf_join.specs.Join.{BanksAreWhole}
 use Rattle.lf_join.specs.Join as joins
 use Rattle.lf_rules.specs.Lists.{lists_of}
 use Rattle.std.specs.List.{All}
-use Rattle.lf_verdict.proofs.Entries.{banks_whole, skeletons_short}
+use Rattle.lf_verdict.proofs.Skeletons.{banks_whole, skeletons_short}
 use Rattle.lf_verdict.proofs.order.order_of.Goals as goal
 
 pub join-requires-clause-whole : goal.join-requires-clause-whole

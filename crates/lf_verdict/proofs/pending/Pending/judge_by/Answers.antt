@@ -1,5 +1,4 @@
-use Rattle.std.proofs.Common.{◌≡◌, ◌++◌, List, length, get_or, refl, sym, ap, ◌∙◌, subst, arith}
-use Rattle.std.specs.Global.{Vec}
+use Rattle.std.proofs.Common.{◌≡◌, ◌++◌, List, length, get_or, sym, ap, ◌∙◌, subst, arith}
 use Rattle.std.specs.Vec.{with_items}
 use Rattle.std.specs.List.{length_refill}
 use Rattle.lf_rules.specs.declared.event.Record.{Record}
@@ -8,22 +7,21 @@ use Rattle.lf_verdict.specs.declared.standing.Standing.{Standing}
 use Rattle.lf_rules.specs.declared.outcome.Outcome.TheVariants as outcomes
 use Rattle.lf_verdict.specs.Standing.{MayAllCome, StandsAfterAll, CanTakeAll, TakesAll}
 use Rattle.lf_verdict.proofs.Pendings.{all_fit, can_take, stands_together, written_at}
-use Rattle.lf_verdict.proofs.Standings.{entered_with}
 use Rattle.lf_verdict.proofs.pending.Pending.judge_by.Goals as goal
 
-pub enter_all-requires : goal.enter_all-requires
-enter_all-requires g c =
+pub judge_parts-requires-clause-entries : goal.judge_parts-requires-clause-entries
+judge_parts-requires-clause-entries g c κs lives =
     let r = c.requires.pending in
     let is = r.1.1.1 in
     (r.0, (is.done, (subst (MayAllCome r.0 is.done) (sym c.make_contiguous.ensures.value) is.may_come, is.stands.entered)))
 
-pub judge_banks-requires-clause-each : goal.judge_banks-requires-clause-each
-judge_banks-requires-clause-each g c κs lives bank d lt =
+pub judge_parts-requires-clause-banks : goal.judge_parts-requires-clause-banks
+judge_parts-requires-clause-banks g c κs lives bank d lt =
     let r = c.requires.pending in
     let is = r.1.1.1 in
     let rs = c.make_contiguous.result.now in
     let fits = all_fit r.0 is.done rs (subst (MayAllCome r.0 is.done) (sym c.make_contiguous.ensures.value) is.may_come) in
-    let banks = c.as_mut_slice.ensures.value ∙ ap (λ (v : Vec BankJudge). v.items) c.in_ok-enter_all.ensures.banks in
+    let banks = c.as_mut_slice-banks.ensures.value in
     subst (λ (js : List BankJudge). CanTakeAll bank rs (get_or js bank d)) (sym banks) (can_take r.0 r.1.0 is.done rs c.args.self.now.standing is.stands fits bank d (omega (arith, lt, ap length banks)))
 
 pub returns : goal.returns
@@ -31,19 +29,17 @@ returns g c shape memory records is =
     let rs = c.make_contiguous.result.now in
     let may = subst (MayAllCome shape is.done) (sym c.make_contiguous.ensures.value) is.may_come in
     let old = c.args.self.now.standing in
-    let mid = c.enter_all.new.self in
-    let banks = ap (λ (v : Vec BankJudge). v.items) c.in_ok-enter_all.ensures.banks in
-    let slice = c.as_mut_slice.ensures.value ∙ banks in
-    let ws = c.judge_banks.new.banks in
-    let new : Standing = record { logs = mid.logs; ports = mid.ports; banks = with_items mid.banks ws } in
+    let slice = c.as_mut_slice-banks.ensures.value in
+    let ws = c.judge_parts.new.banks in
+    let new : Standing = record { entries = c.judge_parts.new.entries; banks = with_items old.banks ws } in
     let same = is.all ∙ ap (λ (xs : List Record). is.done ++ xs) (sym c.make_contiguous.ensures.value) in (
       subst (λ (xs : List Record). StandsAfterAll shape memory xs new) (sym same)
           (stands_together shape memory is.done rs old new is.stands (all_fit shape is.done rs may)
-          (entered_with shape (is.done ++ rs) mid new refl refl (c.in_ok-enter_all.ensures.entered shape is.done may is.stands.entered))
-          (sym (length_refill mid.banks.len mid.banks.items ws mid.banks.ok.0) ∙ mid.banks.ok.0 ∙ ap length banks)
+          (c.in_ok-judge_parts.ensures.entries shape is.done may is.stands.entered)
+          (sym (length_refill old.banks.len old.banks.items ws old.banks.ok.0) ∙ old.banks.ok.0)
           (λ bank x lt at.
-          subst (λ (y : BankJudge). TakesAll bank rs (get_or old.banks.items bank x) y) (written_at mid.banks.items ws mid.banks.len bank x (omega (arith, lt, mid.banks.ok.0, ap length banks)) at)
-          (subst (λ (js : List BankJudge). TakesAll bank rs (get_or js bank x) (get_or ws bank x)) slice (c.judge_banks.ensures bank x (omega (arith, lt, ap length slice)))))
+          subst (λ (y : BankJudge). TakesAll bank rs (get_or old.banks.items bank x) y) (written_at old.banks.items ws old.banks.len bank x (omega (arith, lt, old.banks.ok.0)) at)
+          (subst (λ (js : List BankJudge). TakesAll bank rs (get_or js bank x) (get_or ws bank x)) slice (c.in_ok-judge_parts.ensures.banks.each bank x (omega (arith, lt, ap length slice)))))
           (λ bank d lt.
           subst (λ (js : List BankJudge). (get_or js bank d).outcome ≡ outcomes.NoMemory → ⊥) c.deref.ensures.value (c.ran_out.ensures (λ e. cc) bank d (omega (arith, lt, ap length c.deref.ensures.value))))),
       c.clear.ensures.items,

@@ -4,7 +4,7 @@ use Rattle.lf_rules.specs.Run.{of_log}
 use Rattle.lf_verdict.specs.declared.port_judge.PortJudge.{PortJudge}
 use Rattle.lf_verdict.specs.Standing.{IsPortJudged}
 use Rattle.lf_verdict.proofs.Standings.{entries_count, log_below_all, log_length, logs_more, ports_more, ports_same, port_before}
-use Rattle.lf_verdict.proofs.standing.Standing.enter.Goals as goal
+use Rattle.lf_verdict.proofs.entries.Entries.enter.Goals as goal
 
 pub index-requires : goal.index-requires
 index-requires c =
@@ -34,8 +34,8 @@ index_mut-requires c =
       entries_count (r.0.ports + r.0.banks) r.1.0 c.args.self.now.logs.items stands.logs,
     )
 
-pub returns-then-log-len-clause-entered : goal.returns-then-log-len-clause-entered
-returns-then-log-len-clause-entered c shape records may stands =
+pub returns-then-log-len : goal.returns-then-log-len
+returns-then-log-len c shape records may stands =
     let s = c.args.self.now in
     let item = c.args.item.now in
     let own : item.log < shape.ports = omega (arith, c.from-log.ensures, c.len.ensures, stands.count_ports, c.if-log-len.true) in
@@ -50,8 +50,8 @@ returns-then-log-len-clause-entered c shape records may stands =
           (ports_more shape records item s.ports.items c.take.new.self stands.count_ports stands.ports own here port d lt);
     }
 
-pub returns-else-log-len-clause-entered : goal.returns-else-log-len-clause-entered
-returns-else-log-len-clause-entered c shape records may stands =
+pub returns-else-log-len : goal.returns-else-log-len
+returns-else-log-len c shape records may stands =
     let s = c.args.self.now in
     let item = c.args.item.now in
     let past : shape.ports ≤ item.log = omega (arith, c.from-log.ensures, c.len.ensures, stands.count_ports, c.if-log-len.false) in

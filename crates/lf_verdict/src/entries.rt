@@ -1,0 +1,45 @@
+//! The logs of a trace, kept while their records come.
+
+ghost use Rattle.std.specs.Prelude.{◌≡◌, ℕ, List, [], ◌∷◌, ◌++◌, OnOk};
+ghost use Rattle.lf_rules.specs.declared.shape.Shape.{Shape};
+ghost use Rattle.lf_rules.specs.declared.event.Record.{Record};
+ghost use Rattle.lf_verdict.specs.Standing.{MayCome, AreEntered, CanEnterAll, EntersAll};
+
+use crate::port_judge::PortJudge;
+use lf_rules::{NoMemory, Record, Skeleton};
+
+/// Each log's entries so far, and how each port stands. No bank is among them, so that records can be
+/// entered while the banks are judged.
+#[derive(Drop)]
+pub struct Entries {
+    pub logs: Vec<Skeleton>,
+    pub ports: Vec<PortJudge>,
+}
+
+impl Entries {
+    /// Keeps the entry of the next record, and judges it by its port where it stands in a port's log.
+    pub fn enter(&mut self, item: &Record) -> Result<(), NoMemory>
+        requires { (shape : Shape) × ((records : List Record) × (MayCome shape records item.now × AreEntered shape records self.old)) }
+        ensures { (shape : Shape) (records : List Record) → MayCome shape records item.now → AreEntered shape records self.old
+            → OnOk result (AreEntered shape (records ++ item.now ∷ []) self.new) }
+    {
+        let log = usize::from(item.log);
+        let at = self.logs[log].len() as u32;
+        self.logs[log].push((item.bank, item.number))?;
+        if log < self.ports.len() {
+            self.ports[log].take(at, item);
+        }
+        Ok(())
+    }
+
+    /// The same of these records. Their banks need not have seen them.
+    pub fn enter_all(&mut self, records: &[Record]) -> Result<(), NoMemory>
+        requires { CanEnterAll records.now self.old }
+        ensures { EntersAll records.now self.old result self.new }
+    {
+        for item in records {
+            self.enter(item)?;
+        }
+        Ok(())
+    }
+}
