@@ -1,4 +1,4 @@
-use Rattle.std.proofs.Common.{◌≡◌, ◌++◌, ◌∷◌, [], List, Option, Some, None, refl, sym, ap, ◌∙◌, inl}
+use Rattle.std.proofs.Common.{rules, ◌≡◌, ◌++◌, ◌∷◌, [], List, Option, Some, None, refl, sym, ap, ◌∙◌, inl}
 use Rattle.std.proofs.lemmas.Bool.{eqb-true}
 use Rattle.std.proofs.lemmas.List.{nil_from_length}
 use Rattle.lf_rules.specs.declared.event.Record.{Record}
@@ -40,3 +40,6 @@ returns-in-Some-read_record-clause-read c =
     ∙ ap (λ (rs : List Record). record r { progress = counted r.progress n into.item.log; records = rs }) moved in
     let took = taken_at_once r (with_record c.read_record.new.place new) c.args.bytes.now into.item n fine empty into.stage into.whole c.self.invariant.sound same in
     rw (← c.self.view_is) (inl took.2)
+
+pub returns-clause-read : goal.returns-clause-read
+returns-clause-read c = search rules

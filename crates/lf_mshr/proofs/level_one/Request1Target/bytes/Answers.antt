@@ -1,0 +1,5 @@
+use Rattle.std.proofs.Common.{rules}
+use Rattle.lf_mshr.proofs.level_one.Request1Target.bytes.Goals as goal
+
+pub returns : goal.returns
+returns c = search rules
