@@ -7,7 +7,7 @@ use Rattle.lf_codec.specs.declared.stage.Kind.TheVariants as kinds
 use Rattle.lf_codec.specs.declared.stage.Head.{Head}
 use Rattle.lf_codec.specs.declared.progress.Progress.{Progress}
 use Rattle.lf_codec.specs.Steps.{event_at, record_of}
-use Rattle.lf_codec.specs.Takes.{IsWholeHead, AreWholeParts, IsWhole}
+use Rattle.lf_codec.specs.Takes.{IsWholeHead, AreWholeParts, IsWholeRecord}
 use Rattle.lf_codec.specs.Sound.{IsInRange, most_data}
 use Rattle.lf_codec.specs.Carrying.{carrying, CanCarry}
 use Rattle.lf_codec.proofs.Soundness.{most_data-le, data_limit}
@@ -51,7 +51,7 @@ module _ (p : Progress) (bytes rest fixed carried : List ℕ) (kind : Kind) (hea
   own_parts : AreWholeParts p.header head.kind head.bank rest fixed carried
   own_parts = subst (λ (k : Kind). AreWholeParts p.header k head.bank rest fixed carried) same parts
 
-  pub whole_record : IsWhole p bytes (record_of p.header head fixed carried) (8 + length fixed + length carried)
+  pub whole_record : IsWholeRecord p bytes (record_of p.header head fixed carried) (8 + length fixed + length carried)
   whole_record = record { head = head; rest = rest; fixed = fixed; carried = carried; at_front = front; behind = own_parts; item_is = refl; len_is = refl }
 
   pub event_carries : (bare : Event) → bare ≡ event_at p.header kind fixed (record { items = [] }) → carrying bare carried ≡ event_at p.header head.kind fixed (record { items = carried })

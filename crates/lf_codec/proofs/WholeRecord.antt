@@ -5,7 +5,6 @@ use Rattle.std.proofs.lemmas.Bool.{cases_Bool, eqb-true, eqb-false}
 use Rattle.std.proofs.lemmas.List.{append-nil, nil_from_length, length-append, take-append-le}
 use Rattle.std.proofs.Math.Seq.{take-length}
 use Rattle.lf_rules.specs.Fits.{Bytes}
-use Rattle.lf_rules.specs.declared.event.Event.{Event}
 use Rattle.lf_rules.specs.declared.event.Record.{Record}
 use Rattle.lf_codec.specs.declared.fault.CodecFault.{CodecFault}
 use Rattle.lf_codec.specs.declared.stage.Found.{Found}
@@ -17,7 +16,7 @@ use Rattle.lf_codec.specs.Checks.{byte_at, judged, head_checks, fixed_checks, st
 use Rattle.lf_codec.specs.Steps.{fixed_len, data_len, head_at, counted, record_of, past_head, advanced}
 use Rattle.lf_codec.specs.Sound.{IsInRange, HasRoom, IsSoundAt, IsSound, most_data}
 use Rattle.lf_codec.specs.Reading.{Reading, read_on, memory_in, records_in}
-use Rattle.lf_codec.specs.Takes.{IsWhole, TakesPart}
+use Rattle.lf_codec.specs.Takes.{IsWholeRecord, TakesPart}
 use Rattle.lf_codec.proofs.Soundness.{room_of_head, data_limit, most_data-le, fixed_len-le, sound_past_record}
 use Rattle.lf_codec.proofs.EachKind.{no_data_behind}
 use Rattle.lf_codec.proofs.Forward.{clean, step_read}
@@ -187,7 +186,7 @@ module _ (p : Progress) (at : p.stage ≡ stages.Head) (bytes : List ℕ) (head 
 
 -- ---- a record that stands whole
 
-module _ (p : Progress) (bytes : List ℕ) (item : Record) (len : ℕ) (whole : IsWhole p bytes item len) where
+module _ (p : Progress) (bytes : List ℕ) (item : Record) (len : ℕ) (whole : IsWholeRecord p bytes item len) where
   pub parts_of : HasParts p bytes whole.head whole.fixed whole.carried
   parts_of = record {
     first = whole.at_front.first;
@@ -213,7 +212,7 @@ module _ (p : Progress) (bytes : List ℕ) (item : Record) (len : ℕ) (whole : 
     sound_behind = rw (log_of, whole.len_is) (whole_sound p at bytes whole.head whole.fixed whole.carried parts_of sound)
 
 -- the same of any reading between two steps
-pub taken_at_once : (r new : Reading) (bytes : List ℕ) (item : Record) (len : ℕ) → r.fault ≡ None → r.pending ≡ [] → r.progress.stage ≡ stages.Head → IsWhole r.progress bytes item len → IsSound r.progress
+pub taken_at_once : (r new : Reading) (bytes : List ℕ) (item : Record) (len : ℕ) → r.fault ≡ None → r.pending ≡ [] → r.progress.stage ≡ stages.Head → IsWholeRecord r.progress bytes item len → IsSound r.progress
     → new ≡ record r { progress = counted r.progress len item.log; records = r.records ++ item ∷ [] }
     → TakesPart r bytes (Ok len) new
 taken_at_once r new bytes item len fine empty at whole sound is =

@@ -63,7 +63,7 @@ pub record AreWholeParts (h : Header) (kind : Kind) (bank : ℕ) (bytes fixed ca
   pub carried_whole : length carried ≡ data_len h kind fixed
 
 -- at the front of these bytes an event record of so many bytes stands whole, and its checks pass
-pub record IsWhole (p : Progress) (bytes : List ℕ) (item : Record) (len : ℕ) : Type 0 where
+pub record IsWholeRecord (p : Progress) (bytes : List ℕ) (item : Record) (len : ℕ) : Type 0 where
   pub head : Head
   pub rest : List ℕ
   pub fixed : List ℕ
@@ -98,5 +98,5 @@ pub record ReadsInto (old : Progress) (bytes : List ℕ) (n : ℕ) (place : Opti
   pub item : Record
   pub is_placed : place ≡ Some item
   pub stage : old.stage ≡ stages.Head
-  pub whole : IsWhole old bytes item n
+  pub whole : IsWholeRecord old bytes item n
   pub is_counted : new ≡ counted old n item.log

@@ -1,6 +1,6 @@
 //! The one spelling of a trace.
 
-ghost use Rattle.std.specs.Prelude.{◌≡◌, ◌∷◌, ◌++◌, ◌<◌, ◌^◌, length, take, OnOk, IfOk, vec_len};
+ghost use Rattle.std.specs.Prelude.{◌≡◌, ◌∷◌, ◌++◌, ◌<◌, ◌^◌, length, OnOk, IfOk};
 ghost use Rattle.std.specs.List.{flat_map};
 ghost use Rattle.lf_codec.specs.Trace.{FitsTrace, IsTrace};
 ghost use Rattle.lf_codec.specs.Layout.{u16_bytes, u32_bytes, u64_bytes, factor_word, mask_bytes, header_bytes, memory_bytes, fixed_bytes, data_of};

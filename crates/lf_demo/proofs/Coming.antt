@@ -8,7 +8,7 @@ use Rattle.lf_rules.specs.declared.shape.Shape.{Shape}
 use Rattle.lf_rules.specs.declared.event.Event.{Event}
 use Rattle.lf_rules.specs.declared.event.Event.TheVariants.{Fence}
 use Rattle.lf_rules.specs.declared.event.Op.{Op}
-use Rattle.lf_recorder.specs.Desk.{SeatView, with_record}
+use Rattle.lf_recorder.specs.Desk.{SeatView, after_record}
 use Rattle.lf_demo.specs.declared.port.Port.{Port}
 use Rattle.lf_demo.specs.Demo.{op_of, block_of, issue_of, request_of, is_issue, is_reply, events_of, HasCome, IsPortLog}
 use Rattle.lf_demo.specs.Threads.{Counts}
@@ -27,11 +27,11 @@ pub request_made : (shape : Shape) (port i : ℕ) (op : Op) (tag block : ℕ) (b
 request_made shape port i op tag block bytes is_op is_tag is_block is_bytes = rw (is_op, is_tag, is_block, is_bytes) refl
 
 -- the events of a seat with one more record
-more_events : (seat : SeatView) (bank number : ℕ) (event : Event) → events_of (with_record seat bank number event).records ≡ events_of seat.records ++ event ∷ []
+more_events : (seat : SeatView) (bank number : ℕ) (event : Event) → events_of (after_record seat bank number event).records ≡ events_of seat.records ++ event ∷ []
 more_events seat bank number event = map_push (λ r. r.event) seat.records (record { log = seat.log; bank = bank; number = number; event = event })
 
 pub counts_issue : (shape : Shape) (port port' : Port) (seat seat' : SeatView) (bank number : ℕ) (event : Event) → Counts shape port seat → port.issued < 64
-    → event ≡ request_of shape port.number port.issued → seat' ≡ with_record seat bank number event
+    → event ≡ request_of shape port.number port.issued → seat' ≡ after_record seat bank number event
     → port'.number ≡ port.number → port'.issued ≡ port.issued + 1 → port'.replied ≡ port.replied → Counts shape port' seat'
 counts_issue shape port port' seat seat' bank number event h few is grown same issued replied =
     let log : seat'.log ≡ seat.log = ap (λ (s : SeatView). s.log) grown in
@@ -43,7 +43,7 @@ counts_issue shape port port' seat seat' bank number event h few is grown same i
     }
 
 pub whole_log : (shape : Shape) (port : Port) (seat seat' : SeatView) (bank number : ℕ) → Counts shape port seat → 64 ≤ port.replied
-    → seat' ≡ with_record seat bank number Fence → IsPortLog shape seat'.log seat'.records
+    → seat' ≡ after_record seat bank number Fence → IsPortLog shape seat'.log seat'.records
 whole_log shape port seat seat' bank number h done grown =
     let log : seat'.log ≡ seat.log = ap (λ (s : SeatView). s.log) grown in
     let replied : port.replied ≡ 64 = (let few = h.few in let owed = h.owed in omega arith) in

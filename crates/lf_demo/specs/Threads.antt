@@ -19,11 +19,11 @@ pub record Counts (shape : Shape) (port : Port) (seat : SeatView) : Type 0 where
   pub come : HasCome shape seat.log port.issued port.replied (events_of seat.records)
 
 -- a seat of this desk that has all of a port's records, where it is a port's
-pub record IsWhole (shape : Shape) (desk : DeskView) (seat : SeatView) : Type 0 where
+pub record IsWholeSeat (shape : Shape) (desk : DeskView) (seat : SeatView) : Type 0 where
   pub own : seat.desk ≡ desk.desk
   pub port : seat.log < shape.ports → IsPortLog shape seat.log seat.records
 
 -- what a thread gives: its seat, which is whole where the thread did not give up
-pub record IsRecorded (shape : Shape) (desk : DeskView) (recorded : Recorded) : Type 0 where
+pub record IsGivenBack (shape : Shape) (desk : DeskView) (recorded : Recorded) : Type 0 where
   pub own : recorded.seat.desk ≡ desk.desk
-  pub whole : OnOk recorded.outcome (IsWhole shape desk recorded.seat)
+  pub whole : OnOk recorded.outcome (IsWholeSeat shape desk recorded.seat)

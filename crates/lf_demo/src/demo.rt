@@ -4,7 +4,7 @@ ghost use Rattle.std.specs.Prelude.{◌≡◌, All, Err, IfOk, map};
 ghost use Rattle.lf_rules.specs.InRange.{IsShape};
 ghost use Rattle.lf_demo.specs.Demo.{IsDemo, IsRecording, IsTraceOf};
 ghost use Rattle.lf_demo.specs.declared.fault.DemoFault.{DemoFault};
-ghost use Rattle.lf_demo.specs.Threads.{IsNew, IsRecorded, IsWhole};
+ghost use Rattle.lf_demo.specs.Threads.{IsNew, IsGivenBack, IsWholeSeat};
 
 use crate::fault::DemoFault;
 use crate::recording::{Recorded, Recording, work};
@@ -27,7 +27,7 @@ struct RecordedBy<'a> {
 }
 
 impl<'a> Promise<Recorded> for RecordedBy<'a> {
-    ghost kept_by = { λ p r. IsRecorded p.recording.now.places.shape p.recording.now.desk r };
+    ghost kept_by = { λ p r. IsGivenBack p.recording.now.places.shape p.recording.now.desk r };
 }
 
 /// Runs a thread for each seat, and joins them.
@@ -39,7 +39,7 @@ fn run_in<'s, E, R: Threads + Wait + Sync>(
     seats: Vec<LogSeat>,
 ) -> Result<Vec<Recorded>, DemoFault>
     requires { All (IsNew recording.now.desk) seats.items }
-    ensures { IfOk result (λ v. All (IsRecorded recording.entry.now.places.shape recording.entry.now.desk) v.items) }
+    ensures { IfOk result (λ v. All (IsGivenBack recording.entry.now.places.shape recording.entry.now.desk) v.items) }
 {
     let mut handles = Vec::with_capacity(alloc, seats.len())?;
     for seat in seats {
@@ -65,14 +65,14 @@ fn in_threads<R: Threads + Wait + Sync>(
     seats: Vec<LogSeat>,
 ) -> Result<Vec<Recorded>, DemoFault>
     requires { All (IsNew recording.now.desk) seats.items }
-    ensures { IfOk result (λ v. All (IsRecorded recording.now.places.shape recording.now.desk) v.items) }
+    ensures { IfOk result (λ v. All (IsGivenBack recording.now.places.shape recording.now.desk) v.items) }
 {
     thread::scope(
         thread::scope_env(),
         rt,
         move |scope| -> Result<Vec<Recorded>, DemoFault>
             requires { All (IsNew recording.now.desk) seats.items }
-            ensures { IfOk result (λ v. All (IsRecorded recording.entry.now.places.shape recording.entry.now.desk) v.items) }
+            ensures { IfOk result (λ v. All (IsGivenBack recording.entry.now.places.shape recording.entry.now.desk) v.items) }
         { run_in(rt, scope, alloc, recording, seats) },
     )
 }
@@ -83,8 +83,8 @@ fn seats_of(
     recording: &Recording,
     all: Vec<Recorded>,
 ) -> Result<Vec<LogSeat>, DemoFault>
-    requires { All (IsRecorded recording.now.places.shape recording.now.desk) all.items }
-    ensures { IfOk result (λ v. All (IsWhole recording.now.places.shape recording.now.desk) v.items) }
+    requires { All (IsGivenBack recording.now.places.shape recording.now.desk) all.items }
+    ensures { IfOk result (λ v. All (IsWholeSeat recording.now.places.shape recording.now.desk) v.items) }
 {
     let _ = recording;
     let memory = Err(DemoFault::Memory);

@@ -2,7 +2,7 @@
 
 ghost use Rattle.std.specs.Prelude.{◌≡◌, IfOk};
 ghost use Rattle.lf_rules.specs.InRange.{IsShape};
-ghost use Rattle.lf_demo.specs.Threads.{IsNew, IsRecorded};
+ghost use Rattle.lf_demo.specs.Threads.{IsNew, IsGivenBack};
 
 use crate::cache::BankCache;
 use crate::fault::DemoFault;
@@ -67,7 +67,7 @@ impl Recording {
 /// What the thread of a seat does: that of a port, or that of a bank.
 pub fn work<R: Wait>(rt: &R, recording: &Recording, seat: LogSeat) -> Recorded
     requires { IsNew recording.now.desk seat }
-    ensures { IsRecorded recording.now.places.shape recording.now.desk result }
+    ensures { IsGivenBack recording.now.places.shape recording.now.desk result }
 {
     let mut seat = seat;
     let ports = recording.places.shape.ports as u8;

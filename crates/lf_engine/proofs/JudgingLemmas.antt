@@ -15,7 +15,7 @@ use Rattle.lf_verdict.specs.declared.answer.Refusal.{Refusal}
 use Rattle.lf_verdict.specs.declared.answer.Refusal.TheVariants.{Workers, Config, Format, Header as OtherHeader, Memory, Thread}
 use Rattle.lf_verdict.specs.Legal.{IsLegal}
 use Rattle.lf_verdict.specs.Laws.{NoHasNoRun, IsRunlessNo}
-use Rattle.lf_verdict.specs.Verdict.{IsWorkerCount, IsJudged, IsTraceVerdict, IsVerdictOf, IsLegalYes}
+use Rattle.lf_verdict.specs.Verdict.{IsWorkerCount, IsDecided, IsTraceVerdict, IsVerdictOf, IsLegalYes}
 use Rattle.lf_verdict.specs.declared.intake.Intake.{Intake}
 use Rattle.lf_verdict.specs.Session.{HasFed}
 use Rattle.lf_verdict.specs.Configured.{IsConfigFault, IsConfiguredVerdict, IsVerdictFor, IsLegalFor, IsRunlessNoFor}
@@ -24,7 +24,7 @@ use Rattle.lf_engine.specs.declared.counted.Counted.{Counted}
 use Rattle.lf_engine.specs.declared.fault.RunFault.{RunFault}
 use Rattle.lf_engine.specs.Counted.{calls_of, failures_of, inner_of}
 use Rattle.lf_engine.specs.Gathered.{HasFault}
-use Rattle.lf_engine.specs.Run.{IsAsked, IsRefusedFirst, IsVerdictOfRead, IsLegalRead, IfYes, IsOutcome, HasGathered}
+use Rattle.lf_engine.specs.Run.{IsAsked, IsRefusedFirst, IsVerdictOfRead, IsLegalRead, IfYes, IsOutcome, HasFedAll}
 use Rattle.lf_engine.proofs.RunLemmas.{IsKept, IsFreeUnless, HasNoFault, MeansOfNo, MeansNothingElse}
 
 -- A trace has no fault.
@@ -89,7 +89,7 @@ shape_nothing shape bytes (Yes events order) h = tt
 shape_nothing shape bytes (Refused f) h = tt
 
 legal_read : {R : Type 0} (remaining : R → Option (List ℕ)) (old new : R) (shape : Shape) (session : Intake) (v : Verdict)
-    → (g : HasGathered remaining old new session)
+    → (g : HasFedAll remaining old new session)
     → IsLegalYes shape g.bytes v → IfYes v (IsLegalRead remaining old new (IsLegal shape))
 legal_read remaining old new shape session (Yes events order) g h = record { bytes = g.bytes; reads = g.reads; legal = h.0 }
 legal_read remaining old new shape session (No f) g h = tt
@@ -98,9 +98,9 @@ legal_read remaining old new shape session (Refused f) g h = tt
 -- What a session says of all that was read is what the run came to.
 pub finished : {R : Type 0} (remaining : R → Option (List ℕ)) (old new : Counted R) (shape : Shape) (workers turns : ℕ) (session : Intake) (v : Verdict)
     → session.shape ≡ shape → IsWorkerCount workers → calls_of new ≤ turns → ¬ (0 < failures_of new)
-    → HasGathered remaining (inner_of old) (inner_of new) session
+    → HasFedAll remaining (inner_of old) (inner_of new) session
     → ((bytes : List ℕ) → HasFed session bytes → IsLegalYes session.shape bytes v)
-    → ((bytes : List ℕ) → HasFed session bytes → IsJudged v → IsVerdictOf session.shape 1 bytes v)
+    → ((bytes : List ℕ) → HasFed session bytes → IsDecided v → IsVerdictOf session.shape 1 bytes v)
     → ¬ (v ≡ Refused Thread)
     → IsOutcome remaining old new (IsWorkerCount workers) (IsLegal shape) (IsVerdictOf shape workers) turns (Ok v)
 finished remaining old new shape workers turns session v same count few none g legal verdict thread = record {
@@ -237,7 +237,7 @@ fault_is_none text shape told.NoMemory h e = h
 
 -- a refusal that comes before the trace is asked for is the verdict of any bytes
 refused_verdict : {R : Type 0} (remaining : R → Option (List ℕ)) (old new : R) (text : List ℕ) (workers : ℕ) (r : Refusal) → IsRefusedFirst text workers r
-    → IsJudged (Refused r)
+    → IsDecided (Refused r)
     → IsVerdictOfRead remaining old new (IsAsked text workers) (IsVerdictFor text workers) (Refused r)
 refused_verdict remaining old new text workers (Workers n) h judged = record { bytes = []; reads = λ yes_asked. absurd (h.1 yes_asked.0); verdict = h }
 refused_verdict remaining old new text workers (Config f) h judged =

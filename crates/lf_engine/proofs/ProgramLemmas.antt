@@ -4,7 +4,7 @@ use Rattle.std.specs.Prelude.{◌↔◌, IsErrOf}
 use Rattle.std.specs.Io.KnownBytes.{Appends}
 use Rattle.lf_codec.specs.Laws.{FaultsSoFarAreNotTruncated}
 use Rattle.lf_verdict.specs.declared.answer.Verdict.{Verdict}
-use Rattle.lf_verdict.specs.Verdict.{IsJudged}
+use Rattle.lf_verdict.specs.Verdict.{IsDecided}
 use Rattle.lf_engine.specs.declared.counted.Counted.{Counted}
 use Rattle.lf_engine.specs.declared.fault.RunFault.{RunFault}
 use Rattle.lf_engine.specs.declared.fault.RunFault.TheVariants.{Read, Write}
@@ -74,8 +74,8 @@ module _ {R W : Type 0} (remaining : R → Option (List ℕ)) (contents : W → 
       legal_of (Err e) is = tt
 
       verdict_of : (r : Result Verdict RunFault)
-          → (r ≢ Err Write → IfOk r (λ v. IsJudged v → IsVerdictOfRead remaining (inner_of old) (inner_of new) asked V v))
-          → IfOk r (λ v. IsJudged v → IsVerdictOfRead remaining (inner_of old) (inner_of new) asked V v)
+          → (r ≢ Err Write → IfOk r (λ v. IsDecided v → IsVerdictOfRead remaining (inner_of old) (inner_of new) asked V v))
+          → IfOk r (λ v. IsDecided v → IsVerdictOfRead remaining (inner_of old) (inner_of new) asked V v)
       verdict_of (Ok v) is = is (λ e. cc)
       verdict_of (Err e) is = tt
 

@@ -6,7 +6,7 @@ use Rattle.lf_codec.specs.Reading.{fault_so_far}
 use Rattle.lf_codec.specs.Laws.{AreBytes, FaultsSoFarAreNotTruncated}
 use Rattle.lf_verdict.specs.declared.answer.Verdict.{Verdict}
 use Rattle.lf_verdict.specs.declared.answer.Verdict.TheVariants.{Yes, No, Refused}
-use Rattle.lf_verdict.specs.Verdict.{IsJudged}
+use Rattle.lf_verdict.specs.Verdict.{IsDecided}
 use Rattle.lf_engine.specs.declared.counted.Counted.{Counted}
 use Rattle.lf_engine.specs.declared.fault.RunFault.{RunFault}
 use Rattle.lf_engine.specs.declared.fault.RunFault.TheVariants.{Write}
@@ -86,7 +86,7 @@ pub told_whole : {R : Type 0} → FaultsSoFarAreNotTruncated
     → (remaining : R → Option (List ℕ)) (old new : Counted R) (asked : Type 0) (L : List ℕ → List ℕ → Type 0) (V : List ℕ → Verdict → Type 0)
     → IsKept V → IsFreeUnless asked V → (turns : ℕ) (outcome said : Result Verdict RunFault)
     → IsOutcome remaining old new asked L V turns outcome → (said ≢ Err Write → Follows outcome said)
-    → IfOk said (λ v. IsJudged v → IfSome (remaining (inner_of old)) (λ all. V all v))
+    → IfOk said (λ v. IsDecided v → IfSome (remaining (inner_of old)) (λ all. V all v))
 told_whole so_far remaining old new asked L V kept free turns outcome (Ok v) h follows = λ judged.
     judged_whole so_far remaining (inner_of old) (inner_of new) asked V kept free v
     ((outcome_told remaining old new asked L V turns outcome (Ok v) h (follows (λ e. cc))).verdict judged)
@@ -133,7 +133,7 @@ MeansNothingElse N = (bytes : List ℕ) (v : Verdict) → IfNo v ⊥ → N bytes
 
 runless_read : {R : Type 0} → (remaining : R → Option (List ℕ)) (old new : R) (asked : Type 0) (V N : List ℕ → Verdict → Type 0) → MeansOfNo asked V N
     → (v : Verdict)
-    → (IsJudged v → IsVerdictOfRead remaining old new asked V v) → IfNo v (IsRunlessRead remaining old new (λ bytes. N bytes v))
+    → (IsDecided v → IsVerdictOfRead remaining old new asked V v) → IfNo v (IsRunlessRead remaining old new (λ bytes. N bytes v))
 runless_read remaining old new asked V N means (No f) h =
     let is = h tt in
     let both = means is.bytes (No f) is.verdict in
@@ -152,7 +152,7 @@ told_runless remaining old new asked L V N means turns outcome (Ok v) h follows 
 told_runless remaining old new asked L V N means turns outcome (Err e) h follows = tt
 
 all_runless : (asked : Type 0) (V N : List ℕ → Verdict → Type 0) → MeansOfNo asked V N → MeansNothingElse N → (a : Option (List ℕ)) (v : Verdict)
-    → (IsJudged v → IfSome a (λ all. V all v)) → IfSome a (λ all. N all v)
+    → (IsDecided v → IfSome a (λ all. V all v)) → IfSome a (λ all. N all v)
 all_runless asked V N means other None v h = tt
 all_runless asked V N means other (Some all) (No f) h = (means all (No f) (h tt)).1
 all_runless asked V N means other (Some all) (Yes events order) h = other all (Yes events order) tt
@@ -161,6 +161,6 @@ all_runless asked V N means other (Some all) (Refused f) h = other all (Refused 
 -- The same of all that the reader had.
 pub whole_runless : (asked : Type 0) (V N : List ℕ → Verdict → Type 0) → MeansOfNo asked V N → MeansNothingElse N
     → (a : Option (List ℕ)) (said : Result Verdict RunFault)
-    → IfOk said (λ v. IsJudged v → IfSome a (λ all. V all v)) → IfOk said (λ v. IfSome a (λ all. N all v))
+    → IfOk said (λ v. IsDecided v → IfSome a (λ all. V all v)) → IfOk said (λ v. IfSome a (λ all. N all v))
 whole_runless asked V N means other a (Ok v) h = all_runless asked V N means other a v h
 whole_runless asked V N means other a (Err e) h = tt

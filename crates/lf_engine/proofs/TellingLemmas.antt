@@ -4,7 +4,7 @@ use Rattle.std.specs.Global.{Global}
 use Rattle.lf_rules.specs.declared.shape.Shape.{Shape}
 use Rattle.lf_verdict.specs.declared.answer.Verdict.{Verdict}
 use Rattle.lf_verdict.specs.declared.answer.Verdict.TheVariants.{Yes, No, Refused}
-use Rattle.lf_verdict.specs.Verdict.{IsJudged, IsVerdictOf}
+use Rattle.lf_verdict.specs.Verdict.{IsDecided, IsVerdictOf}
 use Rattle.lf_engine.specs.declared.fault.RunFault.{RunFault}
 use Rattle.lf_engine.specs.declared.report.Report.{Report}
 use Rattle.lf_engine.specs.Report.{IsCountable, IsWritten, IsYesVerdict, HasLinesIfYes, verdict_in, FollowsLines, FollowsReport, lines_or, report_text}
@@ -16,7 +16,7 @@ countable_yes shape bytes (Yes events order) is h = record { memory = h.1.memory
 countable_yes shape bytes (No f) is h = absurd is
 countable_yes shape bytes (Refused f) is h = absurd is
 
-pub judged_yes : (v : Verdict) → IsYesVerdict v → IsJudged v
+pub judged_yes : (v : Verdict) → IsYesVerdict v → IsDecided v
 judged_yes (Yes events order) is = tt
 judged_yes (No f) is = absurd is
 judged_yes (Refused f) is = absurd is

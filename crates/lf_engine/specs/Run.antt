@@ -8,7 +8,7 @@ use Rattle.lf_verdict.specs.declared.answer.Verdict.TheVariants.{Yes, No, Refuse
 use Rattle.lf_verdict.specs.declared.answer.Refusal.{Refusal}
 use Rattle.lf_verdict.specs.declared.answer.Refusal.TheVariants.{Workers, Config, Memory, Thread}
 use Rattle.lf_config.specs.Configuration.{configuration_of}
-use Rattle.lf_verdict.specs.Verdict.{IsWorkerCount, IsJudged}
+use Rattle.lf_verdict.specs.Verdict.{IsWorkerCount, IsDecided}
 use Rattle.lf_verdict.specs.Configured.{IsConfigFault}
 use Rattle.lf_verdict.specs.declared.intake.Intake.{Intake}
 use Rattle.lf_verdict.specs.Session.{HasFed}
@@ -42,7 +42,7 @@ pub record Reads {R : Type 0} (remaining : R → Option (List ℕ)) (old new : R
   pub no_more : NoMore piece_len bytes
 
 -- The session was fed all bytes that the reader gave.
-pub record HasGathered {R : Type 0} (remaining : R → Option (List ℕ)) (old new : R) (session : Intake) : Type 0 where
+pub record HasFedAll {R : Type 0} (remaining : R → Option (List ℕ)) (old new : R) (session : Intake) : Type 0 where
   pub bytes : List ℕ
   pub reads : Reads remaining old new bytes
   pub fed : HasFed session bytes
@@ -97,7 +97,7 @@ pub record IsOutcome {R : Type 0} (remaining : R → Option (List ℕ)) (old new
     (IsLegal : List ℕ → List ℕ → Type 0) (IsVerdict : List ℕ → Verdict → Type 0) (turns : ℕ) (outcome : Result Verdict RunFault) : Type 0 where
   pub reads : calls_of new ≤ turns
   pub unread : ¬ asked → new ≡ old
-  pub verdict : IfOk outcome (λ v. IsJudged v → IsVerdictOfRead remaining (inner_of old) (inner_of new) asked IsVerdict v)
+  pub verdict : IfOk outcome (λ v. IsDecided v → IsVerdictOfRead remaining (inner_of old) (inner_of new) asked IsVerdict v)
   pub legal : IfOk outcome (λ v. IfYes v (IsLegalRead remaining (inner_of old) (inner_of new) IsLegal))
   pub no_thread : outcome ≢ Ok (Refused Thread)
   pub read : (outcome ≡ Err Read) ↔ (0 < failures_of new)
@@ -140,8 +140,8 @@ pub record IsRunWriting {R W : Type 0} (remaining : R → Option (List ℕ)) (co
   pub runless : IfOk answer (λ v. IfNo v (IsRunlessRead remaining (inner_of reader) (inner_of reader') (λ bytes. IsRunless bytes v)))
   pub runless_whole : IfOk answer (λ v. IfSome (remaining (inner_of reader)) (λ bytes. IsRunless bytes v))
   -- The verdict is that of the bytes that the reader gave, and of all that it had.
-  pub verdict : IfOk answer (λ v. IsJudged v → IsVerdictOfRead remaining (inner_of reader) (inner_of reader') asked IsVerdict v)
-  pub whole : IfOk answer (λ v. IsJudged v → IfSome (remaining (inner_of reader)) (λ bytes. IsVerdict bytes v))
+  pub verdict : IfOk answer (λ v. IsDecided v → IsVerdictOfRead remaining (inner_of reader) (inner_of reader') asked IsVerdict v)
+  pub whole : IfOk answer (λ v. IsDecided v → IfSome (remaining (inner_of reader)) (λ bytes. IsVerdict bytes v))
   pub thread : answer ≢ Ok (Refused Thread)
   -- What goes out is the text that is due for the answer.
   pub written : answer ≢ Err Write → (text : List ℕ) × IsDue answer text × Appends (contents (inner_of writer)) (contents (inner_of writer')) text

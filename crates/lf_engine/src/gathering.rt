@@ -8,7 +8,7 @@ ghost use Rattle.lf_verdict.specs.Session.{HasFed, IsRefusalSoFar};
 ghost use Rattle.lf_engine.specs.Counted.{calls_of, failures_of, inner_of};
 ghost use Rattle.lf_engine.specs.declared.gathering.Stop.{Stop};
 ghost use Rattle.lf_engine.specs.Gathered.{HasFault};
-ghost use Rattle.lf_engine.specs.Run.{GaveSound, HasGathered, piece_len};
+ghost use Rattle.lf_engine.specs.Run.{GaveSound, HasFedAll, piece_len};
 
 use crate::counted::Counted;
 use lf_codec::{Told, fault_so_far};
@@ -96,7 +96,7 @@ pub fn gather<T: Threads + Sync, R: Read>(
     requires fresh { HasFed session.old [] }
     ensures reads { calls_of reader.new ≤ turns }
     ensures shape { session.new.shape ≡ session.old.shape }
-    ensures bytes { OnOk result (HasGathered R.remaining (inner_of reader.old) (inner_of reader.new) session.new) }
+    ensures bytes { OnOk result (HasFedAll R.remaining (inner_of reader.old) (inner_of reader.new) session.new) }
     ensures read { IsErrOf result Stop.Read ↔ (0 < failures_of reader.new) }
     ensures turns { IsErrOf result Stop.Turns → calls_of reader.new ≡ turns }
     ensures sound { IfErr result (λ e. e ≢ Stop.Memory → GaveSound R.remaining (inner_of reader.old) (inner_of reader.new)) }

@@ -5,7 +5,7 @@ ghost use Rattle.std.specs.Io.KnownBytes.{Appends};
 ghost use Rattle.lf_rules.specs.InRange.{IsShape};
 ghost use Rattle.lf_config.specs.Configuration.{configuration_of};
 ghost use Rattle.lf_verdict.specs.declared.answer.Verdict.{Verdict};
-ghost use Rattle.lf_verdict.specs.Verdict.{IsWorkerCount, IsJudged, IsVerdictOf};
+ghost use Rattle.lf_verdict.specs.Verdict.{IsWorkerCount, IsDecided, IsVerdictOf};
 ghost use Rattle.lf_verdict.specs.Legal.{IsLegal};
 ghost use Rattle.lf_verdict.specs.Configured.{IsVerdictFor, IsLegalFor, IsRunlessNoFor};
 ghost use Rattle.lf_engine.specs.Counted.{calls_of, failures_of, inner_of};
@@ -39,8 +39,8 @@ fn judge_and_keep<T: AllocGlobal, R: Read>(
     requires shape { IsShape shape.now }
     requires nothing { bytes.old.items ≡ [] }
     ensures outcome { IsOutcome R.remaining reader.old reader.new (IsWorkerCount 1) (IsLegal shape.now) (IsVerdictOf shape.now 1) turns result }
-    ensures kept { IfOk result (λ v. IsJudged v → Reads R.remaining (inner_of reader.old) (inner_of reader.new) bytes.new.items) }
-    ensures verdict { IfOk result (λ v. IsJudged v → IsVerdictOf shape.now 1 bytes.new.items v) }
+    ensures kept { IfOk result (λ v. IsDecided v → Reads R.remaining (inner_of reader.old) (inner_of reader.new) bytes.new.items) }
+    ensures verdict { IfOk result (λ v. IsDecided v → IsVerdictOf shape.now 1 bytes.new.items v) }
 {
     let Ok(mut buffer) = zeros(rt.alloc(), PIECE) else {
         return Ok(Verdict::Refused(Refusal::Memory));
@@ -57,7 +57,7 @@ fn judge_and_keep<T: AllocGlobal, R: Read>(
 /// The lines of the statistics go with a yes. Where they want memory, that is the verdict.
 fn report_of(alloc: Global, shape: &Shape, bytes: &[u8], verdict: Verdict) -> Report
     requires shape { IsShape shape.now }
-    requires judged { IsJudged verdict → IsVerdictOf shape.now 1 bytes.now verdict }
+    requires judged { IsDecided verdict → IsVerdictOf shape.now 1 bytes.now verdict }
     ensures follows { Follows (Ok verdict) (Ok result.verdict) }
     ensures lines { HasLinesFor shape.now bytes.now result.verdict result.lines }
 {

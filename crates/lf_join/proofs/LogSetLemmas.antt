@@ -3,7 +3,7 @@ use Rattle.std.proofs.Common.{◌≡◌, ◌≢◌, ℕ, ◌*◌, ◌%◌, ◌^�
 use Rattle.std.specs.Int.{bit_at, bit_not, trailing_zeros, w32}
 use Rattle.std.proofs.lemmas.Nat.Bits.{bit_at-zero, bit_at-trailing_zeros, bit_at_set_same, bit_at_set_other, bit_at_clear_same, bit_at_clear_other}
 use Rattle.lf_join.specs.declared.log_set.LogSet.{LogSet}
-use Rattle.lf_join.specs.LogSets.{has, IsEmpty, IsLowest, Changes, IsBelow, IsNotAbove}
+use Rattle.lf_join.specs.LogSets.{has, IsEmpty, IsLowest, Changes, IsSetBelow, IsSetNotAbove}
 
 abbrev set_of : ℕ → LogSet
 set_of bits = record { 0 = bits }
@@ -32,7 +32,7 @@ removed bits log lt = record {
   others = λ other in_set apart. ap (λ b. b == 1) (bit_at_clear_other w32 bits log lt other in_set apart);
 }
 
-pub below_without : (old new : LogSet) (log : ℕ) → has old log ≡ true → has new log ≡ false → IsNotAbove new old → IsBelow new old
+pub below_without : (old new : LogSet) (log : ℕ) → has old log ≡ true → has new log ≡ false → IsSetNotAbove new old → IsSetBelow new old
 unfolding has
 below_without old new log member gone not_above =
     let apart : new.0 ≢ old.0 = λ same. true_false (bit_at old.0 log == 1) member (ap (λ b. bit_at b log == 1) (sym same) ∙ gone) in

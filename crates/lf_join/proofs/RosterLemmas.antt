@@ -1,5 +1,5 @@
 -- The roster of a merge, step by step.
-use Rattle.std.proofs.Common.{◌≡◌, ◌≢◌, ℕ, zero, suc, ◌+◌, ◌%◌, ◌<◌, ◌≤◌, Bool, true, false, cond, not, ltb, ◌==◌, ◌&&◌, ◌||◌, inl, inr, ◌⊎◌, List, []}
+use Rattle.std.proofs.Common.{◌≡◌, ◌≢◌, ℕ, zero, suc, ◌+◌, ◌%◌, ◌<◌, ◌≤◌, Bool, true, false, cond, not, ltb, ◌==◌, ◌&&◌, ◌||◌, inl, inr, List, []}
 use Rattle.std.proofs.Common.{length, replicate, get_or, set, Option, Some, None, slice_index, refl, sym, ap, ◌∙◌, subst, eqb-true, eq-eqb, arith}
 use Rattle.std.proofs.lemmas.Bool.{cases_Bool, cases_eq, cases_lt, cond-true, cond-false, ne_eqb}
 use Rattle.std.proofs.lemmas.List.{get_or-set_same, get_or-set_other, length-replicate}
@@ -11,7 +11,7 @@ use Rattle.lf_join.specs.declared.roster.Roster.{Roster}
 use Rattle.lf_join.specs.LogSets.{has, IsEmpty, IsLowest, Changes}
 use Rattle.lf_join.specs.Heads.{next_entry, carries_next, is_due, can_go, Advances}
 use Rattle.lf_join.proofs.Due.{of_bank, of_none, due_carries}
-use Rattle.lf_join.specs.Standings.{Standing, Nowhere, Goes, Waits, standing_of, is_going, is_waiting, IsKept, Stands, OthersStay, once_called, IsCalled, AllStand, IsItsOwn}
+use Rattle.lf_join.specs.Standings.{Standing, Nowhere, Goes, Waits, standing_of, is_going, is_waiting, IsKeptNumber, Stands, OthersStay, once_called, IsCalled, AllStand, IsItsOwn}
 
 abbrev none : LogSet
 none = record { 0 = 0 }
@@ -46,7 +46,7 @@ wakes bank number = cond-true ((bank == bank) && (number == number)) Goes (Waits
     both false q is is' = is
 
 -- a log in the set waits at the bank for the number that is kept
-waits_for_kept : (standing : Standing) (bank set kept : ℕ) → is_waiting standing bank set ≡ true → IsKept standing kept → standing ≡ Waits bank kept
+waits_for_kept : (standing : Standing) (bank set kept : ℕ) → is_waiting standing bank set ≡ true → IsKeptNumber standing kept → standing ≡ Waits bank kept
 waits_for_kept Nowhere bank set kept here is = cc
 waits_for_kept Goes bank set kept here is = cc
 waits_for_kept (Waits at n) bank set kept here is =

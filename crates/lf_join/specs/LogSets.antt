@@ -21,8 +21,8 @@ pub record Changes (old new : LogSet) (log : ℕ) (now : Bool) : Type 0 where
   pub others : (other : ℕ) → other < 32 → other ≢ log → has new other ≡ has old other
 
 -- as numbers, which a loop over the members counts down
-abbrev pub IsNotAbove : LogSet → LogSet → Type 0
-IsNotAbove new old = new.0 ≤ old.0
+abbrev pub IsSetNotAbove : LogSet → LogSet → Type 0
+IsSetNotAbove new old = new.0 ≤ old.0
 
-abbrev pub IsBelow : LogSet → LogSet → Type 0
-IsBelow new old = new.0 < old.0
+abbrev pub IsSetBelow : LogSet → LogSet → Type 0
+IsSetBelow new old = new.0 < old.0

@@ -29,10 +29,10 @@ is_waiting Goes at set = false
 is_waiting (Waits bank number) at set = (bank == at) && (number % 32 == set)
 
 -- the number kept of a log that waits is the one that it waits for
-abbrev pub IsKept : Standing → ℕ → Type 0
-IsKept Nowhere kept = ⊤
-IsKept Goes kept = ⊤
-IsKept (Waits bank number) kept = kept ≡ number
+abbrev pub IsKeptNumber : Standing → ℕ → Type 0
+IsKeptNumber Nowhere kept = ⊤
+IsKeptNumber Goes kept = ⊤
+IsKeptNumber (Waits bank number) kept = kept ≡ number
 
 -- the logs that wait in this set of the bank's
 abbrev pub waiting_at : Roster → ℕ → ℕ → LogSet
@@ -49,7 +49,7 @@ pub record Stands (roster : Roster) (log : ℕ) (standing : Standing) : Type 0 w
   pub sized : IsSized roster
   pub going : has roster.ready log ≡ is_going standing
   pub waiting : (bank set : ℕ) → bank < 256 → set < 32 → has (waiting_at roster bank set) log ≡ is_waiting standing bank set
-  pub kept : IsKept standing (slice_index roster.numbers log)
+  pub kept : IsKeptNumber standing (slice_index roster.numbers log)
 
 -- Each other log stands where it stood.
 abbrev pub OthersStay : Roster → Roster → ℕ → Type 0

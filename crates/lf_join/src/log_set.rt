@@ -7,7 +7,7 @@ ghost use Rattle.std.specs.Prelude.{◌<◌, true, false, MatchOption, IfSome};
 pub(crate) struct LogSet(u32);
 
 impl LogSet {
-    ghost use Rattle.lf_join.specs.LogSets.{IsEmpty, IsLowest, Changes, IsNotAbove, IsBelow};
+    ghost use Rattle.lf_join.specs.LogSets.{IsEmpty, IsLowest, Changes, IsSetNotAbove, IsSetBelow};
 
     /// The set without a member.
     pub const fn new() -> Self
@@ -37,7 +37,7 @@ impl LogSet {
     pub fn remove(&mut self, log: u8)
         requires { log < 32 }
         ensures removed { Changes self.old self.new log false }
-        ensures not_above { IsNotAbove self.new self.old }
+        ensures not_above { IsSetNotAbove self.new self.old }
     {
         self.0 &= !(1 << log);
     }
@@ -46,7 +46,7 @@ impl LogSet {
     pub fn pop(&mut self) -> Option<u8>
         ensures lowest { MatchOption result (IsEmpty self.old) (IsLowest self.old) }
         ensures taken { IfSome result (λ log. Changes self.old self.new log false) }
-        ensures below { IfSome result (λ log. IsBelow self.new self.old) }
+        ensures below { IfSome result (λ log. IsSetBelow self.new self.old) }
     {
         let log = self.lowest()?;
         self.remove(log);

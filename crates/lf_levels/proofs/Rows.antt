@@ -10,7 +10,7 @@ use Rattle.lf_rules.specs.Fits.{is_factor}
 use Rattle.lf_rules.specs.Lines.{line_at, has_line, with_line, without_line, lines_of_set}
 use Rattle.lf_levels.specs.declared.ways.Line.{Line}
 use Rattle.lf_levels.specs.LineTable.{LineTable, IsLineTable, set_in, is_full}
-use Rattle.lf_levels.specs.Rows.{is_free, is_on, lines_of, IsInOwnRow, IsWhole, FindsWay}
+use Rattle.lf_levels.specs.Rows.{is_free, is_on, lines_of, IsInOwnRow, AreWholeRows, FindsWay}
 use Rattle.lf_levels.proofs.Counting.{worth-yes, worth-no, worth-le, count-set, count-none, count-all, count-short, part, length-part, part_at, count-part}
 use Rattle.lf_levels.proofs.Entries.{sorted_from_rising}
 use Rattle.lf_levels.proofs.InWays.{dirty_of, line_at-ways, rising, free_is, on_one, dirty_in-at, dirty_in-none, unseen}
@@ -24,7 +24,7 @@ line_on block dirty = Some (record { block = block; dirty = dirty })
 abbrev pub table_of : {M : Type 0} → ℕ → ℕ → ℕ → ℕ → List (ℕ × M) → LineTable M
 table_of sets ways banks factor lines = record { sets = sets; ways = ways; banks = banks; factor = factor; lines = lines }
 
-module _ {M : Type 0} {set : ℕ → ℕ → ℕ → ℕ → ℕ} {sets ways banks factor : ℕ} {rows : List (Option (Line M))} (is : IsWhole set sets ways banks factor rows) where
+module _ {M : Type 0} {set : ℕ → ℕ → ℕ → ℕ → ℕ} {sets ways banks factor : ℕ} {rows : List (Option (Line M))} (is : AreWholeRows set sets ways banks factor rows) where
   abbrev of : ℕ → ℕ
   of block = set banks factor sets block
 
@@ -135,7 +135,7 @@ module _ {M : Type 0} {set : ℕ → ℕ → ℕ → ℕ → ℕ} {sets ways ban
       (cases_eq place way)
 
   whole_after : (way : ℕ) (new : Option (Line M)) → way < length rows → IsInOwnRow of ways way new → ((block : ℕ) → count_by (is_on block) (slice_set rows way new) ≤ 1)
-      → IsWhole set sets ways banks factor (slice_set rows way new)
+      → AreWholeRows set sets ways banks factor (slice_set rows way new)
   whole_after way new inside home once = record {
     some_sets = is.some_sets;
     below = is.below;
@@ -166,7 +166,7 @@ module _ {M : Type 0} {set : ℕ → ℕ → ℕ → ℕ → ℕ} {sets ways ban
         (λ ne. omega (arith, change, is.once y, worth-no (is_on y) (line_on block dirty) (ne_eqb block y ne)))
         (cases_eq block y)
 
-    pub whole-filled : IsWhole set sets ways banks factor (slice_set rows way (line_on block dirty))
+    pub whole-filled : AreWholeRows set sets ways banks factor (slice_set rows way (line_on block dirty))
     whole-filled = whole_after way (line_on block dirty) free_inside (found.0, found.1) once_filled
 
     pub lines-filled : lines_of (slice_set rows way (line_on block dirty)) ≡ with_line (lines_of rows) block dirty
@@ -190,7 +190,7 @@ module _ {M : Type 0} {set : ℕ → ℕ → ℕ → ℕ → ℕ} {sets ways ban
         (λ ne. omega (arith, change, is.once y, worth-no (is_on y) (line_on block dirty) (ne_eqb block y ne)))
         (cases_eq block y)
 
-    pub whole-set : (dirty : M) → IsWhole set sets ways banks factor (slice_set rows way (line_on block dirty))
+    pub whole-set : (dirty : M) → AreWholeRows set sets ways banks factor (slice_set rows way (line_on block dirty))
     whole-set dirty = whole_after way (line_on block dirty) line_inside (found.0, found.1) (once_set dirty)
 
     pub lines-set : (dirty : M) → lines_of (slice_set rows way (line_on block dirty)) ≡ with_line (lines_of rows) block dirty
@@ -202,7 +202,7 @@ module _ {M : Type 0} {set : ℕ → ℕ → ℕ → ℕ → ℕ} {sets ways ban
     none_left : count_by (is_on block) (slice_set rows way None) ≡ 0
     none_left = omega (arith, count-set (is_on block) rows way None None line_inside, is.once block, worth-yes (is_on block) (get_or rows way None) found.2)
 
-    pub whole-gone : IsWhole set sets ways banks factor (slice_set rows way None)
+    pub whole-gone : AreWholeRows set sets ways banks factor (slice_set rows way None)
     whole-gone = whole_after way None line_inside tt once_gone
 
     pub lines-gone : lines_of (slice_set rows way None) ≡ without_line (lines_of rows) block
@@ -211,8 +211,8 @@ module _ {M : Type 0} {set : ℕ → ℕ → ℕ → ℕ → ℕ} {sets ways ban
 -- ---- a new table, whose ways are free
 
 pub whole-new : {M : Type 0} (set : ℕ → ℕ → ℕ → ℕ → ℕ) (sets ways banks factor : ℕ) (rows : List (Option (Line M))) → 0 < sets → sets ≤ 4096 → ways ≤ 16 → 0 < banks → is_factor factor ≡ true
-    → ((b f s block : ℕ) → 0 < s → set b f s block < s) → rows ≡ all_free (sets * ways) → IsWhole set sets ways banks factor rows
-whole-new {M} set sets ways banks factor rows some few few_ways some_banks in_range below e = subst (λ r. IsWhole set sets ways banks factor r) (sym e) (record {
+    → ((b f s block : ℕ) → 0 < s → set b f s block < s) → rows ≡ all_free (sets * ways) → AreWholeRows set sets ways banks factor rows
+whole-new {M} set sets ways banks factor rows some few few_ways some_banks in_range below e = subst (λ r. AreWholeRows set sets ways banks factor r) (sym e) (record {
   some_sets = some;
   below = λ block. below banks factor sets block some;
   few_sets = few;

@@ -1,11 +1,11 @@
 -- A table, and what a search of a block's row finds.
-use Rattle.std.proofs.Common.{ℕ, ◌≡◌, ◌<◌, ◌≤◌, ◌+◌, ◌*◌, ◌==◌, Bool, true, false, not, cond, List, length, get_or, Option, Some, None, is_some, refl, sym, ap, ◌∙◌, subst, arith}
+use Rattle.std.proofs.Common.{ℕ, ◌≡◌, ◌<◌, ◌≤◌, ◌+◌, ◌*◌, Bool, true, false, not, cond, List, length, get_or, Option, Some, None, is_some, refl, sym, ap, ◌∙◌, subst, arith}
 use Rattle.std.specs.Prelude.{slice_set, unwrap_or, nat_lt, IsTrue, ◌↔◌}
 use Rattle.std.proofs.lemmas.Bool.{ltb-false, le-ltb, not-true}
 use Rattle.lf_rules.specs.Lines.{line_at, has_line, with_line, lines_of_set}
 use Rattle.lf_levels.specs.declared.ways.Line.{Line}
 use Rattle.lf_levels.specs.LineTable.{LineTable, IsLineTable, ChangesOnly, set_in, is_full, after_fill, after_evict}
-use Rattle.lf_levels.specs.Rows.{is_free, is_on, lines_of, IsWhole, FindsWay}
+use Rattle.lf_levels.specs.Rows.{is_free, is_on, lines_of, AreWholeRows, FindsWay}
 use Rattle.lf_levels.proofs.Entries.{flip, line_put, line_gone}
 use Rattle.lf_levels.proofs.InWays.{dirty_of}
 use Rattle.lf_levels.proofs.Rows.{table_of, row_is, row_within, is_table, has-is, full-is, line_at-found, line_at-none}
@@ -30,7 +30,7 @@ module _ {M : Type 0} where
   none_from None e = refl
   none_from (Some x) e = absurd (cc e)
 
-module _ {M : Type 0} {set : ℕ → ℕ → ℕ → ℕ → ℕ} {sets ways banks factor : ℕ} {rows : List (Option (Line M))} (is : IsWhole set sets ways banks factor rows)
+module _ {M : Type 0} {set : ℕ → ℕ → ℕ → ℕ → ℕ} {sets ways banks factor : ℕ} {rows : List (Option (Line M))} (is : AreWholeRows set sets ways banks factor rows)
     (table : LineTable M) (same : table_of sets ways banks factor (lines_of rows) ≡ table) where
   pub table_is : IsLineTable set table
   table_is = subst (IsLineTable set) same (is_table is)
@@ -79,14 +79,14 @@ module _ {M : Type 0} {set : ℕ → ℕ → ℕ → ℕ → ℕ} {sets ways ban
       absent_before : line_at (lines_of rows) block ≡ None
       absent_before = ap (λ (t : LineTable M). line_at t.lines block) same ∙ none_from (line_at table.lines block) absent
 
-      pub filled_whole : IsWhole set sets ways banks factor (slice_set rows way (line_on block dirty))
+      pub filled_whole : AreWholeRows set sets ways banks factor (slice_set rows way (line_on block dirty))
       filled_whole = whole-filled is block way dirty (found_at is_free (Some way) found) absent_before
 
       pub filled_table : table_of sets ways banks factor (lines_of (slice_set rows way (line_on block dirty))) ≡ after_fill table block dirty
       filled_table = filled dirty (slice_set rows way (line_on block dirty)) (lines-filled is block way dirty (found_at is_free (Some way) found) absent_before)
 
     module _ (way : ℕ) (found : FindsWay (is_on block) shown row ways (Some way)) where
-      pub set_whole : (dirty : M) → IsWhole set sets ways banks factor (slice_set rows way (line_on block dirty))
+      pub set_whole : (dirty : M) → AreWholeRows set sets ways banks factor (slice_set rows way (line_on block dirty))
       set_whole dirty = whole-set is block way (found_at (is_on block) (Some way) found) dirty
 
       pub line_found : (line : Line M) → Some line ≡ get_or rows way None → line_at table.lines block ≡ Some line.dirty
@@ -99,7 +99,7 @@ module _ {M : Type 0} {set : ℕ → ℕ → ℕ → ℕ → ℕ} {sets ways ban
           filled dirty (slice_set rows way (line_on block dirty)) (lines-set is block way (found_at (is_on block) (Some way) found) dirty)
           ∙ ap (after_fill table block) (joined ∙ ap (λ d. join d more) (sym (ap (λ (o : Option M). unwrap_or o clean) (line_found line e))))
 
-      pub gone_whole : IsWhole set sets ways banks factor (slice_set rows way None)
+      pub gone_whole : AreWholeRows set sets ways banks factor (slice_set rows way None)
       gone_whole = whole-gone is block way (found_at (is_on block) (Some way) found)
 
       pub gone_table : table_of sets ways banks factor (lines_of (slice_set rows way None)) ≡ after_evict table block

@@ -26,7 +26,7 @@ module _ {M : Type 0} where
   IsInOwnRow set ways place (Some line) = (set line.block * ways ≤ place) × (place < set line.block * ways + ways)
 
   -- There is a row for each set, each line stands in the row of its set, and no block has two.
-  pub record IsWhole (set : ℕ → ℕ → ℕ → ℕ → ℕ) (sets ways banks factor : ℕ) (rows : List (Option (Line M))) : Type 0 where
+  pub record AreWholeRows (set : ℕ → ℕ → ℕ → ℕ → ℕ) (sets ways banks factor : ℕ) (rows : List (Option (Line M))) : Type 0 where
     pub some_sets : 0 < sets
     pub below : (block : ℕ) → set banks factor sets block < sets
     pub few_sets : sets ≤ 4096

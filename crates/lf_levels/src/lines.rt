@@ -27,13 +27,13 @@ pub struct Lines<L: Level> {
 
 impl<L: Level> Model for Lines<L> {
     ghost use Rattle.lf_levels.specs.LineTable.{LineTable};
-    ghost use Rattle.lf_levels.specs.Rows.{IsWhole, lines_of};
+    ghost use Rattle.lf_levels.specs.Rows.{AreWholeRows, lines_of};
 
     ghost Value = { LineTable L.Dirty };
 
     ghost view = { λ a. record { sets = a.sets; ways = a.ways; banks = a.banks; factor = a.factor; lines = lines_of a.rows.items } };
 
-    ghost invariant = { λ a. IsWhole L.set a.sets a.ways a.banks a.factor a.rows.items };
+    ghost invariant = { λ a. AreWholeRows L.set a.sets a.ways a.banks a.factor a.rows.items };
 }
 
 impl<L: Level> Lines<L> {

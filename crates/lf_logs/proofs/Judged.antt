@@ -6,16 +6,16 @@ use Rattle.lf_rules.specs.Run.{of_bank}
 use Rattle.lf_rules.specs.Numbers.{all_records}
 use Rattle.lf_logs.specs.declared.order.Place.{Place}
 use Rattle.lf_logs.specs.declared.order.Tally.{Tally}
-use Rattle.lf_logs.specs.Places.{IsBankOrder}
+use Rattle.lf_logs.specs.Places.{ArePlacesOfBank}
 use Rattle.lf_logs.specs.Tallies.{Names, AreTallies, AreOnceBelow}
-use Rattle.lf_logs.proofs.Ordered.{IsBankOrder-from}
+use Rattle.lf_logs.proofs.Ordered.{ArePlacesOfBank-from}
 
-pub IsBankOrder-from_tallies : (logs : List (List Record)) (bank : ℕ) (tallies : List Tally) (places : List Place) →
+pub ArePlacesOfBank-from_tallies : (logs : List (List Record)) (bank : ℕ) (tallies : List Tally) (places : List Place) →
     length tallies ≡ length (of_bank bank (all_records logs)) → AreTallies logs bank (all_records logs) tallies → AreOnceBelow (length tallies) tallies →
-    places ≡ map (λ tally. tally.last) tallies → IsBankOrder logs bank places
-IsBankOrder-from_tallies logs bank tallies places long are once is =
+    places ≡ map (λ tally. tally.last) tallies → ArePlacesOfBank logs bank places
+ArePlacesOfBank-from_tallies logs bank tallies places long are once is =
     let as_many : length places ≡ length tallies = ap (λ (ps : List Place). length ps) is ∙ length-map tallies (λ (t : Tally). t.last) in
-    IsBankOrder-from logs bank places (as_many ∙ long)
+    ArePlacesOfBank-from logs bank places (as_many ∙ long)
     (λ k h. sym (are k nothing (omega arith)).counted ∙ once k nothing (omega arith))
     (λ k d h.
     let within : k < length tallies = omega arith in

@@ -14,7 +14,7 @@ use Rattle.lf_rules.specs.declared.event.Record.{Record}
 use Rattle.lf_rules.specs.Run.{of_bank, names}
 use Rattle.lf_rules.specs.Numbers.{all_records, numbers_of, bank_numbers, times}
 use Rattle.lf_logs.specs.declared.order.Place.{Place}
-use Rattle.lf_logs.specs.Places.{record_at, records_at, IsBankOrder}
+use Rattle.lf_logs.specs.Places.{record_at, records_at, ArePlacesOfBank}
 use Rattle.lf_logs.specs.Tallies.{Names}
 use Rattle.lf_logs.proofs.Counting.{counts, count_by-cons, once_below, filter-all, times-cons}
 use Rattle.lf_logs.proofs.Members.{IsIn-get, IsIn-joined, IsIn-filter, only_one}
@@ -157,10 +157,10 @@ in_turn f g a (place ∷ places) each =
     ∙ ap (λ ys. ys ++ filter_map f places) (each 0 place (omega arith) ∙ ap g at)
     ∙ ap (λ ys. g a ++ ys) (in_turn f g (a + 1) places (λ k d h. let same : a + suc k ≡ a + 1 + k = omega arith in each (suc k) d (omega arith) ∙ ap g same))
 
-pub IsBankOrder-from : (logs : List (List Record)) (bank : ℕ) (places : List Place) → length places ≡ length (of_bank bank (all_records logs)) →
+pub ArePlacesOfBank-from : (logs : List (List Record)) (bank : ℕ) (places : List Place) → length places ≡ length (of_bank bank (all_records logs)) →
     ((k : ℕ) → k < length places → times k (bank_numbers logs bank) ≡ 1) →
-    ((k : ℕ) (d : Place) → k < length places → Names logs bank k (get_or places k d)) → IsBankOrder logs bank places
-IsBankOrder-from logs bank places long once named =
+    ((k : ℕ) (d : Place) → k < length places → Names logs bank k (get_or places k d)) → ArePlacesOfBank logs bank places
+ArePlacesOfBank-from logs bank places long once named =
     let rs = of_bank bank (all_records logs) in
     let one = λ (k : ℕ) (d : Place) (h : k < length places). one_of logs bank k (get_or places k d) (named k d h) (once k h) in
     let found : records_at logs places ≡ by_number (length places) rs =

@@ -15,7 +15,7 @@ abbrev pub records_at : List (List Record) → List Place → List Record
 records_at logs places = filter_map (record_at logs) places
 
 -- Each place is that of a record, and together they are the bank's records, each once, in the order of their numbers.
-pub record IsBankOrder (logs : List (List Record)) (bank : ℕ) (places : List Place) : Type 0 where
+pub record ArePlacesOfBank (logs : List (List Record)) (bank : ℕ) (places : List Place) : Type 0 where
   pub named : All (λ place. IsSome (record_at logs place)) places
   pub numbered : IsNumbered logs bank (records_at logs places)
 

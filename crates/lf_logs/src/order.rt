@@ -6,7 +6,7 @@ ghost use Rattle.lf_rules.specs.declared.event.Record.{Record};
 ghost use Rattle.lf_rules.specs.Run.{of_bank};
 ghost use Rattle.lf_rules.specs.Numbers.{all_records, bank_numbers, IsWhole};
 ghost use Rattle.lf_rules.specs.Lists.{lists_of};
-ghost use Rattle.lf_logs.specs.Places.{record_at, IsBankOrder, IsNumberFault};
+ghost use Rattle.lf_logs.specs.Places.{record_at, ArePlacesOfBank, IsNumberFault};
 ghost use Rattle.lf_logs.specs.Tallies.{AreTallies, AreOnceBelow, IsFirstFault};
 
 use lf_rules::{Logs, NoMemory, Record};
@@ -134,7 +134,7 @@ fn last_places(alloc: Global, tallies: &[Tally]) -> Result<Vec<Place>, NoMemory>
 pub fn bank_order(alloc: Global, logs: &Logs, bank: u8) -> Result<Vec<Place>, NumberFault>
     requires few { length logs.now.items ≤ 32 }
     requires short { All (λ log. length log.items ≤ 2 ^ 24) logs.now.items }
-    ensures order { IfOk result (λ places. IsBankOrder (lists_of logs.now) bank places.items) }
+    ensures order { IfOk result (λ places. ArePlacesOfBank (lists_of logs.now) bank places.items) }
     ensures whole { OnOk result (IsWhole (bank_numbers (lists_of logs.now) bank)) }
     ensures fault { IfErr result (IsNumberFault (bank_numbers (lists_of logs.now) bank)) }
 

@@ -8,7 +8,7 @@ use Rattle.lf_rules.specs.Clauses.{OfBank, bank_wants}
 use Rattle.lf_rules.specs.Registers.{registers_of, holds, is_free, right_for_primary, right_for_merge, takes}
 use Rattle.lf_rules.specs.Run.{first_failing}
 use Rattle.lf_rules.proofs.Room.{room_is}
-use Rattle.lf_mshr.specs.RegisterFile.{RegisterFile, has_room_for, Takes, SomeTakes}
+use Rattle.lf_mshr.specs.RegisterFile.{RegisterFile, has_room_for, TakesTarget, SomeTakes}
 
 -- four clauses hold
 module _ (first second third fourth : Rule) where
@@ -63,7 +63,7 @@ module _ {T : Type 0} (position destination : T → ℕ) (file : RegisterFile T)
   has_room_is answer e = (λ is. room_to (sym e ∙ is), λ some. e ∙ room_from some)
 
   -- a register that takes a target is there, and is free or has a place left
-  pub taken : (register : ℕ) → Takes position destination file block target register
+  pub taken : (register : ℕ) → TakesTarget position destination file block target register
       → (register < registers_of file.organisation file.destinations)
       × (((holds file.held block ≡ false) × (is_free file.held register ≡ true))
       ⊎ ((holds file.held block ≡ true) × (right_for_merge file.organisation file.held block (destination target) register ≡ true)

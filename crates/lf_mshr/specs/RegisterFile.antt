@@ -60,14 +60,14 @@ module _ {T : Type 0} (position destination : T → ℕ) where
       has_room file.organisation file.destinations position file.held block (destination target) (position target)
 
   -- the register takes the target, as a primary miss or as a further one
-  abbrev pub Takes : RegisterFile T → ℕ → T → ℕ → Type 0
-  Takes file block target register =
+  abbrev pub TakesTarget : RegisterFile T → ℕ → T → ℕ → Type 0
+  TakesTarget file block target register =
       (first_failing OfBank (primary_wants file register block target) ≡ None)
       ⊎ (first_failing OfBank (merge_wants file register block target) ≡ None)
 
   -- some register takes the target
   abbrev pub SomeTakes : RegisterFile T → ℕ → T → Type 0
-  SomeTakes file block target = (register : ℕ) × Takes file block target register
+  SomeTakes file block target = (register : ℕ) × TakesTarget file block target register
 
 -- which targets are stores, and the bytes that each asks for
 module _ {T : Type 0} (is_store : T → Bool) (bytes : T → Mask) where

@@ -49,7 +49,7 @@ IsTagFree busy (Issue op tag size address bytes) = busy tag ≡ None
 IsTagFree busy _ = Unit {0}
 
 -- the shape is in range, and there is a queue for each port
-pub record IsFramed (shape : Shape) (slice : PlainSlice) : Type 0 where
+pub record IsSliceFramed (shape : Shape) (slice : PlainSlice) : Type 0 where
   pub in_range : IsShape shape
   pub ports : length slice.queues.items ≡ shape.ports
 
@@ -63,4 +63,4 @@ state_of machine = record { memory = flat_of machine.memory; busy = busy_of mach
 pub record IsMachine (machine : Machine) : Type 0 where
   pub in_range : IsShape machine.shape
   pub banks : length machine.slices.items ≡ machine.shape.banks
-  pub framed : All (IsFramed machine.shape) machine.slices.items
+  pub framed : All (IsSliceFramed machine.shape) machine.slices.items

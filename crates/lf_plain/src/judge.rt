@@ -8,7 +8,7 @@ ghost use Rattle.lf_rules.specs.Address.{second_of, place_of, sub_block, places}
 ghost use Rattle.std.specs.List.{list_all};
 ghost use Rattle.lf_rules.specs.Registers.{has_room as model_room, merge_clauses};
 ghost use Rattle.lf_rules.specs.InRange.{IsShape};
-ghost use Rattle.lf_plain.specs.Plain.{slice_of, IsFramed};
+ghost use Rattle.lf_plain.specs.Plain.{slice_of, IsSliceFramed};
 ghost use Rattle.lf_rules.specs.State.{Slice};
 ghost use Rattle.lf_rules.specs.Table.{OfBoth, is_apart, asked_register, position2, rules_of, destination, destinations, destinations2, is_at};
 ghost use Rattle.lf_rules.specs.Run.{first_failing};
@@ -86,7 +86,7 @@ impl PlainSlice {
     }
 
     pub fn judge_hit(&self, shape: &Shape, port: u8, tag: u8) -> Option<Rule>
-        requires { IsFramed shape.now self.now }
+        requires { IsSliceFramed shape.now self.now }
         ensures { (busy : ℕ → Option ℕ) (log bank : ℕ) →
             result ≡ first_failing OfBoth (rules_of shape.now true busy (slice_of self.now) log bank (event.Hit port tag)) }
     {
@@ -100,7 +100,7 @@ impl PlainSlice {
     }
 
     pub fn judge_primary(&self, shape: &Shape, port: u8, tag: u8, register: u16) -> Option<Rule>
-        requires { IsFramed shape.now self.now }
+        requires { IsSliceFramed shape.now self.now }
         ensures { (busy : ℕ → Option ℕ) (log bank : ℕ) →
             result ≡ first_failing OfBoth (rules_of shape.now true busy (slice_of self.now) log bank (event.Primary port tag register)) }
     {
@@ -128,7 +128,7 @@ impl PlainSlice {
     }
 
     pub fn judge_merge(&self, shape: &Shape, port: u8, tag: u8, register: u16) -> Option<Rule>
-        requires { IsFramed shape.now self.now }
+        requires { IsSliceFramed shape.now self.now }
         ensures { (busy : ℕ → Option ℕ) (log bank : ℕ) →
             result ≡ first_failing OfBoth (rules_of shape.now true busy (slice_of self.now) log bank (event.Merge port tag register)) }
     {
@@ -148,7 +148,7 @@ impl PlainSlice {
     }
 
     pub fn judge_stall(&self, shape: &Shape, port: u8, tag: u8) -> Option<Rule>
-        requires { IsFramed shape.now self.now }
+        requires { IsSliceFramed shape.now self.now }
         ensures { (busy : ℕ → Option ℕ) (log bank : ℕ) →
             result ≡ first_failing OfBoth (rules_of shape.now true busy (slice_of self.now) log bank (event.Stall port tag)) }
     {
@@ -174,7 +174,7 @@ impl PlainSlice {
 
     /// `agrees` says whether the fill's bytes are those of memory off the bytes of waiting stores.
     pub fn judge_fill1(&self, shape: &Shape, agrees: bool, block: u32) -> Option<Rule>
-        requires { IsFramed shape.now self.now }
+        requires { IsSliceFramed shape.now self.now }
         ensures { (busy : ℕ → Option ℕ) (log bank : ℕ) (bytes : ArrayVec ℕ) →
             result ≡ first_failing OfBoth (rules_of shape.now agrees busy (slice_of self.now) log bank (event.Fill1 block bytes)) }
     {
@@ -189,7 +189,7 @@ impl PlainSlice {
 
     /// `agrees` says whether the bytes are those of memory under the mask.
     pub fn judge_evict1(&self, shape: &Shape, agrees: bool, block: u32, mask: Mask) -> Option<Rule>
-        requires { IsFramed shape.now self.now }
+        requires { IsSliceFramed shape.now self.now }
         ensures { (busy : ℕ → Option ℕ) (log bank : ℕ) (bytes : ArrayVec ℕ) →
             result ≡ first_failing OfBoth (rules_of shape.now agrees busy (slice_of self.now) log bank (event.Evict1 block mask bytes)) }
     {
@@ -203,7 +203,7 @@ impl PlainSlice {
     }
 
     pub fn judge_second_hit(&self, shape: &Shape, block: u32) -> Option<Rule>
-        requires { IsFramed shape.now self.now }
+        requires { IsSliceFramed shape.now self.now }
         ensures { (busy : ℕ → Option ℕ) (log bank : ℕ) →
             result ≡ first_failing OfBoth (rules_of shape.now true busy (slice_of self.now) log bank (event.SecondHit block)) }
     {
@@ -217,7 +217,7 @@ impl PlainSlice {
     }
 
     pub fn judge_second_primary(&self, shape: &Shape, block: u32, register: u16) -> Option<Rule>
-        requires { IsFramed shape.now self.now }
+        requires { IsSliceFramed shape.now self.now }
         ensures { (busy : ℕ → Option ℕ) (log bank : ℕ) →
             result ≡ first_failing OfBoth (rules_of shape.now true busy (slice_of self.now) log bank (event.SecondPrimary block register)) }
     {
@@ -269,7 +269,7 @@ impl PlainSlice {
     }
 
     pub fn judge_second_merge(&self, shape: &Shape, block: u32, register: u16) -> Option<Rule>
-        requires { IsFramed shape.now self.now }
+        requires { IsSliceFramed shape.now self.now }
         ensures { (busy : ℕ → Option ℕ) (log bank : ℕ) →
             result ≡ first_failing OfBoth (rules_of shape.now true busy (slice_of self.now) log bank (event.SecondMerge block register)) }
     {
@@ -302,7 +302,7 @@ impl PlainSlice {
     }
 
     pub fn judge_second_stall(&self, shape: &Shape, block: u32) -> Option<Rule>
-        requires { IsFramed shape.now self.now }
+        requires { IsSliceFramed shape.now self.now }
         ensures { (busy : ℕ → Option ℕ) (log bank : ℕ) →
             result ≡ first_failing OfBoth (rules_of shape.now true busy (slice_of self.now) log bank (event.SecondStall block)) }
     {
@@ -321,7 +321,7 @@ impl PlainSlice {
 
     /// `agrees` as for a fill of level one.
     pub fn judge_fill2(&self, shape: &Shape, agrees: bool, second: u32) -> Option<Rule>
-        requires { IsFramed shape.now self.now }
+        requires { IsSliceFramed shape.now self.now }
         ensures { (busy : ℕ → Option ℕ) (log bank : ℕ) (bytes : ArrayVec ℕ) →
             result ≡ first_failing OfBoth (rules_of shape.now agrees busy (slice_of self.now) log bank (event.Fill2 second bytes)) }
     {
@@ -357,7 +357,7 @@ impl PlainSlice {
         second: u32,
         masks: &Masks,
     ) -> Option<Rule>
-        requires framed { IsFramed shape.now self.now }
+        requires framed { IsSliceFramed shape.now self.now }
         requires fits { second < 0x1_0000_0000 / shape.now.factor }
         ensures { (busy : ℕ → Option ℕ) (log bank : ℕ) (bytes : ArrayVec ℕ) →
             result ≡ first_failing OfBoth (rules_of shape.now agrees busy (slice_of self.now) log bank (event.Evict2 second masks.now bytes)) }

@@ -10,7 +10,7 @@ ghost use Rattle.lf_rules.specs.Table.{OfBoth, rules_of, carries, clauses, memor
 ghost use Rattle.lf_rules.specs.declared.event.Event.TheVariants as event;
 ghost use Rattle.lf_rules.specs.Run.{first_failing, state_after};
 ghost use Rattle.lf_state.specs.Bytes.{flat_of};
-ghost use Rattle.lf_plain.specs.Plain.{busy_of, slice_of, slice_next, slices_of, state_of, FindsRequest, IsFramed, IsMachine};
+ghost use Rattle.lf_plain.specs.Plain.{busy_of, slice_of, slice_next, slices_of, state_of, FindsRequest, IsSliceFramed, IsMachine};
 
 use crate::busy::{BusyTag, apply_busy, is_free, is_owed, none_busy};
 use crate::carried::{evict1_agrees, evict2_agrees, fill1_agrees, fill2_agrees};
@@ -47,7 +47,7 @@ fn judge_level_two(
     slice: &PlainSlice,
     item: &Record,
 ) -> Option<Rule>
-    requires framed { IsFramed shape.now slice.now }
+    requires framed { IsSliceFramed shape.now slice.now }
     requires fits { Fits shape.now item.now }
     requires second { is_of_level_two item.now.event ≡ true }
     ensures { (tags : ℕ → Option ℕ) →
@@ -86,7 +86,7 @@ fn judge_event(
     slice: &PlainSlice,
     item: &Record,
 ) -> Option<Rule>
-    requires framed { IsFramed shape.now slice.now }
+    requires framed { IsSliceFramed shape.now slice.now }
     requires fits { Fits shape.now item.now }
     ensures { let right = carries shape.now (flat_of memory.now) (slice_of slice.now) item.now.event in
         let tags = busy_of busy.now item.now.log in
@@ -125,12 +125,12 @@ fn judge_event(
 }
 
 fn apply_level_two(shape: &Shape, slice: &mut PlainSlice, item: &Record) -> Result<(), NoMemory>
-    requires framed { IsFramed shape.now slice.old }
+    requires framed { IsSliceFramed shape.now slice.old }
     requires second { is_of_level_two item.now.event ≡ true }
     ensures slice { (memory : Contents) →
         OnOk result (slice_of slice.new ≡ slice_next shape.now memory (slice_of slice.old) item.now.log item.now.event) }
     ensures memory { (memory : Contents) → memory_after memory (slice_of slice.old) item.now.event ≡ memory }
-    ensures framed { OnOk result (IsFramed shape.now slice.new) }
+    ensures framed { OnOk result (IsSliceFramed shape.now slice.new) }
 {
     match &item.event {
         Event::SecondHit { block } => slice.second_hit(*block),
@@ -152,12 +152,12 @@ fn apply_event(
     slice: &mut PlainSlice,
     item: &Record,
 ) -> Result<(), NoMemory>
-    requires framed { IsFramed shape.now slice.old }
+    requires framed { IsSliceFramed shape.now slice.old }
     requires fits { Fits shape.now item.now }
     requires finds { FindsRequest slice.old.queues.items item.now.log item.now.event }
     ensures slice { OnOk result (slice_of slice.new ≡ slice_next shape.now (flat_of memory.old) (slice_of slice.old) item.now.log item.now.event) }
     ensures memory { OnOk result (flat_of memory.new ≡ memory_after (flat_of memory.old) (slice_of slice.old) item.now.event) }
-    ensures framed { OnOk result (IsFramed shape.now slice.new) }
+    ensures framed { OnOk result (IsSliceFramed shape.now slice.new) }
 {
     match &item.event {
         Event::Issue {
@@ -196,7 +196,7 @@ fn apply_event(
 fn new_slices(alloc: Global, shape: &Shape) -> Result<Vec<PlainSlice>, NoMemory>
     requires { IsShape shape.now }
     ensures count { IfOk result (λ slices. length slices.items ≡ shape.now.banks) }
-    ensures framed { IfOk result (λ slices. All (IsFramed shape.now) slices.items) }
+    ensures framed { IfOk result (λ slices. All (IsSliceFramed shape.now) slices.items) }
     ensures empty { IfOk result (λ slices. (bank : ℕ) → slices_of slices.items bank ≡ empty_slice) }
 {
     let mut slices = Vec::new(alloc);

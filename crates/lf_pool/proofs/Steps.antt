@@ -11,12 +11,12 @@ use Rattle.atomic_table.specs.Table.{step, keeps, stepped, Allows, Splits, Joins
 use Rattle.atomic_table.proofs.Lists.{at_set}
 use Rattle.lf_pool.specs.declared.rule.View.{View}
 use Rattle.lf_pool.specs.declared.rule.View.TheVariants.{Keeper, Worker, Spent}
-use Rattle.lf_pool.specs.Rule.{PoolState, times, past, times_in, past_in, workers_in, Fits, AreClaimed, Claims}
+use Rattle.lf_pool.specs.Rule.{PoolState, times, past, times_in, past_in, workers_in, FitsSeat, AreClaimed, Claims}
 use Rattle.lf_pool.proofs.Places.{at_snoc_place}
 use Rattle.lf_pool.proofs.Totals.{total_set, at_most_total, total_le, total_one, once_below, times_here, one_more_below, below_from_once, not_past, is_past}
 
 -- no view has more claims past the jobs than workers
-each_past : (jobs : ℕ) (views : List View) (j : ℕ) (v : View) → Fits jobs views j v → past_in jobs v ≤ workers_in v
+each_past : (jobs : ℕ) (views : List View) (j : ℕ) (v : View) → FitsSeat jobs views j v → past_in jobs v ≤ workers_in v
 each_past jobs views j (Keeper made joined) fits = fits.2
 each_past jobs views j (Worker number claims) fits = fits.1
 each_past jobs views j Spent fits = omega arith
@@ -77,14 +77,14 @@ module _ (jobs slots seat number : ℕ) (claims : List ℕ) (s : PoolState) (was
       let change : sum_by workers_in (set s.views seat new) + 1 ≡ sum_by workers_in s.views + 1 = total_set workers_in s.views seat mine new at in
       change ∙ (was.workers ∙ sym (length-set s.views seat new))
 
-  still_fits : (j : ℕ) (u : View) → Fits jobs s.views j u → Fits jobs (set s.views seat new) j u
+  still_fits : (j : ℕ) (u : View) → FitsSeat jobs s.views j u → FitsSeat jobs (set s.views seat new) j u
   still_fits j (Keeper made joined) fits = (fits.0, length-set s.views seat new ∙ fits.1, fits.2)
   still_fits j (Worker m cs) fits = fits
   still_fits j Spent fits = tt
 
-  seats_after : (j : ℕ) (u : View) → get_elem? (set s.views seat new) j ≡ some u → Fits jobs (set s.views seat new) j u
+  seats_after : (j : ℕ) (u : View) → get_elem? (set s.views seat new) j ≡ some u → FitsSeat jobs (set s.views seat new) j u
   seats_after j u e = ⊎_elim
-      (λ (x : (j ≡ seat) × (new ≡ u)). subst (λ v. Fits jobs (set s.views seat new) j v) x.1 (x.0 ∙ (was.seats seat mine at).0, past_one))
+      (λ (x : (j ≡ seat) × (new ≡ u)). subst (λ v. FitsSeat jobs (set s.views seat new) j v) x.1 (x.0 ∙ (was.seats seat mine at).0, past_one))
       (λ (x : (j ≢ seat) × (get_elem? s.views j ≡ some u)). still_fits j u (was.seats j u x.1))
       (at_set s.views seat j new u e)
 
@@ -125,7 +125,7 @@ module _ (jobs seat made : ℕ) (joined : List (ℕ × List ℕ)) (room : made <
   abbrev with_next : List View
   with_next = front ++ Worker made [] ∷ []
 
-  keeper_fits : Fits jobs s.views seat (Keeper made joined)
+  keeper_fits : FitsSeat jobs s.views seat (Keeper made joined)
   keeper_fits = was.seats seat (Keeper made joined) at
 
   longer : length with_next ≡ made + 2
@@ -138,20 +138,20 @@ module _ (jobs seat made : ℕ) (joined : List (ℕ × List ℕ)) (room : made <
       let push = sum_by_push f front (Worker made []) in
       omega arith
 
-  old_fits : (j : ℕ) (u : View) → j ≢ seat → Fits jobs s.views j u → Fits jobs with_next j u
+  old_fits : (j : ℕ) (u : View) → j ≢ seat → FitsSeat jobs s.views j u → FitsSeat jobs with_next j u
   old_fits j (Keeper m js) apart fits = absurd (apart (fits.0 ∙ sym keeper_fits.0))
   old_fits j (Worker m cs) apart fits = fits
   old_fits j Spent apart fits = tt
 
-  seats_opened : (j : ℕ) (u : View) → get_elem? with_next j ≡ some u → Fits jobs with_next j u
+  seats_opened : (j : ℕ) (u : View) → get_elem? with_next j ≡ some u → FitsSeat jobs with_next j u
   seats_opened j u e = ⊎_elim
       (λ (old : get_elem? front j ≡ some u). ⊎_elim
-      (λ (x : (j ≡ seat) × (Keeper (made + 1) joined ≡ u)). subst (λ v. Fits jobs with_next j v) x.1 (x.0 ∙ keeper_fits.0, (let l = longer in omega arith), keeper_fits.2))
+      (λ (x : (j ≡ seat) × (Keeper (made + 1) joined ≡ u)). subst (λ v. FitsSeat jobs with_next j v) x.1 (x.0 ∙ keeper_fits.0, (let l = longer in omega arith), keeper_fits.2))
       (λ (x : (j ≢ seat) × (get_elem? s.views j ≡ some u)). old_fits j u x.0 (was.seats j u x.1))
       (at_set s.views seat j (Keeper (made + 1) joined) u old))
       (λ (x : (j ≡ length front) × (Worker made [] ≡ u)).
       let count = keeper_fits.1 in let same = length-set s.views seat (Keeper (made + 1) joined) in
-      subst (λ v. Fits jobs with_next j v) x.1 ((let j_is = x.0 in omega arith), omega arith))
+      subst (λ v. FitsSeat jobs with_next j v) x.1 ((let j_is = x.0 in omega arith), omega arith))
       (at_snoc_place front (Worker made []) u j e)
 
   opened : AreClaimed jobs (record { words = s.words; homes = s.homes; views = with_next })
@@ -176,13 +176,13 @@ module _ (jobs seat made : ℕ) (joined : List (ℕ × List ℕ)) (other number 
   abbrev taken : List View
   taken = set (set s.views seat both) other Spent
 
-  pool_fits : Fits jobs s.views seat (Keeper made joined)
+  pool_fits : FitsSeat jobs s.views seat (Keeper made joined)
   pool_fits = was.seats seat (Keeper made joined) at
 
   worker_there : get_elem? s.views other ≡ some (Worker number claims)
   worker_there = ⊎_elim (λ (x : (other ≡ seat) × (both ≡ Worker number claims)). absurd (apart x.0)) (λ (x : (other ≢ seat) × (get_elem? s.views other ≡ some (Worker number claims))). x.1) (at_set s.views seat other both (Worker number claims) there)
 
-  worker_fits : Fits jobs s.views other (Worker number claims)
+  worker_fits : FitsSeat jobs s.views other (Worker number claims)
   worker_fits = was.seats other (Worker number claims) worker_there
 
   same_length : length taken ≡ length s.views
@@ -194,12 +194,12 @@ module _ (jobs seat made : ℕ) (joined : List (ℕ × List ℕ)) (other number 
       let second = total_set f (set s.views seat both) other (Worker number claims) Spent there in
       omega arith
 
-  rest_fits : (j : ℕ) (u : View) → j ≢ seat → Fits jobs s.views j u → Fits jobs taken j u
+  rest_fits : (j : ℕ) (u : View) → j ≢ seat → FitsSeat jobs s.views j u → FitsSeat jobs taken j u
   rest_fits j (Keeper m js) differ fits = absurd (differ (fits.0 ∙ sym pool_fits.0))
   rest_fits j (Worker m cs) differ fits = fits
   rest_fits j Spent differ fits = tt
 
-  both_fits : Fits jobs taken seat both
+  both_fits : FitsSeat jobs taken seat both
   both_fits = (
     pool_fits.0,
     same_length ∙ pool_fits.1,
@@ -207,11 +207,11 @@ module _ (jobs seat made : ℕ) (joined : List (ℕ × List ℕ)) (other number 
         let old = pool_fits.2 in let one = worker_fits.1 in let long = length-append joined ((number, claims) ∷ []) in omega arith,
   )
 
-  seats_taken : (j : ℕ) (u : View) → get_elem? taken j ≡ some u → Fits jobs taken j u
+  seats_taken : (j : ℕ) (u : View) → get_elem? taken j ≡ some u → FitsSeat jobs taken j u
   seats_taken j u e = ⊎_elim
-      (λ (x : (j ≡ other) × (Spent ≡ u)). subst (λ v. Fits jobs taken j v) x.1 tt)
+      (λ (x : (j ≡ other) × (Spent ≡ u)). subst (λ v. FitsSeat jobs taken j v) x.1 tt)
       (λ (x : (j ≢ other) × (get_elem? (set s.views seat both) j ≡ some u)). ⊎_elim
-      (λ (y : (j ≡ seat) × (both ≡ u)). subst (λ (z : ℕ × View). Fits jobs taken z.0 z.1) (λ i. (sym y.0 i, y.1 i)) both_fits)
+      (λ (y : (j ≡ seat) × (both ≡ u)). subst (λ (z : ℕ × View). FitsSeat jobs taken z.0 z.1) (λ i. (sym y.0 i, y.1 i)) both_fits)
       (λ (y : (j ≢ seat) × (get_elem? s.views j ≡ some u)). rest_fits j u y.0 (was.seats j u y.1))
       (at_set s.views seat j both u x.1))
       (at_set (set s.views seat both) other j Spent u e)

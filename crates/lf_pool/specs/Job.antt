@@ -11,7 +11,7 @@ use Rattle.lf_rules.specs.Order.{log_at}
 use Rattle.lf_rules.specs.Outcomes.{IsPortOutcome, IsBankOutcome}
 use Rattle.lf_logs.specs.declared.order.Place.{Place}
 use Rattle.lf_rules.specs.Lists.{lists_of}
-use Rattle.lf_logs.specs.Places.{records_at, IsBankOrder}
+use Rattle.lf_logs.specs.Places.{records_at, ArePlacesOfBank}
 use Rattle.lf_pool.specs.declared.job.Jobs.{Jobs}
 
 -- one for each port and one for each bank
@@ -32,7 +32,7 @@ pub record AreJobs (jobs : Jobs) : Type 0 where
   pub short : All (λ log. length log.items ≤ 2 ^ 24) jobs.logs.items
   pub fit : (log : ℕ) → AllByRecursion (Fits jobs.shape) (log_at (lists_of jobs.logs) log)
   pub orders : length jobs.orders.items ≡ jobs.shape.banks
-  pub ordered : (bank : ℕ) → bank < jobs.shape.banks → IsBankOrder (lists_of jobs.logs) bank (places_of jobs bank)
+  pub ordered : (bank : ℕ) → bank < jobs.shape.banks → ArePlacesOfBank (lists_of jobs.logs) bank (places_of jobs bank)
 
 -- The job's outcome is that of its port's log or of its bank's records. Want of memory says nothing.
 pub record IsJobOutcome (jobs : Jobs) (job : ℕ) (outcome : Outcome) : Type 0 where

@@ -40,10 +40,10 @@ workers_in (Keeper made joined) = length joined
 workers_in (Worker number claims) = 1
 workers_in Spent = 0
 
-abbrev pub Fits : ℕ → List View → ℕ → View → Type 0
-Fits jobs views seat (Keeper made joined) = (seat ≡ 0) × (length views ≡ made + 1) × (past_in jobs (Keeper made joined) ≤ length joined)
-Fits jobs views seat (Worker number claims) = (seat ≡ number + 1) × (past jobs claims ≤ 1)
-Fits jobs views seat Spent = Unit {0}
+abbrev pub FitsSeat : ℕ → List View → ℕ → View → Type 0
+FitsSeat jobs views seat (Keeper made joined) = (seat ≡ 0) × (length views ≡ made + 1) × (past_in jobs (Keeper made joined) ≤ length joined)
+FitsSeat jobs views seat (Worker number claims) = (seat ≡ number + 1) × (past jobs claims ≤ 1)
+FitsSeat jobs views seat Spent = Unit {0}
 
 -- the numbers below the word are claimed, each once, and few are past the jobs
 pub record AreClaimed (jobs : ℕ) (s : PoolState) : Type 0 where
@@ -52,7 +52,7 @@ pub record AreClaimed (jobs : ℕ) (s : PoolState) : Type 0 where
   pub within : slice_index s.words 0 ≤ jobs + sum_by (past_in jobs) s.views
   pub workers : sum_by workers_in s.views + 1 ≡ length s.views
   pub few : length s.views ≤ 17
-  pub seats : (seat : ℕ) (v : View) → get_elem? s.views seat ≡ some v → Fits jobs s.views seat v
+  pub seats : (seat : ℕ) (v : View) → get_elem? s.views seat ≡ some v → FitsSeat jobs s.views seat v
 
 -- the view after a claim
 abbrev pub claimed : View → ℕ → View

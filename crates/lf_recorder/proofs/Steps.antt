@@ -15,7 +15,7 @@ use Rattle.lf_recorder.specs.declared.rule.View.{View}
 use Rattle.lf_recorder.specs.declared.rule.View.TheVariants.{Collector, Log, Spent}
 use Rattle.lf_rules.specs.Address.{no_bank}
 use Rattle.lf_rules.specs.Run.{of_log, of_bank}
-use Rattle.lf_recorder.specs.Rule.{DeskState, Fits, IsListOf, HasRecords, IsAbove, Draws, fence_of, Passes, new_collector}
+use Rattle.lf_recorder.specs.Rule.{DeskState, FitsSeat, IsListOf, HasRecords, IsAbove, Draws, fence_of, Passes, new_collector}
 use Rattle.lf_recorder.proofs.Places.{slice_get_snoc, at_snoc_place, at_within}
 use Rattle.lf_recorder.proofs.Growth.{of_log_own, of_log_other, of_bank_own, of_bank_other, size_bound, log_below, keeps_more}
 
@@ -36,7 +36,7 @@ module _ (banks seat log : ℕ) (records : List Record) (new : Record) (own : ne
   there = subst (λ k. get_elem? s.views k ≡ some (Log log records)) mine.0 at
 
   -- another seat's view still fits
-  other_fits : (j : ℕ) (u : View) → j ≢ seat → Fits all s.views j u → Fits (all ++ new ∷ []) (set s.views seat after) j u
+  other_fits : (j : ℕ) (u : View) → j ≢ seat → FitsSeat all s.views j u → FitsSeat (all ++ new ∷ []) (set s.views seat after) j u
   other_fits j (Collector made joined) apart fits = (
     fits.0,
     length-set s.views seat after ∙ fits.1,
@@ -49,9 +49,9 @@ module _ (banks seat log : ℕ) (records : List Record) (new : Record) (own : ne
   other_fits j (Log m rs) apart fits = let place = mine.0 in let other = fits.0 in (fits.0, of_log_other all new m (λ e. apart (omega (arith, own))) ∙ fits.1)
   other_fits j Spent apart fits = tt
 
-  seats_after : (j : ℕ) (u : View) → get_elem? (set s.views seat after) j ≡ some u → Fits (all ++ new ∷ []) (set s.views seat after) j u
+  seats_after : (j : ℕ) (u : View) → get_elem? (set s.views seat after) j ≡ some u → FitsSeat (all ++ new ∷ []) (set s.views seat after) j u
   seats_after j u e = ⊎_elim
-      (λ (x : (j ≡ seat) × (after ≡ u)). subst (λ v. Fits (all ++ new ∷ []) (set s.views seat after) j v) x.1 (x.0 ∙ mine.0, of_log_own all new log own ∙ ap (λ l. l ++ new ∷ []) mine.1))
+      (λ (x : (j ≡ seat) × (after ≡ u)). subst (λ v. FitsSeat (all ++ new ∷ []) (set s.views seat after) j v) x.1 (x.0 ∙ mine.0, of_log_own all new log own ∙ ap (λ l. l ++ new ∷ []) mine.1))
       (λ (x : (j ≢ seat) × (get_elem? s.views j ≡ some u)). other_fits j u x.0 (was.seats j u x.1))
       (at_set s.views seat j after u e)
 
@@ -163,21 +163,21 @@ module _ (banks seat made : ℕ) (joined : List (ℕ × List Record)) (room : ma
   abbrev with_next : List View
   with_next = kept_front ++ Log made [] ∷ []
 
-  collector_fits : Fits all s.views seat (Collector made joined)
+  collector_fits : FitsSeat all s.views seat (Collector made joined)
   collector_fits = was.seats seat (Collector made joined) at
 
   longer : length with_next ≡ made + 2
   longer = let a = length-append kept_front (Log made [] ∷ []) in let b = length-set s.views seat (Collector (made + 1) joined) in let c = collector_fits.1 in omega arith
 
-  old_fits : (j : ℕ) (u : View) → j ≢ seat → Fits all s.views j u → Fits all with_next j u
+  old_fits : (j : ℕ) (u : View) → j ≢ seat → FitsSeat all s.views j u → FitsSeat all with_next j u
   old_fits j (Collector m js) apart fits = absurd (apart (fits.0 ∙ sym collector_fits.0))
   old_fits j (Log m rs) apart fits = fits
   old_fits j Spent apart fits = tt
 
-  seats_opened : (j : ℕ) (u : View) → get_elem? with_next j ≡ some u → Fits all with_next j u
+  seats_opened : (j : ℕ) (u : View) → get_elem? with_next j ≡ some u → FitsSeat all with_next j u
   seats_opened j u e = ⊎_elim
       (λ (old : get_elem? kept_front j ≡ some u). ⊎_elim
-      (λ (x : (j ≡ seat) × (Collector (made + 1) joined ≡ u)). subst (λ v. Fits all with_next j v) x.1 (
+      (λ (x : (j ≡ seat) × (Collector (made + 1) joined ≡ u)). subst (λ v. FitsSeat all with_next j v) x.1 (
         x.0 ∙ collector_fits.0,
         (let l = longer in omega arith),
         λ k y e. let f = collector_fits.2 k y e in let zero_is = collector_fits.0 in
@@ -187,7 +187,7 @@ module _ (banks seat made : ℕ) (joined : List (ℕ × List Record)) (room : ma
       (at_set s.views seat j (Collector (made + 1) joined) u old))
       (λ (x : (j ≡ length kept_front) × (Log made [] ≡ u)).
       let count = collector_fits.1 in let same = length-set s.views seat (Collector (made + 1) joined) in
-      subst (λ v. Fits all with_next j v) x.1 (let j_is = x.0 in omega arith, was.unmade made (omega arith)))
+      subst (λ v. FitsSeat all with_next j v) x.1 (let j_is = x.0 in omega arith, was.unmade made (omega arith)))
       (at_snoc_place kept_front (Log made []) u j e)
 
   opened : IsListOf banks (record { words = s.words; homes = s.homes; views = with_next }) all
@@ -214,7 +214,7 @@ module _ (banks seat made : ℕ) (joined : List (ℕ × List Record)) (other log
   abbrev taken : List View
   taken = set (set s.views seat both) other Spent
 
-  desk_fits : Fits all s.views seat (Collector made joined)
+  desk_fits : FitsSeat all s.views seat (Collector made joined)
   desk_fits = was.seats seat (Collector made joined) at
 
   log_there : get_elem? s.views other ≡ some (Log log records)
@@ -233,12 +233,12 @@ module _ (banks seat made : ℕ) (joined : List (ℕ × List Record)) (other log
   spent_still k differ e = dite (ℕ_discrete k other) (λ q. subst (λ i. get_elem? taken i ≡ some Spent) (sym q) spent_here)
       (λ q. set_else (set s.views seat both) other k Spent q ∙ (set_else s.views seat k both differ ∙ e))
 
-  rest_fits : (j : ℕ) (u : View) → j ≢ seat → Fits all s.views j u → Fits all taken j u
+  rest_fits : (j : ℕ) (u : View) → j ≢ seat → FitsSeat all s.views j u → FitsSeat all taken j u
   rest_fits j (Collector m js) differ fits = absurd (differ (fits.0 ∙ sym desk_fits.0))
   rest_fits j (Log m rs) differ fits = fits
   rest_fits j Spent differ fits = tt
 
-  both_fits : Fits all taken seat both
+  both_fits : FitsSeat all taken seat both
   both_fits = (
     desk_fits.0,
     same_length ∙ desk_fits.1,
@@ -248,11 +248,11 @@ module _ (banks seat made : ℕ) (joined : List (ℕ × List Record)) (other log
         (slice_get_snoc joined (log, records) y k e),
   )
 
-  seats_taken : (j : ℕ) (u : View) → get_elem? taken j ≡ some u → Fits all taken j u
+  seats_taken : (j : ℕ) (u : View) → get_elem? taken j ≡ some u → FitsSeat all taken j u
   seats_taken j u e = ⊎_elim
-      (λ (x : (j ≡ other) × (Spent ≡ u)). subst (λ v. Fits all taken j v) x.1 tt)
+      (λ (x : (j ≡ other) × (Spent ≡ u)). subst (λ v. FitsSeat all taken j v) x.1 tt)
       (λ (x : (j ≢ other) × (get_elem? (set s.views seat both) j ≡ some u)). ⊎_elim
-      (λ (y : (j ≡ seat) × (both ≡ u)). subst (λ (z : ℕ × View). Fits all taken z.0 z.1) (λ i. (sym y.0 i, y.1 i)) both_fits)
+      (λ (y : (j ≡ seat) × (both ≡ u)). subst (λ (z : ℕ × View). FitsSeat all taken z.0 z.1) (λ i. (sym y.0 i, y.1 i)) both_fits)
       (λ (y : (j ≢ seat) × (get_elem? s.views j ≡ some u)). rest_fits j u y.0 (was.seats j u y.1))
       (at_set s.views seat j both u x.1))
       (at_set (set s.views seat both) other j Spent u e)
@@ -290,8 +290,8 @@ starts banks words wide zeros = (
     none_at : (k : ℕ) (r : Record) → slice_get [] k ≡ Some r → ⊥
     none_at k r e = cc
 
-    first_fits : (j : ℕ) (u : View) → get_elem? (new_collector ∷ []) j ≡ some u → Fits [] (new_collector ∷ []) j u
-    first_fits zero u e = subst (λ v. Fits [] (new_collector ∷ []) 0 v) (some-injective new_collector u e) (refl, refl, λ k x h. absurd (none_in k x h))
+    first_fits : (j : ℕ) (u : View) → get_elem? (new_collector ∷ []) j ≡ some u → FitsSeat [] (new_collector ∷ []) j u
+    first_fits zero u e = subst (λ v. FitsSeat [] (new_collector ∷ []) 0 v) (some-injective new_collector u e) (refl, refl, λ k x h. absurd (none_in k x h))
       where
         none_in : (k : ℕ) (x : ℕ × List Record) → slice_get [] k ≡ Some x → ⊥
         none_in k x h = cc

@@ -40,8 +40,8 @@ abbrev pub most_records : ℕ → ℕ
 most_records version = cond (version == 1) (2 ^ 20) (2 ^ 24)
 
 -- the seat after a record
-abbrev pub with_record : SeatView → ℕ → ℕ → Event → SeatView
-with_record v bank number event =
+abbrev pub after_record : SeatView → ℕ → ℕ → Event → SeatView
+after_record v bank number event =
     record v { records = v.records ++ record { log = v.log; bank = bank; number = number; event = event } ∷ [] }
 
 -- whether the seat is that of a port's log

@@ -26,12 +26,12 @@ abbrev pub new_collector : View
 new_collector = Collector 0 []
 
 -- the view fits the list: a log's seat has the log's records; the desk has those of each log that it took in, whose seat is spent
-abbrev pub Fits : List Record → List View → ℕ → View → Type 0
-Fits all views seat (Collector made joined) =
+abbrev pub FitsSeat : List Record → List View → ℕ → View → Type 0
+FitsSeat all views seat (Collector made joined) =
     (seat ≡ 0) × (length views ≡ made + 1)
     × ((k : ℕ) (x : ℕ × List Record) → slice_get joined k ≡ Some x → (of_log x.0 all ≡ x.1) × (get_elem? views (x.0 + 1) ≡ some Spent))
-Fits all views seat (Log log records) = (seat ≡ log + 1) × (of_log log all ≡ records)
-Fits all views seat Spent = Unit {0}
+FitsSeat all views seat (Log log records) = (seat ≡ log + 1) × (of_log log all ≡ records)
+FitsSeat all views seat Spent = Unit {0}
 
 -- the list of the records of all logs, beside the words and the views
 pub record IsListOf (banks : ℕ) (s : DeskState) (all : List Record) : Type 0 where
@@ -41,7 +41,7 @@ pub record IsListOf (banks : ℕ) (s : DeskState) (all : List Record) : Type 0 w
   pub short : (log : ℕ) → length (of_log log all) ≤ 2 ^ 24
   pub few : length s.views ≤ 33
   pub unmade : (log : ℕ) → length s.views ≤ log + 1 → of_log log all ≡ []
-  pub seats : (seat : ℕ) (v : View) → get_elem? s.views seat ≡ some v → Fits all s.views seat v
+  pub seats : (seat : ℕ) (v : View) → get_elem? s.views seat ≡ some v → FitsSeat all s.views seat v
 
 -- there is such a list
 abbrev pub HasRecords : ℕ → DeskState → Type 0

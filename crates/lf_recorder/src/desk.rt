@@ -4,7 +4,7 @@ ghost use Rattle.std.specs.Prelude.{◌↔◌, true, false, ◌≢◌, All, map,
 ghost use Rattle.std.specs.Bool.{OnTrue, OnFalse};
 ghost use Rattle.lf_recorder.specs.declared.rule.View.TheVariants.{Collector, Log};
 ghost use Rattle.lf_recorder.specs.Rule.{IsAbove, fence_of};
-ghost use Rattle.lf_recorder.specs.Desk.{with_record, refusal_of, is_port_event, first_version, most_records, is_own_bank, new_seat as new_seat_of};
+ghost use Rattle.lf_recorder.specs.Desk.{after_record, refusal_of, is_port_event, first_version, most_records, is_own_bank, new_seat as new_seat_of};
 ghost use Rattle.lf_recorder.specs.Desk.{logs_of, opened, entry_of, placed, AreNewSeats, HasSeat, HoldSeats, IsLowestWithout};
 ghost use Rattle.lf_recorder.specs.Closing.{HandsBack};
 ghost use Rattle.lf_rules.specs.Address.{no_bank};
@@ -323,7 +323,7 @@ impl Desk {
     /// fence, which names `NO_BANK`, nothing is drawn, and the answer is 0.
     pub fn record(&self, seat: &mut LogSeat, bank: u8, event: Event) -> Result<u32, RecordFault>
         requires { seat.old.desk ≡ self.now.desk }
-        ensures ok { IfOk result (λ number. seat.new ≡ with_record seat.old bank number event) }
+        ensures ok { IfOk result (λ number. seat.new ≡ after_record seat.old bank number event) }
         ensures above { bank < no_bank → IfOk result (λ number. IsAbove number bank seat.old.records) }
         ensures fence { event ≡ Event.Fence → IfOk result (λ number. number ≡ 0) }
         ensures refused { IfSome (refusal_of self.now seat.old bank event) (λ fault. result ≡ Err fault) }

@@ -5,6 +5,6 @@ use Rattle.lf_replay.specs.declared.fault.BankFault.{BankFault}
 use Rattle.lf_replay.specs.declared.fault.BankFault.TheVariants.{Rule, NoMemory}
 
 -- the first rule that the record breaks; want of memory is told only of one that breaks none
-abbrev pub IsBankFault : Option model.Rule → BankFault → Type 0
-IsBankFault broken (Rule rule) = broken ≡ Some rule
-IsBankFault broken NoMemory = broken ≡ None
+abbrev pub IsStepFault : Option model.Rule → BankFault → Type 0
+IsStepFault broken (Rule rule) = broken ≡ Some rule
+IsStepFault broken NoMemory = broken ≡ None

@@ -12,7 +12,7 @@ use Rattle.lf_rules.specs.Table.{OfBank, rules_of, carries}
 use Rattle.lf_mshr.specs.Alike.{AreAlike}
 use Rattle.lf_replay.specs.declared.fault.BankFault.{BankFault}
 use Rattle.lf_replay.specs.Apart.{AreHome, EachStands}
-use Rattle.lf_replay.specs.Faults.{IsBankFault}
+use Rattle.lf_replay.specs.Faults.{IsStepFault}
 use Rattle.lf_replay.specs.BankView.{BankView, local_of, after_event}
 use Rattle.lf_replay.specs.Targets.{IsTarget1, IsTarget2}
 
@@ -58,7 +58,7 @@ IsJudged view log event broken =
 abbrev pub AnswerOf : {A : Type 0} → BankView → BankView → Local → ℕ → ℕ → Event → Result A BankFault → Type 0
 AnswerOf old new now log bank event (Ok done) =
     (rule_broken old.shape now log bank event ≡ None) × (new.shape ≡ old.shape) × Shows new (after_event old.shape now log event)
-AnswerOf old new now log bank event (Err fault) = IsBankFault (rule_broken old.shape now log bank event) fault × (new ≡ old)
+AnswerOf old new now log bank event (Err fault) = IsStepFault (rule_broken old.shape now log bank event) fault × (new ≡ old)
 
 -- the same, whatever the state that the bank shows
 abbrev pub IsAnswer : {A : Type 0} → BankView → BankView → ℕ → Event → Result A BankFault → Type 0

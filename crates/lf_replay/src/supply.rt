@@ -1,6 +1,6 @@
 //! The blocks that a fill of level two supplies.
 
-ghost use Rattle.std.specs.Prelude.{◌≡◌, ◌≤◌, ◌<◌, ◌/◌, ◌+◌, ◌++◌, ℕ, List, map, length, vec_capacity};
+ghost use Rattle.std.specs.Prelude.{◌≡◌, ◌≤◌, ◌<◌, ◌/◌, ◌+◌, ◌++◌, List, map, length, vec_capacity};
 ghost use Rattle.lf_rules.specs.InRange.{IsShape};
 ghost use Rattle.lf_rules.specs.Registers.{Held, targets_of};
 ghost use Rattle.lf_rules.specs.State.{Asked};

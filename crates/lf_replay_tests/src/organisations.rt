@@ -1,13 +1,13 @@
 //! Each pair of organisations.
 
 ghost use Rattle.std.specs.Prelude.{◌≡◌, true};
-ghost use Rattle.lf_rules.specs.InRange.{IsOrganisation, IsShape};
+ghost use Rattle.lf_rules.specs.InRange.{IsOrganisation};
 
 use crate::judged::{assert_judged, is_bank_order};
 use crate::steps::refused_by_step;
 use lf_mshr::{Explicit, Implicit, Inverted, Organisation, Request1, Request2};
 use lf_replay::{bank_replay, replay};
-use lf_rules::{OrgShape, Outcome, Rule, Shape};
+use lf_rules::{OrgShape, Outcome, Rule};
 use lf_samples::{C1, LOAD, LOADED, records};
 use std::process::Abort;
 use std::test::Fail;

@@ -9,7 +9,7 @@ use Rattle.lf_rules.specs.declared.event.Record.{Record}
 use Rattle.lf_rules.specs.Run.{of_bank, names}
 use Rattle.lf_rules.specs.Numbers.{all_records}
 use Rattle.lf_logs.specs.declared.order.Place.{Place}
-use Rattle.lf_logs.specs.Places.{record_at, records_at, IsBankOrder}
+use Rattle.lf_logs.specs.Places.{record_at, records_at, ArePlacesOfBank}
 use Rattle.lf_stats.proofs.Orders.{length_found}
 
 all_le : (logs : List (Vec Record)) → All (λ log. length log.items ≤ 2 ^ 24) logs
@@ -21,7 +21,7 @@ all_le (log ∷ logs) short =
     omega (arith, length-append log.items (all_records (map (λ (v : Vec Record). v.items) logs)), rest, here)
 
 pub order_le : (logs : List (Vec Record)) (bank : ℕ) (places : List Place) → All (λ log. length log.items ≤ 2 ^ 24) logs
-    → IsBankOrder (map (λ (v : Vec Record). v.items) logs) bank places
+    → ArePlacesOfBank (map (λ (v : Vec Record). v.items) logs) bank places
     → length places ≤ length logs * 0x100_0000
 order_le logs bank places short order =
     let lists = map (λ (v : Vec Record). v.items) logs in

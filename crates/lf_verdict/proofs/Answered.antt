@@ -26,8 +26,8 @@ use Rattle.lf_verdict.specs.declared.answer.Refusal.TheVariants as refusals
 use Rattle.lf_verdict.specs.Legal.{IsTraceFor}
 use Rattle.lf_verdict.specs.Laws.{YesIsLegal, NoHasNoRun, IsRunlessNo}
 use Rattle.lf_verdict.specs.Gathering.{IsReadRefusal}
-use Rattle.lf_verdict.specs.Verdict.{Differs, IsVerdictOf, IsLegalYes, IsJudged, IsWorkerCount}
-use Rattle.lf_verdict.specs.Judging.{IsLogsVerdict, IsAnswer}
+use Rattle.lf_verdict.specs.Verdict.{Differs, IsVerdictOf, IsLegalYes, IsDecided, IsWorkerCount}
+use Rattle.lf_verdict.specs.Judging.{IsLogsVerdict, IsVerdictOrWant}
 use Rattle.lf_verdict.specs.Jobs.{LogsFit, AreJobsOf, IsWorkersVerdict, IsWorkersAnswer}
 use Rattle.lf_verdict.proofs.Traces.{logs_fit, log_of_logs}
 
@@ -63,7 +63,7 @@ logs_fit_shape shape vecs count rs e fits = subst (LogsFit shape) (sym e) (logs_
 -- ---- the verdict
 
 pub of_logs : (shape : Shape) (bytes : List ℕ) (memory : List (ℕ × Bytes)) (logs : List (List Record)) (verdict : Verdict) → IsTraceFor shape bytes memory logs
-    → IsLogsVerdict shape (flat_memory memory) logs verdict → IsAnswer shape bytes verdict
+    → IsLogsVerdict shape (flat_memory memory) logs verdict → IsVerdictOrWant shape bytes verdict
 of_logs shape bytes memory logs (Yes events order) trace is = record { memory = memory; logs = logs; trace = trace; parts = is.0.parts; least = is.0.least; count = is.1 }
 of_logs shape bytes memory logs (No fault) trace is = record { memory = memory; logs = logs; trace = trace; fault_of = is }
 of_logs shape bytes memory logs (Refused refusals.Memory) trace is = tt
@@ -108,15 +108,15 @@ of_reading shape bytes _ is = absurd is
 
 -- ---- what the call promises
 
-pub legal_yes : YesIsLegal → (shape : Shape) (bytes : List ℕ) (verdict : Verdict) → IsAnswer shape bytes verdict → IsLegalYes shape bytes verdict
+pub legal_yes : YesIsLegal → (shape : Shape) (bytes : List ℕ) (verdict : Verdict) → IsVerdictOrWant shape bytes verdict → IsLegalYes shape bytes verdict
 legal_yes law shape bytes (Yes events order) is = (law shape bytes events order.items is, is.count)
 legal_yes law shape bytes _ is = tt
 
-pub runless_no : NoHasNoRun → (shape : Shape) (bytes : List ℕ) (verdict : Verdict) → IsAnswer shape bytes verdict → IsRunlessNo shape bytes verdict
+pub runless_no : NoHasNoRun → (shape : Shape) (bytes : List ℕ) (verdict : Verdict) → IsVerdictOrWant shape bytes verdict → IsRunlessNo shape bytes verdict
 runless_no law shape bytes (No fault) is = law shape bytes fault is
 runless_no law shape bytes _ is = tt
 
-pub verdict_of : (shape : Shape) (workers : ℕ) (bytes : List ℕ) (verdict : Verdict) → IsWorkerCount workers → IsAnswer shape bytes verdict → IsJudged verdict → IsVerdictOf shape workers bytes verdict
+pub verdict_of : (shape : Shape) (workers : ℕ) (bytes : List ℕ) (verdict : Verdict) → IsWorkerCount workers → IsVerdictOrWant shape bytes verdict → IsDecided verdict → IsVerdictOf shape workers bytes verdict
 verdict_of shape workers bytes (Yes events order) one is judged = (one, is)
 verdict_of shape workers bytes (No fault) one is judged = (one, is)
 verdict_of shape workers bytes (Refused (refusals.Format fault)) one is judged = (one, is)
@@ -127,18 +127,18 @@ verdict_of shape workers bytes (Refused refusals.Memory) one is judged = absurd 
 verdict_of shape workers bytes (Refused refusals.Thread) one is judged = absurd judged
 
 -- the workers are not what is refused, where there is one
-pub never_workers : (shape : Shape) (bytes : List ℕ) (verdict : Verdict) (n : ℕ) → (IsJudged verdict → IsVerdictOf shape 1 bytes verdict) → verdict ≡ Refused (refusals.Workers n) → ⊥
+pub never_workers : (shape : Shape) (bytes : List ℕ) (verdict : Verdict) (n : ℕ) → (IsDecided verdict → IsVerdictOf shape 1 bytes verdict) → verdict ≡ Refused (refusals.Workers n) → ⊥
 never_workers shape bytes verdict n is e =
-    let refused : IsJudged (Refused (refusals.Workers n)) → IsVerdictOf shape 1 bytes (Refused (refusals.Workers n)) = subst (λ (v : Verdict). IsJudged v → IsVerdictOf shape 1 bytes v) e is in
+    let refused : IsDecided (Refused (refusals.Workers n)) → IsVerdictOf shape 1 bytes (Refused (refusals.Workers n)) = subst (λ (v : Verdict). IsDecided v → IsVerdictOf shape 1 bytes v) e is in
     (refused tt).1 (omega arith, omega arith)
 
-pub never_thread : (shape : Shape) (bytes : List ℕ) (verdict : Verdict) → IsAnswer shape bytes verdict → verdict ≡ Refused refusals.Thread → ⊥
-never_thread shape bytes verdict is e = subst (IsAnswer shape bytes) e is
+pub never_thread : (shape : Shape) (bytes : List ℕ) (verdict : Verdict) → IsVerdictOrWant shape bytes verdict → verdict ≡ Refused refusals.Thread → ⊥
+never_thread shape bytes verdict is e = subst (IsVerdictOrWant shape bytes) e is
 
 -- ---- what the call promises with several workers
 
 -- what holds of each answer, and where a thread was refused, holds of what several workers answer
-by_workers : (shape : Shape) (bytes : List ℕ) (P : Verdict → Type 0) → P (Refused refusals.Thread) → ((v : Verdict) → IsAnswer shape bytes v → P v)
+by_workers : (shape : Shape) (bytes : List ℕ) (P : Verdict → Type 0) → P (Refused refusals.Thread) → ((v : Verdict) → IsVerdictOrWant shape bytes v → P v)
     → (verdict : Verdict) → IsWorkersAnswer shape bytes verdict → P verdict
 by_workers shape bytes P thread each (Yes events order) is = each (Yes events order) is
 by_workers shape bytes P thread each (No fault) is = each (No fault) is
@@ -155,9 +155,9 @@ workers_legal law shape bytes = by_workers shape bytes (IsLegalYes shape bytes) 
 pub workers_runless : NoHasNoRun → (shape : Shape) (bytes : List ℕ) (verdict : Verdict) → IsWorkersAnswer shape bytes verdict → IsRunlessNo shape bytes verdict
 workers_runless law shape bytes = by_workers shape bytes (IsRunlessNo shape bytes) tt (runless_no law shape bytes)
 
-pub workers_verdict : (shape : Shape) (workers : ℕ) (bytes : List ℕ) (verdict : Verdict) → IsWorkerCount workers → IsWorkersAnswer shape bytes verdict → IsJudged verdict → IsVerdictOf shape workers bytes verdict
+pub workers_verdict : (shape : Shape) (workers : ℕ) (bytes : List ℕ) (verdict : Verdict) → IsWorkerCount workers → IsWorkersAnswer shape bytes verdict → IsDecided verdict → IsVerdictOf shape workers bytes verdict
 workers_verdict shape workers bytes verdict may =
-    by_workers shape bytes (λ v. IsJudged v → IsVerdictOf shape workers bytes v) (λ none. absurd none) (λ v is judged. verdict_of shape workers bytes v may is judged) verdict
+    by_workers shape bytes (λ v. IsDecided v → IsVerdictOf shape workers bytes v) (λ none. absurd none) (λ v is judged. verdict_of shape workers bytes v may is judged) verdict
 
 pub workers_never_workers : (shape : Shape) (bytes : List ℕ) (verdict : Verdict) (n : ℕ) → IsWorkersAnswer shape bytes verdict → verdict ≡ Refused (refusals.Workers n) → ⊥
 workers_never_workers shape bytes verdict n is e = subst (IsWorkersAnswer shape bytes) e is

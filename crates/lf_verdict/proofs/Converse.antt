@@ -20,7 +20,7 @@ use Rattle.lf_verdict.specs.declared.answer.Fault.{Fault}
 use Rattle.lf_verdict.specs.declared.answer.Fault.TheVariants.{Missing, Double, Port, Bank, Cycle}
 use Rattle.lf_verdict.specs.Legal.{IsTraceFor}
 use Rattle.lf_verdict.specs.Laws.{IsRecorded, NoHasNoRun}
-use Rattle.lf_verdict.specs.Verdict.{IsFaultOf}
+use Rattle.lf_verdict.specs.Verdict.{IsFaultOfLogs}
 use Rattle.lf_verdict.proofs.Traces.{trace_fits, trace_banks, trace_factor}
 
 -- the laws that a no rests on
@@ -41,7 +41,7 @@ breaks_or_runs : OutcomesAreOne → (side : Side) (shape : Shape) (memory : Flat
 breaks_or_runs one side shape memory rs n rule breaks runs =
     let same = one side shape memory rs outcomes.Passed (outcomes.Broken n rule) runs breaks (λ e. cc) (λ e. cc) in cc
 
-no_run : Laws → (shape : Shape) (memory : FlatMemory) (logs : List (List Record)) (fault : Fault) → shape.banks ≤ 16 → IsFaultOf shape memory logs fault
+no_run : Laws → (shape : Shape) (memory : FlatMemory) (logs : List (List Record)) (fault : Fault) → shape.banks ≤ 16 → IsFaultOfLogs shape memory logs fault
     → (rs : List Record) → IsRecorded logs rs → AllByRecursion (Fits shape) rs → IsRun shape memory rs → ⊥
 no_run laws shape memory logs (Missing bank k) few is rs recorded fits run = laws.gaps logs bank k (omega (arith, few, is.0.is_bank)) (inl is.1) rs recorded.own_order recorded.numbers
 no_run laws shape memory logs (Double bank k) few is rs recorded fits run = laws.gaps logs bank k (omega (arith, few, is.0.is_bank)) (inr is.1) rs recorded.own_order recorded.numbers
@@ -64,8 +64,8 @@ same_memory laws shape bytes memory memory' logs logs' a b =
 pub no_runs : Laws → NoHasNoRun
 no_runs laws shape bytes fault no_ memory logs trace rs recorded =
     let same = same_memory laws shape bytes no_.memory memory no_.logs logs no_.trace trace in
-    let is : IsFaultOf shape (flat_memory memory) logs fault =
-    subst (λ (m : List (ℕ × Bytes)). IsFaultOf shape (flat_memory m) logs fault) same.0 (subst (λ (ls : List (List Record)). IsFaultOf shape (flat_memory no_.memory) ls fault) same.1 no_.fault_of) in
+    let is : IsFaultOfLogs shape (flat_memory memory) logs fault =
+    subst (λ (m : List (ℕ × Bytes)). IsFaultOfLogs shape (flat_memory m) logs fault) same.0 (subst (λ (ls : List (List Record)). IsFaultOfLogs shape (flat_memory no_.memory) ls fault) same.1 no_.fault_of) in
     let fits = laws.fit shape logs rs recorded.own_order (trace_fits shape bytes memory logs trace) in
     let none = no_run laws shape (flat_memory memory) logs fault (trace_banks shape bytes memory logs trace) is rs recorded fits in
     (none, λ run. none (laws.copies shape (flat_memory memory) rs (trace_factor shape bytes memory logs trace) fits run))

@@ -12,7 +12,7 @@ use Rattle.lf_logs.specs.declared.order.NumberFault.{NumberFault}
 use Rattle.lf_logs.specs.declared.order.NumberFault.TheVariants as numbers
 use Rattle.lf_logs.specs.declared.order.Place.{Place}
 use Rattle.lf_rules.specs.Lists.{lists_of}
-use Rattle.lf_logs.specs.Places.{IsBankOrder, IsNumberFault}
+use Rattle.lf_logs.specs.Places.{ArePlacesOfBank, IsNumberFault}
 use Rattle.lf_verdict.specs.Jobs.{AreOrders}
 use Rattle.lf_verdict.specs.Parts.{HasWholeNumbers}
 use Rattle.lf_verdict.specs.Judging.{IsEnding, AreWholeBelow, number_ending}
@@ -21,22 +21,22 @@ last_of : (lists : List (List Place)) (places : List Place) (n : ℕ) → n ≡ 
 last_of lists places n e = rw e (get_or-append_seam lists places [] [])
 
 -- a bank more
-order_more : (logs : List (List Record)) (bank : ℕ) (lists : List (List Place)) (places : List Place) → AreOrders logs bank lists → IsBankOrder logs bank places → AreOrders logs (bank + 1) (lists ++ places ∷ [])
+order_more : (logs : List (List Record)) (bank : ℕ) (lists : List (List Place)) (places : List Place) → AreOrders logs bank lists → ArePlacesOfBank logs bank places → AreOrders logs (bank + 1) (lists ++ places ∷ [])
 order_more logs bank lists places are is = record {
   count = length-append lists (places ∷ []) ∙ ap (λ n. n + 1) are.count;
   each = λ b lt. elim (cases_lt b bank) [
     | inl below ↦
         let short : b < length lists = omega (arith, are.count) in
-        subst (IsBankOrder logs b) (sym (get_or_append_left lists (places ∷ []) [] b short)) (are.each b below)
+        subst (ArePlacesOfBank logs b) (sym (get_or_append_left lists (places ∷ []) [] b short)) (are.each b below)
     | inr above ↦
         let here : b ≡ bank = omega arith in
         let last : get_or (lists ++ places ∷ []) b [] ≡ places = last_of lists places b (here ∙ sym are.count) in
-        subst (λ n. IsBankOrder logs n (get_or (lists ++ places ∷ []) b [])) (sym here) (subst (IsBankOrder logs bank) (sym last) is)
+        subst (λ n. ArePlacesOfBank logs n (get_or (lists ++ places ∷ []) b [])) (sym here) (subst (ArePlacesOfBank logs bank) (sym last) is)
   ];
 }
 
 pub orders_more : (logs : List (List Record)) (bank : ℕ) (old new : Vec (Vec Place)) (v : Vec Place) → new.items ≡ old.items ++ v ∷ []
-    → AreOrders logs bank (lists_of old) → IsBankOrder logs bank v.items → AreOrders logs (bank + 1) (lists_of new)
+    → AreOrders logs bank (lists_of old) → ArePlacesOfBank logs bank v.items → AreOrders logs (bank + 1) (lists_of new)
 orders_more logs bank old new v e are is =
     let more : lists_of new ≡ lists_of old ++ v.items ∷ [] = ap (map (λ (x : Vec Place). x.items)) e ∙ map-append (λ (x : Vec Place). x.items) old.items (v ∷ []) in
     subst (AreOrders logs (bank + 1)) (sym more) (order_more logs bank (lists_of old) v.items are is)

@@ -31,7 +31,7 @@ use Rattle.lf_verdict.specs.declared.answer.Verdict.{Verdict}
 use Rattle.lf_verdict.specs.declared.answer.Verdict.TheVariants.{Yes, No, Refused}
 use Rattle.lf_verdict.specs.declared.answer.Refusal.TheVariants as refusals
 use Rattle.lf_verdict.specs.Laws.{SameVerdict, VerdictsAreOne, WorkersAreAlike}
-use Rattle.lf_verdict.specs.Verdict.{Differs, IsFaultOf, IsNo, IsYes, IsOfAnother, IsTraceVerdict, IsVerdictOf, IsWorkerCount}
+use Rattle.lf_verdict.specs.Verdict.{Differs, IsFaultOfLogs, IsNo, IsYes, IsOfAnother, IsTraceVerdict, IsVerdictOf, IsWorkerCount}
 use Rattle.lf_verdict.proofs.Traces.{trace_names, trace_fits}
 use Rattle.lf_verdict.specs.Jobs.{LogsFit}
 use Rattle.lf_verdict.proofs.Skeletons.{banks_whole, all_whole}
@@ -134,7 +134,7 @@ module _ (laws : Laws) (shape : Shape) (memory : FlatMemory) (logs : List (List 
   bank_or_runs : (bank number : ℕ) (rule : Rule) → IsBankFault shape memory logs bank number rule → ((b : ℕ) → b < shape.banks → BankRuns shape memory logs b) → ⊥
   bank_or_runs bank number rule a runs = bank_breaks bank number rule a (runs bank a.is_bank)
 
-  one_fault : (a b : Fault) → IsFaultOf shape memory logs a → IsFaultOf shape memory logs b → a ≡ b
+  one_fault : (a b : Fault) → IsFaultOfLogs shape memory logs a → IsFaultOfLogs shape memory logs b → a ≡ b
   one_fault (Missing bank k) (Missing bank' k') a b =
       let bank_is = same_bank bank k bank' k' a.0 (inl a.1) b.0 (inl b.1) in
       let k_is = same_number bank k bank' k' bank_is a.0 (inl a.1) b.0 (inl b.1) in cc
@@ -174,7 +174,7 @@ module _ (laws : Laws) (shape : Shape) (memory : FlatMemory) (logs : List (List 
       let interleaves = ((laws.interleave logs order taken.0 named).0 taken.1).0 in
       laws.rings logs ring is taken.0 interleaves ((laws.keep taken.0).1 (subst EntriesKeepNumbers (sym taken.2) least.is_order.kept))
 
-  no_or_yes : NameTheirLogs logs → (fault : Fault) (order : List ℕ) → IsFaultOf shape memory logs fault → PartsRun shape memory logs → IsLeastOrder (skeletons_of logs) order → ⊥
+  no_or_yes : NameTheirLogs logs → (fault : Fault) (order : List ℕ) → IsFaultOfLogs shape memory logs fault → PartsRun shape memory logs → IsLeastOrder (skeletons_of logs) order → ⊥
   no_or_yes named (Missing bank k) order a parts least = gap_or_whole bank k a.0 (inl a.1) parts.numbers
   no_or_yes named (Double bank k) order a parts least = gap_or_whole bank k a.0 (inr a.1) parts.numbers
   no_or_yes named (Port port at rule) order a parts least = port_or_runs port at rule a parts.ports
@@ -227,10 +227,10 @@ module _ (laws : Laws) (shape : Shape) (bytes : List ℕ) (fit : (i : ℕ) → s
       let same = laws.one_trace bytes a.header b.header memory memory' a.records b.records a.trace b.trace in
       (same.1, a.are_logs ∙ ap (logs_of (shape.ports + shape.banks)) same.2 ∙ sym b.are_logs)
 
-  moved_fault : (fault : Fault) (n : IsNo shape bytes fault) (memory : List (ℕ × Bytes)) (logs : List (List Record)) → IsTraceFor shape bytes memory logs → IsFaultOf shape (flat_memory memory) logs fault
+  moved_fault : (fault : Fault) (n : IsNo shape bytes fault) (memory : List (ℕ × Bytes)) (logs : List (List Record)) → IsTraceFor shape bytes memory logs → IsFaultOfLogs shape (flat_memory memory) logs fault
   moved_fault fault n memory logs trace =
       let same = same_logs n.memory memory n.logs logs n.trace trace in
-      subst (λ (m : List (ℕ × Bytes)). IsFaultOf shape (flat_memory m) logs fault) same.0 (subst (λ (ls : List (List Record)). IsFaultOf shape (flat_memory n.memory) ls fault) same.1 n.fault_of)
+      subst (λ (m : List (ℕ × Bytes)). IsFaultOfLogs shape (flat_memory m) logs fault) same.0 (subst (λ (ls : List (List Record)). IsFaultOfLogs shape (flat_memory n.memory) ls fault) same.1 n.fault_of)
 
   same_no : (a b : Fault) → IsNo shape bytes a → IsNo shape bytes b → a ≡ b
   same_no a b x y = one_fault laws shape (flat_memory y.memory) y.logs (trace_fits shape bytes y.memory y.logs y.trace) a b (moved_fault a x y.memory y.logs y.trace) y.fault_of

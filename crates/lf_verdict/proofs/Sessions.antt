@@ -32,10 +32,10 @@ use Rattle.lf_verdict.specs.declared.intake.Stop.{Stop}
 use Rattle.lf_verdict.specs.declared.intake.Stop.TheVariants as stops
 use Rattle.lf_verdict.specs.declared.pending.Pending.{Pending}
 use Rattle.lf_verdict.specs.Legal.{Agrees, IsTraceFor}
-use Rattle.lf_verdict.specs.Judging.{IsAnswer}
+use Rattle.lf_verdict.specs.Judging.{IsVerdictOrWant}
 use Rattle.lf_verdict.specs.Reading.{IsFaultOrWant}
 use Rattle.lf_verdict.specs.Standing.{MayCome, MayAllCome, IsShort, StandsAfterAll, IsPendingAfter, logs_so_far}
-use Rattle.lf_verdict.specs.Session.{IsRunning, IsOfAnotherHeader, IsJudging, HasJudged, IsAt, HasTaken, IsLacking, IsDrained, HasFed, refusal_of, stop_told, IsRefusalSoFar, IsStopOf}
+use Rattle.lf_verdict.specs.Session.{IsRunning, IsOfAnotherHeader, IsJudging, HasJudged, HasFedUntil, HasTaken, IsLacking, IsDrained, HasFed, refusal_of, stop_told, IsRefusalSoFar, IsStopOf}
 use Rattle.lf_verdict.specs.declared.answer.Refusal.{Refusal}
 use Rattle.lf_codec.specs.declared.fault.Told.TheVariants as tolds
 use Rattle.std.specs.Prelude.{IsSome}
@@ -117,7 +117,7 @@ may_all_come law shape bytes memory records r running read run =
 
 -- ---- what a session answers
 
-pub told_stop : (shape : Shape) (bytes : List ℕ) (fault : CodecFault) (stop : Stop) → IsFaultOrWant bytes fault → IsStopOf fault stop → IsAnswer shape bytes (Refused (refusal_of stop))
+pub told_stop : (shape : Shape) (bytes : List ℕ) (fault : CodecFault) (stop : Stop) → IsFaultOrWant bytes fault → IsStopOf fault stop → IsVerdictOrWant shape bytes (Refused (refusal_of stop))
 told_stop shape bytes fault (stops.Format told) either is = ⊎_elim (λ want. absurd (is.1 want)) (λ e. e ∙ ap Some (sym is.0)) either
 told_stop shape bytes fault stops.Memory either is = tt
 
@@ -170,7 +170,7 @@ waiting_any shape bytes a b records judging e h =
 
 -- what a session that nothing stopped has taken
 pub going : (s : Intake) (bytes : List ℕ) → s.stop ≡ None → HasFed s bytes → HasTaken s bytes × IsDrained s.judging s.reader s.memory.items
-going s bytes e fed = subst (λ (stop : Option Stop). IsAt s bytes stop) e fed
+going s bytes e fed = subst (λ (stop : Option Stop). HasFedUntil s bytes stop) e fed
 
 -- ---- what stands in the bytes so far
 
@@ -180,7 +180,7 @@ no_fault_so_far s bytes e fed =
     let m = (going s bytes e fed).0 in
     ap (λ (q : Reading). q.fault) m.1.read.same ∙ m.1.fine
 
-pub refusal_so_far : (s : Intake) (bytes : List ℕ) (stop : Stop) → IsAt s bytes (Some stop) → IsRefusalSoFar bytes (refusal_of stop)
+pub refusal_so_far : (s : Intake) (bytes : List ℕ) (stop : Stop) → HasFedUntil s bytes (Some stop) → IsRefusalSoFar bytes (refusal_of stop)
 refusal_so_far s bytes (stops.Format fault) at = at.0
 refusal_so_far s bytes stops.Memory at = tt
 
@@ -194,10 +194,10 @@ pub fed_fault : (s : Intake) (bytes : List ℕ) (old new : Option Stop) (t : Tol
 fed_fault s bytes None None t e same told fed = absurd (cc)
 fed_fault s bytes None (Some stop) t e same told fed =
     let is : t ≡ tolds.Fault (refusal_of stop) = cc in
-    subst (λ (u : Told Refusal). IsRefusalSoFar bytes (fault_in u)) (sym is) (refusal_so_far s bytes stop (subst (λ (o : Option Stop). IsAt s bytes o) e fed))
+    subst (λ (u : Told Refusal). IsRefusalSoFar bytes (fault_in u)) (sym is) (refusal_so_far s bytes stop (subst (λ (o : Option Stop). HasFedUntil s bytes o) e fed))
 fed_fault s bytes (Some stop) new t e same told fed =
     let is : t ≡ tolds.Failed (refusal_of stop) = cc in
-    subst (λ (u : Told Refusal). IsRefusalSoFar bytes (fault_in u)) (sym is) (refusal_so_far s bytes stop (subst (λ (o : Option Stop). IsAt s bytes o) (e ∙ sym (same refl)) fed))
+    subst (λ (u : Told Refusal). IsRefusalSoFar bytes (fault_in u)) (sym is) (refusal_so_far s bytes stop (subst (λ (o : Option Stop). HasFedUntil s bytes o) (e ∙ sym (same refl)) fed))
 
 -- ---- a session that waits
 
@@ -221,12 +221,12 @@ both_bytes xs ys a b i =
       | inr le ↦ rw (get_or-append_right xs ys (length xs) i 0 refl le) (b (i - length xs))
     ]
 
-pub stop_stays : FaultsStand → (s : Intake) (bytes piece : List ℕ) (stop : Stop) → AreBytes piece → IsAt s bytes (Some stop) → IsAt s (bytes ++ piece) (Some stop)
+pub stop_stays : FaultsStand → (s : Intake) (bytes piece : List ℕ) (stop : Stop) → AreBytes piece → HasFedUntil s bytes (Some stop) → HasFedUntil s (bytes ++ piece) (Some stop)
 stop_stays law s bytes piece (stops.Format fault) fit at = ((law bytes piece fault at.0).so_far, both_bytes bytes piece at.1 fit)
 stop_stays law s bytes piece stops.Memory fit at = tt
 
 pub read_stop : (s : Intake) (old : Option CodecFault) (new : Reading) (bytes : List ℕ) (memory : List (ℕ × Bytes)) (records : List Record) (t : Told CodecFault) (stop : Stop) → old ≡ None → told old new.fault ≡ Err t
-    → HasRead new bytes memory records ⊎ RanOut new bytes memory records → IsStopOf (fault_in t) stop → IsAt s bytes (Some stop)
+    → HasRead new bytes memory records ⊎ RanOut new bytes memory records → IsStopOf (fault_in t) stop → HasFedUntil s bytes (Some stop)
 read_stop s old new bytes memory records t (stops.Format fault) fine e either is =
     let here : new.fault ≡ Some (fault_in t) = fault_told new.fault t (sym (ap (λ (f : Option CodecFault). told f new.fault) fine) ∙ e) in
     ⊎_elim
@@ -277,4 +277,4 @@ fed_beside law fits s bytes piece records r swapped old new going was run read f
     let after = record s { reader = swapped; judging = Running new } in
     let judged : HasJudged after (bytes ++ piece) (records ++ r.records) =
     record { in_range = was.in_range; read = has; fine = ap (λ (q : Reading). q.fault) rest ∙ fine; judging = judging } in
-    subst (λ (stop : Option Stop). IsAt after (bytes ++ piece) stop) (sym going) ((records ++ r.records, judged), ap (λ (q : Reading). q.records) rest)
+    subst (λ (stop : Option Stop). HasFedUntil after (bytes ++ piece) stop) (sym going) ((records ++ r.records, judged), ap (λ (q : Reading). q.records) rest)

@@ -22,7 +22,7 @@ pub record HasGathered (count : ℕ) (g : Gathered) (bytes : List ℕ) : Type 0 
   pub no_records : g.reader.records ≡ []
 
 -- The bytes are this trace, whose records are in their logs, of which there are so many.
-pub record IsWhole (count : ℕ) (bytes : List ℕ) (t : Trace) : Type 0 where
+pub record IsWholeTrace (count : ℕ) (bytes : List ℕ) (t : Trace) : Type 0 where
   pub records : List Record
   pub trace : IsTrace bytes t.header t.memory.items records
   pub logs : lists_of t.logs ≡ logs_of count records

@@ -12,7 +12,7 @@ use Rattle.lf_rules.specs.Ring.{IsRing}
 use Rattle.lf_join.specs.Join.{IsStuckRing}
 use Rattle.lf_logs.specs.declared.order.Place.{Place}
 use Rattle.lf_rules.specs.Lists.{lists_of}
-use Rattle.lf_logs.specs.Places.{IsBankOrder}
+use Rattle.lf_logs.specs.Places.{ArePlacesOfBank}
 use Rattle.lf_pool.specs.declared.job.Jobs.{Jobs}
 use Rattle.lf_pool.specs.Job.{AreJobs}
 use Rattle.lf_verdict.specs.declared.answer.Fault.TheVariants as faults
@@ -21,7 +21,7 @@ use Rattle.lf_verdict.specs.declared.answer.Verdict.{Verdict}
 use Rattle.lf_verdict.specs.declared.answer.Verdict.TheVariants.{Refused}
 use Rattle.lf_verdict.specs.declared.ending.Ending.{Ending}
 use Rattle.lf_verdict.specs.declared.ending.Ending.TheVariants as endings
-use Rattle.lf_verdict.specs.Judging.{AreWholeBelow, IsLogsVerdict, IsAnswer, outcome_at}
+use Rattle.lf_verdict.specs.Judging.{AreWholeBelow, IsLogsVerdict, IsVerdictOrWant, outcome_at}
 use Rattle.lf_verdict.specs.Parts.{HasWholeNumbers}
 
 -- each log's records fit the shape
@@ -31,7 +31,7 @@ LogsFit shape logs = (log : ℕ) → AllByRecursion (Fits shape) (log_at logs lo
 -- for each bank the places of its records, in the order of their numbers
 pub record AreOrders (logs : List (List Record)) (banks : ℕ) (orders : List (List Place)) : Type 0 where
   pub count : length orders ≡ banks
-  pub each : (bank : ℕ) → bank < banks → IsBankOrder logs bank (log_at orders bank)
+  pub each : (bank : ℕ) → bank < banks → ArePlacesOfBank logs bank (log_at orders bank)
 
 -- what there is to do for these logs, whose banks' numbers are whole
 pub record AreJobsOf (shape : Shape) (memory : FlatMemory) (logs : List (List Record)) (jobs : Jobs) : Type 0 where
@@ -63,4 +63,4 @@ IsWorkersVerdict shape memory logs verdict = IsLogsVerdict shape memory logs ver
 
 abbrev pub IsWorkersAnswer : Shape → List ℕ → Verdict → Type 0
 IsWorkersAnswer shape bytes (Refused refusals.Thread) = Unit {0}
-IsWorkersAnswer shape bytes verdict = IsAnswer shape bytes verdict
+IsWorkersAnswer shape bytes verdict = IsVerdictOrWant shape bytes verdict

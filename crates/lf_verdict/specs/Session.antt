@@ -80,14 +80,14 @@ IsDrained (Running running) reader memory = reader.records ≡ []
 IsDrained (Another field) reader memory = Unit {0}
 
 -- Nothing stopped the session and it has judged what it can, or a fault that stands in the bytes stopped it, or want of memory.
-abbrev pub IsAt : Intake → List ℕ → Option Stop → Type 0
-IsAt s bytes None = HasTaken s bytes × IsDrained s.judging s.reader s.memory.items
-IsAt s bytes (Some (stops.Format fault)) = (fault_so_far bytes ≡ Some fault) × AreBytes bytes
-IsAt s bytes (Some stops.Memory) = Unit {0}
+abbrev pub HasFedUntil : Intake → List ℕ → Option Stop → Type 0
+HasFedUntil s bytes None = HasTaken s bytes × IsDrained s.judging s.reader s.memory.items
+HasFedUntil s bytes (Some (stops.Format fault)) = (fault_so_far bytes ≡ Some fault) × AreBytes bytes
+HasFedUntil s bytes (Some stops.Memory) = Unit {0}
 
 -- The session was fed these bytes.
 abbrev pub HasFed : Intake → List ℕ → Type 0
-HasFed s bytes = IsAt s bytes s.stop
+HasFed s bytes = HasFedUntil s bytes s.stop
 
 -- The session was fed some bytes.
 abbrev pub WasFed : Intake → Type 0

@@ -46,18 +46,18 @@ pub record IsCycle (shape : Shape) (memory : FlatMemory) (logs : List (List Reco
   pub waits : IsRing (skeletons_of logs) ring
 
 -- The numbers are judged first, then the ports, then the banks, then whether the logs wait for one another.
-abbrev pub IsFaultOf : Shape → FlatMemory → List (List Record) → Fault → Type 0
-IsFaultOf shape memory logs (Missing bank k) = IsFirstNumber shape logs bank k × IsMissing (bank_numbers logs bank) k
-IsFaultOf shape memory logs (Double bank k) = IsFirstNumber shape logs bank k × IsDouble (bank_numbers logs bank) k
-IsFaultOf shape memory logs (Port port at rule) = IsPortFault shape memory logs port at rule
-IsFaultOf shape memory logs (Bank bank number rule) = IsBankFault shape memory logs bank number rule
-IsFaultOf shape memory logs (Cycle ring) = IsCycle shape memory logs ring.items
+abbrev pub IsFaultOfLogs : Shape → FlatMemory → List (List Record) → Fault → Type 0
+IsFaultOfLogs shape memory logs (Missing bank k) = IsFirstNumber shape logs bank k × IsMissing (bank_numbers logs bank) k
+IsFaultOfLogs shape memory logs (Double bank k) = IsFirstNumber shape logs bank k × IsDouble (bank_numbers logs bank) k
+IsFaultOfLogs shape memory logs (Port port at rule) = IsPortFault shape memory logs port at rule
+IsFaultOfLogs shape memory logs (Bank bank number rule) = IsBankFault shape memory logs bank number rule
+IsFaultOfLogs shape memory logs (Cycle ring) = IsCycle shape memory logs ring.items
 
 pub record IsNo (shape : Shape) (bytes : List ℕ) (fault : Fault) : Type 0 where
   pub memory : List (ℕ × Bytes)
   pub logs : List (List Record)
   pub trace : IsTraceFor shape bytes memory logs
-  pub fault_of : IsFaultOf shape (flat_memory memory) logs fault
+  pub fault_of : IsFaultOfLogs shape (flat_memory memory) logs fault
 
 pub record IsYes (shape : Shape) (bytes : List ℕ) (events : ℕ) (order : List ℕ) : Type 0 where
   pub memory : List (ℕ × Bytes)
@@ -80,10 +80,10 @@ IsVerdictOf shape workers bytes (Refused (refusals.Workers n)) = (n ≡ workers)
 IsVerdictOf shape workers bytes verdict = IsWorkerCount workers × IsTraceVerdict shape bytes verdict
 
 -- memory did not run out, and no thread was refused
-abbrev pub IsJudged : Verdict → Type 0
-IsJudged (Refused refusals.Memory) = ⊥
-IsJudged (Refused refusals.Thread) = ⊥
-IsJudged _ = Unit {0}
+abbrev pub IsDecided : Verdict → Type 0
+IsDecided (Refused refusals.Memory) = ⊥
+IsDecided (Refused refusals.Thread) = ⊥
+IsDecided _ = Unit {0}
 
 -- a yes is legal by its order, and counts its events
 abbrev pub IsLegalYes : Shape → List ℕ → Verdict → Type 0

@@ -2,7 +2,7 @@
 
 ghost use Rattle.std.specs.Prelude.{◌≡◌, ◌↔◌, ◌<◌};
 ghost use Rattle.lf_verdict.specs.Legal.{joined};
-ghost use Rattle.lf_verdict.specs.Verdict.{IsWorkerCount, IsJudged};
+ghost use Rattle.lf_verdict.specs.Verdict.{IsWorkerCount, IsDecided};
 ghost use Rattle.lf_verdict.specs.Configured.{IsVerdictFor, IsLegalYesFor, IsRunlessNoFor};
 
 use crate::answer::{Refusal, Verdict};
@@ -25,7 +25,7 @@ pub fn check<R: AllocGlobal + Threads + Wait + Sync>(
     ensures legal { IsLegalYesFor config.now (joined pieces.now) result }
     ensures runless { IsRunlessNoFor config.now (joined pieces.now) result }
 
-    ensures verdict { IsJudged result → IsVerdictFor config.now workers (joined pieces.now) result }
+    ensures verdict { IsDecided result → IsVerdictFor config.now workers (joined pieces.now) result }
     ensures workers { (result ≡ Verdict.Refused (Refusal.Workers workers)) ↔ ¬ IsWorkerCount workers }
     ensures thread { result ≡ Verdict.Refused Refusal.Thread → 1 < workers }
 {

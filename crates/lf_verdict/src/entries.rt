@@ -1,6 +1,6 @@
 //! The logs of a trace, kept while their records come.
 
-ghost use Rattle.std.specs.Prelude.{◌≡◌, ℕ, List, [], ◌∷◌, ◌++◌, OnOk};
+ghost use Rattle.std.specs.Prelude.{List, [], ◌∷◌, ◌++◌, OnOk};
 ghost use Rattle.lf_rules.specs.declared.shape.Shape.{Shape};
 ghost use Rattle.lf_rules.specs.declared.event.Record.{Record};
 ghost use Rattle.lf_verdict.specs.Standing.{MayCome, AreEntered, CanEnterAll, EntersAll};

@@ -7,7 +7,7 @@ ghost use Rattle.lf_codec.specs.Reader.{HasRead};
 ghost use Rattle.lf_rules.specs.Lists.{lists_of};
 ghost use Rattle.lf_logs.specs.Lists.{logs_of};
 ghost use Rattle.lf_verdict.specs.Legal.{joined};
-ghost use Rattle.lf_verdict.specs.Gathering.{HasGathered, IsWhole, IsReadRefusal, IsFaultOrWant};
+ghost use Rattle.lf_verdict.specs.Gathering.{HasGathered, IsWholeTrace, IsReadRefusal, IsFaultOrWant};
 
 use crate::answer::Refusal;
 use lf_codec::{CodecCause, CodecFault, Header, Reader};
@@ -124,7 +124,7 @@ impl Gathered {
 
     /// The trace, where its bytes end here.
     fn finish(self) -> Result<Trace, Refusal>
-        ensures ok { (count : ℕ) (bytes : List ℕ) → HasGathered count self bytes → IfOk result (IsWhole count bytes) }
+        ensures ok { (count : ℕ) (bytes : List ℕ) → HasGathered count self bytes → IfOk result (IsWholeTrace count bytes) }
         ensures err { (count : ℕ) (bytes : List ℕ) → HasGathered count self bytes → IfErr result (IsReadRefusal bytes) }
     {
         let Gathered {
@@ -147,7 +147,7 @@ impl Gathered {
 pub fn read(alloc: Global, shape: &Shape, pieces: &[&[u8]]) -> Result<Trace, Refusal>
     requires ports { shape.now.ports ≤ 16 }
     requires banks { shape.now.banks ≤ 16 }
-    ensures ok { IfOk result (IsWhole (shape.now.ports + shape.now.banks) (joined pieces.now)) }
+    ensures ok { IfOk result (IsWholeTrace (shape.now.ports + shape.now.banks) (joined pieces.now)) }
     ensures err { IfErr result (IsReadRefusal (joined pieces.now)) }
 {
     let mut gathered = Gathered::new(alloc, shape)?;

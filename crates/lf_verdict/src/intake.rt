@@ -2,7 +2,7 @@
 
 ghost use Rattle.std.specs.Prelude.{◌≡◌, ◌<◌, ◌++◌, ℕ, List, [], Some, None, IsSome, IfSome, IfOk, Ok, OnOk, option_to_list};
 ghost use Rattle.lf_rules.specs.InRange.{IsShape};
-ghost use Rattle.lf_verdict.specs.Judging.{IsAnswer};
+ghost use Rattle.lf_verdict.specs.Judging.{IsVerdictOrWant};
 ghost use Rattle.lf_verdict.specs.Session.{refusal_of, stop_told, IsStopOf, IsRunning, HasTaken, IsLackingIf, IsDrained, IsRunningNow, HasFed, HasReadOn};
 ghost use Rattle.lf_codec.specs.Reader.{fault_in, answer_of, bytes_taken, with_record, TakesSome};
 ghost use Rattle.lf_verdict.specs.declared.intake.Judging.TheVariants.{Waiting};
@@ -437,7 +437,7 @@ impl Intake {
     /// The verdict of the bytes that were fed.
     pub fn answer(&mut self) -> Verdict
         requires { (bytes : List ℕ) × HasFed self.old bytes }
-        ensures answer { (bytes : List ℕ) → HasFed self.old bytes → IsAnswer self.old.shape bytes result }
+        ensures answer { (bytes : List ℕ) → HasFed self.old bytes → IsVerdictOrWant self.old.shape bytes result }
         ensures stopped { IfSome self.old.stop (λ stop. result ≡ Verdict.Refused (refusal_of stop)) }
     {
         exact_reading();

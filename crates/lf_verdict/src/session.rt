@@ -7,7 +7,7 @@ ghost use Rattle.lf_codec.specs.Reading.{fault_so_far};
 ghost use Rattle.lf_config.specs.Configuration.{configuration_of};
 ghost use Rattle.lf_verdict.specs.declared.answer.Verdict.{Verdict};
 ghost use Rattle.lf_verdict.specs.declared.answer.Refusal.{Refusal};
-ghost use Rattle.lf_verdict.specs.Verdict.{IsJudged, IsVerdictOf, IsLegalYes};
+ghost use Rattle.lf_verdict.specs.Verdict.{IsDecided, IsVerdictOf, IsLegalYes};
 ghost use Rattle.lf_verdict.specs.Laws.{IsRunlessNo};
 ghost use Rattle.lf_verdict.specs.Session.{IsConfigRefusal, refusal_of, stop_told, IsRefusalSoFar, HasFed};
 
@@ -101,7 +101,7 @@ impl Session {
     pub fn finish(self) -> Verdict
         ensures legal { (bytes : List ℕ) → HasFed self bytes → IsLegalYes self.shape bytes result }
         ensures runless { (bytes : List ℕ) → HasFed self bytes → IsRunlessNo self.shape bytes result }
-        ensures verdict { (bytes : List ℕ) → HasFed self bytes → IsJudged result → IsVerdictOf self.shape 1 bytes result }
+        ensures verdict { (bytes : List ℕ) → HasFed self bytes → IsDecided result → IsVerdictOf self.shape 1 bytes result }
         ensures stopped { IfSome self.stop (λ stop. result ≡ Verdict.Refused (refusal_of stop)) }
         ensures thread { ¬ (result ≡ Verdict.Refused Refusal.Thread) }
     {

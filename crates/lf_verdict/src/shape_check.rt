@@ -3,7 +3,7 @@
 ghost use Rattle.std.specs.Prelude.{◌≡◌, ◌↔◌, ◌<◌, ℕ};
 ghost use Rattle.lf_rules.specs.InRange.{IsShape};
 ghost use Rattle.lf_verdict.specs.Legal.{joined};
-ghost use Rattle.lf_verdict.specs.Verdict.{IsWorkerCount, IsVerdictOf, IsLegalYes, IsJudged};
+ghost use Rattle.lf_verdict.specs.Verdict.{IsWorkerCount, IsVerdictOf, IsLegalYes, IsDecided};
 ghost use Rattle.lf_verdict.specs.Laws.{IsRunlessNo};
 ghost use Rattle.lf_verdict.specs.Jobs.{IsWorkersAnswer};
 
@@ -24,7 +24,7 @@ fn fed_verdict(alloc: Global, shape: &Shape, pieces: &[&[u8]]) -> Verdict
     requires { IsShape shape.now }
     ensures legal { IsLegalYes shape.now (joined pieces.now) result }
     ensures runless { IsRunlessNo shape.now (joined pieces.now) result }
-    ensures verdict { IsJudged result → IsVerdictOf shape.now 1 (joined pieces.now) result }
+    ensures verdict { IsDecided result → IsVerdictOf shape.now 1 (joined pieces.now) result }
     ensures workers { (n : ℕ) → ¬ (result ≡ Verdict.Refused (Refusal.Workers n)) }
     ensures thread { ¬ (result ≡ Verdict.Refused Refusal.Thread) }
 {
@@ -79,7 +79,7 @@ pub fn check_shape<G: Gate + Sync, R: AllocGlobal + Threads + Wait + Sync>(
     ensures legal { IsLegalYes shape.now (joined pieces.now) result }
     ensures runless { IsRunlessNo shape.now (joined pieces.now) result }
 
-    ensures verdict { IsJudged result → IsVerdictOf shape.now workers (joined pieces.now) result }
+    ensures verdict { IsDecided result → IsVerdictOf shape.now workers (joined pieces.now) result }
     ensures workers { (result ≡ Verdict.Refused (Refusal.Workers workers)) ↔ ¬ IsWorkerCount workers }
     ensures thread { result ≡ Verdict.Refused Refusal.Thread → 1 < workers }
 {

@@ -6,7 +6,7 @@ use Rattle.std.proofs.lemmas.List.{length-map, get_or-map}
 use Rattle.lf_rules.specs.declared.event.Record.{Record}
 use Rattle.lf_rules.specs.Lists.{lists_of}
 use Rattle.lf_rules.specs.Order.{log_at}
-use Rattle.lf_logs.specs.Places.{IsBankOrder}
+use Rattle.lf_logs.specs.Places.{ArePlacesOfBank}
 
 pub nothing_at : {X : Type 0} (n log : ℕ) → log_at (replicate {A = List X} n []) log ≡ []
 nothing_at zero log = refl
@@ -23,5 +23,5 @@ none_long vecs n same = λ log d below.
     omega (arith, ap length none)
 
 -- no records are the order of each bank
-pub in_order : (bank : ℕ) → IsBankOrder (replicate {A = List Record} 5 []) bank []
+pub in_order : (bank : ℕ) → ArePlacesOfBank (replicate {A = List Record} 5 []) bank []
 in_order bank = record { named = search rules; numbered = record { numbers = refl; same = search rules } }

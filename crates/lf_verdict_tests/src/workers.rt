@@ -1,6 +1,6 @@
 //! Several workers at once.
 
-ghost use Rattle.std.specs.Prelude.{◌≡◌, ℕ, List, [], replicate, IfOk};
+ghost use Rattle.std.specs.Prelude.{◌≡◌, [], replicate, IfOk};
 ghost use Rattle.lf_rules.specs.Lists.{lists_of};
 ghost use Rattle.lf_pool.specs.Job.{AreJobs};
 

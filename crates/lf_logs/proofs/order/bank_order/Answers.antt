@@ -5,7 +5,7 @@ use Rattle.lf_logs.specs.Tallies.{AreOnceBelow, IsFirstFault}
 use Rattle.lf_logs.specs.declared.order.Tally.{Tally}
 use Rattle.lf_logs.proofs.Joined.{all_records-le}
 use Rattle.lf_logs.proofs.Tallying.{whole_from, fault_from, no_fault_from}
-use Rattle.lf_logs.proofs.Judged.{IsBankOrder-from_tallies}
+use Rattle.lf_logs.proofs.Judged.{ArePlacesOfBank-from_tallies}
 use Rattle.lf_logs.proofs.order.bank_order.Goals as goal
 
 pub judge-requires : goal.judge-requires
@@ -32,7 +32,7 @@ pub returns-clause-order : goal.returns-clause-order
 returns-clause-order c =
     let tallies = c.in_ok-tallies.tallies.items in
     let lists = lists_of c.args.logs.now in
-    IsBankOrder-from_tallies lists c.args.bank tallies c.in_ok-last_places.field-0.items c.in_ok-tallies.ensures.len c.in_ok-tallies.ensures.counted (once c)
+    ArePlacesOfBank-from_tallies lists c.args.bank tallies c.in_ok-last_places.field-0.items c.in_ok-tallies.ensures.len c.in_ok-tallies.ensures.counted (once c)
     (c.in_ok-last_places.ensures ∙ ap (map (λ (t : Tally). t.last)) c.deref-2.ensures.value)
 
 pub returns-clause-whole : goal.returns-clause-whole

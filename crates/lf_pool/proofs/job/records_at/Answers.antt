@@ -1,4 +1,4 @@
-use Rattle.std.proofs.Common.{◌+◌, ◌∷◌, [], length, ap, ◌∙◌, arith, length-append}
+use Rattle.std.proofs.Common.{◌∷◌, [], length, ap, arith, length-append}
 use Rattle.lf_rules.specs.Lists.{lists_of}
 use Rattle.lf_logs.specs.declared.order.Place.{Place}
 use Rattle.lf_pool.proofs.Records.{record_more}

@@ -1,4 +1,4 @@
-use Rattle.std.proofs.Common.{◌≡◌, ◌+◌, ◌∙◌, length, ap, Some}
+use Rattle.std.proofs.Common.{◌+◌, ◌∙◌, length, ap, Some}
 use Rattle.lf_rules.specs.declared.event.Event.{Event}
 use Rattle.lf_codec.specs.Steps.{record_of}
 use Rattle.lf_codec.proofs.WholeRecord.{log_exists, range_at}

@@ -4,7 +4,7 @@ use Rattle.lf_codec.specs.Reading.{Reading, fault_so_far, trace_fault}
 use Rattle.lf_verdict.specs.declared.answer.Refusal.{Refusal}
 use Rattle.lf_verdict.specs.declared.answer.Verdict.TheVariants.{Refused}
 use Rattle.lf_verdict.specs.declared.intake.Judging.{Judging}
-use Rattle.lf_verdict.specs.Judging.{IsAnswer}
+use Rattle.lf_verdict.specs.Judging.{IsVerdictOrWant}
 use Rattle.lf_codec.specs.Reader.{fault_in}
 use Rattle.lf_verdict.specs.Session.{IsJudging, IsDrained}
 use Rattle.lf_verdict.specs.Standing.{logs_so_far}
@@ -18,7 +18,7 @@ returns-in-Err-clause-answer c bytes fed =
     let s = c.args.self.now in
     let m = (going s bytes c.in_default.is fed).0 in
     let fine : fault_so_far bytes ≡ None = ap (λ (q : Reading). q.fault) m.1.read.same ∙ m.1.fine in
-    subst (λ (r : Refusal). IsAnswer s.shape bytes (Refused r)) (sym c.refusal_of-in-Err.ensures)
+    subst (λ (r : Refusal). IsVerdictOrWant s.shape bytes (Refused r)) (sym c.refusal_of-in-Err.ensures)
     (told_stop s.shape bytes (fault_in c.in-Err.told) c.stop_of.result
     (finish_failed (fault_so_far bytes) (trace_fault bytes) s.reader.progress.header bytes c.in-Err.told fine (λ i. trace_fault bytes) (sym (c.finish.ensures.ends bytes s.memory.items m.0 m.1.read) ∙ c.in-Err.is))
     c.stop_of.ensures)

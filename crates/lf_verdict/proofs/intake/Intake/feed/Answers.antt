@@ -1,6 +1,6 @@
 use Rattle.std.proofs.Common.{◌++◌, Option, take, refl, sym, ◌∙◌, subst, arith}
 use Rattle.lf_verdict.specs.declared.intake.Stop.{Stop}
-use Rattle.lf_verdict.specs.Session.{IsAt}
+use Rattle.lf_verdict.specs.Session.{HasFedUntil}
 use Rattle.lf_verdict.proofs.Feeding.{fed_nothing, fed_more, fed_rest, fed_all, rest_len, told_going}
 use Rattle.lf_verdict.proofs.Sessions.{stop_stays}
 use Rattle.lf_verdict.proofs.intake.Intake.feed.Goals as goal
@@ -9,8 +9,8 @@ pub returns-in-Some-clause-fed : goal.returns-in-Some-clause-fed
 returns-in-Some-clause-fed c bytes fed =
     let s = c.args.self.now in
     let piece = c.args.piece.now in
-    let at = subst (λ (stop : Option Stop). IsAt s bytes stop) c.in-Some.is fed in
-    subst (λ (stop : Option Stop). IsAt s (bytes ++ piece) stop) (sym c.in-Some.is) (stop_stays c.faults_stand.ensures s bytes piece c.in-Some.stop (λ i. omega (arith, c.type_inv.piece i)) at)
+    let at = subst (λ (stop : Option Stop). HasFedUntil s bytes stop) c.in-Some.is fed in
+    subst (λ (stop : Option Stop). HasFedUntil s (bytes ++ piece) stop) (sym c.in-Some.is) (stop_stays c.faults_stand.ensures s bytes piece c.in-Some.stop (λ i. omega (arith, c.type_inv.piece i)) at)
 
 pub loop-at-init : goal.loop-at-init
 loop-at-init c = record {

@@ -1,7 +1,7 @@
 use Rattle.std.proofs.Common.{◌++◌, Option, Some, take, sym, ◌∙◌, subst}
 use Rattle.lf_codec.specs.Reader.{with_record}
 use Rattle.lf_verdict.specs.declared.intake.Stop.{Stop}
-use Rattle.lf_verdict.specs.Session.{IsAt}
+use Rattle.lf_verdict.specs.Session.{HasFedUntil}
 use Rattle.lf_verdict.proofs.Pieces.{told_fine}
 use Rattle.lf_verdict.proofs.Sessions.{going, read_stop, judged_feed}
 use Rattle.lf_verdict.proofs.intake.Intake.feed_record.Goals as goal
@@ -36,5 +36,5 @@ returns-in-Ok-judge_with-clause-fed c fed has =
     let given = with_record c.feed_one.new.place c.feed_one.new.self in
     let judged = judged_feed c.header_of_bytes.ensures s fed piece m.0 given m.1
     (c.in-Ok.ensures.ok fed s.memory.items m.0 m.1.read) (told_fine s.reader.fault given.fault m.1.fine (sym c.in-Ok.ensures.told)) in
-    subst (λ (stop : Option Stop). IsAt c.judge_with.new.self (fed ++ piece) stop) (sym (c.in-Ok-judge_with.ensures.stop ∙ c.requires.going))
+    subst (λ (stop : Option Stop). HasFedUntil c.judge_with.new.self (fed ++ piece) stop) (sym (c.in-Ok-judge_with.ensures.stop ∙ c.requires.going))
     (c.in-Ok-judge_with.ensures.taken (fed ++ piece) (m.0, judged), c.in-Ok-judge_with.ensures.drained)

@@ -1,6 +1,6 @@
 use Rattle.std.proofs.Common.{◌++◌, Option, Some, take, sym, ◌∙◌, subst}
 use Rattle.lf_verdict.specs.declared.intake.Stop.{Stop}
-use Rattle.lf_verdict.specs.Session.{IsAt}
+use Rattle.lf_verdict.specs.Session.{HasFedUntil}
 use Rattle.lf_verdict.proofs.Pieces.{told_fine}
 use Rattle.lf_verdict.proofs.Sessions.{going, read_stop, judged_feed}
 use Rattle.lf_verdict.proofs.intake.Intake.feed_some.Goals as goal
@@ -32,5 +32,5 @@ returns-in-Ok-take_all-clause-fed c fed has =
     let m = (going s fed c.requires.going has).0 in
     let judged = judged_feed c.header_of_bytes.ensures s fed piece m.0 c.feed_some.new.self m.1
     (c.in-Ok.ensures.ok fed s.memory.items m.0 m.1.read) (told_fine s.reader.fault c.feed_some.new.self.fault m.1.fine (sym c.in-Ok.ensures.told)) in
-    subst (λ (stop : Option Stop). IsAt c.take_all.new.self (fed ++ piece) stop) (sym (c.in-Ok-take_all.ensures.stop ∙ c.requires.going))
+    subst (λ (stop : Option Stop). HasFedUntil c.take_all.new.self (fed ++ piece) stop) (sym (c.in-Ok-take_all.ensures.stop ∙ c.requires.going))
     (c.in-Ok-take_all.ensures.taken (fed ++ piece) (m.0, judged), c.in-Ok-take_all.ensures.drained)
