@@ -1,6 +1,6 @@
 //! Traces of one record, which are read and written again.
 
-use crate::reading::encoded;
+use crate::reading::{encoded, feed, finish};
 use lf_codec::Reader;
 use lf_rules::{Event, Record, WideBlock};
 use lf_samples::{C1, bytes_of, event};
@@ -36,8 +36,8 @@ fn assert_one(
         event,
     };
     let mut reader = Reader::new(alloc);
-    reader.feed(&whole)?;
-    let header = reader.finish()?;
+    feed(&mut reader, &whole)?;
+    let header = finish(&mut reader)?;
     assert_eq!(rt; reader.take().as_ref(), Some(&item));
     let written = encoded(rt, alloc, &header, &Vec::new(alloc), &[item])?;
     assert_eq!(rt; written.as_slice(), whole.as_slice());

@@ -1,7 +1,8 @@
 //! Whole traces, however they are cut, and their encodings.
 
-use crate::reading::{ONE_BANK, assert_fault, assert_reads, assert_taken, encoded};
+use crate::reading::{ONE_BANK, assert_fault, assert_reads, assert_taken, encoded, feed, finish};
 use lf_codec::{CodecCause, CodecFault, Header, Reader, Told, fits_trace};
+use lf_rules::{Memory, Record};
 use lf_samples::{
     C1, EMPTY_TRACE, FENCE_LAST, LOAD, LOAD_MISSES_BOTH_LEVELS, LOADED, bytes_of, memory, records,
     records_at,
@@ -92,6 +93,23 @@ fn bytes_that_wait(rt: HostRuntime) -> Result<(), Fail> {
     assert_pending(&rt, rt.alloc(), &whole, 255)
 }
 
+/// Feeds the front of these bytes up to the end of a record, and gives those behind it.
+fn feed_some<'a>(reader: &mut Reader, bytes: &'a [u8]) -> Result<&'a [u8], Fail> {
+    let n = reader.feed_some(bytes)?;
+    let (_, behind) = bytes.split_at(n.min(bytes.len()));
+    Ok(behind)
+}
+
+/// Fails where the trace does not end here, or a further byte is no fault.
+fn assert_ended(rt: &impl Abort, reader: &mut Reader) -> Result<(), Fail> {
+    assert_eq!(rt; finish(reader)?, ONE_BANK);
+    let cause = CodecCause::Trailing;
+    let fault = CodecFault { cause, offset: 132 };
+    assert_eq!(rt; reader.feed_some(&[0]), Err(Told::Fault(fault)));
+    assert_eq!(rt; reader.feed_some(&[0]), Err(Told::Failed(fault)));
+    Ok(())
+}
+
 /// No record waits when the next is fed, and after the last byte a further one is a fault.
 #[test]
 fn record_by_record(rt: HostRuntime) -> Result<(), Fail> {
@@ -100,9 +118,7 @@ fn record_by_record(rt: HostRuntime) -> Result<(), Fail> {
     let mut reader = Reader::new(rt.alloc());
     let mut rest: &[u8] = &LOAD_MISSES_BOTH_LEVELS;
     for _ in 0..132u8 {
-        let n = reader.feed_some(rest)?;
-        let (_, behind) = rest.split_at(n.min(rest.len()));
-        rest = behind;
+        rest = feed_some(&mut reader, rest)?;
         if reader.front().is_some() {
             assert_eq!(rt; reader.front(), expected.next());
             reader.drop_front();
@@ -111,11 +127,30 @@ fn record_by_record(rt: HostRuntime) -> Result<(), Fail> {
     }
     assert!(rt; rest.is_empty());
     assert_eq!(rt; expected.next(), None);
-    assert_eq!(rt; reader.finish()?, ONE_BANK);
-    let cause = CodecCause::Trailing;
-    let fault = CodecFault { cause, offset: 132 };
-    assert_eq!(rt; reader.feed_some(&[0]), Err(Told::Fault(fault)));
-    assert_eq!(rt; reader.feed_some(&[0]), Err(Told::Failed(fault)));
+    assert_ended(&rt, &mut reader)
+}
+
+/// Feeds the front of these bytes up to the end of a record, which it puts into the place, and gives those
+/// behind it.
+fn feed_one<'a>(
+    reader: &mut Reader,
+    bytes: &'a [u8],
+    place: &mut Option<Record>,
+) -> Result<&'a [u8], Fail> {
+    let n = reader.feed_one(bytes, place)?;
+    let (_, behind) = bytes.split_at(n.min(bytes.len()));
+    Ok(behind)
+}
+
+/// Fails where the trace does not end here, a further byte is no fault, or the place is not emptied by it.
+fn assert_place_emptied(
+    rt: &impl Abort,
+    reader: &mut Reader,
+    place: &mut Option<Record>,
+) -> Result<(), Fail> {
+    assert_eq!(rt; finish(reader)?, ONE_BANK);
+    assert!(rt; reader.feed_one(&[0], place).is_err());
+    assert_eq!(rt; *place, None);
     Ok(())
 }
 
@@ -128,9 +163,7 @@ fn records_into_a_place(rt: HostRuntime) -> Result<(), Fail> {
     let mut place = None;
     let mut rest: &[u8] = &LOAD_MISSES_BOTH_LEVELS;
     for _ in 0..132u8 {
-        let n = reader.feed_one(rest, &mut place)?;
-        let (_, behind) = rest.split_at(n.min(rest.len()));
-        rest = behind;
+        rest = feed_one(&mut reader, rest, &mut place)?;
         if place.is_some() {
             assert_eq!(rt; place.as_ref(), expected.next());
         }
@@ -138,10 +171,7 @@ fn records_into_a_place(rt: HostRuntime) -> Result<(), Fail> {
     }
     assert!(rt; rest.is_empty());
     assert_eq!(rt; expected.next(), None);
-    assert_eq!(rt; reader.finish()?, ONE_BANK);
-    assert!(rt; reader.feed_one(&[0], &mut place).is_err());
-    assert_eq!(rt; place, None);
-    Ok(())
+    assert_place_emptied(&rt, &mut reader, &mut place)
 }
 
 /// A record that waits with the reader is put into the place before any later one.
@@ -151,12 +181,10 @@ fn waiting_records_into_a_place(rt: HostRuntime) -> Result<(), Fail> {
     let mut reader = Reader::new(rt.alloc());
     let mut place = None;
     let (front, back) = LOAD_MISSES_BOTH_LEVELS.split_at(100);
-    reader.feed(front)?;
+    feed(&mut reader, front)?;
     let mut rest = back;
     for item in records.iter() {
-        let n = reader.feed_one(rest, &mut place)?;
-        let (_, behind) = rest.split_at(n.min(rest.len()));
-        rest = behind;
+        rest = feed_one(&mut reader, rest, &mut place)?;
         assert_eq!(rt; place.as_ref(), Some(item));
     }
     Ok(())
@@ -227,24 +255,34 @@ fn events_with_bytes(rt: HostRuntime) -> Result<(), Fail> {
     Ok(())
 }
 
+/// Fails where these bytes are read as another header or another block of memory, or as more blocks.
+fn assert_memory(
+    rt: &impl Abort,
+    alloc: Global,
+    bytes: &[u8],
+    header: Header,
+    mut memory: Memory,
+) -> Result<(), Fail> {
+    let mut reader = Reader::new(alloc);
+    feed(&mut reader, bytes)?;
+    assert_eq!(rt; reader.header(), Some(header));
+    assert_eq!(rt; reader.take_memory(), memory.pop());
+    assert_eq!(rt; reader.take_memory(), None);
+    Ok(())
+}
+
 #[test]
 fn initial_memory(rt: HostRuntime) -> Result<(), Fail> {
-    let blocks = [(0, "1122334455667788")];
     let header = Header {
         memory_count: 1,
         ..ONE_BANK
     };
     let text = "4c46545301000101 0800000001000000 00000000 1122334455667788";
     let want = bytes_of(rt.alloc(), text)?;
-    let mut contents = memory(rt.alloc(), &blocks)?;
+    let contents = memory(rt.alloc(), &[(0, "1122334455667788")])?;
     let trace = encoded(&rt, rt.alloc(), &header, &contents, &[])?;
     assert_eq!(rt; trace.get(..28), Some(want.as_slice()));
-    let mut reader = Reader::new(rt.alloc());
-    reader.feed(&want)?;
-    assert_eq!(rt; reader.header(), Some(header));
-    assert_eq!(rt; reader.take_memory(), contents.pop());
-    assert_eq!(rt; reader.take_memory(), None);
-    Ok(())
+    assert_memory(&rt, rt.alloc(), &want, header, contents)
 }
 
 #[test]
@@ -273,9 +311,9 @@ fn longer_logs(rt: HostRuntime) -> Result<(), Fail> {
         many.extend_from_slice(&load)?;
     }
     let mut reader = Reader::new(rt.alloc());
-    reader.feed(&header)?;
+    feed(&mut reader, &header)?;
     for _ in 0..1024 {
-        reader.feed(&many)?;
+        feed(&mut reader, &many)?;
         for _ in 0..1024 {
             let _ = reader.take();
         }
