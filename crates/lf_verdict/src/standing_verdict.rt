@@ -11,9 +11,9 @@ ghost use Rattle.lf_verdict.specs.Standing.{logs_so_far, IsShort, StandsAfterAll
 use crate::answer::{Fault, Refusal, Verdict};
 use crate::bank_judge::BankJudge;
 use crate::ending::Ending;
+use crate::order::least_order;
 use crate::port_judge::PortJudge;
 use crate::standing::Standing;
-use lf_join::{JoinFault, join};
 use lf_logs::NumberFault;
 use lf_rules::{Outcome, Rule};
 use std::alloc::Global;
@@ -120,11 +120,7 @@ impl Standing {
     {
         self.judge_numbers()?;
         self.judge_rules()?;
-        match join(alloc, &self.entries.logs) {
-            Ok(order) => Ok(order),
-            Err(JoinFault::Cycle(ring)) => Err(Ending::Fault(Fault::Cycle(ring))),
-            Err(JoinFault::NoMemory) => Err(Ending::NoMemory),
-        }
+        least_order(alloc, &self.entries.logs)
     }
 
     /// The verdict of the records so far, as those of a whole trace.
