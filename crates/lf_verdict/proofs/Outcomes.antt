@@ -17,7 +17,7 @@ use Rattle.lf_rules.specs.Lists.{lists_of}
 use Rattle.lf_logs.specs.Lists.{AreNumbered}
 use Rattle.lf_pool.specs.declared.job.Jobs.{Jobs}
 use Rattle.lf_pool.specs.Job.{AreJobs, AreJobOutcomes, records_of}
-use Rattle.lf_verdict.specs.declared.standing_verdict.Broken.{Broken}
+use Rattle.lf_verdict.specs.declared.broken.Broken.{Broken}
 use Rattle.lf_verdict.specs.Jobs.{NoneRanOut}
 use Rattle.lf_verdict.specs.Parts.{PartsRun, PortRuns, BankRuns, IsPortFault, IsBankFault}
 use Rattle.lf_verdict.specs.Judging.{AreWholeBelow, NoneBroken, IsFirstBroken, IsBroken, outcome_at}

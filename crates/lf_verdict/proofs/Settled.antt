@@ -34,8 +34,12 @@ use Rattle.lf_replay.proofs.Runs.{outcome_same}
 use Rattle.lf_verdict.specs.declared.port_judge.PortJudge.{PortJudge}
 use Rattle.lf_verdict.specs.declared.bank_judge.BankJudge.{BankJudge}
 use Rattle.lf_verdict.specs.declared.standing.Standing.{Standing}
-use Rattle.lf_verdict.specs.Parts.{HasWholeNumbers}
-use Rattle.lf_verdict.specs.Judging.{AreWholeBelow, NoneBroken, IsBroken, outcome_at}
+use Rattle.lf_verdict.specs.declared.answer.Fault.TheVariants as faults
+use Rattle.lf_verdict.specs.declared.ending.Ending.{Ending}
+use Rattle.lf_verdict.specs.declared.ending.Ending.TheVariants as endings
+use Rattle.lf_verdict.specs.Jobs.{IsOrderEnding}
+use Rattle.lf_verdict.specs.Parts.{HasWholeNumbers, PartsRun}
+use Rattle.lf_verdict.specs.Judging.{IsEnding, AreWholeBelow, NoneBroken, IsBroken, outcome_at}
 use Rattle.lf_verdict.specs.Standing.{IsPortAt, IsBankAt, IsPortJudged, IsBankSettled, StandsAfterAll, IsShort, logs_so_far}
 use Rattle.lf_verdict.proofs.Answered.{log_below}
 use Rattle.lf_verdict.proofs.Outcomes.{Judged}
@@ -217,6 +221,12 @@ none_broken_more f xs at x inside read fine before part lt = ⊎_elim
     unbroken outcomes.NoMemory fine broken = broken
 
 -- ---- the skeletons
+
+-- what ends the order ends the check
+pub order_ending : (shape : Shape) (memory : FlatMemory) (logs : List (List Record)) (ending : Ending) → PartsRun shape memory logs → IsOrderEnding (skeletons_of logs) ending → IsEnding shape memory logs ending
+order_ending shape memory logs (endings.Fault (faults.Cycle ring)) parts is = record { parts = parts; stuck = is.0; waits = is.1 }
+order_ending shape memory logs endings.NoMemory parts is = tt
+order_ending shape memory logs _ parts is = absurd is
 
 module _ (shape : Shape) (memory : FlatMemory) (records : List Record) (s : Standing) (stands : StandsAfterAll shape memory records s) (short : IsShort shape records) where
   pub few_logs : length s.entries.logs.items ≤ 32

@@ -10,7 +10,7 @@ use Rattle.lf_rules.specs.Ring.{skeletons_of}
 use Rattle.lf_logs.specs.declared.order.NumberFault.{NumberFault}
 use Rattle.lf_logs.specs.declared.order.NumberFault.TheVariants as numbers
 use Rattle.lf_verdict.specs.declared.answer.Fault.TheVariants as faults
-use Rattle.lf_verdict.specs.declared.standing_verdict.Broken.{Broken}
+use Rattle.lf_verdict.specs.declared.broken.Broken.{Broken}
 use Rattle.lf_verdict.specs.declared.ending.Ending.{Ending}
 use Rattle.lf_verdict.specs.declared.ending.Ending.TheVariants as endings
 use Rattle.lf_verdict.specs.declared.answer.Verdict.{Verdict}

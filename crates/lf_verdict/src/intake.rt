@@ -12,6 +12,7 @@ ghost use Rattle.lf_rules.specs.Fits.{Bytes};
 ghost use Rattle.lf_codec.specs.Reader.{HasRead};
 ghost use Rattle.std.specs.Thread.{IsSync};
 ghost use Rattle.lf_rules.specs.Address.{FlatMemory};
+ghost use Rattle.lf_codec.specs.declared.fault.Told.TheVariants as tolds;
 ghost use Rattle.lf_verdict.specs.Standing.{CanBeJudged, JudgesAll, IsPendingAfter, MayAllCome, StandsAfterAll};
 
 use crate::answer::{HeaderField, Refusal, Verdict};
@@ -191,6 +192,15 @@ impl Intake {
         }
     }
 
+    /// Stops for good, and tells why.
+    fn stop_with(&mut self, stop: Stop) -> Told<Refusal>
+        ensures stopped { self.new ≡ record self.old { stop = Some stop } }
+        ensures told { result ≡ tolds.Fault (refusal_of stop) }
+    {
+        self.stop = Some(stop);
+        Told::Fault(refusal_of(stop))
+    }
+
     /// Takes the memory records that the reader has found.
     fn take_memory(&mut self) -> Result<(), NoMemory>
         requires { self.old.judging ≡ Waiting }
@@ -359,13 +369,10 @@ impl Intake {
         read_so_far();
         let (read, judged) = read_beside(rt, threads, &mut self.reader, piece, &mut pending);
         if let Err(told) = read {
-            let stop = stop_of(told);
-            self.stop = Some(stop);
-            return Err(Told::Fault(refusal_of(stop)));
+            return Err(self.stop_with(stop_of(told)));
         }
         if let Err(NoMemory) = judged {
-            self.stop = Some(Stop::Memory);
-            return Err(Told::Fault(Refusal::Memory));
+            return Err(self.stop_with(Stop::Memory));
         }
         self.reader.swap_records(&mut pending.records);
         self.judging = Judging::Running(pending);
@@ -385,18 +392,11 @@ impl Intake {
         header_of_bytes();
         let n = match self.reader.feed_some(bytes) {
             Ok(n) => n,
-            Err(told) => {
-                let stop = stop_of(told);
-                self.stop = Some(stop);
-                return Err(Told::Fault(refusal_of(stop)));
-            }
+            Err(told) => return Err(self.stop_with(stop_of(told))),
         };
         match self.take_all() {
             Ok(()) => Ok(n),
-            Err(NoMemory) => {
-                self.stop = Some(Stop::Memory);
-                Err(Told::Fault(Refusal::Memory))
-            }
+            Err(NoMemory) => Err(self.stop_with(Stop::Memory)),
         }
     }
 
@@ -419,18 +419,11 @@ impl Intake {
         header_of_bytes();
         let n = match self.reader.feed_one(bytes, place) {
             Ok(n) => n,
-            Err(told) => {
-                let stop = stop_of(told);
-                self.stop = Some(stop);
-                return Err(Told::Fault(refusal_of(stop)));
-            }
+            Err(told) => return Err(self.stop_with(stop_of(told))),
         };
         match self.judge_with(place) {
             Ok(()) => Ok(n),
-            Err(NoMemory) => {
-                self.stop = Some(Stop::Memory);
-                Err(Told::Fault(Refusal::Memory))
-            }
+            Err(NoMemory) => Err(self.stop_with(Stop::Memory)),
         }
     }
 

@@ -9,6 +9,7 @@
 
 mod answer;
 mod bank_judge;
+mod broken;
 mod collected;
 mod configured;
 mod configured_laws;

@@ -5,17 +5,33 @@ ghost use Rattle.std.specs.List.{All};
 ghost use Rattle.lf_rules.specs.Order.{IsLeastOrder};
 ghost use Rattle.lf_rules.specs.Ring.{skeletons_of};
 ghost use Rattle.lf_rules.specs.Lists.{lists_of};
+ghost use Rattle.lf_join.specs.Join.{skeleton_lists, BanksAreWhole};
 ghost use Rattle.lf_verdict.specs.Jobs.{AllAreWhole, IsOrderEnding};
 
 use crate::answer::Fault;
 use crate::ending::Ending;
 use lf_join::{JoinFault, join};
 use lf_logs::skeletons;
-use lf_rules::Logs;
+use lf_rules::{Logs, Skeleton};
 use std::alloc::Global;
 
-/// The least order that keeps each log's order and each bank's numbers, or the logs that wait for
-/// one another.
+/// The least order that keeps the order of each log's entries and each bank's numbers, or the logs that
+/// wait for one another.
+pub fn least_order(alloc: Global, logs: &[Skeleton]) -> Result<Vec<u8>, Ending>
+    requires few { length logs.now ≤ 32 }
+    requires short { All (λ entries. length entries ≤ 2 ^ 24) (skeleton_lists logs.now) }
+    requires whole { BanksAreWhole (skeleton_lists logs.now) }
+    ensures order { IfOk result (λ order. IsLeastOrder (skeleton_lists logs.now) order.items) }
+    ensures ring { IfErr result (IsOrderEnding (skeleton_lists logs.now)) }
+{
+    match join(alloc, logs) {
+        Ok(order) => Ok(order),
+        Err(JoinFault::Cycle(ring)) => Err(Ending::Fault(Fault::Cycle(ring))),
+        Err(JoinFault::NoMemory) => Err(Ending::NoMemory),
+    }
+}
+
+/// The same of the logs' records.
 pub fn order_of(alloc: Global, logs: &Logs) -> Result<Vec<u8>, Ending>
     requires few { length logs.now.items ≤ 32 }
     requires short { All (λ log. length log.items ≤ 2 ^ 24) logs.now.items }
@@ -24,9 +40,5 @@ pub fn order_of(alloc: Global, logs: &Logs) -> Result<Vec<u8>, Ending>
     ensures ring { IfErr result (IsOrderEnding (skeletons_of (lists_of logs.now))) }
 {
     let all = skeletons(alloc, logs)?;
-    match join(alloc, &all) {
-        Ok(order) => Ok(order),
-        Err(JoinFault::Cycle(ring)) => Err(Ending::Fault(Fault::Cycle(ring))),
-        Err(JoinFault::NoMemory) => Err(Ending::NoMemory),
-    }
+    least_order(alloc, &all)
 }

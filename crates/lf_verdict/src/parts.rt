@@ -1,17 +1,17 @@
 //! What the outcomes of all ports and banks say.
 
-ghost use Rattle.std.specs.Prelude.{◌≤◌, length, IfErr, OnOk, IfSome, IfNone};
+ghost use Rattle.std.specs.Prelude.{length, IfErr, OnOk};
 ghost use Rattle.std.specs.Bool.{OnFalse};
 ghost use Rattle.lf_rules.specs.Address.{flat_memory};
 ghost use Rattle.lf_rules.specs.Lists.{lists_of};
 ghost use Rattle.lf_pool.specs.Job.{AreJobs, AreJobOutcomes};
 ghost use Rattle.lf_verdict.specs.Parts.{PartsRun};
-ghost use Rattle.lf_verdict.specs.Judging.{IsEnding, AreWholeBelow, NoneBroken, IsFirstBroken};
+ghost use Rattle.lf_verdict.specs.Judging.{IsEnding, AreWholeBelow};
 ghost use Rattle.lf_verdict.specs.Jobs.{NoneRanOut};
 
 use crate::answer::Fault;
+use crate::broken::{Broken, first_broken};
 use crate::ending::Ending;
-use crate::standing_verdict::Broken;
 use lf_pool::Jobs;
 use lf_rules::Outcome;
 
@@ -25,24 +25,6 @@ fn ran_out(all: &[Outcome]) -> bool
         }
     }
     false
-}
-
-/// The first outcome that names a broken rule.
-fn first_broken(all: &[Outcome]) -> Option<Broken>
-    requires { length all.now ≤ 16 }
-    ensures some { IfSome result (IsFirstBroken all.now) }
-    ensures none { IfNone result (NoneBroken all.now (length all.now)) }
-{
-    for (part, outcome) in all.iter().enumerate() {
-        if let Outcome::Broken(at, rule) = outcome {
-            return Some(Broken {
-                part: part as u8,
-                at: *at,
-                rule: *rule,
-            });
-        }
-    }
-    None
 }
 
 /// Names what the outcomes of all jobs say: want of memory first, then the lowest port that is broken,

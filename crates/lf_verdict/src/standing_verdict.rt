@@ -1,64 +1,20 @@
 //! The verdict of a trace whose records have all come.
 
-ghost use Rattle.std.specs.Prelude.{◌≡◌, ◌≤◌, ◌<◌, List, map, length, IfOk, IfErr, OnOk, IfSome, IfNone};
+ghost use Rattle.std.specs.Prelude.{◌≡◌, ◌≤◌, List, length, IfOk, IfErr, OnOk};
 ghost use Rattle.lf_rules.specs.declared.shape.Shape.{Shape};
 ghost use Rattle.lf_rules.specs.declared.event.Record.{Record};
 ghost use Rattle.lf_rules.specs.Address.{FlatMemory};
 ghost use Rattle.lf_verdict.specs.Parts.{PartsRun};
-ghost use Rattle.lf_verdict.specs.Judging.{IsEnding, number_ending, AreWholeBelow, IsOrderOf, IsLogsVerdict, IsFirstBroken, NoneBroken};
+ghost use Rattle.lf_verdict.specs.Judging.{IsEnding, number_ending, AreWholeBelow, IsOrderOf, IsLogsVerdict};
 ghost use Rattle.lf_verdict.specs.Standing.{logs_so_far, IsShort, StandsAfterAll};
 
 use crate::answer::{Fault, Refusal, Verdict};
-use crate::bank_judge::BankJudge;
+use crate::broken::{Broken, first_broken};
 use crate::ending::Ending;
-use crate::port_judge::PortJudge;
+use crate::order::least_order;
 use crate::standing::Standing;
-use lf_join::{JoinFault, join};
 use lf_logs::NumberFault;
-use lf_rules::{Outcome, Rule};
 use std::alloc::Global;
-
-/// A port or a bank that is broken: at a place, by a rule.
-#[derive(Clone, Copy)]
-pub struct Broken {
-    pub part: u8,
-    pub at: u32,
-    pub rule: Rule,
-}
-
-fn first_broken_port(ports: &[PortJudge]) -> Option<Broken>
-    requires { length ports.now ≤ 16 }
-    ensures some { IfSome result (IsFirstBroken (map (λ judge. judge.outcome) ports.now)) }
-    ensures none { IfNone result (NoneBroken (map (λ judge. judge.outcome) ports.now) (length ports.now)) }
-{
-    for (part, judge) in ports.iter().enumerate() {
-        if let Outcome::Broken(at, rule) = judge.outcome {
-            return Some(Broken {
-                part: part as u8,
-                at,
-                rule,
-            });
-        }
-    }
-    None
-}
-
-fn first_broken_bank(banks: &[BankJudge]) -> Option<Broken>
-    requires { length banks.now ≤ 16 }
-    ensures some { IfSome result (IsFirstBroken (map (λ judge. judge.outcome) banks.now)) }
-    ensures none { IfNone result (NoneBroken (map (λ judge. judge.outcome) banks.now) (length banks.now)) }
-{
-    for (part, judge) in banks.iter().enumerate() {
-        if let Outcome::Broken(at, rule) = judge.outcome {
-            return Some(Broken {
-                part: part as u8,
-                at,
-                rule,
-            });
-        }
-    }
-    None
-}
 
 /// What a fault of the bank's numbers says.
 pub fn number_ending(bank: u8, fault: NumberFault) -> Ending
@@ -97,11 +53,11 @@ impl Standing {
         ensures fault { (shape : Shape) (memory : FlatMemory) (records : List Record) → StandsAfterAll shape memory records self.now
             → AreWholeBelow (logs_so_far shape records) shape.banks → IfErr result (IsEnding shape memory (logs_so_far shape records)) }
     {
-        if let Some(Broken { part, at, rule }) = first_broken_port(&self.entries.ports) {
+        if let Some(Broken { part, at, rule }) = first_broken(&self.entries.ports) {
             let port = part;
             return Err(Ending::Fault(Fault::Port { port, at, rule }));
         }
-        if let Some(Broken { part, at, rule }) = first_broken_bank(&self.banks) {
+        if let Some(Broken { part, at, rule }) = first_broken(&self.banks) {
             let (bank, number) = (part, at);
             return Err(Ending::Fault(Fault::Bank { bank, number, rule }));
         }
@@ -120,11 +76,7 @@ impl Standing {
     {
         self.judge_numbers()?;
         self.judge_rules()?;
-        match join(alloc, &self.entries.logs) {
-            Ok(order) => Ok(order),
-            Err(JoinFault::Cycle(ring)) => Err(Ending::Fault(Fault::Cycle(ring))),
-            Err(JoinFault::NoMemory) => Err(Ending::NoMemory),
-        }
+        least_order(alloc, &self.entries.logs)
     }
 
     /// The verdict of the records so far, as those of a whole trace.

@@ -6,12 +6,12 @@ use Rattle.std.specs.List.{All}
 use Rattle.lf_verdict.proofs.Skeletons.{banks_whole, skeletons_short}
 use Rattle.lf_verdict.proofs.order.order_of.Goals as goal
 
-pub join-requires-clause-whole : goal.join-requires-clause-whole
-join-requires-clause-whole c =
+pub least_order-requires-clause-whole : goal.least_order-requires-clause-whole
+least_order-requires-clause-whole c =
     let same = ap joins.skeleton_lists c.deref.ensures.value ∙ c.in_ok-all.ensures in
     subst BanksAreWhole (sym same) (banks_whole (lists_of c.args.logs.now) c.requires.whole)
 
-pub join-requires-clause-short : goal.join-requires-clause-short
-join-requires-clause-short c =
+pub least_order-requires-clause-short : goal.least_order-requires-clause-short
+least_order-requires-clause-short c =
     let same = ap joins.skeleton_lists c.deref.ensures.value ∙ c.in_ok-all.ensures in
     subst (All (λ (entries : List (ℕ × ℕ)). length entries ≤ 2 ^ 24)) (sym same) (skeletons_short c.args.logs.now (2 ^ 24) c.requires.short)

@@ -1,8 +1,9 @@
 use Rattle.std.proofs.Common.{◌++◌, sym, ◌∙◌, subst}
 use Rattle.lf_rules.specs.Address.{flat_memory}
+use Rattle.lf_verdict.specs.declared.intake.Intake.{Intake}
 use Rattle.lf_verdict.specs.declared.intake.Judging.{Judging}
 use Rattle.lf_verdict.specs.declared.pending.Pending.{Pending}
-use Rattle.lf_verdict.specs.Session.{IsJudging}
+use Rattle.lf_verdict.specs.Session.{HasFed, IsJudging}
 use Rattle.lf_verdict.proofs.Pieces.{told_fine}
 use Rattle.lf_verdict.proofs.Sessions.{going, read_stop, fed_beside}
 use Rattle.lf_verdict.proofs.intake.Intake.feed_beside.Goals as goal
@@ -12,8 +13,9 @@ returns-in-Err-clause-fed g c bytes has =
     let s = c.args.self.now in
     let m = (going s bytes c.requires.going has).0 in
     let read = c.read_beside-read.ensures.read in
-    read_stop s s.reader.fault c.read_beside-read.new.reader (bytes ++ c.args.piece.now) s.memory.items m.0 c.in-Err.told c.stop_of-stop.result m.1.fine (sym read.is_told ∙ c.in-Err.is)
-    (read.pieces bytes s.memory.items m.0 m.1.read) c.stop_of-stop.ensures
+    subst (λ (t : Intake). HasFed t (bytes ++ c.args.piece.now)) (sym c.stop_with.ensures.stopped)
+    (read_stop s s.reader.fault c.read_beside-read.new.reader (bytes ++ c.args.piece.now) s.memory.items m.0 c.in-Err.told c.stop_of.result m.1.fine (sym read.is_told ∙ c.in-Err.is)
+    (read.pieces bytes s.memory.items m.0 m.1.read) c.stop_of.ensures)
 
 pub swap_records-requires : goal.swap_records-requires
 swap_records-requires g c =

@@ -1,6 +1,7 @@
 use Rattle.std.proofs.Common.{◌++◌, Option, Some, take, sym, ◌∙◌, subst}
+use Rattle.lf_verdict.specs.declared.intake.Intake.{Intake}
 use Rattle.lf_verdict.specs.declared.intake.Stop.{Stop}
-use Rattle.lf_verdict.specs.Session.{HasFedUntil}
+use Rattle.lf_verdict.specs.Session.{HasFed, HasFedUntil}
 use Rattle.lf_verdict.proofs.Pieces.{told_fine}
 use Rattle.lf_verdict.proofs.Sessions.{going, read_stop, judged_feed}
 use Rattle.lf_verdict.proofs.intake.Intake.feed_some.Goals as goal
@@ -9,8 +10,10 @@ pub returns-in-Err-clause-fed : goal.returns-in-Err-clause-fed
 returns-in-Err-clause-fed c fed has =
     let s = c.args.self.now in
     let m = (going s fed c.requires.going has).0 in
-    read_stop (record s { reader = c.feed_some.new.self; stop = Some c.stop_of-stop.result }) s.reader.fault c.feed_some.new.self (fed ++ c.args.bytes.now) s.memory.items m.0 c.in-Err.told c.stop_of-stop.result m.1.fine (sym c.in-Err.ensures.told)
-    (c.in-Err.ensures.pieces fed s.memory.items m.0 m.1.read) c.stop_of-stop.ensures
+    let stopped : Intake = record s { reader = c.feed_some.new.self; stop = Some c.stop_of.result } in
+    subst (λ (t : Intake). HasFed t (fed ++ c.args.bytes.now)) (sym c.stop_with.ensures.stopped)
+    (read_stop stopped s.reader.fault c.feed_some.new.self (fed ++ c.args.bytes.now) s.memory.items m.0 c.in-Err.told c.stop_of.result m.1.fine (sym c.in-Err.ensures.told)
+    (c.in-Err.ensures.pieces fed s.memory.items m.0 m.1.read) c.stop_of.ensures)
 
 pub take_all-requires : goal.take_all-requires
 take_all-requires c =

@@ -17,15 +17,15 @@ returns-in-Some-clause-fault c shape memory records stands whole =
     port_fault shape memory _ stands.given _ _ (judged_parts shape memory records c.args.self.now stands whole) c.in-Some.field-0
     (subst (λ (js : List PortJudge). IsFirstBroken (map (λ (j : PortJudge). j.outcome) js) c.in-Some.field-0) c.deref.ensures.value c.in-Some.ensures.some)
 
-pub returns-in-Some-first_broken_bank-clause-fault : goal.returns-in-Some-first_broken_bank-clause-fault
-returns-in-Some-first_broken_bank-clause-fault c shape memory records stands whole =
+pub returns-in-Some-first_broken-clause-fault : goal.returns-in-Some-first_broken-clause-fault
+returns-in-Some-first_broken-clause-fault c shape memory records stands whole =
     bank_fault shape memory _ stands.given _ _ (judged_parts shape memory records c.args.self.now stands whole)
     (none_broken (λ (j : PortJudge). j.outcome) _ _ c.deref.ensures.value c.in_default.ensures.none)
-    c.in-Some-first_broken_bank.field-0
-    (subst (λ (js : List BankJudge). IsFirstBroken (map (λ (j : BankJudge). j.outcome) js) c.in-Some-first_broken_bank.field-0) c.deref-2.ensures.value c.in-Some-first_broken_bank.ensures.some)
+    c.in-Some-first_broken.field-0
+    (subst (λ (js : List BankJudge). IsFirstBroken (map (λ (j : BankJudge). j.outcome) js) c.in-Some-first_broken.field-0) c.deref-2.ensures.value c.in-Some-first_broken.ensures.some)
 
 pub returns-clause-run : goal.returns-clause-run
 returns-clause-run c shape memory records stands whole =
     parts_run shape memory _ stands.given _ _ (judged_parts shape memory records c.args.self.now stands whole)
     (none_broken (λ (j : PortJudge). j.outcome) _ _ c.deref.ensures.value c.in_default.ensures.none)
-    (none_broken (λ (j : BankJudge). j.outcome) _ _ c.deref-2.ensures.value c.in_default-first_broken_bank.ensures.none)
+    (none_broken (λ (j : BankJudge). j.outcome) _ _ c.deref-2.ensures.value c.in_default-first_broken.ensures.none)

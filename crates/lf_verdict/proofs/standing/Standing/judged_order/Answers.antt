@@ -1,11 +1,14 @@
 use Rattle.std.proofs.Common.{◌≤◌, ◌^◌, ℕ, List, length, sym, ap, ◌∙◌, subst, arith}
-use Rattle.std.proofs.lemmas.Result.{err_from_is_err_and}
+use Rattle.std.proofs.lemmas.Result.{err_from_is_err_and, IfOk-weaker, IfErr-weaker}
+use Rattle.std.specs.Global.{Vec}
 use Rattle.std.specs.List.{All}
 use Rattle.lf_rules.specs.Order.{IsLeastOrder}
-use Rattle.lf_rules.specs.Ring.{IsRing}
 use Rattle.lf_join.specs.Join as joins
-use Rattle.lf_join.specs.Join.{BanksAreWhole, IsStuckRing}
-use Rattle.lf_verdict.proofs.Settled.{few_logs, skeletons_short, skeletons_whole}
+use Rattle.lf_join.specs.Join.{BanksAreWhole}
+use Rattle.lf_verdict.specs.Jobs.{IsOrderEnding}
+use Rattle.lf_verdict.specs.Judging.{IsEnding, IsOrderOf}
+use Rattle.lf_verdict.specs.Standing.{logs_so_far}
+use Rattle.lf_verdict.proofs.Settled.{few_logs, order_ending, skeletons_short, skeletons_whole}
 use Rattle.lf_verdict.proofs.standing.Standing.judged_order.Goals as goal
 
 pub returns-in_err-judge_numbers-clause-fault : goal.returns-in_err-judge_numbers-clause-fault
@@ -18,38 +21,37 @@ returns-in_err-judge_rules-clause-fault c shape memory records stands short =
     let p = err_from_is_err_and c.from_residual-in_err-judge_rules.result c.from_residual-in_err-judge_rules.ensures.1 in
     rw (p.1, p.2) (c.in_err-judge_rules.ensures.fault shape memory records stands (c.in_ok-judge_numbers.ensures.whole shape memory records stands))
 
-pub join-requires-clause-few : goal.join-requires-clause-few
-join-requires-clause-few c =
+pub least_order-requires-clause-few : goal.least_order-requires-clause-few
+least_order-requires-clause-few c =
     let r = c.requires in
     omega (arith, ap length c.deref.ensures.value, few_logs r.0 r.1.0 r.1.1.0 c.args.self.now r.1.1.1.0 r.1.1.1.1)
 
-pub join-requires-clause-short : goal.join-requires-clause-short
-join-requires-clause-short c =
+pub least_order-requires-clause-short : goal.least_order-requires-clause-short
+least_order-requires-clause-short c =
     let r = c.requires in
     let same = ap joins.skeleton_lists c.deref.ensures.value ∙ r.1.1.1.0.entered.logs in
     subst (All (λ (entries : List (ℕ × ℕ)). length entries ≤ 2 ^ 24)) (sym same) (skeletons_short r.0 r.1.0 r.1.1.0 c.args.self.now r.1.1.1.0 r.1.1.1.1)
 
-pub join-requires-clause-whole : goal.join-requires-clause-whole
-join-requires-clause-whole c =
+pub least_order-requires-clause-whole : goal.least_order-requires-clause-whole
+least_order-requires-clause-whole c =
     let r = c.requires in
     let same = ap joins.skeleton_lists c.deref.ensures.value ∙ r.1.1.1.0.entered.logs in
     subst BanksAreWhole (sym same) (skeletons_whole r.0 r.1.0 r.1.1.0 c.args.self.now r.1.1.1.0 r.1.1.1.1 (c.in_ok-judge_numbers.ensures.whole r.0 r.1.0 r.1.1.0 r.1.1.1.0))
 
-pub returns-in-Ok-clause-order : goal.returns-in-Ok-clause-order
-returns-in-Ok-clause-order c shape memory records stands short =
+pub returns-clause-order : goal.returns-clause-order
+returns-clause-order c shape memory records stands short =
     let same = ap joins.skeleton_lists c.deref.ensures.value ∙ stands.entered.logs in
-    record {
+    IfOk-weaker c.least_order.result _ (λ (order : Vec ℕ). IsOrderOf shape memory (logs_so_far shape records) order.items)
+    (λ (order : Vec ℕ) least. record {
       parts = c.in_ok-judge_rules.ensures.run shape memory records stands (c.in_ok-judge_numbers.ensures.whole shape memory records stands);
-      least = subst (λ (ls : List (List (ℕ × ℕ))). IsLeastOrder ls c.in-Ok.order.items) same c.in-Ok.ensures.least;
-    }
+      least = subst (λ (ls : List (List (ℕ × ℕ))). IsLeastOrder ls order.items) same least;
+    })
+    c.least_order.ensures.order
 
-pub returns-in-Err-Cycle-clause-fault : goal.returns-in-Err-Cycle-clause-fault
-returns-in-Err-Cycle-clause-fault c shape memory records stands short =
-    let ring = rw c.in-Err-Cycle.field-0-is at c.in-Err-Cycle.ensures.ring in
-    let shown = rw c.in-Err-Cycle.field-0-is at c.in-Err-Cycle.ensures.shown in
+pub returns-clause-fault : goal.returns-clause-fault
+returns-clause-fault c shape memory records stands short =
     let same = ap joins.skeleton_lists c.deref.ensures.value ∙ stands.entered.logs in
-    record {
-      parts = c.in_ok-judge_rules.ensures.run shape memory records stands (c.in_ok-judge_numbers.ensures.whole shape memory records stands);
-      stuck = subst (λ (ls : List (List (ℕ × ℕ))). IsStuckRing ls c.in-Err-Cycle.ring.items) same ring;
-      waits = subst (λ (ls : List (List (ℕ × ℕ))). IsRing ls c.in-Err-Cycle.ring.items) same shown;
-    }
+    let parts = c.in_ok-judge_rules.ensures.run shape memory records stands (c.in_ok-judge_numbers.ensures.whole shape memory records stands) in
+    IfErr-weaker c.least_order.result _ (IsEnding shape memory (logs_so_far shape records))
+    (λ ending is. order_ending shape memory (logs_so_far shape records) ending parts (subst (λ (ls : List (List (ℕ × ℕ))). IsOrderEnding ls ending) same is))
+    c.least_order.ensures.ring
