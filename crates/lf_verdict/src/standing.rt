@@ -25,7 +25,8 @@ impl Standing {
         requires { (shape : Shape) × ((memory : FlatMemory) × ((records : List Record) ×
             (MayCome shape records item.now × StandsAfterAll shape memory records self.old))) }
         ensures judged { (shape : Shape) (memory : FlatMemory) (records : List Record) → MayCome shape records item.now
-            → StandsAfterAll shape memory records self.old → IfOk result (λ judged. IsTrue judged → StandsAfterAll shape memory (records ++ item.now ∷ []) self.new) }
+            → StandsAfterAll shape memory records self.old
+            → IfOk result (λ judged. IsTrue judged → StandsAfterAll shape memory (records ++ item.now ∷ []) self.new) }
         ensures entered { (shape : Shape) (memory : FlatMemory) (records : List Record) → MayCome shape records item.now
             → StandsAfterAll shape memory records self.old → IfOk result (λ judged. ¬ IsTrue judged → IsEntered shape records item.now self.old self.new) }
     {
