@@ -82,6 +82,7 @@ impl BankJudge {
 
     /// Judges those of the waiting records whose turn has come. It is apart from `settle`, since it has
     /// a place for a record, which costs time where none waits.
+    #[inline(never)]
     fn settle_waiting(&mut self) -> Result<(), NoMemory>
         requires { (shape : Shape) × ((memory : FlatMemory) × ((bank : ℕ) ×
             ((came : List Record) × ((gave : List Record) × IsBankJudged shape memory bank came gave self.old)))) }

@@ -172,6 +172,9 @@ fn judge_placed(
 {
     read_so_far();
     judge_one(pending, place)?;
+    if reader.front().is_none() {
+        return Ok(());
+    }
     judge_records(reader, pending)
 }
 
@@ -380,6 +383,7 @@ impl Intake {
     }
 
     /// Takes the next record of these bytes, or what there is of it, and judges it.
+    #[inline(never)]
     fn feed_some(&mut self, bytes: &[u8]) -> Result<usize, Told<Refusal>>
         requires fed { (fed : List ℕ) × HasFed self.old fed }
         requires going { self.old.stop ≡ None }

@@ -135,6 +135,7 @@ impl Pending {
 
     /// Judges the records that wait. It is apart from `judge`, since it has a place for a record, which
     /// costs time where none waits.
+    #[inline(never)]
     fn judge_waiting(&mut self) -> Result<(), NoMemory>
         requires { CanBeJudged self.old }
         ensures { JudgesAll self.old result self.new }
