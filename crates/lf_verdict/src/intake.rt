@@ -172,6 +172,9 @@ fn judge_placed(
 {
     read_so_far();
     judge_one(pending, place)?;
+    if reader.front().is_none() {
+        return Ok(());
+    }
     judge_records(reader, pending)
 }
 

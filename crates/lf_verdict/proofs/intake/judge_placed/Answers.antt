@@ -29,3 +29,11 @@ returns-clause-judged c shape bytes memory records read run =
     let more = records ++ option_to_list place in
     c.judge_records.ensures.judged shape bytes memory more (given_one c.args.reader.now place bytes memory records read)
     (running_more shape bytes memory records more c.args.pending.now c.judge_one.new.pending run judged.1 judged.0)
+
+pub returns-then-is_none-clause-judged : goal.returns-then-is_none-clause-judged
+returns-then-is_none-clause-judged c shape bytes memory records read run =
+    let place = c.args.place.now in
+    let may = place_may_come c.read_so_far.ensures shape bytes memory records c.args.reader.now c.args.pending.now place read run in
+    let judged = c.in_ok-judge_one.ensures shape (flat_memory memory) records run.stands may in
+    let more = records ++ option_to_list place in
+    (more, (given_one c.args.reader.now place bytes memory records read, running_more shape bytes memory records more c.args.pending.now c.judge_one.new.pending run judged.1 judged.0))
