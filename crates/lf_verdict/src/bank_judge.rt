@@ -13,7 +13,6 @@ ghost use Rattle.std.specs.List.{AllByRecursion};
 ghost use Rattle.lf_rules.specs.Run.{of_bank};
 ghost use Rattle.lf_verdict.specs.Standing.{IsBankAt, IsBankJudged, IsBankSettled, CanTakeAll, TakesAll};
 
-use crate::copying::record_of;
 use lf_logs::Reorder;
 use lf_replay::{BankFault, Step};
 use lf_rules::{Memory, NoMemory, Outcome, Record, Shape};
@@ -25,6 +24,13 @@ pub struct BankJudge {
     pub order: Reorder,
     pub step: Step,
     pub outcome: Outcome,
+}
+
+/// A copy of the record.
+fn record_of(item: &Record) -> Result<Record, NoMemory>
+    ensures { IfOk result (λ copy. copy ≡ item.now) }
+{
+    Ok(item.clone()?)
 }
 
 impl BankJudge {
@@ -140,7 +146,8 @@ impl BankJudge {
         if self.offer(item)? {
             return Ok(());
         }
-        self.order.put(record_of(item))
+        let copy = record_of(item)?;
+        self.order.put(copy)
     }
 
     /// Judges those of the records that are of this bank, in their order.

@@ -13,7 +13,6 @@ mod broken;
 mod collected;
 mod configured;
 mod configured_laws;
-mod copying;
 mod ending;
 mod entries;
 mod gathering;

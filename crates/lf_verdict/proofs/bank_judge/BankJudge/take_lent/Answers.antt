@@ -14,12 +14,12 @@ pub put-requires : goal.put-requires
 put-requires c =
     let r = c.requires in
     let settled = r.1.1.1.1.1.1.1 in
-    ap (λ (r : Record). r.bank) c.record_of.ensures ∙ r.1.1.1.1.1.1.0 ∙ sym (subst (IsBankSettled r.0 r.1.0 r.1.1.0 r.1.1.1.0 r.1.1.1.1.0) (sym (c.in_ok-offer.ensures.unchanged (λ e. cc))) settled).bank_judged.order_of_bank
+    ap (λ (r : Record). r.bank) c.in_ok-copy.ensures ∙ r.1.1.1.1.1.1.0 ∙ sym (subst (IsBankSettled r.0 r.1.0 r.1.1.0 r.1.1.1.0 r.1.1.1.1.0) (sym (c.in_ok-offer.ensures.unchanged (λ e. cc))) settled).bank_judged.order_of_bank
 
 pub returns : goal.returns
 returns c shape memory bank came gave fits named settled =
     let item = c.args.item.now in
-    let copied = c.record_of.ensures in
+    let copied = c.in_ok-copy.ensures in
     let early = c.in_ok-offer.ensures.early came gave settled.bank_judged.ordered settled.drained (λ e. cc) in
     let same = subst (IsBankSettled shape memory bank came gave) (sym (c.in_ok-offer.ensures.unchanged (λ e. cc))) settled in
     on_ok c.put.result
