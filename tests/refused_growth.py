@@ -106,14 +106,15 @@ RUNS = [
     "check_with_two_workers", "session_by_two_workers", "read", "recheck", "encode", "stats", "ten_events", "a_step", "a_reader",
 ]
 
-# Examples that fail where a growth is refused, in whichever crates have one of the name.
+# Examples that fail where a growth is refused, with the crate that has them. The engine's example of the first name
+# writes its line to a list of its own, whose growth is none of the call's.
 TOLD = [
-    "gaps_and_doubles",
-    "many_records_before_their_turn",
-    "least_order",
-    "load_merges_behind_store_by_replay",
+    ("lf_part_tests", "gaps_and_doubles"),
+    ("lf_verdict_tests", "gaps_and_doubles"),
+    ("lf_part_tests", "many_records_before_their_turn"),
+    ("lf_part_tests", "least_order"),
+    ("lf_replay_tests", "load_merges_behind_store_by_replay"),
 ]
-
 
 # A session that is fed by several workers goes on without a thread that was refused, or the memory for it.
 BESIDE = "refused_growth_of_session_by_two_workers"
@@ -241,6 +242,11 @@ def tests_by_name():
     return found
 
 
+def crate_of(program):
+    """The crate whose tests the program runs."""
+    return os.path.basename(program).removesuffix("_tests")
+
+
 def sweep_program(runs, folder):
     score = os.path.join(TOP, "crates", "score", "out", "score")
     if not os.path.exists(score):
@@ -262,13 +268,14 @@ def sweep_program(runs, folder):
 def sweep_tests(runs, folder):
     built = tests_by_name()
     swept = sorted({SWEPT + run for run in RUNS} | {name for name in built if name.startswith(SWEPT)})
-    for name in swept + TOLD:
-        judge = judge_told if name in TOLD else judge_beside if name == BESIDE else judge_swept
-        if name not in built:
+    rows = [(crate_of(program), name, program, test) for name in built for program, test in built[name]]
+    wanted = [row for name in swept for row in rows if row[1] == name] + [row for told in TOLD for row in rows if row[:2] == told]
+    for crate, name, program, test in wanted:
+        judge = judge_told if (crate, name) in TOLD else judge_beside if name == BESIDE else judge_swept
+        runs.sweep(f"{crate} {test}", [program, test], judge, folder)
+    for name in swept + [f"{crate} {name}" for crate, name in TOLD]:
+        if not any(name in (row[1], f"{row[0]} {row[1]}") for row in wanted):
             runs.lacks(name)
-        for program, test in built.get(name, []):
-            crate = os.path.basename(program).removesuffix("_tests")
-            runs.sweep(f"{crate} {test}", [program, test], judge, folder)
 
 
 def main():
