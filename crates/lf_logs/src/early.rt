@@ -1,6 +1,6 @@
 //! The records that came before their turn.
 
-ghost use Rattle.std.specs.Prelude.{◌≡◌, ◌<◌, ◌%◌, ℕ, IsTrue, List, [], length, slice_index_or, vec_len};
+ghost use Rattle.std.specs.Prelude.{◌≡◌, ◌<◌, ◌%◌, ◌↔◌, ℕ, IsTrue, List, [], length, slice_index_or, vec_len};
 ghost use Rattle.std.specs.Prelude.{is_some, None, Some, OnOk, OnErr, IfOk, IfSome, IfNone};
 ghost use Rattle.std.specs.Map.{lookup};
 ghost use Rattle.std.specs.BTreeMap.{is_at};
@@ -123,7 +123,7 @@ impl Early {
 
     /// Whether there is no record.
     pub fn is_empty(&self) -> bool
-        ensures { IsTrue result → self.now ≡ [] }
+        ensures { IsTrue result ↔ (self.now ≡ []) }
     {
         self.kept.is_empty() && self.rest.is_empty()
     }

@@ -1,6 +1,6 @@
 //! A bank's records, put into the order of their numbers as they come.
 
-ghost use Rattle.std.specs.Prelude.{◌≡◌, ◌≢◌, ◌<◌, ◌^◌, ℕ, IsTrue, List, [], ◌∷◌, ◌++◌, length};
+ghost use Rattle.std.specs.Prelude.{◌≡◌, ◌≢◌, ◌<◌, ◌^◌, ◌↔◌, ℕ, IsTrue, List, [], ◌∷◌, ◌++◌, length};
 ghost use Rattle.std.specs.Prelude.{option_to_list, is_some, None, Some, OnOk, OnErr, IfSome, IfNone};
 ghost use Rattle.lf_rules.specs.declared.event.Record.{Record};
 ghost use Rattle.lf_rules.specs.Numbers.{numbers_of, times, IsMissing, IsWhole};
@@ -168,7 +168,8 @@ impl Reorder {
 
     /// Whether no record waits for its turn, so that `next` has none to give. It takes no memory.
     pub fn is_empty(&self) -> bool
-        ensures { IsTrue result → (put : List Record) (gave : List Record) → HasOrdered self.now put gave
+        ensures count { IsTrue result ↔ (waiting_count self.now ≡ 0) }
+        ensures none { IsTrue result → (put : List Record) (gave : List Record) → HasOrdered self.now put gave
             → first_with (length gave) put ≡ None }
     {
         self.ready.is_none() && self.early.is_empty()
