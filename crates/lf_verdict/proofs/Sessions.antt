@@ -67,10 +67,6 @@ may_come law shape bytes memory records r running item rest read run next =
       room = omega (arith, limit_is_small run.header.version, one_of_log records item rest, ap (λ (xs : List Record). length (of_log item.log xs)) all, fits.logs item.log);
     }
 
--- what is taken is what stood in front
-pub same_front : (records xs ys : List Record) (front taken : Record) → records ≡ front ∷ xs → records ≡ taken ∷ ys → front ≡ taken
-same_front records xs ys front taken stood first = ap (λ (rs : List Record). get_or rs 0 front) (sym stood ∙ first)
-
 pub running_more : (shape : Shape) (bytes : List ℕ) (memory : List (ℕ × Bytes)) (records more : List Record) (old new : Pending) → IsRunning shape bytes memory records old
     → new.records.items ≡ [] → StandsAfterAll shape (flat_memory memory) more new.standing → IsRunning shape bytes memory more new
 running_more shape bytes memory records more old new running none stands =

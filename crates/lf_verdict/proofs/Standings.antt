@@ -20,7 +20,7 @@ use Rattle.lf_verdict.specs.declared.port_judge.PortJudge.{PortJudge}
 use Rattle.lf_verdict.specs.declared.bank_judge.BankJudge.{BankJudge}
 use Rattle.lf_verdict.specs.declared.entries.Entries.{Entries}
 use Rattle.lf_verdict.specs.declared.standing.Standing.{Standing}
-use Rattle.lf_verdict.specs.Standing.{IsPortJudged, IsBankSettled, MayCome, AreEntered, IsEntered, StandsAfterAll}
+use Rattle.lf_verdict.specs.Standing.{IsPortJudged, IsBankSettled, MayCome, AreEntered, StandsAfterAll}
 use Rattle.lf_verdict.proofs.Answered.{log_below}
 
 -- ---- the entries of the logs
@@ -125,9 +125,6 @@ module _ (shape : Shape) (records : List Record) (e : Entries) (entered : AreEnt
   port_before i v at read lt =
       subst (λ (j : PortJudge). IsPortJudged shape r.log (of_log r.log records) j) (sym (read ∙ ap (λ n. get_or e.ports.items n v) at)) (entered.ports r.log v (omega arith))
 
-pub entered_by : (shape : Shape) (records : List Record) (r : Record) (before : Standing) (entries : Entries) → AreEntered shape (records ++ r ∷ []) entries → IsEntered shape records r before (record before { entries = entries })
-entered_by shape records r before entries is = record { entered = is; banks = refl }
-
 module _ (shape : Shape) (memory : FlatMemory) (records : List Record) (s : Standing) (stands : StandsAfterAll shape memory records s) (r : Record) (may : MayCome shape records r) where
   pub bank_before : (i : ℕ) (v : BankJudge) → i ≡ r.bank → v ≡ get_or s.banks.items i v → r.bank < shape.banks
       → IsBankSettled shape (bank_part shape r.bank memory) r.bank (of_bank r.bank records) (log_at stands.given r.bank) v
@@ -135,33 +132,21 @@ module _ (shape : Shape) (memory : FlatMemory) (records : List Record) (s : Stan
       subst (λ (j : BankJudge). IsBankSettled shape (bank_part shape r.bank memory) r.bank (of_bank r.bank records) (log_at stands.given r.bank) j)
       (sym (read ∙ ap (λ n. get_or s.banks.items n v) at)) (stands.banks r.bank v lt)
 
-  -- its bank has judged it too
-  pub stands_more : (entered after : Standing) (i : ℕ) (new : BankJudge) → IsEntered shape records r s entered → r.bank < shape.banks
-      → after ≡ record entered { banks = with_item entered.banks i new } → i ≡ r.bank
+  -- its entry is kept, and its bank has judged it
+  pub stands_more : (entries : Entries) (after : Standing) (i : ℕ) (new : BankJudge) → AreEntered shape (records ++ r ∷ []) entries → r.bank < shape.banks
+      → after ≡ record { entries = entries; banks = with_item s.banks i new } → i ≡ r.bank
       → (more : List Record) × IsBankSettled shape (bank_part shape r.bank memory) r.bank (of_bank r.bank records ++ r ∷ []) more new
       → StandsAfterAll shape memory (records ++ r ∷ []) after
-  stands_more entered after i new is within same at settled =
+  stands_more entries after i new entered within same at settled =
       let banks : after.banks.items ≡ set s.banks.items r.bank new =
-      ap (λ (t : Standing). t.banks.items) same ∙ ap (λ (js : List BankJudge). set js i new) is.banks ∙ ap (λ n. set s.banks.items n new) at in
+      ap (λ (t : Standing). t.banks.items) same ∙ ap (λ n. set s.banks.items n new) at in
       record {
         fit = all_push (Fits shape) records r stands.fit may.fits;
-        entered = subst (AreEntered shape (records ++ r ∷ [])) (sym (ap (λ (t : Standing). t.entries) same)) is.entered;
+        entered = subst (AreEntered shape (records ++ r ∷ [])) (sym (ap (λ (t : Standing). t.entries) same)) entered;
         count_banks = ap length banks ∙ length-set s.banks.items r.bank new ∙ stands.count_banks;
         given = set stands.given r.bank settled.0;
         count_given = length-set stands.given r.bank settled.0 ∙ stands.count_given;
         banks = λ bank d lt.
             subst (λ (js : List BankJudge). IsBankSettled shape (bank_part shape bank memory) bank (of_bank bank (records ++ r ∷ [])) (log_at (set stands.given r.bank settled.0) bank) (get_or js bank d)) (sym banks)
             (banks_more shape memory records r s.banks.items stands.given new settled.0 stands.count_banks stands.count_given stands.banks within settled.1 bank d lt);
-      }
-
-  -- its bank has not seen it
-  pub entered_same : (entered after : Standing) (i : ℕ) (new was : BankJudge) → IsEntered shape records r s entered
-      → after ≡ record entered { banks = with_item entered.banks i new } → new ≡ was → was ≡ get_or entered.banks.items i was
-      → IsEntered shape records r s after
-  entered_same entered after i new was is same unchanged read =
-      let banks : set entered.banks.items i new ≡ entered.banks.items =
-      ap (set entered.banks.items i) (unchanged ∙ read) ∙ set-get_or entered.banks.items i was in
-      record {
-        entered = subst (AreEntered shape (records ++ r ∷ [])) (sym (ap (λ (t : Standing). t.entries) same)) is.entered;
-        banks = ap (λ (t : Standing). t.banks.items) same ∙ banks ∙ is.banks;
       }

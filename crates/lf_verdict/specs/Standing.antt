@@ -99,11 +99,6 @@ pub record StandsAfterAll (shape : Shape) (memory : FlatMemory) (records : List 
   pub banks : (bank : ℕ) (d : BankJudge) → bank < shape.banks
       → IsBankSettled shape (bank_part shape bank memory) bank (of_bank bank records) (log_at given bank) (slice_index_or s.banks.items bank d)
 
--- The record came, and its port judged it; its bank has not seen it yet.
-pub record IsEntered (shape : Shape) (records : List Record) (r : Record) (before after : Standing) : Type 0 where
-  pub entered : AreEntered shape (records ++ r ∷ []) after.entries
-  pub banks : after.banks.items ≡ before.banks.items
-
 -- ---- records that wait
 
 -- These records of the trace came: the last of them wait, and the parts stand where those before them lead.

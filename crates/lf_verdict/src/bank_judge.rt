@@ -6,7 +6,7 @@ ghost use Rattle.lf_rules.specs.declared.event.Record.{Record};
 ghost use Rattle.lf_rules.specs.Address.{FlatMemory, flat_memory};
 ghost use Rattle.lf_rules.specs.Fits.{Fits};
 ghost use Rattle.lf_rules.specs.InRange.{IsShape};
-ghost use Rattle.lf_logs.specs.Reordering.{HasOrdered, first_with};
+ghost use Rattle.lf_logs.specs.Reordering.{HasOrdered};
 ghost use Rattle.lf_replay.specs.Bytes.{bank_part};
 ghost use Rattle.lf_replay.specs.Step.{IsForStep};
 ghost use Rattle.std.specs.List.{AllByRecursion};
@@ -101,53 +101,34 @@ impl BankJudge {
         Ok(())
     }
 
-    /// Judges a record of the bank whose turn has come, and those that waited for it. It says whether
-    /// that is so; otherwise nothing has changed.
-    pub fn offer(&mut self, item: &Record) -> Result<bool, NoMemory>
-        requires { (shape : Shape) × ((memory : FlatMemory) × ((bank : ℕ) × ((came : List Record) × ((gave : List Record) ×
-            (Fits shape item.now × ((item.now.bank ≡ bank) × IsBankSettled shape memory bank came gave self.old)))))) }
-        ensures judged { (shape : Shape) (memory : FlatMemory) (bank : ℕ) (came : List Record) (gave : List Record) → Fits shape item.now → item.now.bank ≡ bank
-            → IsBankSettled shape memory bank came gave self.old
-            → IfOk result (λ judged. IsTrue judged → (more : List Record) × IsBankSettled shape memory bank (came ++ item.now ∷ []) more self.new) }
-        ensures unchanged { IfOk result (λ judged. ¬ IsTrue judged → self.new ≡ self.old) }
-        ensures early { (put : List Record) (gave : List Record) → HasOrdered self.old.order put gave → first_with (length gave) put ≡ None
-            → IfOk result (λ judged. ¬ IsTrue judged → ¬ (item.now.number ≡ length gave)) }
+    /// Keeps a record that came before its turn, or again. It is apart from `take`, since it has a place
+    /// for a record, which costs time where none is kept.
+    #[inline(never)]
+    fn keep(&mut self, item: &Record) -> Result<(), NoMemory>
+        requires { item.now.bank ≡ self.old.order.bank }
+        ensures rest { self.new ≡ record self.old { order = self.new.order } }
+        ensures bank { self.new.order.bank ≡ self.old.order.bank }
+        ensures put { (put : List Record) (gave : List Record) → HasOrdered self.old.order put gave
+            → OnOk result (HasOrdered self.new.order (put ++ item.now ∷ []) gave) }
     {
-        if !self.order.pass(item) {
-            return Ok(false);
-        }
-        self.judge(item)?;
-        self.settle()?;
-        Ok(true)
+        let copy = record_of(item)?;
+        self.order.put(copy)
     }
 
-    /// Takes a record of the bank, and judges those whose turn has come.
-    pub fn take(&mut self, item: Record) -> Result<(), NoMemory>
-        requires { (shape : Shape) × ((memory : FlatMemory) × ((bank : ℕ) × ((came : List Record) × ((gave : List Record) ×
-            (Fits shape item × ((item.bank ≡ bank) × IsBankSettled shape memory bank came gave self.old)))))) }
-        ensures { (shape : Shape) (memory : FlatMemory) (bank : ℕ) (came : List Record) (gave : List Record) → Fits shape item → item.bank ≡ bank
-            → IsBankSettled shape memory bank came gave self.old
-            → OnOk result ((more : List Record) × IsBankSettled shape memory bank (came ++ item ∷ []) more self.new) }
-    {
-        if self.offer(&item)? {
-            return Ok(());
-        }
-        self.order.put(item)
-    }
-
-    /// The same of a record that stays with the caller: it is copied where its turn has not come.
-    fn take_lent(&mut self, item: &Record) -> Result<(), NoMemory>
+    /// Takes a record of the bank, and judges those whose turn has come. One that came before its turn
+    /// is copied.
+    pub fn take(&mut self, item: &Record) -> Result<(), NoMemory>
         requires { (shape : Shape) × ((memory : FlatMemory) × ((bank : ℕ) × ((came : List Record) × ((gave : List Record) ×
             (Fits shape item.now × ((item.now.bank ≡ bank) × IsBankSettled shape memory bank came gave self.old)))))) }
         ensures { (shape : Shape) (memory : FlatMemory) (bank : ℕ) (came : List Record) (gave : List Record) → Fits shape item.now → item.now.bank ≡ bank
             → IsBankSettled shape memory bank came gave self.old
             → OnOk result ((more : List Record) × IsBankSettled shape memory bank (came ++ item.now ∷ []) more self.new) }
     {
-        if self.offer(item)? {
-            return Ok(());
+        if !self.order.pass(item) {
+            return self.keep(item);
         }
-        let copy = record_of(item)?;
-        self.order.put(copy)
+        self.judge(item)?;
+        self.settle()
     }
 
     /// Judges those of the records that are of this bank, in their order.
@@ -159,7 +140,7 @@ impl BankJudge {
     {
         for item in records {
             if usize::from(item.bank) == bank {
-                self.take_lent(item)?;
+                self.take(item)?;
             }
         }
         Ok(())

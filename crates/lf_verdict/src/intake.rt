@@ -125,34 +125,24 @@ fn judge_records(reader: &mut Reader, pending: &mut Pending) -> Result<(), NoMem
     read_so_far();
     pending.judge()?;
     while let Some(item) = reader.front() {
-        let is_judged = pending.standing.offer(item)?;
-        if is_judged {
-            reader.drop_front();
-        } else if let Some(item) = reader.take() {
-            pending.standing.keep(item)?;
-        }
+        pending.standing.take(item)?;
+        reader.drop_front();
     }
     Ok(())
 }
 
 /// Judges the record in the place, where there is one.
-fn judge_one(pending: &mut Pending, place: &mut Option<Record>) -> Result<(), NoMemory>
+fn judge_one(pending: &mut Pending, place: &Option<Record>) -> Result<(), NoMemory>
     requires { (shape : Shape) × ((memory : FlatMemory) × ((records : List Record) ×
-        (IsPendingAfter shape memory records pending.old × MayAllCome shape records (option_to_list place.old)))) }
+        (IsPendingAfter shape memory records pending.old × MayAllCome shape records (option_to_list place.now)))) }
     ensures { (shape : Shape) (memory : FlatMemory) (records : List Record) → IsPendingAfter shape memory records pending.old
-        → MayAllCome shape records (option_to_list place.old)
-        → OnOk result (StandsAfterAll shape memory (records ++ option_to_list place.old) pending.new.standing × (pending.new.records.items ≡ [])) }
+        → MayAllCome shape records (option_to_list place.now)
+        → OnOk result (StandsAfterAll shape memory (records ++ option_to_list place.now) pending.new.standing × (pending.new.records.items ≡ [])) }
 {
     pending.judge()?;
-    let Some(item) = place.as_ref() else {
-        return Ok(());
-    };
-    if pending.standing.offer(item)? {
-        return Ok(());
-    }
-    match place.take() {
-        Some(item) => pending.standing.keep(item),
-        None => unreachable!(),
+    match place {
+        Some(item) => pending.standing.take(item),
+        None => Ok(()),
     }
 }
 
@@ -160,12 +150,12 @@ fn judge_one(pending: &mut Pending, place: &mut Option<Record>) -> Result<(), No
 fn judge_placed(
     reader: &mut Reader,
     pending: &mut Pending,
-    place: &mut Option<Record>,
+    place: &Option<Record>,
 ) -> Result<(), NoMemory>
     requires { (shape : Shape) × ((bytes : List ℕ) × ((memory : List (ℕ × Bytes)) × ((records : List Record) ×
-        (HasRead (with_record place.old reader.old) bytes memory records × IsRunning shape bytes memory records pending.old)))) }
+        (HasRead (with_record place.now reader.old) bytes memory records × IsRunning shape bytes memory records pending.old)))) }
     ensures judged { (shape : Shape) (bytes : List ℕ) (memory : List (ℕ × Bytes)) (records : List Record)
-        → HasRead (with_record place.old reader.old) bytes memory records → IsRunning shape bytes memory records pending.old
+        → HasRead (with_record place.now reader.old) bytes memory records → IsRunning shape bytes memory records pending.old
         → OnOk result ((more : List Record) × (HasRead reader.new bytes memory more × IsRunning shape bytes memory more pending.new)) }
     ensures fault { reader.new.fault ≡ reader.old.fault }
     ensures drained { OnOk result (reader.new.records ≡ []) }
@@ -266,12 +256,12 @@ impl Intake {
     }
 
     /// Judges the record in the place, while the records are judged.
-    fn judge_with(&mut self, place: &mut Option<Record>) -> Result<(), NoMemory>
-        requires taken { (bytes : List ℕ) × HasTaken (record self.old { reader = with_record place.old self.old.reader }) bytes }
+    fn judge_with(&mut self, place: &Option<Record>) -> Result<(), NoMemory>
+        requires taken { (bytes : List ℕ) × HasTaken (record self.old { reader = with_record place.now self.old.reader }) bytes }
         requires running { IsRunningNow self.old.judging }
         ensures shape { self.new.shape ≡ self.old.shape }
         ensures stop { self.new.stop ≡ self.old.stop }
-        ensures taken { (bytes : List ℕ) → HasTaken (record self.old { reader = with_record place.old self.old.reader }) bytes
+        ensures taken { (bytes : List ℕ) → HasTaken (record self.old { reader = with_record place.now self.old.reader }) bytes
             → OnOk result (HasTaken self.new bytes) }
         ensures drained { OnOk result (IsDrained self.new.judging self.new.reader self.new.memory.items) }
     {

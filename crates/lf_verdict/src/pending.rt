@@ -141,7 +141,7 @@ impl Pending {
         ensures { JudgesAll self.old result self.new }
     {
         while let Some(item) = self.records.pop_front() {
-            self.standing.take(item)?;
+            self.standing.take(&item)?;
         }
         Ok(())
     }

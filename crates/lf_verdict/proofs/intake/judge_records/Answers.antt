@@ -3,74 +3,20 @@ use Rattle.lf_rules.specs.declared.event.Record.{Record}
 use Rattle.lf_rules.specs.Address.{flat_memory}
 use Rattle.lf_codec.specs.Reading.{Reading}
 use Rattle.lf_codec.specs.Reader.{HasRead}
-use Rattle.lf_verdict.specs.Standing.{IsEntered, MayCome}
 use Rattle.lf_verdict.proofs.Feeding.{front_of}
 use Rattle.lf_verdict.proofs.Pendings.{pending_done}
-use Rattle.lf_verdict.proofs.Sessions.{may_come, running_more, same_front}
+use Rattle.lf_verdict.proofs.Sessions.{may_come, running_more}
 use Rattle.lf_verdict.proofs.intake.judge_records.Goals as goal
 
-pub offer-requires : goal.offer-requires
-offer-requires c =
+pub take-requires : goal.take-requires
+take-requires c =
     let r = c.requires in
     let m = c.loop-item.invariant.read r.0 r.1.0 r.1.1.0 r.1.1.1.0 r.1.1.1.1.0 r.1.1.1.1.1 in
     let rest = drop 1 c.loop-item.reader.records in
     (r.0, (flat_memory r.1.1.0, (m.0, (may_come c.read_so_far.ensures r.0 r.1.0 r.1.1.0 m.0 c.loop-item.reader c.loop-item.pending c.in-Some.item.now rest m.1.0 m.1.1 c.in-Some.ensures, pending_done r.0 (flat_memory r.1.1.0) m.0 c.loop-item.pending m.1.1.stands c.loop-item.invariant.none))))
 
-pub keep-requires : goal.keep-requires
-keep-requires c =
-    let r = c.requires in
-    let m = c.loop-item.invariant.read r.0 r.1.0 r.1.1.0 r.1.1.1.0 r.1.1.1.1.0 r.1.1.1.1.1 in
-    let there = c.loop-item.reader.records in
-    let front = c.in-Some.item.now in
-    let taken = c.in-Some-take.item in
-    let may = may_come c.read_so_far.ensures r.0 r.1.0 r.1.1.0 m.0 c.loop-item.reader c.loop-item.pending front (drop 1 there) m.1.0 m.1.1 c.in-Some.ensures in
-    let same = same_front there (drop 1 there) c.take.new.self.records front taken c.in-Some.ensures c.in-Some-take.ensures.first in
-    let stands = pending_done r.0 (flat_memory r.1.1.0) m.0 c.loop-item.pending m.1.1.stands c.loop-item.invariant.none in
-    let entered = c.in_ok-is_judged.ensures.entered r.0 (flat_memory r.1.1.0) m.0 may stands (λ e. cc) in (
-      r.0,
-      (
-        flat_memory r.1.1.0,
-        (
-          m.0,
-          (
-            c.loop-item.pending.standing,
-            (
-              subst (MayCome r.0 m.0) same may,
-              (stands, subst (λ (item : Record). IsEntered r.0 m.0 item c.loop-item.pending.standing c.offer.new.self) same entered),
-            ),
-          ),
-        ),
-      ),
-    )
-
 pub loop-item-preserved : goal.loop-item-preserved
-loop-item-preserved c = let none = c.in_default-take.ensures.none in let some = c.in-Some.ensures in absurd (cc)
-
-pub loop-item-preserved-in-Continue-branch-3 : goal.loop-item-preserved-in-Continue-branch-3
-loop-item-preserved-in-Continue-branch-3 c = record {
-  fault = ap (λ (q : Reading). q.fault) c.take.ensures.rest ∙ c.loop-item.invariant.fault;
-  none = c.loop-item.invariant.none;
-  read = λ shape bytes memory records read run.
-      let m = c.loop-item.invariant.read shape bytes memory records read run in
-      let there = c.loop-item.reader.records in
-      let front = c.in-Some.item.now in
-      let taken = c.in-Some-take.item in
-      let may = may_come c.read_so_far.ensures shape bytes memory m.0 c.loop-item.reader c.loop-item.pending front (drop 1 there) m.1.0 m.1.1 c.in-Some.ensures in
-      let same = same_front there (drop 1 there) c.take.new.self.records front taken c.in-Some.ensures c.in-Some-take.ensures.first in
-      let stands = pending_done shape (flat_memory memory) m.0 c.loop-item.pending m.1.1.stands c.loop-item.invariant.none in
-      let entered = c.in_ok-is_judged.ensures.entered shape (flat_memory memory) m.0 may stands (λ e. cc) in (
-        m.0 ++ taken ∷ [],
-        (
-          c.in-Some-take.ensures.taken bytes memory m.0 m.1.0,
-          running_more shape bytes memory m.0 (m.0 ++ taken ∷ []) c.loop-item.pending (record { standing = c.keep.new.self; records = c.loop-item.pending.records }) m.1.1 c.loop-item.invariant.none
-              (c.in_ok-keep.ensures shape (flat_memory memory) m.0 c.loop-item.pending.standing (subst (MayCome shape m.0) same may) stands
-              (subst (λ (item : Record). IsEntered shape m.0 item c.loop-item.pending.standing c.offer.new.self) same entered)),
-        ),
-      );
-}
-
-pub loop-item-preserved-then-is_judged : goal.loop-item-preserved-then-is_judged
-loop-item-preserved-then-is_judged c = record {
+loop-item-preserved c = record {
   fault = ap (λ (q : Reading). q.fault) c.drop_front.ensures.rest ∙ c.loop-item.invariant.fault;
   none = c.loop-item.invariant.none;
   read = λ shape bytes memory records read run.
@@ -81,8 +27,8 @@ loop-item-preserved-then-is_judged c = record {
         m.0 ++ front ∷ [],
         (
           subst (λ (rs : List Record). HasRead c.drop_front.new.self bytes memory (m.0 ++ rs)) (front_of there (drop 1 there) front c.in-Some.ensures) (c.drop_front.ensures.taken bytes memory m.0 m.1.0),
-          running_more shape bytes memory m.0 (m.0 ++ front ∷ []) c.loop-item.pending (record { standing = c.offer.new.self; records = c.loop-item.pending.records }) m.1.1 c.loop-item.invariant.none
-              (c.in_ok-is_judged.ensures.judged shape (flat_memory memory) m.0 may (pending_done shape (flat_memory memory) m.0 c.loop-item.pending m.1.1.stands c.loop-item.invariant.none) c.if-is_judged.true),
+          running_more shape bytes memory m.0 (m.0 ++ front ∷ []) c.loop-item.pending (record { standing = c.take.new.self; records = c.loop-item.pending.records }) m.1.1 c.loop-item.invariant.none
+              (c.in_ok-take.ensures shape (flat_memory memory) m.0 may (pending_done shape (flat_memory memory) m.0 c.loop-item.pending m.1.1.stands c.loop-item.invariant.none)),
         ),
       );
 }

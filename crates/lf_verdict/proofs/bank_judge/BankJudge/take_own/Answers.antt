@@ -6,14 +6,14 @@ use Rattle.lf_rules.specs.Run.{of_bank}
 use Rattle.lf_verdict.specs.Standing.{IsBankSettled}
 use Rattle.lf_verdict.proofs.Pendings.{all_at, own_more, other_more}
 use Rattle.lf_verdict.proofs.bank_judge.BankJudge.take_own.Goals as goal
-use Rattle.lf_verdict.proofs.bank_judge.BankJudge.take_own.Goals.{then-from-bank+in_ok-take_lent, else-from-bank}
+use Rattle.lf_verdict.proofs.bank_judge.BankJudge.take_own.Goals.{then-from-bank+in_ok-take, else-from-bank}
 
 pub loop-item-init : goal.loop-item-init
 loop-item-init c shape memory came gave fits settled =
     (gave, subst (λ (rs : List Record). IsBankSettled shape memory c.args.bank rs gave c.args.self.now) (sym (append-nil came)) settled)
 
-pub take_lent-requires : goal.take_lent-requires
-take_lent-requires c =
+pub take-requires : goal.take-requires
+take-requires c =
     let r = c.requires in
     let rs = c.args.records.now in
     let k = c.loop-item.item-index in
@@ -41,10 +41,10 @@ loop-item-preserved c shape memory came gave fits settled =
     let there = c.loop-item-test.true in
     let is = c.item-item.is in
     elim c.if-from-bank.branch [
-      | then-from-bank+in_ok-take_lent w ↦
+      | then-from-bank+in_ok-take w ↦
           let named : item.bank ≡ bank = sym c.from.ensures ∙ w.if-from-bank.true in
-          let after = w.in_ok-take_lent.ensures shape memory bank (came ++ of_bank bank (take k rs)) now.0 (all_at (Fits shape) rs k item fits there is) named now.1 in
-          rw w.self-is (after.0, subst (λ (xs : List Record). IsBankSettled shape memory bank xs after.0 w.take_lent.new.self) (own_more bank came rs k item there is named) after.1)
+          let after = w.in_ok-take.ensures shape memory bank (came ++ of_bank bank (take k rs)) now.0 (all_at (Fits shape) rs k item fits there is) named now.1 in
+          rw w.self-is (after.0, subst (λ (xs : List Record). IsBankSettled shape memory bank xs after.0 w.take.new.self) (own_more bank came rs k item there is named) after.1)
       | else-from-bank w ↦
           rw w.self-is (now.0, subst (λ (xs : List Record). IsBankSettled shape memory bank xs now.0 c.loop-item.self) (other_more bank came rs k item there is (λ e. w.if-from-bank.false (c.from.ensures ∙ e))) now.1)
     ]
