@@ -6,7 +6,6 @@ use Rattle.std.proofs.lemmas.Bool.Decides.{nat_tests}
 use Rattle.std.proofs.lemmas.Bool.{cases_eq, cases_Bool, cases_order, cond-true, cond-false, eq-eqb, ne_eqb, lt-ltb, le-ltb}
 use Rattle.std.proofs.lemmas.List.{length-append}
 use Rattle.std.specs.BTreeMap.{is_at}
-use Rattle.std.specs.Map.{lookup}
 use Rattle.std.specs.Ordering.{nat_cmp}
 use Rattle.lf_rules.specs.declared.event.Record.{Record}
 use Rattle.lf_rules.specs.Numbers.{numbers_of, times, IsMissing, IsDouble, IsWhole, IsFineBelow}
@@ -261,12 +260,6 @@ module _ (o : Reordering) (put gave : List Record) (has : HasOrdered o put gave)
       slice_get-front (y ∷ xs) x (suc k) h = slice_get-front xs x k (omega arith)
 
   -- and none does where none is there
-  pub none_waits : o.ready ≡ None → o.early ≡ [] → first_with (length gave) put ≡ None
-  none_waits ready early =
-      sym (has.waits (length gave) (omega arith)) ∙ ap (waiting_at o) (sym has.next)
-      ∙ cond-true (eqb o.next o.next) (ready_or o.ready (early_at o o.next)) (early_at o o.next) (eq-eqb o.next o.next refl)
-      ∙ ap (λ (r : Option Record). ready_or r (early_at o o.next)) ready ∙ ap (λ (e : List (ℕ × Record)). lookup (is_at (nat_cmp o.next)) e) early
-
   pub none_next : waiting_at o o.next ≡ None → first_with (length gave) put ≡ None
   none_next none = sym (has.waits (length gave) (omega arith)) ∙ ap (waiting_at o) (sym has.next) ∙ none
 

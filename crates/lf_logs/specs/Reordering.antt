@@ -25,6 +25,10 @@ pub record Reordering : Type 0 where
   -- the least number that came more than once
   pub double : Option ℕ
 
+-- the record, where one was given
+abbrev pub if_given : Bool → Record → Option Record
+if_given given item = if given then Some item else None
+
 abbrev pub early_at : Reordering → ℕ → Option Record
 early_at o number = lookup (is_at (nat_cmp number)) o.early
 

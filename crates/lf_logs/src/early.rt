@@ -7,6 +7,7 @@ ghost use Rattle.std.specs.BTreeMap.{is_at};
 ghost use Rattle.std.specs.Ordering.{nat_cmp};
 ghost use Rattle.lf_rules.specs.declared.event.Record.{Record};
 ghost use Rattle.lf_logs.specs.EarlyTable.{IsTable};
+ghost use Rattle.lf_logs.specs.Reordering.{if_given};
 
 use crate::kept::Kept;
 use lf_rules::{NoMemory, Record};
@@ -135,12 +136,12 @@ impl Early {
         key_of(&self.places, &self.kept, number).is_some() || self.rest.contains_key(&number)
     }
 
-    /// Adds a record whose number no other has. `NoMemory` where a growth was refused.
-    pub fn insert(&mut self, item: Record) -> Result<(), NoMemory>
-        requires { lookup (is_at (nat_cmp item.number)) self.old ≡ None }
+    /// Adds a copy of a record whose number no other has. `NoMemory` where a growth was refused.
+    pub fn insert(&mut self, item: &Record) -> Result<(), NoMemory>
+        requires { lookup (is_at (nat_cmp item.now.number)) self.old ≡ None }
         ensures unchanged { OnErr result (self.new ≡ self.old) }
-        ensures own { OnOk result (lookup (is_at (nat_cmp item.number)) self.new ≡ Some item) }
-        ensures others { OnOk result ((k : ℕ) → ¬ (k ≡ item.number) → lookup (is_at (nat_cmp k)) self.new ≡ lookup (is_at (nat_cmp k)) self.old) }
+        ensures own { OnOk result (lookup (is_at (nat_cmp item.now.number)) self.new ≡ Some item.now) }
+        ensures others { OnOk result ((k : ℕ) → ¬ (k ≡ item.now.number) → lookup (is_at (nat_cmp k)) self.new ≡ lookup (is_at (nat_cmp k)) self.old) }
     {
         let number = item.number;
         make_room(self.alloc, &mut self.places, &self.kept, number)?;
@@ -155,18 +156,23 @@ impl Early {
         Ok(())
     }
 
-    /// Takes out the record of this number.
-    pub fn take(&mut self, number: u32) -> Option<Record>
-        ensures value { result ≡ lookup (is_at (nat_cmp number)) self.old }
-        ensures unchanged { IfNone result (self.new ≡ self.old) }
+    /// Takes out the record of this number and puts it into `item`. It says whether there is one.
+    pub fn take_into(&mut self, number: u32, item: &mut Record) -> bool
+        ensures value { if_given result item.new ≡ lookup (is_at (nat_cmp number)) self.old }
+        ensures unchanged { ¬ IsTrue result → (self.new ≡ self.old) × (item.new ≡ item.old) }
         ensures others { (k : ℕ) → ¬ (k ≡ number) → lookup (is_at (nat_cmp k)) self.new ≡ lookup (is_at (nat_cmp k)) self.old }
-        ensures fewer { IfSome result (λ _. length self.new < length self.old) }
+        ensures fewer { IsTrue result → length self.new < length self.old }
     {
         let Some(key) = key_of(&self.places, &self.kept, number) else {
-            return Some(self.rest.remove(&number)?.into_record());
+            let Some(waiting) = self.rest.remove(&number) else {
+                return false;
+            };
+            waiting.put_into(item);
+            return true;
         };
         let place = number as usize % self.places.len();
         self.places[place] = None;
-        Some(self.kept.remove(key).into_record())
+        self.kept.remove(key).put_into(item);
+        true
     }
 }

@@ -1,6 +1,7 @@
 //! A record that waits for its turn, kept in little room.
 
 ghost use Rattle.std.specs.Prelude.{◌≡◌, ◌<◌, length, IfOk, IfSome, IfNone};
+ghost use Rattle.lf_rules.specs.declared.event.Event.TheVariants as events;
 ghost use Rattle.lf_logs.specs.KeptRecord.{event_of, small_record};
 
 use arrayvec::ArrayVec;
@@ -71,12 +72,34 @@ fn few_of(bytes: &Block) -> Option<FewBytes>
     }
 }
 
-fn block_of(few: &FewBytes) -> Block
-    ensures { result ≡ few.now }
+/// Makes the event an issue, and then gives it the bytes, so that it is not copied.
+fn put_issue(event: &mut Event, op: Op, tag: u8, size: u8, address: u64, few: &FewBytes)
+    ensures { event.new ≡ events.Issue op tag size address few.now }
 {
-    let mut block = Block::new();
-    let _ = block.try_extend_from_slice(few.as_slice());
-    block
+    *event = Event::Issue {
+        op,
+        tag,
+        size,
+        address,
+        bytes: Block::new(),
+    };
+    if let Event::Issue { bytes, .. } = event {
+        let _ = bytes.try_extend_from_slice(few.as_slice());
+    }
+}
+
+/// The same of a reply.
+fn put_reply(event: &mut Event, tag: u8, size: u8, few: &FewBytes)
+    ensures { event.new ≡ events.Reply tag size few.now }
+{
+    *event = Event::Reply {
+        tag,
+        size,
+        bytes: Block::new(),
+    };
+    if let Event::Reply { bytes, .. } = event {
+        let _ = bytes.try_extend_from_slice(few.as_slice());
+    }
 }
 
 impl SmallEvent {
@@ -119,40 +142,40 @@ impl SmallEvent {
         })
     }
 
-    /// The event that this is.
-    fn whole(self) -> Event
-        ensures { result ≡ event_of self }
+    /// Puts the event that this is into `event`, where it lies, since a copy of one costs time.
+    fn put_into(self, event: &mut Event)
+        ensures { event.new ≡ event_of self }
     {
         match self {
-            SmallEvent::Issue(op, tag, size, address, few) => Event::Issue {
-                op,
-                tag,
-                size,
-                address,
-                bytes: block_of(&few),
-            },
-            SmallEvent::Reply(tag, size, few) => Event::Reply {
-                tag,
-                size,
-                bytes: block_of(&few),
-            },
-            SmallEvent::Hit(port, tag) => Event::Hit { port, tag },
-            SmallEvent::Primary(port, tag, register) => Event::Primary {
-                port,
-                tag,
-                register,
-            },
-            SmallEvent::Merge(port, tag, register) => Event::Merge {
-                port,
-                tag,
-                register,
-            },
-            SmallEvent::Stall(port, tag) => Event::Stall { port, tag },
-            SmallEvent::SecondHit(block) => Event::SecondHit { block },
-            SmallEvent::SecondPrimary(block, register) => Event::SecondPrimary { block, register },
-            SmallEvent::SecondStall(block) => Event::SecondStall { block },
-            SmallEvent::Fence => Event::Fence,
-            SmallEvent::SecondMerge(block, register) => Event::SecondMerge { block, register },
+            SmallEvent::Issue(op, tag, size, address, few) => {
+                put_issue(event, op, tag, size, address, &few);
+            }
+            SmallEvent::Reply(tag, size, few) => put_reply(event, tag, size, &few),
+            SmallEvent::Hit(port, tag) => *event = Event::Hit { port, tag },
+            SmallEvent::Primary(port, tag, register) => {
+                *event = Event::Primary {
+                    port,
+                    tag,
+                    register,
+                };
+            }
+            SmallEvent::Merge(port, tag, register) => {
+                *event = Event::Merge {
+                    port,
+                    tag,
+                    register,
+                };
+            }
+            SmallEvent::Stall(port, tag) => *event = Event::Stall { port, tag },
+            SmallEvent::SecondHit(block) => *event = Event::SecondHit { block },
+            SmallEvent::SecondPrimary(block, register) => {
+                *event = Event::SecondPrimary { block, register };
+            }
+            SmallEvent::SecondStall(block) => *event = Event::SecondStall { block },
+            SmallEvent::Fence => *event = Event::Fence,
+            SmallEvent::SecondMerge(block, register) => {
+                *event = Event::SecondMerge { block, register };
+            }
         }
     }
 }
@@ -170,31 +193,29 @@ impl SmallRecord {
         })
     }
 
-    /// The record that this is.
-    fn whole(self) -> Record
-        ensures { result ≡ small_record self }
+    /// Puts the record that this is into `item`.
+    fn put_into(self, item: &mut Record)
+        ensures { item.new ≡ small_record self }
     {
-        Record {
-            log: self.log,
-            bank: self.bank,
-            number: self.number,
-            event: self.event.whole(),
-        }
+        item.log = self.log;
+        item.bank = self.bank;
+        item.number = self.number;
+        self.event.put_into(&mut item.event);
     }
 }
 
 impl Kept {
-    /// Keeps a record. `NoMemory` where room for many bytes was refused.
-    pub fn new(alloc: Global, item: Record) -> Result<Kept, NoMemory>
-        ensures { IfOk result (λ kept. kept ≡ item) }
+    /// Keeps a copy of the record. `NoMemory` where room for many bytes was refused.
+    pub fn new(alloc: Global, item: &Record) -> Result<Kept, NoMemory>
+        ensures { IfOk result (λ kept. kept ≡ item.now) }
     {
-        if let Some(small) = SmallRecord::of(&item) {
+        if let Some(small) = SmallRecord::of(item) {
             return Ok(Kept {
                 form: Form::Small(small),
             });
         }
         Ok(Kept {
-            form: Form::Wide(Box::new(alloc, item)?),
+            form: Form::Wide(Box::new(alloc, item.clone()?)?),
         })
     }
 
@@ -208,13 +229,13 @@ impl Kept {
         }
     }
 
-    /// The record.
-    pub fn into_record(self) -> Record
-        ensures { result ≡ self }
+    /// Puts the record into `item`.
+    pub fn put_into(self, item: &mut Record)
+        ensures { item.new ≡ self }
     {
         match self.form {
-            Form::Small(small) => small.whole(),
-            Form::Wide(wide) => Box::into_inner(wide),
+            Form::Small(small) => small.put_into(item),
+            Form::Wide(wide) => *item = Box::into_inner(wide),
         }
     }
 }

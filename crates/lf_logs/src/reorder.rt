@@ -1,11 +1,11 @@
 //! A bank's records, put into the order of their numbers as they come.
 
 ghost use Rattle.std.specs.Prelude.{◌≡◌, ◌≢◌, ◌<◌, ◌^◌, ◌↔◌, ℕ, IsTrue, List, [], ◌∷◌, ◌++◌, length};
-ghost use Rattle.std.specs.Prelude.{option_to_list, is_some, None, Some, OnOk, OnErr, IfSome, IfNone};
+ghost use Rattle.std.specs.Prelude.{option_to_list, is_some, IsSome, None, Some, OnOk, OnErr, IfSome, IfNone};
 ghost use Rattle.lf_rules.specs.declared.event.Record.{Record};
 ghost use Rattle.lf_rules.specs.Numbers.{numbers_of, times, IsMissing, IsWhole};
 ghost use Rattle.lf_logs.specs.Places.{IsNumberFault};
-ghost use Rattle.lf_logs.specs.Reordering.{first_with, early_at, waiting_at, waiting_count, has_come, least_double, HasOrdered};
+ghost use Rattle.lf_logs.specs.Reordering.{first_with, early_at, if_given, waiting_at, waiting_count, has_come, least_double, HasOrdered};
 
 use crate::early::Early;
 use crate::order::NumberFault;
@@ -38,6 +38,29 @@ impl Model for Reorder {
     ghost view = { λ o. record { bank = o.bank; next = o.next; ready = o.ready; early = o.early; double = o.double } };
 
     ghost invariant = { λ o. IsInTurn o.next o.ready × IsGreatestEarly o.next o.early o.greatest };
+}
+
+/// Keeps a copy of the record that came in its turn. It is apart, since it has a place for a record,
+/// which costs time where none came so.
+#[inline(never)]
+fn keep_ready(ready: &mut Option<Record>, item: &Record) -> Result<(), NoMemory>
+    ensures unchanged { OnErr result (ready.new ≡ ready.old) }
+    ensures kept { OnOk result (ready.new ≡ Some item.now) }
+{
+    *ready = Some(item.clone()?);
+    Ok(())
+}
+
+/// Puts the record that came in its turn into `item`. It is apart as `keep_ready` is.
+#[inline(never)]
+fn take_ready(ready: &mut Option<Record>, item: &mut Record)
+    requires { IsSome ready.old }
+    ensures given { Some item.new ≡ ready.old }
+    ensures nothing { ready.new ≡ None }
+{
+    if let Some(taken) = ready.take() {
+        *item = taken;
+    }
 }
 
 impl Reorder {
@@ -108,13 +131,24 @@ impl Reorder {
         ensures put { (put : List Record) (gave : List Record) → HasOrdered self.old put gave
             → OnOk result (HasOrdered self.new (put ++ item ∷ []) gave) }
     {
+        self.put_lent(&item)
+    }
+
+    /// The same of a record that stays with the caller: it is copied.
+    pub fn put_lent(&mut self, item: &Record) -> Result<(), NoMemory>
+        requires { item.now.bank ≡ self.old.bank }
+        ensures bank { self.new.bank ≡ self.old.bank }
+        ensures unchanged { OnErr result (self.new ≡ self.old) }
+        ensures put { (put : List Record) (gave : List Record) → HasOrdered self.old put gave
+            → OnOk result (HasOrdered self.new (put ++ item.now ∷ []) gave) }
+    {
         let number = item.number;
         if self.has_come(number) {
             self.note_double(number);
             return Ok(());
         }
         if u64::from(number) == self.next {
-            self.ready = Some(item);
+            keep_ready(&mut self.ready, item)?;
             return Ok(());
         }
         self.early.insert(item)?;
@@ -122,51 +156,56 @@ impl Reorder {
         Ok(())
     }
 
-    /// Takes the record whose turn it is from those that came early.
-    fn take_early(&mut self) -> Option<Record>
-        ensures found { self.old.next < 2 ^ 32 → result ≡ early_at self.old self.old.next }
-        ensures none { IfNone result (self.new ≡ self.old) }
-        ensures some { IfSome result (λ _. self.old.next < 2 ^ 32) }
+    /// Puts the record whose turn it is into `item`, where it came early. It says whether that is so.
+    fn take_early(&mut self, item: &mut Record) -> bool
+        ensures found { self.old.next < 2 ^ 32 → if_given result item.new ≡ early_at self.old self.old.next }
+        ensures none { ¬ IsTrue result → (self.new ≡ self.old) × (item.new ≡ item.old) }
+        ensures some { IsTrue result → self.old.next < 2 ^ 32 }
         ensures rest { self.new ≡ record self.old { early = self.new.early } }
         ensures others { (k : ℕ) → ¬ (k ≡ self.old.next) → early_at self.new k ≡ early_at self.old k }
-        ensures fewer { IfSome result (λ _. length self.new.early < length self.old.early) }
+        ensures fewer { IsTrue result → length self.new.early < length self.old.early }
     {
         if self.next > u64::from(u32::MAX) {
-            return None;
+            return false;
         }
-        self.early.take(self.next as u32)
+        self.early.take_into(self.next as u32, item)
     }
 
-    /// Takes the record whose turn it is.
-    fn take_next(&mut self) -> Option<Record>
-        ensures found { self.old.next < 2 ^ 32 → result ≡ waiting_at self.old self.old.next }
-        ensures none { IfNone result (self.new ≡ self.old) }
-        ensures some { IfSome result (λ _. self.old.next < 2 ^ 32) }
-        ensures rest { IfSome result (λ _. self.new ≡ record self.old { ready = None; early = self.new.early }) }
+    /// Puts the record whose turn it is into `item`, where it is there. It says whether that is so.
+    fn take_next(&mut self, item: &mut Record) -> bool
+        ensures found { self.old.next < 2 ^ 32 → if_given result item.new ≡ waiting_at self.old self.old.next }
+        ensures none { ¬ IsTrue result → (self.new ≡ self.old) × (item.new ≡ item.old) }
+        ensures some { IsTrue result → self.old.next < 2 ^ 32 }
+        ensures rest { IsTrue result → self.new ≡ record self.old { ready = None; early = self.new.early } }
         ensures others { (k : ℕ) → ¬ (k ≡ self.old.next) → early_at self.new k ≡ early_at self.old k }
-        ensures fewer { IfSome result (λ _. waiting_count self.new < waiting_count self.old) }
+        ensures fewer { IsTrue result → waiting_count self.new < waiting_count self.old }
     {
-        match self.ready.take() {
-            Some(item) => Some(item),
-            None => self.take_early(),
+        if self.ready.is_none() {
+            return self.take_early(item);
         }
+        take_ready(&mut self.ready, item);
+        true
     }
 
-    /// The record with the bank's next number, as soon as it is there. It takes no memory.
-    pub fn next(&mut self) -> Option<Record>
+    /// Puts the record with the bank's next number into `item`, as soon as it is there. It says whether
+    /// that is so; otherwise nothing has changed. It takes no memory.
+    pub fn next_into(&mut self, item: &mut Record) -> bool
         ensures bank { self.new.bank ≡ self.old.bank }
         ensures gives { (put : List Record) (gave : List Record) → HasOrdered self.old put gave
-            → HasOrdered self.new put (gave ++ option_to_list result) }
+            → HasOrdered self.new put (gave ++ option_to_list (if_given result item.new)) }
         ensures there { (put : List Record) (gave : List Record) → HasOrdered self.old put gave
-            → result ≡ first_with (length gave) put }
-        ensures fewer { IfSome result (λ _. waiting_count self.new < waiting_count self.old) }
+            → if_given result item.new ≡ first_with (length gave) put }
+        ensures unchanged { ¬ IsTrue result → (self.new ≡ self.old) × (item.new ≡ item.old) }
+        ensures fewer { IsTrue result → waiting_count self.new < waiting_count self.old }
     {
-        let item = self.take_next()?;
+        if !self.take_next(item) {
+            return false;
+        }
         self.next += 1;
-        Some(item)
+        true
     }
 
-    /// Whether no record waits for its turn, so that `next` has none to give. It takes no memory.
+    /// Whether no record waits for its turn, so that `next_into` has none to give. It takes no memory.
     pub fn is_empty(&self) -> bool
         ensures count { IsTrue result ↔ (waiting_count self.now ≡ 0) }
         ensures none { IsTrue result → (put : List Record) (gave : List Record) → HasOrdered self.now put gave

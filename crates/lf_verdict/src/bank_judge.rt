@@ -15,7 +15,7 @@ ghost use Rattle.lf_verdict.specs.Standing.{IsBankAt, IsBankJudged, IsBankSettle
 
 use lf_logs::Reorder;
 use lf_replay::{BankFault, Step};
-use lf_rules::{Memory, NoMemory, Outcome, Record, Shape};
+use lf_rules::{Event, Memory, NO_BANK, NoMemory, Outcome, Record, Shape};
 use std::alloc::Global;
 
 /// A bank, the records that came before their turn, and the first that broke a rule.
@@ -95,7 +95,13 @@ impl BankJudge {
         ensures { (shape : Shape) (memory : FlatMemory) (bank : ℕ) (came : List Record) (gave : List Record) → IsBankJudged shape memory bank came gave self.old
             → OnOk result ((more : List Record) × IsBankSettled shape memory bank came more self.new) }
     {
-        while let Some(item) = self.order.next() {
+        let mut item = Record {
+            log: 0,
+            bank: NO_BANK,
+            number: 0,
+            event: Event::Fence,
+        };
+        while self.order.next_into(&mut item) {
             self.judge(&item)?;
         }
         Ok(())

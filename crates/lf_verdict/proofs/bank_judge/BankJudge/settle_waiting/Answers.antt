@@ -7,20 +7,20 @@ pub judge-requires : goal.judge-requires
 judge-requires c =
     let r = c.requires in
     let m = c.loop-item.invariant r.0 r.1.0 r.1.1.0 r.1.1.1.0 r.1.1.1.1.0 r.1.1.1.1.1 in
-    turn_fits r.0 r.1.0 r.1.1.0 r.1.1.1.0 m.0 c.loop-item.self m.1 c.in-Some.item (c.in-Some.ensures.there r.1.1.1.0 m.0 m.1.ordered)
+    turn_fits r.0 r.1.0 r.1.1.0 r.1.1.1.0 m.0 c.loop-item.self m.1 c.next_into.new.item (c.loop-item-test.ensures.there r.1.1.1.0 m.0 m.1.ordered)
 
 pub loop-item-preserved : goal.loop-item-preserved
 loop-item-preserved c shape memory bank came gave judged =
     let m = c.loop-item.invariant shape memory bank came gave judged in
-    let item = c.in-Some.item in (
+    let item = c.next_into.new.item in (
       m.0 ++ item ∷ [],
-      judged_more shape memory bank came m.0 c.loop-item.self m.1 item c.judge.new.self (c.in-Some.ensures.there came m.0 m.1.ordered)
-          (subst (λ (o : Reordering). HasOrdered o came (m.0 ++ item ∷ [])) (sym c.in_ok-judge.ensures.order) (c.in-Some.ensures.gives came m.0 m.1.ordered))
-          (ap (λ (o : Reordering). o.bank) c.in_ok-judge.ensures.order ∙ c.in-Some.ensures.bank)
+      judged_more shape memory bank came m.0 c.loop-item.self m.1 item c.judge.new.self (c.loop-item-test.ensures.there came m.0 m.1.ordered)
+          (subst (λ (o : Reordering). HasOrdered o came (m.0 ++ item ∷ [])) (sym c.in_ok-judge.ensures.order) (c.loop-item-test.ensures.gives came m.0 m.1.ordered))
+          (ap (λ (o : Reordering). o.bank) c.in_ok-judge.ensures.order ∙ c.loop-item-test.ensures.bank)
           c.in_ok-judge.ensures.bank c.in_ok-judge.ensures.shape (λ number at. c.in_ok-judge.ensures.judged shape memory bank m.0 number at),
     )
 
 pub returns : goal.returns
 returns c shape memory bank came gave judged =
     let m = c.loop-item.invariant shape memory bank came gave judged in
-    (m.0, judged_all shape memory bank came m.0 c.loop-item.self m.1 c.next.new.self (c.in_default.ensures.there came m.0 m.1.ordered) (c.in_default.ensures.gives came m.0 m.1.ordered) c.in_default.ensures.bank)
+    (m.0, judged_all shape memory bank came m.0 c.loop-item.self m.1 c.next_into.new.self (c.loop-item-test.ensures.there came m.0 m.1.ordered) (c.loop-item-test.ensures.gives came m.0 m.1.ordered) c.loop-item-test.ensures.bank)

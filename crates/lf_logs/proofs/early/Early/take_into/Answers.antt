@@ -1,25 +1,21 @@
 use Rattle.std.proofs.Common.{◌≡◌, ◌+◌, ◌%◌, ℕ, List, length, get_or, Option, Some, None, ◌∙◌, sym, ap, subst, refl, arith}
 use Rattle.std.proofs.lemmas.List.{length-append}
-use Rattle.std.specs.ControlFlow.{continue_value}
 use Rattle.lf_logs.proofs.EarlyLookups.{at, not_kept, lookup-first, lookup-rest, lookup-parts, lookup-found, IsTable-remove, others-remove, length-numbered}
 use Rattle.lf_logs.specs.EarlyTable.{numbered}
 use Rattle.lf_logs.proofs.Reordered.{apart_at}
-use Rattle.lf_logs.proofs.early.Early.take.Goals as goal
+use Rattle.lf_logs.proofs.early.Early.take_into.Goals as goal
+
+pub returns-in_default-remove-clause-value : goal.returns-in_default-remove-clause-value
+returns-in_default-remove-clause-value c =
+    let e = c.self.inside in
+    c.in_default-remove.ensures.value
+    ∙ sym (ap (at c.args.number) (sym c.self.view_is) ∙ lookup-rest c.args.number e.kept.slots e.rest.entries (not_kept c.args.number e.kept.slots c.in_default.ensures.none))
 
 pub returns-in_default-clause-value : goal.returns-in_default-clause-value
 returns-in_default-clause-value c =
     let e = c.self.inside in
-    ap Some c.into_record.ensures
-    ∙ sym (c.branch-remove.ensures ∙ ap continue_value c.in_ok-remove.is)
-    ∙ c.remove.ensures.value
-    ∙ sym (ap (at c.args.number) (sym c.self.view_is) ∙ lookup-rest c.args.number e.kept.slots e.rest.entries (not_kept c.args.number e.kept.slots c.in_default.ensures.none))
-
-pub returns-in_err-remove-clause-value : goal.returns-in_err-remove-clause-value
-returns-in_err-remove-clause-value c =
-    let e = c.self.inside in
-    c.from_residual.ensures
-    ∙ sym (c.branch-remove.ensures ∙ ap continue_value c.in_err-remove.is)
-    ∙ c.remove.ensures.value
+    ap Some c.put_into.ensures
+    ∙ c.in-Some-remove.ensures.value
     ∙ sym (ap (at c.args.number) (sym c.self.view_is) ∙ lookup-rest c.args.number e.kept.slots e.rest.entries (not_kept c.args.number e.kept.slots c.in_default.ensures.none))
 
 pub returns-in_default-clause-others : goal.returns-in_default-clause-others
@@ -39,7 +35,7 @@ invariant_of-self-2 c =
 pub returns-clause-value : goal.returns-clause-value
 returns-clause-value c =
     let e = c.self.inside in
-    ap Some c.into_record-2.ensures
+    ap Some c.put_into-2.ensures
     ∙ sym c.remove-2.ensures.value
     ∙ c.in-Some.ensures.number.1.0
     ∙ sym (lookup-first c.args.number e.kept.slots e.rest.entries c.in-Some.ensures.number.0
@@ -57,7 +53,7 @@ returns-clause-others c k other =
     ∙ ap (at k) c.self.view_is
 
 pub returns-clause-fewer : goal.returns-clause-fewer
-returns-clause-fewer c =
+returns-clause-fewer c _ =
     let e = c.self.inside in
     let was : length (numbered e.kept.slots) + length e.rest.entries ≡ length c.args.self.now = sym (length-append (numbered e.kept.slots) e.rest.entries) ∙ ap length c.self.view_is in
     omega (arith, length-append (numbered c.remove-2.new.self.slots) e.rest.entries, length-numbered c.remove-2.new.self.slots, length-numbered e.kept.slots, c.remove-2.ensures.len)
