@@ -26,13 +26,6 @@ pub struct BankJudge {
     pub outcome: Outcome,
 }
 
-/// A copy of the record.
-fn record_of(item: &Record) -> Result<Record, NoMemory>
-    ensures { IfOk result (λ copy. copy ≡ item.now) }
-{
-    Ok(item.clone()?)
-}
-
 impl BankJudge {
     pub fn new(
         alloc: Global,
@@ -117,8 +110,7 @@ impl BankJudge {
         ensures put { (put : List Record) (gave : List Record) → HasOrdered self.old.order put gave
             → OnOk result (HasOrdered self.new.order (put ++ item.now ∷ []) gave) }
     {
-        let copy = record_of(item)?;
-        self.order.put(copy)
+        self.order.put_lent(item)
     }
 
     /// Takes a record of the bank, and judges those whose turn has come. One that came before its turn
