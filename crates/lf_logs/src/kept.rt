@@ -204,6 +204,15 @@ impl SmallRecord {
     }
 }
 
+/// A copy of the record elsewhere. It is apart, since it has a place for a record, which costs time
+/// where the event carries few bytes.
+#[inline(never)]
+fn wide_of(alloc: Global, item: &Record) -> Result<Box<Record>, NoMemory>
+    ensures { IfOk result (λ wide. wide.value ≡ item.now) }
+{
+    Ok(Box::new(alloc, item.clone()?)?)
+}
+
 impl Kept {
     /// Keeps a copy of the record. `NoMemory` where room for many bytes was refused.
     pub fn new(alloc: Global, item: &Record) -> Result<Kept, NoMemory>
@@ -215,7 +224,7 @@ impl Kept {
             });
         }
         Ok(Kept {
-            form: Form::Wide(Box::new(alloc, item.clone()?)?),
+            form: Form::Wide(wide_of(alloc, item)?),
         })
     }
 
