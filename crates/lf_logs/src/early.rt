@@ -20,7 +20,7 @@ use std::marker::Model;
 const FIRST_PLACES: usize = 64;
 
 /// A table that has so many places for each record that it keeps grows no more.
-const PLACES_OF_A_RECORD: usize = 4;
+const PLACES_OF_A_RECORD: usize = 16;
 
 /// The records that came before their turn, by number. A table has the key under which a record is
 /// kept, at the place that is the record's number modulo the count of places. A record whose place

@@ -9,7 +9,7 @@ ghost use Rattle.lf_logs.specs.Reordering.{first_with, early_at, if_given, waiti
 
 use crate::early::Early;
 use crate::order::NumberFault;
-use lf_rules::{NoMemory, Record};
+use lf_rules::{Event, NO_BANK, NoMemory, Record};
 use std::alloc::Global;
 use std::marker::Model;
 
@@ -60,6 +60,16 @@ fn take_ready(ready: &mut Option<Record>, item: &mut Record)
 {
     if let Some(taken) = ready.take() {
         *item = taken;
+    }
+}
+
+/// What stands in a place to which no record was put.
+fn blank() -> Record {
+    Record {
+        log: 0,
+        bank: NO_BANK,
+        number: 0,
+        event: Event::Fence,
     }
 }
 
@@ -187,8 +197,25 @@ impl Reorder {
         true
     }
 
-    /// Puts the record with the bank's next number into `item`, as soon as it is there. It says whether
-    /// that is so; otherwise nothing has changed. It takes no memory.
+    /// The record with the bank's next number, as soon as it is there. It takes no memory.
+    pub fn next(&mut self) -> Option<Record>
+        ensures bank { self.new.bank ≡ self.old.bank }
+        ensures gives { (put : List Record) (gave : List Record) → HasOrdered self.old put gave
+            → HasOrdered self.new put (gave ++ option_to_list result) }
+        ensures there { (put : List Record) (gave : List Record) → HasOrdered self.old put gave
+            → result ≡ first_with (length gave) put }
+        ensures fewer { IfSome result (λ _. waiting_count self.new < waiting_count self.old) }
+    {
+        let mut item = blank();
+        if self.next_into(&mut item) {
+            Some(item)
+        } else {
+            None
+        }
+    }
+
+    /// The same, where the record is put into `item`, so that it need not be moved. It says whether it is
+    /// there; otherwise nothing has changed.
     pub fn next_into(&mut self, item: &mut Record) -> bool
         ensures bank { self.new.bank ≡ self.old.bank }
         ensures gives { (put : List Record) (gave : List Record) → HasOrdered self.old put gave

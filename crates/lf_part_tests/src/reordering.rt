@@ -29,18 +29,6 @@ fn put(alloc: Global, order: &mut Reorder, loads: &[(u8, u32)]) -> Result<(), Fa
     Ok(())
 }
 
-/// The record whose turn it is, where it is there.
-fn next(order: &mut Reorder) -> Option<Record>
-    ensures { order.new.bank ≡ order.old.bank }
-{
-    let mut item = made(0);
-    if order.next_into(&mut item) {
-        Some(item)
-    } else {
-        None
-    }
-}
-
 /// Whether these loads come out, and then none.
 fn gives(alloc: Global, order: &mut Reorder, loads: &[(u8, u32)]) -> Result<bool, Fail>
     requires { order.old.bank ≡ 0 }
@@ -48,11 +36,11 @@ fn gives(alloc: Global, order: &mut Reorder, loads: &[(u8, u32)]) -> Result<bool
 {
     for item in loads {
         let (tag, number) = *item;
-        if next(order) != Some(load(alloc, tag, number)?) {
+        if order.next() != Some(load(alloc, tag, number)?) {
             return Ok(false);
         }
     }
-    Ok(next(order).is_none())
+    Ok(order.next().is_none())
 }
 
 /// Whether a load with this tag and number passes.
@@ -143,13 +131,15 @@ fn many_records_before_their_turn(rt: HostRuntime) -> Result<(), Fail> {
     for number in (1..MANY).rev() {
         order.put_lent(&made(number))?;
     }
-    assert_eq!(rt; next(&mut order), None);
+    assert_eq!(rt; order.next(), None);
     assert_eq!(rt; order.fault(), Some(NumberFault::Missing(0)));
     order.put(made(0))?;
+    let mut item = made(MANY);
     for number in 0..MANY {
-        assert_eq!(rt; next(&mut order), Some(made(number)));
+        assert!(rt; order.next_into(&mut item));
+        assert_eq!(rt; &item, &made(number));
     }
-    assert_eq!(rt; next(&mut order), None);
+    assert!(rt; !order.next_into(&mut item));
     Ok(())
 }
 
@@ -163,9 +153,9 @@ fn records_far_apart(rt: HostRuntime) -> Result<(), Fail> {
     put(rt.alloc(), &mut order, &[(0, 0)])?;
     for number in 0..=100 {
         let expected = load(rt.alloc(), 0, number)?;
-        assert_eq!(rt; next(&mut order), Some(expected));
+        assert_eq!(rt; order.next(), Some(expected));
     }
-    assert_eq!(rt; next(&mut order), None);
+    assert_eq!(rt; order.next(), None);
     assert_eq!(rt; order.fault(), Some(NumberFault::Missing(101)));
     Ok(())
 }
