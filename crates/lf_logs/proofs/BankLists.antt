@@ -27,7 +27,8 @@ OrderedBelow-start logs banks vecs is = record {
   rest = λ b _ h. ap (λ xs. get_or xs b []) is ∙ get_or-parts_of (λ r. r.bank) banks (all_records logs) b [] h;
 }
 
-module _ (logs : List (List Record)) (banks : ℕ) (vecs : List (Vec Record)) (bank : ℕ) (before : OrderedBelow logs banks vecs bank) (vec : Vec Record) (inside : bank < length vecs) (read : vec ≡ get_or vecs bank vec) where
+module _ (logs : List (List Record)) (banks : ℕ) (vecs : List (Vec Record)) (bank : ℕ) (before : OrderedBelow logs banks vecs bank)
+    (vec : Vec Record) (inside : bank < length vecs) (read : vec ≡ get_or vecs bank vec) where
   list_is : vec.items ≡ of_bank bank (all_records logs)
   list_is =
       ap (λ (v : Vec Record). v.items) read

@@ -177,7 +177,10 @@ module _ (places : List (Option ℕ)) (old new : Slab Record) (table : IsTable p
           ∙ get_or-set_same places place (Some key) None inside ∙ ap Some (sym own))
           (λ (other : j ≡ key → ⊥).
           let was : get_or places (q.number % length places) None ≡ Some j = table.found j q (sym (updates.others j other) ∙ there) in
-          get_or-set_other places place (q.number % length places) (Some key) None (λ e. let taken : get_or places place None ≡ Some j = ap (λ n. get_or places n None) (sym e) ∙ was in absurd (cc)) ∙ was)
+          let apart : q.number % length places ≡ place → ⊥ = λ e.
+          let taken : get_or places place None ≡ Some j = ap (λ n. get_or places n None) (sym e) ∙ was in
+          absurd (cc) in
+          get_or-set_other places place (q.number % length places) (Some key) None apart ∙ was)
           (cases_eq j key)
 
       own : (p k : ℕ) → get_or (set places place (Some key)) p None ≡ Some k → (q : Record) × ((get_or new.slots k None ≡ Some q) × (q.number % length places ≡ p))
@@ -201,7 +204,11 @@ module _ (places : List (Option ℕ)) (old new : Slab Record) (table : IsTable p
       found j q there =
           let other : j ≡ key → ⊥ = λ e. let gone : get_or new.slots j None ≡ None = ap (λ n. get_or new.slots n None) e ∙ updates.changed in absurd (cc) in
           let was : get_or places (q.number % length places) None ≡ Some j = table.found j q (sym (updates.others j other) ∙ there) in
-          get_or-set_other places place (q.number % length places) None None (λ e. let one : Some j ≡ Some key = sym was ∙ ap (λ n. get_or places n None) e ∙ leads in let same : j ≡ key = cc in other same) ∙ was
+          let apart : q.number % length places ≡ place → ⊥ = λ e.
+          let one : Some j ≡ Some key = sym was ∙ ap (λ n. get_or places n None) e ∙ leads in
+          let same : j ≡ key = cc in
+          other same in
+          get_or-set_other places place (q.number % length places) None None apart ∙ was
 
       own : (p k : ℕ) → get_or (set places place None) p None ≡ Some k → (q : Record) × ((get_or new.slots k None ≡ Some q) × (q.number % length places ≡ p))
       own p k is = ⊎_elim

@@ -13,8 +13,9 @@ pub loop-at-smaller : goal.loop-at-smaller
 loop-at-smaller c =
     let now = c.loop-at.records in
     let item = get_or now c.loop-at.at c.index-records-at.result in
+    let there = get_or_default now c.loop-at.at c.index-records-at.result item c.loop-at-test.true in
     let less : misplaced 0 c.swap.new.self < misplaced 0 now =
-    fewer c.args.records.now now c.loop-at.at c.loop-at.invariant item c.loop-at-test.true (get_or_default now c.loop-at.at c.index-records-at.result item c.loop-at-test.true) c.swap.new.self c.if-number-at.false c.swap.ensures.after in
+    fewer c.args.records.now now c.loop-at.at c.loop-at.invariant item c.loop-at-test.true there c.swap.new.self c.if-number-at.false c.swap.ensures.after in
     let long : length c.swap.new.self ≡ length now = c.swap.ensures.len in
     omega (arith, less, long)
 
@@ -22,7 +23,8 @@ pub loop-at-preserved : goal.loop-at-preserved
 loop-at-preserved c =
     let now = c.loop-at.records in
     let item = get_or now c.loop-at.at c.index-records-at.result in
-    Placed-swap c.args.records.now now c.loop-at.at c.loop-at.invariant item c.loop-at-test.true (get_or_default now c.loop-at.at c.index-records-at.result item c.loop-at-test.true) c.swap.new.self c.if-number-at.false c.swap.ensures.after
+    let there = get_or_default now c.loop-at.at c.index-records-at.result item c.loop-at-test.true in
+    Placed-swap c.args.records.now now c.loop-at.at c.loop-at.invariant item c.loop-at-test.true there c.swap.new.self c.if-number-at.false c.swap.ensures.after
 
 pub returns-clause-numbers : goal.returns-clause-numbers
 returns-clause-numbers c = Placed-all c.args.records.now c.loop-at.records c.loop-at.at c.loop-at.invariant c.loop-at-test.false

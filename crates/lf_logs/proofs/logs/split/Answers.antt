@@ -22,6 +22,8 @@ loop-item-preserved c =
     record {
       can_next = tt;
       finite = tt;
-      placed = placed (λ r. r.log) c.loop-item.logs.items (c.args.ports + c.args.banks) c.loop-item.yielded c.in-Some.item c.from-log.result c.index_mut.result.now c.push.new.self c.from-log.ensures inside c.loop-item.invariant.placed c.index_mut.ensures.value pushed;
+      placed =
+          placed (λ r. r.log) c.loop-item.logs.items (c.args.ports + c.args.banks) c.loop-item.yielded c.in-Some.item c.from-log.result
+          c.index_mut.result.now c.push.new.self c.from-log.ensures inside c.loop-item.invariant.placed c.index_mut.ensures.value pushed;
       left = append_assoc c.loop-item.yielded (c.in-Some.item ∷ []) (into_iter_items c.next.new.self) ∙ split;
     }

@@ -13,10 +13,13 @@ loop-at-init c = Counted-start c.args.bank c.args.log c.args.records.now c.args.
 pub loop-at-preserved : goal.loop-at-preserved
 loop-at-preserved c =
     let item = c.index-records-at.result in
-    let kept = Counted-kept c.args.bank c.args.log c.args.records.now c.args.tallies.now c.loop-at.tallies c.if-item-bank.tallies c.loop-at.at item c.loop-at-test.true c.index-records-at.is c.loop-at.invariant in
+    let kept =
+    Counted-kept c.args.bank c.args.log c.args.records.now c.args.tallies.now c.loop-at.tallies c.if-item-bank.tallies
+    c.loop-at.at item c.loop-at-test.true c.index-records-at.is c.loop-at.invariant in
     elim c.if-item-bank.branch [
       | then-item-bank+then-number-tallies w ↦
-          Counted-set c.args.bank c.args.log c.args.records.now c.args.tallies.now c.loop-at.tallies c.if-item-bank.tallies c.loop-at.at item c.loop-at-test.true c.index-records-at.is c.loop-at.invariant
+          Counted-set c.args.bank c.args.log c.args.records.now c.args.tallies.now c.loop-at.tallies c.if-item-bank.tallies
+          c.loop-at.at item c.loop-at-test.true c.index-records-at.is c.loop-at.invariant
           nothing _ w.if-item-bank.true w.if-number-tallies.true refl refl refl w.tallies-is
       | else-item-bank w ↦ elim w.else-item-bank.branch [
         | else-item-bank-via-then-item-bank+else-number-tallies w' ↦ kept (λ own. w'.if-number-tallies.false) w.tallies-is

@@ -13,7 +13,9 @@ loop-tag-preserved c = λ k lt.
 
 pub returns-then-is_some : goal.returns-then-is_some
 returns-then-is_some c =
-    one_taken c.args.tags (λ tag. get_or c.args.self.now.owed_by tag None) c.loop-tag.tag (omega (arith, c.loop-tag-test.true, c.min-named.ensures)) (some_if (get_or c.args.self.now.owed_by c.loop-tag.tag None) (sym c.if-is_some.ensures))
+    one_taken c.args.tags (λ tag. get_or c.args.self.now.owed_by tag None) c.loop-tag.tag
+    (omega (arith, c.loop-tag-test.true, c.min-named.ensures))
+    (some_if (get_or c.args.self.now.owed_by c.loop-tag.tag None) (sym c.if-is_some.ensures))
 
 pub returns : goal.returns
 returns c = all_free c.args.tags (λ tag. get_or c.args.self.now.owed_by tag None) (λ k lt. elim (cases_lt k (length c.args.self.now.owed_by)) [
