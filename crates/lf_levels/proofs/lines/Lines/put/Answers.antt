@@ -33,3 +33,12 @@ pub returns-clause-here : goal.returns-clause-here
 returns-clause-here g c =
     changed-fill c.args.self.now _ c.args.block c.args.dirty
     (filled_table c.self.invariant c.args.self.now c.self.view_is c.args.block c.row-row.result c.row-row.ensures _ c.deref.ensures.value c.in-Some.way c.in-Some.ensures c.requires c.args.dirty)
+
+pub returns-in_default-clause-free_way : goal.returns-in_default-clause-free_way
+returns-in_default-clause-free_way g c = tt
+
+pub returns-in_default-clause-filled : goal.returns-in_default-clause-filled
+returns-in_default-clause-filled g c = tt
+
+pub returns-in_default-clause-here : goal.returns-in_default-clause-here
+returns-in_default-clause-here g c = tt
