@@ -16,7 +16,9 @@ use Rattle.lf_demo.specs.Threads.{Counts}
 come_issue : (shape : Shape) (port issued replied : ℕ) (events : List Event) → HasCome shape port issued replied events
     → HasCome shape port (issued + 1) replied (events ++ request_of shape port issued ∷ [])
 come_issue shape port issued replied events h = record {
-  issues = filter-append is_issue events (request_of shape port issued ∷ []) ∙ (ap (λ es. es ++ request_of shape port issued ∷ []) h.issues ∙ sym (map-range_with_len_more (request_of shape port) 0 issued issued (omega arith)));
+  issues =
+      filter-append is_issue events (request_of shape port issued ∷ [])
+      ∙ (ap (λ es. es ++ request_of shape port issued ∷ []) h.issues ∙ sym (map-range_with_len_more (request_of shape port) 0 issued issued (omega arith)));
   replies = sum_by-append (λ e. cond (is_reply e) 1 0) events (request_of shape port issued ∷ []) ∙ (let was = h.replies in omega arith);
   count = length-append events (request_of shape port issued ∷ []) ∙ (let was = h.count in omega arith);
 }
@@ -35,7 +37,9 @@ pub counts_issue : (shape : Shape) (port port' : Port) (seat seat' : SeatView) (
     → port'.number ≡ port.number → port'.issued ≡ port.issued + 1 → port'.replied ≡ port.replied → Counts shape port' seat'
 counts_issue shape port port' seat seat' bank number event h few is grown same issued replied =
     let log : seat'.log ≡ seat.log = ap (λ (s : SeatView). s.log) grown in
-    let events : events_of seat'.records ≡ events_of seat.records ++ request_of shape seat.log port.issued ∷ [] = ap (λ (s : SeatView). events_of s.records) grown ∙ (more_events seat bank number event ∙ ap (λ e. events_of seat.records ++ e ∷ []) (is ∙ ap (λ n. request_of shape n port.issued) h.number)) in record {
+    let events : events_of seat'.records ≡ events_of seat.records ++ request_of shape seat.log port.issued ∷ [] =
+    ap (λ (s : SeatView). events_of s.records) grown
+    ∙ (more_events seat bank number event ∙ ap (λ e. events_of seat.records ++ e ∷ []) (is ∙ ap (λ n. request_of shape n port.issued) h.number)) in record {
       number = same ∙ (h.number ∙ sym log);
       few = omega (arith, issued);
       owed = let was = h.owed in omega (arith, issued, replied);

@@ -18,7 +18,8 @@ use Rattle.lf_demo.specs.Threads.{IsNew, IsGivenBack, IsWholeSeat}
 abbrev pub IsFor : Shape → DeskView → RecordedBy → Type 0
 IsFor shape desk p = (p.recording.now.places.shape ≡ shape) × (p.recording.now.desk ≡ desk)
 
-module _ (shape : Shape) (desk : DeskView) (g : Promise.Ghosts RecordedBy Recorded) (says : (p : RecordedBy) (r : Recorded) → g.kept_by p r → IsGivenBack p.recording.now.places.shape p.recording.now.desk r)
+module _ (shape : Shape) (desk : DeskView) (g : Promise.Ghosts RecordedBy Recorded)
+    (says : (p : RecordedBy) (r : Recorded) → g.kept_by p r → IsGivenBack p.recording.now.places.shape p.recording.now.desk r)
     (hs : List (PromisedHandle Recorded RecordedBy)) (mine : All (λ (h : PromisedHandle Recorded RecordedBy). IsFor shape desk h.promise) hs) where
   one_recorded : (i : ℕ) (r : Recorded) → i < length hs → KeepsAt g hs i r → IsGivenBack shape desk r
   one_recorded i r inside kept =

@@ -87,7 +87,9 @@ exchange_to left left' next next' (m ∷ order) log goes once stuck (goes', runs
           let some_left = one_in_joined (of_its_bank goes.entry.0) left log 0 goes.entry (ap (λ (xs : List (ℕ × ℕ)). entry_at xs 0) goes.first) (eq-eqb goes.entry.0 goes.entry.0 refl) in
           let carries = goes.carries lt in
           let one = once goes.entry.0 goes.entry.1 lt (omega (arith, carries, some_left)) in
-          let two = two_apart (is_next goes.entry.0 goes.entry.1) left log m 0 0 goes.entry goes'.entry apart (ap (λ (xs : List (ℕ × ℕ)). entry_at xs 0) goes.first) (ap (λ (xs : List (ℕ × ℕ)). entry_at xs 0) goes'.first)
+          let two =
+          two_apart (is_next goes.entry.0 goes.entry.1) left log m 0 0 goes.entry goes'.entry apart
+          (ap (λ (xs : List (ℕ × ℕ)). entry_at xs 0) goes.first) (ap (λ (xs : List (ℕ × ℕ)). entry_at xs 0) goes'.first)
           (and_from (goes.entry.0 == goes.entry.0) (goes.entry.1 == goes.entry.1) (eq-eqb goes.entry.0 goes.entry.0 refl) (eq-eqb goes.entry.1 goes.entry.1 refl))
           (and_from (goes'.entry.0 == goes.entry.0) (goes'.entry.1 == goes.entry.1) (eq-eqb goes'.entry.0 goes.entry.0 same_bank) (eq-eqb goes'.entry.1 goes.entry.1 number)) in
           omega (arith, one, two) in
@@ -158,7 +160,8 @@ runs_to left next (log ∷ order) (x ∷ xs) left' takes keeps =
 
 pub gone_runs : (skeletons : List (List (ℕ × ℕ))) (gone : List (ℕ × ℕ)) (left : List (List (ℕ × ℕ))) → HasGone skeletons gone left
     → (order : List ℕ) × RunsTo skeletons (λ _. 0) order left (next_number gone)
-gone_runs skeletons gone left h = (h.order, subst (λ (f : ℕ → ℕ). RunsTo skeletons (λ _. 0) h.order left f) (λ i bank. none (next_number gone bank) i) (runs_to skeletons (λ _. 0) h.order gone left h.taken h.kept))
+gone_runs skeletons gone left h =
+    (h.order, subst (λ (f : ℕ → ℕ). RunsTo skeletons (λ _. 0) h.order left f) (λ i bank. none (next_number gone bank) i) (runs_to skeletons (λ _. 0) h.order gone left h.taken h.kept))
   where
     none : (n : ℕ) → 0 + n ≡ n
     none n = omega arith

@@ -24,7 +24,8 @@ pub log_at-lists : (skeletons : List (Vec (ℕ × ℕ))) (log : ℕ) (d : Vec (�
 log_at-lists skeletons log d within = get_or-map (λ skeleton. skeleton.items) skeletons log d [] within
 
 pub log_at-past : (skeletons : List (Vec (ℕ × ℕ))) (log : ℕ) → length skeletons ≤ log → log_at (skeleton_lists skeletons) log ≡ []
-log_at-past skeletons log past = get_or_past (skeleton_lists skeletons) log [] (let h : length (skeleton_lists skeletons) ≡ length skeletons = length-map skeletons (λ skeleton. skeleton.items) in omega arith)
+log_at-past skeletons log past =
+    get_or_past (skeleton_lists skeletons) log [] (let h : length (skeleton_lists skeletons) ≡ length skeletons = length-map skeletons (λ skeleton. skeleton.items) in omega arith)
 
 pub entry_at-get_or : (xs : List (ℕ × ℕ)) (n : ℕ) (x : ℕ × ℕ) → n < length xs → x ≡ get_or xs n x → entry_at xs n ≡ Some x
 entry_at-get_or xs n x within is = entry_at-is xs n ∙ slice_get-get_or xs n x within ∙ ap Some (sym is)

@@ -70,7 +70,8 @@ module _ (gone : List (ℕ × ℕ)) (x : ℕ × ℕ) where
     where
       at : (bank : ℕ) → next_number more bank ≡ bump (next_number gone) x.0 bank
       at bank = elim (cases_Bool (x.0 == bank)) [
-        | inl e ↦ ap length (of_bank_more bank (eqb-true x.0 bank e)) ∙ length-append (entries_of bank gone) (x ∷ []) ∙ sym (cond-true (x.0 == bank) (next_number gone bank + 1) (next_number gone bank) e)
+        | inl e ↦ ap length (of_bank_more bank (eqb-true x.0 bank e)) ∙ length-append (entries_of bank gone) (x ∷ [])
+            ∙ sym (cond-true (x.0 == bank) (next_number gone bank + 1) (next_number gone bank) e)
         | inr e ↦ ap length (of_bank_same bank e) ∙ sym (cond-false (x.0 == bank) (next_number gone bank + 1) (next_number gone bank) e)
       ]
 
@@ -182,7 +183,8 @@ module _ (skeletons : List (List (ℕ × ℕ))) (order places next : List ℕ) w
       placed n = elim (cases_eq n log) [
         | inl same ↦ subst (λ k. log_at (after_next o.is_at.left log) k ≡ drop (slice_index new_places k) (log_at skeletons k)) (sym same)
             (after_same o.is_at.left log ∙ ap (drop 1) (o.is_at.placed log) ∙ drop-drop 1 (slice_index places log) (log_at skeletons log)
-            ∙ ap (λ k. drop k (log_at skeletons log)) (sym (ap (λ (ps : List ℕ). slice_index ps log) a.moved ∙ get_or-set_same places log (slice_index places log + 1) 0 (let len = o.places_len in omega arith))))
+            ∙ ap (λ k. drop k (log_at skeletons log))
+            (sym (ap (λ (ps : List ℕ). slice_index ps log) a.moved ∙ get_or-set_same places log (slice_index places log + 1) 0 (let len = o.places_len in omega arith))))
         | inr apart ↦ after_other o.is_at.left log n apart ∙ o.is_at.placed n
             ∙ ap (λ k. drop k (log_at skeletons n)) (sym (ap (λ (ps : List ℕ). slice_index ps n) a.moved ∙ get_or-set_other places log n (slice_index places log + 1) 0 apart))
       ]

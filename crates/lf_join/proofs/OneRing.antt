@@ -151,7 +151,9 @@ stuck_rings_are_one skeletons ring other whole s t =
     let runs = gone_runs skeletons s.gone s.left s.has_gone in
     let runs' = gone_runs skeletons t.gone t.left t.has_gone in
     let once = once_at_start skeletons whole in
-    let end = one_end skeletons (λ _. 0) runs.0 s.left (next_number s.gone) runs'.0 t.left (next_number t.gone) once runs.1 (stuck_at s.gone s.left s.nothing_goes) runs'.1 (stuck_at t.gone t.left t.nothing_goes) in
+    let end =
+    one_end skeletons (λ _. 0) runs.0 s.left (next_number s.gone) runs'.0 t.left (next_number t.gone) once runs.1
+    (stuck_at s.gone s.left s.nothing_goes) runs'.1 (stuck_at t.gone t.left t.nothing_goes) in
     let waits = WaitsFor s.gone s.left in
     let waits' = WaitsFor t.gone t.left in
     let by : (log to : ℕ) → waits' log to → waits log to = other_wait s.gone t.gone s.left t.left end.0 end.1 in
@@ -159,7 +161,8 @@ stuck_rings_are_one skeletons ring other whole s t =
     let start : s.start ≡ t.start = same_start s.left t.left end.0 s.start t.start s.some_left t.some_left s.none_below t.none_below in
     let round = round_of_ring waits ring s.some_knot s.waits s.lowest in
     let round' = round_of_ring waits other t.some_knot (λ j lt. by (knot_at other j).log (knot_at other ((j + 1) % length other)).log (t.waits j lt)) t.lowest in
-    let led' : Leads waits s.start t.path (knot_at other 0).log = subst (λ k. Leads waits k t.path (knot_at other 0).log) (sym start) (leads_by waits' waits by t.start t.path (knot_at other 0).log t.led) in
+    let led' : Leads waits s.start t.path (knot_at other 0).log =
+    subst (λ k. Leads waits k t.path (knot_at other 0).log) (sym start) (leads_by waits' waits by t.start t.path (knot_at other 0).log t.led) in
     let same = one_round waits one s.start s.path (length ring) (λ j. (knot_at ring j).log) t.path (length other) (λ j. (knot_at other j).log) round round' s.led led' in
     ext_get_or no_knot ring other same.0 (λ j lt. same_knot (knot_at ring j) (knot_at other j) (same.1 j lt)
     (same_place (knot_at ring j) (knot_at other j) s.left t.left end.0 (same.1 j lt) (s.places j lt) (t.places j (omega (arith, same.0, lt)))))

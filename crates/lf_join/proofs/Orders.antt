@@ -168,7 +168,11 @@ least_goes_first left next log goes none_below order rest = record {
             | inr le' ↦
                 let same : log ≡ m = omega arith in
                 let head : goes'.entry ≡ goes.entry = same_first (sym goes'.first ∙ subst (λ k. log_at left k ≡ goes.entry ∷ drop 1 (log_at left k)) same goes.first) in
-                inr (same, rest.least other (subst (λ k. Runs (after_next left k) (bump next goes.entry.0) other) (sym same) (subst (λ (e : ℕ × ℕ). Runs (after_next left m) (bump next e.0) other) head runs)))
+                inr (
+                  same,
+                  rest.least other
+                      (subst (λ k. Runs (after_next left k) (bump next goes.entry.0) other) (sym same) (subst (λ (e : ℕ × ℕ). Runs (after_next left m) (bump next e.0) other) head runs)),
+                )
           ])
         ]
 
@@ -195,7 +199,8 @@ first_number a b n rest e = (cc, cc)
 pub keeps_first : (next : ℕ → ℕ) (x : ℕ × ℕ) (xs : List (ℕ × ℕ)) → Keeps next (x ∷ xs) → x.0 < no_bank → x.1 ≡ next x.0
 keeps_first next x xs keeps lt =
     let is : entries_of x.0 (x ∷ xs) ≡ x ∷ entries_of x.0 xs = cond-true (x.0 == x.0) (x ∷ entries_of x.0 xs) (entries_of x.0 xs) (eq-eqb x.0 x.0 refl) in
-    (first_number x.1 (next x.0) (length (entries_of x.0 xs)) (map (λ (e : ℕ × ℕ). e.1) (entries_of x.0 xs)) (subst (λ (es : List (ℕ × ℕ)). map (λ (e : ℕ × ℕ). e.1) es ≡ range_with_len (next x.0) (length es)) is (keeps x.0 lt))).0
+    (first_number x.1 (next x.0) (length (entries_of x.0 xs)) (map (λ (e : ℕ × ℕ). e.1) (entries_of x.0 xs))
+    (subst (λ (es : List (ℕ × ℕ)). map (λ (e : ℕ × ℕ). e.1) es ≡ range_with_len (next x.0) (length es)) is (keeps x.0 lt))).0
 
 pub keeps_rest : (next : ℕ → ℕ) (x : ℕ × ℕ) (xs : List (ℕ × ℕ)) → Keeps next (x ∷ xs) → Keeps (bump next x.0) xs
 keeps_rest next x xs keeps bank lt = go (x.0 == bank) (keeps bank lt)
@@ -207,7 +212,8 @@ keeps_rest next x xs keeps bank lt = go (x.0 == bank) (keeps bank lt)
 
 pub keeps_more : (next : ℕ → ℕ) (x : ℕ × ℕ) (xs : List (ℕ × ℕ)) → (x.0 < no_bank → x.1 ≡ next x.0) → Keeps (bump next x.0) xs → Keeps next (x ∷ xs)
 keeps_more next x xs first keeps bank lt = elim (cases_Bool (x.0 == bank)) [
-  | inl e ↦ subst (λ b. Goal b) (sym e) (ap₂ (λ (a : ℕ) (rest : List ℕ). a ∷ rest) (first (subst (λ k. k < no_bank) (sym (eqb-true x.0 bank e)) lt) ∙ ap next (eqb-true x.0 bank e)) (subst (λ b. Rest b) e (keeps bank lt)))
+  | inl e ↦ subst (λ b. Goal b) (sym e)
+      (ap₂ (λ (a : ℕ) (rest : List ℕ). a ∷ rest) (first (subst (λ k. k < no_bank) (sym (eqb-true x.0 bank e)) lt) ∙ ap next (eqb-true x.0 bank e)) (subst (λ b. Rest b) e (keeps bank lt)))
   | inr e ↦ subst (λ b. Goal b) (sym e) (subst (λ b. Rest b) e (keeps bank lt))
 ]
   where

@@ -64,7 +64,8 @@ module _ (skeletons : List (List (ℕ × ℕ))) (order places next : List ℕ) (
         place = w.place - slice_index places other;
         holds = ap (λ (xs : List (ℕ × ℕ)). entry_at xs (w.place - slice_index places other)) (at.placed other)
             ∙ entry_at-drop (slice_index places other) (log_at skeletons other) (w.place - slice_index places other)
-            ∙ ap (λ n. entry_at (log_at skeletons other) n) same ∙ w.holds ∙ ap (λ n. Some (w.waiting.0, n)) (at.counted w.waiting.0 (names_bank skeletons order places next at whole nothing log w.waiting w.first));
+            ∙ ap (λ n. entry_at (log_at skeletons other) n) same ∙ w.holds
+            ∙ ap (λ n. Some (w.waiting.0, n)) (at.counted w.waiting.0 (names_bank skeletons order places next at whole nothing log w.waiting w.first));
       }
 
   is_wait : (log other : ℕ) → HeadsWait skeletons places next log other → IsWait skeletons (knot_of places log) (knot_of places other)
@@ -79,7 +80,8 @@ module _ (skeletons : List (List (ℕ × ℕ))) (order places next : List ℕ) (
           let not_gone = w.not_gone in
           let same : w.place ≡ slice_index places other = omega arith in
           let head : next_entry skeletons places other ≡ Some (w.waiting.0, slice_index next w.waiting.0) = ap (λ n. entry_at (log_at skeletons other) n) (sym same) ∙ w.holds in
-          absurd (false_true (can_go skeletons places next other) (nothing other) (carries_can_go next (next_entry skeletons places other) (w.waiting.0, slice_index next w.waiting.0) head (λ _. refl)))
+          absurd (false_true (can_go skeletons places next other) (nothing other)
+          (carries_can_go next (next_entry skeletons places other) (w.waiting.0, slice_index next w.waiting.0) head (λ _. refl)))
     ]);
     earlier = (w.waiting.0, slice_index next w.waiting.0);
     there = w.holds;
@@ -131,7 +133,10 @@ module _ (skeletons : List (List (ℕ × ℕ))) (order places next : List ℕ) (
             subst (λ k. (knot_at ring 0).log < k) (sym (ap (λ (k : Knot). k.log) (knot_is j lt)))
             (subst (λ k. k < slice_index logs j) (sym (ap (λ (k : Knot). k.log) (knot_is 0 some_knot))) (round.lowest j positive (omega (arith, len, lt))));
         places = λ j lt.
-            subst (λ (k : Knot). k.at + length (log_at at.left k.log) ≡ length (log_at skeletons k.log)) (sym (knot_is j lt)) (placed (slice_index logs j) (within_log skeletons places next (slice_index logs j) (slice_index (logs ++ slice_index logs 0 ∷ []) (suc j)) (chain_at (HeadsWait skeletons places next) logs (slice_index logs 0) j round.chain (omega (arith, len, lt)))));
+            subst (λ (k : Knot). k.at + length (log_at at.left k.log) ≡ length (log_at skeletons k.log)) (sym (knot_is j lt))
+            (placed (slice_index logs j)
+            (within_log skeletons places next (slice_index logs j) (slice_index (logs ++ slice_index logs 0 ∷ []) (suc j))
+            (chain_at (HeadsWait skeletons places next) logs (slice_index logs 0) j round.chain (omega (arith, len, lt)))));
       }
     where
       placed : (log : ℕ) → slice_index places log < length (log_at skeletons log) → slice_index places log + length (log_at at.left log) ≡ length (log_at skeletons log)

@@ -185,7 +185,8 @@ module _ (L : List (List (ℕ × ℕ))) (places next new_places new_next : List 
   other_entry other apart = ap (λ (k : ℕ). entry_at (log_at L other) k) (ap (λ (ps : List ℕ). slice_index ps other) gone.moved ∙ get_or-set_other places log other (slice_index places log + 1) 0 apart)
 
   pub all_settled : (left called_from settled : Roster) → log < 32 → ((other : ℕ) → other < 32 → other ≢ log → Stands left other (standing_of next (next_entry L places other)))
-      → IsCalled left called_from bank (number + 1) → Stands settled log (standing_of new_next (next_entry L new_places log)) → OthersStay called_from settled log → AllStand L new_places new_next settled
+      → IsCalled left called_from bank (number + 1) → Stands settled log (standing_of new_next (next_entry L new_places log))
+      → OthersStay called_from settled log → AllStand L new_places new_next settled
   all_settled left called_from settled within others are_called here stay k lt = elim (cases_eq k log) [
     | inl same ↦ subst (λ m. Stands settled m (standing_of new_next (next_entry L new_places m))) (sym same) here
     | inr apart ↦

@@ -106,8 +106,13 @@ module _ (waits : ℕ → ℕ → Type 0) where
           | inl left ↦ (lowest + j, omega (arith, first, left), get_or_append_left (drop lowest round) (take lowest round) 0 j left ∙ get_or-drop lowest round j 0, λ pos. omega (arith, pos))
           | inr right ↦
               let k = j - length (drop lowest round) in
-              let below : k < lowest = omega (arith, first, rest, whole, lt, right) in
-              (k, omega (arith, below, place), get_or-append_right (drop lowest round) (take lowest round) (length (drop lowest round)) j 0 refl right ∙ get_or-take lowest round k 0 below, λ pos. omega (arith, below))
+              let below : k < lowest = omega (arith, first, rest, whole, lt, right) in (
+                k,
+                omega (arith, below, place),
+                get_or-append_right (drop lowest round) (take lowest round) (length (drop lowest round)) j 0 refl right
+                    ∙ get_or-take lowest round k 0 below,
+                λ pos. omega (arith, below),
+              )
         ]
 
     round_chain : Chain waits round (slice_index path again)

@@ -85,7 +85,8 @@ path_fits skeletons places next path last few short chain logs = All-from_get_or
     each k lt =
         let log = slice_index path k in
         let is = logs k 0 lt in
-        let within = within_log (skeleton_lists skeletons) places next log (slice_index (path ++ last ∷ []) (suc k)) (chain_at (HeadsWait (skeleton_lists skeletons) places next) path last k chain lt) in
+        let within =
+        within_log (skeleton_lists skeletons) places next log (slice_index (path ++ last ∷ []) (suc k)) (chain_at (HeadsWait (skeleton_lists skeletons) places next) path last k chain lt) in
         let len : length (skeleton_lists skeletons) ≡ length skeletons = length-map skeletons (λ skeleton. skeleton.items) in
         let small = short log [] (omega (arith, is, len)) in
         (omega (arith, is, few), omega (arith, within, small))

@@ -94,7 +94,8 @@ module _ {M : Type 0} {set : ℕ → ℕ → ℕ → ℕ → ℕ} {sets ways ban
   place_in_part block k lt = part_at (passes (λ b. of b == of block)) rows (of block * ways) ways None (row_within block) k lt
 
   bounded : (block : ℕ) → lines_of_set of (lines_of rows) block ≤ ways
-  bounded block = omega (arith, count_is block, long block, count_by-le-length (passes (λ b. of b == of block)) (part (passes (λ b. of b == of block)) rows (of block * ways) ways None (row_within block)))
+  bounded block =
+      omega (arith, count_is block, long block, count_by-le-length (passes (λ b. of b == of block)) (part (passes (λ b. of b == of block)) rows (of block * ways) ways None (row_within block)))
 
   pub is_table : IsLineTable set (table_of sets ways banks factor (lines_of rows))
   is_table = record { sorted = sorted_from_rising (lines_of rows) (rising rows); bounded = bounded }
@@ -118,7 +119,8 @@ module _ {M : Type 0} {set : ℕ → ℕ → ℕ → ℕ → ℕ} {sets ways ban
       let all = count-all test (part test rows (of block * ways) ways None (row_within block)) None (λ k lt.
       let here : k < ways = omega (arith, lt, long block) in
       ap test (place_in_part block k here)
-      ∙ in_row block (of block * ways + k) (get_or rows (of block * ways + k) None) (omega arith) (omega arith) (is.home (of block * ways + k) (omega (arith, row_within block))) (none (of block * ways + k) (omega arith) (omega arith))) in
+      ∙ in_row block (of block * ways + k) (get_or rows (of block * ways + k) None) (omega arith) (omega arith)
+      (is.home (of block * ways + k) (omega (arith, row_within block))) (none (of block * ways + k) (omega arith) (omega arith))) in
       ap not (le-ltb (lines_of_set of (lines_of rows) block) ways (omega (arith, count_is block, all, long block)))
 
   pub full-is : (block : ℕ) (result : Option ℕ) → FindsWay is_free rows (of block * ways) ways result → is_full set (table_of sets ways banks factor (lines_of rows)) block ≡ not (is_some result)
@@ -221,5 +223,10 @@ whole-new {M} set sets ways banks factor rows some few few_ways some_banks in_ra
   in_range = in_range;
   each_set = length-free M (sets * ways);
   home = λ place lt. subst (λ w. IsInOwnRow (λ block. set banks factor sets block) ways place w) (sym (free_at M (sets * ways) place (omega (arith, lt, length-free M (sets * ways))))) tt;
-  once = λ block. omega (arith, count-none (is_on {M = M} block) (all_free (sets * ways)) None (λ k lt. ap (is_on {M = M} block) (free_at M (sets * ways) k (omega (arith, lt, length-free M (sets * ways))))));
+  once =
+      λ block. omega (
+        arith,
+        count-none (is_on {M = M} block) (all_free (sets * ways)) None
+            (λ k lt. ap (is_on {M = M} block) (free_at M (sets * ways) k (omega (arith, lt, length-free M (sets * ways))))),
+      );
 })

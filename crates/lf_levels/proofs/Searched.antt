@@ -39,7 +39,11 @@ module _ {M : Type 0} {set : ℕ → ℕ → ℕ → ℕ → ℕ} {sets ways ban
   pub full_all : (block : ℕ) (full : Bool) → full ≡ is_full set table block → IsTrue full ↔ (lines_of_set (set_in set table) table.lines block ≡ table.ways)
   full_all block full e =
       let few = table_is.bounded block in (
-        λ (h : full ≡ true). omega (arith, few, ltb-false (lines_of_set (set_in set table) table.lines block) table.ways (not-true (nat_lt (lines_of_set (set_in set table) table.lines block) table.ways) (sym e ∙ h))),
+        λ (h : full ≡ true). omega (
+          arith,
+          few,
+          ltb-false (lines_of_set (set_in set table) table.lines block) table.ways (not-true (nat_lt (lines_of_set (set_in set table) table.lines block) table.ways) (sym e ∙ h)),
+        ),
         λ h. e ∙ ap not (le-ltb (lines_of_set (set_in set table) table.lines block) table.ways (omega (arith, h))),
       )
 

@@ -51,7 +51,8 @@ module _ (all : List Record) where
   placed_has logs (x ∷ xs) zero s agree at within =
       let is : x ≡ s = cc in
       placed_keeps (set logs x.log x.records) xs s.log (λ i y e. agree (suc i) y e)
-      (subst (λ (y : SeatView). get_or (set logs x.log x.records) y.log [] ≡ of_log y.log all) is (get_or-set_same logs x.log x.records [] (subst (λ (y : SeatView). y.log < length logs) (sym is) within) ∙ sym (agree 0 x refl)))
+      (subst (λ (y : SeatView). get_or (set logs x.log x.records) y.log [] ≡ of_log y.log all) is
+      (get_or-set_same logs x.log x.records [] (subst (λ (y : SeatView). y.log < length logs) (sym is) within) ∙ sym (agree 0 x refl)))
   placed_has logs (x ∷ xs) (suc k) s agree at within =
       placed_has (set logs x.log x.records) xs k s (λ i y e. agree (suc i) y e) at (let same = length-set logs x.log x.records in omega arith)
 
@@ -83,7 +84,9 @@ closes banks seat made logs seats s kept at few has = (
     each : (log : ℕ) → of_log log kept.0 ≡ get_or (placed (replicate logs []) seats) log []
     each log = dite (dec_le logs log)
         (λ past. let views = ((kept.1).seats seat (Collector made (map entry_of seats)) at).1 in
-        (kept.1).unmade log (omega arith) ∙ sym (get_or_past (placed (replicate logs []) seats) log [] (let n = length-placed (replicate logs []) seats in let m : length (replicate {A = List Record} logs []) ≡ logs = length-replicate logs [] in omega arith)))
+        (kept.1).unmade log (omega arith)
+        ∙ sym (get_or_past (placed (replicate logs []) seats) log []
+        (let n = length-placed (replicate logs []) seats in let m : length (replicate {A = List Record} logs []) ≡ logs = length-replicate logs [] in omega arith)))
         (λ within.
         let h = has log (omega arith) in
         let x : SeatView = h.1 in
@@ -111,7 +114,8 @@ module _ {B : Type 0} (f : B → List Record) (first : List (List Record)) (ss :
 
 -- what the desk ends with, from the last state of its table
 pub closing : (banks seat made count : ℕ) (seats : List SeatView) (me : Mine) (words : List ℕ) (slots : List (Unit {0})) (first logs : List (List Record))
-    → Final (Seen (HasRecords banks) seat me.0) words slots → me ≡ (Collector made (map entry_of seats), []) → made ≤ count → ((log : ℕ) → log < count → HasSeat seats log) → first ≡ replicate count [] → logs ≡ placed first seats
+    → Final (Seen (HasRecords banks) seat me.0) words slots → me ≡ (Collector made (map entry_of seats), [])
+    → made ≤ count → ((log : ℕ) → log < count → HasSeat seats log) → first ≡ replicate count [] → logs ≡ placed first seats
     → HasCommonOrder logs × HoldSeats logs seats
 closing banks seat made count seats me words slots first logs final is few has empty done =
     subst (λ ls. HasCommonOrder ls × HoldSeats ls seats) (sym (done ∙ ap (λ ls. placed ls seats) empty))

@@ -29,7 +29,17 @@ pub aside_told : (d : desk_seat.the_row.Denot) (vs : List Val) → Is desk_seat.
 aside_told d vs so = let is = so.0 in is.1.0 ∙ ap (λ (ws : List Val). vstruct (of_list (ws ++ [])) ∷ []) (token_told unit view.the_row is.0.0 is.1.1.0.0)
 
 pub aside_send : IsSend desk_seat.the_row
-aside_send = record { owned = λ d vs. ((λ vss. (tt, (((λ uss. (tt, ((λ wss. (tt, tt)), tt))), seat_keyless unit (search sendable) view.the_row.coded.code d.seat.table_id d.seat.id d.seat.me), tt))), tt); leaving = λ k x vs. (tt, tt) }
+aside_send =
+    record {
+      owned = λ d vs. (
+        (λ vss. (
+          tt,
+          (((λ uss. (tt, ((λ wss. (tt, tt)), tt))), seat_keyless unit (search sendable) view.the_row.coded.code d.seat.table_id d.seat.id d.seat.me), tt),
+        )),
+        tt,
+      );
+      leaving = λ k x vs. (tt, tt);
+    }
 
 -- a struct that is used up leaves nothing
 pub blank_goes : {M : Type 1} {𝓤 : Ura M} (𝓛 : Logic 𝓤) (n : ℕ) (s : Slot n) (k : Kept)

@@ -57,7 +57,8 @@ module _ (banks seat log : ℕ) (records : List Record) (new : Record) (own : ne
 
   short_after : (l : ℕ) → length (of_log l (all ++ new ∷ [])) ≤ 2 ^ 24
   short_after l = dite (ℕ_discrete log l)
-      (λ e. rw (of_log_own all new l (own ∙ e)) (let n : length (of_log l all) ≡ length records = ap (λ k. length (of_log k all)) (sym e) ∙ ap length mine.1 in omega (arith, length-append (of_log l all) (new ∷ []))))
+      (λ e. rw (of_log_own all new l (own ∙ e))
+      (let n : length (of_log l all) ≡ length records = ap (λ k. length (of_log k all)) (sym e) ∙ ap length mine.1 in omega (arith, length-append (of_log l all) (new ∷ []))))
       (λ ne. rw (of_log_other all new l (λ e. ne (sym own ∙ e))) (was.short l))
 
   unmade_after : (l : ℕ) → length (set s.views seat after) ≤ l + 1 → of_log l (all ++ new ∷ []) ≡ []
@@ -218,7 +219,9 @@ module _ (banks seat made : ℕ) (joined : List (ℕ × List Record)) (other log
   desk_fits = was.seats seat (Collector made joined) at
 
   log_there : get_elem? s.views other ≡ some (Log log records)
-  log_there = ⊎_elim (λ (x : (other ≡ seat) × (both ≡ Log log records)). absurd (apart x.0)) (λ (x : (other ≢ seat) × (get_elem? s.views other ≡ some (Log log records))). x.1) (at_set s.views seat other both (Log log records) there)
+  log_there =
+      ⊎_elim (λ (x : (other ≡ seat) × (both ≡ Log log records)). absurd (apart x.0))
+      (λ (x : (other ≢ seat) × (get_elem? s.views other ≡ some (Log log records))). x.1) (at_set s.views seat other both (Log log records) there)
 
   log_fits : (other ≡ log + 1) × (of_log log all ≡ records)
   log_fits = was.seats other (Log log records) log_there
@@ -244,7 +247,8 @@ module _ (banks seat made : ℕ) (joined : List (ℕ × List Record)) (other log
     same_length ∙ desk_fits.1,
     λ k y e. let zero_is = desk_fits.0 in let entry : ℕ × List Record = (log, records) in ⊎_elim
         (λ (x : slice_get joined k ≡ Some y). let f = desk_fits.2 k y x in (f.0, spent_still (y.0 + 1) (λ q. absurd (omega arith)) f.1))
-        (λ (x : (k ≡ length joined) × (entry ≡ y)). subst (λ (z : ℕ × List Record). (of_log z.0 all ≡ z.1) × (get_elem? taken (z.0 + 1) ≡ some Spent)) x.1 (log_fits.1, subst (λ i. get_elem? taken i ≡ some Spent) log_fits.0 spent_here))
+        (λ (x : (k ≡ length joined) × (entry ≡ y)). subst (λ (z : ℕ × List Record). (of_log z.0 all ≡ z.1) × (get_elem? taken (z.0 + 1) ≡ some Spent)) x.1
+        (log_fits.1, subst (λ i. get_elem? taken i ≡ some Spent) log_fits.0 spent_here))
         (slice_get_snoc joined (log, records) y k e),
   )
 

@@ -1,6 +1,6 @@
 //! A desk with a word per bank, and a seat per log.
 ghost use Rattle.std.specs.Prelude.{◌≡◌, ◌+◌, ◌^◌, ◌<◌, ◌≤◌, ℕ, [], ◌∷◌, ◌++◌, length, None, IfOk, IfErr, IfSome, IfNone, OnOk, OnErr, IsOkUnless};
-ghost use Rattle.std.specs.Prelude.{◌↔◌, true, false, ◌≢◌, All, map, replicate};
+ghost use Rattle.std.specs.Prelude.{◌↔◌, true, false, ◌≢◌, All, map, replicate, vec_len, vec_capacity};
 ghost use Rattle.std.specs.Bool.{OnTrue, OnFalse};
 ghost use Rattle.lf_recorder.specs.declared.rule.View.TheVariants.{Collector, Log};
 ghost use Rattle.lf_recorder.specs.Rule.{IsAbove, fence_of};
@@ -137,6 +137,15 @@ fn most_records(version: u32) -> usize
     ensures { result ≡ most_records version }
 {
     if version == 1 { 1 << 20 } else { 1 << 24 }
+}
+
+// Room for one more record.
+fn reserve_one(records: &mut Vec<Record>) -> Result<(), NoMemory>
+    ensures items { records.new.items ≡ records.old.items }
+    ensures room { OnOk result (vec_len records.new < vec_capacity records.new) }
+{
+    records.reserve(1)?;
+    Ok(())
 }
 
 // A seat for the next log.
@@ -334,9 +343,7 @@ impl Desk {
         if let Some(fault) = self.refusal(seat, bank, &event) {
             return Err(fault);
         }
-        if seat.records.reserve(1).is_err() {
-            return Err(RecordFault::NoMemory);
-        }
+        reserve_one(&mut seat.records)?;
         let number = match event {
             Event::Fence => {
                 pass(&self.table.shared, &mut seat.seat, seat.log, &seat.records);

@@ -18,12 +18,14 @@ pub taken_more : (f : ℕ → ℕ) (p : ℕ → Bool) (i : ℕ) (xs ys : List �
     → xs ≡ map f (filter p (range_with_len 0 i)) → ys ≡ map f (filter p (range_with_len 0 (i + 1)))
 taken_more f p i xs ys y under pushed is taken =
     pushed ∙ ap (λ (zs : List ℕ). zs ++ y ∷ []) taken ∙ ap (λ z. map f (filter p (range_with_len 0 i)) ++ z ∷ []) is
-    ∙ sym (ap (λ zs. map f (filter p zs)) (range_more 0 i i (omega arith)) ∙ ap (map f) (filter-append p (range_with_len 0 i) (i ∷ [])) ∙ map-append f (filter p (range_with_len 0 i)) (filter p (i ∷ []))
+    ∙ sym (ap (λ zs. map f (filter p zs)) (range_more 0 i i (omega arith))
+    ∙ ap (map f) (filter-append p (range_with_len 0 i) (i ∷ [])) ∙ map-append f (filter p (range_with_len 0 i)) (filter p (i ∷ []))
     ∙ ap (λ b. map f (filter p (range_with_len 0 i)) ++ map f (cond b (i ∷ []) [])) under)
 
 pub passed_over : (f : ℕ → ℕ) (p : ℕ → Bool) (i : ℕ) (xs : List ℕ) → p i ≡ false → xs ≡ map f (filter p (range_with_len 0 i)) → xs ≡ map f (filter p (range_with_len 0 (i + 1)))
 passed_over f p i xs off taken =
-    taken ∙ sym (ap (λ zs. map f (filter p zs)) (range_more 0 i i (omega arith)) ∙ ap (map f) (filter-append p (range_with_len 0 i) (i ∷ [])) ∙ map-append f (filter p (range_with_len 0 i)) (filter p (i ∷ []))
+    taken ∙ sym (ap (λ zs. map f (filter p zs)) (range_more 0 i i (omega arith))
+    ∙ ap (map f) (filter-append p (range_with_len 0 i) (i ∷ [])) ∙ map-append f (filter p (range_with_len 0 i)) (filter p (i ∷ []))
     ∙ ap (λ b. map f (filter p (range_with_len 0 i)) ++ map f (cond b (i ∷ []) [])) off ∙ append-nil (map f (filter p (range_with_len 0 i))))
 
 -- ---- a block's bytes
@@ -37,7 +39,8 @@ filter_same_map f g p a zero same = refl
 filter_same_map f g p a (suc n) same = go (p a) (filter_same_map f g p (a + 1) n (λ i low high. same i (omega arith) (omega arith)))
   where
     go : (b : Bool) → map f (filter p (range_with_len (a + 1) n)) ≡ map g (filter p (range_with_len (a + 1) n))
-        → map f (cond b (a ∷ filter p (range_with_len (a + 1) n)) (filter p (range_with_len (a + 1) n))) ≡ map g (cond b (a ∷ filter p (range_with_len (a + 1) n)) (filter p (range_with_len (a + 1) n)))
+        → map f (cond b (a ∷ filter p (range_with_len (a + 1) n)) (filter p (range_with_len (a + 1) n)))
+        ≡ map g (cond b (a ∷ filter p (range_with_len (a + 1) n)) (filter p (range_with_len (a + 1) n)))
     go true rest = ap₂ (λ x (xs : List ℕ). x ∷ xs) (same a (omega arith) (omega arith)) rest
     go false rest = rest
 

@@ -230,7 +230,9 @@ module _ (a : Around) (ok : BlockOk a) where
         held2 = λ m e.
             let same : marked under.0 a.place mask ≡ m = ap (λ (x : Masks). marked x a.place mask) (sym is) ∙ same_some e in
             record {
-              inside = subst (λ (x : Masks). a.place < length x.items) same (let long = length-set under.0.items a.place (record { 0 = bit_or (mask_at under.0 a.place) mask }) in let lt = in_two.inside in omega (arith, long, lt));
+              inside =
+                  subst (λ (x : Masks). a.place < length x.items) same
+                  (let long = length-set under.0.items a.place (record { 0 = bit_or (mask_at under.0 a.place) mask }) in let lt = in_two.inside in omega (arith, long, lt));
               clean = λ o off.
                   let off' : is_under (bit_or (mask_at under.0 a.place) mask) o ≡ false =
                   ap (λ k. is_under k o) (sym (marked_here under.0 a.place mask in_two.inside) ∙ ap (λ (x : Masks). mask_at x a.place) same) ∙ off in
@@ -264,7 +266,9 @@ module _ (a : Around) (ok : BlockOk a) where
         held2 = λ m e.
             let same : marked under.0 place mask ≡ m = ap (λ (x : Masks). marked x place mask) (sym is) ∙ same_some e in
             record {
-              inside = subst (λ (x : Masks). a.place < length x.items) same (let long = length-set under.0.items place (record { 0 = bit_or (mask_at under.0 place) mask }) in let lt = in_two.inside in omega (arith, long, lt));
+              inside =
+                  subst (λ (x : Masks). a.place < length x.items) same
+                  (let long = length-set under.0.items place (record { 0 = bit_or (mask_at under.0 place) mask }) in let lt = in_two.inside in omega (arith, long, lt));
               clean = λ o off. in_two.clean o (ap (λ k. is_under k o) (sym (marked_other under.0 place a.place mask apart) ∙ ap (λ (x : Masks). mask_at x a.place) same) ∙ off);
             };
         waits = λ e. ap (serve a.targets) (sym one_base) ∙ ok.waits e;

@@ -48,7 +48,8 @@ fill_agrees bytes line now held n moved serves =
         → (is_under (mask_of_stores held) i || slice_index (map line (range_with_len 0 n)) i == slice_index (map now (range_with_len 0 n)) i) ≡ true
     at i lt true e = or_left _ _ e
     at i lt false e = or_right _ _ (eq-eqb _ _
-        (get_or-map-range_with_len line 0 n i i 0 lt (omega arith) ∙ sym (serve_off held 0 line i e).1 ∙ ap (λ (f : ℕ → ℕ). f i) serves ∙ sym (get_or-map-range_with_len now 0 n i i 0 lt (omega arith))))
+        (get_or-map-range_with_len line 0 n i i 0 lt (omega arith) ∙ sym (serve_off held 0 line i e).1
+        ∙ ap (λ (f : ℕ → ℕ). f i) serves ∙ sym (get_or-map-range_with_len now 0 n i i 0 lt (omega arith))))
 
 bytes_are : (xs ys : List ℕ) → bytes_eq xs ys ≡ true → xs ≡ ys
 bytes_are [] [] e = refl
@@ -63,7 +64,8 @@ serve_same (h ∷ held) bytes = serve_same held (written h.target.request bytes)
 
 copies_same : (shape : Shape) (copies : Copies) (slice : Slice) (e : Event) → copies_after shape copies (forget slice) e ≡ copies_after shape copies slice e
 copies_same shape copies slice (Fill1 x bytes) =
-    ap (λ (line : ℕ → ℕ). record copies { one = update copies.one x line }) (ap (λ held. serve held (copies.two x)) (targets_same slice.waiting x) ∙ serve_same (targets_of slice.waiting x) (copies.two x))
+    ap (λ (line : ℕ → ℕ). record copies { one = update copies.one x line })
+    (ap (λ held. serve held (copies.two x)) (targets_same slice.waiting x) ∙ serve_same (targets_of slice.waiting x) (copies.two x))
 copies_same shape copies slice (Hit port tag) = refl
 copies_same shape copies slice _ = refl
 
@@ -90,17 +92,21 @@ zero_plus n = omega arith
 abbrev holds_second : Shape → Slice → ℕ → Bool
 holds_second shape slice x = holds slice.regs2 (second_of shape x)
 
-module _ (shape : Shape) (copies : Copies) (memory : FlatMemory) (bank : ℕ) (busy : ℕ → Option ℕ) (slice : Slice) (log : ℕ) (ok : (x : ℕ) → bank_of shape x ≡ bank → BlockOk (around shape slice copies memory x)) (home : IsHome shape bank slice) (some : 0 < shape.factor) (regs : RegsHome shape slice.regs2) where
+module _ (shape : Shape) (copies : Copies) (memory : FlatMemory) (bank : ℕ) (busy : ℕ → Option ℕ) (slice : Slice) (log : ℕ)
+    (ok : (x : ℕ) → bank_of shape x ≡ bank → BlockOk (around shape slice copies memory x)) (home : IsHome shape bank slice) (some : 0 < shape.factor) (regs : RegsHome shape slice.regs2) where
   -- each block of the bank after an event
   block_step : (right : Bool) (e : Event) → NamesHome shape bank e → AllHold (rules_of shape right busy slice log bank e) → (y : ℕ) → bank_of shape y ≡ bank
       → BlockOk (around shape (slice_after shape (value_at memory (accepts slice e)) (replies_at slice e) slice log e) (copies_after shape copies slice e) (memory_after memory slice e) y)
   block_step right (Hit port tag) fit holds y here =
-      hit_block shape slice copies memory bank ok (oldest (slice.queue port)) (head_home shape bank (slice.queue port) tag (and_parts _ (is_head (slice.queue port) tag) holds.0).1 (home port)) slice.ready slice.queue holds.1.0 y here
+      hit_block shape slice copies memory bank ok (oldest (slice.queue port))
+      (head_home shape bank (slice.queue port) tag (and_parts _ (is_head (slice.queue port) tag) holds.0).1 (home port)) slice.ready slice.queue holds.1.0 y here
   block_step right (Primary port tag register) fit holds y here =
-      primary_block shape slice copies memory bank ok (miss slice port register (value_of memory (oldest (slice.queue port)))) (head_home shape bank (slice.queue port) tag (and_parts _ (is_head (slice.queue port) tag) holds.0).1 (home port))
+      primary_block shape slice copies memory bank ok (miss slice port register (value_of memory (oldest (slice.queue port))))
+      (head_home shape bank (slice.queue port) tag (and_parts _ (is_head (slice.queue port) tag) holds.0).1 (home port))
       register slice.queue (not-true _ holds.1.0) (not-true _ holds.1.1.0) refl refl y here
   block_step right (Merge port tag register) fit holds y here =
-      merge_block shape slice copies memory bank ok (miss slice port register (value_of memory (oldest (slice.queue port)))) (head_home shape bank (slice.queue port) tag (and_parts _ (is_head (slice.queue port) tag) holds.0).1 (home port))
+      merge_block shape slice copies memory bank ok (miss slice port register (value_of memory (oldest (slice.queue port))))
+      (head_home shape bank (slice.queue port) tag (and_parts _ (is_head (slice.queue port) tag) holds.0).1 (home port))
       slice.queue holds.1.0 refl y here
   block_step right (Fill1 x bytes) fit holds y here = fill1_block shape slice copies memory bank ok x fit slice.ready holds.0 y here
   block_step right (Evict1 x mask bytes) fit holds y here = evict1_block shape slice copies memory bank ok x mask.0 fit holds.0 (eqb-true mask.0 (dirty_mask slice.lines1 x) holds.1.0) y here
@@ -117,7 +123,8 @@ module _ (shape : Shape) (copies : Copies) (memory : FlatMemory) (bank : ℕ) (b
       let k = ok x fit in
       let s = k.is_supplied holds.0 in
       holds.1.1.0 ∙ sym (fill_agrees bytes.items (copies.two x) (memory x) (targets_of slice.waiting x) shape.block (bytes_are _ _ holds.1.1.0)
-      (ap (serve (targets_of slice.waiting x)) (sym (base-some (line_at slice.lines2 (second_of shape x)) (copies.two x) (copies.below x) s.1)) ∙ k.waits (waiting_absent (around shape slice copies memory x) k s.0)))
+      (ap (serve (targets_of slice.waiting x)) (sym (base-some (line_at slice.lines2 (second_of shape x)) (copies.two x) (copies.below x) s.1))
+      ∙ k.waits (waiting_absent (around shape slice copies memory x) k s.0)))
   right_same (Fill2 second bytes) fit holds =
       let moved : bytes.items ≡ wide_bytes shape copies.below second = bytes_are _ _ holds.1.1.0 in
       holds.1.1.0 ∙ sym (all_range _ 0 shape.factor (λ place le lt.
@@ -127,10 +134,12 @@ module _ (shape : Shape) (copies : Copies) (memory : FlatMemory) (bank : ℕ) (b
       let there : holds_second shape slice x ≡ true = subst (λ n. list_any (λ h. h.block == n) slice.regs2 ≡ true) (sym (second_of_sub shape second place inside)) holds.0 in
       let part : part_at shape.block bytes.items place ≡ map (copies.below x) (range_with_len 0 shape.block) =
       ap (λ (xs : List ℕ). part_at shape.block xs place) moved
-      ∙ part_of_flat (λ p. map (copies.below (sub_block shape second p)) (range_with_len 0 shape.block)) shape.block (λ p. length-map-range_with_len (copies.below (sub_block shape second p)) 0 shape.block) 0 shape.factor place inside
+      ∙ part_of_flat (λ p. map (copies.below (sub_block shape second p)) (range_with_len 0 shape.block)) shape.block
+      (λ p. length-map-range_with_len (copies.below (sub_block shape second p)) 0 shape.block) 0 shape.factor place inside
       ∙ ap (λ p. map (copies.below (sub_block shape second p)) (range_with_len 0 shape.block)) (zero_plus place) in
       fill_agrees (part_at shape.block bytes.items place) (copies.below x) (memory x) (targets_of slice.waiting x) shape.block part
-      (ap (serve (targets_of slice.waiting x)) (sym (base-none (line_at slice.lines2 (second_of shape x)) (copies.two x) (copies.below x) (k.is_held there))) ∙ k.waits (held_absent (around shape slice copies memory x) k there))))
+      (ap (serve (targets_of slice.waiting x)) (sym (base-none (line_at slice.lines2 (second_of shape x)) (copies.two x) (copies.below x) (k.is_held there)))
+      ∙ k.waits (held_absent (around shape slice copies memory x) k there))))
   right_same (Evict1 x mask bytes) fit holds =
       let line = some_is (line_at slice.lines1 x) holds.0 in
       ap (λ (f : ℕ → ℕ). bytes_eq bytes.items (masked (map f (range_with_len 0 shape.block)) mask.0)) ((ok x fit).held1 line.0 line.1).same
@@ -192,7 +201,8 @@ pub record Agrees (shape : Shape) (c : CopyState) (s : State) : Type 0 where
 blocks_at : {shape : Shape} {c : CopyState} {s : State} → Agrees shape c s → (bank x : ℕ) → bank_of shape x ≡ bank → BlockOk (around shape (s.slice bank) c.copies s.memory x)
 blocks_at {shape = shape} {c = c} {s = s} h bank x e = subst (λ b. BlockOk (around shape (s.slice b) c.copies s.memory x)) e (h.blocks x)
 
-module _ (shape : Shape) (some : 0 < shape.factor) (c : CopyState) (s : State) (r : Record) (fits : Fits shape r) (agrees : Agrees shape c s) (run : first_failing OfBoth (copy_clauses shape c r) ≡ None) where
+module _ (shape : Shape) (some : 0 < shape.factor) (c : CopyState) (s : State) (r : Record) (fits : Fits shape r)
+    (agrees : Agrees shape c s) (run : first_failing OfBoth (copy_clauses shape c r) ≡ None) where
   -- the copy machine's clauses, over the flat machine's tags and slice
   copy_hold : first_failing OfBoth (rules_of shape (moves_copy shape c.copies r.event) (s.busy r.log) (s.slice r.bank) r.log r.bank r.event) ≡ None
   copy_hold =
@@ -206,14 +216,16 @@ module _ (shape : Shape) (some : 0 < shape.factor) (c : CopyState) (s : State) (
   flat_hold : first_failing OfBoth (clauses shape (seen_by r.log r.bank s) r) ≡ None
   flat_hold =
       sym (ap (λ right. first_failing OfBoth (rules_of shape right (s.busy r.log) (s.slice r.bank) r.log r.bank r.event))
-      (right_same shape c.copies s.memory r.bank (s.busy r.log) (s.slice r.bank) r.log (blocks_at agrees r.bank) (agrees.home r.bank) some (agrees.regs r.bank) r.event (names_home shape r fits) copy_all)) ∙ copy_hold
+      (right_same shape c.copies s.memory r.bank (s.busy r.log) (s.slice r.bank) r.log (blocks_at agrees r.bank)
+      (agrees.home r.bank) some (agrees.regs r.bank) r.event (names_home shape r fits) copy_all)) ∙ copy_hold
 
   slices_next : slice_after shape (value_by_copy c.copies (c.slice r.bank) r.event) (replies_by_copy c.copies (c.slice r.bank) r.event) (c.slice r.bank) r.log r.event
       ≡ forget (slice_after shape (value_at s.memory (accepts (s.slice r.bank) r.event)) (replies_at (s.slice r.bank) r.event) (s.slice r.bank) r.log r.event)
   slices_next =
       ap (λ (t : Slice). slice_after shape (value_by_copy c.copies t r.event) (replies_by_copy c.copies t r.event) t r.log r.event) (agrees.slices r.bank)
       ∙ ap (λ (rs : List Ready). slice_after shape (value_by_copy c.copies (forget (s.slice r.bank)) r.event) rs (forget (s.slice r.bank)) r.log r.event)
-      (replies_same shape c.copies s.memory r.bank (s.busy r.log) (s.slice r.bank) r.log (blocks_at agrees r.bank) (agrees.home r.bank) some (agrees.regs r.bank) _ r.event (names_home shape r fits) copy_all)
+      (replies_same shape c.copies s.memory r.bank (s.busy r.log) (s.slice r.bank) r.log (blocks_at agrees r.bank)
+      (agrees.home r.bank) some (agrees.regs r.bank) _ r.event (names_home shape r fits) copy_all)
       ∙ slice_same shape _ _ _ (s.slice r.bank) r.log r.event
       (hit_value shape c.copies s.memory r.bank (s.busy r.log) (s.slice r.bank) r.log (blocks_at agrees r.bank) (agrees.home r.bank) some (agrees.regs r.bank) _ r.event copy_all)
       (miss_value shape c.copies s.memory r.bank (s.busy r.log) (s.slice r.bank) r.log (blocks_at agrees r.bank) (agrees.home r.bank) some (agrees.regs r.bank) r.event)
@@ -226,28 +238,38 @@ module _ (shape : Shape) (some : 0 < shape.factor) (c : CopyState) (s : State) (
       elim (r.bank == bank_of shape x) as (λ b. (r.bank == bank_of shape x) ≡ b → BlockOk (around shape (cond b
       (slice_after shape (value_at s.memory (accepts (s.slice r.bank) r.event)) (replies_at (s.slice r.bank) r.event) (s.slice r.bank) r.log r.event)
       (s.slice (bank_of shape x))) (copies_after shape c.copies (s.slice r.bank) r.event) (memory_after s.memory (s.slice r.bank) r.event) x)) [
-        | true ↦ λ e. block_step shape c.copies s.memory r.bank (s.busy r.log) (s.slice r.bank) r.log (blocks_at agrees r.bank) (agrees.home r.bank) some (agrees.regs r.bank) _ r.event (names_home shape r fits) copy_all x (sym (eqb-true r.bank (bank_of shape x) e))
+        | true ↦ λ e. block_step shape c.copies s.memory r.bank (s.busy r.log) (s.slice r.bank) r.log (blocks_at agrees r.bank)
+            (agrees.home r.bank) some (agrees.regs r.bank) _ r.event (names_home shape r fits) copy_all x (sym (eqb-true r.bank (bank_of shape x) e))
         | false ↦ λ e.
             let apart : bank_of shape x ≡ r.bank → ⊥ = λ same. eqb-false r.bank (bank_of shape x) e (sym same) in
             let stay = copies_apart shape r.bank c.copies s.memory (s.slice r.bank) r.log r.event (names_home shape r fits) (agrees.home r.bank) x apart in
             let stays = accepted_apart shape r.bank s.memory (accepts (s.slice r.bank) r.event) (accepts_home shape r.bank (s.slice r.bank) r.event (agrees.home r.bank)) x apart in
-            subst BlockOk (λ i. record (around shape (s.slice (bank_of shape x)) c.copies s.memory x) { memory = sym stays i; one = sym stay.0 i; two = sym stay.1 i; below = sym stay.2 i }) (agrees.blocks x)
+            subst BlockOk (λ i. record (around shape (s.slice (bank_of shape x)) c.copies s.memory x) {
+              memory = sym stays i;
+              one = sym stay.0 i;
+              two = sym stay.1 i;
+              below = sym stay.2 i;
+            }) (agrees.blocks x)
       ] refl
 
   agrees_next : Agrees shape (copy_state_after shape c r) (state_after shape s r)
   agrees_next = record {
     tags = ap (λ (b : ℕ → ℕ → Option ℕ). update b r.log (busy_after (b r.log) r.bank r.event)) agrees.tags;
-    slices = λ bank. elim (r.bank == bank) as (λ b. cond b (slice_after shape (value_by_copy c.copies (c.slice r.bank) r.event) (replies_by_copy c.copies (c.slice r.bank) r.event) (c.slice r.bank) r.log r.event) (c.slice bank)
+    slices =
+        λ bank. elim (r.bank == bank) as (λ b. cond b
+        (slice_after shape (value_by_copy c.copies (c.slice r.bank) r.event) (replies_by_copy c.copies (c.slice r.bank) r.event) (c.slice r.bank) r.log r.event) (c.slice bank)
         ≡ forget (cond b (slice_after shape (value_at s.memory (accepts (s.slice r.bank) r.event)) (replies_at (s.slice r.bank) r.event) (s.slice r.bank) r.log r.event) (s.slice bank))) [
           | true ↦ slices_next
           | false ↦ agrees.slices bank
         ];
     blocks = λ x. subst (λ (k : Copies). BlockOk (around shape ((state_after shape s r).slice (bank_of shape x)) k (state_after shape s r).memory x)) (sym copies_next) (blocks_next x);
     home = home_step shape s r fits agrees.home;
-    regs = λ bank. elim (r.bank == bank) as (λ b. RegsHome shape (cond b (slice_after shape (value_at s.memory (accepts (s.slice r.bank) r.event)) (replies_at (s.slice r.bank) r.event) (s.slice r.bank) r.log r.event) (s.slice bank)).regs2) [
-      | true ↦ regs_after shape _ _ (s.slice r.bank) r.log r.event (agrees.regs r.bank)
-      | false ↦ agrees.regs bank
-    ];
+    regs =
+        λ bank. elim (r.bank == bank) as (λ b. RegsHome shape
+        (cond b (slice_after shape (value_at s.memory (accepts (s.slice r.bank) r.event)) (replies_at (s.slice r.bank) r.event) (s.slice r.bank) r.log r.event) (s.slice bank)).regs2) [
+          | true ↦ regs_after shape _ _ (s.slice r.bank) r.log r.event (agrees.regs r.bank)
+          | false ↦ agrees.regs bank
+        ];
   }
 
 copies_from : (shape : Shape) → 0 < shape.factor → (rs : List Record) (c : CopyState) (s : State) → AllByRecursion (Fits shape) rs → Agrees shape c s → IsCopyRunFrom shape c rs → IsRunFrom shape s rs

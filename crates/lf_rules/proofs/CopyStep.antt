@@ -246,7 +246,8 @@ module _ (shape : Shape) (slice : Slice) (copies : Copies) (memory : FlatMemory)
 
   pub primary_block : (h : Held Missed) → bank_of shape h.block ≡ bank → (register : ℕ) (queue : ℕ → List Request) → has_line slice.lines1 h.block ≡ false → holds slice.waiting h.block ≡ false
       → h.block ≡ h.target.request.block → h.target.value ≡ read h.target.request (memory h.block) → (y : ℕ) → bank_of shape y ≡ bank
-      → BlockOk (around shape (record slice { queue = queue; waiting = slice.waiting ++ h ∷ []; asked = slice.asked ++ (h.block, register) ∷ [] }) copies (update memory h.block (written h.target.request (memory h.block))) y)
+      → BlockOk (around shape (record slice { queue = queue; waiting = slice.waiting ++ h ∷ []; asked = slice.asked ++ (h.block, register) ∷ [] }) copies
+      (update memory h.block (written h.target.request (memory h.block))) y)
   primary_block h here register queue absent idle same value y in_bank =
       let x = h.block in
       let A : ℕ → Bool → Around = λ y b. record (around shape slice copies memory y) {
@@ -289,7 +290,8 @@ module _ (shape : Shape) (slice : Slice) (copies : Copies) (memory : FlatMemory)
       (by_block A x y (fill1_ok (around shape slice copies memory x) (ok x here) there) (ok y in_bank))
 
   pub evict1_block : (x m : ℕ) → bank_of shape x ≡ bank → has_line slice.lines1 x ≡ true → m ≡ dirty_mask slice.lines1 x → (y : ℕ) → bank_of shape y ≡ bank
-      → BlockOk (around shape (record slice { lines1 = without_line slice.lines1 x; lines2 = mark_at slice.lines2 (second_of shape x) (place_of shape x) m }) (record copies { two = update copies.two x (overlay (copies.two x) (copies.one x) m) }) memory y)
+      → BlockOk (around shape (record slice { lines1 = without_line slice.lines1 x; lines2 = mark_at slice.lines2 (second_of shape x) (place_of shape x) m })
+      (record copies { two = update copies.two x (overlay (copies.two x) (copies.one x) m) }) memory y)
   evict1_block x m here there is y in_bank =
       let new : Masks = marked (dirty_masks slice.lines2 (second_of shape x)) (place_of shape x) m in
       let A : ℕ → Bool → Bool → Around = λ y b c. record (around shape slice copies memory y) {
@@ -350,13 +352,18 @@ module _ (shape : Shape) (slice : Slice) (copies : Copies) (memory : FlatMemory)
       (elim (x == y) as (λ b. (x == y) ≡ b → BlockOk (A y b (second_of shape x == second_of shape y))) [
         | true ↦ λ e. subst (λ k. BlockOk (A k true (second_of shape x == second_of shape k))) (eqb-true x y e) own
         | false ↦ λ e. elim (second_of shape x == second_of shape y) as (λ c. (second_of shape x == second_of shape y) ≡ c → BlockOk (A y false c)) [
-          | true ↦ λ f. other_held_ok (around shape slice copies memory y) (ok y in_bank) (none_is _ (subst (λ k. has_line slice.lines2 k ≡ false) (eqb-true (second_of shape x) (second_of shape y) f) line))
+          | true ↦ λ f. other_held_ok (around shape slice copies memory y) (ok y in_bank)
+              (none_is _ (subst (λ k. has_line slice.lines2 k ≡ false) (eqb-true (second_of shape x) (second_of shape y) f) line))
           | false ↦ λ f. ok y in_bank
         ] refl
       ] refl)
 
   pub fill2_block : (second : ℕ) → 0 < shape.factor → RegsHome shape slice.regs2 → holds slice.regs2 second ≡ true → (y : ℕ) → bank_of shape y ≡ bank
-      → BlockOk (around shape (record slice { regs2 = released slice.regs2 second; lines2 = with_line slice.lines2 second (clean_masks shape.factor); supplied = slice.supplied ++ map block_asked (targets_of slice.regs2 second) })
+      → BlockOk (around shape (record slice {
+        regs2 = released slice.regs2 second;
+        lines2 = with_line slice.lines2 second (clean_masks shape.factor);
+        supplied = slice.supplied ++ map block_asked (targets_of slice.regs2 second);
+      })
       (record copies { two = update_second shape copies.two second copies.below }) memory y)
   fill2_block second some home there y in_bank =
       let A : Bool → Around = λ c. record (around shape slice copies memory y) {
@@ -366,7 +373,8 @@ module _ (shape : Shape) (slice : Slice) (copies : Copies) (memory : FlatMemory)
         supplied = is_among slice.supplied y || cond c (asks_for slice.regs2 y) false;
         two = cond c (copies.below y) (copies.two y);
       } in
-      let now_supplied : is_among (slice.supplied ++ map block_asked (targets_of slice.regs2 second)) y ≡ (is_among slice.supplied y || cond (second == second_of shape y) (asks_for slice.regs2 y) false) =
+      let now_supplied : is_among (slice.supplied ++ map block_asked (targets_of slice.regs2 second)) y
+      ≡ (is_among slice.supplied y || cond (second == second_of shape y) (asks_for slice.regs2 y) false) =
       list_any-append (λ b. b == y) slice.supplied (map block_asked (targets_of slice.regs2 second)) ∙ ap (λ b. is_among slice.supplied y || b) (asked_among shape slice.regs2 second y home) in
       subst BlockOk (sym (λ i. record (A (second == second_of shape y)) {
         line2 = line_put slice.lines2 second (clean_masks shape.factor) (second_of shape y) i;

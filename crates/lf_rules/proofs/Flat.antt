@@ -184,9 +184,11 @@ older_slice : (shape : Shape) (initial : FlatMemory) (history : List Record) (r 
 older_slice shape initial history r slice no_issue quiet ok = record {
   queued = λ port. all_keep (QueuedOk shape history port) (QueuedOk shape (r ∷ history) port) (λ q. queued_as q.tag) (λ q. count_of slice port q.tag) (λ q. eq-eqb q.tag q.tag refl)
       (λ q one h. quiet_issue (act shape port q.tag r) _ (no_issue port q.tag one) ∙ h) (slice.queue port) (λ q. omega arith) (ok.queued port);
-  waiting = all_keep (WaitingOk shape initial history) (WaitingOk shape initial (r ∷ history)) (λ h. waits_as h.target.port h.target.request.tag) (λ h. held_count slice h.target.port h.target.request.tag)
+  waiting =
+      all_keep (WaitingOk shape initial history) (WaitingOk shape initial (r ∷ history)) (λ h. waits_as h.target.port h.target.request.tag) (λ h. held_count slice h.target.port h.target.request.tag)
       (λ h. same_pair h.target.port h.target.request.tag)
-      (λ h one k. older_accepted shape initial history r h.target.port h.target.request.tag h.target.request h.target.value (quiet h.target.port h.target.request.tag one) k) slice.waiting (λ h. omega arith) ok.waiting;
+      (λ h one k. older_accepted shape initial history r h.target.port h.target.request.tag h.target.request h.target.value
+      (quiet h.target.port h.target.request.tag one) k) slice.waiting (λ h. omega arith) ok.waiting;
   ready = all_keep (ReadyOk shape initial history) (ReadyOk shape initial (r ∷ history)) (λ h. is_ready_for h.port h.tag) (λ h. held_count slice h.port h.tag)
       (λ h. same_pair h.port h.tag)
       (λ h one k. (k.0, older_accepted shape initial history r h.port h.tag k.0 h.value (quiet h.port h.tag one) k.1)) slice.ready (λ h. omega arith) ok.ready;

@@ -108,7 +108,8 @@ rules_same shape right busy slice log bank (Merge port tag register) =
     ∷ bank_wants WrongRegister wrong
     ∷ bank_wants MergeFull full
     ∷ [] in
-    λ i. list (holds_same slice.waiting request.block i) (merge_same organisation slice.waiting request.block (destination shape port tag) register i) (takes_same organisation slice.waiting register (request.offset / 8) i)
+    λ i. list (holds_same slice.waiting request.block i) (merge_same organisation slice.waiting request.block (destination shape port tag) register i)
+    (takes_same organisation slice.waiting register (request.offset / 8) i)
 rules_same shape right busy slice log bank (Stall port tag) =
     let request = oldest (slice.queue port) in
     let list = λ (room : Bool).
@@ -132,7 +133,8 @@ rules_same shape right busy slice log bank _ = refl
 pub targets_same : (w : List (Held Missed)) (block : ℕ) → targets_of (map without_value w) block ≡ map without_value (targets_of w block)
 targets_same w block = filter-map (λ h. h.block == block) without_value w
 
-stores_same : (held : List (Held Missed)) (mask : ℕ) → fold (λ mask h. bit_or mask (store_mask h.target.request)) mask (map without_value held) ≡ fold (λ mask h. bit_or mask (store_mask h.target.request)) mask held
+stores_same : (held : List (Held Missed)) (mask : ℕ)
+    → fold (λ mask h. bit_or mask (store_mask h.target.request)) mask (map without_value held) ≡ fold (λ mask h. bit_or mask (store_mask h.target.request)) mask held
 stores_same [] mask = refl
 stores_same (h ∷ held) mask = stores_same held (bit_or mask (store_mask h.target.request))
 

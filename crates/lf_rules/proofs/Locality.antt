@@ -65,7 +65,8 @@ pub bank_clauses_same : (shape : Shape) (a b : Local) (r : Record) → Fits shap
     → first_failing OfBank (clauses shape a r) ≡ first_failing OfBank (clauses shape b r)
 bank_clauses_same shape a b r fits same =
     bank_rules shape (carries shape a.memory a.slice r.event) a.busy b.busy a.slice r.log r.bank r.event
-    ∙ ap (λ right. first_failing OfBank (rules_of shape right b.busy a.slice r.log r.bank r.event)) (carries_same shape a.memory b.memory a.slice r.log r.bank r.event (names_home shape r fits) same.memory)
+    ∙ ap (λ right. first_failing OfBank (rules_of shape right b.busy a.slice r.log r.bank r.event))
+    (carries_same shape a.memory b.memory a.slice r.log r.bank r.event (names_home shape r fits) same.memory)
     ∙ ap (λ (s : Slice). first_failing OfBank (rules_of shape (carries shape b.memory s r.event) b.busy s r.log r.bank r.event)) same.slice
 
 pub port_clauses_same : (shape : Shape) (a b : Local) (r : Record) → a.busy ≡ b.busy

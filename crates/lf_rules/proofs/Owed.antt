@@ -94,12 +94,15 @@ without_count [] log tag port t there = absurd (both_ways false refl there)
 without_count (r ∷ rs) log tag port t there = go (is_ready_for log tag r) refl (without_count rs log tag port t)
   where
     go : (b : Bool) → is_ready_for log tag r ≡ b
-        → (list_any (is_ready_for log tag) rs ≡ true → CountMoves (act_if (log == port && tag == t) Replies) (counted (is_ready_for port t) rs) (counted (is_ready_for port t) (without_ready rs log tag)))
+        → (list_any (is_ready_for log tag) rs ≡ true
+        → CountMoves (act_if (log == port && tag == t) Replies) (counted (is_ready_for port t) rs) (counted (is_ready_for port t) (without_ready rs log tag)))
         → CountMoves (act_if (log == port && tag == t) Replies) (counted (is_ready_for port t) (r ∷ rs)) (counted (is_ready_for port t) (cond b rs (r ∷ without_ready rs log tag)))
     go true e rest =
         let parts = and_parts (r.port == log) (r.tag == tag) e in
-        subst (λ k. CountMoves (act_if (log == port && tag == t) Replies) (bit (k == port && r.tag == t) + counted (is_ready_for port t) rs) (counted (is_ready_for port t) rs)) (sym (eqb-true r.port log parts.0))
-        (subst (λ k. CountMoves (act_if (log == port && tag == t) Replies) (bit (log == port && k == t) + counted (is_ready_for port t) rs) (counted (is_ready_for port t) rs)) (sym (eqb-true r.tag tag parts.1))
+        subst (λ k. CountMoves (act_if (log == port && tag == t) Replies) (bit (k == port && r.tag == t) + counted (is_ready_for port t) rs) (counted (is_ready_for port t) rs))
+        (sym (eqb-true r.port log parts.0))
+        (subst (λ k. CountMoves (act_if (log == port && tag == t) Replies) (bit (log == port && k == t) + counted (is_ready_for port t) rs) (counted (is_ready_for port t) rs))
+        (sym (eqb-true r.tag tag parts.1))
         (taken (log == port && tag == t) (counted (is_ready_for port t) rs)))
     go false e rest =
         moves_more (act_if (log == port && tag == t) Replies) (bit (is_ready_for port t r)) _ _ (rest (sym (ap (λ b. b || list_any (is_ready_for log tag) rs) e) ∙ there))
@@ -120,7 +123,8 @@ pub count_after : (shape : Shape) (right : Bool) (busy : ℕ → Option ℕ) (va
 count_after shape right busy value slice log bank (Issue op tag size address bytes) holds port t =
     let request = request_of shape tag op size address bytes.items in
     subst (λ n. CountMoves (act_if (log == port && tag == t) (Issues request)) (count_of slice port t) (n + held_count slice port t))
-    (sym (queue_count (queued_as t) slice.queue log (slice.queue log ++ request ∷ []) port ∙ ap (λ n. cond (log == port) n (counted (queued_as t) (slice.queue port))) (counted-push (queued_as t) (slice.queue log) request)))
+    (sym (queue_count (queued_as t) slice.queue log (slice.queue log ++ request ∷ []) port
+    ∙ ap (λ n. cond (log == port) n (counted (queued_as t) (slice.queue port))) (counted-push (queued_as t) (slice.queue log) request)))
     (issue_count (log == port) (tag == t) request _ (counted (queued_as t) (slice.queue log)) (held_count slice port t) (λ e. ap (λ k. counted (queued_as t) (slice.queue k)) (eqb-true log port e)))
 count_after shape right busy value slice log bank (Reply tag size bytes) holds port t =
     moves_more (act_if (log == port && tag == t) Replies) (counted (queued_as t) (slice.queue port)) _ _
@@ -193,7 +197,8 @@ queue_after : (shape : Shape) (right : Bool) (busy : ℕ → Option ℕ) (value 
 queue_after shape right busy value replies slice log bank (Issue op tag size address bytes) holds port t =
     let request = request_of shape tag op size address bytes.items in
     subst (QueueMoves (act_if (log == port && tag == t) (Issues request)) (counted (queued_as t) (slice.queue port)))
-    (sym (queue_count (queued_as t) slice.queue log (slice.queue log ++ request ∷ []) port ∙ ap (λ n. cond (log == port) n (counted (queued_as t) (slice.queue port))) (counted-push (queued_as t) (slice.queue log) request)))
+    (sym (queue_count (queued_as t) slice.queue log (slice.queue log ++ request ∷ []) port
+    ∙ ap (λ n. cond (log == port) n (counted (queued_as t) (slice.queue port))) (counted-push (queued_as t) (slice.queue log) request)))
     (issue_queue (log == port) (tag == t) request _ (counted (queued_as t) (slice.queue log)) (λ e. ap (λ k. counted (queued_as t) (slice.queue k)) (eqb-true log port e)))
 queue_after shape right busy value replies slice log bank (Reply tag size bytes) holds port t = reply_queue (log == port && tag == t) _
 queue_after shape right busy value replies slice log bank (Hit p tag) holds port t = popped_queue slice p tag port t (and_parts _ (is_head (slice.queue p) tag) holds.0).1

@@ -101,8 +101,10 @@ bank_of_whole shape (r ∷ rs) state fits home run bank =
     let home_next : AreHome shape next = home_step shape state r fits.0 home in
     let rest : (k : ℕ) → IsRunOf OfBank shape (seen_by 0 k next) (of_bank k rs) = bank_of_whole shape rs next fits.1 home_next run.1 in
     let head : IsRunOf OfBank shape (seen_by 0 r.bank state) (r ∷ of_bank r.bank rs) = (
-      bank_clauses_same shape (seen_by 0 r.bank state) (seen_by r.log r.bank state) r fits.0 (record { slice = refl; memory = λ x e. refl }) ∙ part_holds OfBank (clauses shape (seen_by r.log r.bank state) r) run.0,
-      bank_run_same shape r.bank (of_bank r.bank rs) (seen_by 0 r.bank next) (bank_effect shape (seen_by 0 r.bank state) r) (fit_bank shape r.bank rs fits.1) (home_next r.bank) (bank_stays shape state r) (rest r.bank),
+      bank_clauses_same shape (seen_by 0 r.bank state) (seen_by r.log r.bank state) r fits.0 (record { slice = refl; memory = λ x e. refl })
+          ∙ part_holds OfBank (clauses shape (seen_by r.log r.bank state) r) run.0,
+      bank_run_same shape r.bank (of_bank r.bank rs) (seen_by 0 r.bank next) (bank_effect shape (seen_by 0 r.bank state) r)
+          (fit_bank shape r.bank rs fits.1) (home_next r.bank) (bank_stays shape state r) (rest r.bank),
     ) in
     let Goal : List Record → Type 0 = IsRunOf OfBank shape (seen_by 0 bank state) in
     (elim (cases_Bool (r.bank == bank)) [
@@ -177,14 +179,17 @@ whole_of_parts shape (r ∷ rs) state fits home banks ports =
     (elim (cases_Bool (r.bank == bank)) [
       | inl e ↦ subst (λ k. IsRunOf OfBank shape (seen_by 0 k next) (of_bank k rs)) (eqb-true r.bank bank e)
           (bank_run_same shape r.bank (of_bank r.bank rs) (bank_effect shape (seen_by 0 r.bank state) r) (seen_by 0 r.bank next) (fit_bank shape r.bank rs fits.1)
-          (home_after shape r.bank _ _ (state.slice r.bank) r.log r.event (names_home shape r fits.0) (home r.bank)) (SameBank-sym (bank_stays shape state r)) (bank_head (subst (λ k. k < shape.banks) (sym (eqb-true r.bank bank e)) inside)).1)
-      | inr e ↦ bank_run_same shape bank (of_bank bank rs) (seen_by 0 bank state) (seen_by 0 bank next) (fit_bank shape bank rs fits.1) (home bank) (SameBank-sym (bank_apart shape state r home bank e))
+          (home_after shape r.bank _ _ (state.slice r.bank) r.log r.event (names_home shape r fits.0) (home r.bank))
+          (SameBank-sym (bank_stays shape state r)) (bank_head (subst (λ k. k < shape.banks) (sym (eqb-true r.bank bank e)) inside)).1)
+      | inr e ↦ bank_run_same shape bank (of_bank bank rs) (seen_by 0 bank state) (seen_by 0 bank next)
+          (fit_bank shape bank rs fits.1) (home bank) (SameBank-sym (bank_apart shape state r home bank e))
           (subst (IsRunOf OfBank shape (seen_by 0 bank state)) (cond-false (r.bank == bank) (r ∷ of_bank bank rs) (of_bank bank rs) e) (banks bank inside))
     ]) in
     let ports_next : (log : ℕ) → log < shape.ports → IsRunOf OfPort shape (seen_by log 0 next) (of_log log rs) = λ log lt.
     (elim (cases_Bool (r.log == log)) [
       | inl e ↦ subst (λ k. IsRunOf OfPort shape (seen_by k 0 next) (of_log k rs)) (eqb-true r.log log e)
-          (port_run_same shape (of_log r.log rs) (port_effect (seen_by r.log 0 state) r) (seen_by r.log 0 next) (sym (port_stays shape state r)) (port_head (subst (λ k. k < shape.ports) (sym (eqb-true r.log log e)) lt)).1)
+          (port_run_same shape (of_log r.log rs) (port_effect (seen_by r.log 0 state) r) (seen_by r.log 0 next)
+          (sym (port_stays shape state r)) (port_head (subst (λ k. k < shape.ports) (sym (eqb-true r.log log e)) lt)).1)
       | inr e ↦ port_run_same shape (of_log log rs) (seen_by log 0 state) (seen_by log 0 next) (sym (port_apart shape state r log e))
           (subst (IsRunOf OfPort shape (seen_by log 0 state)) (cond-false (r.log == log) (r ∷ of_log log rs) (of_log log rs) e) (ports log lt))
     ]) in

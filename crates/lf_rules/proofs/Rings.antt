@@ -85,7 +85,11 @@ of_its_bank (r ∷ rs) log i e is = go (r.log == log) i is (λ j there. of_its_b
     further false k there = (k, there)
 
     here : r ≡ e → (k : ℕ) × (record_at (cond (r.bank == e.bank) (r ∷ of_bank e.bank rs) (of_bank e.bank rs)) k ≡ Some e)
-    here same = (0, ap (λ (xs : List Record). record_at xs 0) (cond-true (r.bank == e.bank) (r ∷ of_bank e.bank rs) (of_bank e.bank rs) (eq-eqb r.bank e.bank (ap (λ (q : Record). q.bank) same))) ∙ ap Some same)
+    here same = (
+      0,
+      ap (λ (xs : List Record). record_at xs 0)
+          (cond-true (r.bank == e.bank) (r ∷ of_bank e.bank rs) (of_bank e.bank rs) (eq-eqb r.bank e.bank (ap (λ (q : Record). q.bank) same))) ∙ ap Some same,
+    )
 
     go : (b : Bool) (i : ℕ) → record_at (cond b (r ∷ of_log log rs) (of_log log rs)) i ≡ Some e
         → ((j : ℕ) → record_at (of_log log rs) j ≡ Some e → (k : ℕ) × (record_at (of_bank e.bank rs) k ≡ Some e))
@@ -130,20 +134,26 @@ module _ (logs : List (List Record)) (n : ℕ) (knot : ℕ → Knot) (cycle : Is
       cc
   none_left (r ∷ rs) at next logs_left numbers before =
       let first : r ∷ of_log r.log rs ≡ drop (at r.log) (get_or logs r.log []) = sym (cond-true (r.log == r.log) (r ∷ of_log r.log rs) (of_log r.log rs) (eq-eqb r.log r.log refl)) ∙ logs_left r.log in
-      let counted : (bank : ℕ) → bank < no_bank → (r.bank == bank) ≡ true → map (λ (q : Record). q.number) (r ∷ of_bank bank rs) ≡ range_with_len (next bank) (length (r ∷ of_bank bank rs)) = λ bank named same.
-      subst (λ (xs : List Record). map (λ (q : Record). q.number) xs ≡ range_with_len (next bank) (length xs)) (cond-true (r.bank == bank) (r ∷ of_bank bank rs) (of_bank bank rs) same) (numbers bank named) in
+      let counted : (bank : ℕ) → bank < no_bank → (r.bank == bank) ≡ true
+      → map (λ (q : Record). q.number) (r ∷ of_bank bank rs) ≡ range_with_len (next bank) (length (r ∷ of_bank bank rs)) = λ bank named same.
+      subst (λ (xs : List Record). map (λ (q : Record). q.number) xs ≡ range_with_len (next bank) (length xs))
+      (cond-true (r.bank == bank) (r ∷ of_bank bank rs) (of_bank bank rs) same) (numbers bank named) in
       (elim (somewhere (λ j. (knot j).log == r.log && (knot j).at == at r.log) n) [
         | inl f ↦ stuck f.0 f.1 f.2 first (λ named. counted r.bank named (eq-eqb r.bank r.bank refl))
         | inr free ↦ none_left rs (update at r.log (at r.log + 1)) (update next r.bank (next r.bank + 1))
             (λ log. (elim (cases_Bool (r.log == log)) [
               | inl same ↦ subst (λ k. of_log k rs ≡ drop (update at r.log (at r.log + 1) k) (get_or logs k [])) (eqb-true r.log log same)
-                  (ap (drop 1) first ∙ drop-drop 1 (at r.log) (get_or logs r.log []) ∙ ap (λ k. drop k (get_or logs r.log [])) (sym (cond-true (r.log == r.log) (at r.log + 1) (at r.log) (eq-eqb r.log r.log refl))))
-              | inr apart ↦ sym (cond-false (r.log == log) (r ∷ of_log log rs) (of_log log rs) apart) ∙ logs_left log ∙ ap (λ k. drop k (get_or logs log [])) (sym (cond-false (r.log == log) (at r.log + 1) (at log) apart))
+                  (ap (drop 1) first ∙ drop-drop 1 (at r.log) (get_or logs r.log [])
+                  ∙ ap (λ k. drop k (get_or logs r.log [])) (sym (cond-true (r.log == r.log) (at r.log + 1) (at r.log) (eq-eqb r.log r.log refl))))
+              | inr apart ↦ sym (cond-false (r.log == log) (r ∷ of_log log rs) (of_log log rs) apart) ∙ logs_left log
+                  ∙ ap (λ k. drop k (get_or logs log [])) (sym (cond-false (r.log == log) (at r.log + 1) (at log) apart))
             ]))
             (λ bank named. (elim (cases_Bool (r.bank == bank)) [
-              | inl same ↦ tail (counted bank named same) ∙ ap (λ k. range_with_len k (length (of_bank bank rs))) (sym (cond-true (r.bank == bank) (next r.bank + 1) (next bank) same ∙ ap (λ k. next k + 1) (eqb-true r.bank bank same)))
+              | inl same ↦ tail (counted bank named same)
+                  ∙ ap (λ k. range_with_len k (length (of_bank bank rs))) (sym (cond-true (r.bank == bank) (next r.bank + 1) (next bank) same ∙ ap (λ k. next k + 1) (eqb-true r.bank bank same)))
               | inr apart ↦
-                  subst (λ (xs : List Record). map (λ (q : Record). q.number) xs ≡ range_with_len (next bank) (length xs)) (cond-false (r.bank == bank) (r ∷ of_bank bank rs) (of_bank bank rs) apart) (numbers bank named)
+                  subst (λ (xs : List Record). map (λ (q : Record). q.number) xs ≡ range_with_len (next bank) (length xs))
+                  (cond-false (r.bank == bank) (r ∷ of_bank bank rs) (of_bank bank rs) apart) (numbers bank named)
                   ∙ ap (λ k. range_with_len k (length (of_bank bank rs))) (sym (cond-false (r.bank == bank) (next r.bank + 1) (next bank) apart))
             ]))
             (λ j lt. bound j lt (free j lt) (before j lt))
@@ -179,10 +189,12 @@ module _ (logs : List (List Record)) (n : ℕ) (knot : ℕ → Knot) (cycle : Is
           let w = cycle.waits j lt in
           let k = knot ((j + 1) % n) in
           let named : record_at (get_or logs r.log []) (at r.log) ≡ Some w.waiting =
-          subst (λ a. record_at (get_or logs r.log []) a ≡ Some w.waiting) (eqb-true (knot j).at (at r.log) parts.1) (subst (λ l. record_at (get_or logs l []) (knot j).at ≡ Some w.waiting) (eqb-true (knot j).log r.log parts.0) w.named) in
+          subst (λ a. record_at (get_or logs r.log []) a ≡ Some w.waiting) (eqb-true (knot j).at (at r.log) parts.1)
+          (subst (λ l. record_at (get_or logs l []) (knot j).at ≡ Some w.waiting) (eqb-true (knot j).log r.log parts.0) w.named) in
           let there = at_drop (get_or logs r.log []) (at r.log) (at r.log) w.waiting (omega arith) named in
           let zero_place : at r.log - at r.log ≡ 0 = omega arith in
-          let same : r ≡ w.waiting = some_same (ap (λ (xs : List Record). record_at xs 0) first ∙ subst (λ i. record_at (drop (at r.log) (get_or logs r.log [])) i ≡ Some w.waiting) zero_place there) in
+          let same : r ≡ w.waiting =
+          some_same (ap (λ (xs : List Record). record_at xs 0) first ∙ subst (λ i. record_at (drop (at r.log) (get_or logs r.log [])) i ≡ Some w.waiting) zero_place there) in
           let before_next = before ((j + 1) % n) (next_lt j) in
           let behind = w.behind in
           let e_there = at_drop (get_or logs k.log []) (at k.log) w.place w.earlier (omega (arith, before_next, behind)) w.there in
@@ -190,7 +202,9 @@ module _ (logs : List (List Record)) (n : ℕ) (knot : ℕ → Knot) (cycle : Is
           let in_bank = of_its_bank (r ∷ rs) k.log (w.place - at k.log) w.earlier in_log in
           let bank_is : w.earlier.bank ≡ r.bank = w.same_bank ∙ ap (λ (q : Record). q.bank) (sym same) in
           let named_bank : r.bank < no_bank = subst (λ (q : Record). q.bank < no_bank) (sym same) w.is_bank in
-          let le = number_from (of_bank w.earlier.bank (r ∷ rs)) (next w.earlier.bank) (length (of_bank w.earlier.bank (r ∷ rs))) in_bank.0 w.earlier (numbers w.earlier.bank (subst (λ k. k < no_bank) (sym bank_is) named_bank)) in_bank.1 in
+          let le =
+          number_from (of_bank w.earlier.bank (r ∷ rs)) (next w.earlier.bank) (length (of_bank w.earlier.bank (r ∷ rs))) in_bank.0 w.earlier
+          (numbers w.earlier.bank (subst (λ k. k < no_bank) (sym bank_is) named_bank)) in_bank.1 in
           let mine : r.number ≡ next r.bank = head (counted named_bank) in
           let small = w.smaller in
           omega (arith, le, ap next bank_is, mine, ap (λ (q : Record). q.number) same, small)

@@ -53,10 +53,12 @@ module _ {T : Type 0} (position : T → ℕ) (d : ℕ) (held : List (Held T)) (b
 
   -- the two other organisations look for a register
   shared_room : (o : OrgShape) → ((r : ℕ) → right_for_primary o destination r ≡ true) → ((r : ℕ) → right_for_merge o held block destination r ≡ holds_in held r block)
-      → (cond (holds held block) (list_any (λ r. holds_in held r block && takes o position held r at) (range_with_len 0 (registers_of o d))) (list_any (is_free held) (range_with_len 0 (registers_of o d))) ≡ true) ↔ Room o
+      → (cond (holds held block) (list_any (λ r. holds_in held r block && takes o position held r at) (range_with_len 0 (registers_of o d)))
+      (list_any (is_free held) (range_with_len 0 (registers_of o d))) ≡ true) ↔ Room o
   shared_room o primary merge = (to, from)
     where
-      to : cond (holds held block) (list_any (λ r. holds_in held r block && takes o position held r at) (range_with_len 0 (registers_of o d))) (list_any (is_free held) (range_with_len 0 (registers_of o d))) ≡ true → Room o
+      to : cond (holds held block) (list_any (λ r. holds_in held r block && takes o position held r at) (range_with_len 0 (registers_of o d)))
+          (list_any (is_free held) (range_with_len 0 (registers_of o d))) ≡ true → Room o
       to e =
           (elim (cases_Bool (holds held block)) [
             | inl in_flight ↦
@@ -68,11 +70,13 @@ module _ {T : Type 0} (position : T → ℕ) (d : ℕ) (held : List (Held T)) (b
                 (f.0, inl (absent, omega (arith, f.1), primary f.0, f.2))
           ])
 
-      from : Room o → cond (holds held block) (list_any (λ r. holds_in held r block && takes o position held r at) (range_with_len 0 (registers_of o d))) (list_any (is_free held) (range_with_len 0 (registers_of o d))) ≡ true
+      from : Room o → cond (holds held block) (list_any (λ r. holds_in held r block && takes o position held r at) (range_with_len 0 (registers_of o d)))
+          (list_any (is_free held) (range_with_len 0 (registers_of o d))) ≡ true
       from room =
           (elim room.1 [
             | inl p ↦ cond-false (holds held block) _ _ p.0 ∙ in_any (is_free held) 0 (registers_of o d) room.0 (omega arith) (omega (arith, p.1)) p.3
-            | inr m ↦ cond-true (holds held block) _ _ m.0 ∙ in_any (λ r. holds_in held r block && takes o position held r at) 0 (registers_of o d) room.0 (omega arith) (omega (arith, m.1)) (and_from _ _ (sym (merge room.0) ∙ m.2) m.3)
+            | inr m ↦ cond-true (holds held block) _ _ m.0
+                ∙ in_any (λ r. holds_in held r block && takes o position held r at) 0 (registers_of o d) room.0 (omega arith) (omega (arith, m.1)) (and_from _ _ (sym (merge room.0) ∙ m.2) m.3)
           ])
 
   pub room_is : (o : OrgShape) → (has_room o d position held block destination at ≡ true) ↔ Room o

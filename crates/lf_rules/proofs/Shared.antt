@@ -91,7 +91,9 @@ apart_after shape right busy value replies slice log bank (Primary port tag regi
 apart_after shape right busy value replies slice log bank (Merge port tag register) h apart =
     let clauses = all_hold (rules_of shape right busy slice log bank (Merge port tag register)) h in
     record {
-      level1 = λ closed. push_apart slice.waiting _ (inr (merge_apart shape.level1.organisation slice.waiting (oldest (slice.queue port)).block (destination shape port tag) register closed clauses.1.1.1.0)) (apart.level1 closed);
+      level1 =
+          λ closed. push_apart slice.waiting _
+          (inr (merge_apart shape.level1.organisation slice.waiting (oldest (slice.queue port)).block (destination shape port tag) register closed clauses.1.1.1.0)) (apart.level1 closed);
       level2 = apart.level2;
     }
 apart_after shape right busy value replies slice log bank (Fill1 block bytes) h apart =
@@ -109,7 +111,9 @@ apart_after shape right busy value replies slice log bank (SecondMerge block reg
     let clauses = all_hold (rules_of shape right busy slice log bank (SecondMerge block register)) h in
     record {
       level1 = apart.level1;
-      level2 = λ closed. push_apart slice.regs2 _ (inr (merge_apart shape.level2.organisation slice.regs2 (second_of shape block) (asked_register slice.asked block) register closed clauses.1.1.1.1.0)) (apart.level2 closed);
+      level2 =
+          λ closed. push_apart slice.regs2 _
+          (inr (merge_apart shape.level2.organisation slice.regs2 (second_of shape block) (asked_register slice.asked block) register closed clauses.1.1.1.1.0)) (apart.level2 closed);
     }
 apart_after shape right busy value replies slice log bank (Fill2 block bytes) h apart =
     record {
@@ -137,4 +141,6 @@ shared_from shape (r ∷ rs) state apart run (suc n) bank =
 
 pub runs_share : RunsShare
 unfolding AllApart
-runs_share shape memory rs run = shared_from shape rs (opening memory) (λ bank. record { level1 = λ closed block register other x y. absurd (both_ways false refl x); level2 = λ closed block register other x y. absurd (both_ways false refl x) }) run
+runs_share shape memory rs run =
+    shared_from shape rs (opening memory)
+    (λ bank. record { level1 = λ closed block register other x y. absurd (both_ways false refl x); level2 = λ closed block register other x y. absurd (both_ways false refl x) }) run

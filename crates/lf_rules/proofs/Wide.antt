@@ -52,7 +52,8 @@ part_of_flat g size long a (suc n) zero lt =
     none : 0 * size ≡ 0
     none = omega arith
 part_of_flat g size long a (suc n) (suc j) lt =
-    ap (take size) (ap (λ k. drop k (g a ++ flat_map g (range_with_len (a + 1) n))) (over ∙ ap (λ k. k + j * size) (sym (long a))) ∙ drop-append-add (g a) (flat_map g (range_with_len (a + 1) n)) (j * size))
+    ap (take size) (ap (λ k. drop k (g a ++ flat_map g (range_with_len (a + 1) n))) (over ∙ ap (λ k. k + j * size) (sym (long a)))
+    ∙ drop-append-add (g a) (flat_map g (range_with_len (a + 1) n)) (j * size))
     ∙ part_of_flat g size long (a + 1) n j (omega arith) ∙ ap g (omega arith)
   where
     over : suc j * size ≡ size + j * size
@@ -89,7 +90,8 @@ pub flat_more : (f : ℕ → List ℕ) (a n : ℕ) → flat_map f (range_with_le
 flat_more f a zero = append-nil (f a) ∙ ap f (omega arith)
 flat_more f a (suc n) =
     ap (λ k. flat_map f (range_with_len a k)) (over n)
-    ∙ ap (λ xs. f a ++ xs) (flat_more f (a + 1) n ∙ ap (λ k. flat_map f (range_with_len (a + 1) n) ++ f k) (next a n)) ∙ sym (append_assoc (f a) (flat_map f (range_with_len (a + 1) n)) (f (a + suc n)))
+    ∙ ap (λ xs. f a ++ xs) (flat_more f (a + 1) n ∙ ap (λ k. flat_map f (range_with_len (a + 1) n) ++ f k) (next a n))
+    ∙ sym (append_assoc (f a) (flat_map f (range_with_len (a + 1) n)) (f (a + suc n)))
   where
     next : (a n : ℕ) → a + 1 + n ≡ a + suc n
     next a n = omega arith

@@ -33,7 +33,8 @@ module _ (shape : Shape) (bank : ℕ) where
   part_more m memory ours = fun_ext (λ block. fun_ext (λ place. go block place (m.0 == block) refl))
     where
       go : (block place : ℕ) (b : Bool) → (m.0 == block) ≡ b
-          → cond b (slice_index m.1.items) (bank_part shape bank (flat_memory memory) block) place ≡ cond (bank_of shape block == bank) (cond b (slice_index m.1.items place) (flat_memory memory block place)) 0
+          → cond b (slice_index m.1.items) (bank_part shape bank (flat_memory memory) block) place
+          ≡ cond (bank_of shape block == bank) (cond b (slice_index m.1.items place) (flat_memory memory block place)) 0
       go block place true e = sym (ap (λ c. cond c (slice_index m.1.items place) 0) (ap (λ k. bank_of shape k == bank) (sym (eqb-true m.0 block e)) ∙ ours))
       go block place false e = refl
 
@@ -55,7 +56,8 @@ module _ (shape : Shape) (bank : ℕ) where
       ∙ ap (λ (ms : List (ℕ × ArrayVec ℕ)). bank_part shape bank (flat_memory ms)) (taken_next memory left m some within here)
 
   pub memory_passed : (memory : List (ℕ × ArrayVec ℕ)) (left : ℕ) (m : ℕ × ArrayVec ℕ) (flat : FlatMemory) → 0 < left → left ≤ length memory
-      → m ≡ get_or memory (left - 1) m → flat ≡ bank_part shape bank (flat_memory (drop left memory)) → (bank_of shape m.0 ≡ bank → ⊥) → flat ≡ bank_part shape bank (flat_memory (drop (left - 1) memory))
+      → m ≡ get_or memory (left - 1) m → flat ≡ bank_part shape bank (flat_memory (drop left memory))
+      → (bank_of shape m.0 ≡ bank → ⊥) → flat ≡ bank_part shape bank (flat_memory (drop (left - 1) memory))
   memory_passed memory left m flat some within here before other =
       before ∙ part_same m (drop left memory) (ne_eqb (bank_of shape m.0) bank other)
       ∙ ap (λ (ms : List (ℕ × ArrayVec ℕ)). bank_part shape bank (flat_memory ms)) (taken_next memory left m some within here)

@@ -27,7 +27,8 @@ IsFirstReady ready port tag found = MatchOption found (list_any (is_ready_for po
 pub ready_found : (ready : List Ready) (port tag : ℕ) → IsFirstReady ready port tag (find (is_ready_for port tag) ready)
 ready_found [] port tag = refl
 ready_found (r ∷ ready) port tag =
-    elim (is_ready_for port tag r) as (λ b. MatchOption (cond b (Some r) (find (is_ready_for port tag) ready)) ((b || list_any (is_ready_for port tag) ready) ≡ false) (λ s. ((b || list_any (is_ready_for port tag) ready) ≡ true) × (s.value ≡ cond b r.value (first_ready ready port tag)))) [
+    elim (is_ready_for port tag r) as (λ b. MatchOption (cond b (Some r) (find (is_ready_for port tag) ready)) ((b || list_any (is_ready_for port tag) ready) ≡ false)
+    (λ s. ((b || list_any (is_ready_for port tag) ready) ≡ true) × (s.value ≡ cond b r.value (first_ready ready port tag)))) [
       | true ↦ (refl, refl)
       | false ↦ ready_found ready port tag
     ]
@@ -39,12 +40,14 @@ ready_lent ready port tag (Some r) e = let P : Option Ready → Type 0 = IsFirst
 
 -- ---- the first ready reply leaves
 
-ready_dropped : (ready : List Ready) (port tag : ℕ) → take (position_or_len (is_ready_for port tag) ready) ready ++ drop (suc (position_or_len (is_ready_for port tag) ready)) ready ≡ without_ready ready port tag
+ready_dropped : (ready : List Ready) (port tag : ℕ)
+    → take (position_or_len (is_ready_for port tag) ready) ready ++ drop (suc (position_or_len (is_ready_for port tag) ready)) ready ≡ without_ready ready port tag
 ready_dropped [] port tag = refl
 ready_dropped (r ∷ ready) port tag = go (is_ready_for port tag r) (ready_dropped ready port tag)
   where
     go : (b : Bool) → take (position_or_len (is_ready_for port tag) ready) ready ++ drop (suc (position_or_len (is_ready_for port tag) ready)) ready ≡ without_ready ready port tag
-        → take (cond (not b) (1 + position_or_len (is_ready_for port tag) ready) 0) (r ∷ ready) ++ drop (suc (cond (not b) (1 + position_or_len (is_ready_for port tag) ready) 0)) (r ∷ ready) ≡ cond b ready (r ∷ without_ready ready port tag)
+        → take (cond (not b) (1 + position_or_len (is_ready_for port tag) ready) 0) (r ∷ ready)
+        ++ drop (suc (cond (not b) (1 + position_or_len (is_ready_for port tag) ready) 0)) (r ∷ ready) ≡ cond b ready (r ∷ without_ready ready port tag)
     go true rest = refl
     go false rest =
         let one : 1 + position_or_len (is_ready_for port tag) ready ≡ suc (position_or_len (is_ready_for port tag) ready) = omega arith in
@@ -65,4 +68,5 @@ none_removed ready port tag e = go (nat_lt (position_or_len (is_ready_for port t
     go true e f = absurd (cc)
     go false e f =
         let past : length ready ≤ position_or_len (is_ready_for port tag) ready = ltb-false (position_or_len (is_ready_for port tag) ready) (length ready) e in
-        sym (append-nil ready) ∙ ap₂ (λ (xs ys : List Ready). xs ++ ys) (sym (take_all _ ready past)) (sym (drop_all (suc (position_or_len (is_ready_for port tag) ready)) ready (omega arith))) ∙ ready_dropped ready port tag
+        sym (append-nil ready) ∙ ap₂ (λ (xs ys : List Ready). xs ++ ys) (sym (take_all _ ready past))
+        (sym (drop_all (suc (position_or_len (is_ready_for port tag) ready)) ready (omega arith))) ∙ ready_dropped ready port tag

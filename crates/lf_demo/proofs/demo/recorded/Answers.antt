@@ -16,4 +16,5 @@ returns-in-Ok-close g c =
     let is_open : c.in_ok-recording.recording.desk ≡ opened desk = c.in_ok-recording.ensures.0 ∙ c.in-Ok.ensures.ok in
     let logs = c.in-Ok-close.logs in
     let closed = c.in-Ok-close.ensures in
-    recording_of c.args.shape.now c.in_ok-recording.recording.places.shape desk c.in_ok-recording.recording.desk _ c.in_ok-seats.seats.items is_open c.in_ok-desk.ensures.1 c.in_ok-desk.ensures.2 c.in_ok-recording.ensures.1 c.in_ok-seats.ensures (length-map logs.items (λ log. log.items) ∙ closed.count) closed.recorded closed.kept closed.whole
+    recording_of c.args.shape.now c.in_ok-recording.recording.places.shape desk c.in_ok-recording.recording.desk _ c.in_ok-seats.seats.items is_open c.in_ok-desk.ensures.1
+    c.in_ok-desk.ensures.2 c.in_ok-recording.ensures.1 c.in_ok-seats.ensures (length-map logs.items (λ log. log.items) ∙ closed.count) closed.recorded closed.kept closed.whole

@@ -19,7 +19,9 @@ loop-seat-preserved g c =
     let steps : into_iter_items at.seat-iterator ≡ x ∷ into_iter_items c.next.new.self = c.in-Some.ensures.steps.0 in
     let promise = c.in-Ok.ensures.ok in record {
       left = All-tail P x (into_iter_items c.next.new.self) (subst (All P) steps at.invariant.left);
-      promises = subst (All Q) (sym c.in_ok-push-in-Ok.ensures.items) (All-push Q at.handles.items c.in-Ok.handle at.invariant.promises (ap (λ (p : RecordedBy). p.recording.now.places.shape) promise, ap (λ (p : RecordedBy). p.recording.now.desk) promise));
+      promises =
+          subst (All Q) (sym c.in_ok-push-in-Ok.ensures.items)
+          (All-push Q at.handles.items c.in-Ok.handle at.invariant.promises (ap (λ (p : RecordedBy). p.recording.now.places.shape) promise, ap (λ (p : RecordedBy). p.recording.now.desk) promise));
     }
 
 pub returns-in-Ok-join_promised : goal.returns-in-Ok-join_promised
@@ -28,4 +30,5 @@ returns-in-Ok-join_promised g c =
     let all = c.in-Ok-join_promised.all in
     let count : at.handles.len ≡ length at.handles.items = (let ok = at.handles.ok in omega arith) in
     let same : length all.items ≡ at.handles.len = (let ok = all.ok in let len = c.in-Ok-join_promised.ensures.len in omega arith) in
-    each_recorded c.args.recording.now.places.shape c.args.recording.now.desk _ (λ p r k. k) at.handles.items at.invariant.promises at.handles.len all.items count same c.in-Ok-join_promised.ensures.each
+    each_recorded c.args.recording.now.places.shape c.args.recording.now.desk _
+    (λ p r k. k) at.handles.items at.invariant.promises at.handles.len all.items count same c.in-Ok-join_promised.ensures.each

@@ -34,7 +34,8 @@ loop-log-preserved c =
     let first = c.in-Some.ensures in
     let stand = c.loop-log.invariant.1 in (
       subst (λ (os : List ℕ). Ongoing L os new.places new.next) (sym c.in_ok-push.ensures.items)
-          (one_more L c.loop-log.order.items heads.places heads.next c.loop-log.invariant.0 log new.places new.next first.is_log (first_goes L heads.places heads.next c.loop-log.roster stand log first)
+          (one_more L c.loop-log.order.items heads.places heads.next c.loop-log.invariant.0 log new.places new.next first.is_log
+          (first_goes L heads.places heads.next c.loop-log.roster stand log first)
           (none_below L heads.places heads.next c.loop-log.roster stand log first) c.let_go.ensures.gone),
       c.let_go.ensures.stand,
     )
@@ -45,4 +46,5 @@ returns c =
     let heads = c.loop-log.heads in
     let few = c.requires.few in
     all_gone (skeleton_lists skeletons) c.loop-log.order.items heads.places heads.next c.loop-log.invariant.0
-    (past_all skeletons heads.places heads.next (λ log lt. none_goes (skeleton_lists skeletons) heads.places heads.next c.loop-log.roster c.loop-log.invariant.1 c.in_default.ensures log (omega (arith, lt, few))))
+    (past_all skeletons heads.places heads.next
+    (λ log lt. none_goes (skeleton_lists skeletons) heads.places heads.next c.loop-log.roster c.loop-log.invariant.1 c.in_default.ensures log (omega (arith, lt, few))))

@@ -41,8 +41,11 @@ loop-seat-preserved-then-from-len c =
       left = (let was = at.invariant.left in let gone = c.in-Some.ensures.steps.1 in let short = ap length steps in omega arith);
       mine = All-tail P x (into_iter_items c.next.new.self) (subst (All P) steps at.invariant.mine);
       table = c.join_seat.ensures.0 ∙ at.invariant.table;
-      made = collector_after c.args.made at.yielded x at.collector.me inside.seat.me _ at.invariant.made (c.seat.invariant ∙ ap (λ (s : SeatView). (Log s.log s.records, [])) view) c.join_seat.ensures.2;
-      logs = logs_after (λ log. log.items) _ at.yielded x at.logs.items at.invariant.logs _ inside.records (c.from-then-from-len.ensures ∙ ap (λ (s : SeatView). s.log) view) (ap (λ (s : SeatView). s.records) view);
+      made =
+          collector_after c.args.made at.yielded x at.collector.me inside.seat.me _ at.invariant.made (c.seat.invariant ∙ ap (λ (s : SeatView). (Log s.log s.records, [])) view) c.join_seat.ensures.2;
+      logs =
+          logs_after (λ log. log.items) _ at.yielded x at.logs.items at.invariant.logs _ inside.records
+          (c.from-then-from-len.ensures ∙ ap (λ (s : SeatView). s.log) view) (ap (λ (s : SeatView). s.records) view);
     }
 
 pub loop-seat-preserved : goal.loop-seat-preserved
@@ -59,6 +62,7 @@ loop-seat-preserved c =
       left = (let was = at.invariant.left in let gone = c.in-Some.ensures.steps.1 in let short = ap length steps in omega arith);
       mine = All-tail P x (into_iter_items c.next.new.self) (subst (All P) steps at.invariant.mine);
       table = c.join_seat.ensures.0 ∙ at.invariant.table;
-      made = collector_after c.args.made at.yielded x at.collector.me inside.seat.me _ at.invariant.made (c.seat.invariant ∙ ap (λ (s : SeatView). (Log s.log s.records, [])) view) c.join_seat.ensures.2;
+      made =
+          collector_after c.args.made at.yielded x at.collector.me inside.seat.me _ at.invariant.made (c.seat.invariant ∙ ap (λ (s : SeatView). (Log s.log s.records, [])) view) c.join_seat.ensures.2;
       logs = logs_same (λ log. log.items) _ at.yielded x at.logs.items at.invariant.logs (subst (λ (s : SeatView). length at.logs.items ≤ s.log) view past);
     }

@@ -15,7 +15,8 @@ from_lowest-requires-clause-logs c =
     let Fits : ℕ → Type 0 = λ log. (log < 32) × (slice_index heads.places log < 2 ^ 32) in
     let is : take (length c.as_slice.result.now - again) (drop again c.as_slice.result.now) ≡ drop again path = take_rest c.as_slice.result.now again ∙ ap (drop again) c.as_slice.ensures.value in
     subst (λ (xs : List ℕ). All Fits xs) (sym is)
-    (All-drop Fits again path (path_fits c.args.skeletons.now heads.places heads.next path (slice_index path again) c.requires.few c.requires.short c.walk-path.ensures.path.chain c.walk-path.ensures.logs))
+    (All-drop Fits again path
+    (path_fits c.args.skeletons.now heads.places heads.next path (slice_index path again) c.requires.few c.requires.short c.walk-path.ensures.path.chain c.walk-path.ensures.logs))
 
 pub returns : goal.returns
 returns c =

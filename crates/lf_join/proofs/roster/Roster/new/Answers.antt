@@ -11,5 +11,6 @@ loop-log-init c = (λ k lt. absurd (omega arith), λ k lt from. c.empty-roster.e
 pub loop-log-preserved : goal.loop-log-preserved
 loop-log-preserved c =
     let heads = c.args.heads.now in
-    one_placed c.loop-log.roster c.settle.new.self c.loop-log.log (λ (k : ℕ). standing_of heads.next (next_entry (skeleton_lists c.args.skeletons.now) heads.places k)) c.loop-log-test.true c.loop-log.invariant
+    one_placed c.loop-log.roster c.settle.new.self c.loop-log.log
+    (λ (k : ℕ). standing_of heads.next (next_entry (skeleton_lists c.args.skeletons.now) heads.places k)) c.loop-log-test.true c.loop-log.invariant
     c.settle.ensures.settled c.settle.ensures.others

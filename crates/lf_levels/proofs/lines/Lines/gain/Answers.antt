@@ -11,13 +11,29 @@ pub unreachable-requires : goal.unreachable-requires
 unreachable-requires g c = not_lacking c.self.invariant c.args.self.now c.self.view_is c.args.block c.row-row.result c.row-row.ensures _ c.deref.ensures.value c.requires c.in_default.ensures
 
 pub index-requires : goal.index-requires
-index-requires g c = omega (arith, way_inside c.self.invariant c.args.self.now c.self.view_is c.args.block c.row-row.result c.row-row.ensures _ c.deref.ensures.value (is_on c.args.block) c.in-Some.way c.in-Some.ensures, c.self.inside.rows.ok.0)
+index-requires g c =
+    omega (
+      arith,
+      way_inside c.self.invariant c.args.self.now c.self.view_is c.args.block c.row-row.result c.row-row.ensures _ c.deref.ensures.value
+          (is_on c.args.block) c.in-Some.way c.in-Some.ensures,
+      c.self.inside.rows.ok.0,
+    )
 
 pub invariant_of-self : goal.invariant_of-self
-invariant_of-self g c = set_whole c.self.invariant c.args.self.now c.self.view_is c.args.block c.row-row.result c.row-row.ensures _ c.deref.ensures.value c.in-Some.way c.in-Some.ensures c.join-dirty.result
+invariant_of-self g c =
+    set_whole c.self.invariant c.args.self.now c.self.view_is c.args.block c.row-row.result c.row-row.ensures _ c.deref.ensures.value c.in-Some.way c.in-Some.ensures c.join-dirty.result
 
 pub returns-clause-gained : goal.returns-clause-gained
-returns-clause-gained g c = gained_table c.self.invariant c.args.self.now c.self.view_is c.args.block c.row-row.result c.row-row.ensures _ c.deref.ensures.value c.in-Some.way c.in-Some.ensures _ (sym c.in-Some-index.is ∙ get_or_read c.self.inside.rows.items c.in-Some.way _ (way_inside c.self.invariant c.args.self.now c.self.view_is c.args.block c.row-row.result c.row-row.ensures _ c.deref.ensures.value (is_on c.args.block) c.in-Some.way c.in-Some.ensures) c.index.ensures None) g.L.Level.join g.L.Level.clean c.args.more.now c.join-dirty.result c.join-dirty.ensures
+returns-clause-gained g c =
+    gained_table c.self.invariant c.args.self.now c.self.view_is c.args.block c.row-row.result c.row-row.ensures _ c.deref.ensures.value c.in-Some.way c.in-Some.ensures _
+    (sym c.in-Some-index.is ∙ get_or_read c.self.inside.rows.items c.in-Some.way _
+    (way_inside c.self.invariant c.args.self.now c.self.view_is c.args.block c.row-row.result c.row-row.ensures _ c.deref.ensures.value
+    (is_on c.args.block) c.in-Some.way c.in-Some.ensures) c.index.ensures None) g.L.Level.join g.L.Level.clean c.args.more.now c.join-dirty.result c.join-dirty.ensures
 
 pub returns-clause-here : goal.returns-clause-here
-returns-clause-here g c = changed-fill c.args.self.now _ c.args.block _ (gained_table c.self.invariant c.args.self.now c.self.view_is c.args.block c.row-row.result c.row-row.ensures _ c.deref.ensures.value c.in-Some.way c.in-Some.ensures _ (sym c.in-Some-index.is ∙ get_or_read c.self.inside.rows.items c.in-Some.way _ (way_inside c.self.invariant c.args.self.now c.self.view_is c.args.block c.row-row.result c.row-row.ensures _ c.deref.ensures.value (is_on c.args.block) c.in-Some.way c.in-Some.ensures) c.index.ensures None) g.L.Level.join g.L.Level.clean c.args.more.now c.join-dirty.result c.join-dirty.ensures)
+returns-clause-here g c =
+    changed-fill c.args.self.now _ c.args.block _
+    (gained_table c.self.invariant c.args.self.now c.self.view_is c.args.block c.row-row.result c.row-row.ensures _ c.deref.ensures.value c.in-Some.way c.in-Some.ensures _
+    (sym c.in-Some-index.is ∙ get_or_read c.self.inside.rows.items c.in-Some.way _
+    (way_inside c.self.invariant c.args.self.now c.self.view_is c.args.block c.row-row.result c.row-row.ensures _ c.deref.ensures.value
+    (is_on c.args.block) c.in-Some.way c.in-Some.ensures) c.index.ensures None) g.L.Level.join g.L.Level.clean c.args.more.now c.join-dirty.result c.join-dirty.ensures)

@@ -8,7 +8,13 @@ pub find_line-requires : goal.find_line-requires
 find_line-requires g c = row_fits c.self.invariant c.args.self.now c.self.view_is c.args.block c.row.result c.row.ensures _ c.deref.ensures.value
 
 pub index-requires : goal.index-requires
-index-requires g c = omega (arith, way_inside c.self.invariant c.args.self.now c.self.view_is c.args.block c.row.result c.row.ensures _ c.deref.ensures.value (is_on c.args.block) c.in-Some.way c.in-Some.ensures, c.self.inside.rows.ok.0)
+index-requires g c =
+    omega (
+      arith,
+      way_inside c.self.invariant c.args.self.now c.self.view_is c.args.block c.row.result c.row.ensures _ c.deref.ensures.value
+          (is_on c.args.block) c.in-Some.way c.in-Some.ensures,
+      c.self.inside.rows.ok.0,
+    )
 
 pub returns-in_default-clause-value : goal.returns-in_default-clause-value
 returns-in_default-clause-value g c = sym (line_lacking c.self.invariant c.args.self.now c.self.view_is c.args.block c.row.result c.row.ensures _ c.deref.ensures.value c.in_default.ensures)

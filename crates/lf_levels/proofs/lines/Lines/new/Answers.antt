@@ -6,7 +6,8 @@ use Rattle.lf_levels.proofs.lines.Lines.new.Goals as goal
 
 pub invariant_of-result : goal.invariant_of-result
 invariant_of-result g c =
-    whole-new g.L.Level.set c.args.sets c.args.ways c.args.banks c.args.factor _ (omega (arith, c.requires.sets.0)) (omega (arith, c.requires.sets.1)) (omega (arith, c.requires.ways.1)) (omega (arith, c.requires.banks.0)) c.requires.factor
+    whole-new g.L.Level.set c.args.sets c.args.ways c.args.banks c.args.factor _ (omega (arith, c.requires.sets.0))
+    (omega (arith, c.requires.sets.1)) (omega (arith, c.requires.ways.1)) (omega (arith, c.requires.banks.0)) c.requires.factor
     g.L.Level.set_below c.in_ok-rows.ensures
 
 pub returns : goal.returns

@@ -7,10 +7,17 @@ pub find_free-requires : goal.find_free-requires
 find_free-requires g c = row_fits c.self.invariant c.args.self.now c.self.view_is c.args.block c.row-row.result c.row-row.ensures _ c.deref.ensures.value
 
 pub index_mut-requires : goal.index_mut-requires
-index_mut-requires g c = omega (arith, way_inside c.self.invariant c.args.self.now c.self.view_is c.args.block c.row-row.result c.row-row.ensures _ c.deref.ensures.value is_free c.in-Some.way c.in-Some.ensures, c.self.inside.rows.ok.0)
+index_mut-requires g c =
+    omega (
+      arith,
+      way_inside c.self.invariant c.args.self.now c.self.view_is c.args.block c.row-row.result
+          c.row-row.ensures _ c.deref.ensures.value is_free c.in-Some.way c.in-Some.ensures,
+      c.self.inside.rows.ok.0,
+    )
 
 pub invariant_of-self : goal.invariant_of-self
-invariant_of-self g c = filled_whole c.self.invariant c.args.self.now c.self.view_is c.args.block c.row-row.result c.row-row.ensures _ c.deref.ensures.value c.in-Some.way c.in-Some.ensures c.requires c.args.dirty
+invariant_of-self g c =
+    filled_whole c.self.invariant c.args.self.now c.self.view_is c.args.block c.row-row.result c.row-row.ensures _ c.deref.ensures.value c.in-Some.way c.in-Some.ensures c.requires c.args.dirty
 
 pub returns-in_default-clause-refused : goal.returns-in_default-clause-refused
 returns-in_default-clause-refused g c = full_value c.self.invariant c.args.self.now c.self.view_is c.args.block c.row-row.result c.row-row.ensures _ c.deref.ensures.value None c.in_default.ensures
@@ -19,7 +26,19 @@ pub returns-clause-free_way : goal.returns-clause-free_way
 returns-clause-free_way g c = full_value c.self.invariant c.args.self.now c.self.view_is c.args.block c.row-row.result c.row-row.ensures _ c.deref.ensures.value (Some c.in-Some.way) c.in-Some.ensures
 
 pub returns-clause-filled : goal.returns-clause-filled
-returns-clause-filled g c = filled_table c.self.invariant c.args.self.now c.self.view_is c.args.block c.row-row.result c.row-row.ensures _ c.deref.ensures.value c.in-Some.way c.in-Some.ensures c.requires c.args.dirty
+returns-clause-filled g c =
+    filled_table c.self.invariant c.args.self.now c.self.view_is c.args.block c.row-row.result c.row-row.ensures _ c.deref.ensures.value c.in-Some.way c.in-Some.ensures c.requires c.args.dirty
 
 pub returns-clause-here : goal.returns-clause-here
-returns-clause-here g c = changed-fill c.args.self.now _ c.args.block c.args.dirty (filled_table c.self.invariant c.args.self.now c.self.view_is c.args.block c.row-row.result c.row-row.ensures _ c.deref.ensures.value c.in-Some.way c.in-Some.ensures c.requires c.args.dirty)
+returns-clause-here g c =
+    changed-fill c.args.self.now _ c.args.block c.args.dirty
+    (filled_table c.self.invariant c.args.self.now c.self.view_is c.args.block c.row-row.result c.row-row.ensures _ c.deref.ensures.value c.in-Some.way c.in-Some.ensures c.requires c.args.dirty)
+
+pub returns-in_default-clause-free_way : goal.returns-in_default-clause-free_way
+returns-in_default-clause-free_way g c = tt
+
+pub returns-in_default-clause-filled : goal.returns-in_default-clause-filled
+returns-in_default-clause-filled g c = tt
+
+pub returns-in_default-clause-here : goal.returns-in_default-clause-here
+returns-in_default-clause-here g c = tt

@@ -10,7 +10,13 @@ pub unreachable-requires : goal.unreachable-requires
 unreachable-requires g c = not_lacking c.self.invariant c.args.self.now c.self.view_is c.args.block c.row-row.result c.row-row.ensures _ c.deref.ensures.value c.requires c.in_default.ensures
 
 pub index_mut-requires : goal.index_mut-requires
-index_mut-requires g c = omega (arith, way_inside c.self.invariant c.args.self.now c.self.view_is c.args.block c.row-row.result c.row-row.ensures _ c.deref.ensures.value (is_on c.args.block) c.in-Some.way c.in-Some.ensures, c.self.inside.rows.ok.0)
+index_mut-requires g c =
+    omega (
+      arith,
+      way_inside c.self.invariant c.args.self.now c.self.view_is c.args.block c.row-row.result c.row-row.ensures _ c.deref.ensures.value
+          (is_on c.args.block) c.in-Some.way c.in-Some.ensures,
+      c.self.inside.rows.ok.0,
+    )
 
 pub invariant_of-self : goal.invariant_of-self
 invariant_of-self g c = gone_whole c.self.invariant c.args.self.now c.self.view_is c.args.block c.row-row.result c.row-row.ensures _ c.deref.ensures.value c.in-Some.way c.in-Some.ensures
@@ -19,4 +25,6 @@ pub returns-clause-gone : goal.returns-clause-gone
 returns-clause-gone g c = gone_table c.self.invariant c.args.self.now c.self.view_is c.args.block c.row-row.result c.row-row.ensures _ c.deref.ensures.value c.in-Some.way c.in-Some.ensures
 
 pub returns-clause-here : goal.returns-clause-here
-returns-clause-here g c = changed-evict c.args.self.now _ c.args.block (gone_table c.self.invariant c.args.self.now c.self.view_is c.args.block c.row-row.result c.row-row.ensures _ c.deref.ensures.value c.in-Some.way c.in-Some.ensures)
+returns-clause-here g c =
+    changed-evict c.args.self.now _ c.args.block
+    (gone_table c.self.invariant c.args.self.now c.self.view_is c.args.block c.row-row.result c.row-row.ensures _ c.deref.ensures.value c.in-Some.way c.in-Some.ensures)

@@ -25,7 +25,8 @@ new_spec 𝓤 𝓛 𝓜 𝓡 wired =
     let y : (walk_of 𝓛 ended hs c).Ghost = ((κs, qs, bounds, a, (token_val ∷ [], tt)), gh) in let Post : Val → SProp 𝓤 = (walk_of 𝓛 ended hs c).post y in
     qed 𝓛 ((raw (alive 𝓛 ended.signature κs qs) ⊛ ‵ (owns (types_at ended.signature.params κs) a y.0.4)) ∷ raw ((c κs a).requires gh) ∷ []) ∵
     split ! $ keep ! (1 ∷ 0 ∷ []) $ feq_i ! (List Val) (aside_val ∷ []) (aside_val ∷ []) refl $ fjoin ! $
-    fpack ! (Valss (Lr ∷ [])) (λ vss. fsep (base.Fml.feq (List Val) (aside_val ∷ []) (vstruct (of_list (vss.0 ++ [])) ∷ [])) (owns (Lr ∷ []) (x, tt) vss)) (token_val ∷ [], tt) $ nothing ! $ move ! (1 ∷ 0 ∷ []) $ fjoin ! $
+    fpack ! (Valss (Lr ∷ [])) (λ vss. fsep (base.Fml.feq (List Val) (aside_val ∷ []) (vstruct (of_list (vss.0 ++ [])) ∷ [])) (owns (Lr ∷ []) (x, tt) vss))
+    (token_val ∷ [], tt) $ nothing ! $ move ! (1 ∷ 0 ∷ []) $ fjoin ! $
     enter ! 𝓣.C 𝓣.Λ fn (token_val ∷ []) Post $ alloc_all ! (λ l. pass_all ! refl ((tt, (tt, tt)), tt) $
     sets ! (of_opd ! (get ! refl)) refl (tt, (tt, tt)) $ sets ! (agg ! (and_then ! (get ! refl) (no_more !))) refl (tt, ((tt, tt), tt)) $
     use0 𝓛 (raw (fact 𝓤 (x ≡ x))) (fact_i 𝓤 (x ≡ x) (emp 𝓤) refl) $ nothing ! $ nothing ! $ fjoin ! $
