@@ -7,7 +7,7 @@ use Rattle.lf_rules.specs.State.{Local}
 use Rattle.lf_rules.specs.Outcomes.{first_local}
 use Rattle.lf_rules.specs.Table.{OfPort, clauses, port_effect}
 use Rattle.lf_rules.specs.Run.{first_failing, IsRunOf, BreaksAt}
-use Rattle.lf_logs.specs.Tags.{PortKept, with_tags, port_after, PortStandsAfter, IsPortFaultAfter}
+use Rattle.lf_logs.specs.Tags.{PortView, with_tags, port_after, PortStandsAfter, IsPortFaultAfter}
 
 module _ (shape : Shape) where
   port_run_more : (now : Local) (rs : List Record) (r : Record) → IsRunOf OfPort shape now rs
@@ -24,7 +24,7 @@ module _ (shape : Shape) where
   port_breaks_more now [] r rule run some = some
   port_breaks_more now (x ∷ rs) r rule run some = (run.0, port_breaks_more (port_effect now x) rs r rule run.1 some)
 
-module _ (old new : PortKept) (shape : Shape) (rs : List Record) (stands : PortStandsAfter old shape rs) (r : Record) where
+module _ (old new : PortView) (shape : Shape) (rs : List Record) (stands : PortStandsAfter old shape rs) (r : Record) where
   pub PortStandsAfter-more : ((now : Local) → None ≡ first_failing OfPort (clauses old.shape (with_tags now old.owed_by) r))
       → ((now : Local) → port_effect (with_tags now old.owed_by) r ≡ with_tags now new.owed_by)
       → new.shape ≡ old.shape → PortStandsAfter new shape (rs ++ r ∷ [])

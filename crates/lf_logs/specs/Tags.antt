@@ -14,7 +14,7 @@ abbrev pub with_tags : Local → List (Option ℕ) → Local
 with_tags now owed_by = record now { busy = λ tag. slice_index_or owed_by tag None }
 
 -- what the rules of a port, judged a record at a time, keep
-pub record PortKept : Type 0 where
+pub record PortView : Type 0 where
   pub shape : Shape
   pub port : ℕ
   pub owed_by : List (Option ℕ)
@@ -25,7 +25,7 @@ port_after shape now [] = now
 port_after shape now (r ∷ rs) = port_after shape (port_effect now r) rs
 
 -- The records are a run of the port, and what is kept is the state where it ends. Its rules look at no memory.
-pub record PortStandsAfter (step : PortKept) (shape : Shape) (rs : List Record) : Type 0 where
+pub record PortStandsAfter (step : PortView) (shape : Shape) (rs : List Record) : Type 0 where
   pub of_shape : step.shape ≡ shape
   pub is_run : (memory : FlatMemory) → IsRunOf OfPort shape (first_local memory) rs
   pub state : (memory : FlatMemory) → port_after shape (first_local memory) rs ≡ with_tags (first_local memory) step.owed_by

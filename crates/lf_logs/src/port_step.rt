@@ -18,9 +18,9 @@ pub struct PortStep {
 }
 
 impl Model for PortStep {
-    ghost use Rattle.lf_logs.specs.Tags.{PortKept};
+    ghost use Rattle.lf_logs.specs.Tags.{PortView};
 
-    ghost Value = { PortKept };
+    ghost Value = { PortView };
 
     ghost view = { λ s. record { shape = s.shape; port = s.port; owed_by = s.tags.owed_by } };
 }

@@ -14,7 +14,7 @@ use Rattle.lf_rules.specs.State.{Local}
 use Rattle.lf_rules.specs.Run.{BreaksAt, effect}
 use Rattle.lf_rules.specs.Table.{Side, OfPort, OfBank}
 use Rattle.lf_logs.specs.Reordering.{Reordering, first_with, HasOrdered}
-use Rattle.lf_logs.specs.Tags.{PortKept}
+use Rattle.lf_logs.specs.Tags.{PortView}
 use Rattle.lf_logs.proofs.Reordered.{first_with-number, first_with-push_other}
 use Rattle.lf_logs.proofs.GivenOut.{first_with-all}
 use Rattle.lf_replay.specs.Step.{StepView, IsForStep}
@@ -27,7 +27,7 @@ breaks_longer side shape now [] r n rule breaks = absurd breaks
 breaks_longer side shape now (x ∷ rs) r zero rule breaks = breaks
 breaks_longer side shape now (x ∷ rs) r (suc n) rule breaks = (breaks.0, breaks_longer side shape (effect side shape now x) rs r n rule breaks.1)
 
-pub port_kept : (shape : Shape) (rs : List Record) (r : Record) (step : PortKept) (outcome : Outcome) → (outcome ≡ outcomes.Passed → ⊥) → IsPortAt shape rs step outcome → IsPortAt shape (rs ++ r ∷ []) step outcome
+pub port_kept : (shape : Shape) (rs : List Record) (r : Record) (step : PortView) (outcome : Outcome) → (outcome ≡ outcomes.Passed → ⊥) → IsPortAt shape rs step outcome → IsPortAt shape (rs ++ r ∷ []) step outcome
 port_kept shape rs r step outcomes.Passed broken at = absurd (broken refl)
 port_kept shape rs r step (outcomes.Broken n rule) broken at = λ memory. breaks_longer OfPort shape (first_local memory) rs r n rule (at memory)
 port_kept shape rs r step outcomes.NoMemory broken at = at

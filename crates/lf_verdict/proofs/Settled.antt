@@ -26,7 +26,7 @@ use Rattle.lf_rules.proofs.Permuted.{interleaving_permutes_bank}
 use Rattle.lf_logs.specs.declared.order.NumberFault.{NumberFault}
 use Rattle.lf_logs.specs.declared.order.NumberFault.TheVariants as numbers
 use Rattle.lf_logs.specs.Places.{IsNumberFault}
-use Rattle.lf_logs.specs.Tags.{PortKept}
+use Rattle.lf_logs.specs.Tags.{PortView}
 use Rattle.lf_logs.proofs.GivenOut.{given_numbers, given_all, given_whole}
 use Rattle.lf_replay.specs.Bytes.{bank_part}
 use Rattle.lf_replay.specs.Step.{StepView, IsBankOrder}
@@ -101,7 +101,7 @@ map_at f [] i h = absurd (omega arith)
 map_at f (x ∷ xs) zero h = (x, (λ d. refl, refl))
 map_at f (x ∷ xs) (suc i) h = map_at f xs i (omega arith)
 
-port_outcome : (shape : Shape) (rs : List Record) (step : PortKept) (outcome : Outcome) → IsPortAt shape rs step outcome → IsPortOutcome shape rs outcome × (outcome ≡ outcomes.NoMemory → ⊥)
+port_outcome : (shape : Shape) (rs : List Record) (step : PortView) (outcome : Outcome) → IsPortAt shape rs step outcome → IsPortOutcome shape rs outcome × (outcome ≡ outcomes.NoMemory → ⊥)
 port_outcome shape rs step outcomes.Passed at = (at.is_run, λ e. cc)
 port_outcome shape rs step (outcomes.Broken n rule) at = (at, λ e. cc)
 port_outcome shape rs step outcomes.NoMemory at = absurd at

@@ -15,7 +15,7 @@ use Rattle.lf_rules.specs.Run.{of_log, of_bank, BreaksAt}
 use Rattle.lf_rules.specs.Table.{OfPort, OfBank}
 use Rattle.lf_logs.specs.Lists.{logs_of}
 use Rattle.lf_logs.specs.Reordering.{first_with, HasOrdered}
-use Rattle.lf_logs.specs.Tags.{PortKept, PortStandsAfter}
+use Rattle.lf_logs.specs.Tags.{PortView, PortStandsAfter}
 use Rattle.lf_join.specs.Join as joins
 use Rattle.lf_replay.specs.Bytes.{bank_part}
 use Rattle.lf_replay.specs.Step.{StepView, IsStepAfter}
@@ -28,7 +28,7 @@ use Rattle.lf_verdict.specs.declared.pending.Pending.{Pending}
 -- ---- one port
 
 -- Before the first fault the step stands where the records lead; from then on the outcome names that fault.
-abbrev pub IsPortAt : Shape → List Record → PortKept → Outcome → Type 0
+abbrev pub IsPortAt : Shape → List Record → PortView → Outcome → Type 0
 IsPortAt shape rs step outcomes.Passed = PortStandsAfter step shape rs
 IsPortAt shape rs step (outcomes.Broken at rule) = (memory : FlatMemory) → BreaksAt OfPort shape (first_local memory) rs at rule
 IsPortAt shape rs step outcomes.NoMemory = ⊥
