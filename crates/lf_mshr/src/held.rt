@@ -14,7 +14,7 @@ use std::marker::Model;
 pub type Targets<T> = ArrayVec<(u16, T), 1024>;
 
 /// A register's block, and one target of it.
-#[derive(Drop)]
+#[derive(Clone, Copy, Drop)]
 pub struct Held<T> {
     pub register: u16,
     pub block: u32,
@@ -27,6 +27,19 @@ impl<T> Model for Held<T> {
     ghost Value = { model.Held T };
 
     ghost view = { λ h. record { register = h.register; block = h.block; target = h.target } };
+
+    ghost inverse = { λ h. record { register = h.register; block = h.block; target = h.target } };
+}
+
+impl<T: Target> Held<T> {
+    /// What a place holds that is not in use.
+    pub fn blank() -> Held<T> {
+        Held {
+            register: 0,
+            block: 0,
+            target: T::default(),
+        }
+    }
 }
 
 impl<T> Held<T> {
@@ -36,13 +49,13 @@ impl<T> Held<T> {
         self.register
     }
 
-    fn block(&self) -> u32
+    pub fn block(&self) -> u32
         ensures { result ≡ self.now.block }
     {
         self.block
     }
 
-    fn target(&self) -> &T
+    pub fn target(&self) -> &T
         ensures { result.now ≡ self.now.target }
     {
         &self.target
@@ -99,7 +112,7 @@ pub fn is_field_used<T: Target>(held: &[Held<T>], register: u32, at: u8) -> bool
 }
 
 /// The bytes that a target writes.
-fn store_mask<T: Target>(target: &T) -> u64
+pub fn store_mask<T: Target>(target: &T) -> u64
     ensures { result ≡ store_mask T.is_store T.bytes target.now }
 {
     if target.is_store() {
