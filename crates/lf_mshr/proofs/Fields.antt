@@ -1,8 +1,8 @@
 -- Each register has at most one target at each position.
-use Rattle.std.proofs.Common.{◌≡◌, ◌≢◌, ℕ, ◌*◌, ◌<◌, ◌≤◌, Bool, true, false, not, ap, ◌&&◌, ◌==◌, List, [], ◌∷◌, ◌++◌, length, subst, arith, ne_eqb, eqb-true, inl, inr}
+use Rattle.std.proofs.Common.{◌≡◌, ◌≢◌, ℕ, ◌+◌, ◌*◌, ◌||◌, refl, sym, ◌∙◌, eq-eqb, ◌<◌, ◌≤◌, Bool, true, false, not, ap, ◌&&◌, ◌==◌, List, [], ◌∷◌, ◌++◌, length, subst, arith, ne_eqb, eqb-true, inl, inr}
 use Rattle.std.specs.Prelude.{count_by, filter}
 use Rattle.std.specs.List.{list_any}
-use Rattle.std.proofs.lemmas.Bool.{cases_Bool, and_parts, not-true}
+use Rattle.std.proofs.lemmas.Bool.{cases_Bool, cases_eq, and_parts, not-true}
 use Rattle.std.proofs.lemmas.List.Sums.{length-filter}
 use Rattle.lf_rules.specs.Registers.{Held, is_free, takes}
 use Rattle.lf_rules.specs.declared.shape.OrgShape.TheVariants.{Implicit}
@@ -68,3 +68,26 @@ module _ {T : Type 0} (position : T → ℕ) (held : List (Held T)) where
 
           apart : (at : ℕ) → 8 ≤ at → (h : Held T) → (position h.target == at) ≡ false
           apart at above h = let e = eight h.target in let ne : position h.target ≢ at = omega arith in ne_eqb (position h.target) at ne
+
+module _ {T : Type 0} (position : T → ℕ) (eight : (t : T) → position t < 8) (register at : ℕ) (low : at < 8) where
+  same_field : (h : Held T) → (h.register * 8 + position h.target == register * 8 + at) ≡ (h.register == register && position h.target == at)
+  same_field h = elim (cases_eq h.register register) [
+    | inl e ↦ elim (cases_eq (position h.target) at) [
+      | inl f ↦
+          eq-eqb (h.register * 8 + position h.target) (register * 8 + at) (omega (arith, e, f))
+          ∙ sym (ap (λ b. b && position h.target == at) (eq-eqb h.register register e) ∙ eq-eqb (position h.target) at f)
+      | inr ne ↦
+          ne_eqb (h.register * 8 + position h.target) (register * 8 + at) (λ x. ne (omega (arith, e, x)))
+          ∙ sym (ap (λ b. b && position h.target == at) (eq-eqb h.register register e) ∙ ne_eqb (position h.target) at ne)
+    ]
+    | inr ne ↦
+        (let few = eight h.target in ne_eqb (h.register * 8 + position h.target) (register * 8 + at) (λ x. ne (omega (arith, x, few, low))))
+        ∙ sym (ap (λ b. b && position h.target == at) (ne_eqb h.register register ne))
+  ]
+
+  -- a field's place is in use where its register has a target at its position
+  pub field-taken : (held : List (Held T)) → list_any (λ h. h.register * 8 + position h.target == register * 8 + at) held ≡ list_any (λ h. h.register == register && position h.target == at) held
+  field-taken [] = refl
+  field-taken (h ∷ held) =
+      ap (λ b. b || list_any (λ g. g.register * 8 + position g.target == register * 8 + at) held) (same_field h)
+      ∙ ap (λ b. (h.register == register && position h.target == at) || b) (field-taken held)

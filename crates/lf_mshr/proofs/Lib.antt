@@ -8,3 +8,4 @@ pub mod Alike
 pub mod Marks
 pub mod Chain
 pub mod Placed
+pub mod Indexed

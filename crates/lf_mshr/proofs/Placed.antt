@@ -1,9 +1,9 @@
 -- What places hold, each with its place, as places are taken and left.
-use Rattle.std.proofs.Common.{◌≡◌, ℕ, Bool, true, false, cond, not, ◌&&◌, ◌||◌, ◌==◌, List, [], ◌∷◌, ◌++◌, refl, sym, ap, ◌∙◌, subst, eqb-true}
+use Rattle.std.proofs.Common.{◌≡◌, ℕ, Bool, true, false, cond, not, ◌&&◌, ◌||◌, ◌==◌, List, [], ◌∷◌, ◌++◌, refl, ap, ◌∙◌, eqb-true}
 use Rattle.std.specs.List.{list_any, list_all}
-use Rattle.std.proofs.lemmas.Bool.{and_parts}
+use Rattle.std.proofs.lemmas.Bool.{and_parts, or_parts}
 use Rattle.std.proofs.lemmas.List.Folds.{list_all-append}
-use Rattle.lf_rules.specs.Registers.{Held, released}
+use Rattle.lf_rules.specs.Registers.{Held, holds, released}
 use Rattle.lf_mshr.specs.Places.{held_of, left_of}
 
 module _ {T : Type 0} where
@@ -41,3 +41,10 @@ module _ {T : Type 0} where
       let parts = and_parts (p.0 == place_of p.1) (list_all (λ q. q.0 == place_of q.1) order) e in
       ap (λ k. k == place || list_any (λ (q : ℕ × Held T). q.0 == place) order) (eqb-true p.0 (place_of p.1) parts.0)
       ∙ ap (λ b. place_of p.1 == place || b) (taken-held place_of order parts.1 place)
+
+  -- nothing leaves with a block that is not held
+  pub left-none : (order : List (ℕ × Held T)) (block : ℕ) → holds (held_of order) block ≡ false → left_of order block ≡ order
+  left-none [] block e = refl
+  left-none (p ∷ order) block e =
+      let parts = or_parts (p.1.block == block) (holds (held_of order) block) e in
+      ap (λ b. cond (not b) (p ∷ left_of order block) (left_of order block)) parts.0 ∙ ap (λ (qs : List (ℕ × Held T)). p ∷ qs) (left-none order block parts.1)

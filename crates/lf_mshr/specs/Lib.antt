@@ -7,3 +7,4 @@ pub mod Names
 pub mod Bounds
 pub mod Size
 pub mod Places
+pub mod Index

@@ -14,6 +14,7 @@ mod level_one;
 mod level_two;
 mod organisation;
 mod places;
+mod registers;
 mod target;
 mod words;
 
