@@ -235,9 +235,6 @@ module _ {A : Type 0} (items : List A) (next used : List ℕ) (end last len : �
           none true = refl
           none false = refl
 
-  pub chain-end : end ≤ 1024
-  chain-end = chain.few
-
 -- no place is in use
 pub chain-empty : {A : Type 0} (items : List A) (next used : List ℕ) (end : ℕ) → end ≤ 1024 → length items ≡ end → length next ≡ end + 1 → end ≤ 64 * length used
     → ((place : ℕ) → is_marked used place ≡ false) → IsChain items next used end end 0

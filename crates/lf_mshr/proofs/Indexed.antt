@@ -250,12 +250,6 @@ module _ {T : Type 0} where
       let parts = or_parts (h.block == block) (holds xs block) e in
       ap (λ b. cond b (h ∷ targets_of xs block) (targets_of xs block)) parts.0 ∙ targets-none xs block parts.1
 
-  pub released-none : (xs : List (Held T)) (block : ℕ) → holds xs block ≡ false → released xs block ≡ xs
-  released-none [] block e = refl
-  released-none (h ∷ xs) block e =
-      let parts = or_parts (h.block == block) (holds xs block) e in
-      ap (λ b. cond (not b) (h ∷ released xs block) (released xs block)) parts.0 ∙ ap (λ (ys : List (Held T)). h ∷ ys) (released-none xs block parts.1)
-
   -- what was looked for among the registers is there where it was found
   pub found-is : (registers : ℕ) (held : List (Held T)) (block : ℕ) (found : Option ℕ) → IfSome found (λ r. (r < registers) × (holds_in held r block ≡ true))
       → IfNone found (holds held block ≡ false) → is_some found ≡ holds held block

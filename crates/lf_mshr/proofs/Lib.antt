@@ -9,3 +9,4 @@ pub mod Marks
 pub mod Chain
 pub mod Placed
 pub mod Indexed
+pub mod Rows

@@ -1,8 +1,9 @@
 -- What a word and arrays say of what the registers of a file hold: which are in use, by which block and by how many targets.
-use Rattle.std.specs.Prelude.{◌≡◌, ℕ, ◌<◌, ◌≤◌, true, ◌==◌, List, length, slice_index, count_by}
-use Rattle.std.specs.List.{list_any}
+use Rattle.std.specs.Prelude.{◌≡◌, ℕ, ◌+◌, ◌*◌, ◌<◌, ◌≤◌, Bool, true, ◌==◌, ◌&&◌, nat_le, nat_lt, List, length, slice_index, count_by}
+use Rattle.std.specs.List.{list_all, list_any}
 use Rattle.lf_rules.specs.Address.{is_under}
 use Rattle.lf_rules.specs.Registers.{Held, holds_in}
+use Rattle.lf_mshr.specs.Places.{held_of}
 
 pub record IsIndexed {T : Type 0} (registers used : ℕ) (blocks : List ℕ) (held : List (Held T)) : Type 0 where
   pub long : length blocks ≡ registers
@@ -13,3 +14,8 @@ pub record IsIndexed {T : Type 0} (registers used : ℕ) (blocks : List ℕ) (he
 pub record IsCounted {T : Type 0} (registers : ℕ) (counts : List ℕ) (held : List (Held T)) : Type 0 where
   pub long : length counts ≡ registers
   pub counted : (r : ℕ) → r < registers → slice_index counts r ≡ count_by (λ h. h.register == r) held
+
+-- is each place in its register's row of entries, among those that the register uses?
+abbrev pub are_in_rows : {T : Type 0} → ℕ → List (ℕ × Held T) → Bool
+are_in_rows entries order =
+    list_all (λ q. nat_le (q.1.register * entries) q.0 && nat_lt q.0 (q.1.register * entries + count_by (λ h. h.register == q.1.register) (held_of order))) order
