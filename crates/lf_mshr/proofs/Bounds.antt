@@ -2,7 +2,6 @@
 use Rattle.std.proofs.Common.{◌≡◌, ◌≢◌, ℕ, zero, suc, ◌+◌, ◌*◌, ◌<◌, ◌≤◌, Bool, true, false, cond, not, ◌==◌, List, [], ◌∷◌, ◌++◌, length, refl, ap, subst, arith, eq-eqb, ne_eqb, suc-mul, inl, inr}
 use Rattle.std.specs.Prelude.{count_by, filter}
 use Rattle.std.proofs.lemmas.Bool.{cases_eq, not-true}
-use Rattle.std.proofs.lemmas.List.{length_push}
 use Rattle.std.specs.List.{list_any}
 use Rattle.std.proofs.lemmas.List.Sums.{length-filter}
 use Rattle.std.proofs.lemmas.List.Filters.{length-filter_both}
@@ -51,9 +50,6 @@ module _ {A : Type 0} (key : A → ℕ) where
           ])
 
 module _ {T : Type 0} {registers most : ℕ} {held : List (Held T)} (within : IsWithin registers most held) where
-  pub length-le : length held ≤ registers * most
-  length-le = length_by_keys (λ h. h.register) registers most held within.few within.none
-
   pub IsWithin-push : (h : Held T) → h.register < registers → count_by (λ g. g.register == h.register) held < most → IsWithin registers most (held ++ h ∷ [])
   IsWithin-push h exists room = record {
     few = λ r. (elim (cases_eq h.register r) [
@@ -77,10 +73,6 @@ module _ {T : Type 0} {registers most : ℕ} {held : List (Held T)} (within : Is
   }
 
 module _ {T : Type 0} where
-  -- a file that a further target may join was not full
-  pub length-lt : (registers most : ℕ) (held : List (Held T)) (h : Held T) → IsWithin registers most (held ++ h ∷ []) → length held < registers * most
-  length-lt registers most held h within = let all = length-le within in let more = length_push held h in omega (arith, all, more)
-
   pub free-count : (held : List (Held T)) (register : ℕ) → is_free held register ≡ true → count_by (λ h. h.register == register) held ≡ 0
   free-count held register free = none_passes (λ h. h.register == register) held (not-true (list_any (λ h. h.register == register) held) free)
 

@@ -1,11 +1,6 @@
 -- How many elements of a list pass a test, as the list changes.
-use Rattle.std.proofs.Common.{◌≡◌, ℕ, ◌+◌, ◌≤◌, Bool, true, false, cond, ◌||◌, ◌&&◌, ◌==◌, List, [], ◌∷◌, ◌++◌, length, refl, ap, ◌∙◌, arith}
+use Rattle.std.proofs.Common.{◌≡◌, ℕ, ◌+◌, ◌≤◌, Bool, true, false, cond, ◌||◌, ◌&&◌, List, [], ◌∷◌, ◌++◌, refl, ap, ◌∙◌, arith}
 use Rattle.std.specs.Prelude.{count_by, filter}
-use Rattle.std.proofs.Common.{take, map, length-take}
-use Rattle.std.proofs.lemmas.List.{length-map}
-use Rattle.std.proofs.lemmas.List.Sums.{length-filter, count_by-le-length}
-use Rattle.lf_rules.specs.Registers.{Held, targets_of}
-use Rattle.lf_mshr.specs.RegisterFile.{released_pair}
 use Rattle.std.specs.List.{list_any}
 use Rattle.std.proofs.lemmas.Bool.{or_parts}
 use Rattle.std.proofs.lemmas.List.Sums.{sum_by-cons, sum_by_push}
@@ -45,44 +40,10 @@ module _ {A : Type 0} (p : A → Bool) where
         | false ↦ omega (arith, rest, whole)
       ]
 
--- of the first elements, no more than they are belong to a block
-pub targets-le : {T : Type 0} (held : List (Held T)) (i block : ℕ) → length (map released_pair (targets_of (take i held) block)) ≤ i
-targets-le held i block =
-    let p : Held _ → Bool = λ h. h.block == block in
-    let e = length-map (targets_of (take i held) block) released_pair in
-    let f = length-filter p (take i held) in
-    let g = count_by-le-length p (take i held) in
-    let h = length-take i held in
-    omega (arith, e, f, g, h)
-
 module _ {A : Type 0} (p q : A → Bool) where
-  -- what passes one test among what passes another
-  pub count-filter : (xs : List A) → count_by q (filter p xs) ≡ count_by (λ x. p x && q x) xs
-  count-filter [] = refl
-  count-filter (x ∷ xs) = at (p x) refl (count-filter xs)
-    where
-      at : (b : Bool) → p x ≡ b → count_by q (filter p xs) ≡ count_by (λ y. p y && q y) xs → count_by q (cond b (x ∷ filter p xs) (filter p xs)) ≡ count_by (λ y. p y && q y) (x ∷ xs)
-      at true e rest =
-          let own = count_cons q x (filter p xs) in
-          let whole = count_cons (λ y. p y && q y) x xs in
-          let same : cond {A = ℕ} (p x && q x) 1 0 ≡ cond (q x) 1 0 = ap (λ b. cond {A = ℕ} (b && q x) 1 0) e in
-          omega (arith, rest, own, whole, same)
-      at false e rest =
-          let whole = count_cons (λ y. p y && q y) x xs in
-          let same : cond {A = ℕ} (p x && q x) 1 0 ≡ 0 = ap (λ b. cond {A = ℕ} (b && q x) 1 0) e in
-          omega (arith, rest, whole, same)
-
   -- where no element passes the one test, none passes both
   pub none_both : (xs : List A) → list_any p xs ≡ false → list_any (λ x. p x && q x) xs ≡ false
   none_both [] e = refl
   none_both (x ∷ xs) e =
       let parts = or_parts (p x) (list_any p xs) e in
       ap (λ b. (b && q x) || list_any (λ y. p y && q y) xs) parts.0 ∙ none_both xs parts.1
-
-pub none-counted : {A : Type 0} (p : A → Bool) → ((x : A) → p x ≡ false) → (xs : List A) → count_by p xs ≡ 0
-none-counted p never [] = refl
-none-counted p never (x ∷ xs) =
-    let here : cond {A = ℕ} (p x) 1 0 ≡ 0 = ap (λ b. cond {A = ℕ} b 1 0) (never x) in
-    let rest = none-counted p never xs in
-    let whole = count_cons p x xs in
-    omega (arith, here, rest, whole)

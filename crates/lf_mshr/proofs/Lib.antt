@@ -5,3 +5,8 @@ pub mod Fields
 pub mod Size
 pub mod Room
 pub mod Alike
+pub mod Marks
+pub mod Chain
+pub mod Placed
+pub mod Indexed
+pub mod Rows

@@ -5,7 +5,7 @@ use Rattle.lf_rules.specs.Registers.{Held, holds, holds_in, released}
 use Rattle.lf_rules.specs.Sharing.{HoldsOnce}
 
 module _ {T : Type 0} where
-  holds_in_push : (held : List (Held T)) (h : Held T) (register block : ℕ) → holds_in (held ++ h ∷ []) register block ≡ true
+  pub holds_in_push : (held : List (Held T)) (h : Held T) (register block : ℕ) → holds_in (held ++ h ∷ []) register block ≡ true
       → (holds_in held register block ≡ true) ⊎ ((h.register ≡ register) × (h.block ≡ block))
   holds_in_push [] h register block e =
       (elim (or_cases (h.register == register && h.block == block) false e) [
@@ -18,7 +18,7 @@ module _ {T : Type 0} where
         | inr x ↦ (elim (holds_in_push held h register block x) [ inl y ↦ inl (or_right _ _ y) | inr y ↦ inr y ])
       ])
 
-  holds_from : (held : List (Held T)) (register block : ℕ) → holds_in held register block ≡ true → holds held block ≡ true
+  pub holds_from : (held : List (Held T)) (register block : ℕ) → holds_in held register block ≡ true → holds held block ≡ true
   holds_from [] register block e = e
   holds_from (g ∷ held) register block e =
       (elim (or_cases (g.register == register && g.block == block) (holds_in held register block) e) [
@@ -26,7 +26,7 @@ module _ {T : Type 0} where
         | inr x ↦ or_right _ _ (holds_from held register block x)
       ])
 
-  released_holds : (held : List (Held T)) (gone register block : ℕ) → holds_in (released held gone) register block ≡ true → holds_in held register block ≡ true
+  pub released_holds : (held : List (Held T)) (gone register block : ℕ) → holds_in (released held gone) register block ≡ true → holds_in held register block ≡ true
   released_holds [] gone register block e = e
   released_holds (g ∷ held) gone register block e = go (g.block == gone) (released_holds held gone register block) e
     where

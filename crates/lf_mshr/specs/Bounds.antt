@@ -1,5 +1,5 @@
 -- How much a register file may hold.
-use Rattle.std.specs.Prelude.{◌≡◌, ℕ, ◌≤◌, ◌==◌, ◌&&◌, List, count_by}
+use Rattle.std.specs.Prelude.{◌≡◌, ℕ, ◌≤◌, ◌==◌, List, count_by}
 use Rattle.lf_rules.specs.Registers.{Held}
 
 -- there are only so many registers
@@ -10,7 +10,3 @@ IsBelow registers held = (register : ℕ) → registers ≤ register → count_b
 pub record IsWithin {T : Type 0} (registers most : ℕ) (held : List (Held T)) : Type 0 where
   pub few : (register : ℕ) → count_by (λ h. h.register == register) held ≤ most
   pub none : IsBelow registers held
-
--- each register has at most one target at each position
-abbrev pub HasFields : {T : Type 0} → (T → ℕ) → List (Held T) → Type 0
-HasFields position held = (register at : ℕ) → count_by (λ h. h.register == register && position h.target == at) held ≤ 1

@@ -6,3 +6,5 @@ pub mod Names
 -- What serves the crate's own contracts.
 pub mod Bounds
 pub mod Size
+pub mod Places
+pub mod Index

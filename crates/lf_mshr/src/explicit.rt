@@ -1,18 +1,17 @@
 //! Explicitly addressed files: registers with entries of their own offsets.
 
-ghost use Rattle.std.specs.Prelude.{◌≡◌, ◌⊎◌, ◌*◌, ◌<◌, ◌≤◌, ◌++◌, ◌∷◌, [], vec_capacity, count_by, ◌==◌, ◌&&◌, nat_lt, true, false, ℕ};
-ghost use Rattle.std.specs.List.{list_any, range_with_len};
-ghost use Rattle.lf_rules.specs.Registers.{holds, holds_in, has_room};
+ghost use Rattle.std.specs.Prelude.{◌≡◌, ◌⊎◌, ◌+◌, ◌*◌, ◌<◌, ◌≤◌, ◌++◌, ◌∷◌, [], count_by, ◌==◌, ◌&&◌, nat_le, nat_lt, true, false, ℕ};
+ghost use Rattle.lf_rules.specs.Registers.{holds, holds_in, is_free, has_room};
 ghost use Rattle.lf_rules.specs.declared.shape.OrgShape.TheVariants as shape;
-ghost use Rattle.lf_rules.specs.Sharing.{HoldsOnce};
 ghost use Rattle.lf_mshr.specs.Bounds.{IsWithin};
+ghost use Rattle.lf_mshr.specs.Index.{IsCounted, are_in_rows};
+ghost use Rattle.lf_mshr.specs.Places.{held_of};
 ghost use Rattle.lf_mshr.specs.RegisterFile.{held_item};
 
 use crate::fault::RegisterFault;
-use crate::held::{
-    Held, Targets, holds, holds_in, is_free, release_into, some_is_free, store_bytes, targets_in,
-};
+use crate::held::Targets;
 use crate::organisation::Organisation;
+use crate::registers::Registers;
 use crate::target::Target;
 use lf_rules::{Mask, NoMemory, OrgShape};
 use std::alloc::Global;
@@ -22,64 +21,58 @@ use std::marker::PhantomData;
 /// positions. At most one register holds a block.
 pub struct Explicit<T>(PhantomData<T>);
 
-/// The registers of an explicitly addressed file.
+/// The registers of an explicitly addressed file. Each has as many places in a row as it has entries, and
+/// uses them from the first on.
 #[derive(Drop)]
 pub struct ExplicitFile<T> {
-    registers: u32,
     entries: u32,
     destinations: u16,
-    held: Vec<Held<T>>,
-    ghost within: { IsWithin registers entries held.items },
-    ghost once: { HoldsOnce held.items },
+    /// How many targets each register holds.
+    counts: Vec<u32>,
+    registers: Registers<T>,
+    ghost all: { registers.places.places ≡ registers.registers * entries },
+    ghost counted: { IsCounted registers.registers counts.items (held_of registers.places.order) },
+    ghost within: { IsWithin registers.registers entries (held_of registers.places.order) },
+    ghost rows: { are_in_rows entries registers.places.order ≡ true },
     ghost some_entry: { 1 ≤ entries },
-    ghost reserved: { registers * entries ≤ vec_capacity held },
-    ghost limit: { registers * entries ≤ 1024 },
+    ghost limit: { registers.registers * entries ≤ 1024 },
 }
 
 impl<T: Target> ExplicitFile<T> {
     /// Whether the register has an entry left.
     fn has_entry(&self, register: u32) -> bool
-        ensures { result ≡ nat_lt (count_by (λ h. h.register == register) self.now.held.items) self.now.entries }
+        requires { register < self.now.registers.registers }
+        ensures { result ≡ nat_lt (count_by (λ h. h.register == register) (held_of self.now.registers.places.order)) self.now.entries }
     {
-        targets_in(&self.held, register) < self.entries as usize
-    }
-
-    /// Whether the register that holds the block has an entry left.
-    fn some_takes(&self, block: u32) -> bool
-        ensures { result ≡ list_any
-            (λ r. holds_in self.now.held.items r block && nat_lt (count_by (λ h. h.register == r) self.now.held.items) self.now.entries)
-            (range_with_len 0 self.now.registers) }
-    {
-        (0..self.registers).any(|r| holds_in(&self.held, r, block) && self.has_entry(r))
+        self.counts[register as usize] < self.entries
     }
 
     /// Whether a register takes a target of the block.
     fn has_room(&self, block: u32) -> bool
-        ensures { (destination at : ℕ) → result ≡ has_room (shape.Explicit self.now.registers self.now.entries)
-            self.now.destinations T.position self.now.held.items block destination at }
+        ensures { (destination at : ℕ) → result ≡ has_room (shape.Explicit self.now.registers.registers self.now.entries)
+            self.now.destinations T.position (held_of self.now.registers.places.order) block destination at }
     {
-        if holds(&self.held, block) {
-            self.some_takes(block)
-        } else {
-            some_is_free(self.registers, &self.held)
+        match self.registers.find(block) {
+            Some(register) => self.has_entry(register),
+            None => self.registers.some_is_free(),
         }
     }
 
-    /// Appends a target of a register that has an entry left, and that no other shares the block with.
+    /// Appends a target of a register that is free or holds the block, and that has an entry left.
     fn append(&mut self, register: u16, block: u32, target: T)
-        requires exists { register < self.old.registers }
-        requires entry { count_by (λ h. h.register == register) self.old.held.items < self.old.entries }
-        requires apart { (holds self.old.held.items block ≡ false) ⊎ (holds_in self.old.held.items register block ≡ true) }
-        ensures items { self.new.held.items ≡ self.old.held.items ++ held_item register block target ∷ [] }
-        ensures registers { self.new.registers ≡ self.old.registers }
+        requires exists { register < self.old.registers.registers }
+        requires entry { count_by (λ h. h.register == register) (held_of self.old.registers.places.order) < self.old.entries }
+        requires own { (is_free (held_of self.old.registers.places.order) register ≡ true) ⊎ (holds_in (held_of self.old.registers.places.order) register block ≡ true) }
+        requires apart { (holds (held_of self.old.registers.places.order) block ≡ false) ⊎ (holds_in (held_of self.old.registers.places.order) register block ≡ true) }
+        ensures items { held_of self.new.registers.places.order ≡ held_of self.old.registers.places.order ++ held_item register block target ∷ [] }
+        ensures registers { self.new.registers.registers ≡ self.old.registers.registers }
         ensures entries { self.new.entries ≡ self.old.entries }
         ensures destinations { self.new.destinations ≡ self.old.destinations }
     {
-        self.held.push_reserved(Held {
-            register,
-            block,
-            target,
-        });
+        let count = self.counts[usize::from(register)];
+        let place = u32::from(register) * self.entries + count;
+        self.counts[usize::from(register)] = count + 1;
+        self.registers.push(register, place as u16, block, target);
     }
 }
 
@@ -98,11 +91,11 @@ impl<T: Target> Organisation for Explicit<T> {
 
     ghost names = { is_explicit };
 
-    ghost seen = { λ file. explicit_file file.registers file.entries file.destinations file.held.items };
+    ghost seen = { λ file. explicit_file file.registers.registers file.entries file.destinations (held_of file.registers.places.order) };
 
     ghost shares_as_seen = { λ file. refl };
 
-    ghost holds_once = { λ file e. file.once };
+    ghost holds_once = { λ file e. file.registers.once };
 
     fn new(
         alloc: Global,
@@ -112,12 +105,13 @@ impl<T: Target> Organisation for Explicit<T> {
         let OrgShape::Explicit { registers, entries } = *organisation else {
             unreachable!()
         };
-        let held = Vec::with_capacity(alloc, (registers * entries) as usize)?;
+        let counts = vec![in alloc; 0; registers as usize]?;
+        let registers = Registers::new(alloc, registers, (registers * entries) as u16)?;
         Ok(ExplicitFile {
-            registers,
             entries,
             destinations,
-            held,
+            counts,
+            registers,
         })
     }
 
@@ -131,13 +125,13 @@ impl<T: Target> Organisation for Explicit<T> {
         block: u32,
         _target: &T,
     ) -> Option<RegisterFault> {
-        if holds(&file.held, block) {
+        if file.registers.holds(block) {
             return Some(RegisterFault::InFlight);
         }
-        if u32::from(register) >= file.registers {
+        if u32::from(register) >= file.registers.registers {
             return Some(RegisterFault::Range);
         }
-        if !is_free(&file.held, u32::from(register)) {
+        if !file.registers.is_free(u32::from(register)) {
             return Some(RegisterFault::Busy);
         }
         None
@@ -149,13 +143,13 @@ impl<T: Target> Organisation for Explicit<T> {
         block: u32,
         _target: &T,
     ) -> Option<RegisterFault> {
-        if !holds(&file.held, block) {
+        if !file.registers.holds(block) {
             return Some(RegisterFault::NotInFlight);
         }
-        if u32::from(register) >= file.registers {
+        if u32::from(register) >= file.registers.registers {
             return Some(RegisterFault::Range);
         }
-        if !holds_in(&file.held, u32::from(register), block) {
+        if !file.registers.holds_in(u32::from(register), block) {
             return Some(RegisterFault::Wrong);
         }
         if !file.has_entry(u32::from(register)) {
@@ -169,14 +163,17 @@ impl<T: Target> Organisation for Explicit<T> {
     }
 
     fn release_into(file: &mut ExplicitFile<T>, block: u32, targets: &mut Targets<T>) {
-        release_into(&mut file.held, block, targets);
+        let Some(register) = file.registers.release_into(block, targets) else {
+            return;
+        };
+        file.counts[register as usize] = 0;
     }
 
     fn store_bytes(file: &ExplicitFile<T>, block: u32) -> Mask {
-        store_bytes(&file.held, block)
+        file.registers.places.store_bytes(block)
     }
 
     fn holds(file: &ExplicitFile<T>, block: u32) -> bool {
-        holds(&file.held, block)
+        file.registers.holds(block)
     }
 }

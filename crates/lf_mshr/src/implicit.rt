@@ -1,18 +1,16 @@
 //! Implicitly addressed files: registers with a field for each position in a block.
 
-ghost use Rattle.std.specs.Prelude.{◌≡◌, ◌⊎◌, ◌*◌, ◌<◌, ◌≤◌, ◌++◌, ◌∷◌, [], vec_capacity, ◌&&◌, true, false, ℕ};
-ghost use Rattle.std.specs.List.{list_any, range_with_len};
-ghost use Rattle.lf_rules.specs.Registers.{holds, holds_in, takes, has_room};
+ghost use Rattle.std.specs.Prelude.{◌≡◌, ◌⊎◌, ◌+◌, ◌*◌, ◌<◌, ◌≤◌, ◌++◌, ◌∷◌, [], ◌==◌, ◌&&◌, true, false, ℕ};
+ghost use Rattle.std.specs.List.{list_all};
+ghost use Rattle.lf_rules.specs.Registers.{holds, holds_in, is_free, takes, has_room};
 ghost use Rattle.lf_rules.specs.declared.shape.OrgShape.TheVariants as shape;
-ghost use Rattle.lf_rules.specs.Sharing.{HoldsOnce};
-ghost use Rattle.lf_mshr.specs.Bounds.{IsBelow, HasFields};
+ghost use Rattle.lf_mshr.specs.Places.{held_of};
 ghost use Rattle.lf_mshr.specs.RegisterFile.{held_item};
 
 use crate::fault::RegisterFault;
-use crate::held::{
-    Held, Targets, holds, holds_in, is_field_used, is_free, release_into, some_is_free, store_bytes,
-};
+use crate::held::Targets;
 use crate::organisation::Organisation;
+use crate::registers::Registers;
 use crate::target::Target;
 use lf_rules::{Mask, NoMemory, OrgShape};
 use std::alloc::Global;
@@ -23,64 +21,53 @@ use std::marker::PhantomData;
 pub struct Implicit<T>(PhantomData<T>);
 
 /// The positions in a block, each with a field of its own in every register.
-const FIELDS: usize = 8;
+const FIELDS: u16 = 8;
 
-/// The registers of an implicitly addressed file.
+/// The registers of an implicitly addressed file. Each has eight places in a row, one for each position.
 #[derive(Drop)]
 pub struct ImplicitFile<T: Target> {
-    registers: u32,
     destinations: u16,
-    held: Vec<Held<T>>,
-    ghost below: { IsBelow registers held.items },
-    ghost fields: { HasFields T.position held.items },
-    ghost once: { HoldsOnce held.items },
-    ghost reserved: { registers * 8 ≤ vec_capacity held },
-    ghost limit: { registers ≤ 64 },
+    registers: Registers<T>,
+    ghost all: { registers.places.places ≡ registers.registers * 8 },
+    ghost own: { list_all (λ q. q.0 == q.1.register * 8 + T.position q.1.target) registers.places.order ≡ true },
+    ghost limit: { registers.registers ≤ 64 },
 }
 
 impl<T: Target> ImplicitFile<T> {
     /// Whether the register's field at this position is not in use.
     fn has_field(&self, register: u32, at: u8) -> bool
-        ensures { result ≡ takes (shape.Implicit self.now.registers) T.position self.now.held.items register at }
+        requires register { register < self.now.registers.registers }
+        requires eight { at < 8 }
+        ensures { result ≡ takes (shape.Implicit self.now.registers.registers) T.position (held_of self.now.registers.places.order) register at }
     {
-        !is_field_used(&self.held, register, at)
-    }
-
-    /// Whether the register that holds the block has its field at this position left.
-    fn some_takes(&self, block: u32, at: u8) -> bool
-        ensures { result ≡ list_any
-            (λ r. holds_in self.now.held.items r block && takes (shape.Implicit self.now.registers) T.position self.now.held.items r at)
-            (range_with_len 0 self.now.registers) }
-    {
-        (0..self.registers).any(|r| holds_in(&self.held, r, block) && self.has_field(r, at))
+        let place = register as u16 * FIELDS + u16::from(at);
+        !self.registers.places.is_taken(place)
     }
 
     /// Whether a register takes a target of the block at this position.
     fn has_room(&self, block: u32, at: u8) -> bool
-        ensures { (destination : ℕ) → result ≡ has_room (shape.Implicit self.now.registers)
-            self.now.destinations T.position self.now.held.items block destination at }
+        requires { at < 8 }
+        ensures { (destination : ℕ) → result ≡ has_room (shape.Implicit self.now.registers.registers)
+            self.now.destinations T.position (held_of self.now.registers.places.order) block destination at }
     {
-        if holds(&self.held, block) {
-            self.some_takes(block, at)
-        } else {
-            some_is_free(self.registers, &self.held)
+        match self.registers.find(block) {
+            Some(register) => self.has_field(register, at),
+            None => self.registers.some_is_free(),
         }
     }
 
-    /// Appends a target of a register that has its field left, and that no other shares the block with.
+    /// Appends a target of a register that is free or holds the block, and that has its field left.
     fn append(&mut self, register: u16, block: u32, target: T)
-        requires exists { register < self.old.registers }
-        requires field { takes (shape.Implicit self.old.registers) T.position self.old.held.items register (T.position target) ≡ true }
-        requires apart { (holds self.old.held.items block ≡ false) ⊎ (holds_in self.old.held.items register block ≡ true) }
-        ensures items { self.new.held.items ≡ self.old.held.items ++ held_item register block target ∷ [] }
-        ensures registers { self.new.registers ≡ self.old.registers }
+        requires exists { register < self.old.registers.registers }
+        requires field { takes (shape.Implicit self.old.registers.registers) T.position (held_of self.old.registers.places.order) register (T.position target) ≡ true }
+        requires own { (is_free (held_of self.old.registers.places.order) register ≡ true) ⊎ (holds_in (held_of self.old.registers.places.order) register block ≡ true) }
+        requires apart { (holds (held_of self.old.registers.places.order) block ≡ false) ⊎ (holds_in (held_of self.old.registers.places.order) register block ≡ true) }
+        ensures items { held_of self.new.registers.places.order ≡ held_of self.old.registers.places.order ++ held_item register block target ∷ [] }
+        ensures registers { self.new.registers.registers ≡ self.old.registers.registers }
         ensures destinations { self.new.destinations ≡ self.old.destinations }
     {
-        self.held.push_reserved(Held {
-            register,
-            block,
-            target,
-        });
+        let place = register * FIELDS + u16::from(target.position());
+        self.registers.push(register, place, block, target);
     }
 }
 
@@ -99,11 +86,11 @@ impl<T: Target> Organisation for Implicit<T> {
 
     ghost names = { is_implicit };
 
-    ghost seen = { λ file. implicit_file file.registers file.destinations file.held.items };
+    ghost seen = { λ file. implicit_file file.registers.registers file.destinations (held_of file.registers.places.order) };
 
     ghost shares_as_seen = { λ file. refl };
 
-    ghost holds_once = { λ file e. file.once };
+    ghost holds_once = { λ file e. file.registers.once };
 
     fn new(
         alloc: Global,
@@ -113,11 +100,10 @@ impl<T: Target> Organisation for Implicit<T> {
         let OrgShape::Implicit { registers } = *organisation else {
             unreachable!()
         };
-        let held = Vec::with_capacity(alloc, registers as usize * FIELDS)?;
+        let registers = Registers::new(alloc, registers, registers as u16 * FIELDS)?;
         Ok(ImplicitFile {
-            registers,
             destinations,
-            held,
+            registers,
         })
     }
 
@@ -131,13 +117,13 @@ impl<T: Target> Organisation for Implicit<T> {
         block: u32,
         _target: &T,
     ) -> Option<RegisterFault> {
-        if holds(&file.held, block) {
+        if file.registers.holds(block) {
             return Some(RegisterFault::InFlight);
         }
-        if u32::from(register) >= file.registers {
+        if u32::from(register) >= file.registers.registers {
             return Some(RegisterFault::Range);
         }
-        if !is_free(&file.held, u32::from(register)) {
+        if !file.registers.is_free(u32::from(register)) {
             return Some(RegisterFault::Busy);
         }
         None
@@ -149,13 +135,13 @@ impl<T: Target> Organisation for Implicit<T> {
         block: u32,
         target: &T,
     ) -> Option<RegisterFault> {
-        if !holds(&file.held, block) {
+        if !file.registers.holds(block) {
             return Some(RegisterFault::NotInFlight);
         }
-        if u32::from(register) >= file.registers {
+        if u32::from(register) >= file.registers.registers {
             return Some(RegisterFault::Range);
         }
-        if !holds_in(&file.held, u32::from(register), block) {
+        if !file.registers.holds_in(u32::from(register), block) {
             return Some(RegisterFault::Wrong);
         }
         if !file.has_field(u32::from(register), target.position()) {
@@ -169,14 +155,14 @@ impl<T: Target> Organisation for Implicit<T> {
     }
 
     fn release_into(file: &mut ImplicitFile<T>, block: u32, targets: &mut Targets<T>) {
-        release_into(&mut file.held, block, targets);
+        file.registers.release_into(block, targets);
     }
 
     fn store_bytes(file: &ImplicitFile<T>, block: u32) -> Mask {
-        store_bytes(&file.held, block)
+        file.registers.places.store_bytes(block)
     }
 
     fn holds(file: &ImplicitFile<T>, block: u32) -> bool {
-        holds(&file.held, block)
+        file.registers.holds(block)
     }
 }

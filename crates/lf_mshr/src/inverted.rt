@@ -1,13 +1,15 @@
 //! Inverted files: a register for each destination.
 
-ghost use Rattle.std.specs.Prelude.{◌≡◌, ◌<◌, ◌≤◌, ◌++◌, ◌∷◌, [], vec_capacity, true};
+ghost use Rattle.std.specs.Prelude.{◌≡◌, ◌<◌, ◌++◌, ◌∷◌, [], ◌==◌, true};
+ghost use Rattle.std.specs.List.{list_all};
 ghost use Rattle.lf_rules.specs.Registers.{is_free};
 ghost use Rattle.lf_mshr.specs.RegisterFile.{held_item};
-ghost use Rattle.lf_mshr.specs.Bounds.{IsWithin};
+ghost use Rattle.lf_mshr.specs.Places.{held_of};
 
 use crate::fault::RegisterFault;
-use crate::held::{Held, Targets, holds, is_free, release_into, store_bytes};
+use crate::held::{Held, Targets};
 use crate::organisation::Organisation;
+use crate::places::Places;
 use crate::target::Target;
 use lf_rules::{Mask, NoMemory, OrgShape};
 use std::alloc::Global;
@@ -16,29 +18,36 @@ use std::marker::PhantomData;
 /// The organisation with one register for each possible destination. Several may hold one block.
 pub struct Inverted<T>(PhantomData<T>);
 
-/// The registers of an inverted file.
+/// The registers of an inverted file. The place of a register is its number.
 #[derive(Drop)]
 pub struct InvertedFile<T> {
     destinations: u16,
-    held: Vec<Held<T>>,
-    ghost within: { IsWithin destinations 1 held.items },
-    ghost reserved: { destinations ≤ vec_capacity held },
-    ghost limit: { destinations ≤ 1024 },
+    places: Places<T>,
+    ghost all: { places.places ≡ destinations },
+    ghost own: { list_all (λ q. q.0 == q.1.register) places.order ≡ true },
 }
 
 impl<T: Target> InvertedFile<T> {
+    fn is_free(&self, register: u16) -> bool
+        requires { register < self.now.destinations }
+        ensures { result ≡ is_free (held_of self.now.places.order) register }
+    {
+        !self.places.is_taken(register)
+    }
+
     /// Appends a target of a free register.
     fn append(&mut self, register: u16, block: u32, target: T)
         requires exists { register < self.old.destinations }
-        requires free { is_free self.old.held.items register ≡ true }
-        ensures items { self.new.held.items ≡ self.old.held.items ++ held_item register block target ∷ [] }
+        requires free { is_free (held_of self.old.places.order) register ≡ true }
+        ensures items { held_of self.new.places.order ≡ held_of self.old.places.order ++ held_item register block target ∷ [] }
         ensures destinations { self.new.destinations ≡ self.old.destinations }
     {
-        self.held.push_reserved(Held {
+        let item = Held {
             register,
             block,
             target,
-        });
+        };
+        self.places.push(register, item);
     }
 }
 
@@ -57,7 +66,7 @@ impl<T: Target> Organisation for Inverted<T> {
 
     ghost names = { is_inverted };
 
-    ghost seen = { λ file. inverted_file file.destinations file.held.items };
+    ghost seen = { λ file. inverted_file file.destinations (held_of file.places.order) };
 
     ghost shares_as_seen = { λ file. refl };
 
@@ -68,13 +77,16 @@ impl<T: Target> Organisation for Inverted<T> {
         _organisation: &OrgShape,
         destinations: u16,
     ) -> Result<InvertedFile<T>, NoMemory> {
-        let held = Vec::with_capacity(alloc, usize::from(destinations))?;
-        Ok(InvertedFile { destinations, held })
+        let places = Places::new(alloc, destinations)?;
+        Ok(InvertedFile {
+            destinations,
+            places,
+        })
     }
 
     fn room(file: &InvertedFile<T>, _block: u32, target: &T) -> bool {
         let destination = target.destination();
-        destination < file.destinations && is_free(&file.held, u32::from(destination))
+        destination < file.destinations && file.is_free(destination)
     }
 
     fn primary_fault(
@@ -83,7 +95,7 @@ impl<T: Target> Organisation for Inverted<T> {
         block: u32,
         target: &T,
     ) -> Option<RegisterFault> {
-        if holds(&file.held, block) {
+        if file.places.holds(block) {
             return Some(RegisterFault::InFlight);
         }
         if register >= file.destinations {
@@ -92,7 +104,7 @@ impl<T: Target> Organisation for Inverted<T> {
         if register != target.destination() {
             return Some(RegisterFault::Wrong);
         }
-        if !is_free(&file.held, u32::from(register)) {
+        if !file.is_free(register) {
             return Some(RegisterFault::Busy);
         }
         None
@@ -104,7 +116,7 @@ impl<T: Target> Organisation for Inverted<T> {
         block: u32,
         target: &T,
     ) -> Option<RegisterFault> {
-        if !holds(&file.held, block) {
+        if !file.places.holds(block) {
             return Some(RegisterFault::NotInFlight);
         }
         if register >= file.destinations {
@@ -113,7 +125,7 @@ impl<T: Target> Organisation for Inverted<T> {
         if register != target.destination() {
             return Some(RegisterFault::Wrong);
         }
-        if !is_free(&file.held, u32::from(register)) {
+        if !file.is_free(register) {
             return Some(RegisterFault::Full);
         }
         None
@@ -124,14 +136,14 @@ impl<T: Target> Organisation for Inverted<T> {
     }
 
     fn release_into(file: &mut InvertedFile<T>, block: u32, targets: &mut Targets<T>) {
-        release_into(&mut file.held, block, targets);
+        file.places.release_into(block, targets);
     }
 
     fn store_bytes(file: &InvertedFile<T>, block: u32) -> Mask {
-        store_bytes(&file.held, block)
+        file.places.store_bytes(block)
     }
 
     fn holds(file: &InvertedFile<T>, block: u32) -> bool {
-        holds(&file.held, block)
+        file.places.holds(block)
     }
 }

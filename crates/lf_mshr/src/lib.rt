@@ -13,7 +13,10 @@ mod inverted;
 mod level_one;
 mod level_two;
 mod organisation;
+mod places;
+mod registers;
 mod target;
+mod words;
 
 pub use explicit::{Explicit, ExplicitFile};
 pub use fault::RegisterFault;

@@ -1,22 +1,22 @@
-use Rattle.std.proofs.Common.{not, ◌==◌, arith}
-use Rattle.lf_mshr.proofs.Bounds.{length-le}
-use Rattle.lf_mshr.proofs.Fields.{IsBelow-filter, HasFields-filter, IsWithin-from_fields}
-use Rattle.lf_mshr.proofs.Once.{HoldsOnce-released}
+use Rattle.std.proofs.Common.{◌==◌, ◌+◌, ◌*◌, ◌≤◌, ◌∙◌, sym, ap, subst}
+use Rattle.std.specs.List.{list_all}
+use Rattle.lf_mshr.specs.RegisterFile.{implicit_file}
+use Rattle.lf_mshr.specs.Places.{held_of}
+use Rattle.lf_mshr.proofs.Placed.{held-left, own-left}
 use Rattle.lf_mshr.proofs.implicit.ImplicitOrganisation.release_into.Goals as goal
-
-pub release_into-requires : goal.release_into-requires
-release_into-requires g c =
-    let file = c.args.file.now in
-    let few = length-le (IsWithin-from_fields g.T.Target.position file.held.items file.registers g.met.T.Target.below_eight file.below file.fields) in
-    omega (arith, few, file.limit)
 
 pub invariant_of-file : goal.invariant_of-file
 invariant_of-file g c =
     let file = c.args.file.now in
     record {
-      below = rw c.release_into.ensures.others (IsBelow-filter file.registers file.held.items file.below (λ h. not (h.block == c.args.block)));
-      fields = rw c.release_into.ensures.others (HasFields-filter g.T.Target.position file.held.items file.fields (λ h. not (h.block == c.args.block)));
-      once = rw c.release_into.ensures.others (HoldsOnce-released file.held.items c.args.block file.once);
-      reserved = rw c.release_into.ensures.capacity file.reserved;
-      limit = file.limit;
+      all = c.release_into.ensures.places ∙ file.all ∙ ap (λ n. n * 8) (sym c.release_into.ensures.registers);
+      own = ap (list_all (λ q. q.0 == q.1.register * 8 + g.T.Target.position q.1.target)) c.release_into.ensures.order
+          ∙ own-left (λ q. q.0 == q.1.register * 8 + g.T.Target.position q.1.target) file.registers.places.order c.args.block file.own;
+      limit = subst (λ n. n ≤ 64) (sym c.release_into.ensures.registers) file.limit;
     }
+
+pub returns-clause-others : goal.returns-clause-others
+returns-clause-others g c =
+    let file = c.args.file.now in
+    ap (λ n. implicit_file n file.destinations (held_of c.release_into.new.self.places.order)) c.release_into.ensures.registers
+    ∙ ap (implicit_file file.registers.registers file.destinations) (ap held_of c.release_into.ensures.order ∙ held-left file.registers.places.order c.args.block)

@@ -1,21 +1,27 @@
-use Rattle.std.proofs.Common.{arith}
+use Rattle.std.proofs.Common.{ap, ◌∙◌, ◌==◌, refl, eq-eqb}
+use Rattle.std.specs.List.{list_any, list_all}
+use Rattle.std.proofs.lemmas.Bool.{not-true}
 use Rattle.lf_mshr.specs.RegisterFile.{held_item}
-use Rattle.lf_mshr.proofs.Bounds.{IsWithin-push, free-count, length-lt}
+use Rattle.lf_mshr.specs.Places.{held_of}
+use Rattle.lf_mshr.proofs.Placed.{taken-held, held-push, own-push}
 use Rattle.lf_mshr.proofs.inverted.InvertedFile.append.Goals as goal
 
-pub push_reserved-requires : goal.push_reserved-requires
-push_reserved-requires g c =
+pub push-requires-clause-free : goal.push-requires-clause-free
+push-requires-clause-free g c =
     let file = c.args.self.now in
-    let none = free-count file.held.items c.args.register c.requires.free in
-    let full = length-lt file.destinations 1 file.held.items (held_item c.args.register c.args.block c.args.target) (IsWithin-push file.within (held_item c.args.register c.args.block c.args.target) c.requires.exists (omega (arith, none))) in
-    omega (arith, full, file.reserved)
+    taken-held (λ h. h.register) file.places.order file.own c.args.register ∙ not-true (list_any (λ h. h.register == c.args.register) (held_of file.places.order)) c.requires.free
 
 pub invariant_of-self : goal.invariant_of-self
 invariant_of-self g c =
     let file = c.args.self.now in
-    let none = free-count file.held.items c.args.register c.requires.free in
+    let item = held_item c.args.register c.args.block c.args.target in
     record {
-      within = rw c.push_reserved.ensures.items (IsWithin-push file.within (held_item c.args.register c.args.block c.args.target) c.requires.exists (omega (arith, none)));
-      reserved = rw c.push_reserved.ensures.capacity file.reserved;
-      limit = file.limit;
+      all = c.push.ensures.places ∙ file.all;
+      own = ap (list_all (λ q. q.0 == q.1.register)) c.push.ensures.order
+          ∙ own-push (λ q. q.0 == q.1.register) file.places.order (c.args.register, item) file.own (eq-eqb c.args.register c.args.register refl);
     }
+
+pub returns-clause-items : goal.returns-clause-items
+returns-clause-items g c =
+    let item = held_item c.args.register c.args.block c.args.target in
+    ap held_of c.push.ensures.order ∙ held-push c.args.self.now.places.order (c.args.register, item)

@@ -1,0 +1,131 @@
+//! Registers that each hold one block, and of which none shares its block: a word of those in use, the
+//! block of each, and the places of their targets.
+
+ghost use Rattle.std.specs.Prelude.{◌≡◌, ◌⊎◌, ◌*◌, ◌<◌, ◌≤◌, ◌++◌, ◌∷◌, [], map, bit_or, true, false, IfOk, IfSome, IfNone};
+ghost use Rattle.std.specs.List.{fold, list_any, range_with_len};
+ghost use Rattle.lf_rules.specs.Registers.{holds, holds_in, is_free, targets_of};
+ghost use Rattle.lf_rules.specs.Sharing.{HoldsOnce};
+ghost use Rattle.lf_mshr.specs.Bounds.{IsBelow};
+ghost use Rattle.lf_mshr.specs.Index.{IsIndexed};
+ghost use Rattle.lf_mshr.specs.Places.{held_of, left_of, is_taken, no_places};
+ghost use Rattle.lf_mshr.specs.RegisterFile.{held_item, released_pair, store_mask};
+
+use crate::held::{Held, Targets};
+use crate::places::Places;
+use crate::target::Target;
+use crate::words::has_bit;
+use lf_rules::{Mask, NoMemory};
+use std::alloc::Global;
+
+/// Registers that each hold one block.
+#[derive(Drop)]
+pub struct Registers<T> {
+    pub registers: u32,
+    /// A bit for each register in use.
+    used: u64,
+    /// The block of each register in use.
+    blocks: Vec<u32>,
+    pub places: Places<T>,
+    ghost index: { IsIndexed registers used blocks.items (held_of places.order) },
+    ghost below: { IsBelow registers (held_of places.order) },
+    ghost once: { HoldsOnce (held_of places.order) },
+}
+
+impl<T: Target> Registers<T> {
+    /// Free registers with so many places together.
+    pub fn new(alloc: Global, registers: u32, places: u16) -> Result<Registers<T>, NoMemory>
+        requires registers { registers ≤ 64 }
+        requires places { places ≤ 1024 }
+        ensures { IfOk result (λ r. (r.registers ≡ registers) × (r.places ≡ no_places places)) }
+    {
+        let blocks = vec![in alloc; 0; registers as usize]?;
+        let places = Places::new(alloc, places)?;
+        Ok(Registers {
+            registers,
+            used: 0,
+            blocks,
+            places,
+        })
+    }
+
+    pub fn is_free(&self, register: u32) -> bool
+        requires { register < self.now.registers }
+        ensures { result ≡ is_free (held_of self.now.places.order) register }
+    {
+        !has_bit(self.used, register)
+    }
+
+    /// Whether the register holds the block.
+    pub fn holds_in(&self, register: u32, block: u32) -> bool
+        requires { register < self.now.registers }
+        ensures { result ≡ holds_in (held_of self.now.places.order) register block }
+    {
+        has_bit(self.used, register) && self.blocks[register as usize] == block
+    }
+
+    /// Whether a register is free.
+    pub fn some_is_free(&self) -> bool
+        ensures { result ≡ list_any (is_free (held_of self.now.places.order)) (range_with_len 0 self.now.registers) }
+    {
+        (0..self.registers).any(|r| self.is_free(r))
+    }
+
+    /// The register that holds the block.
+    pub fn find(&self, block: u32) -> Option<u32>
+        ensures some { IfSome result (λ r. (r < self.now.registers) × (holds_in (held_of self.now.places.order) r block ≡ true)) }
+        ensures none { IfNone result (holds (held_of self.now.places.order) block ≡ false) }
+    {
+        for r in 0..self.registers {
+            if self.holds_in(r, block) {
+                return Some(r);
+            }
+        }
+        None
+    }
+
+    /// Whether a register holds the block.
+    pub fn holds(&self, block: u32) -> bool
+        ensures { result ≡ holds (held_of self.now.places.order) block }
+    {
+        self.find(block).is_some()
+    }
+
+    /// Puts a target of the block at a place of the register, which is free or holds the block.
+    pub fn push(&mut self, register: u16, place: u16, block: u32, target: T)
+        requires exists { register < self.old.registers }
+        requires there { place < self.old.places.places }
+        requires free { is_taken self.old.places.order place ≡ false }
+        requires own { (is_free (held_of self.old.places.order) register ≡ true) ⊎ (holds_in (held_of self.old.places.order) register block ≡ true) }
+        requires apart { (holds (held_of self.old.places.order) block ≡ false) ⊎ (holds_in (held_of self.old.places.order) register block ≡ true) }
+        ensures order { self.new.places.order ≡ self.old.places.order ++ (place, held_item register block target) ∷ [] }
+        ensures places { self.new.places.places ≡ self.old.places.places }
+        ensures registers { self.new.registers ≡ self.old.registers }
+    {
+        let item = Held {
+            register,
+            block,
+            target,
+        };
+        self.used |= 1 << register;
+        self.blocks[usize::from(register)] = block;
+        self.places.push(place, item);
+    }
+
+    /// Moves the targets of the block into a list, in place of what it had, and gives its register.
+    pub fn release_into(&mut self, block: u32, targets: &mut Targets<T>) -> Option<u32>
+        ensures some { IfSome result (λ r. (r < self.old.registers) × (holds_in (held_of self.old.places.order) r block ≡ true)) }
+        ensures none { IfNone result (holds (held_of self.old.places.order) block ≡ false) }
+        ensures targets { targets.new.items ≡ map released_pair (targets_of (held_of self.old.places.order) block) }
+        ensures order { self.new.places.order ≡ left_of self.old.places.order block }
+        ensures places { self.new.places.places ≡ self.old.places.places }
+        ensures registers { self.new.registers ≡ self.old.registers }
+    {
+        let Some(register) = self.find(block) else {
+            targets.clear();
+            return None;
+        };
+        self.used &= !(1 << register);
+        self.places.release_into(block, targets);
+        Some(register)
+    }
+}
