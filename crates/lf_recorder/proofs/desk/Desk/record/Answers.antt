@@ -9,3 +9,6 @@ draw-requires c = record {
   room = search rules;
   event = refl;
 }
+
+pub invariant_of-seat : goal.invariant_of-seat
+invariant_of-seat c = search rules
