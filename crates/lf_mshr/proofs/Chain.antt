@@ -94,21 +94,8 @@ module _ {A : Type 0} where
   pick-set_same (x ∷ xs) zero y lt = refl
   pick-set_same (x ∷ xs) (suc place) y lt = pick-set_same xs place y (omega (arith, lt))
 
-  pick-set_other : (xs : List A) (place other : ℕ) (y : A) → (other ≡ place → ⊥) → pick (set xs place y) other ≡ pick xs other
-  pick-set_other [] place other y ne = refl
-  pick-set_other (x ∷ xs) zero zero y ne = absurd (ne refl)
-  pick-set_other (x ∷ xs) zero (suc other) y ne = refl
-  pick-set_other (x ∷ xs) (suc place) zero y ne = refl
-  pick-set_other (x ∷ xs) (suc place) (suc other) y ne = pick-set_other xs place other y (λ e. ne (ap suc e))
-
   pub placed-cons : (items : List A) (place : ℕ) (d : A) (ps : List ℕ) → place < length items → placed items (place ∷ ps) ≡ (place, get_or items place d) ∷ placed items ps
   placed-cons items place d ps lt = ap (λ (xs : List A). map (λ x. (place, x)) xs ++ placed items ps) (pick-is items place d lt)
-
-  placed-set : (items : List A) (place : ℕ) (y : A) (ps : List ℕ) → at place ps ≡ 0 → placed (set items place y) ps ≡ placed items ps
-  placed-set items place y [] off = refl
-  placed-set items place y (p ∷ ps) off =
-      ap (λ (xs : List A). map (λ x. (p, x)) xs ++ placed (set items place y) ps) (pick-set_other items place p y (not_head p place ps off))
-      ∙ ap (λ (qs : List (ℕ × A)). map (λ x. (p, x)) (pick items p) ++ qs) (placed-set items place y ps (not_tail p place ps off))
 
   -- a further place, which is not among them
   placed-push : (items : List A) (place : ℕ) (y : A) (ps : List ℕ) → place < length items → at place ps ≡ 0

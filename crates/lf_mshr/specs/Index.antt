@@ -1,5 +1,6 @@
 -- What a word and arrays say of what the registers of a file hold: which are in use, by which block and by how many targets.
-use Rattle.std.specs.Prelude.{◌≡◌, ℕ, ◌+◌, ◌*◌, ◌<◌, ◌≤◌, Bool, true, ◌==◌, ◌&&◌, nat_le, nat_lt, List, length, slice_index, count_by}
+use Rattle.std.specs.Prelude.{◌≡◌, ℕ, ◌+◌, ◌*◌, ◌<◌, ◌≤◌, Bool, true, ◌==◌}
+use Rattle.std.specs.Prelude.{◌&&◌, nat_le, nat_lt, List, length, slice_index, count_by}
 use Rattle.std.specs.List.{list_all, list_any}
 use Rattle.lf_rules.specs.Address.{is_under}
 use Rattle.lf_rules.specs.Registers.{Held, holds_in}
@@ -18,4 +19,5 @@ pub record IsCounted {T : Type 0} (registers : ℕ) (counts : List ℕ) (held : 
 -- is each place in its register's row of entries, among those that the register uses?
 abbrev pub are_in_rows : {T : Type 0} → ℕ → List (ℕ × Held T) → Bool
 are_in_rows entries order =
-    list_all (λ q. nat_le (q.1.register * entries) q.0 && nat_lt q.0 (q.1.register * entries + count_by (λ h. h.register == q.1.register) (held_of order))) order
+    list_all (λ q. nat_le (q.1.register * entries) q.0
+    && nat_lt q.0 (q.1.register * entries + count_by (λ h. h.register == q.1.register) (held_of order))) order

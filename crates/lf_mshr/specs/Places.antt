@@ -1,5 +1,6 @@
 -- An array of registers' places, and the order in which those in use were taken.
-use Rattle.std.specs.Prelude.{◌≡◌, ℕ, zero, suc, ◌+◌, ◌*◌, ◌/◌, ◌%◌, ◌≤◌, Bool, not, ◌==◌, List, [], ◌∷◌, ◌++◌, length, map, slice_index, count_by, filter}
+use Rattle.std.specs.Prelude.{◌≡◌, ℕ, zero, suc, ◌+◌, ◌*◌, ◌/◌, ◌%◌, ◌≤◌, Bool, not, ◌==◌}
+use Rattle.std.specs.Prelude.{List, [], ◌∷◌, ◌++◌, length, map, slice_index, count_by, filter}
 use Rattle.std.specs.List.{list_any}
 use Rattle.lf_rules.specs.Address.{is_under}
 use Rattle.lf_rules.specs.Registers.{Held}

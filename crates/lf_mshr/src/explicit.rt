@@ -1,6 +1,6 @@
 //! Explicitly addressed files: registers with entries of their own offsets.
 
-ghost use Rattle.std.specs.Prelude.{◌≡◌, ◌⊎◌, ◌+◌, ◌*◌, ◌<◌, ◌≤◌, ◌++◌, ◌∷◌, [], count_by, ◌==◌, ◌&&◌, nat_le, nat_lt, true, false, ℕ};
+ghost use Rattle.std.specs.Prelude.{◌≡◌, ◌⊎◌, ◌*◌, ◌<◌, ◌≤◌, ◌++◌, ◌∷◌, [], count_by, ◌==◌, nat_lt, true, false, ℕ};
 ghost use Rattle.lf_rules.specs.Registers.{holds, holds_in, is_free, has_room};
 ghost use Rattle.lf_rules.specs.declared.shape.OrgShape.TheVariants as shape;
 ghost use Rattle.lf_mshr.specs.Bounds.{IsWithin};
@@ -62,8 +62,10 @@ impl<T: Target> ExplicitFile<T> {
     fn append(&mut self, register: u16, block: u32, target: T)
         requires exists { register < self.old.registers.registers }
         requires entry { count_by (λ h. h.register == register) (held_of self.old.registers.places.order) < self.old.entries }
-        requires own { (is_free (held_of self.old.registers.places.order) register ≡ true) ⊎ (holds_in (held_of self.old.registers.places.order) register block ≡ true) }
-        requires apart { (holds (held_of self.old.registers.places.order) block ≡ false) ⊎ (holds_in (held_of self.old.registers.places.order) register block ≡ true) }
+        requires own { (is_free (held_of self.old.registers.places.order) register ≡ true)
+            ⊎ (holds_in (held_of self.old.registers.places.order) register block ≡ true) }
+        requires apart { (holds (held_of self.old.registers.places.order) block ≡ false)
+            ⊎ (holds_in (held_of self.old.registers.places.order) register block ≡ true) }
         ensures items { held_of self.new.registers.places.order ≡ held_of self.old.registers.places.order ++ held_item register block target ∷ [] }
         ensures registers { self.new.registers.registers ≡ self.old.registers.registers }
         ensures entries { self.new.entries ≡ self.old.entries }

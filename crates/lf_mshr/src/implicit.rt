@@ -1,6 +1,6 @@
 //! Implicitly addressed files: registers with a field for each position in a block.
 
-ghost use Rattle.std.specs.Prelude.{◌≡◌, ◌⊎◌, ◌+◌, ◌*◌, ◌<◌, ◌≤◌, ◌++◌, ◌∷◌, [], ◌==◌, ◌&&◌, true, false, ℕ};
+ghost use Rattle.std.specs.Prelude.{◌≡◌, ◌⊎◌, ◌+◌, ◌*◌, ◌<◌, ◌≤◌, ◌++◌, ◌∷◌, [], ◌==◌, true, false, ℕ};
 ghost use Rattle.std.specs.List.{list_all};
 ghost use Rattle.lf_rules.specs.Registers.{holds, holds_in, is_free, takes, has_room};
 ghost use Rattle.lf_rules.specs.declared.shape.OrgShape.TheVariants as shape;
@@ -59,9 +59,12 @@ impl<T: Target> ImplicitFile<T> {
     /// Appends a target of a register that is free or holds the block, and that has its field left.
     fn append(&mut self, register: u16, block: u32, target: T)
         requires exists { register < self.old.registers.registers }
-        requires field { takes (shape.Implicit self.old.registers.registers) T.position (held_of self.old.registers.places.order) register (T.position target) ≡ true }
-        requires own { (is_free (held_of self.old.registers.places.order) register ≡ true) ⊎ (holds_in (held_of self.old.registers.places.order) register block ≡ true) }
-        requires apart { (holds (held_of self.old.registers.places.order) block ≡ false) ⊎ (holds_in (held_of self.old.registers.places.order) register block ≡ true) }
+        requires field { takes (shape.Implicit self.old.registers.registers)
+            T.position (held_of self.old.registers.places.order) register (T.position target) ≡ true }
+        requires own { (is_free (held_of self.old.registers.places.order) register ≡ true)
+            ⊎ (holds_in (held_of self.old.registers.places.order) register block ≡ true) }
+        requires apart { (holds (held_of self.old.registers.places.order) block ≡ false)
+            ⊎ (holds_in (held_of self.old.registers.places.order) register block ≡ true) }
         ensures items { held_of self.new.registers.places.order ≡ held_of self.old.registers.places.order ++ held_item register block target ∷ [] }
         ensures registers { self.new.registers.registers ≡ self.old.registers.registers }
         ensures destinations { self.new.destinations ≡ self.old.destinations }
