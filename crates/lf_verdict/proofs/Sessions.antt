@@ -39,7 +39,6 @@ use Rattle.lf_verdict.specs.Session.{IsRunning, IsOfAnotherHeader, IsJudging, Ha
 use Rattle.lf_verdict.specs.declared.answer.Refusal.{Refusal}
 use Rattle.lf_codec.specs.declared.fault.Told.TheVariants as tolds
 use Rattle.std.specs.Prelude.{IsSome}
-use Rattle.std.proofs.Common.{get_or}
 use Rattle.lf_verdict.specs.declared.intake.Judging.{Judging}
 use Rattle.lf_verdict.specs.declared.intake.Judging.TheVariants.{Waiting, Running, Another}
 use Rattle.lf_rules.specs.InRange.{IsShape}
