@@ -1,5 +1,5 @@
 -- There is room exactly where some register takes the target.
-use Rattle.std.proofs.Common.{◌≡◌, ℕ, ◌<◌, ◌⊎◌, [], ◌∷◌, Bool, true, false, not, ◌↔◌, inl, inr, nat_lt, None, refl, sym, ap, ◌∙◌, lt-ltb, ltb-true}
+use Rattle.std.proofs.Common.{◌≡◌, ℕ, ◌<◌, ◌⊎◌, [], ◌∷◌, Bool, true, false, not, ◌↔◌, inl, inr, nat_lt, None, Some, refl, sym, ap, ◌∙◌, lt-ltb, ltb-true}
 use Rattle.std.proofs.lemmas.Bool.{not-true}
 use Rattle.std.specs.Bool.{IsTrue}
 use Rattle.lf_rules.specs.declared.rule.Rule.{Rule}
@@ -20,13 +20,22 @@ module _ (first second third fourth : Rule) where
   all_of true true true false e = absurd (cc e)
   all_of true true true true e = (refl, refl, refl, refl)
 
-  all_from : (a b c d : Bool) → a ≡ true → b ≡ true → c ≡ true → d ≡ true
+  pub all_from : (a b c d : Bool) → a ≡ true → b ≡ true → c ≡ true → d ≡ true
       → first_failing OfBank (bank_wants first a ∷ bank_wants second b ∷ bank_wants third c ∷ bank_wants fourth d ∷ []) ≡ None
   all_from true true true true p q r s = refl
   all_from false b c d p q r s = absurd (cc p)
   all_from true false c d p q r s = absurd (cc q)
   all_from true true false d p q r s = absurd (cc r)
   all_from true true true false p q r s = absurd (cc s)
+
+  -- the first three hold, and the last does not
+  pub last_fails : (a b c d : Bool) → a ≡ true → b ≡ true → c ≡ true → d ≡ false
+      → first_failing OfBank (bank_wants first a ∷ bank_wants second b ∷ bank_wants third c ∷ bank_wants fourth d ∷ []) ≡ Some fourth
+  last_fails true true true false p q r s = refl
+  last_fails false b c d p q r s = absurd (cc p)
+  last_fails true false c d p q r s = absurd (cc q)
+  last_fails true true false d p q r s = absurd (cc r)
+  last_fails true true true true p q r s = absurd (cc s)
 
 module _ {T : Type 0} (position destination : T → ℕ) (file : RegisterFile T) (block : ℕ) (target : T) where
   room_to : has_room_for position destination file block target ≡ true → SomeTakes position destination file block target

@@ -145,19 +145,21 @@ impl<T: Target> Organisation for Explicit<T> {
         block: u32,
         _target: &T,
     ) -> Option<RegisterFault> {
+        // A merge that is right asks for no search.
+        let there = u32::from(register) < file.registers.registers;
+        if there && file.registers.holds_in(u32::from(register), block) {
+            if !file.has_entry(u32::from(register)) {
+                return Some(RegisterFault::Full);
+            }
+            return None;
+        }
         if !file.registers.holds(block) {
             return Some(RegisterFault::NotInFlight);
         }
-        if u32::from(register) >= file.registers.registers {
+        if !there {
             return Some(RegisterFault::Range);
         }
-        if !file.registers.holds_in(u32::from(register), block) {
-            return Some(RegisterFault::Wrong);
-        }
-        if !file.has_entry(u32::from(register)) {
-            return Some(RegisterFault::Full);
-        }
-        None
+        Some(RegisterFault::Wrong)
     }
 
     fn place(file: &mut ExplicitFile<T>, register: u16, block: u32, target: T) {

@@ -1,8 +1,28 @@
-use Rattle.std.proofs.Common.{rules}
+use Rattle.std.proofs.Common.{rules, ◌≡◌, true, false, ◌==◌, ◌&&◌, not, nat_lt, sym}
+use Rattle.std.specs.List.{list_any}
+use Rattle.lf_rules.specs.Registers.{holds, holds_in}
+use Rattle.lf_rules.specs.declared.rule.Rule.TheVariants.{RegisterRange, WrongRegister, NotInFlight, MergeFull}
+use Rattle.lf_mshr.specs.Places.{held_of}
+use Rattle.lf_mshr.proofs.Once.{holds_from}
+use Rattle.lf_mshr.proofs.Room.{all_from, last_fails}
 use Rattle.lf_mshr.proofs.implicit.ImplicitOrganisation.merge_fault.Goals as goal
 
 pub returns-then-not-has_field : goal.returns-then-not-has_field
-returns-then-not-has_field g c = search rules
+returns-then-not-has_field g c =
+    let file = c.args.file.now in
+    let held = held_of file.registers.places.order in
+    let there : nat_lt c.args.register file.registers.registers ≡ true = search rules in
+    let has : holds_in held c.args.register c.args.block ≡ true = search rules in
+    let left : not (list_any (λ h. h.register == c.args.register && g.T.Target.position h.target == g.T.Target.position c.args.target.now) held) ≡ false = search rules in
+    sym (last_fails NotInFlight RegisterRange WrongRegister MergeFull (holds held c.args.block) (nat_lt c.args.register file.registers.registers) (holds_in held c.args.register c.args.block)
+    (not (list_any (λ h. h.register == c.args.register && g.T.Target.position h.target == g.T.Target.position c.args.target.now) held)) (holds_from held c.args.register c.args.block has) there has left)
 
-pub returns : goal.returns
-returns g c = search rules
+pub returns-then-holds_in : goal.returns-then-holds_in
+returns-then-holds_in g c =
+    let file = c.args.file.now in
+    let held = held_of file.registers.places.order in
+    let there : nat_lt c.args.register file.registers.registers ≡ true = search rules in
+    let has : holds_in held c.args.register c.args.block ≡ true = search rules in
+    let left : not (list_any (λ h. h.register == c.args.register && g.T.Target.position h.target == g.T.Target.position c.args.target.now) held) ≡ true = search rules in
+    sym (all_from NotInFlight RegisterRange WrongRegister MergeFull (holds held c.args.block) (nat_lt c.args.register file.registers.registers) (holds_in held c.args.register c.args.block)
+    (not (list_any (λ h. h.register == c.args.register && g.T.Target.position h.target == g.T.Target.position c.args.target.now) held)) (holds_from held c.args.register c.args.block has) there has left)
