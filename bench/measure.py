@@ -7,8 +7,9 @@ nothing else.
 A row for each trace: the least processor time of five turns, its ratio to that of BEFORE where another
 build is given, its ratio to that of plain/decode.rs where there is a Rust compiler (a program that decodes
 the same trace and counts its records), the least time on the clock with 1 worker, the ratios of that with 2
-and with 4 workers to it, the most memory that the program held with 1 worker, and that over the size of the
-file. All take turns, so that each meets the same machine."""
+and with 4 workers to it, the ratio of four runs with 1 worker each at once to it (1 on four idle cores), the
+most memory that the program held with 1 worker, and that over the size of the file. All take turns, so that
+each meets the same machine."""
 
 import os
 import shutil
@@ -20,6 +21,7 @@ from dataclasses import dataclass
 
 TURNS = 5
 WORKERS = (2, 4)
+AT_ONCE = 4
 TRACES = (
     ("10,000", "--events 10000"),
     ("100,000", "--events 100000"),
@@ -43,14 +45,26 @@ class Run:
     status: int
 
 
-def run(words):
-    start = time.monotonic()
+def started(words):
     child = os.fork()
     if child == 0:
         os.dup2(os.open(os.devnull, os.O_WRONLY), 1)
         os.execv(words[0], words)
-    _, status, used = os.wait4(child, 0)
+    return child
+
+
+def run(words):
+    start = time.monotonic()
+    _, status, used = os.wait4(started(words), 0)
     return Run(used.ru_utime + used.ru_stime, time.monotonic() - start, used.ru_maxrss / 1024, status)
+
+
+def run_at_once(words):
+    """The seconds on the clock of so many runs that begin together, until the last has ended."""
+    start = time.monotonic()
+    for child in [started(words) for _ in range(AT_ONCE)]:
+        os.waitpid(child, 0)
+    return time.monotonic() - start
 
 
 def ratio(runs, others, time_of):
@@ -65,10 +79,11 @@ def row(name, options, commands, work):
     subprocess.run([sys.executable, HERE + "/make_trace.py", "--out", trace, "--config", shape, *options.split()],
                    check=True, stdout=subprocess.DEVNULL)
     words = {"trace": trace, "shape": shape}
-    runs = [[] for _ in commands]
+    runs, at_once = [[] for _ in commands], []
     for _ in range(TURNS):
         for own, command in zip(runs, commands):
             own.append(run([word.format(**words) for word in command]))
+        at_once.append(run_at_once([word.format(**words) for word in commands[0]]))
     one, others, more = runs[0], runs[1:-len(WORKERS)], runs[-len(WORKERS):]
     if any(r.status for own in (one, *more) for r in own):
         print(f"| {name} | NOT YES |", flush=True)
@@ -77,6 +92,7 @@ def row(name, options, commands, work):
     cells = [name, "yes", f"{min(r.processor for r in one) * 1000:.0f} ms"]
     cells += [ratio(one, own, lambda r: r.processor) for own in others]
     cells += [f"{min(r.clock for r in one) * 1000:.0f} ms", *(ratio(own, one, lambda r: r.clock) for own in more)]
+    cells += [f"{min(at_once) / min(r.clock for r in one):.2f}"]
     cells += [f"{memory:.0f} MB", f"{size:.1f} MB", f"{memory / size:.2f}"]
     print(f"| {' | '.join(cells)} |", flush=True)
 
@@ -90,7 +106,7 @@ def main():
             subprocess.run(["rustc", "-O", HERE + "/plain/decode.rs", "-o", work + "/decode"], check=True)
             checks.append([work + "/decode", "{trace}"])
             columns.append("over plain reading")
-        columns += ["time", *(f"{workers} workers over 1" for workers in WORKERS)]
+        columns += ["time", *(f"{workers} workers over 1" for workers in WORKERS), f"{AT_ONCE} runs at once over 1"]
         columns += ["memory", "file", "memory over file"]
         print(f"| {' | '.join(columns)} |\n|{'---|' * len(columns)}")
         for name, options in TRACES:

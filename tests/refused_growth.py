@@ -103,7 +103,7 @@ SWEPT = "refused_growth_of_"
 RUNS = [
     *[f"{call}_on_{trace}" for call in ("check", "session", "run") for trace in (
         "empty_trace", "load_misses_both_levels", "load_merges_behind_store", "cycle_of_two_logs")],
-    "check_with_two_workers", "session_by_two_workers", "read", "recheck", "encode", "stats", "ten_events", "a_step", "a_reader",
+    "check_with_two_workers", "session_by_four_workers", "read", "recheck", "encode", "stats", "ten_events", "a_step", "a_reader",
 ]
 
 # Examples that fail where a growth is refused, with the crate that has them. The engine's example of the first name
@@ -117,7 +117,7 @@ TOLD = [
 ]
 
 # A session that is fed by several workers goes on without a thread that was refused, or the memory for it.
-BESIDE = "refused_growth_of_session_by_two_workers"
+BESIDE = "refused_growth_of_session_by_four_workers"
 THREAD_BYTES = b"56"
 
 # The status of a test that returned an error. One that an assertion stops ends by a signal.

@@ -30,6 +30,10 @@ use std::thread::{Threads, join_mut};
 /// A shorter piece is not worth a thread.
 const SHORT: usize = 1024;
 
+/// Fewer workers than these judge in one thread, which is faster: two threads for each piece cost more
+/// than they save.
+const FEWEST: u32 = 4;
+
 /// What ended the judging.
 #[derive(Clone, Copy, Debug, PartialEq, Eq)]
 pub enum Stop {
@@ -86,7 +90,7 @@ fn read_beside<T: Threads + Sync>(
     piece: &[u8],
     pending: &mut Pending,
 ) -> (Result<(), Told<CodecFault>>, Result<(), NoMemory>)
-    requires threads { 0 < threads }
+    requires threads { 1 < threads }
     requires pending { CanBeJudged pending.old }
     ensures read { HasReadOn reader.old piece.now result.0 reader.new }
     ensures judged { JudgesAll pending.old result.1 pending.new }
@@ -97,7 +101,7 @@ fn read_beside<T: Threads + Sync>(
             ensures { HasReadOn reader.entry.now piece.entry.now result reader.exit.now }
         { reader.feed(piece) },
         &mut || -> Result<(), NoMemory>
-            requires { IsSync T.row × ((0 < threads) × CanBeJudged pending.now) }
+            requires { IsSync T.row × ((1 < threads) × CanBeJudged pending.now) }
             ensures { JudgesAll pending.entry.now result pending.exit.now }
         { pending.judge_by(rt, threads as usize) },
     )
@@ -318,8 +322,8 @@ impl Intake {
         Ok(())
     }
 
-    /// The same by so many workers: this piece is read beside the banks, which are judged on what the
-    /// piece before gave.
+    /// The same by at most so many workers. With four or more this piece is read beside the banks, which are
+    /// judged on what the piece before gave.
     pub fn feed_by<T: Threads + Sync>(
         &mut self,
         rt: &T,
@@ -332,7 +336,7 @@ impl Intake {
         ensures told { result ≡ stop_told self.old.stop self.new.stop }
         ensures failed { IsSome self.old.stop → self.new ≡ self.old }
     {
-        if workers < 2 || piece.len() < SHORT || self.stop.is_some() {
+        if workers < FEWEST || piece.len() < SHORT || self.stop.is_some() {
             return self.feed(piece);
         }
         self.feed_beside(rt, workers - 1, piece)
@@ -347,7 +351,7 @@ impl Intake {
     ) -> Result<(), Told<Refusal>>
         requires fed { (bytes : List ℕ) × HasFed self.old bytes }
         requires going { self.old.stop ≡ None }
-        requires threads { 0 < threads }
+        requires threads { 1 < threads }
         ensures shape { self.new.shape ≡ self.old.shape }
         ensures fed { (bytes : List ℕ) → HasFed self.old bytes → HasFed self.new (bytes ++ piece.now) }
         ensures told { result ≡ stop_told self.old.stop self.new.stop }

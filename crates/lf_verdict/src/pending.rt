@@ -76,28 +76,6 @@ fn enter_beside<R: Threads + Sync>(
     entered
 }
 
-/// Enters the records and judges the banks on them, in so many threads. Two are both for the banks.
-fn judge_parts<R: Threads + Sync>(
-    rt: &R,
-    threads: usize,
-    records: &[Record],
-    entries: &mut Entries,
-    banks: &mut [BankJudge],
-) -> Result<(), NoMemory>
-    requires threads { 0 < threads }
-    requires entries { CanEnterAll records.now entries.old }
-    requires banks { CanAllTake records.now banks.old }
-    ensures entries { EntersAll records.now entries.old result entries.new }
-    ensures banks { OnOk result (AllTake records.now banks.old banks.new) }
-{
-    if threads > 2 {
-        return enter_beside(rt, threads - 1, records, entries, banks);
-    }
-    entries.enter_all(records)?;
-    judge_banks(rt, threads, records, banks);
-    Ok(())
-}
-
 /// Whether memory ran out for a bank.
 fn ran_out(banks: &[BankJudge]) -> bool
     ensures { ¬ IsTrue result → (bank : ℕ) (d : BankJudge) → bank < length banks.now → (slice_index_or banks.now bank d).outcome ≢ Outcome.NoMemory }
@@ -146,15 +124,15 @@ impl Pending {
         Ok(())
     }
 
-    /// The same, where the banks are judged in so many threads.
+    /// The same in so many threads, one of which enters the records while the others judge the banks.
     pub fn judge_by<R: Threads + Sync>(&mut self, rt: &R, threads: usize) -> Result<(), NoMemory>
-        requires threads { 0 < threads }
+        requires threads { 1 < threads }
         requires pending { CanBeJudged self.old }
         ensures { JudgesAll self.old result self.new }
     {
         let records: &[Record] = self.records.make_contiguous();
         let banks = self.standing.banks.as_mut_slice();
-        judge_parts(rt, threads, records, &mut self.standing.entries, banks)?;
+        enter_beside(rt, threads - 1, records, &mut self.standing.entries, banks)?;
         if ran_out(&self.standing.banks) {
             return Err(NoMemory);
         }

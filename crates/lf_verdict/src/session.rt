@@ -77,8 +77,9 @@ impl Session {
         self.intake.feed(piece)
     }
 
-    /// The same by so many workers. What a piece gives is judged while the next one is read, so that a
-    /// refusal for want of memory may come with a later piece. One worker, or a short piece, is `feed`.
+    /// The same by at most so many workers. With four or more, what a piece gives is judged while the next
+    /// one is read, so that a refusal for want of memory may come with a later piece. Fewer workers, or a
+    /// short piece, is `feed`, which is faster then.
     pub fn feed_by<T: Threads + Sync>(
         &mut self,
         rt: &T,

@@ -153,13 +153,13 @@ fn refused_growth_of_session_on_cycle_of_two_logs(rt: HostRuntime) -> Result<(),
     assert_fed(&rt, config, &[&CYCLE_OF_TWO_LOGS], &two_logs())
 }
 
-/// By a session that is fed by two workers, in pieces that are long enough for both.
+/// By a session that is fed by four workers, in pieces that are long enough for all.
 #[test]
-fn refused_growth_of_session_by_two_workers(rt: HostRuntime) -> Result<(), Fail> {
+fn refused_growth_of_session_by_four_workers(rt: HostRuntime) -> Result<(), Fail> {
     let bytes = hits_and(rt.alloc(), 60, HIT)?;
     let mut session = Session::for_shape(rt.alloc(), &C1);
     for piece in bytes.chunks(1024) {
-        if let Err(told) = session.feed_by(&rt, 2, piece) {
+        if let Err(told) = session.feed_by(&rt, 4, piece) {
             assert_eq!(rt; told, Told::Fault(Refusal::Memory));
             assert_eq!(rt; session.finish(), Verdict::Refused(Refusal::Memory));
             return Err(want_of_memory());

@@ -9,14 +9,14 @@ use Rattle.lf_verdict.specs.Standing.{MayAllCome, StandsAfterAll, CanTakeAll, Ta
 use Rattle.lf_verdict.proofs.Pendings.{all_fit, can_take, stands_together, written_at}
 use Rattle.lf_verdict.proofs.pending.Pending.judge_by.Goals as goal
 
-pub judge_parts-requires-clause-entries : goal.judge_parts-requires-clause-entries
-judge_parts-requires-clause-entries g c κs lives =
+pub enter_beside-requires-clause-entries : goal.enter_beside-requires-clause-entries
+enter_beside-requires-clause-entries g c κs lives =
     let r = c.requires.pending in
     let is = r.1.1.1 in
     (r.0, (is.done, (subst (MayAllCome r.0 is.done) (sym c.make_contiguous.ensures.value) is.may_come, is.stands.entered)))
 
-pub judge_parts-requires-clause-banks : goal.judge_parts-requires-clause-banks
-judge_parts-requires-clause-banks g c κs lives bank d lt =
+pub enter_beside-requires-clause-banks : goal.enter_beside-requires-clause-banks
+enter_beside-requires-clause-banks g c κs lives bank d lt =
     let r = c.requires.pending in
     let is = r.1.1.1 in
     let rs = c.make_contiguous.result.now in
@@ -30,16 +30,16 @@ returns g c shape memory records is =
     let may = subst (MayAllCome shape is.done) (sym c.make_contiguous.ensures.value) is.may_come in
     let old = c.args.self.now.standing in
     let slice = c.as_mut_slice-banks.ensures.value in
-    let ws = c.judge_parts.new.banks in
-    let new : Standing = record { entries = c.judge_parts.new.entries; banks = with_items old.banks ws } in
+    let ws = c.enter_beside.new.banks in
+    let new : Standing = record { entries = c.enter_beside.new.entries; banks = with_items old.banks ws } in
     let same = is.all ∙ ap (λ (xs : List Record). is.done ++ xs) (sym c.make_contiguous.ensures.value) in (
       subst (λ (xs : List Record). StandsAfterAll shape memory xs new) (sym same)
           (stands_together shape memory is.done rs old new is.stands (all_fit shape is.done rs may)
-          (c.in_ok-judge_parts.ensures.entries shape is.done may is.stands.entered)
+          (c.in_ok-enter_beside.ensures.entries shape is.done may is.stands.entered)
           (sym (length_refill old.banks.len old.banks.items ws old.banks.ok.0) ∙ old.banks.ok.0)
           (λ bank x lt at.
           subst (λ (y : BankJudge). TakesAll bank rs (get_or old.banks.items bank x) y) (written_at old.banks.items ws old.banks.len bank x (omega (arith, lt, old.banks.ok.0)) at)
-          (subst (λ (js : List BankJudge). TakesAll bank rs (get_or js bank x) (get_or ws bank x)) slice (c.in_ok-judge_parts.ensures.banks.each bank x (omega (arith, lt, ap length slice)))))
+          (subst (λ (js : List BankJudge). TakesAll bank rs (get_or js bank x) (get_or ws bank x)) slice (c.enter_beside.ensures.banks.each bank x (omega (arith, lt, ap length slice)))))
           (λ bank d lt.
           subst (λ (js : List BankJudge). (get_or js bank d).outcome ≡ outcomes.NoMemory → ⊥) c.deref.ensures.value (c.ran_out.ensures (λ e. cc) bank d (omega (arith, lt, ap length c.deref.ensures.value))))),
       c.clear.ensures.items,
