@@ -1,6 +1,6 @@
 //! Records that were read and are not judged yet.
 
-ghost use Rattle.std.specs.Prelude.{◌≡◌, ◌≢◌, ◌<◌, ℕ, List, [], length, slice_index_or, IsTrue, OnOk};
+ghost use Rattle.std.specs.Prelude.{◌≡◌, ◌≢◌, ◌<◌, ℕ, List, [], length, slice_index_or, IsTrue};
 ghost use Rattle.lf_rules.specs.declared.outcome.Outcome.{Outcome};
 ghost use Rattle.lf_verdict.specs.declared.bank_judge.BankJudge.{BankJudge};
 ghost use Rattle.lf_rules.specs.declared.shape.Shape.{Shape};
