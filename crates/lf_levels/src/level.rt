@@ -5,7 +5,7 @@ ghost use Rattle.lf_rules.specs.Address.{set1_of};
 ghost use Rattle.lf_rules.specs.Fits.{is_factor};
 
 use crate::lines_two::joined;
-use lf_rules::Masks;
+use lf_rules::{Masks, quotient, remainder};
 
 /// A level of the cache: what is dirty of its lines, and which set a block is in.
 pub trait Level {
@@ -78,7 +78,10 @@ fn set1_of(banks: u32, factor: u32, sets: u32, block: u32) -> u32
     requires factor { is_factor factor ≡ true }
     ensures { result ≡ set1_of banks factor sets block }
 {
-    (block / factor / banks * factor + block % factor) % sets
+    remainder(
+        quotient(quotient(block, factor), banks) * factor + remainder(block, factor),
+        sets,
+    )
 }
 
 impl Level for Two {
@@ -101,6 +104,6 @@ impl Level for Two {
     }
 
     fn set_of(banks: u32, _factor: u32, sets: u32, block: u32) -> u32 {
-        block / banks % sets
+        remainder(quotient(block, banks), sets)
     }
 }

@@ -5,6 +5,8 @@
 #[cfg(test)]
 mod configuration;
 #[cfg(test)]
+mod divisions;
+#[cfg(test)]
 mod fitting;
 #[cfg(test)]
 mod growth;

@@ -9,7 +9,7 @@ ghost use Rattle.lf_state.specs.Bytes.{flat_of};
 ghost use Rattle.lf_replay.specs.Targets.{IsNumberOf, IsSomeTarget, IsTarget1, reply_to};
 
 use lf_mshr::Request1;
-use lf_rules::{Mask, Op, Shape};
+use lf_rules::{Mask, Op, Shape, quotient, remainder};
 use lf_state::{Data, FlatMemory, Ready, Request};
 
 /// What a port's request asks of a level-one register: its place in the block and where its reply goes.
@@ -74,9 +74,9 @@ pub fn reply_of(shape: &Shape, target: &Request1) -> Ready
     } else {
         first_bytes(target.value, target.bytes.0.count_ones() as usize)
     };
-    let port = (destination / shape.tags) as u8;
-    let tag = (destination % shape.tags) as u8;
-    Ready::new(port, tag, value)
+    let port = quotient(destination, shape.tags);
+    let tag = remainder(destination, shape.tags);
+    Ready::new(port as u8, tag as u8, value)
 }
 
 /// The bytes as a little-endian number.

@@ -6,6 +6,7 @@ ghost use Rattle.lf_rules.specs.Fits.{is_size, is_block_size, is_factor, is_of_b
 ghost use Rattle.lf_rules.specs.Fits.{FitsIssue, FitsReply, FitsRequest, FitsBlock, FitsEvict, FitsSecond, FitsWideEvict};
 ghost use Rattle.lf_rules.specs.Fits.{IsData, FitsEvent, FitsBank, FitsLog, FitsRecord};
 
+use crate::division::{quotient, wide_quotient, wide_remainder};
 use crate::event::{Block, Event, Masks, NO_BANK, Op, Record, WideBlock};
 use crate::mask::Mask;
 
@@ -21,7 +22,7 @@ pub fn is_of_bank(banks: u32, bank: u32, second: u64) -> bool
     requires { 0 < banks }
     ensures { result ≡ is_of_bank banks bank second }
 {
-    second % u64::from(banks) == u64::from(bank)
+    wide_remainder(second, u64::from(banks)) == u64::from(bank)
 }
 
 fn slice_is_data(len: usize, bytes: &[u8]) -> bool
@@ -42,7 +43,7 @@ fn fits_block(banks: u32, factor: u32, bank: u32, block: u32) -> bool
     requires some_factor { 0 < factor }
     ensures { IsTrue result ↔ FitsBlock banks factor bank block }
 {
-    is_of_bank(banks, bank, u64::from(block / factor))
+    is_of_bank(banks, bank, u64::from(quotient(block, factor)))
 }
 
 fn fits_second(banks: u32, factor: u32, bank: u32, second: u32) -> bool
@@ -50,7 +51,7 @@ fn fits_second(banks: u32, factor: u32, bank: u32, second: u32) -> bool
     requires some_factor { 0 < factor }
     ensures { IsTrue result ↔ FitsSecond banks factor bank second }
 {
-    u64::from(second) < 0x1_0000_0000 / u64::from(factor)
+    u64::from(second) < wide_quotient(0x1_0000_0000, u64::from(factor))
         && is_of_bank(banks, bank, u64::from(second))
 }
 
@@ -70,16 +71,16 @@ fn fits_issue(
     requires some_factor { 0 < factor }
     ensures { IsTrue result ↔ FitsIssue banks block factor bank op tag size address bytes.now }
 {
-    if !is_size(size) || address % u64::from(size) != 0 {
+    if !is_size(size) || wide_remainder(address, u64::from(size)) != 0 {
         return false;
     }
-    let number = address / u64::from(block);
+    let number = wide_quotient(address, u64::from(block));
     let len = match op {
         Op::Load => 0,
         Op::Store => usize::from(size),
     };
     number < 0x1_0000_0000
-        && is_of_bank(banks, bank, number / u64::from(factor))
+        && is_of_bank(banks, bank, wide_quotient(number, u64::from(factor)))
         && is_data(len, bytes)
 }
 

@@ -5,6 +5,7 @@
 //! The laws of those definitions are functions with an empty body, whose contract is the law.
 #![tactic(auto)]
 
+mod division;
 mod event;
 mod fitting;
 mod laws;
@@ -14,6 +15,7 @@ mod ring;
 mod rule;
 mod shape;
 
+pub use division::{quotient, remainder, wide_quotient, wide_remainder};
 pub use event::{Block, Event, Logs, Masks, Memory, NO_BANK, Op, Record, WideBlock};
 pub use fitting::{fits, is_of_bank, is_size, mask_fits};
 pub use laws::{

@@ -4,14 +4,14 @@ ghost use Rattle.std.specs.Prelude.{◌≡◌, ◌≤◌, ◌<◌, ◌+◌, ◌*
 ghost use Rattle.lf_rules.specs.Address.{bank_of, part_at, place_of, second_of, sub_block};
 ghost use Rattle.lf_rules.specs.InRange.{IsShape};
 
-use lf_rules::Shape;
+use lf_rules::{Shape, quotient, remainder};
 
 /// The bank of a block.
 pub fn bank_of(shape: &Shape, block: u32) -> u32
     requires { IsShape shape.now }
     ensures { result ≡ bank_of shape.now block }
 {
-    block / shape.factor % shape.banks
+    remainder(quotient(block, shape.factor), shape.banks)
 }
 
 /// The second-level block of a block.
@@ -19,7 +19,7 @@ pub fn second_of(shape: &Shape, block: u32) -> u32
     requires { IsShape shape.now }
     ensures { result ≡ second_of shape.now block }
 {
-    block / shape.factor
+    quotient(block, shape.factor)
 }
 
 /// The place of a block in its second-level block.
@@ -28,7 +28,7 @@ pub fn place_of(shape: &Shape, block: u32) -> u32
     ensures place { result ≡ place_of shape.now block }
     ensures below { result < shape.now.factor }
 {
-    block % shape.factor
+    remainder(block, shape.factor)
 }
 
 /// The block at a place of a second-level block.

@@ -8,7 +8,7 @@ ghost use Rattle.lf_rules.specs.State as model;
 ghost use Rattle.lf_state.specs.Bytes.{IsWellSized};
 
 use arrayvec::ArrayVec;
-use lf_rules::{Mask, Op, Shape};
+use lf_rules::{Mask, Op, Shape, wide_quotient, wide_remainder};
 use std::marker::Model;
 
 /// The bytes of a request: what a store writes, or a load's value.
@@ -81,8 +81,8 @@ impl Request {
         Request {
             tag,
             op,
-            block: (address / len) as u32,
-            offset: (address % len) as u8,
+            block: wide_quotient(address, len) as u32,
+            offset: wide_remainder(address, len) as u8,
             size,
             bytes: data_of(bytes),
         }
