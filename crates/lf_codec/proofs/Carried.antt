@@ -47,7 +47,8 @@ can_carry h kinds.Fence fixed more range few = tt
 can_carry h kinds.SecondMerge fixed more range few = tt
 
 -- The parts of a record that stands whole, and the event that is built from them.
-module _ (p : Progress) (bytes rest fixed carried : List ℕ) (kind : Kind) (head : Head) (front : IsWholeHead p bytes head rest) (same : kind ≡ head.kind) (parts : AreWholeParts p.header kind head.bank rest fixed carried) where
+module _ (p : Progress) (bytes rest fixed carried : List ℕ) (kind : Kind) (head : Head) (front : IsWholeHead p bytes head rest) (same : kind ≡ head.kind)
+    (parts : AreWholeParts p.header kind head.bank rest fixed carried) where
   own_parts : AreWholeParts p.header head.kind head.bank rest fixed carried
   own_parts = subst (λ (k : Kind). AreWholeParts p.header k head.bank rest fixed carried) same parts
 
@@ -55,7 +56,8 @@ module _ (p : Progress) (bytes rest fixed carried : List ℕ) (kind : Kind) (hea
   whole_record = record { head = head; rest = rest; fixed = fixed; carried = carried; at_front = front; behind = own_parts; item_is = refl; len_is = refl }
 
   pub event_carries : (bare : Event) → bare ≡ event_at p.header kind fixed (record { items = [] }) → carrying bare carried ≡ event_at p.header head.kind fixed (record { items = carried })
-  event_carries bare is_bare = ap (λ (e : Event). carrying e carried) is_bare ∙ carried_event p.header kind fixed carried ∙ ap (λ (k : Kind). event_at p.header k fixed (record { items = carried })) same
+  event_carries bare is_bare = ap (λ (e : Event). carrying e carried) is_bare ∙ carried_event p.header kind fixed carried
+      ∙ ap (λ (k : Kind). event_at p.header k fixed (record { items = carried })) same
 
   pub bare_can_carry : (bare : Event) → bare ≡ event_at p.header kind fixed (record { items = [] }) → IsInRange p.header → CanCarry bare carried
   bare_can_carry bare is_bare range =

@@ -14,7 +14,8 @@ use Rattle.lf_codec.specs.declared.stage.Found.TheVariants as found
 use Rattle.lf_codec.specs.declared.progress.Progress.{Progress}
 use Rattle.lf_codec.specs.Checks.{judged, byte_at, header_checks, stage_checks}
 use Rattle.lf_codec.specs.Steps.{stage_len, header_at, head_at, at_next, past_head, advanced}
-use Rattle.lf_codec.specs.Reading.{Reading, reading_of, read_on, byte_read, byte_unless, stepped_if, failed, nothing_read, end_of, truncated_at, fault_of, fault_so_far, trace_fault, header_of, header_now, header_unless}
+use Rattle.lf_codec.specs.Reading.{Reading, reading_of, read_on, byte_read, byte_unless, stepped_if, failed, nothing_read, end_of, truncated_at, fault_of}
+use Rattle.lf_codec.specs.Reading.{fault_so_far, trace_fault, header_of, header_now, header_unless}
 use Rattle.lf_codec.specs.Laws.{MoreIsTrailing, LessIsTruncated, HeaderIsOfItsBytes, header_if}
 use Rattle.lf_codec.proofs.Bytes.{header-between, header-past_head, header-past_fixed, read_on-append, read_on-failed}
 use Rattle.lf_codec.proofs.Parts.{waits_on, steps_on}
@@ -37,7 +38,8 @@ more_is_trailing bytes more b h memory records fits trace =
     let here : byte_read start b ≡ failed start Trailing = trailing w.at_end memory records b w.stage in
     let known : (byte_read start b).fault ≡ (failed start Trailing).fault = ap (λ (q : Reading). q.fault) here in
     let joined : reading_of (bytes ++ b ∷ more) ≡ failed start Trailing =
-    read_on-append bytes (b ∷ more) nothing_read ∙ ap (λ (q : Reading). read_on q (b ∷ more)) w.reads ∙ read_on-failed more (byte_read start b) (record { cause = Trailing; offset = w.at_end.offset }) known ∙ here in
+    read_on-append bytes (b ∷ more) nothing_read ∙ ap (λ (q : Reading). read_on q (b ∷ more)) w.reads
+    ∙ read_on-failed more (byte_read start b) (record { cause = Trailing; offset = w.at_end.offset }) known ∙ here in
     ap (λ (q : Reading). q.fault) joined ∙ ap (λ (n : ℕ). Some (record { cause = Trailing; offset = n })) offset
 
 end_cases : (s : Stage) (offset : ℕ) → (end_of s offset ≡ None) ⊎ (end_of s offset ≡ truncated_at offset)
@@ -53,7 +55,8 @@ pub less_is_truncated : LessIsTruncated
 less_is_truncated bytes more b h memory records fits trace =
     let whole : trace_fault (bytes ++ b ∷ more) ≡ None = (trace_is_read (bytes ++ b ∷ more) h memory records trace).0 in
     let joined : reading_of (bytes ++ b ∷ more) ≡ read_on (reading_of bytes) (b ∷ more) = read_on-append bytes (b ∷ more) nothing_read in
-    let later : (read_on (reading_of bytes) (b ∷ more)).fault ≡ None = ap (λ (q : Reading). q.fault) (sym joined) ∙ (no_fault_at (reading_of (bytes ++ b ∷ more)) (fault_so_far (bytes ++ b ∷ more)) whole).0 in
+    let later : (read_on (reading_of bytes) (b ∷ more)).fault ≡ None = ap (λ (q : Reading). q.fault) (sym joined)
+    ∙ (no_fault_at (reading_of (bytes ++ b ∷ more)) (fault_so_far (bytes ++ b ∷ more)) whole).0 in
     let fine : fault_so_far bytes ≡ None = fine_before (reading_of bytes) (b ∷ more) later in
     let marked = marked_of bytes fits fine in
     let r : Reading = reading_of bytes in
@@ -73,14 +76,16 @@ less_is_truncated bytes more b h memory records fits trace =
 
 -- ---- the header
 
-stays_in_step : (s : Stage) (q : Progress) (bytes : List ℕ) (h : Header) → header_unless s q.header ≡ Some h → header_unless (advanced s (record q { stage = s }) bytes).0.stage (advanced s (record q { stage = s }) bytes).0.header ≡ Some h
+stays_in_step : (s : Stage) (q : Progress) (bytes : List ℕ) (h : Header) → header_unless s q.header ≡ Some h
+    → header_unless (advanced s (record q { stage = s }) bytes).0.stage (advanced s (record q { stage = s }) bytes).0.header ≡ Some h
 unfolding advanced
 stays_in_step stages.Header q bytes h e = absurd cc
 stays_in_step stages.MemoryBlock q bytes h e = e
 stays_in_step (stages.MemoryData block) q bytes h e = header-between (q.left - 1) q.header ∙ e
 stays_in_step stages.Head q bytes h e =
     let p : Progress = record q { stage = stages.Head } in
-    cond_both (byte_at 0 bytes == 0) (at_next p 8 stages.Ended, found.Nothing) (past_head p (head_at bytes)) (λ (x : Progress × Found). header_unless x.0.stage x.0.header ≡ Some h) (λ _. e) (λ _. header-past_head p (head_at bytes) ∙ e)
+    cond_both (byte_at 0 bytes == 0) (at_next p 8 stages.Ended, found.Nothing) (past_head p (head_at bytes)) (λ (x : Progress × Found). header_unless x.0.stage x.0.header ≡ Some h)
+    (λ _. e) (λ _. header-past_head p (head_at bytes) ∙ e)
 stays_in_step (stages.Fixed head) q bytes h e = header-past_fixed (record q { stage = stages.Fixed head }) head bytes ∙ e
 stays_in_step (stages.Data head fixed) q bytes h e = e
 stays_in_step stages.Ended q bytes h e = e
@@ -93,7 +98,8 @@ stays_unless : (fault : Option CodecFault) (r : Reading) (b : ℕ) (h : Header) 
 stays_unless (Some f) r b h e = e
 stays_unless None r b h e =
     let bytes = r.pending ++ b ∷ [] in
-    cond_both (ltb (length bytes) (stage_len r.progress.header r.progress.stage)) (record r { pending = bytes }) (stepped_if (judged (stage_checks r.progress.stage r.progress bytes)) r bytes) (λ (q : Reading). header_now q ≡ Some h)
+    cond_both (ltb (length bytes) (stage_len r.progress.header r.progress.stage)) (record r { pending = bytes })
+    (stepped_if (judged (stage_checks r.progress.stage r.progress bytes)) r bytes) (λ (q : Reading). header_now q ≡ Some h)
     (λ _. e)
     (λ _. stays_if (judged (stage_checks r.progress.stage r.progress bytes)) r bytes h e)
 
@@ -115,5 +121,6 @@ header_is_of_its_bytes = record {
   whole = λ bytes enough.
       let front = take 16 bytes in
       let first : reading_of front ≡ stepped_if (judged (header_checks front)) nothing_read front = steps_on front nothing_read refl (omega arith) (length-take-le 16 bytes enough) in
-      ap header_of (sym (take-append-drop 16 bytes)) ∙ ap header_now (read_on-append front (drop 16 bytes) nothing_read ∙ ap (λ (q : Reading). read_on q (drop 16 bytes)) first) ∙ header_after (judged (header_checks front)) front (drop 16 bytes);
+      ap header_of (sym (take-append-drop 16 bytes)) ∙ ap header_now (read_on-append front (drop 16 bytes) nothing_read ∙ ap (λ (q : Reading). read_on q (drop 16 bytes)) first)
+      ∙ header_after (judged (header_checks front)) front (drop 16 bytes);
 }

@@ -12,7 +12,8 @@ use Rattle.lf_codec.specs.declared.stage.Stage.{Stage}
 use Rattle.lf_codec.specs.declared.stage.Stage.TheVariants as stages
 use Rattle.lf_codec.specs.declared.header.Header.{Header}
 use Rattle.lf_codec.specs.declared.progress.Progress.{Progress}
-use Rattle.lf_codec.specs.Checks.{Checks, judged, byte_at, header_checks, memory_checks, end_checks, head_checks, issue_checks, reply_checks, request_checks, block_checks, second_miss_checks, evict_checks, second_checks, wide_evict_checks, fixed_checks, stage_checks}
+use Rattle.lf_codec.specs.Checks.{Checks, judged, byte_at, header_checks, memory_checks, end_checks, head_checks, issue_checks, reply_checks, request_checks}
+use Rattle.lf_codec.specs.Checks.{block_checks, second_miss_checks, evict_checks, second_checks, wide_evict_checks, fixed_checks, stage_checks}
 use Rattle.lf_codec.specs.Steps.{stage_len}
 use Rattle.lf_codec.specs.Reading.{Reading, reading_of, read_on, byte_read, failed, nothing_read, end_of, fault_of, fault_so_far, header_of, header_now}
 use Rattle.lf_codec.specs.Laws.{FaultsSoFarAreNotTruncated, FaultsStand, WhatStandsBeforeIsGiven, BytesNeverWantMemory, WhatIsReadFits, WhatIsReadIsGiven}
@@ -109,10 +110,28 @@ fails_within (b ∷ bytes) r f fine some =
     elim (byte_cases r b fine) [
       | inl still ↦
           let later = fails_within bytes (byte_read r b) f still some in
-          record { front = b ∷ later.front; b = later.b; back = later.back; split = ap (λ (t : List ℕ). b ∷ t) later.split; fine = later.fine; cause = later.cause; of_bytes = later.of_bytes; is = later.is }
+          record {
+            front = b ∷ later.front;
+            b = later.b;
+            back = later.back;
+            split = ap (λ (t : List ℕ). b ∷ t) later.split;
+            fine = later.fine;
+            cause = later.cause;
+            of_bytes = later.of_bytes;
+            is = later.is;
+          }
       | inr fails ↦
           let known : (byte_read r b).fault ≡ (failed r fails.cause).fault = ap (λ (q : Reading). q.fault) fails.is in
-          record { front = []; b = b; back = bytes; split = refl; fine = fine; cause = fails.cause; of_bytes = fails.of_bytes; is = read_on-failed bytes (byte_read r b) (record { cause = fails.cause; offset = r.progress.offset }) known ∙ fails.is }
+          record {
+            front = [];
+            b = b;
+            back = bytes;
+            split = refl;
+            fine = fine;
+            cause = fails.cause;
+            of_bytes = fails.of_bytes;
+            is = read_on-failed bytes (byte_read r b) (record { cause = fails.cause; offset = r.progress.offset }) known ∙ fails.is;
+          }
     ]
 
 -- ---- the laws
@@ -179,7 +198,8 @@ what_stands_before_is_given bytes f fits some =
     let front_fits : IsBytes at.front = IsBytes-front at.front (at.b ∷ at.back) (λ i. let there = fits i in rw (← at.split) there) in
     let marked = marked_of at.front front_fits at.fine in
     let within : f.offset ≤ length at.front = omega (arith, offset, marked.offset) in
-    let here : take f.offset bytes ≡ take r.progress.offset at.front = ap (take f.offset) at.split ∙ take-append-le f.offset at.front (at.b ∷ at.back) within ∙ ap (λ (n : ℕ). take n at.front) offset in
+    let here : take f.offset bytes ≡ take r.progress.offset at.front = ap (take f.offset) at.split ∙ take-append-le f.offset at.front (at.b ∷ at.back) within
+    ∙ ap (λ (n : ℕ). take n at.front) offset in
     let whole : at.front ≡ take r.progress.offset at.front ++ drop r.progress.offset at.front = sym (take-append-drop r.progress.offset at.front) in
     let on : (read_on (reading_of (take r.progress.offset at.front)) (drop r.progress.offset at.front)).fault ≡ None =
     ap (λ (q : Reading). q.fault) (sym (read_on-append (take r.progress.offset at.front) (drop r.progress.offset at.front) nothing_read) ∙ ap reading_of (sym whole)) ∙ at.fine in

@@ -22,7 +22,8 @@ pub record FitsNext (size least : ℕ) (m : ℕ × Bytes) : Type 0 where
   pub limit : m.0 < 0x1_0000_0000
   pub carried : IsData size m.1
 
-pub memory_at : (size least : ℕ) (memory : List (ℕ × Bytes)) (i : ℕ) (d : ℕ × Bytes) → i < length memory → FitsMemory size least memory → FitsNext size (least_after least (take i memory)) (get_or memory i d)
+pub memory_at : (size least : ℕ) (memory : List (ℕ × Bytes)) (i : ℕ) (d : ℕ × Bytes) → i < length memory → FitsMemory size least memory
+    → FitsNext size (least_after least (take i memory)) (get_or memory i d)
 memory_at size least [] i d lt fits = absurd (omega arith)
 memory_at size least (m ∷ memory) zero d lt fits = record { low = fits.0; limit = fits.1; carried = fits.2 }
 memory_at size least (m ∷ memory) (suc i) d lt fits = memory_at size (m.0 + 1) memory i d (omega arith) fits.3
@@ -31,7 +32,8 @@ pub record FitsUpTo (size : ℕ) (memory : List (ℕ × Bytes)) (n above : ℕ) 
   pub fits : FitsMemory size 0 (take n memory)
   pub least : above ≡ least_after 0 (take n memory)
 
-pub memory_more : (size : ℕ) (memory : List (ℕ × Bytes)) (i : ℕ) (m : ℕ × Bytes) → i < length memory → m ≡ get_or memory i m → FitsMemory size 0 (take i memory) → FitsNext size (least_after 0 (take i memory)) m → FitsUpTo size memory (i + 1) (m.0 + 1)
+pub memory_more : (size : ℕ) (memory : List (ℕ × Bytes)) (i : ℕ) (m : ℕ × Bytes) → i < length memory → m ≡ get_or memory i m → FitsMemory size 0 (take i memory)
+    → FitsNext size (least_after 0 (take i memory)) m → FitsUpTo size memory (i + 1) (m.0 + 1)
 memory_more size memory i m lt is fits next =
     let more : take (i + 1) memory ≡ take i memory ++ m ∷ [] = take_more memory i m lt ∙ ap (λ (x : ℕ × Bytes). take i memory ++ x ∷ []) (sym is) in
     record {

@@ -52,7 +52,8 @@ masks_again (m ∷ masks) rest below =
     let whole : flat_map mask_bytes (m ∷ masks) ++ rest ≡ u64_bytes m.0 ++ (flat_map mask_bytes masks ++ rest) =
     ap (λ (t : List ℕ). t ++ rest) (flat_map-cons mask_bytes m masks) ∙ append_assoc (u64_bytes m.0) (flat_map mask_bytes masks) rest in
     let first : u64_at 0 (u64_bytes m.0 ++ (flat_map mask_bytes masks ++ rest)) ≡ m.0 = u64_again m.0 (flat_map mask_bytes masks ++ rest) (below 0) in
-    let later : drop 8 (u64_bytes m.0 ++ (flat_map mask_bytes masks ++ rest)) ≡ flat_map mask_bytes masks ++ rest = drop_at (u64_bytes m.0) (flat_map mask_bytes masks ++ rest) 8 (length-u64_bytes m.0) in
+    let later : drop 8 (u64_bytes m.0 ++ (flat_map mask_bytes masks ++ rest)) ≡ flat_map mask_bytes masks ++ rest =
+    drop_at (u64_bytes m.0) (flat_map mask_bytes masks ++ rest) 8 (length-u64_bytes m.0) in
     ap (masks_at (length (m ∷ masks))) whole
     ∙ ap (λ (x : ℕ). record { 0 = x } ∷ masks_at (length masks) (drop 8 (u64_bytes m.0 ++ (flat_map mask_bytes masks ++ rest)))) first
     ∙ ap (λ (t : List ℕ). m ∷ masks_at (length masks) t) later

@@ -12,7 +12,8 @@ use Rattle.lf_codec.specs.Takes.{IsRefused, WasRefused, IsUnkept, TakesPart, Tak
 use Rattle.lf_codec.proofs.Bytes.{byte_waits, byte_ends, read_on-append, read_on-failed, read_on-more, not_at_end, one_more_given}
 
 -- bytes that end no step
-pub waits_on : (bytes : List ℕ) (r : Reading) → r.fault ≡ None → length (r.pending ++ bytes) < stage_len r.progress.header r.progress.stage → read_on r bytes ≡ record r { pending = r.pending ++ bytes }
+pub waits_on : (bytes : List ℕ) (r : Reading) → r.fault ≡ None → length (r.pending ++ bytes) < stage_len r.progress.header r.progress.stage
+    → read_on r bytes ≡ record r { pending = r.pending ++ bytes }
 waits_on [] r fine short = rw append-nil refl
 waits_on (b ∷ bytes) r fine short =
     let front : length (r.pending ++ b ∷ []) < stage_len r.progress.header r.progress.stage = omega (arith, short, length-append r.pending (b ∷ []), length-append r.pending (b ∷ bytes)) in
@@ -29,7 +30,8 @@ pub stepped_alike : (r : Reading) (xs bytes : List ℕ) → stepped (record r { 
 stepped_alike r xs bytes = stepped_same (judged (stage_checks r.progress.stage r.progress bytes)) r xs bytes
 
 -- the bytes up to the end of a step
-pub steps_on : (bytes : List ℕ) (r : Reading) → r.fault ≡ None → length r.pending < stage_len r.progress.header r.progress.stage → length (r.pending ++ bytes) ≡ stage_len r.progress.header r.progress.stage → read_on r bytes ≡ stepped r (r.pending ++ bytes)
+pub steps_on : (bytes : List ℕ) (r : Reading) → r.fault ≡ None → length r.pending < stage_len r.progress.header r.progress.stage
+    → length (r.pending ++ bytes) ≡ stage_len r.progress.header r.progress.stage → read_on r bytes ≡ stepped r (r.pending ++ bytes)
 steps_on [] r fine part len = absurd (omega (arith, length-append r.pending []))
 steps_on (b ∷ []) r fine part len = byte_ends r b fine (omega (arith, len))
 steps_on (b ∷ c ∷ bytes) r fine part len =
@@ -45,7 +47,8 @@ steps_on (b ∷ c ∷ bytes) r fine part len =
 abbrev pub lacks : Reading → ℕ
 lacks r = stage_len r.progress.header r.progress.stage - length r.pending
 
-pub part_waits : (old new : Reading) (rest : List ℕ) → old.fault ≡ None → 0 < length rest → length rest < lacks old → new ≡ record old { pending = old.pending ++ rest } → TakesPart old rest (Ok (length rest)) new
+pub part_waits : (old new : Reading) (rest : List ℕ) → old.fault ≡ None → 0 < length rest → length rest < lacks old → new ≡ record old { pending = old.pending ++ rest }
+    → TakesPart old rest (Ok (length rest)) new
 part_waits old new rest fine some short is =
     let on : read_on old rest ≡ record old { pending = old.pending ++ rest } = waits_on rest old fine (omega (arith, length-append old.pending rest)) in
     (some, omega arith, is ∙ sym on ∙ ap (read_on old) (sym (take-length rest)), ap (λ (q : Reading). q.fault) is ∙ fine)
@@ -57,7 +60,8 @@ whole_of old rest = old.pending ++ take (lacks old) rest
 abbrev pub emptied : Reading → Reading
 emptied r = record r { pending = [] }
 
-part_reads : (old : Reading) (rest : List ℕ) → old.fault ≡ None → length old.pending < stage_len old.progress.header old.progress.stage → lacks old ≤ length rest → read_on old (take (lacks old) rest) ≡ stepped old (whole_of old rest)
+part_reads : (old : Reading) (rest : List ℕ) → old.fault ≡ None → length old.pending < stage_len old.progress.header old.progress.stage → lacks old ≤ length rest
+    → read_on old (take (lacks old) rest) ≡ stepped old (whole_of old rest)
 part_reads old rest fine part enough =
     let long = length-take-le (lacks old) rest enough in
     steps_on (take (lacks old) rest) old fine part (omega (arith, long, length-append old.pending (take (lacks old) rest)))
@@ -73,10 +77,13 @@ unkept_refused old new rest fault fine part enough unkept failed =
     let mid_is : read_on old (take before rest) ≡ mid = waits_on (take before rest) old fine (omega (arith, long, length-append old.pending (take before rest))) in
     let lt : before < length rest = omega arith in
     let all : before + 1 ≡ lacks old = omega arith in
-    let stepped_is : stepped old bytes ≡ past_step old (advanced old.progress.stage old.progress bytes).0 (advanced old.progress.stage old.progress bytes).1 = ap (λ (j : Result (Unit {0}) CodecCause). stepped_if j old bytes) unkept.passes in
+    let stepped_is : stepped old bytes ≡ past_step old (advanced old.progress.stage old.progress bytes).0 (advanced old.progress.stage old.progress bytes).1 =
+    ap (λ (j : Result (Unit {0}) CodecCause). stepped_if j old bytes) unkept.passes in
     let next : byte_read mid (get_or rest before 0) ≡ past_step old (advanced old.progress.stage old.progress bytes).0 (advanced old.progress.stage old.progress bytes).1 =
-    ap (λ (q : Reading). byte_read q (get_or rest before 0)) (sym mid_is) ∙ sym (read_on-more old rest before lt) ∙ ap (λ (n : ℕ). read_on old (take n rest)) all ∙ part_reads old rest fine part enough ∙ stepped_is in
-    let one_more : HasOneMore mid (past_step old (advanced old.progress.stage old.progress bytes).0 (advanced old.progress.stage old.progress bytes).1) = one_more_given old (advanced old.progress.stage old.progress bytes).0 (advanced old.progress.stage old.progress bytes).1 unkept.gives_some in
+    ap (λ (q : Reading). byte_read q (get_or rest before 0)) (sym mid_is) ∙ sym (read_on-more old rest before lt) ∙ ap (λ (n : ℕ). read_on old (take n rest)) all
+    ∙ part_reads old rest fine part enough ∙ stepped_is in
+    let one_more : HasOneMore mid (past_step old (advanced old.progress.stage old.progress bytes).0 (advanced old.progress.stage old.progress bytes).1) =
+    one_more_given old (advanced old.progress.stage old.progress bytes).0 (advanced old.progress.stage old.progress bytes).1 unkept.gives_some in
     let refused : IsRefused mid (get_or rest before 0) new fault = record {
       cause = unkept.cause;
       offset = unkept.offset;
@@ -114,7 +121,8 @@ part_ends old new rest n is fine part enough u took =
     let own : TakesStep (emptied old) (whole_of old rest) (Ok u) new = subst (λ (m : ℕ). TakesStep (emptied old) (old.pending ++ take m rest) (Ok u) new) is took in
     subst (λ (m : ℕ). TakesPart old rest (Ok m) new) (sym is) (part_steps old new rest fine part (omega (arith, is, enough)) u own)
 
-pub part_ends_badly : (old new : Reading) (rest : List ℕ) (n : ℕ) (fault : CodecFault) → n ≡ lacks old → old.fault ≡ None → length old.pending < stage_len old.progress.header old.progress.stage → n ≤ length rest
+pub part_ends_badly : (old new : Reading) (rest : List ℕ) (n : ℕ) (fault : CodecFault) → n ≡ lacks old → old.fault ≡ None
+    → length old.pending < stage_len old.progress.header old.progress.stage → n ≤ length rest
     → TakesStep (emptied old) (old.pending ++ take n rest) (Err fault) new → TakesPart old rest (Err fault) new
 part_ends_badly old new rest n fault is fine part enough took =
     let own : TakesStep (emptied old) (whole_of old rest) (Err fault) new = subst (λ (m : ℕ). TakesStep (emptied old) (old.pending ++ take m rest) (Err fault) new) is took in
@@ -129,12 +137,14 @@ pub part_after : (r mid new : Reading) (piece : List ℕ) (at n : ℕ) → mid �
 part_after r mid new piece at n so_far took =
     took ∙ ap (λ (q : Reading). read_on q (take n (drop at piece))) so_far ∙ sym (read_on-append (take at piece) (take n (drop at piece)) r) ∙ ap (read_on r) (sym (take-add at n piece))
 
-pub fault_after : (r mid new : Reading) (piece : List ℕ) (at : ℕ) → at ≤ length piece → mid ≡ read_on r (take at piece) → (new ≡ read_on mid (drop at piece)) ⊎ WasRefused mid (drop at piece) new → (new ≡ read_on r piece) ⊎ WasRefused r piece new
+pub fault_after : (r mid new : Reading) (piece : List ℕ) (at : ℕ) → at ≤ length piece → mid ≡ read_on r (take at piece) → (new ≡ read_on mid (drop at piece))
+    ⊎ WasRefused mid (drop at piece) new → (new ≡ read_on r piece) ⊎ WasRefused r piece new
 fault_after r mid new piece at within so_far outcome =
     elim outcome [
       | inl same ↦ inl (same ∙ ap (λ (q : Reading). read_on q (drop at piece)) so_far ∙ sym (read_on-append (take at piece) (drop at piece) r) ∙ ap (read_on r) (take-append-drop at piece))
       | inr was ↦
-          let there : read_on mid (take was.count (drop at piece)) ≡ read_on r (take (at + was.count) piece) = part_after r mid (read_on mid (take was.count (drop at piece))) piece at was.count so_far refl in
+          let there : read_on mid (take was.count (drop at piece)) ≡ read_on r (take (at + was.count) piece) =
+          part_after r mid (read_on mid (take was.count (drop at piece))) piece at was.count so_far refl in
           let byte : get_or (drop at piece) was.count 0 ≡ get_or piece (at + was.count) 0 = rw get_or-drop refl in
           inr (record {
             count = at + was.count;

@@ -66,14 +66,16 @@ before_fault bytes f fits whole =
     ]
 
 -- bytes that end where a record may begin
-spelled_at : (bytes : List ℕ) → IsBytes bytes → fault_so_far bytes ≡ None → (reading_of bytes).pending ≡ [] → IsBoundary (reading_of bytes).progress.stage → IsSpelledBefore (header_of bytes) (reading_of bytes).memory (reading_of bytes).records bytes
+spelled_at : (bytes : List ℕ) → IsBytes bytes → fault_so_far bytes ≡ None → (reading_of bytes).pending ≡ [] → IsBoundary (reading_of bytes).progress.stage
+    → IsSpelledBefore (header_of bytes) (reading_of bytes).memory (reading_of bytes).records bytes
 spelled_at bytes fits fine nothing at =
     let r : Reading = reading_of bytes in
     elim (spelled_so_far bytes fits fine nothing at) [
       | inl start ↦ subst (λ (o : Option Header). IsSpelledBefore o (reading_of bytes).memory (reading_of bytes).records bytes) (sym start.0) start.1
       | inr later ↦
           let known : header_of bytes ≡ Some (reading_of bytes).progress.header = later.0 in
-          let spelled : (bytes ≡ beginning (reading_of bytes).progress.header (reading_of bytes).memory (reading_of bytes).records) ⊎ IsTrace bytes (reading_of bytes).progress.header (reading_of bytes).memory (reading_of bytes).records =
+          let spelled : (bytes ≡ beginning (reading_of bytes).progress.header (reading_of bytes).memory (reading_of bytes).records)
+          ⊎ IsTrace bytes (reading_of bytes).progress.header (reading_of bytes).memory (reading_of bytes).records =
           elim later.1 [
             | inl own ↦ inl own
             | inr ended ↦ inr (read_is_spelled bytes fits (ap (fault_of (reading_of bytes)) fine ∙ ap (λ (s : Stage). end_of s (reading_of bytes).progress.offset) ended))
@@ -87,7 +89,8 @@ what_stands_before_is_spelled bytes f fits whole =
     let front = before.front in
     let n = (reading_of front).progress.offset in
     let marked = marked_of front before.fits before.fine in
-    let on : (read_on (reading_of (take n front)) (drop n front)).fault ≡ None = ap (λ (q : Reading). q.fault) (sym (read_on-append (take n front) (drop n front) nothing_read) ∙ ap reading_of (take-append-drop n front)) ∙ before.fine in
+    let on : (read_on (reading_of (take n front)) (drop n front)).fault ≡ None =
+    ap (λ (q : Reading). q.fault) (sym (read_on-append (take n front) (drop n front) nothing_read) ∙ ap reading_of (take-append-drop n front)) ∙ before.fine in
     let fine : fault_so_far (take n front) ≡ None = fine_before (reading_of (take n front)) (drop n front) on in
     let spelled = spelled_at (take n front) (IsBytes-take n front before.fits) fine marked.nothing marked.boundary in
     let header : header_of bytes ≡ header_of (take n front) = before.header ∙ sym marked.header in

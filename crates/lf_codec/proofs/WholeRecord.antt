@@ -60,7 +60,14 @@ module _ (p : Progress) (bytes : List ℕ) (head : Head) (fixed carried : List �
 
   whole_within : whole_len fixed carried ≤ length bytes
   whole_within =
-      omega (arith, ap length whole.joined, length-append whole.first (fixed ++ (carried ++ whole.more)), length-append fixed (carried ++ whole.more), length-append carried whole.more, whole.first_whole)
+      omega (
+        arith,
+        ap length whole.joined,
+        length-append whole.first (fixed ++ (carried ++ whole.more)),
+        length-append fixed (carried ++ whole.more),
+        length-append carried whole.more,
+        whole.first_whole,
+      )
 
 -- ---- its steps
 
@@ -75,7 +82,8 @@ data_steps q memory records head fixed carried whole some =
 
 -- nothing is carried
 none_carried : (p : Progress) (memory : List (ℕ × Bytes)) (records : List Record) (head : Head) (fixed carried : List ℕ) (n : ℕ) → carried ≡ []
-    → read_on (clean (counted p n head.log) memory (records ++ record_of p.header head fixed [] ∷ [])) carried ≡ clean (counted p (n + length carried) head.log) memory (records ++ record_of p.header head fixed carried ∷ [])
+    → read_on (clean (counted p n head.log) memory (records ++ record_of p.header head fixed [] ∷ [])) carried ≡ clean (counted p (n + length carried) head.log) memory
+    (records ++ record_of p.header head fixed carried ∷ [])
 none_carried p memory records head fixed carried n empty =
     let same : n ≡ n + length carried = omega (arith, ap length empty) in
     ap (read_on (clean (counted p n head.log) memory (records ++ record_of p.header head fixed [] ∷ []))) empty
@@ -117,7 +125,8 @@ fixed_steps q memory records head fixed carried whole some passes carried_whole 
 steps_behind : (q : Progress) (memory : List (ℕ × Bytes)) (records : List Record) (head : Head) (fixed carried : List ℕ) → length fixed ≡ fixed_len q.header head.kind
     → judged (fixed_checks q.header head.bank head.kind fixed) ≡ Ok tt → length carried ≡ data_len q.header head.kind fixed
     → let p : Progress = record q { stage = stages.Head } in let next = past_head p head in
-    read_on (clean next.0 (memory ++ memory_in next.1) (records ++ records_in next.1)) (fixed ++ carried) ≡ clean (counted p (whole_len fixed carried) head.log) memory (records ++ record_of q.header head fixed carried ∷ [])
+    read_on (clean next.0 (memory ++ memory_in next.1) (records ++ records_in next.1)) (fixed ++ carried) ≡ clean (counted p (whole_len fixed carried) head.log) memory
+    (records ++ record_of q.header head fixed carried ∷ [])
 steps_behind q memory records head fixed carried whole passes carried_whole =
     let p : Progress = record q { stage = stages.Head } in
     let next = past_head p head in
@@ -125,7 +134,8 @@ steps_behind q memory records head fixed carried whole passes carried_whole =
       | inl none ↦
           let no_fixed : fixed ≡ [] = nil_from_length fixed (whole ∙ eqb-true _ _ none) in
           let empty : carried ≡ [] = nil_from_length carried (carried_whole ∙ no_data_behind q.header head.kind fixed (eqb-true _ _ none)) in
-          let past : read_on (clean next.0 (memory ++ memory_in next.1) (records ++ records_in next.1)) (fixed ++ carried) ≡ read_on (clean (counted p 8 head.log) memory (records ++ record_of q.header head [] [] ∷ [])) (fixed ++ carried) =
+          let past : read_on (clean next.0 (memory ++ memory_in next.1) (records ++ records_in next.1)) (fixed ++ carried) ≡ read_on
+          (clean (counted p 8 head.log) memory (records ++ record_of q.header head [] [] ∷ [])) (fixed ++ carried) =
           rw (none, append-nil memory) refl in
           let short : 8 + length carried ≡ whole_len fixed carried = omega (arith, ap length no_fixed) in
           past ∙ ap (λ (xs : List ℕ). read_on (clean (counted p 8 head.log) memory (records ++ record_of q.header head [] [] ∷ [])) (xs ++ carried)) no_fixed
@@ -136,7 +146,8 @@ steps_behind q memory records head fixed carried whole passes carried_whole =
           let q' : Progress = record q { position = q.position + 8 } in
           let f : Progress = record q' { stage = stages.Fixed head } in
           let some : 0 < length fixed = omega (arith, whole, eqb-false _ _ more) in
-          let past : read_on (clean next.0 (memory ++ memory_in next.1) (records ++ records_in next.1)) (fixed ++ carried) ≡ read_on (clean f memory records) (fixed ++ carried) = rw (more, append-nil memory, append-nil records) refl in
+          let past : read_on (clean next.0 (memory ++ memory_in next.1) (records ++ records_in next.1)) (fixed ++ carried) ≡ read_on (clean f memory records) (fixed ++ carried) =
+          rw (more, append-nil memory, append-nil records) refl in
           let total : 8 + (length fixed + length carried) ≡ whole_len fixed carried = omega arith in
           past ∙ fixed_steps q' memory records head fixed carried whole some passes carried_whole
           ∙ moved_on p memory (records ++ record_of q.header head fixed carried ∷ []) 8 (length fixed + length carried) (whole_len fixed carried) head.log total
@@ -175,10 +186,12 @@ module _ (p : Progress) (at : p.stage ≡ stages.Head) (bytes : List ℕ) (head 
       sound_past_record p (whole_len fixed carried) (record_of p.header head fixed carried) sound range_here (whole_room p bytes head fixed carried whole range_here) own.offset_limit
       (omega (arith, own.position_limit, whole_short p bytes head fixed carried whole range_here))
 
-  pub whole_taken_in : (memory : List (ℕ × Bytes)) (records : List Record) → TakesPart (clean p memory records) bytes (Ok (whole_len fixed carried)) (clean (counted p (whole_len fixed carried) head.log) memory (records ++ record_of p.header head fixed carried ∷ []))
+  pub whole_taken_in : (memory : List (ℕ × Bytes)) (records : List Record)
+      → TakesPart (clean p memory records) bytes (Ok (whole_len fixed carried)) (clean (counted p (whole_len fixed carried) head.log) memory (records ++ record_of p.header head fixed carried ∷ []))
   whole_taken_in memory records =
       let own : HasParts (record p { stage = stages.Head }) bytes head fixed carried = subst (λ (q : Progress). HasParts q bytes head fixed carried) same_here whole in
-      let steps : read_on (clean p memory records) (take (whole_len fixed carried) bytes) ≡ clean (counted p (whole_len fixed carried) head.log) memory (records ++ record_of p.header head fixed carried ∷ []) =
+      let steps : read_on (clean p memory records) (take (whole_len fixed carried) bytes) ≡ clean (counted p (whole_len fixed carried) head.log) memory
+      (records ++ record_of p.header head fixed carried ∷ []) =
       ap (read_on (clean p memory records)) (whole_taken (record p { stage = stages.Head }) bytes head fixed carried own range_here)
       ∙ ap (λ (q : Progress). read_on (clean q memory records) (own.first ++ (fixed ++ carried))) same_here
       ∙ head_steps p memory records bytes head fixed carried own in
@@ -212,14 +225,16 @@ module _ (p : Progress) (bytes : List ℕ) (item : Record) (len : ℕ) (whole : 
     sound_behind = rw (log_of, whole.len_is) (whole_sound p at bytes whole.head whole.fixed whole.carried parts_of sound)
 
 -- the same of any reading between two steps
-pub taken_at_once : (r new : Reading) (bytes : List ℕ) (item : Record) (len : ℕ) → r.fault ≡ None → r.pending ≡ [] → r.progress.stage ≡ stages.Head → IsWholeRecord r.progress bytes item len → IsSound r.progress
+pub taken_at_once : (r new : Reading) (bytes : List ℕ) (item : Record) (len : ℕ) → r.fault ≡ None → r.pending ≡ [] → r.progress.stage ≡ stages.Head
+    → IsWholeRecord r.progress bytes item len → IsSound r.progress
     → new ≡ record r { progress = counted r.progress len item.log; records = r.records ++ item ∷ [] }
     → TakesPart r bytes (Ok len) new
 taken_at_once r new bytes item len fine empty at whole sound is =
     let p = r.progress in
     let bare : r ≡ clean p r.memory r.records = ap (λ (xs : List ℕ). record r { pending = xs }) empty ∙ ap (λ (f : Option CodecFault). record r { pending = []; fault = f }) fine in
     let took = whole_taken_in p at bytes whole.head whole.fixed whole.carried (parts_of p bytes item len whole) sound r.memory r.records in
-    let own : clean (counted p len item.log) r.memory (r.records ++ item ∷ []) ≡ clean (counted p (whole_len whole.fixed whole.carried) whole.head.log) r.memory (r.records ++ record_of p.header whole.head whole.fixed whole.carried ∷ []) =
+    let own : clean (counted p len item.log) r.memory (r.records ++ item ∷ []) ≡ clean (counted p (whole_len whole.fixed whole.carried) whole.head.log) r.memory
+    (r.records ++ record_of p.header whole.head whole.fixed whole.carried ∷ []) =
     ap (λ (n : ℕ). clean (counted p n item.log) r.memory (r.records ++ item ∷ [])) whole.len_is
     ∙ ap (λ (log : ℕ). clean (counted p (whole_len whole.fixed whole.carried) log) r.memory (r.records ++ item ∷ [])) (log_of p bytes item len whole)
     ∙ ap (λ (i : Record). clean (counted p (whole_len whole.fixed whole.carried) whole.head.log) r.memory (r.records ++ i ∷ [])) whole.item_is in

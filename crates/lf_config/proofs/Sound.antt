@@ -171,7 +171,8 @@ organisation_in ms w clean = go (organisation_at ms w) refl
     go (Some text) e = named (bytes_eq text (codes "implicit")) (bytes_eq text (codes "explicit")) refl refl
       where
         registers_in : is_needed UnlessInverted (Some text) ≡ true → IsFrom 1 64 (number_at ms (Of w Registers))
-        registers_in needed = number_in (value_at ms (Of w Registers)) 1 64 (omega arith) (part_there ms w Registers clean (rw e needed)) (clean.misfit (Of w Registers)) (clean.out_of_range (Of w Registers))
+        registers_in needed = number_in (value_at ms (Of w Registers)) 1 64 (omega arith) (part_there ms w Registers clean (rw e needed))
+            (clean.misfit (Of w Registers)) (clean.out_of_range (Of w Registers))
 
         entries_in : is_needed IfExplicit (Some text) ≡ true → IsFrom 1 8 (number_at ms (Of w Entries))
         entries_in needed = number_in (value_at ms (Of w Entries)) 1 8 (omega arith) (part_there ms w Entries clean (rw e needed)) (clean.misfit (Of w Entries)) (clean.out_of_range (Of w Entries))

@@ -24,8 +24,8 @@ const PLACES_OF_A_RECORD: usize = 16;
 
 /// The records that came before their turn, by number. A table has the key under which a record is
 /// kept, at the place that is the record's number modulo the count of places. A record whose place
-/// is taken, or whose key has more than four bytes, goes into the map. So what is held follows the records that wait, however far apart
-/// their numbers are, and a wider table moves no record.
+/// is taken, or whose key has more than four bytes, goes into the map. So what is held follows the
+/// records that wait, however far apart their numbers are, and a wider table moves no record.
 #[derive(Drop)]
 pub struct Early {
     alloc: Global,

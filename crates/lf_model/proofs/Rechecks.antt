@@ -100,15 +100,19 @@ module _ (shape : Shape) (state : State) (logs : List (List Record)) (next : ℕ
 
   numbers_front : (rs : List Record) → NumbersFrom then rs → NumbersFrom next (r ∷ rs)
   numbers_front rs h bank named =
-      elim (r.bank == bank) as (λ b. (r.bank == bank) ≡ b → map (λ (q : Record). q.number) (cond b (r ∷ of_bank bank rs) (of_bank bank rs)) ≡ range_with_len (next bank) (length (cond b (r ∷ of_bank bank rs) (of_bank bank rs)))) [
+      elim (r.bank == bank) as (λ b. (r.bank == bank) ≡ b → map (λ (q : Record). q.number) (cond b (r ∷ of_bank bank rs) (of_bank bank rs)) ≡ range_with_len
+      (next bank) (length (cond b (r ∷ of_bank bank rs) (of_bank bank rs)))) [
         | true ↦ λ same. ap₂ (λ a as'. a ∷ as') (if_numbered next r number (subst (λ k. k < no_bank) (sym (eqb-true r.bank bank same)) named) ∙ ap next (eqb-true r.bank bank same))
-            (h bank named ∙ ap (λ k. range_with_len k (length (of_bank bank rs))) (next_at next r bank named ∙ cond-true (r.bank == bank) (next r.bank + 1) (next bank) same ∙ ap (λ k. next k + 1) (eqb-true r.bank bank same)))
+            (h bank named ∙ ap (λ k. range_with_len k (length (of_bank bank rs)))
+            (next_at next r bank named ∙ cond-true (r.bank == bank) (next r.bank + 1) (next bank) same ∙ ap (λ k. next k + 1) (eqb-true r.bank bank same)))
         | false ↦ λ apart. h bank named ∙ ap (λ k. range_with_len k (length (of_bank bank rs))) (next_at next r bank named ∙ cond-false (r.bank == bank) (next r.bank + 1) (next bank) apart)
       ] refl
 
   count_front : (rs : List Record) (bank : ℕ) → bank < no_bank → then bank + length (of_bank bank rs) ≡ next bank + length (of_bank bank (r ∷ rs))
   count_front rs bank named =
-      ap (λ k. k + length (of_bank bank rs)) (next_at next r bank named) ∙ elim (r.bank == bank) as (λ b. (r.bank == bank) ≡ b → cond b (next r.bank + 1) (next bank) + length (of_bank bank rs) ≡ next bank + length (cond b (r ∷ of_bank bank rs) (of_bank bank rs))) [
+      ap (λ k. k + length (of_bank bank rs)) (next_at next r bank named)
+      ∙ elim (r.bank == bank) as (λ b. (r.bank == bank) ≡ b
+      → cond b (next r.bank + 1) (next bank) + length (of_bank bank rs) ≡ next bank + length (cond b (r ∷ of_bank bank rs) (of_bank bank rs))) [
         | true ↦ λ same. let e = ap next (eqb-true r.bank bank same) in omega (arith, e)
         | false ↦ λ apart. refl
       ] refl
@@ -283,9 +287,11 @@ first_number next r rs h = numbered_if next r (λ named. (counted next r rs h r.
 numbers_behind : (next : ℕ → ℕ) (r : Record) (rs : List Record) → NumbersFrom next (r ∷ rs) → NumbersFrom (next_after next r) rs
 numbers_behind next r rs h bank named =
     (elim (cases_Bool (r.bank == bank)) [
-      | inl same ↦ (counted next r rs h bank named same).1 ∙ ap (λ k. range_with_len k (length (of_bank bank rs))) (sym (next_at next r bank named ∙ cond-true (r.bank == bank) (next r.bank + 1) (next bank) same ∙ ap (λ k. next k + 1) (eqb-true r.bank bank same)))
+      | inl same ↦ (counted next r rs h bank named same).1 ∙ ap (λ k. range_with_len k (length (of_bank bank rs)))
+          (sym (next_at next r bank named ∙ cond-true (r.bank == bank) (next r.bank + 1) (next bank) same ∙ ap (λ k. next k + 1) (eqb-true r.bank bank same)))
       | inr apart ↦
-          subst (λ (xs : List Record). map (λ (q : Record). q.number) xs ≡ range_with_len (next bank) (length xs)) (cond-false (r.bank == bank) (r ∷ of_bank bank rs) (of_bank bank rs) apart) (h bank named)
+          subst (λ (xs : List Record). map (λ (q : Record). q.number) xs ≡ range_with_len (next bank) (length xs))
+          (cond-false (r.bank == bank) (r ∷ of_bank bank rs) (of_bank bank rs) apart) (h bank named)
           ∙ ap (λ k. range_with_len k (length (of_bank bank rs))) (sym (next_at next r bank named ∙ cond-false (r.bank == bank) (next r.bank + 1) (next bank) apart))
     ])
 
@@ -334,7 +340,8 @@ stopped_is shape zero order rs left state logs next place inside taken numbers r
     let none = none_before logs left rs taken in
     stops_here shape order state logs next place
     (subst (λ (l : List (List Record)). ((0 ≡ length order) × (((log : ℕ) → log_at l log ≡ []) → ⊥)) ⊎ ((0 < length order) × ((r : Record) → IsNextFrom l (slice_index order 0) next [] r → ⊥))) none.1
-    (subst (λ (qs : List Record). ((0 ≡ length order) × (((log : ℕ) → log_at left log ≡ []) → ⊥)) ⊎ ((0 < length order) × ((r : Record) → IsNextFrom left (slice_index order 0) next qs r → ⊥))) none.0 stops))
+    (subst (λ (qs : List Record). ((0 ≡ length order) × (((log : ℕ) → log_at left log ≡ []) → ⊥))
+    ⊎ ((0 < length order) × ((r : Record) → IsNextFrom left (slice_index order 0) next qs r → ⊥))) none.0 stops))
     ∙ ap NotAnOrder (omega arith)
 stopped_is shape (suc n) [] rs left state logs next place inside taken numbers run stops = absurd (omega arith)
 stopped_is shape (suc n) (log ∷ order) [] left state logs next place inside taken numbers run stops = absurd taken
@@ -377,7 +384,8 @@ one_of shape memory logs order (NotAnOrder place) named h =
     ])
     ∙ ap NotAnOrder (omega arith)
 one_of shape memory logs order (Broken place rule) named h =
-    failed_is shape place order h.records h.left (opening memory) logs (λ _. 0) 0 h.next rule h.inside h.so_far.taken h.so_far.numbers h.so_far.run (h.is_next.0, λ named. let e = h.is_next.1 named in omega (arith, e)) h.fails
+    failed_is shape place order h.records h.left (opening memory) logs (λ _. 0) 0 h.next rule h.inside h.so_far.taken h.so_far.numbers h.so_far.run
+    (h.is_next.0, λ named. let e = h.is_next.1 named in omega (arith, e)) h.fails
     ∙ ap (λ k. Broken k rule) (omega arith)
 
 pub rechecks_are_one : RechecksAreOne

@@ -48,7 +48,8 @@ pub left_first : (places : List ℕ) (logs : List (List Record)) (log : ℕ) (r 
     → log_at (left_of places logs) log ≡ r ∷ drop 1 (log_at (left_of places logs) log)
 left_first places logs log r e inside is =
     let here = left_at places logs log e ∙ drop_more (log_at logs log) (slice_index places log) r inside in
-    let first : log_at (left_of places logs) log ≡ r ∷ drop (slice_index places log + 1) (log_at logs log) = here ∙ ap (λ (q : Record). q ∷ drop (slice_index places log + 1) (log_at logs log)) (sym is) in
+    let first : log_at (left_of places logs) log ≡ r ∷ drop (slice_index places log + 1) (log_at logs log) = here
+    ∙ ap (λ (q : Record). q ∷ drop (slice_index places log + 1) (log_at logs log)) (sym is) in
     first ∙ ap (λ (xs : List Record). r ∷ xs) (sym (ap (drop 1) first))
 
 -- ---- the answer at one place
@@ -155,7 +156,8 @@ next_at next r bank named = go (nat_lt r.bank no_bank) refl
 pub wrong_number : (shape : Shape) (state : State) (left : List (List Record)) (next : ℕ → ℕ) (place log : ℕ) (order : List ℕ) (r : Record) → log_at left log ≡ r ∷ drop 1 (log_at left log)
     → is_numbered next r ≡ false → recheck_from shape state left next place (log ∷ order) ≡ NotAnOrder place
 wrong_number shape state left next place log order r e wrong =
-    at_next shape state left next place log order r e ∙ ap (λ b. judged_at b (first_failing OfBoth (clauses shape (seen_by r.log r.bank state) r)) place (later shape state left next place log order r)) wrong
+    at_next shape state left next place log order r e ∙ ap (λ b.
+    judged_at b (first_failing OfBoth (clauses shape (seen_by r.log r.bank state) r)) place (later shape state left next place log order r)) wrong
 
 pub right_number : (shape : Shape) (state : State) (left : List (List Record)) (next : ℕ → ℕ) (place log : ℕ) (order : List ℕ) (r : Record) (o : Option Rule)
     → log_at left log ≡ r ∷ drop 1 (log_at left log)
@@ -200,7 +202,8 @@ pub counted_on : (numbers : List ℕ) (r : Record) → NamesBankBelow (length nu
     → slice_index (set numbers r.bank (slice_index numbers r.bank + 1)) ≡ next_after (slice_index numbers) r
 counted_on numbers r names inside =
     index_set numbers r.bank (slice_index numbers r.bank + 1) inside
-    ∙ sym (cond-true (nat_lt r.bank no_bank) (update (slice_index numbers) r.bank (slice_index numbers r.bank + 1)) (slice_index numbers) (lt-ltb r.bank no_bank (let few = names.0 in omega (arith, few, inside))))
+    ∙ sym (cond-true (nat_lt r.bank no_bank) (update (slice_index numbers) r.bank (slice_index numbers r.bank + 1)) (slice_index numbers)
+    (lt-ltb r.bank no_bank (let few = names.0 in omega (arith, few, inside))))
 
 pub counted_none : (numbers : List ℕ) (r : Record) → NamesBankBelow (length numbers) r → length numbers ≤ r.bank → slice_index numbers ≡ next_after (slice_index numbers) r
 counted_none numbers r names past =

@@ -99,12 +99,14 @@ module _ {A B : Type 0} (R : A → B → Type 0) where
           → cond (holds xs block) (list_any (λ r. holds_in xs r block && takes organisation position xs r at) (range_with_len 0 registers)) (list_any (is_free xs) (range_with_len 0 registers))
           ≡ cond (holds ys block) (list_any (λ r. holds_in ys r block && takes organisation other ys r at) (range_with_len 0 registers)) (list_any (is_free ys) (range_with_len 0 registers))
       some_room-alike organisation registers block at =
-          let joins : list_any (λ r. holds_in xs r block && takes organisation position xs r at) (range_with_len 0 registers) ≡ list_any (λ r. holds_in ys r block && takes organisation other ys r at) (range_with_len 0 registers) =
+          let joins : list_any (λ r. holds_in xs r block && takes organisation position xs r at) (range_with_len 0 registers) ≡ list_any
+          (λ r. holds_in ys r block && takes organisation other ys r at) (range_with_len 0 registers) =
           any_same (λ r. holds_in xs r block && takes organisation position xs r at) (λ r. holds_in ys r block && takes organisation other ys r at)
           (λ r. ap (λ b. b && takes organisation position xs r at) (holds_in-alike r block) ∙ ap (λ b. holds_in ys r block && b) (takes-alike organisation r at)) (range_with_len 0 registers) in
           let starts : list_any (is_free xs) (range_with_len 0 registers) ≡ list_any (is_free ys) (range_with_len 0 registers) =
           any_same (is_free xs) (is_free ys) is_free-alike (range_with_len 0 registers) in
-          ap (λ b. cond b (list_any (λ r. holds_in xs r block && takes organisation position xs r at) (range_with_len 0 registers)) (list_any (is_free xs) (range_with_len 0 registers))) (holds-alike block)
+          ap (λ b. cond b (list_any (λ r. holds_in xs r block && takes organisation position xs r at) (range_with_len 0 registers))
+          (list_any (is_free xs) (range_with_len 0 registers))) (holds-alike block)
           ∙ ap (λ b. cond (holds ys block) b (list_any (is_free xs) (range_with_len 0 registers))) joins
           ∙ ap (λ b. cond (holds ys block) (list_any (λ r. holds_in ys r block && takes organisation other ys r at) (range_with_len 0 registers)) b) starts
 

@@ -1,5 +1,6 @@
 -- Places linked in the order in which they were taken, as places are taken and left.
-use Rattle.std.proofs.Common.{◌≡◌, ℕ, zero, suc, ◌+◌, ◌-◌, ◌*◌, ◌/◌, ◌%◌, ◌<◌, ◌≤◌, Bool, true, false, cond, not, ◌&&◌, ◌||◌, ◌==◌, List, [], ◌∷◌, ◌++◌, length, map, get_or, inl, inr, refl, sym, ap, ◌∙◌, subst, arith, eq-eqb, ne_eqb, set, replicate, slice_index}
+use Rattle.std.proofs.Common.{◌≡◌, ℕ, zero, suc, ◌+◌, ◌-◌, ◌*◌, ◌/◌, ◌%◌, ◌<◌, ◌≤◌, Bool, true, false, cond, not, ◌&&◌, ◌||◌, ◌==◌, List, [], ◌∷◌, ◌++◌, length}
+use Rattle.std.proofs.Common.{map, get_or, inl, inr, refl, sym, ap, ◌∙◌, subst, arith, eq-eqb, ne_eqb, set, replicate, slice_index}
 use Rattle.std.specs.Prelude.{count_by}
 use Rattle.std.specs.List.{list_any, fold}
 use Rattle.std.proofs.lemmas.Bool.{cases_eq, cases_lt}
@@ -175,7 +176,8 @@ module _ {A : Type 0} (items : List A) (next used : List ℕ) (end last len : �
       let more_by : len + 1 ≡ suc len = omega arith in
       let grown = ap (walk (slice_index (set next last place)) end) more_by in
       let walked : walk (slice_index (set next last place)) end (len + 1) ≡ order ++ place ∷ [] =
-      grown ∙ walk-push (slice_index next) (slice_index (set next last place)) last place (get_or-set_same next last place 0 (omega (arith, nx, low))) (λ k ne. get_or-set_other next last k place 0 ne) end len chain.ends all_once in (
+      grown ∙ walk-push (slice_index next) (slice_index (set next last place)) last place (get_or-set_same next last place 0 (omega (arith, nx, low)))
+      (λ k ne. get_or-set_other next last k place 0 ne) end len chain.ends all_once in (
         record {
           few = chain.few;
           long = length-set items place item ∙ chain.long;
@@ -400,7 +402,8 @@ module _ (long : ℕ) (next used : List ℕ) (end last kept a left : ℕ) (parte
         let nx = parted.links in
         let more_by : kept + 1 ≡ suc kept = omega arith in
         ap (walk (slice_index (set next last place)) end) more_by
-        ∙ walk-push (slice_index next) (slice_index (set next last place)) last place (get_or-set_same next last place 0 (omega (arith, nx, low))) (λ k ne. get_or-set_other next last k place 0 ne) end kept parted.ends kept_once
+        ∙ walk-push (slice_index next) (slice_index (set next last place)) last place (get_or-set_same next last place 0 (omega (arith, nx, low)))
+        (λ k ne. get_or-set_other next last k place 0 ne) end kept parted.ends kept_once
 
     pub rest-is : walk (slice_index (set next last place)) place (left - 1) ≡ rest
     rest-is =

@@ -1,5 +1,6 @@
 -- A word and arrays that say what registers hold, as targets come and go.
-use Rattle.std.proofs.Common.{◌≡◌, ℕ, ◌+◌, ◌*◌, ◌^◌, ◌%◌, ◌<◌, ◌≤◌, ◌⊎◌, inl, inr, Bool, true, false, cond, not, ◌&&◌, ◌||◌, ◌==◌, nat_lt, List, [], ◌∷◌, ◌++◌, refl, sym, ap, ◌∙◌, subst, arith, eq-eqb, ne_eqb, lt-ltb, set, replicate, bit_and, bit_or, get_or, Option, Some, None}
+use Rattle.std.proofs.Common.{◌≡◌, ℕ, ◌+◌, ◌*◌, ◌^◌, ◌%◌, ◌<◌, ◌≤◌, ◌⊎◌, inl, inr, Bool, true, false, cond, not, ◌&&◌, ◌||◌, ◌==◌, nat_lt, List, [], ◌∷◌, ◌++◌}
+use Rattle.std.proofs.Common.{refl, sym, ap, ◌∙◌, subst, arith, eq-eqb, ne_eqb, lt-ltb, set, replicate, bit_and, bit_or, get_or, Option, Some, None}
 use Rattle.std.specs.Prelude.{count_by, filter, slice_index, is_some, IfSome, IfNone}
 use Rattle.std.specs.List.{list_any, range_with_len}
 use Rattle.std.proofs.lemmas.List.FromFn.{get_or-range_with_len, length-range_with_len}
@@ -50,7 +51,8 @@ count_kept p s (x ∷ xs) none = go (count_kept p s xs (or_parts (p x && s x) (l
     parts : ((p x && s x) ≡ false) × (list_any (λ y. p y && s y) xs ≡ false)
     parts = or_parts (p x && s x) (list_any (λ y. p y && s y) xs) none
 
-    go : count_by p (filter (λ y. not (s y)) xs) ≡ count_by p xs → (t b : Bool) → s x ≡ t → p x ≡ b → count_by p (cond (not (s x)) (x ∷ filter (λ y. not (s y)) xs) (filter (λ y. not (s y)) xs)) ≡ count_by p (x ∷ xs)
+    go : count_by p (filter (λ y. not (s y)) xs) ≡ count_by p xs → (t b : Bool) → s x ≡ t → p x ≡ b
+        → count_by p (cond (not (s x)) (x ∷ filter (λ y. not (s y)) xs) (filter (λ y. not (s y)) xs)) ≡ count_by p (x ∷ xs)
     go rest false b e f =
         let whole = count_cons p x xs in
         let left = count_cons p x (filter (λ y. not (s y)) xs) in
@@ -65,9 +67,11 @@ module _ {T : Type 0} where
   -- a register that holds one block alone holds nothing once that block has left
   count_gone : (r block : ℕ) (xs : List (Held T)) → ((other : ℕ) → holds_in xs r other ≡ true → other ≡ block) → count_by (λ h. h.register == r) (released xs block) ≡ 0
   count_gone r block [] alone = refl
-  count_gone r block (h ∷ xs) alone = go (count_gone r block xs (λ other e. alone other (or_right (h.register == r && h.block == other) (holds_in xs r other) e))) (h.block == block) (h.register == r) refl refl
+  count_gone r block (h ∷ xs) alone = go (count_gone r block xs (λ other e. alone other (or_right (h.register == r && h.block == other) (holds_in xs r other) e)))
+      (h.block == block) (h.register == r) refl refl
     where
-      go : count_by (λ g. g.register == r) (released xs block) ≡ 0 → (t b : Bool) → (h.block == block) ≡ t → (h.register == r) ≡ b → count_by (λ g. g.register == r) (cond (not (h.block == block)) (h ∷ released xs block) (released xs block)) ≡ 0
+      go : count_by (λ g. g.register == r) (released xs block) ≡ 0 → (t b : Bool) → (h.block == block) ≡ t → (h.register == r) ≡ b
+          → count_by (λ g. g.register == r) (cond (not (h.block == block)) (h ∷ released xs block) (released xs block)) ≡ 0
       go rest true b e f = ap (λ t. count_by (λ g. g.register == r) (cond (not t) (h ∷ released xs block) (released xs block))) e ∙ rest
       go rest false false e f =
           let whole = count_cons (λ (g : Held T). g.register == r) h (released xs block) in
@@ -120,10 +124,12 @@ module _ {T : Type 0} where
       in_use = λ r below. elim (cases_eq h.register r) [
         | inl e ↦ subst (λ k. is_under (bit_or used (1 * 2 ^ h.register % 2 ^ 64)) k ≡ list_any (λ g. g.register == k) (held ++ h ∷ [])) e
             (ap (λ n. n == 1) (bit_at_set_same w64 used h.register (let w = index.word in omega (arith, there, w)))
-            ∙ sym (list_any-append (λ g. g.register == h.register) held (h ∷ []) ∙ or_right (list_any (λ g. g.register == h.register) held) (h.register == h.register || false) (or_left (h.register == h.register) false (eq-eqb h.register h.register refl))))
+            ∙ sym (list_any-append (λ g. g.register == h.register) held (h ∷ [])
+            ∙ or_right (list_any (λ g. g.register == h.register) held) (h.register == h.register || false) (or_left (h.register == h.register) false (eq-eqb h.register h.register refl))))
         | inr ne ↦
             ap (λ n. n == 1) (bit_at_set_other w64 used h.register (let w = index.word in omega (arith, there, w)) r (λ e. ne (sym e))) ∙ index.in_use r below
-            ∙ sym (list_any-append (λ g. g.register == r) held (h ∷ []) ∙ ap (λ b. list_any (λ g. g.register == r) held || (b || false)) (ne_eqb h.register r ne) ∙ or_false (list_any (λ g. g.register == r) held))
+            ∙ sym (list_any-append (λ g. g.register == r) held (h ∷ []) ∙ ap (λ b. list_any (λ g. g.register == r) held || (b || false)) (ne_eqb h.register r ne)
+            ∙ or_false (list_any (λ g. g.register == r) held))
       ];
       of_block = λ r block below e. elim (holds_in_push held h r block e) [
         | inl old ↦ elim (cases_eq h.register r) [
@@ -180,7 +186,8 @@ module _ {T : Type 0} where
             let left = any_counted (λ h. h.register == r) (released held block) ∙ ap (nat_lt 0) (count_left r below) in
             elim (cases_eq at r) [
               | inl e ↦
-                  subst (λ k. is_under (bit_and used (bit_not w64 (1 * 2 ^ at % 2 ^ 64))) k ≡ false) e (ap (λ n. n == 1) (bit_at_clear_same w64 used at (let w = index.word in omega (arith, there, w))))
+                  subst (λ k. is_under (bit_and used (bit_not w64 (1 * 2 ^ at % 2 ^ 64))) k ≡ false) e
+                  (ap (λ n. n == 1) (bit_at_clear_same w64 used at (let w = index.word in omega (arith, there, w))))
                   ∙ sym (left ∙ ap (λ b. nat_lt 0 (cond {A = ℕ} b 0 (count_by (λ h. h.register == r) held))) (eq-eqb at r e))
               | inr ne ↦
                   ap (λ n. n == 1) (bit_at_clear_other w64 used at (let w = index.word in omega (arith, there, w)) r (let w = index.word in omega (arith, below, w)) (λ e. ne (sym e)))

@@ -44,10 +44,12 @@ module _ {T : Type 0} (position destination : T → ℕ) (file : RegisterFile T)
         room.0,
         elim room.1 [
           | inl p ↦ inl (all_from PrimaryInFlight RegisterRange WrongRegister RegisterBusy
-              (not (holds file.held block)) (nat_lt room.0 (registers_of file.organisation file.destinations)) (right_for_primary file.organisation (destination target) room.0) (is_free file.held room.0)
+              (not (holds file.held block)) (nat_lt room.0 (registers_of file.organisation file.destinations)) (right_for_primary file.organisation (destination target) room.0)
+              (is_free file.held room.0)
               (ap not p.0) (lt-ltb room.0 (registers_of file.organisation file.destinations) p.1) p.2 p.3)
           | inr m ↦ inr (all_from NotInFlight RegisterRange WrongRegister MergeFull
-              (holds file.held block) (nat_lt room.0 (registers_of file.organisation file.destinations)) (right_for_merge file.organisation file.held block (destination target) room.0) (takes file.organisation position file.held room.0 (position target))
+              (holds file.held block) (nat_lt room.0 (registers_of file.organisation file.destinations))
+              (right_for_merge file.organisation file.held block (destination target) room.0) (takes file.organisation position file.held room.0 (position target))
               m.0 (lt-ltb room.0 (registers_of file.organisation file.destinations) m.1) m.2 m.3)
         ],
       )
@@ -59,11 +61,13 @@ module _ {T : Type 0} (position destination : T → ℕ) (file : RegisterFile T)
         elim some.1 [
           | inl e ↦
               let q = all_of PrimaryInFlight RegisterRange WrongRegister RegisterBusy
-              (not (holds file.held block)) (nat_lt some.0 (registers_of file.organisation file.destinations)) (right_for_primary file.organisation (destination target) some.0) (is_free file.held some.0) e in
+              (not (holds file.held block)) (nat_lt some.0 (registers_of file.organisation file.destinations)) (right_for_primary file.organisation (destination target) some.0)
+              (is_free file.held some.0) e in
               inl (not-true (holds file.held block) q.0, ltb-true some.0 (registers_of file.organisation file.destinations) q.1, q.2, q.3)
           | inr e ↦
               let q = all_of NotInFlight RegisterRange WrongRegister MergeFull
-              (holds file.held block) (nat_lt some.0 (registers_of file.organisation file.destinations)) (right_for_merge file.organisation file.held block (destination target) some.0) (takes file.organisation position file.held some.0 (position target)) e in
+              (holds file.held block) (nat_lt some.0 (registers_of file.organisation file.destinations))
+              (right_for_merge file.organisation file.held block (destination target) some.0) (takes file.organisation position file.held some.0 (position target)) e in
               inr (q.0, ltb-true some.0 (registers_of file.organisation file.destinations) q.1, q.2, q.3)
         ],
       )
@@ -79,9 +83,11 @@ module _ {T : Type 0} (position destination : T → ℕ) (file : RegisterFile T)
       × (takes file.organisation position file.held register (position target) ≡ true)))
   taken register (inl e) =
       let q = all_of PrimaryInFlight RegisterRange WrongRegister RegisterBusy
-      (not (holds file.held block)) (nat_lt register (registers_of file.organisation file.destinations)) (right_for_primary file.organisation (destination target) register) (is_free file.held register) e in
+      (not (holds file.held block)) (nat_lt register (registers_of file.organisation file.destinations)) (right_for_primary file.organisation (destination target) register)
+      (is_free file.held register) e in
       (ltb-true register (registers_of file.organisation file.destinations) q.1, inl (not-true (holds file.held block) q.0, q.3))
   taken register (inr e) =
       let q = all_of NotInFlight RegisterRange WrongRegister MergeFull
-      (holds file.held block) (nat_lt register (registers_of file.organisation file.destinations)) (right_for_merge file.organisation file.held block (destination target) register) (takes file.organisation position file.held register (position target)) e in
+      (holds file.held block) (nat_lt register (registers_of file.organisation file.destinations)) (right_for_merge file.organisation file.held block (destination target) register)
+      (takes file.organisation position file.held register (position target)) e in
       (ltb-true register (registers_of file.organisation file.destinations) q.1, inr (q.0, q.2, q.3))

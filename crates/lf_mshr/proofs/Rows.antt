@@ -1,5 +1,6 @@
 -- Places in rows of entries, one row for each register, as targets come and go.
-use Rattle.std.proofs.Common.{◌≡◌, ℕ, suc, ◌+◌, ◌*◌, ◌<◌, ◌≤◌, Bool, true, false, cond, not, ◌&&◌, ◌||◌, ◌==◌, nat_le, nat_lt, List, [], ◌∷◌, ◌++◌, inl, inr, refl, ap, ◌∙◌, arith, eq-eqb, ne_eqb, lt-ltb, ltb-true, suc-mul}
+use Rattle.std.proofs.Common.{◌≡◌, ℕ, suc, ◌+◌, ◌*◌, ◌<◌, ◌≤◌, Bool, true, false, cond, not, ◌&&◌, ◌||◌, ◌==◌, nat_le, nat_lt, List, [], ◌∷◌, ◌++◌, inl, inr}
+use Rattle.std.proofs.Common.{refl, ap, ◌∙◌, arith, eq-eqb, ne_eqb, lt-ltb, ltb-true, suc-mul}
 use Rattle.std.specs.Prelude.{count_by}
 use Rattle.std.specs.List.{list_all}
 use Rattle.std.proofs.Math.Nat.{mul-le-mul_right}
@@ -79,7 +80,8 @@ module _ {T : Type 0} (entries : ℕ) where
       ap (λ b. b || is_taken order place) (ne_eqb q.0 place apart) ∙ row-free order c few parts.1 register room
 
   -- a block leaves its register, whose row is then not used
-  pub rows-left : (registers used : ℕ) (blocks : List ℕ) (order : List (ℕ × Held T)) → IsIndexed registers used blocks (held_of order) → IsWithin registers entries (held_of order) → HoldsOnce (held_of order)
+  pub rows-left : (registers used : ℕ) (blocks : List ℕ) (order : List (ℕ × Held T)) → IsIndexed registers used blocks (held_of order)
+      → IsWithin registers entries (held_of order) → HoldsOnce (held_of order)
       → (at block : ℕ) → at < registers → holds_in (held_of order) at block ≡ true → are_in_rows entries order ≡ true → are_in_rows entries (left_of order block) ≡ true
   rows-left registers used blocks order index within once at block there has rows =
       rows-within (left_of order block) (many order) (many (left_of order block)) same (own-left (in_row (many order)) order block rows)

@@ -28,7 +28,8 @@ max-le : (a b n : ℕ) → a ≤ n → b ≤ n → max a b ≤ n
 max-le a b n = λ p q. omega arith
 
 pub targets_fit : (a b s : ℕ) → a ≤ 2 ^ 32 → b ≤ 2 ^ 32 → s ≤ 2 ^ 32
-    → up (max (max (max 2 (max a 1)) 1) 8) (up 1 (up 8 (up (max (max 2 (max a 1)) 1) 0 + up (max (max 2 (max a 1)) 1) (up (max 2 (max a 1)) 0 + 1024 * (up (max 2 (max a 1)) (up b 2 + s)))) + 8) + 0) < 9223372036854775808
+    → up (max (max (max 2 (max a 1)) 1) 8)
+    (up 1 (up 8 (up (max (max 2 (max a 1)) 1) 0 + up (max (max 2 (max a 1)) 1) (up (max 2 (max a 1)) 0 + 1024 * (up (max 2 (max a 1)) (up b 2 + s)))) + 8) + 0) < 9223372036854775808
 targets_fit a b s ha hb hs =
     let inner : max 2 (max a 1) ≤ 2 ^ 32 = max-le 2 (max a 1) (2 ^ 32) (omega arith) (max-le a 1 (2 ^ 32) ha (omega arith)) in
     let mid : max (max 2 (max a 1)) 1 ≤ 2 ^ 32 = max-le (max 2 (max a 1)) 1 (2 ^ 32) inner (omega arith) in

@@ -34,7 +34,8 @@ or_none (Some b) = refl
 append_at : (xs : List BusyTag) (x : BusyTag) (p t : ℕ) → busy_of (xs ++ x ∷ []) p t ≡ or_else (busy_of xs p t) (cond (x.port == p && x.tag == t) (Some x.bank) None)
 append_at [] x p t = refl
 append_at (b ∷ xs) x p t =
-    elim (b.port == p && b.tag == t) as (λ k. cond k (Some b.bank) (busy_of (xs ++ x ∷ []) p t) ≡ or_else (cond k (Some b.bank) (busy_of xs p t)) (cond (x.port == p && x.tag == t) (Some x.bank) None)) [
+    elim (b.port == p && b.tag == t) as (λ k. cond k (Some b.bank) (busy_of (xs ++ x ∷ []) p t) ≡ or_else (cond k (Some b.bank) (busy_of xs p t))
+    (cond (x.port == p && x.tag == t) (Some x.bank) None)) [
       | true ↦ refl
       | false ↦ append_at xs x p t
     ]

@@ -10,9 +10,19 @@ use Rattle.lf_state.specs.Queues.{queue_at}
 use Rattle.lf_plain.specs.declared.slice.PlainSlice.{PlainSlice}
 use Rattle.lf_plain.specs.Plain.{busy_of, slice_of, slices_of}
 
-pub slice_empty : (queues : List (List Request)) (lines1 : Lines) (lines2 : WideLines) (waiting : List (Held Missed)) (regs2 : List (Held Asked)) (asked : List Asked) (supplied : List ℕ) (ready : List Ready)
+pub slice_empty : (queues : List (List Request)) (lines1 : Lines) (lines2 : WideLines) (waiting : List (Held Missed)) (regs2 : List (Held Asked))
+    (asked : List Asked) (supplied : List ℕ) (ready : List Ready)
     → ((port : ℕ) → queue_at queues port ≡ []) → lines1 ≡ [] → lines2 ≡ [] → waiting ≡ [] → regs2 ≡ [] → asked ≡ [] → supplied ≡ [] → ready ≡ []
-    → (let made : Slice = record { queue = queue_at queues; lines1 = lines1; lines2 = lines2; waiting = waiting; regs2 = regs2; asked = asked; supplied = supplied; ready = ready } in made ≡ empty_slice)
+    → (let made : Slice = record {
+      queue = queue_at queues;
+      lines1 = lines1;
+      lines2 = lines2;
+      waiting = waiting;
+      regs2 = regs2;
+      asked = asked;
+      supplied = supplied;
+      ready = ready;
+    } in made ≡ empty_slice)
 slice_empty queues lines1 lines2 waiting regs2 asked supplied ready a b c d e f g h =
     let q : queue_at queues ≡ (λ _. []) = fun_ext a in
     λ i. record { queue = q i; lines1 = b i; lines2 = c i; waiting = d i; regs2 = e i; asked = f i; supplied = g i; ready = h i }

@@ -26,7 +26,8 @@ on_both (Err e) a b f = tt
 slices_set : (xs : List PlainSlice) (bank : ℕ) (new : PlainSlice) → bank < length xs → slices_of (set xs bank new) ≡ update (slices_of xs) bank (slice_of new)
 slices_set xs bank new inside = fun_ext (λ n.
     elim (bank == n) as (λ b. (bank == n) ≡ b → get_or (map slice_of (set xs bank new)) n empty_slice ≡ cond b (slice_of new) (slices_of xs n)) [
-      | true ↦ λ e. ap (λ (ys : List Slice). get_or ys n empty_slice) (map-set slice_of xs bank new) ∙ ap (λ k. get_or (set (map slice_of xs) bank (slice_of new)) k empty_slice) (sym (eqb-true bank n e))
+      | true ↦ λ e. ap (λ (ys : List Slice). get_or ys n empty_slice) (map-set slice_of xs bank new)
+          ∙ ap (λ k. get_or (set (map slice_of xs) bank (slice_of new)) k empty_slice) (sym (eqb-true bank n e))
           ∙ get_or-set_same (map slice_of xs) bank (slice_of new) empty_slice (omega (arith, length-map xs slice_of, inside))
       | false ↦ λ e. ap (λ (ys : List Slice). get_or ys n empty_slice) (map-set slice_of xs bank new)
           ∙ get_or-set_other (map slice_of xs) bank n (slice_of new) empty_slice (λ same. eqb-false bank n e (sym same))

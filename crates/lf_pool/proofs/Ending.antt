@@ -106,7 +106,8 @@ module _ (jobs : Jobs) (table : TableId) where
       (put_each_has rs (replicate (count_of jobs) None) found.0 r done.0 p all found.2 done.2 (omega arith))
 
 -- the outcomes at the end, from the last state of the pool's table
-pub ending : (jobs : Jobs) (table : TableId) (count seat made blanks : ℕ) (rs : List Worked) (me : Mine) (words : List ℕ) (slots : List (Unit {0})) (first outcomes : List (Option Outcome)) → count ≡ count_of jobs → blanks ≡ count_of jobs
+pub ending : (jobs : Jobs) (table : TableId) (count seat made blanks : ℕ) (rs : List Worked) (me : Mine) (words : List ℕ) (slots : List (Unit {0}))
+    (first outcomes : List (Option Outcome)) → count ≡ count_of jobs → blanks ≡ count_of jobs
     → Final (Seen (AreClaimed count) seat me.0) words slots → me ≡ (Keeper made (map entry_of rs), []) → length rs ≡ made → 0 < made → All (IsWorked jobs table) rs → All (λ r. IsSome r.last) rs
     → first ≡ replicate blanks None → outcomes ≡ put_each first rs → (length outcomes ≡ count_of jobs) × ((x : ℕ) → x < count_of jobs → Has (IsJobOutcome jobs) outcomes x)
 ending jobs table count seat made blanks rs me words slots first outcomes same many final is full nonempty all whole empty done =

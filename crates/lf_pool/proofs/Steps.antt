@@ -27,7 +27,8 @@ bounded jobs s was =
     let few = was.few in let count = was.workers in let within = was.within in
     omega arith
 
-module _ (jobs slots seat number : ℕ) (claims : List ℕ) (s : PoolState) (was : AreClaimed jobs s) (at : get_elem? s.views seat ≡ some (Worker number claims)) (under : past jobs claims ≡ 0) (small : jobs ≤ 32) where
+module _ (jobs slots seat number : ℕ) (claims : List ℕ) (s : PoolState) (was : AreClaimed jobs s) (at : get_elem? s.views seat ≡ some (Worker number claims))
+    (under : past jobs claims ≡ 0) (small : jobs ≤ 32) where
   abbrev word : ℕ
   word = slice_index s.words 0
 
@@ -66,7 +67,8 @@ module _ (jobs slots seat number : ℕ) (claims : List ℕ) (s : PoolState) (was
 
   within_after : slice_index (set s.words 0 next) 0 ≤ jobs + sum_by (past_in jobs) (set s.views seat new)
   within_after =
-      let change : sum_by (past_in jobs) (set s.views seat new) + past jobs claims ≡ sum_by (past_in jobs) s.views + past jobs (claims ++ word ∷ []) = total_set (past_in jobs) s.views seat mine new at in
+      let change : sum_by (past_in jobs) (set s.views seat new) + past jobs claims ≡ sum_by (past_in jobs) s.views + past jobs (claims ++ word ∷ []) =
+      total_set (past_in jobs) s.views seat mine new at in
       let within = was.within in let is = put in let more = more_past in
       dite (dec_le jobs word)
       (λ le. let one = is_past jobs word le in omega arith)
@@ -159,7 +161,8 @@ module _ (jobs seat made : ℕ) (joined : List (ℕ × List ℕ)) (room : made <
     words = was.words;
     once = λ x. let t : sum_by (times_in x) with_next ≡ sum_by (times_in x) s.views + 0 = total_opened (times_in x) 0 refl refl in let o = was.once x in omega arith;
     within = (let t : sum_by (past_in jobs) with_next ≡ sum_by (past_in jobs) s.views + 0 = total_opened (past_in jobs) 0 refl refl in let w = was.within in omega arith);
-    workers = (let t : sum_by workers_in with_next ≡ sum_by workers_in s.views + 1 = total_opened workers_in 1 refl refl in let w = was.workers in let l = longer in let c = keeper_fits.1 in omega arith);
+    workers = (let t : sum_by workers_in with_next ≡ sum_by workers_in s.views + 1 = total_opened workers_in 1 refl refl in let w = was.workers in
+        let l = longer in let c = keeper_fits.1 in omega arith);
     few = (let l = longer in omega arith);
     seats = seats_opened;
   }
@@ -180,7 +183,8 @@ module _ (jobs seat made : ℕ) (joined : List (ℕ × List ℕ)) (other number 
   pool_fits = was.seats seat (Keeper made joined) at
 
   worker_there : get_elem? s.views other ≡ some (Worker number claims)
-  worker_there = ⊎_elim (λ (x : (other ≡ seat) × (both ≡ Worker number claims)). absurd (apart x.0)) (λ (x : (other ≢ seat) × (get_elem? s.views other ≡ some (Worker number claims))). x.1) (at_set s.views seat other both (Worker number claims) there)
+  worker_there = ⊎_elim (λ (x : (other ≡ seat) × (both ≡ Worker number claims)). absurd (apart x.0))
+      (λ (x : (other ≢ seat) × (get_elem? s.views other ≡ some (Worker number claims))). x.1) (at_set s.views seat other both (Worker number claims) there)
 
   worker_fits : FitsSeat jobs s.views other (Worker number claims)
   worker_fits = was.seats other (Worker number claims) worker_there

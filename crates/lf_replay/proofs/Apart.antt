@@ -30,7 +30,8 @@ pub bank_holds : (cs : List Clause) → first_failing OfBank cs ≡ None → Ban
 bank_holds [] e = tt
 bank_holds (c ∷ cs) e = go (judges OfBank c.side) (bank_holds cs) e
   where
-    go : (j : Bool) → (first_failing OfBank cs ≡ None → BankHolds cs) → cond j (cond c.holds (first_failing OfBank cs) (Some c.rule)) (first_failing OfBank cs) ≡ None → HoldsIf j c.holds × BankHolds cs
+    go : (j : Bool) → (first_failing OfBank cs ≡ None → BankHolds cs) → cond j (cond c.holds (first_failing OfBank cs) (Some c.rule)) (first_failing OfBank cs) ≡ None
+        → HoldsIf j c.holds × BankHolds cs
     go true rest e = (this_holds c.holds c.rule (first_failing OfBank cs) e, rest (others_hold c.holds c.rule (first_failing OfBank cs) e))
     go false rest e = (tt, rest e)
 
@@ -189,12 +190,15 @@ here P v x y h e = ap P (sym (eqb-true x y e)) ∙ h
 inner_line : (a f s w l2 : Bool) → stands a f s w true l2 ≡ true → l2 ≡ true
 inner_line a f s w l2 e = implied _ _ (every5 (λ a f s w l2. not (stands a f s w true l2) || l2) refl a f s w l2) e
 
-pub facts : (shape : Shape) (right : Bool) (slice : Slice) (log bank : ℕ) (e : Event) → first_failing OfBank (rules_of shape right idle slice log bank e) ≡ None → BankHolds (rules_of shape right idle slice log bank e)
+pub facts : (shape : Shape) (right : Bool) (slice : Slice) (log bank : ℕ) (e : Event) → first_failing OfBank (rules_of shape right idle slice log bank e) ≡ None
+    → BankHolds (rules_of shape right idle slice log bank e)
 facts shape right slice log bank e none = bank_holds (rules_of shape right idle slice log bank e) none
 
-module _ (shape : Shape) (right : Bool) (value : List ℕ) (replies : List Ready) (slice : Slice) (log bank : ℕ) (some : 0 < shape.factor) (home : AreHome shape slice.regs2) (each : EachStands shape slice) where
+module _ (shape : Shape) (right : Bool) (value : List ℕ) (replies : List Ready) (slice : Slice) (log bank : ℕ) (some : 0 < shape.factor)
+    (home : AreHome shape slice.regs2) (each : EachStands shape slice) where
   -- a level-two miss
-  missed_after : (x register : ℕ) → is_asked slice.asked x ≡ true → has_line slice.lines2 (second_of shape x) ≡ false → EachStands shape (slice_after shape value replies slice log (SecondPrimary x register))
+  missed_after : (x register : ℕ) → is_asked slice.asked x ≡ true → has_line slice.lines2 (second_of shape x) ≡ false
+      → EachStands shape (slice_after shape value replies slice log (SecondPrimary x register))
   missed_after x register asked absent = record {
     blocks = λ y.
         stands_by _ _ _ _ _ _ _ _ _ _ _ _ (any_gone (λ (a : Asked). a.0) slice.asked x y) (any_push (λ (h : Held Asked). block_asked h) slice.regs2 _ y) refl refl refl refl
@@ -222,7 +226,8 @@ module _ (shape : Shape) (right : Bool) (value : List ℕ) (replies : List Ready
     blocks = λ y.
         let h = facts shape right slice log bank (Primary port tag register) none in
         let x : ℕ = (oldest (slice.queue port)).block in
-        stands_by _ _ _ _ _ _ _ _ _ _ _ _ (any_push (λ (a : Asked). a.0) slice.asked (x, register) y) refl refl (any_push (λ (h : Held Missed). h.block) slice.waiting (miss slice port register value) y) refl refl
+        stands_by _ _ _ _ _ _ _ _ _ _ _ _ (any_push (λ (a : Asked). a.0) slice.asked (x, register) y) refl refl
+        (any_push (λ (h : Held Missed). h.block) slice.waiting (miss slice port register value) y) refl refl
         (primary_step (x == y) _ _ _ _ _ _ (here (holds slice.waiting) false x y (is_not _ h.1.1.0)) (here (has_line slice.lines1) false x y (is_not _ h.1.0)) (each.blocks y));
     fetched = each.fetched;
   }
@@ -244,11 +249,13 @@ module _ (shape : Shape) (right : Bool) (value : List ℕ) (replies : List Ready
   stands_after (Evict1 x mask bytes) none =
       let h = facts shape right slice log bank (Evict1 x mask bytes) none in
       let below : has_line slice.lines2 (second_of shape x) ≡ true =
-      inner_line _ _ _ _ _ (subst (λ b. stands (is_asked slice.asked x) (asks_for slice.regs2 x) (is_among slice.supplied x) (holds slice.waiting x) b (has_line slice.lines2 (second_of shape x)) ≡ true) h.0 (each.blocks x)) in
+      inner_line _ _ _ _ _ (subst (λ b. stands (is_asked slice.asked x) (asks_for slice.regs2 x) (is_among slice.supplied x) (holds slice.waiting x) b
+      (has_line slice.lines2 (second_of shape x)) ≡ true) h.0 (each.blocks x)) in
       record {
         blocks = λ y.
             stands_by _ _ _ _ _ _ _ _ _ _ _ _ refl refl refl refl (has_gone slice.lines1 x y)
-            (has_put slice.lines2 (second_of shape x) _ (second_of shape y) ∙ still (second_of shape x == second_of shape y) _ (here (has_line slice.lines2) true (second_of shape x) (second_of shape y) below))
+            (has_put slice.lines2 (second_of shape x) _ (second_of shape y)
+            ∙ still (second_of shape x == second_of shape y) _ (here (has_line slice.lines2) true (second_of shape x) (second_of shape y) below))
             (evict1_step (x == y) _ _ _ _ _ _ (here (has_line slice.lines1) true x y h.0) (each.blocks y));
         fetched = λ k.
             fetched_by _ _ _ _ refl (has_put slice.lines2 (second_of shape x) _ k ∙ still (second_of shape x == k) _ (here (has_line slice.lines2) true (second_of shape x) k below)) (each.fetched k);

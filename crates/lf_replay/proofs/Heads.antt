@@ -32,7 +32,8 @@ queue_there [] (suc port) tag e = absurd (cc e)
 queue_there (queue ∷ queues) zero tag e = omega arith
 queue_there (queue ∷ queues) (suc port) tag e = let rest = queue_there queues port tag e in omega (arith, rest)
 
-module _ (shape : Shape) (queues : List (List Request)) (port tag : ℕ) (request : Request) (long : length queues ≡ shape.ports) (head : is_head (queue_at queues port) tag ≡ true) (same : request ≡ oldest (queue_at queues port)) where
+module _ (shape : Shape) (queues : List (List Request)) (port tag : ℕ) (request : Request) (long : length queues ≡ shape.ports)
+    (head : is_head (queue_at queues port) tag ≡ true) (same : request ≡ oldest (queue_at queues port)) where
   pub is_next : (nat_lt port shape.ports && is_head (queue_at queues port) tag) ≡ true
   is_next =
       let lt : port < shape.ports = omega (arith, long, queue_there queues port tag head) in

@@ -25,20 +25,25 @@ not_both false l e p = absurd (cc p)
 
 module _ (view : BankView) (keeps : ShowsReached view) where
   module _ (block : ℕ) where
-    here : stands (is_asked view.asked block) (asks_for keeps.now.slice.regs2 block) (is_among view.supplied block) (holds keeps.now.slice.waiting block) (has_line view.lines1.lines block) (has_line view.lines2.lines (second_of view.shape block)) ≡ true
+    here : stands (is_asked view.asked block) (asks_for keeps.now.slice.regs2 block) (is_among view.supplied block) (holds keeps.now.slice.waiting block)
+        (has_line view.lines1.lines block) (has_line view.lines2.lines (second_of view.shape block)) ≡ true
     here = subst (λ (s : Local). stands_at view.shape s.slice block ≡ true) (sym keeps.shows.rest) (keeps.reached.stands.blocks block)
 
     -- level one has no line of a supplied block
     pub absent1 : is_among view.supplied block ≡ true → has_line view.lines1.lines block ≡ false
     absent1 e =
-        is_not _ (supplied_absent (is_asked view.asked block) (asks_for keeps.now.slice.regs2 block) (holds keeps.now.slice.waiting block) (has_line view.lines1.lines block) (has_line view.lines2.lines (second_of view.shape block))
-        (subst (λ b. stands (is_asked view.asked block) (asks_for keeps.now.slice.regs2 block) b (holds keeps.now.slice.waiting block) (has_line view.lines1.lines block) (has_line view.lines2.lines (second_of view.shape block)) ≡ true) e here))
+        is_not _ (supplied_absent (is_asked view.asked block) (asks_for keeps.now.slice.regs2 block) (holds keeps.now.slice.waiting block)
+        (has_line view.lines1.lines block) (has_line view.lines2.lines (second_of view.shape block))
+        (subst (λ b. stands (is_asked view.asked block) (asks_for keeps.now.slice.regs2 block) b (holds keeps.now.slice.waiting block)
+        (has_line view.lines1.lines block) (has_line view.lines2.lines (second_of view.shape block)) ≡ true) e here))
 
     -- what level one has, level two has in its second-level block
     pub inner : has_line view.lines1.lines block ≡ true → has_line view.lines2.lines (second_of view.shape block) ≡ true
     inner e =
-        line_inner (is_asked view.asked block) (asks_for keeps.now.slice.regs2 block) (is_among view.supplied block) (holds keeps.now.slice.waiting block) (has_line view.lines2.lines (second_of view.shape block))
-        (subst (λ b. stands (is_asked view.asked block) (asks_for keeps.now.slice.regs2 block) (is_among view.supplied block) (holds keeps.now.slice.waiting block) b (has_line view.lines2.lines (second_of view.shape block)) ≡ true) e here)
+        line_inner (is_asked view.asked block) (asks_for keeps.now.slice.regs2 block) (is_among view.supplied block) (holds keeps.now.slice.waiting block)
+        (has_line view.lines2.lines (second_of view.shape block))
+        (subst (λ b. stands (is_asked view.asked block) (asks_for keeps.now.slice.regs2 block) (is_among view.supplied block) (holds keeps.now.slice.waiting block) b
+        (has_line view.lines2.lines (second_of view.shape block)) ≡ true) e here)
 
   -- level two has no line of a second-level block that it fetches
   pub absent2 : (second : ℕ) → holds view.regs2.held second ≡ true → has_line view.lines2.lines second ≡ false

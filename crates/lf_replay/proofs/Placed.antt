@@ -28,11 +28,13 @@ pub placed2 : (shape : Shape) (old new : RegisterFile Request2) (fetched : List 
     → AreAlike (IsTarget2 shape) old.held fetched → new ≡ with_target old register second target → target.position ≡ place_of shape block → target.destination ≡ asker → second ≡ second_of shape block
     → AreAlike (IsTarget2 shape) new.held (fetched ++ held_item register (second_of shape block) (block, asker) ∷ [])
 placed2 shape old new fetched register second block asker target alike is there same at =
-    let one : IsAlike (IsTarget2 shape) (held_item register second target) (held_item register (second_of shape block) (block, asker)) = record { register = refl; block = at; target = record { position = there; destination = same } } in
+    let one : IsAlike (IsTarget2 shape) (held_item register second target) (held_item register (second_of shape block) (block, asker)) =
+    record { register = refl; block = at; target = record { position = there; destination = same } } in
     subst (λ (f : RegisterFile Request2). AreAlike (IsTarget2 shape) f.held (fetched ++ held_item register (second_of shape block) (block, asker) ∷ [])) (sym is)
     (AreAlike-push (IsTarget2 shape) old.held fetched (held_item register second target) (held_item register (second_of shape block) (block, asker)) alike one)
 
-pub home_placed : (shape : Shape) (fetched : List (Held Asked)) (register block asker : ℕ) → AreHome shape fetched → AreHome shape (fetched ++ held_item register (second_of shape block) (block, asker) ∷ [])
+pub home_placed : (shape : Shape) (fetched : List (Held Asked)) (register block asker : ℕ) → AreHome shape fetched
+    → AreHome shape (fetched ++ held_item register (second_of shape block) (block, asker) ∷ [])
 home_placed shape fetched register block asker home = push_all (λ h. second_of shape (block_asked h) ≡ h.block) fetched (held_item register (second_of shape block) (block, asker)) home refl
 
 pub released1 : (shape : Shape) (old new : RegisterFile Request1) (waiting : List (Held Missed)) (block : ℕ) → AreAlike (IsTarget1 shape) old.held waiting → new ≡ without_block old block

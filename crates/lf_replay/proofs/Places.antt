@@ -34,7 +34,8 @@ joined_clean [] n = refl
 joined_clean (m ∷ ms) zero = refl
 joined_clean (m ∷ ms) (suc n) = ap₂ (λ (a : Mask) (xs : List Mask). a ∷ xs) (ap (λ k. record { 0 = k }) (or_zero_r m.0)) (joined_clean ms n)
 
-joined_at : (ms : List Mask) (place rest mask : ℕ) → joined ms (replicate place clean_mask ++ record { 0 = mask } ∷ replicate rest clean_mask) ≡ slice_set ms place (record { 0 = bit_or (get_or ms place clean_mask).0 mask })
+joined_at : (ms : List Mask) (place rest mask : ℕ) → joined ms (replicate place clean_mask ++ record { 0 = mask } ∷ replicate rest clean_mask)
+    ≡ slice_set ms place (record { 0 = bit_or (get_or ms place clean_mask).0 mask })
 joined_at [] zero rest mask = refl
 joined_at [] (suc place) rest mask = refl
 joined_at (m ∷ ms) zero rest mask = ap (λ (xs : List Mask). record { 0 = bit_or m.0 mask } ∷ xs) (joined_clean ms rest)

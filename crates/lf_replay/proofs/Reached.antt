@@ -78,7 +78,8 @@ reached_after old new log e result keeps answer = go result (answer 0 keeps.now.
       shows = a.2;
       reached = subst (λ (s : Shape). IsReached s (after_event old.shape here log e)) (sym a.1) (record {
         in_range = reached.in_range;
-        stands = stands_after old.shape (carries old.shape here.memory here.slice e) (value_at here.memory (accepts here.slice e)) (replies_at here.slice e) here.slice log 0 (factor_some old.shape.factor reached.in_range.factor) keeps.shows.registers.home reached.stands e a.0;
+        stands = stands_after old.shape (carries old.shape here.memory here.slice e) (value_at here.memory (accepts here.slice e))
+            (replies_at here.slice e) here.slice log 0 (factor_some old.shape.factor reached.in_range.factor) keeps.shows.registers.home reached.stands e a.0;
         tagged = tagged_after old.shape (carries old.shape here.memory here.slice e) (value_at here.memory (accepts here.slice e)) (replies_at here.slice e) here.slice log 0 e reached.tagged a.0;
       });
     }

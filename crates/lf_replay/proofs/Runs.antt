@@ -28,7 +28,8 @@ use Rattle.lf_replay.specs.Shows.{Shows, rule_broken, AnswerOf, IsAnswer}
 use Rattle.lf_replay.specs.Step.{bank_after, IsBankAfter, IsFaultAfter, IsBankOrder}
 
 module _ (shape : Shape) where
-  pub run_more : (now : Local) (rs : List Record) (r : Record) → IsRunOf OfBank shape now rs → first_failing OfBank (clauses shape (bank_after shape now rs) r) ≡ None → IsRunOf OfBank shape now (rs ++ r ∷ [])
+  pub run_more : (now : Local) (rs : List Record) (r : Record) → IsRunOf OfBank shape now rs → first_failing OfBank (clauses shape (bank_after shape now rs) r) ≡ None
+      → IsRunOf OfBank shape now (rs ++ r ∷ [])
   run_more now [] r run none = (none, tt)
   run_more now (x ∷ rs) r run none = (run.0, run_more (bank_effect shape now x) rs r run.1 none)
 
@@ -36,7 +37,8 @@ module _ (shape : Shape) where
   after_more now [] r = refl
   after_more now (x ∷ rs) r = after_more (bank_effect shape now x) rs r
 
-  pub breaks_more : (now : Local) (rs : List Record) (r : Record) (rest : List Record) (rule : model.Rule) → IsRunOf OfBank shape now rs → first_failing OfBank (clauses shape (bank_after shape now rs) r) ≡ Some rule
+  pub breaks_more : (now : Local) (rs : List Record) (r : Record) (rest : List Record) (rule : model.Rule) → IsRunOf OfBank shape now rs
+      → first_failing OfBank (clauses shape (bank_after shape now rs) r) ≡ Some rule
       → BreaksAt OfBank shape now (rs ++ r ∷ rest) (length rs) rule
   breaks_more now [] r rest rule run some = some
   breaks_more now (x ∷ rs) r rest rule run some = (run.0, breaks_more (bank_effect shape now x) rs r rest rule run.1 some)
@@ -88,7 +90,8 @@ on_ok (Err e) f p = tt
 pub lent_count : {X : Type 0} (lent : X → Record) (places : List X) (i : ℕ) → i < length places → i < length (map lent places)
 lent_count lent places i lt = omega (arith, length-map places lent, lt)
 
-pub lent_at : {X : Type 0} (lent : X → Record) (places : List X) (i : ℕ) (place : X) (r : Record) → i < length places → place ≡ get_or places i place → r ≡ lent place → r ≡ get_or (map lent places) i r
+pub lent_at : {X : Type 0} (lent : X → Record) (places : List X) (i : ℕ) (place : X) (r : Record) → i < length places → place ≡ get_or places i place
+    → r ≡ lent place → r ≡ get_or (map lent places) i r
 lent_at lent places i place r lt is told = told ∙ ap lent is ∙ sym (get_or-map lent places i place r lt)
 
 pub stands_next : (view : BankView) (shape : Shape) (memory : FlatMemory) (rs : List Record) (k : ℕ) (r : Record) → k < length rs → r ≡ get_or rs k r
@@ -101,9 +104,11 @@ breaks_longer shape now [] r rest rule breaks = breaks
 breaks_longer shape now (x ∷ xs) r rest rule breaks = (breaks.0, breaks_longer shape (bank_effect shape now x) xs r rest rule breaks.1)
 
 pub breaks_at : (shape : Shape) (memory : FlatMemory) (rs : List Record) (k : ℕ) (r : Record) (rule : model.Rule) → k < length rs → r ≡ get_or rs k r
-    → numbers_of rs ≡ range_with_len 0 (length rs) → BreaksAt OfBank shape (first_local memory) (take k rs ++ r ∷ []) (length (take k rs)) rule → BreaksAt OfBank shape (first_local memory) rs r.number rule
+    → numbers_of rs ≡ range_with_len 0 (length rs) → BreaksAt OfBank shape (first_local memory) (take k rs ++ r ∷ []) (length (take k rs)) rule
+    → BreaksAt OfBank shape (first_local memory) rs r.number rule
 breaks_at shape memory rs k r rule lt is numbered breaks =
-    let whole : take k rs ++ r ∷ drop (suc k) rs ≡ rs = ap (λ x. take k rs ++ x ∷ drop (suc k) rs) is ∙ ap (λ (xs : List Record). take k rs ++ xs) (sym (drop-cons rs k r lt)) ∙ take-append-drop k rs in
+    let whole : take k rs ++ r ∷ drop (suc k) rs ≡ rs = ap (λ x. take k rs ++ x ∷ drop (suc k) rs) is ∙ ap (λ (xs : List Record). take k rs ++ xs) (sym (drop-cons rs k r lt))
+    ∙ take-append-drop k rs in
     let place : length (take k rs) ≡ r.number = length-take-le k rs (omega arith) ∙ sym (number_at rs k r numbered lt is) in
     subst (λ (n : ℕ). BreaksAt OfBank shape (first_local memory) rs n rule) place
     (subst (λ (xs : List Record). BreaksAt OfBank shape (first_local memory) xs (length (take k rs)) rule) whole (breaks_longer shape (first_local memory) (take k rs) r (drop (suc k) rs) rule breaks))
@@ -146,7 +151,8 @@ module _ (shape : Shape) (bank : ℕ) where
             (subst (λ (k : ℕ). SameBank shape k (bank_effect shape a r) (bank_effect shape b r)) named.0 (bank_effect_same shape a b r here alike)) run.1,
       )
 
-  pub breaks_same : (a b : Local) (rs : List Record) (n : ℕ) (rule : model.Rule) → AllByRecursion (Fits shape) rs → AllByRecursion (λ r. r.bank ≡ bank) rs → IsHome shape bank a.slice → SameBank shape bank a b
+  pub breaks_same : (a b : Local) (rs : List Record) (n : ℕ) (rule : model.Rule) → AllByRecursion (Fits shape) rs → AllByRecursion (λ r. r.bank ≡ bank) rs
+      → IsHome shape bank a.slice → SameBank shape bank a b
       → BreaksAt OfBank shape a rs n rule → BreaksAt OfBank shape b rs n rule
   breaks_same a b [] n rule fit named home same breaks = breaks
   breaks_same a b (r ∷ rs) zero rule fit named home same breaks =
@@ -167,7 +173,9 @@ module _ (shape : Shape) (bank : ℕ) where
     memory = λ x ours. fun_ext (λ place. ap (λ b. cond b (memory x place) 0) (eq-eqb (bank_of shape x) bank ours));
   }
 
-  pub outcome_same : (memory : FlatMemory) (rs : List Record) → IsBankOrder shape bank rs → (told : Outcome) → IsBankOutcome shape (bank_part shape bank memory) rs told → IsBankOutcome shape memory rs told
+  pub outcome_same : (memory : FlatMemory) (rs : List Record) → IsBankOrder shape bank rs → (told : Outcome) → IsBankOutcome shape (bank_part shape bank memory) rs told
+      → IsBankOutcome shape memory rs told
   outcome_same memory rs order outcome.Passed run = run_same (first_local (bank_part shape bank memory)) (first_local memory) rs order.fit order.named (λ port. tt) (part_does memory) run
-  outcome_same memory rs order (outcome.Broken n rule) breaks = breaks_same (first_local (bank_part shape bank memory)) (first_local memory) rs n rule order.fit order.named (λ port. tt) (part_does memory) breaks
+  outcome_same memory rs order (outcome.Broken n rule) breaks =
+      breaks_same (first_local (bank_part shape bank memory)) (first_local memory) rs n rule order.fit order.named (λ port. tt) (part_does memory) breaks
   outcome_same memory rs order outcome.NoMemory none = tt

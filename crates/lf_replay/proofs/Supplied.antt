@@ -37,7 +37,8 @@ of_at shape second [] i home lt = absurd (omega arith)
 of_at shape second (h ∷ held) zero home lt = home.0
 of_at shape second (h ∷ held) (suc i) home lt = of_at shape second held i home.1 (omega arith)
 
-module _ (shape : Shape) (held : List (Held Request2)) (fetched : List (Held Asked)) (alike : AreAlike (IsTarget2 shape) held fetched) (second : ℕ) (pairs : List (ℕ × Request2)) (are : pairs ≡ map released_pair (targets_of held second)) where
+module _ (shape : Shape) (held : List (Held Request2)) (fetched : List (Held Asked)) (alike : AreAlike (IsTarget2 shape) held fetched) (second : ℕ)
+    (pairs : List (ℕ × Request2)) (are : pairs ≡ map released_pair (targets_of held second)) where
   told_in : (xs : List (Held Request2)) (ys : List (Held Asked)) → AreAlike (IsTarget2 shape) xs ys → (i : ℕ) (pair : ℕ × Request2) → i < length (map released_pair xs)
       → IsTarget2 shape (get_or (map released_pair xs) i pair).1 (get_or ys i nobody).target
   told_in (x ∷ xs) (y ∷ ys) all zero pair lt = all.0.target
@@ -72,7 +73,8 @@ module _ (shape : Shape) (held : List (Held Request2)) (fetched : List (Held Ask
       omega (arith, tells.position, below)
 
   -- its block is the one that is asked for
-  block_is : AreHome shape fetched → (i : ℕ) (pair : ℕ × Request2) → i < length pairs → pair ≡ get_or pairs i pair → sub_block shape second pair.1.position ≡ block_asked (get_or (targets_of fetched second) i nobody)
+  block_is : AreHome shape fetched → (i : ℕ) (pair : ℕ × Request2) → i < length pairs → pair ≡ get_or pairs i pair
+      → sub_block shape second pair.1.position ≡ block_asked (get_or (targets_of fetched second) i nobody)
   block_is home i pair lt is =
       let x : ℕ = block_asked (get_or (targets_of fetched second) i nobody) in
       let tells = tells_at i pair lt is in
@@ -80,7 +82,8 @@ module _ (shape : Shape) (held : List (Held Request2)) (fetched : List (Held Ask
       ap₂ (λ s p. sub_block shape s p) (sym at) tells.position ∙ sub_of_block shape x
 
   -- one more block is supplied
-  pub blocks_more : AreHome shape fetched → (i : ℕ) (pair : ℕ × Request2) (block : ℕ) (before old new : List ℕ) → i < length pairs → pair ≡ get_or pairs i pair → block ≡ sub_block shape second pair.1.position
+  pub blocks_more : AreHome shape fetched → (i : ℕ) (pair : ℕ × Request2) (block : ℕ) (before old new : List ℕ) → i < length pairs → pair ≡ get_or pairs i pair
+      → block ≡ sub_block shape second pair.1.position
       → old ≡ before ++ map block_asked (take i (targets_of fetched second)) → new ≡ old ++ block ∷ [] → new ≡ before ++ map block_asked (take (i + 1) (targets_of fetched second))
   blocks_more home i pair block before old new lt is told so_far pushed =
       let ys : List (Held Asked) = targets_of fetched second in

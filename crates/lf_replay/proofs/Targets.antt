@@ -1,5 +1,6 @@
 -- What a level-one target tells of its request is enough for its reply, and for the bytes that a block's stores write.
-use Rattle.std.proofs.Common.{◌≡◌, ℕ, zero, suc, ◌+◌, ◌-◌, ◌*◌, ◌/◌, ◌%◌, ◌^◌, ◌<◌, ◌≤◌, Bool, true, false, cond, List, [], ◌∷◌, ◌++◌, get_or, take, drop, map, length, replicate, ⊎_elim, bit_or, refl, ap, sym, ◌∙◌, subst, arith, append_assoc}
+use Rattle.std.proofs.Common.{◌≡◌, ℕ, zero, suc, ◌+◌, ◌-◌, ◌*◌, ◌/◌, ◌%◌, ◌^◌, ◌<◌, ◌≤◌, Bool, true, false, cond, List, [], ◌∷◌, ◌++◌, get_or, take, drop, map}
+use Rattle.std.proofs.Common.{length, replicate, ⊎_elim, bit_or, refl, ap, sym, ◌∙◌, subst, arith, append_assoc}
 use mathlib.Core.Path.{ap₂}
 use Rattle.std.specs.List.{fold, range_with_len}
 use Rattle.std.specs.Int.{from_le_bytes, to_le_bytes, w64}
@@ -118,7 +119,8 @@ module _ (shape : Shape) where
 
   -- ---- the replies of a block's targets
 
-  module _ (held : List (Held Request1)) (waiting : List (Held Missed)) (alike : AreAlike (IsTarget1 shape) held waiting) (block : ℕ) (pairs : List (ℕ × Request1)) (are : pairs ≡ map released_pair (targets_of held block)) where
+  module _ (held : List (Held Request1)) (waiting : List (Held Missed)) (alike : AreAlike (IsTarget1 shape) held waiting) (block : ℕ) (pairs : List (ℕ × Request1))
+      (are : pairs ≡ map released_pair (targets_of held block)) where
     told_in : (xs : List (Held Request1)) (ys : List (Held Missed)) → AreAlike (IsTarget1 shape) xs ys → (i : ℕ) (pair : ℕ × Request1) → i < length (map released_pair xs)
         → IsTarget1 shape (get_or (map released_pair xs) i pair).1 (get_or ys i nobody).target
     told_in (x ∷ xs) (y ∷ ys) all zero pair lt = all.0.target
@@ -150,7 +152,8 @@ module _ (shape : Shape) where
     told_at i pair lt is = ((get_or (targets_of waiting block) i nobody).target, tells_at i pair lt is)
 
     -- one more target has its reply
-    pub replies_more : (i : ℕ) (pair : ℕ × Request1) (reply : Ready) (before old new : List Ready) → i < length pairs → pair ≡ get_or pairs i pair → ((missed : Missed) → IsTarget1 shape pair.1 missed → reply ≡ reply_to missed)
+    pub replies_more : (i : ℕ) (pair : ℕ × Request1) (reply : Ready) (before old new : List Ready) → i < length pairs → pair ≡ get_or pairs i pair
+        → ((missed : Missed) → IsTarget1 shape pair.1 missed → reply ≡ reply_to missed)
         → old ≡ before ++ map reply_of (take i (targets_of waiting block)) → new ≡ old ++ reply ∷ [] → new ≡ before ++ map reply_of (take (i + 1) (targets_of waiting block))
     replies_more i pair reply before old new lt is told so_far pushed =
         let ys : List (Held Missed) = targets_of waiting block in

@@ -26,7 +26,8 @@ module _ (shape : Shape) (file : RegisterFile Request1) (of_shape : IsFile1 shap
       ≡ merge_clauses shape.level1.organisation (destinations shape) position missed block d at register
   merge_told block register d at =
       (λ i. merge_clauses (of_shape.organisation i) (of_shape.destinations i) (λ (r : Request1). r.position) file.held block d at register)
-      ∙ merge_clauses-alike (IsTarget1 shape) file.held missed alike (λ (r : Request1). r.position) position (λ a b tells. tells.position) shape.level1.organisation (destinations shape) block d at register
+      ∙ merge_clauses-alike (IsTarget1 shape) file.held missed alike (λ (r : Request1). r.position) position (λ a b tells. tells.position) shape.level1.organisation
+      (destinations shape) block d at register
 
   pub room_told : (block d at : ℕ)
       → has_room file.organisation file.destinations (λ (r : Request1). r.position) file.held block d at ≡ has_room shape.level1.organisation (destinations shape) position missed block d at
@@ -48,10 +49,13 @@ module _ (shape : Shape) (file : RegisterFile Request2) (of_shape : IsFile2 shap
       ≡ merge_clauses shape.level2.organisation (destinations2 shape) (position2 shape) fetched second d at register
   second_merge_told second register d at =
       (λ i. merge_clauses (of_shape.organisation i) (of_shape.destinations i) (λ (r : Request2). r.position) file.held second d at register)
-      ∙ merge_clauses-alike (IsTarget2 shape) file.held fetched alike (λ (r : Request2). r.position) (position2 shape) (λ a b tells. tells.position) shape.level2.organisation (destinations2 shape) second d at register
+      ∙ merge_clauses-alike (IsTarget2 shape) file.held fetched alike (λ (r : Request2). r.position) (position2 shape) (λ a b tells. tells.position) shape.level2.organisation
+      (destinations2 shape) second d at register
 
   pub second_room_told : (second d at : ℕ)
-      → has_room file.organisation file.destinations (λ (r : Request2). r.position) file.held second d at ≡ has_room shape.level2.organisation (destinations2 shape) (position2 shape) fetched second d at
+      → has_room file.organisation file.destinations (λ (r : Request2). r.position) file.held second d at ≡ has_room shape.level2.organisation
+      (destinations2 shape) (position2 shape) fetched second d at
   second_room_told second d at =
       (λ i. has_room (of_shape.organisation i) (of_shape.destinations i) (λ (r : Request2). r.position) file.held second d at)
-      ∙ has_room-alike (IsTarget2 shape) file.held fetched alike (λ (r : Request2). r.position) (position2 shape) (λ a b tells. tells.position) shape.level2.organisation (destinations2 shape) second d at
+      ∙ has_room-alike (IsTarget2 shape) file.held fetched alike (λ (r : Request2). r.position) (position2 shape) (λ a b tells. tells.position) shape.level2.organisation
+      (destinations2 shape) second d at

@@ -116,7 +116,8 @@ pub runless_no : NoHasNoRun → (shape : Shape) (bytes : List ℕ) (verdict : Ve
 runless_no law shape bytes (No fault) is = law shape bytes fault is
 runless_no law shape bytes _ is = tt
 
-pub verdict_of : (shape : Shape) (workers : ℕ) (bytes : List ℕ) (verdict : Verdict) → IsWorkerCount workers → IsVerdictOrWant shape bytes verdict → IsDecided verdict → IsVerdictOf shape workers bytes verdict
+pub verdict_of : (shape : Shape) (workers : ℕ) (bytes : List ℕ) (verdict : Verdict) → IsWorkerCount workers → IsVerdictOrWant shape bytes verdict
+    → IsDecided verdict → IsVerdictOf shape workers bytes verdict
 verdict_of shape workers bytes (Yes events order) one is judged = (one, is)
 verdict_of shape workers bytes (No fault) one is judged = (one, is)
 verdict_of shape workers bytes (Refused (refusals.Format fault)) one is judged = (one, is)
@@ -155,7 +156,8 @@ workers_legal law shape bytes = by_workers shape bytes (IsLegalYes shape bytes) 
 pub workers_runless : NoHasNoRun → (shape : Shape) (bytes : List ℕ) (verdict : Verdict) → IsWorkersAnswer shape bytes verdict → IsRunlessNo shape bytes verdict
 workers_runless law shape bytes = by_workers shape bytes (IsRunlessNo shape bytes) tt (runless_no law shape bytes)
 
-pub workers_verdict : (shape : Shape) (workers : ℕ) (bytes : List ℕ) (verdict : Verdict) → IsWorkerCount workers → IsWorkersAnswer shape bytes verdict → IsDecided verdict → IsVerdictOf shape workers bytes verdict
+pub workers_verdict : (shape : Shape) (workers : ℕ) (bytes : List ℕ) (verdict : Verdict) → IsWorkerCount workers → IsWorkersAnswer shape bytes verdict
+    → IsDecided verdict → IsVerdictOf shape workers bytes verdict
 workers_verdict shape workers bytes verdict may =
     by_workers shape bytes (λ v. IsDecided v → IsVerdictOf shape workers bytes v) (λ none. absurd none) (λ v is judged. verdict_of shape workers bytes v may is judged) verdict
 

@@ -30,7 +30,8 @@ module _ (free : CollectedLogsAreFree) (one : BytesAreOfOneTrace) where
         numbers = c.common_order.numbers;
       }
 
-  free_of : (shape : Shape) (memory : FlatMemory) (logs : List (List Record)) (fault : Fault) → shape.banks < 255 → HasCommonOrder logs → IsFaultOfLogs shape memory logs fault → ¬ IsOutOfOrder (No fault)
+  free_of : (shape : Shape) (memory : FlatMemory) (logs : List (List Record)) (fault : Fault) → shape.banks < 255 → HasCommonOrder logs
+      → IsFaultOfLogs shape memory logs fault → ¬ IsOutOfOrder (No fault)
   free_of shape memory logs (Missing bank k) few order is _ = (free logs order).none_missing bank k (omega (arith, is.0.is_bank, few)) is.1
   free_of shape memory logs (Double bank k) few order is _ = (free logs order).none_double bank k (omega (arith, is.0.is_bank, few)) is.1
   free_of shape memory logs (Port port at rule) few order is out = out

@@ -65,7 +65,8 @@ pub no_runs : Laws → NoHasNoRun
 no_runs laws shape bytes fault no_ memory logs trace rs recorded =
     let same = same_memory laws shape bytes no_.memory memory no_.logs logs no_.trace trace in
     let is : IsFaultOfLogs shape (flat_memory memory) logs fault =
-    subst (λ (m : List (ℕ × Bytes)). IsFaultOfLogs shape (flat_memory m) logs fault) same.0 (subst (λ (ls : List (List Record)). IsFaultOfLogs shape (flat_memory no_.memory) ls fault) same.1 no_.fault_of) in
+    subst (λ (m : List (ℕ × Bytes)). IsFaultOfLogs shape (flat_memory m) logs fault) same.0
+    (subst (λ (ls : List (List Record)). IsFaultOfLogs shape (flat_memory no_.memory) ls fault) same.1 no_.fault_of) in
     let fits = laws.fit shape logs rs recorded.own_order (trace_fits shape bytes memory logs trace) in
     let none = no_run laws shape (flat_memory memory) logs fault (trace_banks shape bytes memory logs trace) is rs recorded fits in
     (none, λ run. none (laws.copies shape (flat_memory memory) rs (trace_factor shape bytes memory logs trace) fits run))

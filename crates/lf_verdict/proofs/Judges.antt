@@ -27,7 +27,8 @@ breaks_longer side shape now [] r n rule breaks = absurd breaks
 breaks_longer side shape now (x ∷ rs) r zero rule breaks = breaks
 breaks_longer side shape now (x ∷ rs) r (suc n) rule breaks = (breaks.0, breaks_longer side shape (effect side shape now x) rs r n rule breaks.1)
 
-pub port_kept : (shape : Shape) (rs : List Record) (r : Record) (step : PortView) (outcome : Outcome) → (outcome ≡ outcomes.Passed → ⊥) → IsPortAt shape rs step outcome → IsPortAt shape (rs ++ r ∷ []) step outcome
+pub port_kept : (shape : Shape) (rs : List Record) (r : Record) (step : PortView) (outcome : Outcome) → (outcome ≡ outcomes.Passed → ⊥)
+    → IsPortAt shape rs step outcome → IsPortAt shape (rs ++ r ∷ []) step outcome
 port_kept shape rs r step outcomes.Passed broken at = absurd (broken refl)
 port_kept shape rs r step (outcomes.Broken n rule) broken at = λ memory. breaks_longer OfPort shape (first_local memory) rs r n rule (at memory)
 port_kept shape rs r step outcomes.NoMemory broken at = at
@@ -61,7 +62,8 @@ module _ (shape : Shape) (memory : FlatMemory) (bank : ℕ) (came gave : List Re
     judged = goes (first_with-number (length gave) came r (sym turn)) judged.judged;
   }
 
-  pub judged_all : (order : Reordering) → None ≡ first_with (length gave) came → HasOrdered order came (gave ++ []) → order.bank ≡ old.order.bank → IsBankSettled shape memory bank came gave (record old { order = order })
+  pub judged_all : (order : Reordering) → None ≡ first_with (length gave) came → HasOrdered order came (gave ++ []) → order.bank ≡ old.order.bank
+      → IsBankSettled shape memory bank came gave (record old { order = order })
   judged_all order turn ordered same = record {
     bank_judged = record {
       fit = judged.fit;
@@ -107,7 +109,8 @@ module _ (shape : Shape) (memory : FlatMemory) (bank : ℕ) (came gave : List Re
   }
 
   -- a record that came early, or again, leaves what was given out
-  pub settled_put : (r : Record) (order : Reordering) → first_with (length gave) came ≡ None → Fits shape r → r.bank ≡ bank → ¬ (r.number ≡ length gave) → HasOrdered order (came ++ r ∷ []) gave → order.bank ≡ old.order.bank
+  pub settled_put : (r : Record) (order : Reordering) → first_with (length gave) came ≡ None → Fits shape r → r.bank ≡ bank → ¬ (r.number ≡ length gave)
+      → HasOrdered order (came ++ r ∷ []) gave → order.bank ≡ old.order.bank
       → IsBankSettled shape memory bank (came ++ r ∷ []) gave (record old { order = order })
   settled_put r order drained fits named early ordered same = record {
     bank_judged = judged_put r order fits named ordered same;

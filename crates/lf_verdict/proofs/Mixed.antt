@@ -54,7 +54,9 @@ mixtures_are_alike one_trace faultless shape workers bytes other (Yes events ord
 mixtures_are_alike one_trace faultless shape workers bytes other (No fault) fit mixed is = (is.0, alike one_trace faultless shape bytes other (No fault) fit mixed is.1)
 mixtures_are_alike one_trace faultless shape workers bytes other (Refused (refusals.Workers n)) fit mixed is = is
 mixtures_are_alike one_trace faultless shape workers bytes other (Refused (refusals.Config fault)) fit mixed is = absurd is.1
-mixtures_are_alike one_trace faultless shape workers bytes other (Refused (refusals.Format fault)) fit mixed is = (is.0, alike one_trace faultless shape bytes other (Refused (refusals.Format fault)) fit mixed is.1)
-mixtures_are_alike one_trace faultless shape workers bytes other (Refused (refusals.Header field)) fit mixed is = (is.0, alike one_trace faultless shape bytes other (Refused (refusals.Header field)) fit mixed is.1)
+mixtures_are_alike one_trace faultless shape workers bytes other (Refused (refusals.Format fault)) fit mixed is =
+    (is.0, alike one_trace faultless shape bytes other (Refused (refusals.Format fault)) fit mixed is.1)
+mixtures_are_alike one_trace faultless shape workers bytes other (Refused (refusals.Header field)) fit mixed is =
+    (is.0, alike one_trace faultless shape bytes other (Refused (refusals.Header field)) fit mixed is.1)
 mixtures_are_alike one_trace faultless shape workers bytes other (Refused refusals.Memory) fit mixed is = absurd is.1
 mixtures_are_alike one_trace faultless shape workers bytes other (Refused refusals.Thread) fit mixed is = absurd is.1

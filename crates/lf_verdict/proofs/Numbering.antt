@@ -21,7 +21,8 @@ last_of : (lists : List (List Place)) (places : List Place) (n : ℕ) → n ≡ 
 last_of lists places n e = rw e (get_or-append_seam lists places [] [])
 
 -- a bank more
-order_more : (logs : List (List Record)) (bank : ℕ) (lists : List (List Place)) (places : List Place) → AreOrders logs bank lists → ArePlacesOfBank logs bank places → AreOrders logs (bank + 1) (lists ++ places ∷ [])
+order_more : (logs : List (List Record)) (bank : ℕ) (lists : List (List Place)) (places : List Place) → AreOrders logs bank lists → ArePlacesOfBank logs bank places
+    → AreOrders logs (bank + 1) (lists ++ places ∷ [])
 order_more logs bank lists places are is = record {
   count = length-append lists (places ∷ []) ∙ ap (λ n. n + 1) are.count;
   each = λ b lt. elim (cases_lt b bank) [

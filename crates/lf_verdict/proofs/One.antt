@@ -105,7 +105,8 @@ module _ (laws : Laws) (shape : Shape) (memory : FlatMemory) (logs : List (List 
       let none = gap.0 in
       omega (arith, none, there)
 
-  same_break : (side : Side) (rs : List Record) (n n' : ℕ) (rule rule' : Rule) → BreaksAt side shape (first_local memory) rs n rule → BreaksAt side shape (first_local memory) rs n' rule' → (n ≡ n') × (rule ≡ rule')
+  same_break : (side : Side) (rs : List Record) (n n' : ℕ) (rule rule' : Rule) → BreaksAt side shape (first_local memory) rs n rule
+      → BreaksAt side shape (first_local memory) rs n' rule' → (n ≡ n') × (rule ≡ rule')
   same_break side rs n n' rule rule' a b =
       let same = laws.one_outcome side shape memory rs (outcomes.Broken n rule) (outcomes.Broken n' rule') a b (λ e. cc) (λ e. cc) in (cc, cc)
 
@@ -115,7 +116,8 @@ module _ (laws : Laws) (shape : Shape) (memory : FlatMemory) (logs : List (List 
       let both = same_break OfPort (log_at logs port) at at' rule rule' a.breaks (subst (λ n. BreaksAt OfPort shape (first_local memory) (log_at logs n) at' rule') (sym port_is) b.breaks) in
       let at_is = both.0 in let rule_is = both.1 in cc
 
-  same_bank_fault : (bank number bank' number' : ℕ) (rule rule' : Rule) → IsBankFault shape memory logs bank number rule → IsBankFault shape memory logs bank' number' rule' → Bank bank number rule ≡ Bank bank' number' rule'
+  same_bank_fault : (bank number bank' number' : ℕ) (rule rule' : Rule) → IsBankFault shape memory logs bank number rule → IsBankFault shape memory logs bank' number' rule'
+      → Bank bank number rule ≡ Bank bank' number' rule'
   same_bank_fault bank number bank' number' rule rule' a b =
       let bank_is = lowest bank bank' (λ lt. bank_breaks bank number rule a (b.banks_before bank lt)) (λ lt. bank_breaks bank' number' rule' b (a.banks_before bank' lt)) in
       let here = subst (λ n. IsBankFault shape memory logs n number' rule') (sym bank_is) b in
@@ -227,17 +229,20 @@ module _ (laws : Laws) (shape : Shape) (bytes : List ℕ) (fit : (i : ℕ) → s
       let same = laws.one_trace bytes a.header b.header memory memory' a.records b.records a.trace b.trace in
       (same.1, a.are_logs ∙ ap (logs_of (shape.ports + shape.banks)) same.2 ∙ sym b.are_logs)
 
-  moved_fault : (fault : Fault) (n : IsNo shape bytes fault) (memory : List (ℕ × Bytes)) (logs : List (List Record)) → IsTraceFor shape bytes memory logs → IsFaultOfLogs shape (flat_memory memory) logs fault
+  moved_fault : (fault : Fault) (n : IsNo shape bytes fault) (memory : List (ℕ × Bytes)) (logs : List (List Record)) → IsTraceFor shape bytes memory logs
+      → IsFaultOfLogs shape (flat_memory memory) logs fault
   moved_fault fault n memory logs trace =
       let same = same_logs n.memory memory n.logs logs n.trace trace in
-      subst (λ (m : List (ℕ × Bytes)). IsFaultOfLogs shape (flat_memory m) logs fault) same.0 (subst (λ (ls : List (List Record)). IsFaultOfLogs shape (flat_memory n.memory) ls fault) same.1 n.fault_of)
+      subst (λ (m : List (ℕ × Bytes)). IsFaultOfLogs shape (flat_memory m) logs fault) same.0
+      (subst (λ (ls : List (List Record)). IsFaultOfLogs shape (flat_memory n.memory) ls fault) same.1 n.fault_of)
 
   same_no : (a b : Fault) → IsNo shape bytes a → IsNo shape bytes b → a ≡ b
   same_no a b x y = one_fault laws shape (flat_memory y.memory) y.logs (trace_fits shape bytes y.memory y.logs y.trace) a b (moved_fault a x y.memory y.logs y.trace) y.fault_of
 
   yes_or_no : (fault : Fault) (events : ℕ) (order : List ℕ) → IsNo shape bytes fault → IsYes shape bytes events order → ⊥
   yes_or_no fault events order n y =
-      no_or_yes laws shape (flat_memory y.memory) y.logs (trace_fits shape bytes y.memory y.logs y.trace) (trace_names shape bytes y.memory y.logs y.trace) fault order (moved_fault fault n y.memory y.logs y.trace) y.parts y.least
+      no_or_yes laws shape (flat_memory y.memory) y.logs (trace_fits shape bytes y.memory y.logs y.trace) (trace_names shape bytes y.memory y.logs y.trace) fault order
+      (moved_fault fault n y.memory y.logs y.trace) y.parts y.least
 
   same_yes : (events events' : ℕ) (order order' : List ℕ) → IsYes shape bytes events order → IsYes shape bytes events' order' → (events ≡ events') × (order ≡ order')
   same_yes events events' order order' a b =

@@ -101,7 +101,8 @@ judged jobs all ports banks ready whole are had is_ports is_banks =
     let long : length (lists_for jobs) ≡ jobs.shape.banks = length-map-range_with_len (records_of jobs) 0 jobs.shape.banks in
     let many : length ports ≡ n = ap length is_ports ∙ length-take-le n all (omega arith) in
     let few : length banks ≡ jobs.shape.banks = ap length is_banks ∙ (length-drop n all ∙ omega arith) in
-    let port_at : (port : ℕ) → port < n → outcome_at ports port ≡ outcome_at all port = λ port lt. ap (λ (l : List Outcome). outcome_at l port) is_ports ∙ get_or-take n all port outcomes.NoMemory lt in
+    let port_at : (port : ℕ) → port < n → outcome_at ports port ≡ outcome_at all port = λ port lt. ap (λ (l : List Outcome). outcome_at l port) is_ports
+    ∙ get_or-take n all port outcomes.NoMemory lt in
     let bank_at : (bank : ℕ) → outcome_at banks bank ≡ outcome_at all (n + bank) = λ bank. ap (λ (l : List Outcome). outcome_at l bank) is_banks ∙ get_or-drop n all bank outcomes.NoMemory in
     record {
       whole = whole;

@@ -78,7 +78,8 @@ module _ (shape : Shape) (memory : FlatMemory) (records : List Record) (p : Pend
   pub pending_done : p.records.items ≡ [] → StandsAfterAll shape memory records p.standing
   pending_done none = subst (λ (rs : List Record). StandsAfterAll shape memory rs p.standing) (sym (is.all ∙ ap (λ (xs : List Record). is.done ++ xs) none ∙ append-nil is.done)) is.stands
 
-pub none_pending : (shape : Shape) (memory : FlatMemory) (records : List Record) (p : Pending) → p.records.items ≡ [] → StandsAfterAll shape memory records p.standing → IsPendingAfter shape memory records p
+pub none_pending : (shape : Shape) (memory : FlatMemory) (records : List Record) (p : Pending) → p.records.items ≡ [] → StandsAfterAll shape memory records p.standing
+    → IsPendingAfter shape memory records p
 none_pending shape memory records p none stands = record {
   done = records;
   all = sym (append-nil records) ∙ ap (λ (xs : List Record). records ++ xs) (sym none);
@@ -133,7 +134,8 @@ stands_together shape memory done rs old new stands fits entered long each fine 
     banks bank lt =
         let here = place_at new.banks.items bank (omega (arith, long, stands.count_banks)) in
         let x = here.0 in
-        let taken = each bank x (omega (arith, stands.count_banks)) (here.1 x) shape (bank_part shape bank memory) (of_bank bank done) (log_at stands.given bank) fits (stands.banks bank x lt) (λ e. fine bank x (omega (arith, long, stands.count_banks)) (ap (λ (j : BankJudge). j.outcome) (here.1 x) ∙ e)) in (
+        let taken = each bank x (omega (arith, stands.count_banks)) (here.1 x) shape (bank_part shape bank memory) (of_bank bank done)
+        (log_at stands.given bank) fits (stands.banks bank x lt) (λ e. fine bank x (omega (arith, long, stands.count_banks)) (ap (λ (j : BankJudge). j.outcome) (here.1 x) ∙ e)) in (
           taken.0,
           λ d.
               subst (IsBankSettled shape (bank_part shape bank memory) bank (of_bank bank (done ++ rs)) taken.0) (sym (here.1 d))

@@ -78,7 +78,8 @@ pub same_trace : (bytes : List ℕ) (h h' : Header) (memory memory' : List (ℕ 
 same_trace bytes h h' memory memory' records records' a b c trace = rw (a, b, c) trace
 
 -- nothing is left to take
-pub whole_trace : (bytes : List ℕ) (h : Header) (memory left : List (ℕ × Bytes)) (records rest : List Record) → left ≡ [] → rest ≡ [] → IsTrace bytes h (memory ++ left) (records ++ rest) → IsTrace bytes h memory records
+pub whole_trace : (bytes : List ℕ) (h : Header) (memory left : List (ℕ × Bytes)) (records rest : List Record) → left ≡ [] → rest ≡ []
+    → IsTrace bytes h (memory ++ left) (records ++ rest) → IsTrace bytes h memory records
 whole_trace bytes h memory left records rest none nothing trace =
     same_trace bytes h h (memory ++ left) memory (records ++ rest) records refl
     (sym (ap (λ m. memory ++ m) none ∙ append-nil memory)) (sym (ap (λ rs. records ++ rs) nothing ∙ append-nil records)) trace

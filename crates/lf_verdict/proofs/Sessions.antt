@@ -116,7 +116,8 @@ pub told_stop : (shape : Shape) (bytes : List ℕ) (fault : CodecFault) (stop : 
 told_stop shape bytes fault (stops.Format told) either is = ⊎_elim (λ want. absurd (is.1 want)) (λ e. e ∙ ap Some (sym is.0)) either
 told_stop shape bytes fault stops.Memory either is = tt
 
-module _ (exact : ReadingIsExact) (shape : Shape) (bytes : List ℕ) (are_bytes : (i : ℕ) → slice_index bytes i < 256) (h : Header) (memory left : List (ℕ × Bytes)) (records rest : List Record) (trace : IsTrace bytes h (memory ++ left) (records ++ rest)) where
+module _ (exact : ReadingIsExact) (shape : Shape) (bytes : List ℕ) (are_bytes : (i : ℕ) → slice_index bytes i < 256) (h : Header) (memory left : List (ℕ × Bytes))
+    (records rest : List Record) (trace : IsTrace bytes h (memory ++ left) (records ++ rest)) where
   same_header : (header : Header) → header_of bytes ≡ Some header → header ≡ h
   same_header header read =
       let read_as = (exact bytes h (memory ++ left) (records ++ rest) are_bytes).1 trace in
@@ -159,7 +160,8 @@ module _ (exact : ReadingIsExact) (shape : Shape) (bytes : List ℕ) (are_bytes 
     short_logs in_range = record { in_range = in_range; short = λ log. omega (arith, limit_is_small h.version, whole_trace.fits.logs log) }
 
 -- while the session waits, no memory matters
-pub waiting_any : (shape : Shape) (bytes : List ℕ) (a b : List (ℕ × Bytes)) (records : List Record) (judging : Judging) → judging ≡ Waiting → IsJudging shape bytes a records judging → IsJudging shape bytes b records judging
+pub waiting_any : (shape : Shape) (bytes : List ℕ) (a b : List (ℕ × Bytes)) (records : List Record) (judging : Judging) → judging ≡ Waiting
+    → IsJudging shape bytes a records judging → IsJudging shape bytes b records judging
 waiting_any shape bytes a b records judging e h =
     subst (λ (j : Judging). IsJudging shape bytes b records j) (sym e) (subst (λ (j : Judging). IsJudging shape bytes a records j) e h)
 
@@ -185,7 +187,8 @@ fed_fine s bytes None None e told fed = no_fault_so_far s bytes e fed
 fed_fine s bytes None (Some stop) e told fed = absurd (cc)
 fed_fine s bytes (Some stop) new e told fed = absurd (cc)
 
-pub fed_fault : (s : Intake) (bytes : List ℕ) (old new : Option Stop) (t : Told Refusal) → s.stop ≡ new → (IsSome old → old ≡ new) → Err t ≡ stop_told old new → HasFed s bytes → IsRefusalSoFar bytes (fault_in t)
+pub fed_fault : (s : Intake) (bytes : List ℕ) (old new : Option Stop) (t : Told Refusal) → s.stop ≡ new → (IsSome old → old ≡ new) → Err t ≡ stop_told old new
+    → HasFed s bytes → IsRefusalSoFar bytes (fault_in t)
 fed_fault s bytes None None t e same told fed = absurd (cc)
 fed_fault s bytes None (Some stop) t e same told fed =
     let is : t ≡ tolds.Fault (refusal_of stop) = cc in
@@ -220,7 +223,8 @@ pub stop_stays : FaultsStand → (s : Intake) (bytes piece : List ℕ) (stop : S
 stop_stays law s bytes piece (stops.Format fault) fit at = ((law bytes piece fault at.0).so_far, both_bytes bytes piece at.1 fit)
 stop_stays law s bytes piece stops.Memory fit at = tt
 
-pub read_stop : (s : Intake) (old : Option CodecFault) (new : Reading) (bytes : List ℕ) (memory : List (ℕ × Bytes)) (records : List Record) (t : Told CodecFault) (stop : Stop) → old ≡ None → told old new.fault ≡ Err t
+pub read_stop : (s : Intake) (old : Option CodecFault) (new : Reading) (bytes : List ℕ) (memory : List (ℕ × Bytes)) (records : List Record) (t : Told CodecFault) (stop : Stop)
+    → old ≡ None → told old new.fault ≡ Err t
     → HasRead new bytes memory records ⊎ RanOut new bytes memory records → IsStopOf (fault_in t) stop → HasFedUntil s bytes (Some stop)
 read_stop s old new bytes memory records t (stops.Format fault) fine e either is =
     let here : new.fault ≡ Some (fault_in t) = fault_told new.fault t (sym (ap (λ (f : Option CodecFault). told f new.fault) fine) ∙ e) in
@@ -242,7 +246,8 @@ header_stays law bytes piece h e = elim (cases_lt (length bytes) 16) [
       law.whole (bytes ++ piece) long ∙ ap (λ (b : List ℕ). header_if (judged (header_checks b)) b) same ∙ sym (law.whole bytes le) ∙ e
 ]
 
-pub judged_feed : HeaderIsOfItsBytes → (s : Intake) (bytes piece : List ℕ) (records : List Record) (new : Reading) → HasJudged s bytes records → HasRead new (bytes ++ piece) s.memory.items records → new.fault ≡ None
+pub judged_feed : HeaderIsOfItsBytes → (s : Intake) (bytes piece : List ℕ) (records : List Record) (new : Reading) → HasJudged s bytes records
+    → HasRead new (bytes ++ piece) s.memory.items records → new.fault ≡ None
     → HasJudged (record s { reader = new }) (bytes ++ piece) records
 judged_feed law s bytes piece records new was read fine = record { in_range = was.in_range; read = read; fine = fine; judging = go s.judging was.judging }
   where

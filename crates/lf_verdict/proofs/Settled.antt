@@ -1,5 +1,6 @@
 -- What the parts say of a trace whose records have all come.
-use Rattle.std.proofs.Common.{◌≡◌, ℕ, zero, suc, ◌+◌, ◌*◌, ◌^◌, ◌<◌, ◌≤◌, Bool, true, false, cond, eqb, eqb-true, List, [], ◌∷◌, map, length, get_or, refl, sym, ap, ◌∙◌, subst, inl, inr, ⊎_elim, arith}
+use Rattle.std.proofs.Common.{◌≡◌, ℕ, zero, suc, ◌+◌, ◌*◌, ◌^◌, ◌<◌, ◌≤◌, Bool, true, false, cond, eqb, eqb-true, List, [], ◌∷◌, map, length, get_or, refl, sym}
+use Rattle.std.proofs.Common.{ap, ◌∙◌, subst, inl, inr, ⊎_elim, arith}
 use Rattle.std.specs.Prelude.{◌==◌}
 use Rattle.std.specs.List.{AllByRecursion, All}
 use Rattle.std.specs.List.Sorted.{IsPermutation}
@@ -106,7 +107,8 @@ port_outcome shape rs step outcomes.Passed at = (at.is_run, λ e. cc)
 port_outcome shape rs step (outcomes.Broken n rule) at = (at, λ e. cc)
 port_outcome shape rs step outcomes.NoMemory at = absurd at
 
-bank_outcome : (shape : Shape) (memory : FlatMemory) (bank : ℕ) (rs : List Record) (step : StepView) (outcome : Outcome) → IsBankAt shape memory bank rs step outcome → IsBankOutcome shape memory rs outcome × (outcome ≡ outcomes.NoMemory → ⊥)
+bank_outcome : (shape : Shape) (memory : FlatMemory) (bank : ℕ) (rs : List Record) (step : StepView) (outcome : Outcome) → IsBankAt shape memory bank rs step outcome
+    → IsBankOutcome shape memory rs outcome × (outcome ≡ outcomes.NoMemory → ⊥)
 bank_outcome shape memory bank rs step outcomes.Passed at = (at.state.is_run, λ e. cc)
 bank_outcome shape memory bank rs step (outcomes.Broken n rule) at = (at, λ e. cc)
 bank_outcome shape memory bank rs step outcomes.NoMemory at = absurd at
@@ -121,7 +123,8 @@ module _ (shape : Shape) (memory : FlatMemory) (records : List Record) (s : Stan
       let at = map_at (λ (j : BankJudge). j.outcome) s.banks.items bank (omega (arith, stands.count_banks)) in
       (at.0, (at.1.1, subst (λ (j : BankJudge). IsBankSettled shape (bank_part shape bank memory) bank (of_bank bank records) (log_at stands.given bank) j) (at.1.0 at.0) (stands.banks bank at.0 lt)))
 
-  port_here : (port : ℕ) → port < shape.ports → (judge : PortJudge) × ((outcome_at (map (λ (j : PortJudge). j.outcome) s.entries.ports.items) port ≡ judge.outcome) × IsPortJudged shape port (of_log port records) judge)
+  port_here : (port : ℕ) → port < shape.ports → (judge : PortJudge)
+      × ((outcome_at (map (λ (j : PortJudge). j.outcome) s.entries.ports.items) port ≡ judge.outcome) × IsPortJudged shape port (of_log port records) judge)
   port_here port lt =
       let at = map_at (λ (j : PortJudge). j.outcome) s.entries.ports.items port (omega (arith, stands.entered.count_ports)) in
       (at.0, (at.1.1, subst (λ (j : PortJudge). IsPortJudged shape port (of_log port records) j) (at.1.0 at.0) (stands.entered.ports port at.0 lt)))
@@ -182,7 +185,8 @@ module _ (shape : Shape) (memory : FlatMemory) (records : List Record) (s : Stan
           count = long_ports ∙ stands.entered.count_ports;
           each = λ port lt.
               let here = port_here port lt in
-              subst (λ (log : List Record). IsPortOutcome shape log (outcome_at (map (λ (j : PortJudge). j.outcome) s.entries.ports.items) port)) (sym (log_of_logs (shape.ports + shape.banks) port records (omega arith)))
+              subst (λ (log : List Record). IsPortOutcome shape log (outcome_at (map (λ (j : PortJudge). j.outcome) s.entries.ports.items) port))
+              (sym (log_of_logs (shape.ports + shape.banks) port records (omega arith)))
               (subst (IsPortOutcome shape (of_log port records)) (sym here.1.0) (port_outcome shape (of_log port records) here.0.step here.0.outcome here.1.1.judged).0);
         };
         of_banks = record {
@@ -223,7 +227,8 @@ none_broken_more f xs at x inside read fine before part lt = ⊎_elim
 -- ---- the skeletons
 
 -- what ends the order ends the check
-pub order_ending : (shape : Shape) (memory : FlatMemory) (logs : List (List Record)) (ending : Ending) → PartsRun shape memory logs → IsOrderEnding (skeletons_of logs) ending → IsEnding shape memory logs ending
+pub order_ending : (shape : Shape) (memory : FlatMemory) (logs : List (List Record)) (ending : Ending) → PartsRun shape memory logs
+    → IsOrderEnding (skeletons_of logs) ending → IsEnding shape memory logs ending
 order_ending shape memory logs (endings.Fault (faults.Cycle ring)) parts is = record { parts = parts; stuck = is.0; waits = is.1 }
 order_ending shape memory logs endings.NoMemory parts is = tt
 order_ending shape memory logs _ parts is = absurd is

@@ -103,7 +103,8 @@ order_len logs (log ∷ order) [] taken = absurd taken
 order_len logs (log ∷ order) (x ∷ xs) taken =
     omega (arith, order_len (after_next logs log) order xs taken.1, one_less logs log x taken.0)
 
-lists_short : (n : ℕ) (vecs : List (Vec Record)) → All (λ (v : Vec Record). length v.items ≤ n) vecs → All (λ (entries : List (ℕ × ℕ)). length entries ≤ n) (map (map entry_of) (map (λ (v : Vec Record). v.items) vecs))
+lists_short : (n : ℕ) (vecs : List (Vec Record)) → All (λ (v : Vec Record). length v.items ≤ n) vecs
+    → All (λ (entries : List (ℕ × ℕ)). length entries ≤ n) (map (map entry_of) (map (λ (v : Vec Record). v.items) vecs))
 lists_short n vecs short =
     let IsShort : List (ℕ × ℕ) → Type 0 = λ entries. length entries ≤ n in
     let IsShortLog : List Record → Type 0 = λ rs. length (map entry_of rs) ≤ n in

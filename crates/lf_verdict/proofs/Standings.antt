@@ -90,13 +90,16 @@ pub banks_more : (shape : Shape) (memory : FlatMemory) (rs : List Record) (r : R
 banks_more shape memory rs r judges given new more count count_given each within here bank d lt = ⊎_elim
     (λ (own : bank ≡ r.bank).
     subst (λ b. IsBankSettled shape (bank_part shape b memory) b (of_bank b (rs ++ r ∷ [])) (log_at (set given r.bank more) b) (get_or (set judges r.bank new) b d)) (sym own)
-    (subst (λ (j : BankJudge). IsBankSettled shape (bank_part shape r.bank memory) r.bank (of_bank r.bank (rs ++ r ∷ [])) (log_at (set given r.bank more) r.bank) j) (sym (get_or-set_same judges r.bank new d (omega arith)))
+    (subst (λ (j : BankJudge). IsBankSettled shape (bank_part shape r.bank memory) r.bank (of_bank r.bank (rs ++ r ∷ [])) (log_at (set given r.bank more) r.bank) j)
+    (sym (get_or-set_same judges r.bank new d (omega arith)))
     (subst (λ (g : List Record). IsBankSettled shape (bank_part shape r.bank memory) r.bank (of_bank r.bank (rs ++ r ∷ [])) g new) (sym (get_or-set_same given r.bank more [] (omega arith)))
     (subst (λ (came : List Record). IsBankSettled shape (bank_part shape r.bank memory) r.bank came more new) (sym (of_key-push_own (λ r. r.bank) r.bank rs r refl)) here))))
     (λ (other : bank ≡ r.bank → ⊥).
-    subst (λ (j : BankJudge). IsBankSettled shape (bank_part shape bank memory) bank (of_bank bank (rs ++ r ∷ [])) (log_at (set given r.bank more) bank) j) (sym (get_or-set_other judges r.bank bank new d other))
+    subst (λ (j : BankJudge). IsBankSettled shape (bank_part shape bank memory) bank (of_bank bank (rs ++ r ∷ [])) (log_at (set given r.bank more) bank) j)
+    (sym (get_or-set_other judges r.bank bank new d other))
     (subst (λ (g : List Record). IsBankSettled shape (bank_part shape bank memory) bank (of_bank bank (rs ++ r ∷ [])) g (get_or judges bank d)) (sym (get_or-set_other given r.bank bank more [] other))
-    (subst (λ (came : List Record). IsBankSettled shape (bank_part shape bank memory) bank came (log_at given bank) (get_or judges bank d)) (sym (of_key-push_other (λ r. r.bank) bank rs r (λ e. other (sym e)))) (each bank d lt))))
+    (subst (λ (came : List Record). IsBankSettled shape (bank_part shape bank memory) bank came (log_at given bank) (get_or judges bank d))
+    (sym (of_key-push_other (λ r. r.bank) bank rs r (λ e. other (sym e)))) (each bank d lt))))
     (cases_eq bank r.bank)
 
 -- ---- one record more
@@ -147,6 +150,7 @@ module _ (shape : Shape) (memory : FlatMemory) (records : List Record) (s : Stan
         given = set stands.given r.bank settled.0;
         count_given = length-set stands.given r.bank settled.0 ∙ stands.count_given;
         banks = λ bank d lt.
-            subst (λ (js : List BankJudge). IsBankSettled shape (bank_part shape bank memory) bank (of_bank bank (records ++ r ∷ [])) (log_at (set stands.given r.bank settled.0) bank) (get_or js bank d)) (sym banks)
+            subst (λ (js : List BankJudge). IsBankSettled shape (bank_part shape bank memory) bank (of_bank bank (records ++ r ∷ []))
+            (log_at (set stands.given r.bank settled.0) bank) (get_or js bank d)) (sym banks)
             (banks_more shape memory records r s.banks.items stands.given new settled.0 stands.count_banks stands.count_given stands.banks within settled.1 bank d lt);
       }

@@ -62,7 +62,8 @@ records_fit shape h memory rs fits agrees =
 pub logs_fit : (shape : Shape) (count : ℕ) (rs : List Record) → AllByRecursion (Fits shape) rs → (log : ℕ) → AllByRecursion (Fits shape) (log_at (logs_of count rs) log)
 logs_fit shape count rs all log =
     elim (cases_lt log count) [
-      | inl lt ↦ subst (AllByRecursion (Fits shape)) (sym (log_of_logs count log rs lt)) (of_log_all (Fits shape) log rs (all_weaker (Fits shape) (λ r. r.log ≡ log → Fits shape r) rs (λ r f e. f) all))
+      | inl lt ↦ subst (AllByRecursion (Fits shape)) (sym (log_of_logs count log rs lt))
+          (of_log_all (Fits shape) log rs (all_weaker (Fits shape) (λ r. r.log ≡ log → Fits shape r) rs (λ r f e. f) all))
       | inr le ↦ subst (AllByRecursion (Fits shape)) (sym (no_log count log rs le)) tt
     ]
 
@@ -71,7 +72,8 @@ pub trace_names : (shape : Shape) (bytes : List ℕ) (memory : List (ℕ × Byte
 trace_names shape bytes memory logs t = subst NameTheirLogs (sym t.are_logs) (logs_name (shape.ports + shape.banks) t.records)
 
 -- and fit the shape
-pub trace_fits : (shape : Shape) (bytes : List ℕ) (memory : List (ℕ × Bytes)) (logs : List (List Record)) → IsTraceFor shape bytes memory logs → (log : ℕ) → AllByRecursion (Fits shape) (log_at logs log)
+pub trace_fits : (shape : Shape) (bytes : List ℕ) (memory : List (ℕ × Bytes)) (logs : List (List Record)) → IsTraceFor shape bytes memory logs → (log : ℕ)
+    → AllByRecursion (Fits shape) (log_at logs log)
 trace_fits shape bytes memory logs t log =
     subst (λ (ls : List (List Record)). AllByRecursion (Fits shape) (log_at ls log)) (sym t.are_logs)
     (logs_fit shape (shape.ports + shape.banks) t.records (records_fit shape t.header memory t.records t.trace.fits t.agrees) log)

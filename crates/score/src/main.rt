@@ -1,7 +1,8 @@
 //! `score check CONFIG TRACE` judges a recorded trace of a two-level lockup-free cache for the hierarchy
 //! that a configuration says, and prints one line: a yes with the number of events, a no with the fault
 //! and its place, or why the trace is not judged. `score stats CONFIG TRACE` prints the statistics of a
-//! trace that is legal, and `score demo CONFIG OUT` records a small cache in threads. The status is 0 for a yes, 1 for a no and 2 for a refusal.
+//! trace that is legal, and `score demo CONFIG OUT` records a small cache in threads. The status is 0 for a
+//! yes, 1 for a no and 2 for a refusal.
 #![tactic(auto)]
 
 mod command;

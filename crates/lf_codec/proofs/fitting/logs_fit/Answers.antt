@@ -38,6 +38,7 @@ returns-then-counts-log c = (
 
 pub returns : goal.returns
 returns c = (
-  λ yes. logs_within c.args.header.now c.args.records.now c.loop-item.counts c.loop-item.item-index c.requires.header c.requires.each c.loop-item-test.false c.loop-item.invariant.counted c.loop-item.invariant.limit,
+  λ yes. logs_within c.args.header.now c.args.records.now c.loop-item.counts c.loop-item.item-index c.requires.header c.requires.each c.loop-item-test.false
+      c.loop-item.invariant.counted c.loop-item.invariant.limit,
   λ all. refl,
 )

@@ -10,7 +10,8 @@ use Rattle.lf_rules.specs.Order.{log_at}
 use Rattle.lf_model.proofs.Walks.{items_of}
 use Rattle.lf_part_tests.proofs.rechecks.are_sound.Goals as goal
 
-named_all : (P : ℕ → Record → Type 0) (vs : List (Vec Record)) → ((k : ℕ) (d : Vec Record) → k < length vs → All (P k) (get_or vs k d).items) → (log : ℕ) → AllByRecursion (P log) (log_at (items_of vs) log)
+named_all : (P : ℕ → Record → Type 0) (vs : List (Vec Record)) → ((k : ℕ) (d : Vec Record) → k < length vs → All (P k) (get_or vs k d).items) → (log : ℕ)
+    → AllByRecursion (P log) (log_at (items_of vs) log)
 named_all P [] h log = tt
 named_all P (v ∷ vs) h zero = recursion_from_All (P 0) v.items (h 0 v (omega arith))
 named_all P (v ∷ vs) h (suc log) = named_all (λ k. P (suc k)) vs (λ k d lt. h (suc k) d (omega arith)) log
@@ -29,7 +30,8 @@ loop-number-preserved c =
       short = All-more (λ (log : Vec Record). length log.items ≤ 2 ^ 24) vs n v inside c.loop-number.invariant.short (subst (λ (log : Vec Record). length log.items ≤ 2 ^ 24) is short);
       named = λ k d lt. below_more (λ j. (e : Vec Record) → All (λ (r : Record). r.log ≡ j) (get_or vs j e).items) n (λ j lt e. c.loop-number.invariant.named j e lt)
           (λ e. subst (λ (log : Vec Record). All (λ (r : Record). r.log ≡ n) log.items) (is ∙ get_or_default vs n v e inside) named) k lt d;
-      fits = All-more (λ (log : Vec Record). All (Fits c.args.shape.now) log.items) vs n v inside c.loop-number.invariant.fits (subst (λ (log : Vec Record). All (Fits c.args.shape.now) log.items) is fits);
+      fits = All-more (λ (log : Vec Record). All (Fits c.args.shape.now) log.items) vs n v inside c.loop-number.invariant.fits
+          (subst (λ (log : Vec Record). All (Fits c.args.shape.now) log.items) is fits);
     }
 
 pub returns-clause-short : goal.returns-clause-short

@@ -14,7 +14,8 @@ pub returns-in-Fill2 : goal.returns-in-Fill2
 returns-in-Fill2 c = λ tags. rw c.in-Fill2.is (rw (← c.fill2_agrees-agrees.ensures) (c.judge_fill2.ensures tags c.args.item.now.log c.args.item.now.bank c.in-Fill2.bytes))
 
 pub returns-in-Evict2 : goal.returns-in-Evict2
-returns-in-Evict2 c = λ tags. rw c.in-Evict2.is (rw (← c.evict2_agrees-agrees.ensures (slice_of c.args.slice.now)) (c.judge_evict2.ensures tags c.args.item.now.log c.args.item.now.bank c.in-Evict2.bytes))
+returns-in-Evict2 c = λ tags. rw c.in-Evict2.is (rw (← c.evict2_agrees-agrees.ensures (slice_of c.args.slice.now))
+    (c.judge_evict2.ensures tags c.args.item.now.log c.args.item.now.bank c.in-Evict2.bytes))
 
 pub returns-in-SecondMerge : goal.returns-in-SecondMerge
 returns-in-SecondMerge c = λ tags. rw c.in-SecondMerge.is (c.judge_second_merge.ensures tags c.args.item.now.log c.args.item.now.bank)

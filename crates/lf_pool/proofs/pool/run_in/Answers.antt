@@ -24,7 +24,8 @@ loop-claimer-preserved g c =
       own = All-tail P x (into_iter_items c.next.new.self) (subst (All P) steps at.invariant.own);
       count = (let was = at.invariant.count in omega arith);
       room = (let was = at.invariant.room in let cap = c.push_reserved.ensures.capacity in omega arith);
-      promises = subst (All Q) (sym c.push_reserved.ensures.items) (All-push Q at.handles.items c.in-Ok.handle at.invariant.promises (ap (λ (p : WorkedBy). p.jobs.now) c.in-Ok.ensures.ok, ap (λ (p : WorkedBy). p.shared.now.table_id) c.in-Ok.ensures.ok));
+      promises = subst (All Q) (sym c.push_reserved.ensures.items)
+          (All-push Q at.handles.items c.in-Ok.handle at.invariant.promises (ap (λ (p : WorkedBy). p.jobs.now) c.in-Ok.ensures.ok, ap (λ (p : WorkedBy). p.shared.now.table_id) c.in-Ok.ensures.ok));
     }
 
 nothing_left : {X : Type 0} (l : List X) → length l ≡ 0 → l ≡ []
@@ -45,5 +46,6 @@ returns-clause-worked g c =
     let left = at.invariant.left in
     let long = length-append all (c.work-own.result ∷ []) in (
       (ap length items ∙ omega arith),
-      subst (All (IsWorked jobs table)) (sym items) (All-push (IsWorked jobs table) all c.work-own.result (each_worked jobs table _ (λ p r k. k) at.handles.items at.invariant.promises at.handles.len all count same c.in_ok-all.ensures.each) c.work-own.ensures),
+      subst (All (IsWorked jobs table)) (sym items) (All-push (IsWorked jobs table) all c.work-own.result
+          (each_worked jobs table _ (λ p r k. k) at.handles.items at.invariant.promises at.handles.len all count same c.in_ok-all.ensures.each) c.work-own.ensures),
     )

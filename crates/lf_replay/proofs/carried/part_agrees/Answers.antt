@@ -15,5 +15,6 @@ returns g c = λ missed alike.
     let size = c.args.shape.now.block in
     let part : c.part_at-part.result.now ≡ part_at size c.args.bytes.now.items c.args.place = c.part_at-part.ensures ∙ ap (λ (xs : List ℕ). part_at size xs c.args.place) c.deref.ensures.0 in
     let stores = c.store_bytes.ensures c.args.shape.now missed alike in
-    subst (λ b. c.agrees_off.result ≡ agree_off size (part_at size c.args.bytes.now.items c.args.place) (block_bytes c.args.shape.now (flat_of c.args.memory.now) b) (store_bytes missed b)) c.sub_block-block.ensures
+    subst (λ b. c.agrees_off.result ≡ agree_off size (part_at size c.args.bytes.now.items c.args.place) (block_bytes c.args.shape.now (flat_of c.args.memory.now) b)
+    (store_bytes missed b)) c.sub_block-block.ensures
     (c.agrees_off.ensures ∙ (λ i. agree_off size (part i) (block_bytes c.args.shape.now (flat_of c.args.memory.now) c.sub_block-block.result) (stores i)))

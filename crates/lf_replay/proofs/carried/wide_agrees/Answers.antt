@@ -16,7 +16,8 @@ returns-then-not-part_agrees g c = λ missed alike.
 
 pub loop-place-preserved : goal.loop-place-preserved
 loop-place-preserved g c = λ missed alike k lt.
-    let agree : ℕ → Bool = λ p. agree_off c.args.shape.now.block (part_at c.args.shape.now.block c.args.bytes.now.items p) (block_bytes c.args.shape.now (flat_of c.args.memory.now) (sub_block c.args.shape.now c.args.second p))
+    let agree : ℕ → Bool = λ p. agree_off c.args.shape.now.block (part_at c.args.shape.now.block c.args.bytes.now.items p)
+    (block_bytes c.args.shape.now (flat_of c.args.memory.now) (sub_block c.args.shape.now c.args.second p))
     (store_bytes missed (sub_block c.args.shape.now c.args.second p)) in
     (elim (cases_eq k c.loop-place.place) [
       | inl same ↦ ap agree same ∙ (sym (c.part_agrees.ensures missed alike) ∙ c.if-not-part_agrees.false)

@@ -10,7 +10,8 @@ use Rattle.lf_replay.proofs.registers.is_waited_for.Goals as goal
 pub returns : goal.returns
 returns g c = λ s missed alike.
     none_at (λ place. holds missed (sub_block c.args.shape.now c.args.second place)) 0 c.args.shape.now.factor
-    (λ i le lt. sym (holds-alike (IsTarget1 s) (g.O.Organisation.seen c.args.waiting.now).held missed alike (sub_block c.args.shape.now c.args.second i)) ∙ c.loop-place.invariant i (omega (arith, lt, c.loop-place-test.false)))
+    (λ i le lt. sym (holds-alike (IsTarget1 s) (g.O.Organisation.seen c.args.waiting.now).held missed alike (sub_block c.args.shape.now c.args.second i))
+    ∙ c.loop-place.invariant i (omega (arith, lt, c.loop-place-test.false)))
 
 pub returns-then-holds : goal.returns-then-holds
 returns-then-holds g c = λ s missed alike.

@@ -12,4 +12,5 @@ returns c = λ missed tells.
       | then-target w ↦ rw (w.value-is, w.if-target.true) w.new-value.ensures
       | else-target w ↦ rw (w.value-is, w.if-target.false) w.first_bytes-value.ensures
     ] in
-    c.new.ensures ∙ reply_told c.args.shape.now c.args.target.now missed _ tells (c.quotient-port.ensures ∙ ap (λ n. n / c.args.shape.now.tags) c.from-destination.ensures) (c.remainder-tag.ensures ∙ ap (λ n. n % c.args.shape.now.tags) c.from-destination.ensures) value
+    c.new.ensures ∙ reply_told c.args.shape.now c.args.target.now missed _ tells (c.quotient-port.ensures ∙ ap (λ n. n / c.args.shape.now.tags) c.from-destination.ensures)
+    (c.remainder-tag.ensures ∙ ap (λ n. n % c.args.shape.now.tags) c.from-destination.ensures) value

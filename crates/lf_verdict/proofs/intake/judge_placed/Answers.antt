@@ -18,8 +18,22 @@ judge_records-requires c =
     let run = r.1.1.1.1.1 in
     let may = place_may_come c.read_so_far.ensures r.0 r.1.0 r.1.1.0 r.1.1.1.0 c.args.reader.now c.args.pending.now place read run in
     let judged = c.in_ok-judge_one.ensures r.0 (flat_memory r.1.1.0) r.1.1.1.0 run.stands may in
-    let more = r.1.1.1.0 ++ option_to_list place in
-    (r.0, (r.1.0, (r.1.1.0, (more, (given_one c.args.reader.now place r.1.0 r.1.1.0 r.1.1.1.0 read, running_more r.0 r.1.0 r.1.1.0 r.1.1.1.0 more c.args.pending.now c.judge_one.new.pending run judged.1 judged.0)))))
+    let more = r.1.1.1.0 ++ option_to_list place in (
+      r.0,
+      (
+        r.1.0,
+        (
+          r.1.1.0,
+          (
+            more,
+            (
+              given_one c.args.reader.now place r.1.0 r.1.1.0 r.1.1.1.0 read,
+              running_more r.0 r.1.0 r.1.1.0 r.1.1.1.0 more c.args.pending.now c.judge_one.new.pending run judged.1 judged.0,
+            ),
+          ),
+        ),
+      ),
+    )
 
 pub returns-clause-judged : goal.returns-clause-judged
 returns-clause-judged c shape bytes memory records read run =

@@ -12,8 +12,19 @@ pub take-requires : goal.take-requires
 take-requires c =
     let r = c.requires in
     let m = c.loop-item.invariant.read r.0 r.1.0 r.1.1.0 r.1.1.1.0 r.1.1.1.1.0 r.1.1.1.1.1 in
-    let rest = drop 1 c.loop-item.reader.records in
-    (r.0, (flat_memory r.1.1.0, (m.0, (may_come c.read_so_far.ensures r.0 r.1.0 r.1.1.0 m.0 c.loop-item.reader c.loop-item.pending c.in-Some.item.now rest m.1.0 m.1.1 c.in-Some.ensures, pending_done r.0 (flat_memory r.1.1.0) m.0 c.loop-item.pending m.1.1.stands c.loop-item.invariant.none))))
+    let rest = drop 1 c.loop-item.reader.records in (
+      r.0,
+      (
+        flat_memory r.1.1.0,
+        (
+          m.0,
+          (
+            may_come c.read_so_far.ensures r.0 r.1.0 r.1.1.0 m.0 c.loop-item.reader c.loop-item.pending c.in-Some.item.now rest m.1.0 m.1.1 c.in-Some.ensures,
+            pending_done r.0 (flat_memory r.1.1.0) m.0 c.loop-item.pending m.1.1.stands c.loop-item.invariant.none,
+          ),
+        ),
+      ),
+    )
 
 pub loop-item-preserved : goal.loop-item-preserved
 loop-item-preserved c = record {
@@ -26,7 +37,8 @@ loop-item-preserved c = record {
       let may = may_come c.read_so_far.ensures shape bytes memory m.0 c.loop-item.reader c.loop-item.pending front (drop 1 there) m.1.0 m.1.1 c.in-Some.ensures in (
         m.0 ++ front ∷ [],
         (
-          subst (λ (rs : List Record). HasRead c.drop_front.new.self bytes memory (m.0 ++ rs)) (front_of there (drop 1 there) front c.in-Some.ensures) (c.drop_front.ensures.taken bytes memory m.0 m.1.0),
+          subst (λ (rs : List Record). HasRead c.drop_front.new.self bytes memory (m.0 ++ rs)) (front_of there (drop 1 there) front c.in-Some.ensures)
+              (c.drop_front.ensures.taken bytes memory m.0 m.1.0),
           running_more shape bytes memory m.0 (m.0 ++ front ∷ []) c.loop-item.pending (record { standing = c.take.new.self; records = c.loop-item.pending.records }) m.1.1 c.loop-item.invariant.none
               (c.in_ok-take.ensures shape (flat_memory memory) m.0 may (pending_done shape (flat_memory memory) m.0 c.loop-item.pending m.1.1.stands c.loop-item.invariant.none)),
         ),

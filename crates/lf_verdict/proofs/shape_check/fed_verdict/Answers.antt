@@ -40,7 +40,8 @@ pub returns-clause-verdict : goal.returns-clause-verdict
 returns-clause-verdict c =
     let bytes = joined c.args.pieces.now in
     let fed = fed_all c.loop-piece.session c.args.pieces.now c.loop-piece.piece-index c.loop-piece-test.false c.loop-piece.invariant.fed in
-    subst (λ (shape : Shape). IsDecided c.finish.result → IsVerdictOf shape 1 bytes c.finish.result) (c.loop-piece.invariant.shape ∙ c.for_shape-session.ensures.shape) (c.finish.ensures.verdict bytes fed)
+    subst (λ (shape : Shape). IsDecided c.finish.result → IsVerdictOf shape 1 bytes c.finish.result) (c.loop-piece.invariant.shape ∙ c.for_shape-session.ensures.shape)
+    (c.finish.ensures.verdict bytes fed)
 
 pub returns-clause-workers : goal.returns-clause-workers
 returns-clause-workers c n = never_workers c.args.shape.now (joined c.args.pieces.now) c.finish.result n (returns-clause-verdict c)

@@ -11,12 +11,14 @@ pub returns-clause-ok : goal.returns-clause-ok
 returns-clause-ok c =
     let taken = bytes_taken c.take_one.result c.args.bytes.now in
     pieces.on_answer _ c.take_one.result
-    (pieces.fed_well c.args.self.now (with_record c.take_one.new.place c.take_one.new.self) taken (answer_of c.take_one.result) (pieces.IsBytes-taken c.take_one.result c.args.bytes.now (λ i. omega (arith, c.type_inv.bytes i))) c.take_one.ensures.told c.take_one.ensures.read)
+    (pieces.fed_well c.args.self.now (with_record c.take_one.new.place c.take_one.new.self) taken (answer_of c.take_one.result)
+    (pieces.IsBytes-taken c.take_one.result c.args.bytes.now (λ i. omega (arith, c.type_inv.bytes i))) c.take_one.ensures.told c.take_one.ensures.read)
 
 pub returns-clause-pieces : goal.returns-clause-pieces
 returns-clause-pieces c fed memory records has =
     let taken = bytes_taken c.take_one.result c.args.bytes.now in
-    pieces.fed c.args.self.now (with_record c.take_one.new.place c.take_one.new.self) fed taken memory records (pieces.IsBytes-taken c.take_one.result c.args.bytes.now (λ i. omega (arith, c.type_inv.bytes i))) c.take_one.ensures.read has
+    pieces.fed c.args.self.now (with_record c.take_one.new.place c.take_one.new.self) fed taken memory records
+    (pieces.IsBytes-taken c.take_one.result c.args.bytes.now (λ i. omega (arith, c.type_inv.bytes i))) c.take_one.ensures.read has
 
 pub returns-clause-faults : goal.returns-clause-faults
 returns-clause-faults c fed memory records has =

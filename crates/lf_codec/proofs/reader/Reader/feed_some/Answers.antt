@@ -14,18 +14,21 @@ pub returns-clause-ok : goal.returns-clause-ok
 returns-clause-ok c =
     let taken = bytes_taken c.take_some.result c.args.bytes.now in
     pieces.on_answer _ c.take_some.result
-    (pieces.fed_well c.args.self.now c.take_some.new.self taken (answer_of c.take_some.result) (pieces.IsBytes-taken c.take_some.result c.args.bytes.now (λ i. omega (arith, c.type_inv.bytes i))) c.take_some.ensures.told c.take_some.ensures.read)
+    (pieces.fed_well c.args.self.now c.take_some.new.self taken (answer_of c.take_some.result)
+    (pieces.IsBytes-taken c.take_some.result c.args.bytes.now (λ i. omega (arith, c.type_inv.bytes i))) c.take_some.ensures.told c.take_some.ensures.read)
 
 pub returns-clause-pieces : goal.returns-clause-pieces
 returns-clause-pieces c fed memory records has =
     let taken = bytes_taken c.take_some.result c.args.bytes.now in
-    pieces.fed c.args.self.now c.take_some.new.self fed taken memory records (pieces.IsBytes-taken c.take_some.result c.args.bytes.now (λ i. omega (arith, c.type_inv.bytes i))) c.take_some.ensures.read has
+    pieces.fed c.args.self.now c.take_some.new.self fed taken memory records
+    (pieces.IsBytes-taken c.take_some.result c.args.bytes.now (λ i. omega (arith, c.type_inv.bytes i))) c.take_some.ensures.read has
 
 pub returns-clause-faults : goal.returns-clause-faults
 returns-clause-faults c fed memory records has =
     let taken = bytes_taken c.take_some.result c.args.bytes.now in
     pieces.fed_faults c.args.self.now c.take_some.new.self fed taken memory records (answer_of c.take_some.result) c.take_some.ensures.told has
-    (pieces.fed c.args.self.now c.take_some.new.self fed taken memory records (pieces.IsBytes-taken c.take_some.result c.args.bytes.now (λ i. omega (arith, c.type_inv.bytes i))) c.take_some.ensures.read has)
+    (pieces.fed c.args.self.now c.take_some.new.self fed taken memory records
+    (pieces.IsBytes-taken c.take_some.result c.args.bytes.now (λ i. omega (arith, c.type_inv.bytes i))) c.take_some.ensures.read has)
 
 pub returns-clause-given : goal.returns-clause-given
 returns-clause-given c bytes memory records some gives =

@@ -26,7 +26,13 @@ invariant_of-self c =
 
 pub returns-in-Some-read_record-clause-read : goal.returns-in-Some-read_record-clause-read
 returns-in-Some-read_record-clause-read c =
-    let r : Reading = record { progress = c.self.inside.progress; pending = c.self.inside.pending.items; memory = c.self.inside.memory.items; records = c.self.inside.records.items; fault = c.self.inside.fault } in
+    let r : Reading = record {
+      progress = c.self.inside.progress;
+      pending = c.self.inside.pending.items;
+      memory = c.self.inside.memory.items;
+      records = c.self.inside.records.items;
+      fault = c.self.inside.fault;
+    } in
     let new : Reading = record r { progress = c.read_record.new.self } in
     let n = c.in-Some-read_record.n in
     let into = c.in-Some-read_record.ensures.some in

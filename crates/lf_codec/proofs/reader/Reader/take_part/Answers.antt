@@ -8,13 +8,20 @@ use Rattle.lf_codec.proofs.reader.Reader.take_part.Goals as goal
 
 pub returns-then-rest-lacks : goal.returns-then-rest-lacks
 returns-then-rest-lacks c =
-    let r : Reading = record { progress = c.self.inside.progress; pending = c.self.inside.pending.items; memory = c.self.inside.memory.items; records = c.self.inside.records.items; fault = c.self.inside.fault } in
+    let r : Reading = record {
+      progress = c.self.inside.progress;
+      pending = c.self.inside.pending.items;
+      memory = c.self.inside.memory.items;
+      records = c.self.inside.records.items;
+      fault = c.self.inside.fault;
+    } in
     let fine : r.fault ≡ None = rw (← c.self.view_is) at c.requires.fine in
     let short : length c.args.rest.now < lacks r = omega (arith, c.if-rest-lacks.true, c.step_len.ensures, c.len.ensures.value) in
     let few = (some_len c.self.inside.progress c.self.invariant.sound).1 in
     let fits = c.try_extend_from_slice.ensures.variant.1 (omega (arith, short, few)) in
     let longer : c.try_extend_from_slice.new.self.items ≡ c.self.inside.pending.items ++ c.args.rest.now = OnOk_at_is_ok c.try_extend_from_slice.result fits c.try_extend_from_slice.ensures.ok in
-    rw (← c.self.view_is) (part_waits r (record r { pending = c.try_extend_from_slice.new.self.items }) c.args.rest.now fine c.requires.some short (ap (λ (xs : List ℕ). record r { pending = xs }) longer))
+    rw (← c.self.view_is) (part_waits r (record r { pending = c.try_extend_from_slice.new.self.items }) c.args.rest.now fine c.requires.some short
+    (ap (λ (xs : List ℕ). record r { pending = xs }) longer))
 
 pub returns-in-Ok : goal.returns-in-Ok
 returns-in-Ok c =

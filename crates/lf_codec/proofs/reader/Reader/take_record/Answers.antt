@@ -18,7 +18,13 @@ invariant_of-self-in-Some c =
 
 pub returns-clause-some : goal.returns-clause-some
 returns-clause-some c =
-    let r : Reading = record { progress = c.self.inside.progress; pending = c.self.inside.pending.items; memory = c.self.inside.memory.items; records = c.self.inside.records.items; fault = c.self.inside.fault } in
+    let r : Reading = record {
+      progress = c.self.inside.progress;
+      pending = c.self.inside.pending.items;
+      memory = c.self.inside.memory.items;
+      records = c.self.inside.records.items;
+      fault = c.self.inside.fault;
+    } in
     let new : Reading = record r { progress = c.read_record.new.self; records = c.push_back_reserved.new.self.items } in
     let len = c.in_ok-len.len in
     let into = c.in_ok-len.ensures.some in

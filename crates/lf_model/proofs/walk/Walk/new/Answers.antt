@@ -23,7 +23,8 @@ returns-clause-answer c = λ order.
     let mem = flat_memory c.args.memory.now.items in
     let left = returns-clause-left c in
     let next = ap slice_index c.in_ok-first_numbers.ensures ∙ all_zero c.args.shape.now.banks in
-    ap (λ (shape : Shape). recheck_from shape (state_of c.in_ok-new.field-0) (left_of c.in_ok-first_places.field-0.items ls) (slice_index c.in_ok-first_numbers.field-0.items) 0 order) c.in_ok-new.ensures.shape
+    ap (λ (shape : Shape). recheck_from shape (state_of c.in_ok-new.field-0) (left_of c.in_ok-first_places.field-0.items ls)
+    (slice_index c.in_ok-first_numbers.field-0.items) 0 order) c.in_ok-new.ensures.shape
     ∙ ap (λ (s : State). recheck_from c.args.shape.now s (left_of c.in_ok-first_places.field-0.items ls) (slice_index c.in_ok-first_numbers.field-0.items) 0 order) c.in_ok-new.ensures.state
     ∙ ap (λ (l : List (List Record)). recheck_from c.args.shape.now (opening mem) l (slice_index c.in_ok-first_numbers.field-0.items) 0 order) left
     ∙ ap (λ (f : ℕ → ℕ). recheck_from c.args.shape.now (opening mem) ls f 0 order) next

@@ -20,12 +20,14 @@ step-requires-clause-fits c = fits_found c.args.self.now.machine.shape c.args.se
 
 pub returns-then-not-is_numbered-clause-answer : goal.returns-then-not-is_numbered-clause-answer
 returns-then-not-is_numbered-clause-answer c = λ place order.
-    wrong_number c.args.self.now.machine.shape (state_of c.args.self.now.machine) (left_of c.args.self.now.places.items (items_of c.args.logs.now.items)) (slice_index c.args.self.now.next.items) place c.args.log order
+    wrong_number c.args.self.now.machine.shape (state_of c.args.self.now.machine) (left_of c.args.self.now.places.items (items_of c.args.logs.now.items))
+    (slice_index c.args.self.now.next.items) place c.args.log order
     c.in-Some.item.now c.in-Some.ensures.0 (rw (← c.deref.ensures.value) (sym c.is_numbered.ensures ∙ c.if-not-is_numbered.true))
 
 pub returns-in-Some-2-clause-answer : goal.returns-in-Some-2-clause-answer
 returns-in-Some-2-clause-answer c = λ place order.
-    rule_broken c.args.self.now.machine.shape (state_of c.args.self.now.machine) (left_of c.args.self.now.places.items (items_of c.args.logs.now.items)) (slice_index c.args.self.now.next.items) place c.args.log order
+    rule_broken c.args.self.now.machine.shape (state_of c.args.self.now.machine) (left_of c.args.self.now.places.items (items_of c.args.logs.now.items))
+    (slice_index c.args.self.now.next.items) place c.args.log order
     c.in-Some.item.now c.in-Some-2.rule c.in-Some.ensures.0 (rw (← c.deref.ensures.value) (sym c.is_numbered.ensures ∙ c.if-not-is_numbered.false)) (sym c.in_ok-rule.ensures.rule ∙ c.in-Some-2.is)
 
 pub count-requires-clause-names : goal.count-requires-clause-names
@@ -36,13 +38,16 @@ count-requires-clause-names c =
 pub returns-clause-answer : goal.returns-clause-answer
 returns-clause-answer c = λ place order.
     let there : c.args.log < length c.args.self.now.places.items = omega (arith, c.in-Some.ensures.1, c.requires.walk.places, length-map c.args.logs.now.items (λ (v : Vec Record). v.items)) in
-    let at : c.index_mut.result.now ≡ slice_index c.args.self.now.places.items c.args.log = c.index_mut.ensures.value ∙ get_or_default c.args.self.now.places.items c.args.log c.index_mut.result.now 0 there in
+    let at : c.index_mut.result.now ≡ slice_index c.args.self.now.places.items c.args.log = c.index_mut.ensures.value
+    ∙ get_or_default c.args.self.now.places.items c.args.log c.index_mut.result.now 0 there in
     let vs = c.args.logs.now.items in
-    walked_on c.args.self.now.machine.shape (state_of c.args.self.now.machine) (state_of c.step.new.self) c.args.self.now.places.items vs c.args.self.now.next.items c.count.new.next.items place c.args.log order c.in-Some.item.now
+    walked_on c.args.self.now.machine.shape (state_of c.args.self.now.machine)
+    (state_of c.step.new.self) c.args.self.now.places.items vs c.args.self.now.next.items c.count.new.next.items place c.args.log order c.in-Some.item.now
     (c.requires.walk.places ∙ length-map vs (λ (v : Vec Record). v.items)) c.in-Some.ensures.0
     (rw (← c.deref.ensures.value) (sym c.is_numbered.ensures ∙ c.if-not-is_numbered.false)) c.count.ensures.next
     (sym c.in_ok-rule.ensures.rule ∙ c.in_default-2.is) (c.in_ok-rule.ensures.state c.in_default-2.is)
-    ∙ ap (λ (shape : Shape). recheck_from shape (state_of c.step.new.self) (left_of (set c.args.self.now.places.items c.args.log (slice_index c.args.self.now.places.items c.args.log + 1)) (items_of vs))
+    ∙ ap (λ (shape : Shape). recheck_from shape (state_of c.step.new.self)
+    (left_of (set c.args.self.now.places.items c.args.log (slice_index c.args.self.now.places.items c.args.log + 1)) (items_of vs))
     (slice_index c.count.new.next.items) (place + 1) order) (sym c.in_ok-rule.ensures.shape)
     ∙ ap (λ p. recheck_from c.step.new.self.shape (state_of c.step.new.self) (left_of (set c.args.self.now.places.items c.args.log (p + 1)) (items_of vs))
     (slice_index c.count.new.next.items) (place + 1) order) (sym at)
@@ -52,7 +57,8 @@ returns-clause-count c = λ e.
     let vs = c.args.logs.now.items in
     let long = length-map vs (λ (v : Vec Record). v.items) in
     let there : c.args.log < length c.args.self.now.places.items = omega (arith, c.in-Some.ensures.1, c.requires.walk.places, long) in
-    let at : c.index_mut.result.now ≡ slice_index c.args.self.now.places.items c.args.log = c.index_mut.ensures.value ∙ get_or_default c.args.self.now.places.items c.args.log c.index_mut.result.now 0 there in
+    let at : c.index_mut.result.now ≡ slice_index c.args.self.now.places.items c.args.log = c.index_mut.ensures.value
+    ∙ get_or_default c.args.self.now.places.items c.args.log c.index_mut.result.now 0 there in
     ap (λ p. count_left (left_of (set c.args.self.now.places.items c.args.log (p + 1)) (items_of vs)) + 1) at
     ∙ ap (λ (left : List (List Record)). count_left left + 1) (left_next c.args.self.now.places.items (items_of vs) c.args.log c.requires.walk.places)
     ∙ count_next (left_of c.args.self.now.places.items (items_of vs)) c.args.log c.in-Some.item.now c.in-Some.ensures.0

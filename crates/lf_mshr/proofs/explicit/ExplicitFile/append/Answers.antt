@@ -17,7 +17,8 @@ push-requires-clause-free g c =
     let counts = file.counts.items in
     let long = file.counted.long in
     let count_is : c.index-count.result.now ≡ slice_index counts c.args.register =
-    c.index-count.ensures ∙ ap (λ i. get_or counts i c.index-count.result.now) c.from.ensures ∙ get_or_default counts c.args.register c.index-count.result.now 0 (omega (arith, long, c.requires.exists)) in
+    c.index-count.ensures ∙ ap (λ i. get_or counts i c.index-count.result.now) c.from.ensures
+    ∙ get_or_default counts c.args.register c.index-count.result.now 0 (omega (arith, long, c.requires.exists)) in
     let counted = file.counted.counted c.args.register c.requires.exists in
     rw (c.from-2.ensures, count_is, counted) (row-free file.entries order (λ r. count_by (λ h. h.register == r) (held_of order)) file.within.few file.rows c.args.register c.requires.entry)
 
@@ -28,7 +29,8 @@ invariant_of-self g c =
     let counts = file.counts.items in
     let long = file.counted.long in
     let count_is : c.index-count.result.now ≡ slice_index counts c.args.register =
-    c.index-count.ensures ∙ ap (λ i. get_or counts i c.index-count.result.now) c.from.ensures ∙ get_or_default counts c.args.register c.index-count.result.now 0 (omega (arith, long, c.requires.exists)) in
+    c.index-count.ensures ∙ ap (λ i. get_or counts i c.index-count.result.now) c.from.ensures
+    ∙ get_or_default counts c.args.register c.index-count.result.now 0 (omega (arith, long, c.requires.exists)) in
     let counted = file.counted.counted c.args.register c.requires.exists in
     let item = held_item c.args.register c.args.block c.args.target in
     let place = c.from-2.result * file.entries + c.index-count.result.now in

@@ -37,7 +37,8 @@ invariant_of-file-2 g c =
     record {
       all = c.release_into.ensures.places ∙ file.all ∙ ap (λ n. n * file.entries) (sym c.release_into.ensures.registers);
       counted = rw (c.release_into.ensures.registers, same)
-          (IsCounted-released r.registers r.used r.blocks.items (held_of order) r.index c.in-Some.register c.args.block c.in-Some.ensures.some.0 c.in-Some.ensures.some.1 r.once file.counts.items file.counted);
+          (IsCounted-released r.registers r.used r.blocks.items
+          (held_of order) r.index c.in-Some.register c.args.block c.in-Some.ensures.some.0 c.in-Some.ensures.some.1 r.once file.counts.items file.counted);
       within = rw (c.release_into.ensures.registers, same) (IsWithin-filter file.within (λ h. not (h.block == c.args.block)));
       rows = ap (are_in_rows file.entries) c.release_into.ensures.order
           ∙ rows-left file.entries r.registers r.used r.blocks.items order r.index file.within r.once c.in-Some.register c.args.block c.in-Some.ensures.some.0 c.in-Some.ensures.some.1 file.rows;

@@ -9,4 +9,6 @@ returns-clause-value g c = c.has_room.ensures (g.T.Target.destination c.args._ta
 pub returns-clause-exact : goal.returns-clause-exact
 returns-clause-exact g c =
     let file = c.args.file.now in
-    has_room_is g.T.Target.position g.T.Target.destination (explicit_file file.registers.registers file.entries file.destinations (held_of file.registers.places.order)) c.args.block c.args._target.now c.has_room.result (c.has_room.ensures (g.T.Target.destination c.args._target.now) (g.T.Target.position c.args._target.now))
+    has_room_is g.T.Target.position g.T.Target.destination (explicit_file file.registers.registers file.entries file.destinations
+    (held_of file.registers.places.order)) c.args.block c.args._target.now c.has_room.result
+    (c.has_room.ensures (g.T.Target.destination c.args._target.now) (g.T.Target.position c.args._target.now))

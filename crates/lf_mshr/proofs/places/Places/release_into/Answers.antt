@@ -27,7 +27,8 @@ index-item-requires g c =
     let long = c.self.invariant.long in
     let at_is : c.index-at.result.now ≡ slice_index next l.at =
     c.index-at.ensures ∙ ap (λ i. get_or next i c.index-at.result.now) c.from.ensures ∙ get_or_default next l.at c.index-at.result.now 0 (omega (arith, links, low)) in
-    let lt = come-lt was.items.items was.next.items was.len (length was.used.items) c.args.block next used l.targets.items was.end l.last l.kept l.at l.left l.invariant.releasing long c.loop-left-test.true in
+    let lt = come-lt was.items.items was.next.items was.len
+    (length was.used.items) c.args.block next used l.targets.items was.end l.last l.kept l.at l.left l.invariant.releasing long c.loop-left-test.true in
     rw (c.from-in-loop-left.ensures, at_is, l.invariant.items) (omega (arith, lt, long))
 
 pub unmark-requires : goal.unmark-requires
@@ -41,7 +42,8 @@ unmark-requires g c =
     let long = c.self.invariant.long in
     let at_is : c.index-at.result.now ≡ slice_index next l.at =
     c.index-at.ensures ∙ ap (λ i. get_or next i c.index-at.result.now) c.from.ensures ∙ get_or_default next l.at c.index-at.result.now 0 (omega (arith, links, low)) in
-    let lt = come-lt was.items.items was.next.items was.len (length was.used.items) c.args.block next used l.targets.items was.end l.last l.kept l.at l.left l.invariant.releasing long c.loop-left-test.true in
+    let lt = come-lt was.items.items was.next.items was.len
+    (length was.used.items) c.args.block next used l.targets.items was.end l.last l.kept l.at l.left l.invariant.releasing long c.loop-left-test.true in
     let size : length c.deref_mut.result.now ≡ length was.used.items = ap (λ (ws : List ℕ). length ws) c.deref_mut.ensures.value ∙ l.invariant.releasing.parted.words in
     let wide = c.self.invariant.words in
     rw at_is (omega (arith, lt, size, wide))
@@ -79,7 +81,8 @@ loop-left-preserved g c =
           let same = sym (ap (λ (h : Held _). h.block) seen) ∙ w.if-item-block.true in
           rw (w.targets-is, w.kept-is, w.last-is, w.self-inside-is) (record {
             releasing = rw (with_items_is l.self-inside.used w.unmark.new.words (size ∙ sym l.self-inside.used.ok.0), pushed, at_is)
-                (releasing-drop was.items.items was.next.items was.len (length was.used.items) c.args.block next used l.targets.items was.end l.last l.kept l.at l.left l.invariant.releasing long c.loop-left-test.true
+                (releasing-drop was.items.items was.next.items was.len
+                (length was.used.items) c.args.block next used l.targets.items was.end l.last l.kept l.at l.left l.invariant.releasing long c.loop-left-test.true
                 c.index-item.result.now same w.unmark.new.words size bits);
             items = l.invariant.items;
             end = l.invariant.end;
@@ -88,7 +91,8 @@ loop-left-preserved g c =
           let other : (get_or was.items.items (slice_index next l.at) c.index-item.result.now).block ≡ c.args.block → ⊥ = λ e. w.if-item-block.false (ap (λ (h : Held _). h.block) seen ∙ e) in
           rw (w.targets-is, w.kept-is, w.last-is, w.self-inside-is) (record {
             releasing = rw (w.from-else-item-block.ensures, at_is)
-                (releasing-keep was.items.items was.next.items was.len (length was.used.items) c.args.block next used l.targets.items was.end l.last l.kept l.at l.left l.invariant.releasing long c.loop-left-test.true
+                (releasing-keep was.items.items was.next.items was.len
+                (length was.used.items) c.args.block next used l.targets.items was.end l.last l.kept l.at l.left l.invariant.releasing long c.loop-left-test.true
                 c.index-item.result.now other);
             items = l.invariant.items;
             end = l.invariant.end;
@@ -100,18 +104,23 @@ returns-clause-order g c =
     let was = c.self.inside in
     let l = c.loop-left in
     rw (l.invariant.items, l.invariant.end, ← c.self.view_is)
-    (sym (released-order was.items.items was.next.items was.len (length was.used.items) c.args.block l.self-inside.next.items l.self-inside.used.items l.targets.items was.end l.last l.kept l.at l.left l.invariant.releasing c.self.invariant.long (omega (arith, c.loop-left-test.false))))
+    (sym (released-order was.items.items was.next.items was.len
+    (length was.used.items) c.args.block l.self-inside.next.items l.self-inside.used.items l.targets.items was.end l.last l.kept l.at l.left
+    l.invariant.releasing c.self.invariant.long (omega (arith, c.loop-left-test.false))))
 
 pub returns-clause-targets : goal.returns-clause-targets
 returns-clause-targets g c =
     let was = c.self.inside in
     let l = c.loop-left in
     rw (← c.self.view_is)
-    (sym (released-targets was.items.items was.next.items was.len (length was.used.items) c.args.block l.self-inside.next.items l.self-inside.used.items l.targets.items was.end l.last l.kept l.at l.left l.invariant.releasing c.self.invariant.long (omega (arith, c.loop-left-test.false))))
+    (sym (released-targets was.items.items was.next.items was.len
+    (length was.used.items) c.args.block l.self-inside.next.items l.self-inside.used.items l.targets.items was.end l.last l.kept l.at l.left
+    l.invariant.releasing c.self.invariant.long (omega (arith, c.loop-left-test.false))))
 
 pub invariant_of-self : goal.invariant_of-self
 invariant_of-self g c =
     let was = c.self.inside in
     let l = c.loop-left in
     rw (l.invariant.items, l.invariant.end)
-    (chain-parted was.items.items (length was.used.items) l.self-inside.next.items l.self-inside.used.items was.end l.last l.kept l.at l.left (omega (arith, c.loop-left-test.false)) c.self.invariant.few c.self.invariant.long c.self.invariant.words l.invariant.releasing.parted)
+    (chain-parted was.items.items (length was.used.items) l.self-inside.next.items l.self-inside.used.items was.end l.last l.kept l.at l.left
+    (omega (arith, c.loop-left-test.false)) c.self.invariant.few c.self.invariant.long c.self.invariant.words l.invariant.releasing.parted)

@@ -37,14 +37,17 @@ loop-left-preserved g c =
           let own = ap (λ (h : Held _). h.block) (sym item) ∙ sym c.block.ensures ∙ w.if-block.true in
           let added = w.store_mask-bytes.ensures ∙ ap (store_mask g.T.Target.is_store g.T.Target.bytes) (w.target.ensures ∙ ap (λ (h : Held _). h.target) item) in
           rw (w.bytes-is, added, at_is) (record {
-            answer = sym (fold-step_own more p.items.items (slice_index p.next.items) l.at l.left c.index-item.result.now c.args.block c.loop-left-test.true (omega (arith, fits, long)) l.bytes own) ∙ l.invariant.answer;
+            answer = sym (fold-step_own more p.items.items (slice_index p.next.items) l.at l.left c.index-item.result.now c.args.block c.loop-left-test.true
+                (omega (arith, fits, long)) l.bytes own) ∙ l.invariant.answer;
             below = below;
             low = omega (arith, fits);
           })
       | else-block w ↦
-          let other : (get_or p.items.items (slice_index p.next.items l.at) c.index-item.result.now).block ≡ c.args.block → ⊥ = λ e. w.if-block.false (c.block.ensures ∙ ap (λ (h : Held _). h.block) item ∙ e) in
+          let other : (get_or p.items.items (slice_index p.next.items l.at) c.index-item.result.now).block ≡ c.args.block
+          → ⊥ = λ e. w.if-block.false (c.block.ensures ∙ ap (λ (h : Held _). h.block) item ∙ e) in
           rw (w.bytes-is, at_is) (record {
-            answer = sym (fold-step_other more p.items.items (slice_index p.next.items) l.at l.left c.index-item.result.now c.args.block c.loop-left-test.true (omega (arith, fits, long)) l.bytes other) ∙ l.invariant.answer;
+            answer = sym (fold-step_other more p.items.items (slice_index p.next.items) l.at l.left c.index-item.result.now c.args.block c.loop-left-test.true
+                (omega (arith, fits, long)) l.bytes other) ∙ l.invariant.answer;
             below = below;
             low = omega (arith, fits);
           })

@@ -32,7 +32,8 @@ returns g c =
       refl,
       record {
         registers = record {
-          level1 = released1 c.self.inside.shape (g.O1.Organisation.seen c.self.inside.waiting) (g.O1.Organisation.seen c.release_into.new.file) waiting c.args.block wait.level1 c.release_into.ensures.others;
+          level1 = released1 c.self.inside.shape (g.O1.Organisation.seen c.self.inside.waiting)
+              (g.O1.Organisation.seen c.release_into.new.file) waiting c.args.block wait.level1 c.release_into.ensures.others;
           level2 = wait.level2;
           home = wait.home;
         };

@@ -32,7 +32,8 @@ returns g c =
       record {
         registers = record {
           level1 = wait.level1;
-          level2 = released2 c.self.inside.shape (g.O2.Organisation.seen c.self.inside.regs2) (g.O2.Organisation.seen c.release_into.new.file) fetched c.args.second wait.level2 c.release_into.ensures.others;
+          level2 = released2 c.self.inside.shape (g.O2.Organisation.seen c.self.inside.regs2)
+              (g.O2.Organisation.seen c.release_into.new.file) fetched c.args.second wait.level2 c.release_into.ensures.others;
           home = home_released c.self.inside.shape fetched c.args.second wait.home;
         };
         rest = search rules;

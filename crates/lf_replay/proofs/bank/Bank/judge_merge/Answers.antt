@@ -28,7 +28,8 @@ returns-clause-head g c = rw (← c.self.view_is) (if_none _ (λ none. (rw c.der
 
 pub returns-clause-takes : goal.returns-clause-takes
 returns-clause-takes g c =
-    let taken : c.merge_rule.result ≡ None → TakesMerge c.self.inside.shape (g.O1.Organisation.seen c.self.inside.waiting) c.args.port (oldest (queue_at c.self.inside.queues.items c.args.port)) c.args.register = λ none target there at.
+    let taken : c.merge_rule.result ≡ None → TakesMerge c.self.inside.shape (g.O1.Organisation.seen c.self.inside.waiting) c.args.port
+    (oldest (queue_at c.self.inside.queues.items c.args.port)) c.args.register = λ none target there at.
     let head = rw c.deref.ensures.value at c.in-Some.ensures in
     let file = g.O1.Organisation.seen c.self.inside.waiting in
     let block_is = sym (c.block-block.ensures ∙ ap (λ (r : Request). r.block) head.1) in

@@ -27,7 +27,8 @@ returns-clause-head g c = rw (← c.self.view_is) (if_none _ (λ none. (rw c.der
 
 pub returns-clause-takes : goal.returns-clause-takes
 returns-clause-takes g c =
-    let taken : c.primary_rule.result ≡ None → TakesPrimary c.self.inside.shape (g.O1.Organisation.seen c.self.inside.waiting) c.args.port (oldest (queue_at c.self.inside.queues.items c.args.port)) c.args.register = λ none target at.
+    let taken : c.primary_rule.result ≡ None → TakesPrimary c.self.inside.shape (g.O1.Organisation.seen c.self.inside.waiting) c.args.port
+    (oldest (queue_at c.self.inside.queues.items c.args.port)) c.args.register = λ none target at.
     let head = rw c.deref.ensures.value at c.in-Some.ensures in
     let file = g.O1.Organisation.seen c.self.inside.waiting in
     let block_is = sym (c.block-block.ensures ∙ ap (λ (r : Request). r.block) head.1) in

@@ -8,7 +8,8 @@ use Rattle.lf_replay.proofs.bank.Bank.judge_second_primary.Goals as goal
 
 pub returns-clause-takes : goal.returns-clause-takes
 returns-clause-takes g c =
-    let taken : c.second_primary_rule.result ≡ None → TakesSecondPrimary c.self.inside.shape (g.O2.Organisation.seen c.self.inside.regs2) c.self.inside.asked.items c.args.block c.args.register = λ none target at.
+    let taken : c.second_primary_rule.result ≡ None → TakesSecondPrimary c.self.inside.shape
+    (g.O2.Organisation.seen c.self.inside.regs2) c.self.inside.asked.items c.args.block c.args.register = λ none target at.
     let file = g.O2.Organisation.seen c.self.inside.regs2 in
     let asker = rw c.deref-2.ensures.value at c.fetch-target.ensures.destination in
     let block_is = sym c.second_of-second.ensures in

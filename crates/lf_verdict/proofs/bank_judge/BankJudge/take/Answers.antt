@@ -21,7 +21,8 @@ returns-then-not-pass c shape memory bank came gave fits named settled =
     (λ ordered. (
       gave,
       subst (λ (new : BankJudge). IsBankSettled shape memory bank (came ++ item ∷ []) gave new) (sym c.keep.ensures.rest)
-          (settled_put shape memory bank came gave old settled.bank_judged item c.keep.new.self.order settled.drained fits named early ordered (c.keep.ensures.bank ∙ ap (λ (o : Reordering). o.bank) same)),
+          (settled_put shape memory bank came gave old settled.bank_judged item c.keep.new.self.order settled.drained fits named early ordered
+          (c.keep.ensures.bank ∙ ap (λ (o : Reordering). o.bank) same)),
     ))
     (c.keep.ensures.put came gave (subst (λ (o : Reordering). HasOrdered o came gave) (sym same) settled.bank_judged.ordered))
 

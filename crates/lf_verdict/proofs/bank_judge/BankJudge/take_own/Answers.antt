@@ -46,10 +46,17 @@ loop-item-preserved c shape memory came gave fits settled =
           let after = w.in_ok-take.ensures shape memory bank (came ++ of_bank bank (take k rs)) now.0 (all_at (Fits shape) rs k item fits there is) named now.1 in
           rw w.self-is (after.0, subst (λ (xs : List Record). IsBankSettled shape memory bank xs after.0 w.take.new.self) (own_more bank came rs k item there is named) after.1)
       | else-from-bank w ↦
-          rw w.self-is (now.0, subst (λ (xs : List Record). IsBankSettled shape memory bank xs now.0 c.loop-item.self) (other_more bank came rs k item there is (λ e. w.if-from-bank.false (c.from.ensures ∙ e))) now.1)
+          rw w.self-is (
+            now.0,
+            subst (λ (xs : List Record). IsBankSettled shape memory bank xs now.0 c.loop-item.self)
+                (other_more bank came rs k item there is (λ e. w.if-from-bank.false (c.from.ensures ∙ e))) now.1,
+          )
     ]
 
 pub returns : goal.returns
 returns c shape memory came gave fits settled =
-    let now = c.loop-item.invariant shape memory came gave fits settled in
-    (now.0, subst (λ (rs : List Record). IsBankSettled shape memory c.args.bank (came ++ of_bank c.args.bank rs) now.0 c.loop-item.self) (take_all c.loop-item.item-index c.args.records.now c.loop-item-test.false) now.1)
+    let now = c.loop-item.invariant shape memory came gave fits settled in (
+      now.0,
+      subst (λ (rs : List Record). IsBankSettled shape memory c.args.bank (came ++ of_bank c.args.bank rs) now.0 c.loop-item.self)
+          (take_all c.loop-item.item-index c.args.records.now c.loop-item-test.false) now.1,
+    )

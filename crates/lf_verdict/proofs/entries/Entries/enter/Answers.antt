@@ -40,7 +40,8 @@ returns-then-log-len c shape records may stands =
     let item = c.args.item.now in
     let own : item.log < shape.ports = omega (arith, c.from-log.ensures, c.len.ensures, stands.count_ports, c.if-log-len.true) in
     let ports : set s.ports.items c.from-log.result c.take.new.self ≡ set s.ports.items item.log c.take.new.self = ap (λ n. set s.ports.items n c.take.new.self) c.from-log.ensures in
-    let before = port_before shape records s stands item may c.from-log.result c.index_mut-then-log-len.result.now c.from-log.ensures c.index_mut-then-log-len.ensures.value (omega (arith, c.from-log.ensures, own)) in
+    let before = port_before shape records s stands item may c.from-log.result c.index_mut-then-log-len.result.now c.from-log.ensures c.index_mut-then-log-len.ensures.value
+    (omega (arith, c.from-log.ensures, own)) in
     let here = c.take.ensures shape item.log (of_log item.log records)
     (omega (arith, c.len-at.ensures, log_length shape records s stands item may c.from-log.result c.index.result.now c.from-log.ensures c.index.ensures)) before in
     record {

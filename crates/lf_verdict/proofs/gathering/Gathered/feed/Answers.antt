@@ -22,5 +22,6 @@ pub returns-in-Err-clause-err : goal.returns-in-Err-clause-err
 returns-in-Err-clause-err c count bytes rest was =
     let s = c.args.self.now in
     let fed = bytes ++ c.args.piece.now in
-    let said = feed_failed s.reader.fault c.feed.new.self fed rest s.memory.items was.records c.in-Err.told was.fine (sym c.in-Err.ensures.told) (c.in-Err.ensures.pieces bytes s.memory.items was.records was.read) in
+    let said = feed_failed s.reader.fault c.feed.new.self fed rest s.memory.items was.records c.in-Err.told was.fine (sym c.in-Err.ensures.told)
+    (c.in-Err.ensures.pieces bytes s.memory.items was.records was.read) in
     c.refusal_of.ensures (fed ++ rest) (subst (λ (f : CodecFault). IsFaultOrWant (fed ++ rest) f) (sym c.fault.ensures) said)

@@ -20,7 +20,8 @@ returns-in-Err-clause-answer c bytes fed =
     let fine : fault_so_far bytes ≡ None = ap (λ (q : Reading). q.fault) m.1.read.same ∙ m.1.fine in
     subst (λ (r : Refusal). IsVerdictOrWant s.shape bytes (Refused r)) (sym c.refusal_of-in-Err.ensures)
     (told_stop s.shape bytes (fault_in c.in-Err.told) c.stop_of.result
-    (finish_failed (fault_so_far bytes) (trace_fault bytes) s.reader.progress.header bytes c.in-Err.told fine (λ i. trace_fault bytes) (sym (c.finish.ensures.ends bytes s.memory.items m.0 m.1.read) ∙ c.in-Err.is))
+    (finish_failed (fault_so_far bytes) (trace_fault bytes) s.reader.progress.header bytes c.in-Err.told fine (λ i. trace_fault bytes)
+    (sym (c.finish.ensures.ends bytes s.memory.items m.0 m.1.read) ∙ c.in-Err.is))
     c.stop_of.ensures)
 
 pub verdict-requires : goal.verdict-requires
@@ -39,7 +40,8 @@ verdict-requires c =
           m.0,
           (
             run.stands,
-            short_logs c.exact_reading.ensures s.shape bytes m.1.read.are_bytes c.in_default-finish.field-0 s.memory.items s.reader.memory m.0 s.reader.records trace c.in-Running.pending run drained m.1.in_range,
+            short_logs c.exact_reading.ensures s.shape bytes m.1.read.are_bytes c.in_default-finish.field-0 s.memory.items s.reader.memory m.0
+                s.reader.records trace c.in-Running.pending run drained m.1.in_range,
           ),
         ),
       ),

@@ -28,7 +28,8 @@ loop-at-preserved c = record {
   within = omega (arith, c.in-Ok.ensures.some.0, rest_len c.args.piece.now c.loop-at.at, c.loop-at.invariant.within);
   shape = c.in-Ok.ensures.shape ∙ c.loop-at.invariant.shape;
   going = told_going c.loop-at.self.stop c.feed_record.new.self.stop c.loop-at.invariant.going (sym c.in-Ok.ensures.told);
-  fed = λ bytes fed. fed_more c.feed_record.new.self bytes c.args.piece.now c.loop-at.at c.in-Ok.n (c.in-Ok.ensures.fed (bytes ++ take c.loop-at.at c.args.piece.now) (c.loop-at.invariant.fed bytes fed));
+  fed = λ bytes fed. fed_more c.feed_record.new.self bytes c.args.piece.now c.loop-at.at c.in-Ok.n
+      (c.in-Ok.ensures.fed (bytes ++ take c.loop-at.at c.args.piece.now) (c.loop-at.invariant.fed bytes fed));
 }
 
 pub returns-in-Err-clause-fed : goal.returns-in-Err-clause-fed

@@ -22,7 +22,8 @@ enter_beside-requires-clause-banks g c κs lives bank d lt =
     let rs = c.make_contiguous.result.now in
     let fits = all_fit r.0 is.done rs (subst (MayAllCome r.0 is.done) (sym c.make_contiguous.ensures.value) is.may_come) in
     let banks = c.as_mut_slice-banks.ensures.value in
-    subst (λ (js : List BankJudge). CanTakeAll bank rs (get_or js bank d)) (sym banks) (can_take r.0 r.1.0 is.done rs c.args.self.now.standing is.stands fits bank d (omega (arith, lt, ap length banks)))
+    subst (λ (js : List BankJudge). CanTakeAll bank rs (get_or js bank d)) (sym banks)
+    (can_take r.0 r.1.0 is.done rs c.args.self.now.standing is.stands fits bank d (omega (arith, lt, ap length banks)))
 
 pub returns : goal.returns
 returns g c shape memory records is =
@@ -41,6 +42,7 @@ returns g c shape memory records is =
           subst (λ (y : BankJudge). TakesAll bank rs (get_or old.banks.items bank x) y) (written_at old.banks.items ws old.banks.len bank x (omega (arith, lt, old.banks.ok.0)) at)
           (subst (λ (js : List BankJudge). TakesAll bank rs (get_or js bank x) (get_or ws bank x)) slice (c.enter_beside.ensures.banks.each bank x (omega (arith, lt, ap length slice)))))
           (λ bank d lt.
-          subst (λ (js : List BankJudge). (get_or js bank d).outcome ≡ outcomes.NoMemory → ⊥) c.deref.ensures.value (c.ran_out.ensures (λ e. cc) bank d (omega (arith, lt, ap length c.deref.ensures.value))))),
+          subst (λ (js : List BankJudge). (get_or js bank d).outcome ≡ outcomes.NoMemory → ⊥) c.deref.ensures.value
+          (c.ran_out.ensures (λ e. cc) bank d (omega (arith, lt, ap length c.deref.ensures.value))))),
       c.clear.ensures.items,
     )
