@@ -1,5 +1,5 @@
 -- What the reader's own steps do with the bytes of a piece.
-use Rattle.std.specs.Prelude.{◌≡◌, ◌⊎◌, ◌==◌, ◌++◌, ℕ, ◌+◌, List, ◌<◌, ◌≤◌, false, Option, length, take, slice_index, Some, None, Result, Ok, Err}
+use Rattle.std.specs.Prelude.{◌≡◌, ◌⊎◌, ◌==◌, ◌++◌, ◌∷◌, [], ℕ, ◌+◌, List, ◌<◌, ◌≤◌, false, Option, length, take, slice_index, Some, None, Result, Ok, Err}
 use Rattle.lf_rules.specs.declared.event.Record.{Record}
 use Rattle.lf_codec.specs.declared.fault.CodecCause.{CodecCause}
 use Rattle.lf_codec.specs.declared.fault.CodecCause.TheVariants.{NoMemory}
@@ -100,3 +100,16 @@ pub record ReadsInto (old : Progress) (bytes : List ℕ) (n : ℕ) (place : Opti
   pub stage : old.stage ≡ stages.Head
   pub whole : IsWholeRecord old bytes item n
   pub is_counted : new ≡ counted old n item.log
+
+-- the record at the front of these bytes, of so many of them, is kept behind the others and counted
+pub record PacksInto (old : Progress) (bytes : List ℕ) (n : ℕ) (before after : List Record) (new : Progress) : Type 0 where
+  pub item : Record
+  pub is_kept : after ≡ before ++ item ∷ []
+  pub stage : old.stage ≡ stages.Head
+  pub whole : IsWholeRecord old bytes item n
+  pub is_counted : new ≡ counted old n item.log
+
+-- ... or nothing changes
+abbrev pub MayPack : Progress → List ℕ → Option ℕ → List Record → List Record → Progress → Type 0
+MayPack old bytes (Some n) before after new = PacksInto old bytes n before after new
+MayPack old bytes None before after new = (new ≡ old) × (after ≡ before)

@@ -1,16 +1,17 @@
 //! An event record that stands whole in a piece.
 
-ghost use Rattle.std.specs.Prelude.{◌≡◌, ◌++◌, length, Some, IfSome, IfNone};
+ghost use Rattle.std.specs.Prelude.{◌≡◌, ◌++◌, length, Some, IfSome, IfNone, IfOk, OnErr};
 ghost use Rattle.lf_codec.specs.declared.stage.Stage.TheVariants as stages;
 ghost use Rattle.lf_codec.specs.Carrying.{carrying, CanCarry};
-ghost use Rattle.lf_codec.specs.Takes.{IsWholeHead, AreWholeParts, ReadsInto};
+ghost use Rattle.lf_codec.specs.Takes.{IsWholeHead, AreWholeParts, ReadsInto, MayPack};
 
 use crate::checks::{check_fixed, check_head};
 use crate::event::{event_at, put_bytes};
+use crate::packed::Packed;
 use crate::progress::Progress;
 use crate::stage::{Head, Kind, Stage};
 use crate::step::{data_len, fixed_len};
-use lf_rules::Record;
+use lf_rules::{NoMemory, Record};
 
 /// The first bytes and those behind them, where there are so many.
 fn split(bytes: &[u8], len: usize) -> Option<(&[u8], &[u8])>
@@ -132,6 +133,69 @@ impl Progress {
             Kind::Evict2 => self.read_event(Kind::Evict2, head, bytes, rest, place),
             Kind::Fence => self.read_event(Kind::Fence, head, bytes, rest, place),
             Kind::SecondMerge => self.read_event(Kind::SecondMerge, head, bytes, rest, place),
+        }
+    }
+
+    /// The same, but that the parts of the record are kept with the others' and no event is built.
+    /// `NoMemory` where there is no room for them; then nothing changes here.
+    #[inline(always)]
+    fn pack_event(
+        &mut self,
+        kind: Kind,
+        head: Head,
+        bytes: &[u8],
+        rest: &[u8],
+        records: &mut Packed,
+    ) -> Result<Option<usize>, NoMemory>
+        requires sound { IsSound self.old }
+        requires stage { self.old.stage ≡ stages.Head }
+        requires kind { kind ≡ head.kind }
+        requires front { IsWholeHead self.old bytes.now head rest.now }
+        requires header { records.old.header ≡ self.old.header }
+        ensures ok { IfOk result (λ n. MayPack self.old bytes.now n records.old.records records.new.records self.new) }
+        ensures err { OnErr result (self.new ≡ self.old) }
+    {
+        let Some((fixed, carried)) = self.whole_parts(kind, head.bank, rest) else {
+            return Ok(None);
+        };
+        let len = fixed.len() + carried.len();
+        records.push_parts(head, &rest[..len])?;
+        self.count(8 + len as u64, head.log);
+        Ok(Some(8 + len))
+    }
+
+    /// Reads the next record as `read_record` does, and keeps it with the others by its parts.
+    pub(crate) fn pack_record(
+        &mut self,
+        bytes: &[u8],
+        records: &mut Packed,
+    ) -> Result<Option<usize>, NoMemory>
+        requires { IsSound self.old }
+        ensures ok { IfOk result (λ n. MayPack self.old bytes.now n records.old.records records.new.records self.new) }
+        ensures err { OnErr result (self.new ≡ self.old) }
+    {
+        let Some((head, rest)) = self.whole_head(bytes) else {
+            return Ok(None);
+        };
+        if !records.takes(&self.header) {
+            return Ok(None);
+        }
+        match head.kind {
+            Kind::Issue => self.pack_event(Kind::Issue, head, bytes, rest, records),
+            Kind::Reply => self.pack_event(Kind::Reply, head, bytes, rest, records),
+            Kind::Hit => self.pack_event(Kind::Hit, head, bytes, rest, records),
+            Kind::Primary => self.pack_event(Kind::Primary, head, bytes, rest, records),
+            Kind::Merge => self.pack_event(Kind::Merge, head, bytes, rest, records),
+            Kind::Stall => self.pack_event(Kind::Stall, head, bytes, rest, records),
+            Kind::Fill1 => self.pack_event(Kind::Fill1, head, bytes, rest, records),
+            Kind::Evict1 => self.pack_event(Kind::Evict1, head, bytes, rest, records),
+            Kind::SecondHit => self.pack_event(Kind::SecondHit, head, bytes, rest, records),
+            Kind::SecondPrimary => self.pack_event(Kind::SecondPrimary, head, bytes, rest, records),
+            Kind::SecondStall => self.pack_event(Kind::SecondStall, head, bytes, rest, records),
+            Kind::Fill2 => self.pack_event(Kind::Fill2, head, bytes, rest, records),
+            Kind::Evict2 => self.pack_event(Kind::Evict2, head, bytes, rest, records),
+            Kind::Fence => self.pack_event(Kind::Fence, head, bytes, rest, records),
+            Kind::SecondMerge => self.pack_event(Kind::SecondMerge, head, bytes, rest, records),
         }
     }
 }

@@ -2,7 +2,8 @@
 //! and with `want_of_memory` where that was told and what was left was right.
 
 use crate::reading::{ONE_BANK, encoded};
-use lf_codec::{CodecCause, CodecFault, Reader, Told};
+use lf_codec::{CodecCause, CodecFault, Packed, Reader, Told};
+use lf_rules::NoMemory;
 use lf_samples::{C1, LOAD, LOAD_MISSES_BOTH_LEVELS, LOADED, records, want_of_memory};
 use std::test::Fail;
 
@@ -44,4 +45,19 @@ fn refused_growth_of_a_reader(rt: HostRuntime) -> Result<(), Fail> {
     assert_eq!(rt; reader.feed(&[0]), Err(Told::Failed(fault)));
     assert_eq!(rt; reader.finish(), Err(Told::Failed(fault)));
     Err(want_of_memory())
+}
+
+/// Nor is a growth of the caller's records passed over.
+#[test]
+fn refused_growth_of_packed_records(rt: HostRuntime) -> Result<(), Fail> {
+    let mut packed = Packed::new(rt.alloc());
+    let mut reader = Reader::new(rt.alloc());
+    match reader.feed_into(&LOAD_MISSES_BOTH_LEVELS, &mut packed) {
+        Ok(told) => {
+            told?;
+            assert_eq!(rt; packed.len(), 6);
+            Ok(())
+        }
+        Err(NoMemory) => Err(want_of_memory()),
+    }
 }

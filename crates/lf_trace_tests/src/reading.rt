@@ -1,7 +1,7 @@
 //! What is asked of a reader and of the writer.
 
-use lf_codec::{CodecCause, CodecFault, Header, Reader, Told, encode, fits_trace};
-use lf_rules::{Memory, NoMemory, Record};
+use lf_codec::{CodecCause, CodecFault, Header, Packed, Reader, Told, encode, fits_trace};
+use lf_rules::{Event, Memory, NO_BANK, NoMemory, Record};
 use std::alloc::Global;
 use std::process::Abort;
 use std::test::Fail;
@@ -32,6 +32,30 @@ pub fn encoded(
 pub fn feed(reader: &mut Reader, piece: &[u8]) -> Result<(), Fail> {
     reader.feed(piece)?;
     Ok(())
+}
+
+/// The same, where the records go behind these.
+pub fn feed_into(reader: &mut Reader, piece: &[u8], records: &mut Packed) -> Result<(), Fail> {
+    reader.feed_into(piece, records)??;
+    Ok(())
+}
+
+/// Fails where others are kept than these.
+pub fn assert_packed(rt: &impl Abort, packed: &Packed, records: &[Record]) {
+    assert_eq!(rt; packed.len(), records.len());
+    assert_eq!(rt; packed.is_empty(), records.is_empty());
+    let mut place = Record {
+        log: 0,
+        bank: NO_BANK,
+        number: 0,
+        event: Event::Fence,
+    };
+    for at in 0..packed.len() {
+        let item = records.get(at);
+        assert_eq!(rt; Some(packed.bank(at)), item.map(|r| r.bank));
+        assert_eq!(rt; Some(packed.log(at)), item.map(|r| r.log));
+        assert_eq!(rt; Some(packed.lend(at, &mut place)), item);
+    }
 }
 
 /// Ends a trace that has no fault.

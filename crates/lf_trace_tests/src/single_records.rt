@@ -1,7 +1,7 @@
 //! Traces of one record, which are read and written again.
 
-use crate::reading::{encoded, feed, finish};
-use lf_codec::Reader;
+use crate::reading::{assert_packed, encoded, feed, feed_into, finish};
+use lf_codec::{Packed, Reader};
 use lf_rules::{Event, Record, WideBlock};
 use lf_samples::{C1, bytes_of, event};
 use std::alloc::Global;
@@ -17,7 +17,7 @@ const WIDE: &str = "4c46545303000202 0800020000000000";
 /// The same with four blocks of 64 bytes, which make the largest block of level two.
 const WIDEST: &str = "4c46545303000202 4000040000000000";
 
-/// Reads a trace of this header and this one record of bank 1, and writes it again.
+/// Reads a trace of this header and this one record of bank 1, also by its parts, and writes it again.
 fn assert_one(
     rt: &impl Abort,
     alloc: Global,
@@ -39,7 +39,11 @@ fn assert_one(
     feed(&mut reader, &whole)?;
     let header = finish(&mut reader)?;
     assert_eq!(rt; reader.take().as_ref(), Some(&item));
-    let written = encoded(rt, alloc, &header, &Vec::new(alloc), &[item])?;
+    let items = [item];
+    let mut packed = Packed::new(alloc);
+    feed_into(&mut Reader::new(alloc), &whole, &mut packed)?;
+    assert_packed(rt, &packed, &items);
+    let written = encoded(rt, alloc, &header, &Vec::new(alloc), &items)?;
     assert_eq!(rt; written.as_slice(), whole.as_slice());
     Ok(())
 }

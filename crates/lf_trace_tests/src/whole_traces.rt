@@ -1,7 +1,10 @@
 //! Whole traces, however they are cut, and their encodings.
 
-use crate::reading::{ONE_BANK, assert_fault, assert_reads, assert_taken, encoded, feed, finish};
-use lf_codec::{CodecCause, CodecFault, Header, Reader, Told, fits_trace};
+use crate::reading::{
+    ONE_BANK, assert_fault, assert_packed, assert_reads, assert_taken, encoded, feed, feed_into,
+    finish,
+};
+use lf_codec::{CodecCause, CodecFault, Header, Packed, Reader, Told, fits_trace};
 use lf_rules::{Memory, Record};
 use lf_samples::{
     C1, EMPTY_TRACE, FENCE_LAST, LOAD, LOAD_MISSES_BOTH_LEVELS, LOADED, bytes_of, memory, records,
@@ -208,6 +211,54 @@ fn records_all_at_once(rt: HostRuntime) -> Result<(), Fail> {
     reader.swap_records(&mut later);
     assert!(rt; later.is_empty());
     assert_eq!(rt; reader.finish()?, ONE_BANK);
+    Ok(())
+}
+
+/// Reads the trace of one load in two pieces, behind the records that are there.
+fn pack_cut(alloc: Global, n: usize, packed: &mut Packed) -> Result<(), Fail> {
+    let whole: &[u8] = &LOAD_MISSES_BOTH_LEVELS;
+    let (front, back) = whole.split_at(n.min(132));
+    let mut reader = Reader::new(alloc);
+    feed_into(&mut reader, front, packed)?;
+    feed_into(&mut reader, back, packed)?;
+    finish(&mut reader)?;
+    Ok(())
+}
+
+/// Records that are kept by their parts, however the trace is cut; one that a cut goes through is kept whole.
+#[test]
+fn records_by_their_parts(rt: HostRuntime) -> Result<(), Fail> {
+    let records = records(rt.alloc(), &C1, &[LOAD, LOADED])?;
+    let mut packed = Packed::new(rt.alloc());
+    for n in 0..133 {
+        pack_cut(rt.alloc(), n, &mut packed)?;
+        assert_packed(&rt, &packed, &records);
+        packed.clear();
+        assert_packed(&rt, &packed, &[]);
+    }
+    Ok(())
+}
+
+/// A fault is told as by any other feed, and leaves the records that stand before it.
+#[test]
+fn a_fault_behind_packed_records(rt: HostRuntime) -> Result<(), Fail> {
+    let records = records(rt.alloc(), &C1, &[LOAD, LOADED])?;
+    let mut packed = Packed::new(rt.alloc());
+    let mut reader = Reader::new(rt.alloc());
+    feed_into(&mut reader, &LOAD_MISSES_BOTH_LEVELS, &mut packed)?;
+    let fault = CodecFault {
+        cause: CodecCause::Trailing,
+        offset: 132,
+    };
+    assert_eq!(rt;
+        reader.feed_into(&[0], &mut packed)?,
+        Err(Told::Fault(fault))
+    );
+    assert_eq!(rt;
+        reader.feed_into(&[0], &mut packed)?,
+        Err(Told::Failed(fault))
+    );
+    assert_packed(&rt, &packed, &records);
     Ok(())
 }
 

@@ -1,0 +1,166 @@
+-- Records that are kept by their parts: more bytes change none of them.
+use Rattle.std.proofs.Common.{◌≡◌, ℕ, ◌+◌, ◌≤◌, List, [], ◌∷◌, ◌++◌, length, take, drop, refl, sym, ap, subst, ◌∙◌, arith, append_assoc}
+use Rattle.std.proofs.Common.{Result, Ok, Err, Option, Some, None, inl, inr}
+use Rattle.std.specs.Prelude.{slice_index, IfOk, IfSome, OnOk, OnErr}
+use Rattle.std.proofs.lemmas.List.{drop-append-le, take-append-le, length-drop, length-append, append-nil, map-append}
+use Rattle.std.proofs.Math.Seq.{drop-append_seam, take-append_seam, take-length}
+use Rattle.lf_rules.specs.declared.event.Record.{Record}
+use Rattle.lf_codec.specs.declared.header.Header.{Header}
+use Rattle.lf_codec.specs.declared.stage.Head.{Head}
+use Rattle.lf_codec.specs.declared.packed.Form.{Form}
+use Rattle.lf_codec.specs.declared.packed.Form.TheVariants as forms
+use Rattle.lf_codec.specs.declared.progress.Progress.{Progress}
+use Rattle.lf_codec.specs.Steps.{record_of, counted}
+use Rattle.lf_codec.specs.Sound.{IsInRange, IsSound, IsSoundReader}
+use Rattle.lf_codec.specs.declared.fault.CodecFault.{CodecFault}
+use Rattle.lf_codec.specs.Reading.{Reading, read_on, byte_read, with_front}
+use Rattle.lf_codec.specs.Takes.{AreWholeParts, IsRefused, WasRefused, TakesPart, PacksInto, MayPack}
+use Rattle.lf_codec.proofs.Pieces.{read_on-with_front}
+use Rattle.lf_codec.proofs.Soundness.{data_limit, sound_reader}
+use Rattle.lf_codec.proofs.WholeRecord.{sound_behind, taken_at_once}
+use Rattle.lf_codec.specs.Packed.{AreParts, parts_record, slice_of, form_record, IsWithin, records_in_forms, AreWithin}
+
+slice_stays : (bytes more : List ℕ) (at len : ℕ) → at + len ≤ length bytes → slice_of (bytes ++ more) at len ≡ slice_of bytes at len
+slice_stays bytes more at len fits =
+    ap (take len) (drop-append-le at bytes more (omega (arith, fits)))
+    ∙ take-append-le len (drop at bytes) more (omega (arith, fits, length-drop at bytes))
+
+form_stays : (h : Header) (bytes more : List ℕ) (form : Form) → IsWithin h bytes form → form_record h (bytes ++ more) form ≡ form_record h bytes form
+form_stays h bytes more (forms.Parts p) within = ap (parts_record h p.head) (slice_stays bytes more p.at p.len within.0)
+form_stays h bytes more (forms.Apart r) within = refl
+
+within_stays : (h : Header) (bytes more : List ℕ) (form : Form) → IsWithin h bytes form → IsWithin h (bytes ++ more) form
+within_stays h bytes more (forms.Parts p) within =
+    (omega (arith, within.0, length-append bytes more), subst (AreParts h p.head.kind) (sym (slice_stays bytes more p.at p.len within.0)) within.1)
+within_stays h bytes more (forms.Apart r) within = tt
+
+records_stay : (h : Header) (bytes more : List ℕ) (all : List Form) → AreWithin h bytes all → records_in_forms h (bytes ++ more) all ≡ records_in_forms h bytes all
+records_stay h bytes more [] within = refl
+records_stay h bytes more (form ∷ all) within =
+    ap (λ (r : Record). r ∷ records_in_forms h (bytes ++ more) all) (form_stays h bytes more form within.0)
+    ∙ ap (λ (rs : List Record). form_record h bytes form ∷ rs) (records_stay h bytes more all within.1)
+
+pub within_push : (h : Header) (bytes more : List ℕ) (all : List Form) (form : Form) → AreWithin h bytes all → IsWithin h (bytes ++ more) form
+    → AreWithin h (bytes ++ more) (all ++ form ∷ [])
+within_push h bytes more [] form within own = (own, tt)
+within_push h bytes more (first ∷ all) form within own = (within_stays h bytes more first within.0, within_push h bytes more all form within.1 own)
+
+module _ (h : Header) (bytes : List ℕ) (all : List Form) (head : Head) (parts : List ℕ) (within : AreWithin h bytes all) (fits : AreParts h head.kind parts) where
+  abbrev form : Form
+  form = forms.Parts (record { head = head; at = length bytes; len = length parts })
+
+  own_slice : slice_of (bytes ++ parts) (length bytes) (length parts) ≡ parts
+  own_slice = ap (take (length parts)) (drop-append_seam bytes parts) ∙ take-length parts
+
+  pub parts_within : AreWithin h (bytes ++ parts) (all ++ form ∷ [])
+  parts_within = within_push h bytes parts all form within (omega (arith, length-append bytes parts), subst (AreParts h head.kind) (sym own_slice) fits)
+
+  pub parts_records : records_in_forms h (bytes ++ parts) (all ++ form ∷ []) ≡ records_in_forms h bytes all ++ parts_record h head parts ∷ []
+  parts_records =
+      map-append (form_record h (bytes ++ parts)) all (form ∷ [])
+      ∙ ap (λ (rs : List Record). rs ++ parts_record h head (slice_of (bytes ++ parts) (length bytes) (length parts)) ∷ []) (records_stay h bytes parts all within)
+      ∙ ap (λ (xs : List ℕ). records_in_forms h bytes all ++ parts_record h head xs ∷ []) own_slice
+
+-- The parts of a record that stands whole, as they are found behind its head.
+module _ (h : Header) (head : Head) (bytes fixed carried : List ℕ) (parts : AreWholeParts h head.kind head.bank bytes fixed carried) where
+  found_is : take (length fixed + length carried) bytes ≡ fixed ++ carried
+  found_is =
+      let front : bytes ≡ (fixed ++ carried) ++ parts.more = parts.joined ∙ sym (append_assoc fixed carried parts.more) in
+      let len : length (fixed ++ carried) ≡ length fixed + length carried = length-append fixed carried in
+      ap (take (length fixed + length carried)) front ∙ ap (λ (n : ℕ). take n ((fixed ++ carried) ++ parts.more)) (sym len) ∙ take-append_seam (fixed ++ carried) parts.more
+
+  pub found_fit : IsInRange h → AreParts h head.kind (take (length fixed + length carried) bytes)
+  found_fit range = record {
+    in_range = range;
+    fixed = omega (arith, ap length found_is, length-append fixed carried, parts.fixed_whole);
+    few = omega (arith, ap length found_is, length-append fixed carried, parts.fixed_whole, parts.carried_whole, data_limit h head.bank head.kind fixed range parts.fixed_passes);
+  }
+
+  pub found_record : parts_record h head (take (length fixed + length carried) bytes) ≡ record_of h head fixed carried
+  found_record =
+      ap (parts_record h head) found_is
+      ∙ ap (λ (n : ℕ). record_of h head (take n (fixed ++ carried)) (drop n (fixed ++ carried))) (sym parts.fixed_whole)
+      ∙ ap (λ (xs : List ℕ). record_of h head xs (drop (length fixed) (fixed ++ carried))) (take-append_seam fixed carried)
+      ∙ ap (record_of h head fixed) (drop-append_seam fixed carried)
+
+-- ---- what stands in front changes nothing of what a step does
+
+front_refused : (rs : List Record) (old : Reading) (b : ℕ) (new : Reading) (fault : CodecFault) → IsRefused old b new fault → IsRefused (with_front [] rs old) b (with_front [] rs new) fault
+front_refused rs old b new fault refused =
+    let next : byte_read (with_front [] rs old) b ≡ with_front [] rs (byte_read old b) = read_on-with_front (b ∷ []) [] rs old in
+    record {
+      cause = refused.cause;
+      offset = refused.offset;
+      in_hand = refused.in_hand;
+      passes = ap (λ (r : Reading). r.fault) next ∙ refused.passes;
+      one_more = rw next (omega (arith, refused.one_more, length-append rs (byte_read old b).records, length-append rs old.records));
+      memory = refused.memory;
+      records = ap (λ (xs : List Record). rs ++ xs) refused.records;
+      header = refused.header;
+    }
+
+front_was_refused : (rs : List Record) (old : Reading) (bytes : List ℕ) (new : Reading) → WasRefused old bytes new → WasRefused (with_front [] rs old) bytes (with_front [] rs new)
+front_was_refused rs old bytes new was =
+    let before = read_on-with_front (take was.count bytes) [] rs old in
+    record {
+      count = was.count;
+      fault = was.fault;
+      within = was.within;
+      failed = was.failed;
+      refused = rw before (front_refused rs (read_on old (take was.count bytes)) (slice_index bytes was.count) new was.fault was.refused);
+      fine = ap (λ (r : Reading). r.fault) before ∙ was.fine;
+    }
+
+pub front_takes : (rs : List Record) (old : Reading) (bytes : List ℕ) (answer : Result ℕ CodecFault) (new : Reading) → TakesPart old bytes answer new
+    → TakesPart (with_front [] rs old) bytes answer (with_front [] rs new)
+front_takes rs old bytes (Ok n) new took = (took.0, took.1, ap (with_front [] rs) took.2 ∙ sym (read_on-with_front (take n bytes) [] rs old), took.3)
+front_takes rs old bytes (Err fault) new took = (
+  took.0,
+  elim took.1 [
+    | inl read ↦ inl (ap (with_front [] rs) read ∙ sym (read_on-with_front bytes [] rs old))
+    | inr was ↦ inr (front_was_refused rs old bytes new was)
+  ],
+)
+
+-- those that wait with the reader go behind those in front
+pub front_moved : (rs : List Record) (r : Reading) → with_front [] rs r ≡ with_front [] (rs ++ r.records) (record r { records = [] })
+front_moved rs r = ap (λ (xs : List Record). record r { records = xs }) (sym (append-nil (rs ++ r.records)))
+
+-- ---- a record that is kept at once
+
+module _ (p q : Progress) (bytes : List ℕ) (before after : List Record) where
+  pub packed_sound : {F : Type 0} (result : Result (Option ℕ) F) (pending : List ℕ) → IfOk result (λ found. MayPack p bytes found before after q) → OnErr result (q ≡ p)
+      → pending ≡ [] → IsSoundReader p pending → IsSoundReader q pending
+  packed_sound (Ok (Some n)) pending into same empty sound =
+      rw (empty, into.is_counted) (sound_reader (counted p n into.item.log) (sound_behind p bytes into.item n into.whole into.stage sound.sound))
+  packed_sound (Ok None) pending none same empty sound = subst (λ (x : Progress). IsSoundReader x pending) (sym none.0) sound
+  packed_sound (Err refused) pending may same empty sound = subst (λ (x : Progress). IsSoundReader x pending) (sym same) sound
+
+  pub on_packed : {F : Type 0} (P : ℕ → Type 0) (result : Result (Option ℕ) F) → IfOk result (λ found. MayPack p bytes found before after q)
+      → ((n : ℕ) → PacksInto p bytes n before after q → P n) → IfOk result (λ found. IfSome found P)
+  on_packed P (Ok (Some n)) into each = each n into
+  on_packed P (Ok None) none each = tt
+  on_packed P (Err refused) may each = tt
+
+-- the reading with the record behind those in front
+pub packed_takes : (r new : Reading) (bytes : List ℕ) (n : ℕ) (before after : List Record) → PacksInto r.progress bytes n before after new.progress
+    → r.fault ≡ None → r.pending ≡ [] → r.records ≡ [] → IsSound r.progress → new ≡ record r { progress = new.progress }
+    → TakesPart (with_front [] before r) bytes (Ok n) (with_front [] after new)
+packed_takes r new bytes n before after into fine empty none sound same =
+    let behind : after ++ r.records ≡ (before ++ r.records) ++ into.item ∷ [] =
+    ap (λ (rs : List Record). after ++ rs) none ∙ append-nil after ∙ into.is_kept
+    ∙ ap (λ (rs : List Record). rs ++ into.item ∷ []) (sym (ap (λ (rs : List Record). before ++ rs) none ∙ append-nil before)) in
+    let is : with_front [] after new ≡ record (with_front [] before r) { progress = counted r.progress n into.item.log; records = (before ++ r.records) ++ into.item ∷ [] } =
+    ap (with_front [] after) same
+    ∙ ap (λ (q : Progress). with_front [] after (record r { progress = q })) into.is_counted
+    ∙ ap (λ (rs : List Record). record r { progress = counted r.progress n into.item.log; records = rs }) behind in
+    taken_at_once (with_front [] before r) (with_front [] after new) bytes into.item n fine empty into.stage into.whole sound is
+
+-- what follows of both answers, where there is one
+pub both : {A F : Type 0} {P S : A → Type 0} {Q : Type 0} (result : Result A F) → IfOk result P → OnOk result Q → ((a : A) → P a → Q → S a) → IfOk result S
+both (Ok a) p q each = each a p q
+both (Err refused) p q each = tt
+
+pub then : {A F : Type 0} {Q S : Type 0} (result : Result A F) → OnOk result Q → (Q → S) → OnOk result S
+then (Ok a) q each = each q
+then (Err refused) q each = tt

@@ -1,0 +1,206 @@
+//! Event records in the form of their bytes.
+
+ghost use Rattle.std.specs.Prelude.{◌≡◌, ◌<◌, ◌≤◌, ◌+◌, ◌++◌, ◌∷◌, ◌↔◌, [], IsTrue, OnOk, length, take, drop, slice_index_or};
+ghost use Rattle.lf_rules.specs.declared.event.Record.{Record};
+ghost use Rattle.lf_codec.specs.Steps.{fixed_len, record_of};
+ghost use Rattle.lf_codec.specs.Sound.{IsInRange, most_data};
+ghost use Rattle.lf_codec.specs.Packed.{AreParts, parts_record};
+
+use crate::event::{event_at, put_bytes};
+use crate::header::Header;
+use crate::stage::{Head, Kind};
+use crate::step::fixed_len;
+use lf_rules::{NoMemory, Record};
+use std::alloc::Global;
+use std::marker::Model;
+
+/// Where the fixed part of a record and the bytes that its event carries stand, one behind the other.
+#[derive(Drop)]
+struct Parts {
+    head: Head,
+    at: usize,
+    len: usize,
+}
+
+/// The parts of a record, or the record elsewhere.
+#[derive(Drop)]
+enum Form {
+    Parts(Parts),
+    Apart(Box<Record>),
+}
+
+/// Event records that a reader found, in the form of their bytes: most take less than a fifth of the room
+/// of a `Record`, which has room for a second-level block. One that was put together from several pieces is kept whole.
+#[derive(Drop)]
+pub struct Packed {
+    alloc: Global,
+    header: Header,
+    bytes: Vec<u8>,
+    forms: Vec<Form>,
+}
+
+impl Model for Packed {
+    ghost use Rattle.lf_codec.specs.Packed.{PackedRecords, records_in_forms, AreWithin};
+
+    ghost Value = { PackedRecords };
+
+    ghost view = { λ p. record { header = p.header; records = records_in_forms p.header p.bytes.items p.forms.items } };
+
+    ghost invariant = { λ p. AreWithin p.header p.bytes.items p.forms.items };
+}
+
+/// Builds the record of a head of this kind and of its parts, in the place.
+#[inline(always)]
+fn build(header: &Header, kind: Kind, head: Head, parts: &[u8], place: &mut Record)
+    requires kind { kind ≡ head.kind }
+    requires parts { AreParts header.now head.kind parts.now }
+    ensures { place.new ≡ parts_record header.now head parts.now }
+{
+    let (fixed, carried) = parts.split_at(fixed_len(header, kind));
+    place.log = head.log;
+    place.bank = head.bank;
+    place.number = head.number;
+    place.event = event_at(header, kind, fixed, &[]);
+    put_bytes(&mut place.event, carried);
+}
+
+/// The same of any kind. Each call of `build` names its kind, so that its code has its own lengths.
+fn unpack(header: &Header, head: Head, parts: &[u8], place: &mut Record)
+    requires { AreParts header.now head.kind parts.now }
+    ensures { place.new ≡ parts_record header.now head parts.now }
+{
+    match head.kind {
+        Kind::Issue => build(header, Kind::Issue, head, parts, place),
+        Kind::Reply => build(header, Kind::Reply, head, parts, place),
+        Kind::Hit => build(header, Kind::Hit, head, parts, place),
+        Kind::Primary => build(header, Kind::Primary, head, parts, place),
+        Kind::Merge => build(header, Kind::Merge, head, parts, place),
+        Kind::Stall => build(header, Kind::Stall, head, parts, place),
+        Kind::Fill1 => build(header, Kind::Fill1, head, parts, place),
+        Kind::Evict1 => build(header, Kind::Evict1, head, parts, place),
+        Kind::SecondHit => build(header, Kind::SecondHit, head, parts, place),
+        Kind::SecondPrimary => build(header, Kind::SecondPrimary, head, parts, place),
+        Kind::SecondStall => build(header, Kind::SecondStall, head, parts, place),
+        Kind::Fill2 => build(header, Kind::Fill2, head, parts, place),
+        Kind::Evict2 => build(header, Kind::Evict2, head, parts, place),
+        Kind::Fence => build(header, Kind::Fence, head, parts, place),
+        Kind::SecondMerge => build(header, Kind::SecondMerge, head, parts, place),
+    }
+}
+
+impl Packed {
+    /// No record. It takes no memory.
+    pub fn new(alloc: Global) -> Packed
+        ensures { result.records ≡ [] }
+    {
+        Packed {
+            alloc,
+            header: Header {
+                version: 1,
+                ports: 1,
+                banks: 1,
+                block: 1,
+                factor: 1,
+                memory_count: 0,
+            },
+            bytes: Vec::new(alloc),
+            forms: Vec::new(alloc),
+        }
+    }
+
+    /// How many records there are.
+    pub fn len(&self) -> usize
+        ensures { result ≡ length self.now.records }
+    {
+        self.forms.len()
+    }
+
+    /// Whether there is none.
+    pub fn is_empty(&self) -> bool
+        ensures { IsTrue result ↔ (self.now.records ≡ []) }
+    {
+        self.forms.is_empty()
+    }
+
+    /// Lets all records go, and keeps the room for others.
+    pub fn clear(&mut self)
+        ensures { self.new.records ≡ [] }
+    {
+        self.forms.clear();
+        self.bytes.clear();
+    }
+
+    /// Whether records under this header can be kept by their parts. There is one header at a time.
+    pub(crate) fn takes(&mut self, header: &Header) -> bool
+        ensures records { self.new.records ≡ self.old.records }
+        ensures header { IsTrue result → self.new.header ≡ header.now }
+    {
+        if self.forms.is_empty() {
+            self.header = *header;
+        }
+        self.header == *header
+    }
+
+    /// Keeps a record by its parts.
+    #[inline(always)]
+    pub(crate) fn push_parts(&mut self, head: Head, parts: &[u8]) -> Result<(), NoMemory>
+        requires range { IsInRange self.old.header }
+        requires parts { AreParts self.old.header head.kind parts.now }
+        ensures { OnOk result (self.new.records ≡ self.old.records ++ parts_record self.old.header head parts.now ∷ []) }
+    {
+        let at = self.bytes.as_slice().len();
+        self.bytes.extend_from_slice(parts)?;
+        self.forms.push(Form::Parts(Parts {
+            head,
+            at,
+            len: parts.len(),
+        }))?;
+        Ok(())
+    }
+
+    /// Keeps a record whole. `NoMemory` where a growth was refused.
+    pub fn push(&mut self, item: Record) -> Result<(), NoMemory>
+        ensures { OnOk result (self.new.records ≡ self.old.records ++ item ∷ []) }
+    {
+        let apart = Box::new(self.alloc, item)?;
+        self.forms.push(Form::Apart(apart))?;
+        Ok(())
+    }
+
+    /// The bank that the record names.
+    pub fn bank(&self, at: usize) -> u8
+        requires { at < length self.now.records }
+        ensures { (d : Record) → result ≡ (slice_index_or self.now.records at d).bank }
+    {
+        match &self.forms[at] {
+            Form::Parts(parts) => parts.head.bank,
+            Form::Apart(item) => item.bank,
+        }
+    }
+
+    /// The log of the record.
+    pub fn log(&self, at: usize) -> u8
+        requires { at < length self.now.records }
+        ensures { (d : Record) → result ≡ (slice_index_or self.now.records at d).log }
+    {
+        match &self.forms[at] {
+            Form::Parts(parts) => parts.head.log,
+            Form::Apart(item) => item.log,
+        }
+    }
+
+    /// The record, which is built in `place` where it is kept by its parts.
+    pub fn lend<'a>(&'a self, at: usize, place: &'a mut Record) -> &'a Record
+        requires { at < length self.now.records }
+        ensures { (d : Record) → result.now ≡ slice_index_or self.now.records at d }
+    {
+        match &self.forms[at] {
+            Form::Parts(parts) => {
+                let bytes = &self.bytes[parts.at..parts.at + parts.len];
+                unpack(&self.header, parts.head, bytes, place);
+                place
+            }
+            Form::Apart(item) => item,
+        }
+    }
+}
