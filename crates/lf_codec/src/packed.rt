@@ -130,14 +130,21 @@ impl Packed {
         self.bytes.clear();
     }
 
-    /// Whether records under this header can be kept by their parts. There is one header at a time.
-    pub(crate) fn takes(&mut self, header: &Header) -> bool
-        ensures records { self.new.records ≡ self.old.records }
-        ensures header { IsTrue result → self.new.header ≡ header.now }
+    /// From now on parts are kept under this header, where there is no record. There is one header at a time.
+    pub(crate) fn take_header(&mut self, header: &Header)
+        ensures { self.new.records ≡ self.old.records }
     {
         if self.forms.is_empty() {
             self.header = *header;
         }
+    }
+
+    /// Whether records under this header can be kept by their parts.
+    pub(crate) fn takes(&mut self, header: &Header) -> bool
+        ensures records { self.new.records ≡ self.old.records }
+        ensures header { IsTrue result → self.new.header ≡ header.now }
+    {
+        self.take_header(header);
         self.header == *header
     }
 
@@ -186,6 +193,17 @@ impl Packed {
         match &self.forms[at] {
             Form::Parts(parts) => parts.head.log,
             Form::Apart(item) => item.log,
+        }
+    }
+
+    /// The record's number.
+    pub fn number(&self, at: usize) -> u32
+        requires { at < length self.now.records }
+        ensures { (d : Record) → result ≡ (slice_index_or self.now.records at d).number }
+    {
+        match &self.forms[at] {
+            Form::Parts(parts) => parts.head.number,
+            Form::Apart(item) => item.number,
         }
     }
 
