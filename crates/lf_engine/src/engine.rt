@@ -23,7 +23,7 @@ use crate::output::put;
 use lf_codec::{exact_reading, fault_so_far, faults_stand};
 use lf_config::{ConfigFault, read};
 use lf_rules::Shape;
-use lf_verdict::{Refusal, Session, Verdict, is_worker_count, no_has_no_run};
+use lf_verdict::{ParallelSession, Refusal, Verdict, is_worker_count, no_has_no_run};
 use std::alloc::{AllocError, Global};
 use std::io::{Read, Write};
 use std::thread::Threads;
@@ -39,7 +39,7 @@ pub fn are_workers(workers: u32) -> bool
 }
 
 /// Reads and judges.
-fn judge<T: AllocGlobal + Threads + Sync, R: Read>(
+fn judge<T: AllocGlobal + Threads + Sync + Send + Copy + 'static, R: Read>(
     rt: &T,
     reader: &mut Counted<R>,
     shape: &Shape,
@@ -55,16 +55,12 @@ fn judge<T: AllocGlobal + Threads + Sync, R: Read>(
     let Ok(mut buffer) = zeros(rt.alloc(), PIECE) else {
         return Ok(Verdict::Refused(Refusal::Memory));
     };
-    let mut session = Session::for_shape(rt.alloc(), shape);
-    match gather(
-        rt,
-        reader,
-        buffer.as_mut_slice(),
-        &mut session,
-        workers,
-        turns,
-    ) {
-        Ok(()) => Ok(session.finish()),
+    let mut session = ParallelSession::for_shape(rt.alloc(), shape, workers);
+    let gathered = gather(rt, reader, buffer.as_mut_slice(), &mut session, turns);
+    // Also after a failed read, so that no thread is left at work.
+    let verdict = session.finish(rt);
+    match gathered {
+        Ok(()) => Ok(verdict),
         Err(Stop::Memory) => Ok(Verdict::Refused(Refusal::Memory)),
         Err(Stop::Read) => Err(RunFault::Read),
         Err(Stop::Turns) => Err(RunFault::Turns),
@@ -72,7 +68,7 @@ fn judge<T: AllocGlobal + Threads + Sync, R: Read>(
 }
 
 /// Judges the workers, and only then reads.
-fn decide<T: AllocGlobal + Threads + Sync, R: Read>(
+fn decide<T: AllocGlobal + Threads + Sync + Send + Copy + 'static, R: Read>(
     rt: &T,
     reader: &mut Counted<R>,
     shape: &Shape,
@@ -117,7 +113,7 @@ pub fn shape_for(alloc: Global, config: &str, workers: u32) -> Result<Shape, Ref
 }
 
 /// Judges the workers and the configuration, and only then reads.
-fn decide_configured<T: AllocGlobal + Threads + Sync, R: Read>(
+fn decide_configured<T: AllocGlobal + Threads + Sync + Send + Copy + 'static, R: Read>(
     rt: &T,
     reader: &mut Counted<R>,
     config: &str,
@@ -183,7 +179,7 @@ pub fn tell<W: Write>(
 /// `RunFault::Read` says that a read failed, and `RunFault::Turns` that the turns were used up before
 /// the trace was read: then the line is `refused read trace`. `RunFault::Write` says that a write
 /// failed: what went out is the beginning of the line.
-pub fn run_shape<T: AllocGlobal + Threads + Sync, R: Read, W: Write>(
+pub fn run_shape<T: AllocGlobal + Threads + Sync + Send + Copy + 'static, R: Read, W: Write>(
     rt: &T,
     reader: &mut Counted<R>,
     writer: &mut Counted<W>,
@@ -214,7 +210,7 @@ pub fn run_shape<T: AllocGlobal + Threads + Sync, R: Read, W: Write>(
 /// `RunFault::Read` says that a read failed, and `RunFault::Turns` that the turns were used up before
 /// the trace was read: then the line is `refused read trace`. `RunFault::Write` says that a write
 /// failed: what went out is the beginning of the line.
-pub fn run<T: AllocGlobal + Threads + Sync, R: Read, W: Write>(
+pub fn run<T: AllocGlobal + Threads + Sync + Send + Copy + 'static, R: Read, W: Write>(
     rt: &T,
     reader: &mut Counted<R>,
     writer: &mut Counted<W>,

@@ -13,7 +13,7 @@ ghost use Rattle.lf_engine.specs.Run.{GaveSound, HasFedAll, piece_len};
 use crate::counted::Counted;
 use lf_codec::{Told, fault_so_far};
 use lf_rules::NoMemory;
-use lf_verdict::{Refusal, Session};
+use lf_verdict::{ParallelSession, Refusal, Session};
 use std::alloc::{AllocError, Global};
 use std::io::{ErrorKind, Read};
 use std::thread::Threads;
@@ -63,11 +63,10 @@ pub fn feed(session: &mut Session, piece: &[u8]) -> Result<bool, NoMemory>
     has_fault(session.feed(piece))
 }
 
-/// The same by so many workers.
-pub fn feed_by<T: Threads + Sync>(
-    session: &mut Session,
+/// The same by several workers.
+pub fn feed_by<T: Threads + Sync + Send + Copy + 'static>(
+    session: &mut ParallelSession,
     rt: &T,
-    workers: u32,
     piece: &[u8],
 ) -> Result<bool, NoMemory>
     ensures shape { session.new.shape ≡ session.old.shape }
@@ -75,18 +74,17 @@ pub fn feed_by<T: Threads + Sync>(
     ensures told { (bytes : List ℕ) → HasFed session.old bytes → IfOk result (λ broken. IsTrue broken ↔ HasFault (bytes ++ piece.now)) }
     ensures are_bytes { (bytes : List ℕ) → AreBytes bytes → AreBytes (bytes ++ piece.now) }
 {
-    has_fault(session.feed_by(rt, workers, piece))
+    has_fault(session.feed(rt, piece))
 }
 
 /// Reads pieces, each at most as long as the buffer, and hands them to the session, until a read gives
 /// no bytes or a fault stands in what was read. Each read is a turn, also one that is interrupted,
-/// which is tried again. The session is fed by so many workers.
-pub fn gather<T: Threads + Sync, R: Read>(
+/// which is tried again.
+pub fn gather<T: Threads + Sync + Send + Copy + 'static, R: Read>(
     rt: &T,
     reader: &mut Counted<R>,
     buffer: &mut [u8],
-    session: &mut Session,
-    workers: u32,
+    session: &mut ParallelSession,
     turns: u32,
 ) -> Result<(), Stop>
     requires calls { calls_of reader.old ≡ 0 }
@@ -105,7 +103,7 @@ pub fn gather<T: Threads + Sync, R: Read>(
     for _turn in 0..turns {
         match reader.read(buffer) {
             Ok(0) => return Ok(()),
-            Ok(n) => match feed_by(session, rt, workers, &buffer[..n]) {
+            Ok(n) => match feed_by(session, rt, &buffer[..n]) {
                 Ok(false) => {}
                 Ok(true) => return Ok(()),
                 Err(_) => return Err(Stop::Memory),

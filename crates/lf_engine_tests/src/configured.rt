@@ -11,7 +11,7 @@ use std::test::Fail;
 use std::thread::Threads;
 
 /// Fails where the engine reads, or writes another line, for this configuration.
-fn assert_unread<T: Abort + AllocGlobal + Threads + Sync>(
+fn assert_unread<T: Abort + AllocGlobal + Threads + Sync + Send + Copy + 'static>(
     rt: &T,
     config: &str,
     workers: u32,
@@ -30,7 +30,7 @@ fn assert_unread<T: Abort + AllocGlobal + Threads + Sync>(
 }
 
 /// Fails where the engine reads, or writes another line, for `C1_TEXT` with other words in this place.
-fn assert_unread_with<T: Abort + AllocGlobal + Threads + Sync>(
+fn assert_unread_with<T: Abort + AllocGlobal + Threads + Sync + Send + Copy + 'static>(
     rt: &T,
     old: &str,
     new: &str,
@@ -101,7 +101,7 @@ fn judged_for_a_configuration(rt: HostRuntime) -> Result<(), Fail> {
 }
 
 /// Fails where the engine writes another line for loads of block 0 with these numbers.
-fn assert_numbered<T: Abort + AllocGlobal + Threads + Sync>(
+fn assert_numbered<T: Abort + AllocGlobal + Threads + Sync + Send + Copy + 'static>(
     rt: &T,
     numbers: &[u32],
     line: &str,

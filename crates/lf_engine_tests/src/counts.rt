@@ -34,7 +34,7 @@ fn memory_count_without_bytes(rt: HostRuntime) -> Result<(), Fail> {
 }
 
 /// Fails where the engine writes another line of what never ends, or makes another number of reads.
-fn assert_endless<T: Abort + AllocGlobal + Threads + Sync>(
+fn assert_endless<T: Abort + AllocGlobal + Threads + Sync + Send + Copy + 'static>(
     rt: &T,
     reader: Endless<'_>,
     line: &str,

@@ -16,7 +16,7 @@ const TWO_PORTS_BLOCKS_OF_16: Shape = Shape {
 };
 
 /// Fails where another line is written of these bytes with another byte at one place.
-fn assert_changed<T: Abort + AllocGlobal + Threads + Sync>(
+fn assert_changed<T: Abort + AllocGlobal + Threads + Sync + Send + Copy + 'static>(
     rt: &T,
     bytes: &[u8],
     at: usize,

@@ -117,7 +117,7 @@ fn cycle_of_two_logs(rt: HostRuntime) -> Result<(), Fail> {
 }
 
 /// Fails where another line is written of loads with these numbers.
-fn assert_numbered<T: Abort + AllocGlobal + Threads + Sync>(
+fn assert_numbered<T: Abort + AllocGlobal + Threads + Sync + Send + Copy + 'static>(
     rt: &T,
     numbers: &[u32],
     line: &str,

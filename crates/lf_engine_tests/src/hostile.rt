@@ -13,7 +13,7 @@ const YES: &str = "yes events=6\n";
 const NOT_READ: &str = "refused read trace\n";
 
 /// Fails where the engine, with so many turns, comes to another fault or writes another line.
-fn assert_run<T: Abort + AllocGlobal + Threads + Sync>(
+fn assert_run<T: Abort + AllocGlobal + Threads + Sync + Send + Copy + 'static>(
     rt: &T,
     reader: Pieces<'_>,
     turns: u32,

@@ -11,7 +11,7 @@ use std::test::Fail;
 use std::thread::Threads;
 
 /// Fails where another line is written of these bytes by so many workers.
-pub fn assert_line_by<T: Abort + AllocGlobal + Threads + Sync>(
+pub fn assert_line_by<T: Abort + AllocGlobal + Threads + Sync + Send + Copy + 'static>(
     rt: &T,
     shape: &Shape,
     bytes: &[u8],
@@ -29,7 +29,7 @@ pub fn assert_line_by<T: Abort + AllocGlobal + Threads + Sync>(
 }
 
 /// Fails where another line is written of these bytes by one worker.
-pub fn assert_line<T: Abort + AllocGlobal + Threads + Sync>(
+pub fn assert_line<T: Abort + AllocGlobal + Threads + Sync + Send + Copy + 'static>(
     rt: &T,
     shape: &Shape,
     bytes: &[u8],
@@ -41,7 +41,7 @@ pub fn assert_line<T: Abort + AllocGlobal + Threads + Sync>(
 }
 
 /// The same for the trace of these events of port 0 and bank 0.
-pub fn assert_told<T: Abort + AllocGlobal + Threads + Sync>(
+pub fn assert_told<T: Abort + AllocGlobal + Threads + Sync + Send + Copy + 'static>(
     rt: &T,
     shape: &Shape,
     parts: &[&str],
@@ -54,7 +54,7 @@ pub fn assert_told<T: Abort + AllocGlobal + Threads + Sync>(
 }
 
 /// Fails where another line is written of these bytes for the configuration.
-pub fn assert_configured<T: Abort + AllocGlobal + Threads + Sync>(
+pub fn assert_configured<T: Abort + AllocGlobal + Threads + Sync + Send + Copy + 'static>(
     rt: &T,
     config: &str,
     bytes: &[u8],

@@ -12,7 +12,7 @@ use std::process::Abort;
 use std::test::Fail;
 use std::thread::Threads;
 
-fn assert_fenced<T: Abort + AllocGlobal + Threads + Sync>(
+fn assert_fenced<T: Abort + AllocGlobal + Threads + Sync + Send + Copy + 'static>(
     rt: &T,
     parts: &[&str],
     line: &str,
@@ -62,7 +62,7 @@ fn first_version_as_later_ones(rt: HostRuntime) -> Result<(), Fail> {
     Ok(())
 }
 
-fn assert_wide_of<T: Abort + AllocGlobal + Threads + Sync>(
+fn assert_wide_of<T: Abort + AllocGlobal + Threads + Sync + Send + Copy + 'static>(
     rt: &T,
     shape: &Shape,
     parts: &[&str],
@@ -75,7 +75,7 @@ fn assert_wide_of<T: Abort + AllocGlobal + Threads + Sync>(
 }
 
 /// Fails where the line for `C2` is another.
-fn assert_wide<T: Abort + AllocGlobal + Threads + Sync>(
+fn assert_wide<T: Abort + AllocGlobal + Threads + Sync + Send + Copy + 'static>(
     rt: &T,
     parts: &[&str],
     line: &str,

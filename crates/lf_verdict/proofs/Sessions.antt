@@ -21,7 +21,6 @@ use Rattle.std.proofs.lemmas.Bool.{cases_lt}
 use Rattle.lf_verdict.proofs.Pieces.{fault_told}
 use Rattle.lf_verdict.proofs.Traces.{fits_shape}
 use Rattle.lf_verdict.proofs.Answered.{limit_is_small}
-use Rattle.lf_verdict.proofs.Pendings.{none_pending}
 use Rattle.lf_codec.specs.Reading.{Reading, reading_of, fault_so_far, header_now, header_of}
 use Rattle.lf_codec.specs.Reader.{HasRead, RanOut, told, fault_in, with_record}
 use Rattle.lf_codec.specs.Trace.{IsTrace, FitsIn}
@@ -30,12 +29,12 @@ use Rattle.lf_verdict.specs.declared.answer.HeaderField.{HeaderField}
 use Rattle.lf_verdict.specs.declared.intake.Intake.{Intake}
 use Rattle.lf_verdict.specs.declared.intake.Stop.{Stop}
 use Rattle.lf_verdict.specs.declared.intake.Stop.TheVariants as stops
-use Rattle.lf_verdict.specs.declared.pending.Pending.{Pending}
+use Rattle.lf_verdict.specs.declared.standing.Standing.{Standing}
 use Rattle.lf_verdict.specs.Legal.{Agrees, IsTraceFor}
 use Rattle.lf_verdict.specs.Judging.{IsVerdictOrWant}
 use Rattle.lf_verdict.specs.Reading.{IsFaultOrWant}
-use Rattle.lf_verdict.specs.Standing.{MayCome, MayAllCome, IsShort, StandsAfterAll, IsPendingAfter, logs_so_far}
-use Rattle.lf_verdict.specs.Session.{IsRunning, IsOfAnotherHeader, IsJudging, HasJudged, HasFedUntil, HasTaken, IsLacking, IsDrained, HasFed, refusal_of, stop_told, IsRefusalSoFar, IsStopOf}
+use Rattle.lf_verdict.specs.Standing.{MayCome, MayAllCome, IsShort, StandsAfterAll, logs_so_far}
+use Rattle.lf_verdict.specs.Session.{IsRunning, IsOfAnotherHeader, IsJudging, HasJudged, HasFedUntil, HasTaken, IsLacking, HasFed, refusal_of, stop_told, IsRefusalSoFar, IsStopOf}
 use Rattle.lf_verdict.specs.declared.answer.Refusal.{Refusal}
 use Rattle.lf_codec.specs.declared.fault.Told.TheVariants as tolds
 use Rattle.std.specs.Prelude.{IsSome}
@@ -56,7 +55,7 @@ one_of_log xs r ys =
     let own = cond-true (r.log == r.log) (r ∷ of_log r.log ys) (of_log r.log ys) (eq-eqb r.log r.log refl) in
     omega (arith, ap length whole, length-append (of_log r.log xs) (of_log r.log (r ∷ ys)), ap length own)
 
-pub may_come : WhatIsReadFits → (shape : Shape) (bytes : List ℕ) (memory : List (ℕ × Bytes)) (records : List Record) (r : Reading) (running : Pending) (item : Record) (rest : List Record)
+pub may_come : WhatIsReadFits → (shape : Shape) (bytes : List ℕ) (memory : List (ℕ × Bytes)) (records : List Record) (r : Reading) (running : Standing) (item : Record) (rest : List Record)
     → HasRead r bytes memory records → IsRunning shape bytes memory records running → r.records ≡ item ∷ rest → MayCome shape records item
 may_come law shape bytes memory records r running item rest read run next =
     let fits = law bytes run.header read.are_bytes run.read in
@@ -66,10 +65,10 @@ may_come law shape bytes memory records r running item rest read run next =
       room = omega (arith, limit_is_small run.header.version, one_of_log records item rest, ap (λ (xs : List Record). length (of_log item.log xs)) all, fits.logs item.log);
     }
 
-pub running_more : (shape : Shape) (bytes : List ℕ) (memory : List (ℕ × Bytes)) (records more : List Record) (old new : Pending) → IsRunning shape bytes memory records old
-    → new.records.items ≡ [] → StandsAfterAll shape (flat_memory memory) more new.standing → IsRunning shape bytes memory more new
-running_more shape bytes memory records more old new running none stands =
-    record { header = running.header; read = running.read; agrees = running.agrees; whole = running.whole; stands = none_pending shape (flat_memory memory) more new none stands }
+pub running_more : (shape : Shape) (bytes : List ℕ) (memory : List (ℕ × Bytes)) (records more : List Record) (old new : Standing) → IsRunning shape bytes memory records old
+    → StandsAfterAll shape (flat_memory memory) more new → IsRunning shape bytes memory more new
+running_more shape bytes memory records more old new running stands =
+    record { header = running.header; read = running.read; agrees = running.agrees; whole = running.whole; stands = stands }
 
 -- where it ends well
 pub on_ok : {F : Type 0} {P Q : Type 0} (result : Result (Unit {0}) F) → OnOk result P → (P → Q) → OnOk result Q
@@ -77,7 +76,7 @@ on_ok (Ok u) p f = f p
 on_ok (Err e) p f = tt
 
 -- the record that the reader gave last may come
-pub place_may_come : WhatIsReadFits → (shape : Shape) (bytes : List ℕ) (memory : List (ℕ × Bytes)) (records : List Record) (r : Reading) (running : Pending) (place : Option Record)
+pub place_may_come : WhatIsReadFits → (shape : Shape) (bytes : List ℕ) (memory : List (ℕ × Bytes)) (records : List Record) (r : Reading) (running : Standing) (place : Option Record)
     → HasRead (with_record place r) bytes memory records → IsRunning shape bytes memory records running → MayAllCome shape records (option_to_list place)
 place_may_come law shape bytes memory records r running None read run = tt
 place_may_come law shape bytes memory records r running (Some item) read run = (may_come law shape bytes memory records (with_record (Some item) r) running item r.records read run refl, tt)
@@ -91,7 +90,7 @@ given_one r place bytes memory records read = record {
 }
 
 -- all that the reader has found may come
-pub may_all_come : WhatIsReadFits → (shape : Shape) (bytes : List ℕ) (memory : List (ℕ × Bytes)) (records : List Record) (r : Reading) (running : Pending)
+pub may_all_come : WhatIsReadFits → (shape : Shape) (bytes : List ℕ) (memory : List (ℕ × Bytes)) (records : List Record) (r : Reading) (running : Standing)
     → HasRead r bytes memory records → IsRunning shape bytes memory records running → MayAllCome shape records r.records
 may_all_come law shape bytes memory records r running read run =
     let fits = law bytes run.header read.are_bytes run.read in
@@ -132,7 +131,7 @@ module _ (exact : ReadingIsExact) (shape : Shape) (bytes : List ℕ) (are_bytes 
     differs = subst (λ (g : Header). Differs shape g field) (same_header other.header other.read) other.differs;
   }
 
-  module _ (running : Pending) (run : IsRunning shape bytes memory records running) (drained : rest ≡ []) where
+  module _ (running : Standing) (run : IsRunning shape bytes memory records running) (drained : rest ≡ []) where
     none_left : left ≡ []
     none_left =
         let one = same_header run.header run.read in
@@ -166,7 +165,7 @@ waiting_any shape bytes a b records judging e h =
     subst (λ (j : Judging). IsJudging shape bytes b records j) (sym e) (subst (λ (j : Judging). IsJudging shape bytes a records j) e h)
 
 -- what a session that nothing stopped has taken
-pub going : (s : Intake) (bytes : List ℕ) → s.stop ≡ None → HasFed s bytes → HasTaken s bytes × IsDrained s.judging s.reader s.memory.items
+pub going : (s : Intake) (bytes : List ℕ) → s.stop ≡ None → HasFed s bytes → HasTaken s bytes
 going s bytes e fed = subst (λ (stop : Option Stop). HasFedUntil s bytes stop) e fed
 
 -- ---- what stands in the bytes so far
@@ -174,7 +173,7 @@ going s bytes e fed = subst (λ (stop : Option Stop). HasFedUntil s bytes stop) 
 -- a session that nothing stopped was fed bytes without a fault
 pub no_fault_so_far : (s : Intake) (bytes : List ℕ) → s.stop ≡ None → HasFed s bytes → fault_so_far bytes ≡ None
 no_fault_so_far s bytes e fed =
-    let m = (going s bytes e fed).0 in
+    let m = going s bytes e fed in
     ap (λ (q : Reading). q.fault) m.1.read.same ∙ m.1.fine
 
 pub refusal_so_far : (s : Intake) (bytes : List ℕ) (stop : Stop) → HasFedUntil s bytes (Some stop) → IsRefusalSoFar bytes (refusal_of stop)
@@ -255,26 +254,3 @@ judged_feed law s bytes piece records new was read fine = record { in_range = wa
     go Waiting h = h
     go (Running running) h = record { header = h.header; read = header_stays law bytes piece h.header h.read; agrees = h.agrees; whole = h.whole; stands = h.stands }
     go (Another field) h = record { header = h.header; read = header_stays law bytes piece h.header h.read; differs = h.differs }
-
--- a piece was read, all records before it were judged, and its own wait
-pub fed_beside : HeaderIsOfItsBytes → WhatIsReadFits → (s : Intake) (bytes piece : List ℕ) (records : List Record) (r swapped : Reading) (old new : Pending) → s.stop ≡ None → HasJudged s bytes records
-    → IsRunning s.shape bytes s.memory.items records old → HasRead r (bytes ++ piece) s.memory.items records → r.fault ≡ None
-    → StandsAfterAll s.shape (flat_memory s.memory.items) records new.standing → new.records.items ≡ r.records
-    → swapped ≡ record r { records = [] } → HasRead swapped (bytes ++ piece) s.memory.items (records ++ r.records)
-    → HasFed (record s { reader = swapped; judging = Running new }) (bytes ++ piece)
-fed_beside law fits s bytes piece records r swapped old new going was run read fine stands gave rest has =
-    let header = header_stays law bytes piece run.header run.read in
-    let further : IsRunning s.shape (bytes ++ piece) s.memory.items records old = record { header = run.header; read = header; agrees = run.agrees; whole = run.whole; stands = run.stands } in
-    let may = may_all_come fits s.shape (bytes ++ piece) s.memory.items records r old read further in
-    let pending : IsPendingAfter s.shape (flat_memory s.memory.items) (records ++ r.records) new = record {
-      done = records;
-      all = ap (λ (xs : List Record). records ++ xs) (sym gave);
-      may_come = subst (MayAllCome s.shape records) (sym gave) may;
-      stands = stands;
-    } in
-    let judging : IsRunning s.shape (bytes ++ piece) s.memory.items (records ++ r.records) new =
-    record { header = run.header; read = header; agrees = run.agrees; whole = run.whole; stands = pending } in
-    let after = record s { reader = swapped; judging = Running new } in
-    let judged : HasJudged after (bytes ++ piece) (records ++ r.records) =
-    record { in_range = was.in_range; read = has; fine = ap (λ (q : Reading). q.fault) rest ∙ fine; judging = judging } in
-    subst (λ (stop : Option Stop). HasFedUntil after (bytes ++ piece) stop) (sym going) ((records ++ r.records, judged), ap (λ (q : Reading). q.records) rest)

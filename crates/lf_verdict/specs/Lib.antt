@@ -5,6 +5,7 @@ pub mod Verdict
 pub mod Text
 pub mod Configured
 pub mod Session
+pub mod Ahead
 pub mod Laws
 pub mod ConfiguredLaws
 pub mod Collected

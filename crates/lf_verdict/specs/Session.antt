@@ -1,5 +1,5 @@
 -- What a session has seen of a trace.
-use Rattle.std.specs.Prelude.{◌≡◌, ◌≢◌, ◌⊎◌, ◌++◌, ℕ, List, [], length, OnOk, Option, Some, None, Result, Ok, Err}
+use Rattle.std.specs.Prelude.{◌≡◌, ◌≢◌, ℕ, List, [], length, Option, Some, None, Result, Ok, Err}
 use Rattle.lf_rules.specs.declared.event.Record.{Record}
 use Rattle.lf_rules.specs.declared.shape.Shape.{Shape}
 use Rattle.lf_rules.specs.Address.{flat_memory}
@@ -10,13 +10,13 @@ use Rattle.lf_codec.specs.declared.fault.Told.{Told}
 use Rattle.lf_codec.specs.declared.fault.Told.TheVariants as tolds
 use Rattle.lf_codec.specs.Laws.{AreBytes}
 use Rattle.lf_codec.specs.Reading.{Reading, header_now, header_of, fault_so_far}
-use Rattle.lf_codec.specs.Reader.{HasRead, RanOut, told}
+use Rattle.lf_codec.specs.Reader.{HasRead, told}
 use Rattle.lf_verdict.specs.declared.intake.Intake.{Intake}
 use Rattle.lf_verdict.specs.declared.intake.Stop.{Stop}
 use Rattle.lf_verdict.specs.declared.intake.Stop.TheVariants as stops
 use Rattle.lf_verdict.specs.declared.intake.Judging.{Judging}
 use Rattle.lf_verdict.specs.declared.intake.Judging.TheVariants.{Waiting, Running, Another}
-use Rattle.lf_verdict.specs.declared.pending.Pending.{Pending}
+use Rattle.lf_verdict.specs.declared.standing.Standing.{Standing}
 use Rattle.lf_verdict.specs.declared.answer.HeaderField.{HeaderField}
 use Rattle.lf_codec.specs.declared.fault.CodecCause.TheVariants.{NoMemory}
 use Rattle.lf_codec.specs.declared.fault.CodecFault.{CodecFault}
@@ -24,16 +24,16 @@ use Rattle.lf_verdict.specs.declared.answer.Refusal.{Refusal}
 use Rattle.lf_verdict.specs.declared.answer.Refusal.TheVariants as refusals
 use Rattle.lf_verdict.specs.Configured.{IsConfigFault}
 use Rattle.lf_verdict.specs.Legal.{Agrees}
-use Rattle.lf_verdict.specs.Standing.{IsPendingAfter}
+use Rattle.lf_verdict.specs.Standing.{StandsAfterAll}
 use Rattle.lf_verdict.specs.Verdict.{Differs}
 
--- The memory is whole and of a header that agrees with the shape, and the parts stand where the records lead, or those before the ones that wait.
-pub record IsRunning (shape : Shape) (bytes : List ℕ) (memory : List (ℕ × Bytes)) (records : List Record) (running : Pending) : Type 0 where
+-- The memory is whole and of a header that agrees with the shape, and the parts stand where the records lead.
+pub record IsRunning (shape : Shape) (bytes : List ℕ) (memory : List (ℕ × Bytes)) (records : List Record) (running : Standing) : Type 0 where
   pub header : Header
   pub read : header_of bytes ≡ Some header
   pub agrees : Agrees shape header
   pub whole : length memory ≡ header.memory_count
-  pub stands : IsPendingAfter shape (flat_memory memory) records running
+  pub stands : StandsAfterAll shape (flat_memory memory) records running
 
 -- The header is of another hierarchy.
 pub record IsOfAnotherHeader (shape : Shape) (bytes : List ℕ) (field : HeaderField) : Type 0 where
@@ -79,9 +79,9 @@ IsDrained Waiting reader memory = IsLacking reader memory
 IsDrained (Running running) reader memory = reader.records ≡ []
 IsDrained (Another field) reader memory = Unit {0}
 
--- Nothing stopped the session and it has judged what it can, or a fault that stands in the bytes stopped it, or want of memory.
+-- Nothing stopped the session and it has judged the records that it took, or a fault that stands in the bytes stopped it, or want of memory.
 abbrev pub HasFedUntil : Intake → List ℕ → Option Stop → Type 0
-HasFedUntil s bytes None = HasTaken s bytes × IsDrained s.judging s.reader s.memory.items
+HasFedUntil s bytes None = HasTaken s bytes
 HasFedUntil s bytes (Some (stops.Format fault)) = (fault_so_far bytes ≡ Some fault) × AreBytes bytes
 HasFedUntil s bytes (Some stops.Memory) = Unit {0}
 
@@ -108,14 +108,6 @@ abbrev pub IsRefusalSoFar : List ℕ → Refusal → Type 0
 IsRefusalSoFar bytes (refusals.Format fault) = fault_so_far bytes ≡ Some fault
 IsRefusalSoFar bytes refusals.Memory = Unit {0}
 IsRefusalSoFar bytes _ = ⊥
-
--- The reader was fed the piece.
-pub record HasReadOn (old : Reading) (piece : List ℕ) (result : Result (Unit {0}) (Told CodecFault)) (new : Reading) : Type 0 where
-  pub is_told : result ≡ told old.fault new.fault
-  pub pieces : (fed : List ℕ) (memory : List (ℕ × Bytes)) (records : List Record) → HasRead old fed memory records
-      → HasRead new (fed ++ piece) memory records ⊎ RanOut new (fed ++ piece) memory records
-  pub ok : OnOk result ((fed : List ℕ) (memory : List (ℕ × Bytes)) (records : List Record) → HasRead old fed memory records
-      → HasRead new (fed ++ piece) memory records)
 
 -- what a fault of the reader stops with
 abbrev pub IsStopOf : CodecFault → Stop → Type 0

@@ -23,7 +23,7 @@ use Rattle.lf_verdict.specs.declared.port_judge.PortJudge.{PortJudge}
 use Rattle.lf_verdict.specs.declared.bank_judge.BankJudge.{BankJudge}
 use Rattle.lf_verdict.specs.declared.entries.Entries.{Entries}
 use Rattle.lf_verdict.specs.declared.standing.Standing.{Standing}
-use Rattle.lf_verdict.specs.declared.pending.Pending.{Pending}
+use Rattle.lf_verdict.specs.declared.batch.Batch.{Batch}
 
 -- ---- one port
 
@@ -99,23 +99,21 @@ pub record StandsAfterAll (shape : Shape) (memory : FlatMemory) (records : List 
   pub banks : (bank : ℕ) (d : BankJudge) → bank < shape.banks
       → IsBankSettled shape (bank_part shape bank memory) bank (of_bank bank records) (log_at given bank) (slice_index_or s.banks.items bank d)
 
--- ---- records that wait
+-- ---- a batch
 
--- These records of the trace came: the last of them wait, and the parts stand where those before them lead.
-pub record IsPendingAfter (shape : Shape) (memory : FlatMemory) (records : List Record) (p : Pending) : Type 0 where
-  pub done : List Record
-  pub all : records ≡ done ++ p.records.items
-  pub may_come : MayAllCome shape done p.records.items
-  pub stands : StandsAfterAll shape memory done p.standing
+-- The parts stand where these records of the trace lead, and those of the batch may come next.
+pub record IsNextBatch (shape : Shape) (memory : FlatMemory) (records : List Record) (b : Batch) : Type 0 where
+  pub may_come : MayAllCome shape records b.records.records
+  pub stands : StandsAfterAll shape memory records b.standing
 
--- Each record was judged and none waits, unless memory ran out.
-abbrev pub JudgesAll : {F : Type 0} → Pending → Result (Unit {0}) F → Pending → Type 0
-JudgesAll before result after = (shape : Shape) (memory : FlatMemory) (records : List Record) → IsPendingAfter shape memory records before
-    → OnOk result (StandsAfterAll shape memory records after.standing × (after.records.items ≡ []))
+-- Each record of the batch was judged and none is left, unless memory ran out.
+abbrev pub JudgesAll : {F : Type 0} → Batch → Result (Unit {0}) F → Batch → Type 0
+JudgesAll before result after = (shape : Shape) (memory : FlatMemory) (records : List Record) → IsNextBatch shape memory records before
+    → OnOk result (StandsAfterAll shape memory (records ++ before.records.records) after.standing × (after.records.records ≡ []))
 
--- Some records of a trace came.
-abbrev pub CanBeJudged : Pending → Type 0
-CanBeJudged p = (shape : Shape) × ((memory : FlatMemory) × ((records : List Record) × IsPendingAfter shape memory records p))
+-- Some records of a trace came before it.
+abbrev pub CanBeJudged : Batch → Type 0
+CanBeJudged b = (shape : Shape) × ((memory : FlatMemory) × ((records : List Record) × IsNextBatch shape memory records b))
 
 -- The bank can be judged on those of the records that are its own.
 pub record CanTakeAll (bank : ℕ) (records : List Record) (judge : BankJudge) : Type 0 where

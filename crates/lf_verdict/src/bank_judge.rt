@@ -13,9 +13,11 @@ ghost use Rattle.std.specs.List.{AllByRecursion};
 ghost use Rattle.lf_rules.specs.Run.{of_bank};
 ghost use Rattle.lf_verdict.specs.Standing.{IsBankAt, IsBankJudged, IsBankSettled, CanTakeAll, TakesAll};
 
+use crate::place::no_record;
+use lf_codec::Packed;
 use lf_logs::Reorder;
 use lf_replay::{BankFault, Step};
-use lf_rules::{Event, Memory, NO_BANK, NoMemory, Outcome, Record, Shape};
+use lf_rules::{Memory, NoMemory, Outcome, Record, Shape};
 use std::alloc::Global;
 
 /// A bank, the records that came before their turn, and the first that broke a rule.
@@ -88,12 +90,7 @@ impl BankJudge {
         ensures { (shape : Shape) (memory : FlatMemory) (bank : ℕ) (came : List Record) (gave : List Record) → IsBankJudged shape memory bank came gave self.old
             → OnOk result ((more : List Record) × IsBankSettled shape memory bank came more self.new) }
     {
-        let mut item = Record {
-            log: 0,
-            bank: NO_BANK,
-            number: 0,
-            event: Event::Fence,
-        };
+        let mut item = no_record();
         while self.order.next_into(&mut item) {
             self.judge(&item)?;
         }
@@ -130,24 +127,25 @@ impl BankJudge {
     }
 
     /// Judges those of the records that are of this bank, in their order.
-    fn take_own(&mut self, bank: usize, records: &[Record]) -> Result<(), NoMemory>
-        requires { CanTakeAll bank records.now self.old }
-        ensures { (shape : Shape) (memory : FlatMemory) (came : List Record) (gave : List Record) → AllByRecursion (Fits shape) records.now
+    fn take_own(&mut self, bank: usize, records: &Packed) -> Result<(), NoMemory>
+        requires { CanTakeAll bank records.now.records self.old }
+        ensures { (shape : Shape) (memory : FlatMemory) (came : List Record) (gave : List Record) → AllByRecursion (Fits shape) records.now.records
             → IsBankSettled shape memory bank came gave self.old
-            → OnOk result ((more : List Record) × IsBankSettled shape memory bank (came ++ of_bank bank records.now) more self.new) }
+            → OnOk result ((more : List Record) × IsBankSettled shape memory bank (came ++ of_bank bank records.now.records) more self.new) }
     {
-        for item in records {
-            if usize::from(item.bank) == bank {
-                self.take(item)?;
+        let mut place = no_record();
+        for at in 0..records.len() {
+            if usize::from(records.bank(at)) == bank {
+                self.take(records.lend(at, &mut place))?;
             }
         }
         Ok(())
     }
 
     /// The same for a thread, which has nobody to tell that memory ran out: then that is the outcome.
-    pub fn take_all(&mut self, bank: usize, records: &[Record])
-        requires { CanTakeAll bank records.now self.old }
-        ensures { TakesAll bank records.now self.old self.new }
+    pub fn take_all(&mut self, bank: usize, records: &Packed)
+        requires { CanTakeAll bank records.now.records self.old }
+        ensures { TakesAll bank records.now.records self.old self.new }
     {
         match self.take_own(bank, records) {
             Ok(()) => {}

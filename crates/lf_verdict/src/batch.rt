@@ -1,49 +1,61 @@
-//! Records that were read and are not judged yet.
+//! Records that were read and are judged together, in threads.
 
-ghost use Rattle.std.specs.Prelude.{◌≡◌, ◌≢◌, ◌<◌, ℕ, List, [], length, slice_index_or, IsTrue};
+ghost use Rattle.std.specs.Prelude.{◌≡◌, ◌≢◌, ◌<◌, ℕ, List, [], length, slice_index_or, IsTrue, IfOk, IfErr};
 ghost use Rattle.lf_rules.specs.declared.outcome.Outcome.{Outcome};
 ghost use Rattle.lf_verdict.specs.declared.bank_judge.BankJudge.{BankJudge};
-ghost use Rattle.lf_rules.specs.declared.shape.Shape.{Shape};
-ghost use Rattle.lf_rules.specs.declared.event.Record.{Record};
-ghost use Rattle.lf_rules.specs.Address.{FlatMemory};
-ghost use Rattle.lf_verdict.specs.Judging.{IsLogsVerdict};
 ghost use Rattle.std.specs.Thread.{IsSync};
-ghost use Rattle.lf_verdict.specs.Standing.{logs_so_far, IsShort, IsPendingAfter, CanBeJudged, JudgesAll, CanEnterAll, EntersAll, CanTakeAll, TakesAll, CanAllTake, AllTake};
+ghost use Rattle.lf_verdict.specs.Standing.{CanBeJudged, JudgesAll, CanEnterAll, EntersAll, CanTakeAll, TakesAll, CanAllTake, AllTake};
 
-use crate::answer::{Refusal, Verdict};
 use crate::bank_judge::BankJudge;
 use crate::entries::Entries;
 use crate::standing::Standing;
-use lf_rules::{NoMemory, Outcome, Record};
+use lf_codec::Packed;
+use lf_rules::{NoMemory, Outcome};
 use std::alloc::Global;
-use std::collections::VecDeque;
-use std::thread::{Threads, for_each_mut, join_mut};
+use std::snapshot::Snapshot;
+use std::thread;
+use std::thread::{Promise, PromisedHandle, Threads, for_each_mut, join_mut};
 
-/// How the parts of a trace stand, and the records that were read and wait to be judged.
+/// How the parts of a trace stand, and the records that come next and are not judged yet.
 #[derive(Drop)]
-pub struct Pending {
+pub struct Batch {
     pub standing: Standing,
-    pub records: VecDeque<Record>,
+    pub records: Packed,
 }
 
+/// A batch once it was judged, and whether memory sufficed.
+#[derive(Drop)]
+pub struct Judged {
+    pub batch: Batch,
+    pub result: Result<(), NoMemory>,
+}
+
+/// The promise of a thread that judges the batch, which is kept here as it was.
+#[derive(Drop)]
+pub struct Judges {
+    pub batch: Snapshot<Batch>,
+}
+
+impl Promise<Judged> for Judges {
+    ghost kept_by = { λ p judged. JudgesAll p.batch.value judged.result judged.batch };
+}
+
+/// A thread that judges a batch and gives it back.
+pub type Lent = PromisedHandle<Judged, Judges>;
+
 /// Each bank is judged on those of the records that are its own, in so many threads.
-fn judge_banks<R: Threads + Sync>(
-    rt: &R,
-    threads: usize,
-    records: &[Record],
-    banks: &mut [BankJudge],
-)
+fn judge_banks<R: Threads + Sync>(rt: &R, threads: usize, records: &Packed, banks: &mut [BankJudge])
     requires threads { 0 < threads }
-    requires each { CanAllTake records.now banks.old }
-    ensures { AllTake records.now banks.old banks.new }
+    requires each { CanAllTake records.now.records banks.old }
+    ensures { AllTake records.now.records banks.old banks.new }
 {
     for_each_mut(
         rt,
         banks,
         threads,
         &|bank: usize, judge: &mut BankJudge|
-            requires { CanTakeAll bank records.now judge.now }
-            ensures { TakesAll bank records.entry.now judge.entry.now judge.exit.now }
+            requires { CanTakeAll bank records.now.records judge.now }
+            ensures { TakesAll bank records.entry.now.records judge.entry.now judge.exit.now }
         { judge.take_all(bank, records) },
     );
 }
@@ -52,25 +64,25 @@ fn judge_banks<R: Threads + Sync>(
 fn enter_beside<R: Threads + Sync>(
     rt: &R,
     threads: usize,
-    records: &[Record],
+    records: &Packed,
     entries: &mut Entries,
     banks: &mut [BankJudge],
 ) -> Result<(), NoMemory>
     requires threads { 0 < threads }
-    requires entries { CanEnterAll records.now entries.old }
-    requires banks { CanAllTake records.now banks.old }
-    ensures entries { EntersAll records.now entries.old result entries.new }
-    ensures banks { AllTake records.now banks.old banks.new }
+    requires entries { CanEnterAll records.now.records entries.old }
+    requires banks { CanAllTake records.now.records banks.old }
+    ensures entries { EntersAll records.now.records entries.old result entries.new }
+    ensures banks { AllTake records.now.records banks.old banks.new }
 {
     let (entered, ()) = join_mut(
         rt,
         &mut || -> Result<(), NoMemory>
-            requires { CanEnterAll records.now entries.now }
-            ensures { EntersAll records.entry.now entries.entry.now result entries.exit.now }
+            requires { CanEnterAll records.now.records entries.now }
+            ensures { EntersAll records.entry.now.records entries.entry.now result entries.exit.now }
         { entries.enter_all(records) },
         &mut ||
-            requires { IsSync R.row × ((0 < threads) × CanAllTake records.now banks.now) }
-            ensures { AllTake records.entry.now banks.entry.now banks.exit.now }
+            requires { IsSync R.row × ((0 < threads) × CanAllTake records.now.records banks.now) }
+            ensures { AllTake records.entry.now.records banks.entry.now banks.exit.now }
         { judge_banks(rt, threads, records, banks) },
     );
     entered
@@ -88,49 +100,25 @@ fn ran_out(banks: &[BankJudge]) -> bool
     false
 }
 
-impl Pending {
+impl Batch {
     /// No record waits.
-    pub fn new(alloc: Global, standing: Standing) -> Pending
+    pub fn new(alloc: Global, standing: Standing) -> Batch
         ensures standing { result.standing ≡ standing }
-        ensures none { result.records.items ≡ [] }
+        ensures none { result.records.records ≡ [] }
     {
-        Pending {
+        Batch {
             standing,
-            records: VecDeque::new(alloc),
+            records: Packed::new(alloc),
         }
     }
 
-    /// Judges the records that wait.
-    pub fn judge(&mut self) -> Result<(), NoMemory>
-        requires { CanBeJudged self.old }
-        ensures { JudgesAll self.old result self.new }
-    {
-        if self.records.is_empty() {
-            return Ok(());
-        }
-        self.judge_waiting()
-    }
-
-    /// Judges the records that wait. It is apart from `judge`, since it has a place for a record, which
-    /// costs time where none waits.
-    #[inline(never)]
-    fn judge_waiting(&mut self) -> Result<(), NoMemory>
-        requires { CanBeJudged self.old }
-        ensures { JudgesAll self.old result self.new }
-    {
-        while let Some(item) = self.records.pop_front() {
-            self.standing.take(&item)?;
-        }
-        Ok(())
-    }
-
-    /// The same in so many threads, one of which enters the records while the others judge the banks.
+    /// Judges the records in so many threads, one of which enters them while the others judge the banks.
     pub fn judge_by<R: Threads + Sync>(&mut self, rt: &R, threads: usize) -> Result<(), NoMemory>
         requires threads { 1 < threads }
-        requires pending { CanBeJudged self.old }
+        requires batch { CanBeJudged self.old }
         ensures { JudgesAll self.old result self.new }
     {
-        let records: &[Record] = self.records.make_contiguous();
+        let records = &self.records;
         let banks = self.standing.banks.as_mut_slice();
         enter_beside(rt, threads - 1, records, &mut self.standing.entries, banks)?;
         if ran_out(&self.standing.banks) {
@@ -140,16 +128,39 @@ impl Pending {
         Ok(())
     }
 
-    /// The verdict of the records so far, as those of a whole trace.
-    pub fn verdict(&mut self, alloc: Global) -> Verdict
-        requires { (shape : Shape) × ((memory : FlatMemory) × ((records : List Record) ×
-            (IsPendingAfter shape memory records self.old × IsShort shape records))) }
-        ensures { (shape : Shape) (memory : FlatMemory) (records : List Record) → IsPendingAfter shape memory records self.old → IsShort shape records
-            → IsLogsVerdict shape memory (logs_so_far shape records) result }
+    /// The batch once it is judged in so many threads.
+    fn judged_by<R: Threads + Sync>(self, rt: &R, threads: usize) -> Judged
+        requires threads { 1 < threads }
+        requires batch { CanBeJudged self }
+        ensures { JudgesAll self result.result result.batch }
     {
-        match self.judge() {
-            Ok(()) => self.standing.verdict(alloc),
-            Err(NoMemory) => Verdict::Refused(Refusal::Memory),
-        }
+        let mut batch = self;
+        let result = batch.judge_by(rt, threads);
+        Judged { batch, result }
+    }
+}
+
+/// Has the batch judged in so many threads while the caller goes on, or at once where no thread can be made.
+pub fn lend<R: Threads + Sync + Send + Copy + 'static>(
+    rt: &R,
+    threads: usize,
+    batch: Batch,
+) -> Result<Lent, Judged>
+    requires threads { 1 < threads }
+    requires batch { CanBeJudged batch }
+    ensures lent { IfOk result (λ lent. lent.promise.batch.value ≡ batch) }
+    ensures judged { IfErr result (λ judged. JudgesAll batch judged.result judged.batch) }
+{
+    let own = *rt;
+    let promise = Judges {
+        batch: Snapshot::of(&batch),
+    };
+    let judge = move || -> Judged
+        requires { IsSync R.row × ((1 < threads) × CanBeJudged batch) }
+        ensures { JudgesAll batch result.result result.batch }
+    { batch.judged_by(&own, threads) };
+    match thread::spawn_with(rt, promise, judge) {
+        Ok(lent) => Ok(lent),
+        Err(refused) => Err((refused.value)()),
     }
 }

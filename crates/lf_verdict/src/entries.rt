@@ -1,11 +1,13 @@
 //! The logs of a trace, kept while their records come.
 
-ghost use Rattle.std.specs.Prelude.{List, [], ◌∷◌, ◌++◌, OnOk};
+ghost use Rattle.std.specs.Prelude.{◌≡◌, ◌<◌, List, [], ◌∷◌, ◌++◌, length, slice_index_or, OnOk};
 ghost use Rattle.lf_rules.specs.declared.shape.Shape.{Shape};
 ghost use Rattle.lf_rules.specs.declared.event.Record.{Record};
 ghost use Rattle.lf_verdict.specs.Standing.{MayCome, AreEntered, CanEnterAll, EntersAll};
 
+use crate::place::no_record;
 use crate::port_judge::PortJudge;
+use lf_codec::Packed;
 use lf_rules::{NoMemory, Record, Skeleton};
 
 /// Each log's entries so far, and how each port stands. No bank is among them, so that records can be
@@ -32,13 +34,31 @@ impl Entries {
         Ok(())
     }
 
-    /// The same of these records. Their banks need not have seen them.
-    pub fn enter_all(&mut self, records: &[Record]) -> Result<(), NoMemory>
-        requires { CanEnterAll records.now self.old }
-        ensures { EntersAll records.now self.old result self.new }
+    /// The same of the record at this place. It is built in `place` only where a port judges it.
+    fn enter_at(&mut self, records: &Packed, at: usize, place: &mut Record) -> Result<(), NoMemory>
+        requires within { at < length records.now.records }
+        requires next { (shape : Shape) × ((before : List Record) × ((item : Record) × ((item ≡ slice_index_or records.now.records at item)
+            × (MayCome shape before item × AreEntered shape before self.old)))) }
+        ensures { (shape : Shape) (before : List Record) (item : Record) → item ≡ slice_index_or records.now.records at item
+            → MayCome shape before item → AreEntered shape before self.old
+            → OnOk result (AreEntered shape (before ++ item ∷ []) self.new) }
     {
-        for item in records {
-            self.enter(item)?;
+        let log = usize::from(records.log(at));
+        if log < self.ports.len() {
+            return self.enter(records.lend(at, place));
+        }
+        self.logs[log].push((records.bank(at), records.number(at)))?;
+        Ok(())
+    }
+
+    /// The same of all records. Their banks need not have seen them.
+    pub fn enter_all(&mut self, records: &Packed) -> Result<(), NoMemory>
+        requires { CanEnterAll records.now.records self.old }
+        ensures { EntersAll records.now.records self.old result self.new }
+    {
+        let mut place = no_record();
+        for at in 0..records.len() {
+            self.enter_at(records, at, &mut place)?;
         }
         Ok(())
     }

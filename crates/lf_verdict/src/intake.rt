@@ -3,36 +3,25 @@
 ghost use Rattle.std.specs.Prelude.{◌≡◌, ◌<◌, ◌++◌, ℕ, List, [], Some, None, IsSome, IfSome, IfOk, Ok, OnOk, option_to_list};
 ghost use Rattle.lf_rules.specs.InRange.{IsShape};
 ghost use Rattle.lf_verdict.specs.Judging.{IsVerdictOrWant};
-ghost use Rattle.lf_verdict.specs.Session.{refusal_of, stop_told, IsStopOf, IsRunning, HasTaken, IsLackingIf, IsDrained, IsRunningNow, HasFed, HasReadOn};
+ghost use Rattle.lf_verdict.specs.Session.{refusal_of, stop_told, IsStopOf, IsRunning, HasTaken, IsLackingIf, IsDrained, IsRunningNow, HasFed};
 ghost use Rattle.lf_codec.specs.Reader.{fault_in, answer_of, bytes_taken, with_record, TakesSome};
 ghost use Rattle.lf_verdict.specs.declared.intake.Judging.TheVariants.{Waiting};
 ghost use Rattle.lf_rules.specs.declared.shape.Shape.{Shape};
 ghost use Rattle.lf_rules.specs.declared.event.Record.{Record};
 ghost use Rattle.lf_rules.specs.Fits.{Bytes};
 ghost use Rattle.lf_codec.specs.Reader.{HasRead};
-ghost use Rattle.std.specs.Thread.{IsSync};
 ghost use Rattle.lf_rules.specs.Address.{FlatMemory};
 ghost use Rattle.lf_codec.specs.declared.fault.Told.TheVariants as tolds;
-ghost use Rattle.lf_verdict.specs.Standing.{CanBeJudged, JudgesAll, IsPendingAfter, MayAllCome, StandsAfterAll};
+ghost use Rattle.lf_verdict.specs.Standing.{MayAllCome, StandsAfterAll};
 
 use crate::answer::{HeaderField, Refusal, Verdict};
 use crate::header::differing;
-use crate::pending::Pending;
 use crate::standing::Standing;
 use lf_codec::{
     CodecCause, CodecFault, Reader, Told, exact_reading, faults_stand, header_of_bytes, read_so_far,
 };
 use lf_rules::{Memory, NoMemory, Record, Shape};
 use std::alloc::Global;
-use std::mem;
-use std::thread::{Threads, join_mut};
-
-/// A shorter piece is not worth a thread.
-const SHORT: usize = 1024;
-
-/// Fewer workers than these judge in one thread, which is faster: two threads for each piece cost more
-/// than they save.
-const FEWEST: u32 = 4;
 
 /// What ended the judging.
 #[derive(Clone, Copy, Debug, PartialEq, Eq)]
@@ -46,7 +35,7 @@ pub enum Stop {
 pub enum Judging {
     /// The header and the memory are not whole yet.
     Waiting,
-    Running(Pending),
+    Running(Standing),
     /// The trace is of another hierarchy: its format alone is judged further.
     Another(HeaderField),
 }
@@ -54,15 +43,15 @@ pub enum Judging {
 /// What was fed so far, judged as far as that can be.
 #[derive(Drop)]
 pub struct Intake {
-    alloc: Global,
-    shape: Shape,
-    reader: Reader,
-    memory: Memory,
-    judging: Judging,
-    stop: Option<Stop>,
+    pub alloc: Global,
+    pub shape: Shape,
+    pub reader: Reader,
+    pub memory: Memory,
+    pub judging: Judging,
+    pub stop: Option<Stop>,
 }
 
-fn refusal_of(stop: Stop) -> Refusal
+pub fn refusal_of(stop: Stop) -> Refusal
     ensures { result ≡ refusal_of stop }
 {
     match stop {
@@ -71,7 +60,7 @@ fn refusal_of(stop: Stop) -> Refusal
     }
 }
 
-fn stop_of(told: Told<CodecFault>) -> Stop
+pub fn stop_of(told: Told<CodecFault>) -> Stop
     ensures { IsStopOf (fault_in told) result }
 {
     let fault = told.fault();
@@ -80,31 +69,6 @@ fn stop_of(told: Told<CodecFault>) -> Stop
     } else {
         Stop::Format(fault)
     }
-}
-
-/// Reads the piece in a thread of its own, beside the records that wait, which are judged in the others.
-fn read_beside<T: Threads + Sync>(
-    rt: &T,
-    threads: u32,
-    reader: &mut Reader,
-    piece: &[u8],
-    pending: &mut Pending,
-) -> (Result<(), Told<CodecFault>>, Result<(), NoMemory>)
-    requires threads { 1 < threads }
-    requires pending { CanBeJudged pending.old }
-    ensures read { HasReadOn reader.old piece.now result.0 reader.new }
-    ensures judged { JudgesAll pending.old result.1 pending.new }
-{
-    join_mut(
-        rt,
-        &mut || -> Result<(), Told<CodecFault>>
-            ensures { HasReadOn reader.entry.now piece.entry.now result reader.exit.now }
-        { reader.feed(piece) },
-        &mut || -> Result<(), NoMemory>
-            requires { IsSync T.row × ((1 < threads) × CanBeJudged pending.now) }
-            ensures { JudgesAll pending.entry.now result pending.exit.now }
-        { pending.judge_by(rt, threads as usize) },
-    )
 }
 
 /// Takes the records that the reader has found, so that it need not keep them.
@@ -117,35 +81,33 @@ fn discard(reader: &mut Reader)
 }
 
 /// Judges the records that the reader has found.
-fn judge_records(reader: &mut Reader, pending: &mut Pending) -> Result<(), NoMemory>
+fn judge_records(reader: &mut Reader, standing: &mut Standing) -> Result<(), NoMemory>
     requires { (shape : Shape) × ((bytes : List ℕ) × ((memory : List (ℕ × Bytes)) × ((records : List Record) ×
-        (HasRead reader.old bytes memory records × IsRunning shape bytes memory records pending.old)))) }
+        (HasRead reader.old bytes memory records × IsRunning shape bytes memory records standing.old)))) }
     ensures judged { (shape : Shape) (bytes : List ℕ) (memory : List (ℕ × Bytes)) (records : List Record) → HasRead reader.old bytes memory records
-        → IsRunning shape bytes memory records pending.old
-        → OnOk result ((more : List Record) × (HasRead reader.new bytes memory more × IsRunning shape bytes memory more pending.new)) }
+        → IsRunning shape bytes memory records standing.old
+        → OnOk result ((more : List Record) × (HasRead reader.new bytes memory more × IsRunning shape bytes memory more standing.new)) }
     ensures fault { reader.new.fault ≡ reader.old.fault }
     ensures drained { OnOk result (reader.new.records ≡ []) }
 {
     read_so_far();
-    pending.judge()?;
     while let Some(item) = reader.front() {
-        pending.standing.take(item)?;
+        standing.take(item)?;
         reader.drop_front();
     }
     Ok(())
 }
 
 /// Judges the record in the place, where there is one.
-fn judge_one(pending: &mut Pending, place: &Option<Record>) -> Result<(), NoMemory>
+fn judge_one(standing: &mut Standing, place: &Option<Record>) -> Result<(), NoMemory>
     requires { (shape : Shape) × ((memory : FlatMemory) × ((records : List Record) ×
-        (IsPendingAfter shape memory records pending.old × MayAllCome shape records (option_to_list place.now)))) }
-    ensures { (shape : Shape) (memory : FlatMemory) (records : List Record) → IsPendingAfter shape memory records pending.old
+        (StandsAfterAll shape memory records standing.old × MayAllCome shape records (option_to_list place.now)))) }
+    ensures { (shape : Shape) (memory : FlatMemory) (records : List Record) → StandsAfterAll shape memory records standing.old
         → MayAllCome shape records (option_to_list place.now)
-        → OnOk result (StandsAfterAll shape memory (records ++ option_to_list place.now) pending.new.standing × (pending.new.records.items ≡ [])) }
+        → OnOk result (StandsAfterAll shape memory (records ++ option_to_list place.now) standing.new) }
 {
-    pending.judge()?;
     match place {
-        Some(item) => pending.standing.take(item),
+        Some(item) => standing.take(item),
         None => Ok(()),
     }
 }
@@ -153,23 +115,23 @@ fn judge_one(pending: &mut Pending, place: &Option<Record>) -> Result<(), NoMemo
 /// Judges the record in the place, and those that the reader has found beside it.
 fn judge_placed(
     reader: &mut Reader,
-    pending: &mut Pending,
+    standing: &mut Standing,
     place: &Option<Record>,
 ) -> Result<(), NoMemory>
     requires { (shape : Shape) × ((bytes : List ℕ) × ((memory : List (ℕ × Bytes)) × ((records : List Record) ×
-        (HasRead (with_record place.now reader.old) bytes memory records × IsRunning shape bytes memory records pending.old)))) }
+        (HasRead (with_record place.now reader.old) bytes memory records × IsRunning shape bytes memory records standing.old)))) }
     ensures judged { (shape : Shape) (bytes : List ℕ) (memory : List (ℕ × Bytes)) (records : List Record)
-        → HasRead (with_record place.now reader.old) bytes memory records → IsRunning shape bytes memory records pending.old
-        → OnOk result ((more : List Record) × (HasRead reader.new bytes memory more × IsRunning shape bytes memory more pending.new)) }
+        → HasRead (with_record place.now reader.old) bytes memory records → IsRunning shape bytes memory records standing.old
+        → OnOk result ((more : List Record) × (HasRead reader.new bytes memory more × IsRunning shape bytes memory more standing.new)) }
     ensures fault { reader.new.fault ≡ reader.old.fault }
     ensures drained { OnOk result (reader.new.records ≡ []) }
 {
     read_so_far();
-    judge_one(pending, place)?;
+    judge_one(standing, place)?;
     if reader.front().is_none() {
         return Ok(());
     }
-    judge_records(reader, pending)
+    judge_records(reader, standing)
 }
 
 impl Intake {
@@ -190,7 +152,7 @@ impl Intake {
     }
 
     /// Stops for good, and tells why.
-    fn stop_with(&mut self, stop: Stop) -> Told<Refusal>
+    pub fn stop_with(&mut self, stop: Stop) -> Told<Refusal>
         ensures stopped { self.new ≡ record self.old { stop = Some stop } }
         ensures told { result ≡ tolds.Fault (refusal_of stop) }
     {
@@ -255,7 +217,7 @@ impl Intake {
                 discard(&mut self.reader);
                 Ok(())
             }
-            Judging::Running(pending) => judge_records(&mut self.reader, pending),
+            Judging::Running(standing) => judge_records(&mut self.reader, standing),
         }
     }
 
@@ -270,7 +232,7 @@ impl Intake {
         ensures drained { OnOk result (IsDrained self.new.judging self.new.reader self.new.memory.items) }
     {
         match &mut self.judging {
-            Judging::Running(pending) => judge_placed(&mut self.reader, pending, place),
+            Judging::Running(standing) => judge_placed(&mut self.reader, standing, place),
             _ => unreachable!(),
         }
     }
@@ -294,7 +256,7 @@ impl Intake {
         }
         if self.memory.len() as u64 == u64::from(header.memory_count) {
             let standing = Standing::new(self.alloc, &self.shape, &self.memory)?;
-            self.judging = Judging::Running(Pending::new(self.alloc, standing));
+            self.judging = Judging::Running(standing);
         }
         Ok(())
     }
@@ -319,60 +281,6 @@ impl Intake {
                 Err(told) => return Err(told),
             }
         }
-        Ok(())
-    }
-
-    /// The same by at most so many workers. With four or more this piece is read beside the banks, which are
-    /// judged on what the piece before gave.
-    pub fn feed_by<T: Threads + Sync>(
-        &mut self,
-        rt: &T,
-        workers: u32,
-        piece: &[u8],
-    ) -> Result<(), Told<Refusal>>
-        requires { (bytes : List ℕ) × HasFed self.old bytes }
-        ensures shape { self.new.shape ≡ self.old.shape }
-        ensures fed { (bytes : List ℕ) → HasFed self.old bytes → HasFed self.new (bytes ++ piece.now) }
-        ensures told { result ≡ stop_told self.old.stop self.new.stop }
-        ensures failed { IsSome self.old.stop → self.new ≡ self.old }
-    {
-        if workers < FEWEST || piece.len() < SHORT || self.stop.is_some() {
-            return self.feed(piece);
-        }
-        self.feed_beside(rt, workers - 1, piece)
-    }
-
-    /// Reads the piece beside so many threads that judge what waits.
-    fn feed_beside<T: Threads + Sync>(
-        &mut self,
-        rt: &T,
-        threads: u32,
-        piece: &[u8],
-    ) -> Result<(), Told<Refusal>>
-        requires fed { (bytes : List ℕ) × HasFed self.old bytes }
-        requires going { self.old.stop ≡ None }
-        requires threads { 1 < threads }
-        ensures shape { self.new.shape ≡ self.old.shape }
-        ensures fed { (bytes : List ℕ) → HasFed self.old bytes → HasFed self.new (bytes ++ piece.now) }
-        ensures told { result ≡ stop_told self.old.stop self.new.stop }
-    {
-        let Judging::Running(_) = self.judging else {
-            return self.feed(piece);
-        };
-        let Judging::Running(mut pending) = mem::replace(&mut self.judging, Judging::Waiting) else {
-            unreachable!()
-        };
-        header_of_bytes();
-        read_so_far();
-        let (read, judged) = read_beside(rt, threads, &mut self.reader, piece, &mut pending);
-        if let Err(told) = read {
-            return Err(self.stop_with(stop_of(told)));
-        }
-        if let Err(NoMemory) = judged {
-            return Err(self.stop_with(Stop::Memory));
-        }
-        self.reader.swap_records(&mut pending.records);
-        self.judging = Judging::Running(pending);
         Ok(())
     }
 
@@ -434,13 +342,16 @@ impl Intake {
         if let Some(stop) = self.stop {
             return Verdict::Refused(refusal_of(stop));
         }
+        if let Err(NoMemory) = self.take_all() {
+            return Verdict::Refused(Refusal::Memory);
+        }
         if let Err(told) = self.reader.finish() {
             return Verdict::Refused(refusal_of(stop_of(told)));
         }
         match &mut self.judging {
             Judging::Waiting => unreachable!(),
             Judging::Another(field) => Verdict::Refused(Refusal::Header(*field)),
-            Judging::Running(pending) => pending.verdict(self.alloc),
+            Judging::Running(standing) => standing.verdict(self.alloc),
         }
     }
 }

@@ -7,8 +7,10 @@
 //! mixed in them.
 #![tactic(auto)]
 
+mod ahead;
 mod answer;
 mod bank_judge;
+mod batch;
 mod broken;
 mod collected;
 mod configured;
@@ -22,8 +24,9 @@ mod judge;
 mod laws;
 mod numbers;
 mod order;
+mod parallel;
 mod parts;
-mod pending;
+mod place;
 mod port_judge;
 mod rechecked;
 mod session;
@@ -41,6 +44,7 @@ pub use laws::{
     mixtures_are_alike, no_has_no_run, verdicts_are_one, workers_are_alike, yes_is_legal,
 };
 pub use lf_pool::{Gate, NoGate, is_worker_count};
+pub use parallel::ParallelSession;
 pub use rechecked::yes_is_rechecked;
 pub use session::Session;
 pub use shape_check::check_shape;

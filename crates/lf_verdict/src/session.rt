@@ -77,26 +77,6 @@ impl Session {
         self.intake.feed(piece)
     }
 
-    /// The same by at most so many workers. With four or more, what a piece gives is judged while the next
-    /// one is read, so that a refusal for want of memory may come with a later piece. Fewer workers, or a
-    /// short piece, is `feed`, which is faster then.
-    pub fn feed_by<T: Threads + Sync>(
-        &mut self,
-        rt: &T,
-        workers: u32,
-        piece: &[u8],
-    ) -> Result<(), Told<Refusal>>
-        ensures shape { self.new.shape ≡ self.old.shape }
-        ensures fed { (bytes : List ℕ) → HasFed self.old bytes → HasFed self.new (bytes ++ piece.now) }
-        // When it answers what.
-        ensures told { result ≡ stop_told self.old.stop self.new.stop }
-        ensures failed { IsSome self.old.stop → self.new ≡ self.old }
-        ensures fine { OnOk result ((bytes : List ℕ) → HasFed self.old bytes → fault_so_far (bytes ++ piece.now) ≡ None) }
-        ensures fault { IfErr result (λ t. (bytes : List ℕ) → HasFed self.old bytes → IsRefusalSoFar (bytes ++ piece.now) (fault_in t)) }
-    {
-        self.intake.feed_by(rt, workers, piece)
-    }
-
     /// The verdict of the bytes that were fed: that of `check_shape`. After a refused
     /// `feed` it is that refusal.
     pub fn finish(self) -> Verdict

@@ -12,7 +12,7 @@ use lf_samples::{
     LOAD_MISSES_BOTH_LEVELS, LOWEST_BANK, TWO_PORTS_TWO_BANKS_TEXT, want_of_a_thread,
     want_of_memory,
 };
-use lf_verdict::{Fault, Refusal, Session, Verdict, check};
+use lf_verdict::{Fault, ParallelSession, Refusal, Session, Verdict, check};
 use std::io::Cursor;
 use std::process::Abort;
 use std::sync::Wait;
@@ -153,19 +153,19 @@ fn refused_growth_of_session_on_cycle_of_two_logs(rt: HostRuntime) -> Result<(),
     assert_fed(&rt, config, &[&CYCLE_OF_TWO_LOGS], &two_logs())
 }
 
-/// By a session that is fed by four workers, in pieces that are long enough for all.
+/// By a session with four workers, in pieces of which each has as many records as are judged at a time.
 #[test]
 fn refused_growth_of_session_by_four_workers(rt: HostRuntime) -> Result<(), Fail> {
     let bytes = hits_and(rt.alloc(), 60, HIT)?;
-    let mut session = Session::for_shape(rt.alloc(), &C1);
+    let mut session = ParallelSession::in_batches(rt.alloc(), &C1, 4, 40);
     for piece in bytes.chunks(1024) {
-        if let Err(told) = session.feed_by(&rt, 4, piece) {
+        if let Err(told) = session.feed(&rt, piece) {
             assert_eq!(rt; told, Told::Fault(Refusal::Memory));
-            assert_eq!(rt; session.finish(), Verdict::Refused(Refusal::Memory));
+            assert_eq!(rt; session.finish(&rt), Verdict::Refused(Refusal::Memory));
             return Err(want_of_memory());
         }
     }
-    match session.finish() {
+    match session.finish(&rt) {
         Verdict::Yes { events, .. } => {
             assert_eq!(rt; events, 189);
             Ok(())
@@ -175,7 +175,7 @@ fn refused_growth_of_session_by_four_workers(rt: HostRuntime) -> Result<(), Fail
 }
 
 /// By `run`, which writes this line.
-fn assert_run<T: Abort + AllocGlobal + Threads + Sync>(
+fn assert_run<T: Abort + AllocGlobal + Threads + Sync + Send + Copy + 'static>(
     rt: &T,
     config: &str,
     bytes: &[u8],

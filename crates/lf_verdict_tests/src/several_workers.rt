@@ -1,4 +1,4 @@
-//! Sessions that are fed by several workers answer as one that is fed by one, and so does the engine.
+//! Sessions with several workers answer as one with one, and so does the engine.
 
 ghost use Rattle.lf_rules.specs.InRange.{IsShape};
 
@@ -7,7 +7,7 @@ use lf_codec::CodecCause;
 use lf_engine::{Counted, run_shape};
 use lf_rules::{Rule, Shape};
 use lf_samples::{C1, LOAD, LOADED, trace_of};
-use lf_verdict::{Fault, Session, Verdict};
+use lf_verdict::{Fault, ParallelSession, Verdict};
 use std::alloc::Global;
 use std::process::Abort;
 use std::test::Fail;
@@ -16,7 +16,7 @@ use std::thread::Threads;
 /// A load that hits, and its reply.
 pub const HIT: &str = "L 0 8@0, H 0, R 0=0000000000000000";
 
-/// Pieces are long enough for several workers, and a trace has many.
+/// A trace has many pieces of this length.
 const PIECE: usize = 2048;
 
 /// The bytes of a load that misses both levels, of so many that hit, and of these events.
@@ -31,8 +31,11 @@ pub fn hits_and(alloc: Global, hits: u32, last: &str) -> Result<Vec<u8>, Fail> {
     trace_of(alloc, &C1, &parts)
 }
 
-/// The answer of a session that is fed by so many workers; each third piece is fed by one.
-fn by_workers<T: AllocGlobal + Threads + Sync>(
+/// So few records are judged at a time that a thread is lent some after each piece.
+const BATCH: usize = 64;
+
+/// The answer of a session with so many workers.
+fn by_workers<T: AllocGlobal + Threads + Sync + Send + Copy + 'static>(
     rt: &T,
     shape: &Shape,
     bytes: &[u8],
@@ -40,19 +43,15 @@ fn by_workers<T: AllocGlobal + Threads + Sync>(
 ) -> Verdict
     requires { IsShape shape.now }
 {
-    let mut session = Session::for_shape(rt.alloc(), shape);
-    for (at, piece) in bytes.chunks(PIECE).enumerate() {
-        let _ = if at % 3 == 2 {
-            session.feed(piece)
-        } else {
-            session.feed_by(rt, workers, piece)
-        };
+    let mut session = ParallelSession::in_batches(rt.alloc(), shape, workers, BATCH);
+    for piece in bytes.chunks(PIECE) {
+        let _ = session.feed(rt, piece);
     }
-    session.finish()
+    session.finish(rt)
 }
 
 /// Fails where a number of workers gives another verdict.
-fn assert_by_workers<T: Abort + AllocGlobal + Threads + Sync>(
+fn assert_by_workers<T: Abort + AllocGlobal + Threads + Sync + Send + Copy + 'static>(
     rt: &T,
     bytes: &[u8],
     verdict: &Verdict,
@@ -97,7 +96,7 @@ fn faults_by_several_workers(rt: HostRuntime) -> Result<(), Fail> {
 }
 
 /// Fails where the engine writes another line by a number of workers.
-fn assert_line_by_workers<T: Abort + AllocGlobal + Threads + Sync>(
+fn assert_line_by_workers<T: Abort + AllocGlobal + Threads + Sync + Send + Copy + 'static>(
     rt: &T,
     bytes: &[u8],
     line: &str,
@@ -112,18 +111,24 @@ fn assert_line_by_workers<T: Abort + AllocGlobal + Threads + Sync>(
     Ok(())
 }
 
-/// Traces that take more than two reads, so that one is judged beside the next.
+/// Traces that take more than two reads, and the first more records than are judged at a time, so that some
+/// are judged while others are read.
 #[test]
 fn lines_by_several_workers(rt: HostRuntime) -> Result<(), Fail> {
-    for (last, line) in [
-        (HIT, "yes events=9009\n"),
+    for (hits, last, line) in [
+        (6000, HIT, "yes events=18009\n"),
         (
+            3000,
             "L 0 8@0, H 0, R 0=0000000000000001",
             "no bank=0 number=9008 rule=ReplyData\n",
         ),
-        ("L 0 8@0, L 0 8@0", "no port=0 event=6003 rule=TagBusy\n"),
+        (
+            3000,
+            "L 0 8@0, L 0 8@0",
+            "no port=0 event=6003 rule=TagBusy\n",
+        ),
     ] {
-        let bytes = hits_and(rt.alloc(), 3000, last)?;
+        let bytes = hits_and(rt.alloc(), hits, last)?;
         assert!(rt; bytes.len() > 131_072);
         assert_line_by_workers(&rt, &bytes, line)?;
     }

@@ -43,7 +43,7 @@ fn status_of(answer: &Result<Verdict, RunFault>) -> ExitCode {
     }
 }
 
-fn judge<T: Print + AllocGlobal + Threads + Sync, R: Read + Drop>(
+fn judge<T: Print + AllocGlobal + Threads + Sync + Send + Copy + 'static, R: Read + Drop>(
     rt: &T,
     config: &str,
     trace: R,
@@ -55,7 +55,7 @@ fn judge<T: Print + AllocGlobal + Threads + Sync, R: Read + Drop>(
 }
 
 /// Judges the workers before it opens a file, and the configuration before the trace is read.
-fn check<T: Print + Files + AllocGlobal + Threads + Sync>(
+fn check<T: Print + Files + AllocGlobal + Threads + Sync + Send + Copy + 'static>(
     rt: &T,
     config: &str,
     trace: &str,
@@ -112,7 +112,7 @@ where
     }
 }
 
-fn start<T: Env + Print + Files + AllocGlobal + Threads + Wait + Sync>(
+fn start<T: Env + Print + Files + AllocGlobal + Threads + Wait + Sync + Send + Copy + 'static>(
     rt: &T,
 ) -> io::Result<ExitCode>
 where

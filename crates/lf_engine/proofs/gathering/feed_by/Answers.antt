@@ -5,8 +5,8 @@ use Rattle.lf_engine.proofs.gathering.feed_by.Goals as goal
 pub returns-clause-told : goal.returns-clause-told
 returns-clause-told g c = λ bytes fed.
     c.has_fault.ensures.told (bytes ++ c.args.piece.now)
-    (IfOk-weaker c.feed_by.result _ _ (λ _ fine. fine bytes fed) c.feed_by.ensures.fine)
-    (IfErr-weaker c.feed_by.result _ _ (λ _ stands. stands bytes fed) c.feed_by.ensures.fault)
+    (IfOk-weaker c.feed.result _ _ (λ _ fine. fine bytes fed) c.feed.ensures.fine)
+    (IfErr-weaker c.feed.result _ _ (λ _ stands. stands bytes fed) c.feed.ensures.fault)
 
 pub returns-clause-fed : goal.returns-clause-fed
 returns-clause-fed g c = search rules

@@ -7,13 +7,11 @@ use Rattle.lf_verdict.proofs.intake.judge_one.Goals as goal
 
 pub returns-in-Some : goal.returns-in-Some
 returns-in-Some c shape memory records stands may =
-    let judged = c.in_ok-judge.ensures shape memory records stands in
     let own = subst (λ (p : Option Record). MayAllCome shape records (option_to_list p)) c.in-Some.is may in
-    let all = c.take.ensures shape memory records own.0 judged.0 in
-    on_ok c.take.result all (λ stands. (subst (λ (p : Option Record). StandsAfterAll shape memory (records ++ option_to_list p) c.take.new.self) (sym c.in-Some.is) stands, judged.1))
+    on_ok c.take.result (c.take.ensures shape memory records own.0 stands)
+    (λ after. subst (λ (p : Option Record). StandsAfterAll shape memory (records ++ option_to_list p) c.take.new.self) (sym c.in-Some.is) after)
 
 pub returns-in-None : goal.returns-in-None
 returns-in-None c shape memory records stands may =
-    let judged = c.in_ok-judge.ensures shape memory records stands in
-    let all = subst (λ (rs : List Record). StandsAfterAll shape memory rs c.judge.new.self.standing) (sym (append-nil records)) judged.0 in
-    (subst (λ (p : Option Record). StandsAfterAll shape memory (records ++ option_to_list p) c.judge.new.self.standing) (sym c.in-None.is) all, judged.1)
+    let all = subst (λ (rs : List Record). StandsAfterAll shape memory rs c.args.standing.now) (sym (append-nil records)) stands in
+    subst (λ (p : Option Record). StandsAfterAll shape memory (records ++ option_to_list p) c.args.standing.now) (sym c.in-None.is) all

@@ -8,7 +8,7 @@ pub judge_one-requires : goal.judge_one-requires
 judge_one-requires c =
     let r = c.requires in
     let run = r.1.1.1.1.1 in
-    (r.0, (flat_memory r.1.1.0, (r.1.1.1.0, (run.stands, place_may_come c.read_so_far.ensures r.0 r.1.0 r.1.1.0 r.1.1.1.0 c.args.reader.now c.args.pending.now c.args.place.now r.1.1.1.1.0 run))))
+    (r.0, (flat_memory r.1.1.0, (r.1.1.1.0, (run.stands, place_may_come c.read_so_far.ensures r.0 r.1.0 r.1.1.0 r.1.1.1.0 c.args.reader.now c.args.standing.now c.args.place.now r.1.1.1.1.0 run))))
 
 pub judge_records-requires : goal.judge_records-requires
 judge_records-requires c =
@@ -16,7 +16,7 @@ judge_records-requires c =
     let place = c.args.place.now in
     let read = r.1.1.1.1.0 in
     let run = r.1.1.1.1.1 in
-    let may = place_may_come c.read_so_far.ensures r.0 r.1.0 r.1.1.0 r.1.1.1.0 c.args.reader.now c.args.pending.now place read run in
+    let may = place_may_come c.read_so_far.ensures r.0 r.1.0 r.1.1.0 r.1.1.1.0 c.args.reader.now c.args.standing.now place read run in
     let judged = c.in_ok-judge_one.ensures r.0 (flat_memory r.1.1.0) r.1.1.1.0 run.stands may in
     let more = r.1.1.1.0 ++ option_to_list place in (
       r.0,
@@ -28,7 +28,7 @@ judge_records-requires c =
             more,
             (
               given_one c.args.reader.now place r.1.0 r.1.1.0 r.1.1.1.0 read,
-              running_more r.0 r.1.0 r.1.1.0 r.1.1.1.0 more c.args.pending.now c.judge_one.new.pending run judged.1 judged.0,
+              running_more r.0 r.1.0 r.1.1.0 r.1.1.1.0 more c.args.standing.now c.judge_one.new.standing run judged,
             ),
           ),
         ),
@@ -38,16 +38,16 @@ judge_records-requires c =
 pub returns-clause-judged : goal.returns-clause-judged
 returns-clause-judged c shape bytes memory records read run =
     let place = c.args.place.now in
-    let may = place_may_come c.read_so_far.ensures shape bytes memory records c.args.reader.now c.args.pending.now place read run in
+    let may = place_may_come c.read_so_far.ensures shape bytes memory records c.args.reader.now c.args.standing.now place read run in
     let judged = c.in_ok-judge_one.ensures shape (flat_memory memory) records run.stands may in
     let more = records ++ option_to_list place in
     c.judge_records.ensures.judged shape bytes memory more (given_one c.args.reader.now place bytes memory records read)
-    (running_more shape bytes memory records more c.args.pending.now c.judge_one.new.pending run judged.1 judged.0)
+    (running_more shape bytes memory records more c.args.standing.now c.judge_one.new.standing run judged)
 
 pub returns-then-is_none-clause-judged : goal.returns-then-is_none-clause-judged
 returns-then-is_none-clause-judged c shape bytes memory records read run =
     let place = c.args.place.now in
-    let may = place_may_come c.read_so_far.ensures shape bytes memory records c.args.reader.now c.args.pending.now place read run in
+    let may = place_may_come c.read_so_far.ensures shape bytes memory records c.args.reader.now c.args.standing.now place read run in
     let judged = c.in_ok-judge_one.ensures shape (flat_memory memory) records run.stands may in
     let more = records ++ option_to_list place in
-    (more, (given_one c.args.reader.now place bytes memory records read, running_more shape bytes memory records more c.args.pending.now c.judge_one.new.pending run judged.1 judged.0))
+    (more, (given_one c.args.reader.now place bytes memory records read, running_more shape bytes memory records more c.args.standing.now c.judge_one.new.standing run judged))

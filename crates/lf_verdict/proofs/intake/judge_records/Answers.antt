@@ -4,7 +4,6 @@ use Rattle.lf_rules.specs.Address.{flat_memory}
 use Rattle.lf_codec.specs.Reading.{Reading}
 use Rattle.lf_codec.specs.Reader.{HasRead}
 use Rattle.lf_verdict.proofs.Feeding.{front_of}
-use Rattle.lf_verdict.proofs.Pendings.{pending_done}
 use Rattle.lf_verdict.proofs.Sessions.{may_come, running_more}
 use Rattle.lf_verdict.proofs.intake.judge_records.Goals as goal
 
@@ -19,8 +18,8 @@ take-requires c =
         (
           m.0,
           (
-            may_come c.read_so_far.ensures r.0 r.1.0 r.1.1.0 m.0 c.loop-item.reader c.loop-item.pending c.in-Some.item.now rest m.1.0 m.1.1 c.in-Some.ensures,
-            pending_done r.0 (flat_memory r.1.1.0) m.0 c.loop-item.pending m.1.1.stands c.loop-item.invariant.none,
+            may_come c.read_so_far.ensures r.0 r.1.0 r.1.1.0 m.0 c.loop-item.reader c.loop-item.standing c.in-Some.item.now rest m.1.0 m.1.1 c.in-Some.ensures,
+            m.1.1.stands,
           ),
         ),
       ),
@@ -29,18 +28,17 @@ take-requires c =
 pub loop-item-preserved : goal.loop-item-preserved
 loop-item-preserved c = record {
   fault = ap (λ (q : Reading). q.fault) c.drop_front.ensures.rest ∙ c.loop-item.invariant.fault;
-  none = c.loop-item.invariant.none;
   read = λ shape bytes memory records read run.
       let m = c.loop-item.invariant.read shape bytes memory records read run in
       let there = c.loop-item.reader.records in
       let front = c.in-Some.item.now in
-      let may = may_come c.read_so_far.ensures shape bytes memory m.0 c.loop-item.reader c.loop-item.pending front (drop 1 there) m.1.0 m.1.1 c.in-Some.ensures in (
+      let may = may_come c.read_so_far.ensures shape bytes memory m.0 c.loop-item.reader c.loop-item.standing front (drop 1 there) m.1.0 m.1.1 c.in-Some.ensures in (
         m.0 ++ front ∷ [],
         (
           subst (λ (rs : List Record). HasRead c.drop_front.new.self bytes memory (m.0 ++ rs)) (front_of there (drop 1 there) front c.in-Some.ensures)
               (c.drop_front.ensures.taken bytes memory m.0 m.1.0),
-          running_more shape bytes memory m.0 (m.0 ++ front ∷ []) c.loop-item.pending (record { standing = c.take.new.self; records = c.loop-item.pending.records }) m.1.1 c.loop-item.invariant.none
-              (c.in_ok-take.ensures shape (flat_memory memory) m.0 may (pending_done shape (flat_memory memory) m.0 c.loop-item.pending m.1.1.stands c.loop-item.invariant.none)),
+          running_more shape bytes memory m.0 (m.0 ++ front ∷ []) c.loop-item.standing c.take.new.self m.1.1
+              (c.in_ok-take.ensures shape (flat_memory memory) m.0 may m.1.1.stands),
         ),
       );
 }
@@ -49,14 +47,4 @@ pub returns-clause-judged : goal.returns-clause-judged
 returns-clause-judged c shape bytes memory records read run = c.loop-item.invariant.read shape bytes memory records read run
 
 pub loop-item-init : goal.loop-item-init
-loop-item-init c =
-    let r = c.requires in record {
-      fault = refl;
-      none = (c.in_ok-judge.ensures r.0 (flat_memory r.1.1.0) r.1.1.1.0 r.1.1.1.1.1.stands).1;
-      read = λ shape bytes memory records read run.
-          let judged = c.in_ok-judge.ensures shape (flat_memory memory) records run.stands in
-          (records, (read, running_more shape bytes memory records records c.args.pending.now c.judge.new.self run judged.1 judged.0));
-    }
-
-pub judge-requires : goal.judge-requires
-judge-requires c = let r = c.requires in (r.0, (flat_memory r.1.1.0, (r.1.1.1.0, r.1.1.1.1.1.stands)))
+loop-item-init c = record { fault = refl; read = λ shape bytes memory records read run. (records, (read, run)) }

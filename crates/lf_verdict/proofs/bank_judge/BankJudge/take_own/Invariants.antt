@@ -8,6 +8,6 @@ use Rattle.lf_rules.specs.Run.{of_bank}
 use Rattle.lf_verdict.specs.Standing.{IsBankSettled}
 use Rattle.lf_verdict.proofs.bank_judge.BankJudge.take_own.Given as goal
 
-abbrev pub invariant-loop-item : goal.invariant-loop-item
-invariant-loop-item l = (shape : Shape) (memory : FlatMemory) (came gave : List Record) → AllByRecursion (Fits shape) l.records → IsBankSettled shape memory l.bank came gave l.fn.self
-    → (more : List Record) × IsBankSettled shape memory l.bank (came ++ of_bank l.bank (take l.item-index l.records)) more l.self
+abbrev pub invariant-loop-at : goal.invariant-loop-at
+invariant-loop-at l = (shape : Shape) (memory : FlatMemory) (came gave : List Record) → AllByRecursion (Fits shape) l.records.records → IsBankSettled shape memory l.bank came gave l.fn.self
+    → (more : List Record) × IsBankSettled shape memory l.bank (came ++ of_bank l.bank (take l.at l.records.records)) more l.self

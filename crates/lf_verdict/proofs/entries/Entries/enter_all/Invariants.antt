@@ -4,5 +4,5 @@ use Rattle.lf_rules.specs.declared.event.Record.{Record}
 use Rattle.lf_verdict.specs.Standing.{MayAllCome, AreEntered}
 use Rattle.lf_verdict.proofs.entries.Entries.enter_all.Given as goal
 
-abbrev pub invariant-loop-item : goal.invariant-loop-item
-invariant-loop-item l = (shape : Shape) (before : List Record) → MayAllCome shape before l.records → AreEntered shape before l.fn.self → AreEntered shape (before ++ take l.item-index l.records) l.self
+abbrev pub invariant-loop-at : goal.invariant-loop-at
+invariant-loop-at l = (shape : Shape) (before : List Record) → MayAllCome shape before l.records.records → AreEntered shape before l.fn.self → AreEntered shape (before ++ take l.at l.records.records) l.self

@@ -10,7 +10,7 @@ use Rattle.lf_verdict.proofs.intake.Intake.feed_record.Goals as goal
 pub returns-in-Err-clause-fed : goal.returns-in-Err-clause-fed
 returns-in-Err-clause-fed c fed has =
     let s = c.args.self.now in
-    let m = (going s fed c.requires.going has).0 in
+    let m = going s fed c.requires.going has in
     let given = with_record c.feed_one.new.place c.feed_one.new.self in
     let stopped : Intake = record s { reader = c.feed_one.new.self; stop = Some c.stop_of.result } in
     subst (λ (t : Intake). HasFed t (fed ++ c.args.bytes.now)) (sym c.stop_with.ensures.stopped)
@@ -21,7 +21,7 @@ pub judge_with-requires-clause-taken : goal.judge_with-requires-clause-taken
 judge_with-requires-clause-taken c =
     let s = c.args.self.now in
     let fed = c.requires.fed.0 in
-    let m = (going s fed c.requires.going c.requires.fed.1).0 in
+    let m = going s fed c.requires.going c.requires.fed.1 in
     let given = with_record c.feed_one.new.place c.feed_one.new.self in (
       fed ++ take c.in-Ok.n c.args.bytes.now,
       (
@@ -35,9 +35,9 @@ pub returns-in-Ok-judge_with-clause-fed : goal.returns-in-Ok-judge_with-clause-f
 returns-in-Ok-judge_with-clause-fed c fed has =
     let s = c.args.self.now in
     let piece = take c.in-Ok.n c.args.bytes.now in
-    let m = (going s fed c.requires.going has).0 in
+    let m = going s fed c.requires.going has in
     let given = with_record c.feed_one.new.place c.feed_one.new.self in
     let judged = judged_feed c.header_of_bytes.ensures s fed piece m.0 given m.1
     (c.in-Ok.ensures.ok fed s.memory.items m.0 m.1.read) (told_fine s.reader.fault given.fault m.1.fine (sym c.in-Ok.ensures.told)) in
     subst (λ (stop : Option Stop). HasFedUntil c.judge_with.new.self (fed ++ piece) stop) (sym (c.in-Ok-judge_with.ensures.stop ∙ c.requires.going))
-    (c.in-Ok-judge_with.ensures.taken (fed ++ piece) (m.0, judged), c.in-Ok-judge_with.ensures.drained)
+    (c.in-Ok-judge_with.ensures.taken (fed ++ piece) (m.0, judged))

@@ -1,8 +1,8 @@
 use Rattle.std.proofs.Common.{◌≡◌, ℕ, get_or, ap, sym, ◌∙◌, ⊎_elim, arith}
 use Rattle.std.proofs.lemmas.Bool.{cases_eq}
 use Rattle.lf_verdict.specs.declared.bank_judge.BankJudge.{BankJudge}
-use Rattle.lf_verdict.proofs.Pendings.{place_at}
-use Rattle.lf_verdict.proofs.pending.ran_out.Goals as goal
+use Rattle.lf_verdict.proofs.Batches.{place_at}
+use Rattle.lf_verdict.proofs.batch.ran_out.Goals as goal
 
 pub loop-judge-preserved : goal.loop-judge-preserved
 loop-judge-preserved c bank d lt =

@@ -1,4 +1,4 @@
--- Records that wait, judged together.
+-- Records that are judged together.
 use Rattle.std.proofs.Common.{◌≡◌, ℕ, zero, suc, ◌+◌, ◌<◌, List, [], ◌∷◌, ◌++◌, length, get_or, take, drop, refl, sym, ap, ◌∙◌, subst, ⊎_elim, inl, inr, arith, append_assoc, add-one}
 use Rattle.std.specs.List.{AllByRecursion}
 use Rattle.std.proofs.Math.Seq.{take-suc, get_or-append_seam}
@@ -16,8 +16,7 @@ use Rattle.lf_logs.proofs.Splitting.{of_key-push_own, of_key-push_other}
 use Rattle.lf_replay.specs.Bytes.{bank_part}
 use Rattle.lf_verdict.specs.declared.bank_judge.BankJudge.{BankJudge}
 use Rattle.lf_verdict.specs.declared.standing.Standing.{Standing}
-use Rattle.lf_verdict.specs.declared.pending.Pending.{Pending}
-use Rattle.lf_verdict.specs.Standing.{MayCome, MayAllCome, IsBankSettled, AreEntered, StandsAfterAll, IsPendingAfter, CanTakeAll, TakesAll}
+use Rattle.lf_verdict.specs.Standing.{MayCome, MayAllCome, IsBankSettled, AreEntered, StandsAfterAll, CanTakeAll, TakesAll}
 
 -- ---- the records that may come
 
@@ -60,32 +59,6 @@ pub other_more : (bank : ℕ) (came rs : List Record) (k : ℕ) (item : Record) 
     → came ++ of_bank bank (take k rs) ≡ came ++ of_bank bank (take (k + 1) rs)
 other_more bank came rs k item lt is other =
     ap (λ (xs : List Record). came ++ xs) (sym (ap (of_bank bank) (take_one_more rs k item lt is) ∙ of_key-push_other (λ r. r.bank) bank (take k rs) item other))
-
--- ---- one at a time
-
-module _ (shape : Shape) (memory : FlatMemory) (records : List Record) (p : Pending) (is : IsPendingAfter shape memory records p) where
-  pub next_may : (item : Record) (rest : List Record) → p.records.items ≡ item ∷ rest → MayCome shape is.done item
-  next_may item rest e = (subst (MayAllCome shape is.done) e is.may_come).0
-
-  pub pending_more : (item : Record) (q : Pending) → p.records.items ≡ item ∷ q.records.items → StandsAfterAll shape memory (is.done ++ item ∷ []) q.standing → IsPendingAfter shape memory records q
-  pending_more item q e stands = record {
-    done = is.done ++ item ∷ [];
-    all = is.all ∙ ap (λ (xs : List Record). is.done ++ xs) e ∙ sym (append_assoc is.done (item ∷ []) q.records.items);
-    may_come = (subst (MayAllCome shape is.done) e is.may_come).1;
-    stands = stands;
-  }
-
-  pub pending_done : p.records.items ≡ [] → StandsAfterAll shape memory records p.standing
-  pending_done none = subst (λ (rs : List Record). StandsAfterAll shape memory rs p.standing) (sym (is.all ∙ ap (λ (xs : List Record). is.done ++ xs) none ∙ append-nil is.done)) is.stands
-
-pub none_pending : (shape : Shape) (memory : FlatMemory) (records : List Record) (p : Pending) → p.records.items ≡ [] → StandsAfterAll shape memory records p.standing
-    → IsPendingAfter shape memory records p
-none_pending shape memory records p none stands = record {
-  done = records;
-  all = sym (append-nil records) ∙ ap (λ (xs : List Record). records ++ xs) (sym none);
-  may_come = subst (MayAllCome shape records) (sym none) tt;
-  stands = stands;
-}
 
 -- ---- all banks
 

@@ -1,0 +1,10 @@
+use Rattle.std.proofs.Common.{◌++◌, ◌∙◌}
+use Rattle.lf_verdict.specs.declared.ahead.Ahead.{Ahead}
+use Rattle.lf_verdict.proofs.Aheads.{still_going, none_ahead}
+use Rattle.lf_verdict.proofs.ahead.Ahead.feed_alone.Goals as goal
+
+pub returns-in-Ok-clause-fed : goal.returns-in-Ok-clause-fed
+returns-in-Ok-clause-fed g c bytes taken =
+    let a : Ahead = record c.settle.new.self { intake = c.feed.new.self } in
+    none_ahead a (bytes ++ c.args.piece.now) c.in-Ok.ensures.none.0 c.in-Ok.ensures.none.1
+    (c.feed.ensures.fed bytes (still_going c.settle.new.self.intake bytes (c.in-Ok.ensures.stop ∙ c.requires.going) (c.in-Ok.ensures.taken bytes taken)))
