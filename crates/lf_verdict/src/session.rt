@@ -19,9 +19,8 @@ use lf_config::{ConfigFault, read};
 use lf_rules::Shape;
 use std::alloc::Global;
 use std::marker::Model;
-use std::thread::Threads;
 
-/// Judges a trace while its bytes come, by one worker or more, and keeps no whole trace.
+/// Judges a trace while its bytes come, by one worker, and keeps no whole trace.
 #[derive(Drop)]
 pub struct Session {
     intake: Intake,

@@ -6,7 +6,7 @@ use std::alloc::{AllocError, Global};
 
 /// What `--version` prints after the program's name: the version, and on a line of its own what `rt version`
 /// prints of the kit that proved and built the program. It changes with the kit.
-const VERSION: &str = "0.1.0\nrattle-kit-13b logic dac8208d650f15bf";
+const VERSION: &str = "0.1.0\nrattle-kit-13f logic dac8208d650f15bf";
 
 /// What the help says of the whole program.
 const ABOUT: &str = "Judges recorded traces of a two-level lockup-free (non-blocking) cache.";

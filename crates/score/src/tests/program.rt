@@ -124,7 +124,7 @@ fn version_is_asked_for(rt: HostRuntime) -> Result<(), Fail> {
         let text = format!(in rt.alloc(); "{version}")?;
         assert_eq!(rt;
             text.as_str(),
-            "score 0.1.0\nrattle-kit-13b logic dac8208d650f15bf\n"
+            "score 0.1.0\nrattle-kit-13f logic dac8208d650f15bf\n"
         );
     }
     Ok(())
