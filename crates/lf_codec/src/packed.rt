@@ -134,7 +134,8 @@ impl Packed {
 
     /// From now on parts are kept under this header, where there is no record. There is one header at a time.
     pub(crate) fn take_header(&mut self, header: &Header)
-        ensures { self.new ≡ record self.old { header = self.new.header } }
+        ensures rest { self.new ≡ record self.old { header = self.new.header } }
+        ensures header { self.old.records ≡ [] → self.new.header ≡ header.now }
     {
         if self.forms.is_empty() {
             self.header = *header;
