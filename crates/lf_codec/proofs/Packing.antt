@@ -1,9 +1,9 @@
 -- Records that are kept by their parts: more bytes change none of them.
 use Rattle.std.proofs.Common.{◌≡◌, ℕ, ◌+◌, ◌≤◌, List, [], ◌∷◌, ◌++◌, length, take, drop, refl, sym, ap, subst, ◌∙◌, arith, append_assoc}
 use Rattle.std.proofs.Common.{Result, Ok, Err, Option, Some, None, inl, inr}
-use Rattle.std.specs.Prelude.{slice_index, IfOk, IfSome, OnOk, OnErr}
-use Rattle.std.proofs.lemmas.List.{drop-append-le, take-append-le, length-drop, length-append, append-nil, map-append}
-use Rattle.std.proofs.Math.Seq.{drop-append_seam, take-append_seam, take-length}
+use Rattle.std.specs.Prelude.{slice_index, IfOk, IfSome, OnOk}
+use Rattle.std.proofs.lemmas.List.{drop-append-le, take-append-le, take-append-drop, length-drop, length-append, append-nil}
+use Rattle.std.proofs.Math.Seq.{drop-append_seam, take-append_seam}
 use Rattle.lf_rules.specs.declared.event.Record.{Record}
 use Rattle.lf_codec.specs.declared.header.Header.{Header}
 use Rattle.lf_codec.specs.declared.stage.Head.{Head}
@@ -18,7 +18,7 @@ use Rattle.lf_codec.specs.Takes.{AreWholeParts, IsRefused, WasRefused, TakesPart
 use Rattle.lf_codec.proofs.Pieces.{read_on-with_front}
 use Rattle.lf_codec.proofs.Soundness.{data_limit, sound_reader}
 use Rattle.lf_codec.proofs.WholeRecord.{sound_behind, taken_at_once}
-use Rattle.lf_codec.specs.Packed.{AreParts, parts_record, slice_of, form_record, IsWithin, records_in_forms, AreWithin}
+use Rattle.lf_codec.specs.Packed.{AreParts, StandLast, parts_record, slice_of, form_record, IsWithin, records_in_forms, AreWithin}
 
 slice_stays : (bytes more : List ℕ) (at len : ℕ) → at + len ≤ length bytes → slice_of (bytes ++ more) at len ≡ slice_of bytes at len
 slice_stays bytes more at len fits =
@@ -34,32 +34,27 @@ within_stays h bytes more (forms.Parts p) within =
     (omega (arith, within.0, length-append bytes more), subst (AreParts h p.head.kind) (sym (slice_stays bytes more p.at p.len within.0)) within.1)
 within_stays h bytes more (forms.Apart r) within = tt
 
-records_stay : (h : Header) (bytes more : List ℕ) (all : List Form) → AreWithin h bytes all → records_in_forms h (bytes ++ more) all ≡ records_in_forms h bytes all
+pub records_stay : (h : Header) (bytes more : List ℕ) (all : List Form) → AreWithin h bytes all → records_in_forms h (bytes ++ more) all ≡ records_in_forms h bytes all
 records_stay h bytes more [] within = refl
 records_stay h bytes more (form ∷ all) within =
     ap (λ (r : Record). r ∷ records_in_forms h (bytes ++ more) all) (form_stays h bytes more form within.0)
     ∙ ap (λ (rs : List Record). form_record h bytes form ∷ rs) (records_stay h bytes more all within.1)
 
-pub within_push : (h : Header) (bytes more : List ℕ) (all : List Form) (form : Form) → AreWithin h bytes all → IsWithin h (bytes ++ more) form
-    → AreWithin h (bytes ++ more) (all ++ form ∷ [])
-within_push h bytes more [] form within own = (own, tt)
-within_push h bytes more (first ∷ all) form within own = (within_stays h bytes more first within.0, within_push h bytes more all form within.1 own)
+pub within_stay : (h : Header) (bytes more : List ℕ) (all : List Form) → AreWithin h bytes all → AreWithin h (bytes ++ more) all
+within_stay h bytes more [] within = tt
+within_stay h bytes more (first ∷ all) within = (within_stays h bytes more first within.0, within_stay h bytes more all within.1)
 
-module _ (h : Header) (bytes : List ℕ) (all : List Form) (head : Head) (parts : List ℕ) (within : AreWithin h bytes all) (fits : AreParts h head.kind parts) where
-  abbrev form : Form
-  form = forms.Parts (record { head = head; at = length bytes; len = length parts })
+-- ---- the last bytes
 
-  own_slice : slice_of (bytes ++ parts) (length bytes) (length parts) ≡ parts
-  own_slice = ap (take (length parts)) (drop-append_seam bytes parts) ∙ take-length parts
+-- those behind the first ones of the last are the last too
+pub last_behind : (bytes last front rest : List ℕ) → StandLast bytes last → last ≡ front ++ rest → StandLast bytes rest
+last_behind bytes last front rest stand joined = record {
+  front = stand.front ++ front;
+  joined = stand.joined ∙ ap (λ (xs : List ℕ). stand.front ++ xs) joined ∙ sym (append_assoc stand.front front rest);
+}
 
-  pub parts_within : AreWithin h (bytes ++ parts) (all ++ form ∷ [])
-  parts_within = within_push h bytes parts all form within (omega (arith, length-append bytes parts), subst (AreParts h head.kind) (sym own_slice) fits)
-
-  pub parts_records : records_in_forms h (bytes ++ parts) (all ++ form ∷ []) ≡ records_in_forms h bytes all ++ parts_record h head parts ∷ []
-  parts_records =
-      map-append (form_record h (bytes ++ parts)) all (form ∷ [])
-      ∙ ap (λ (rs : List Record). rs ++ parts_record h head (slice_of (bytes ++ parts) (length bytes) (length parts)) ∷ []) (records_stay h bytes parts all within)
-      ∙ ap (λ (xs : List ℕ). records_in_forms h bytes all ++ parts_record h head xs ∷ []) own_slice
+pub last_drop : (bytes last : List ℕ) (n : ℕ) → StandLast bytes last → StandLast bytes (drop n last)
+last_drop bytes last n stand = last_behind bytes last (take n last) (drop n last) stand (sym (take-append-drop n last))
 
 -- The parts of a record that stands whole, as they are found behind its head.
 module _ (h : Header) (head : Head) (bytes fixed carried : List ℕ) (parts : AreWholeParts h head.kind head.bank bytes fixed carried) where
@@ -129,18 +124,18 @@ front_moved rs r = ap (λ (xs : List Record). record r { records = xs }) (sym (a
 -- ---- a record that is kept at once
 
 module _ (p q : Progress) (bytes : List ℕ) (before after : List Record) where
-  pub packed_sound : {F : Type 0} (result : Result (Option ℕ) F) (pending : List ℕ) → IfOk result (λ found. MayPack p bytes found before after q) → OnErr result (q ≡ p)
-      → pending ≡ [] → IsSoundReader p pending → IsSoundReader q pending
-  packed_sound (Ok (Some n)) pending into same empty sound =
+  pub packed_sound : (found : Option ℕ) (pending : List ℕ) → MayPack p bytes found before after q → pending ≡ [] → IsSoundReader p pending → IsSoundReader q pending
+  packed_sound (Some n) pending into empty sound =
       rw (empty, into.is_counted) (sound_reader (counted p n into.item.log) (sound_behind p bytes into.item n into.whole into.stage sound.sound))
-  packed_sound (Ok None) pending none same empty sound = subst (λ (x : Progress). IsSoundReader x pending) (sym none.0) sound
-  packed_sound (Err refused) pending may same empty sound = subst (λ (x : Progress). IsSoundReader x pending) (sym same) sound
+  packed_sound None pending none empty sound = subst (λ (x : Progress). IsSoundReader x pending) (sym none.0) sound
 
-  pub on_packed : {F : Type 0} (P : ℕ → Type 0) (result : Result (Option ℕ) F) → IfOk result (λ found. MayPack p bytes found before after q)
-      → ((n : ℕ) → PacksInto p bytes n before after q → P n) → IfOk result (λ found. IfSome found P)
-  on_packed P (Ok (Some n)) into each = each n into
-  on_packed P (Ok None) none each = tt
-  on_packed P (Err refused) may each = tt
+  pub on_packed : (P : ℕ → Type 0) (found : Option ℕ) → MayPack p bytes found before after q → ((n : ℕ) → PacksInto p bytes n before after q → P n) → IfSome found P
+  on_packed P (Some n) into each = each n into
+  on_packed P None none each = tt
+
+  pub packed_header : (found : Option ℕ) → MayPack p bytes found before after q → q.header ≡ p.header
+  packed_header (Some n) into = ap (λ (x : Progress). x.header) into.is_counted
+  packed_header None none = ap (λ (x : Progress). x.header) none.0
 
 -- the reading with the record behind those in front
 pub packed_takes : (r new : Reading) (bytes : List ℕ) (n : ℕ) (before after : List Record) → PacksInto r.progress bytes n before after new.progress

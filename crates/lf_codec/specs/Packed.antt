@@ -1,5 +1,5 @@
 -- Records in the form of their bytes.
-use Rattle.std.specs.Prelude.{ℕ, ◌+◌, ◌≤◌, List, length, take, drop, map}
+use Rattle.std.specs.Prelude.{◌≡◌, ◌++◌, ℕ, ◌+◌, ◌≤◌, List, length, take, drop, map}
 use Rattle.std.specs.List.{AllByRecursion}
 use Rattle.lf_rules.specs.declared.event.Record.{Record}
 use Rattle.lf_codec.specs.declared.header.Header.{Header}
@@ -10,9 +10,10 @@ use Rattle.lf_codec.specs.declared.packed.Form.TheVariants.{Parts, Apart}
 use Rattle.lf_codec.specs.Steps.{fixed_len, record_of}
 use Rattle.lf_codec.specs.Sound.{IsInRange, most_data}
 
--- what callers see: the records, and the header under which parts are kept
+-- what callers see: the records. Parts are kept under this header, and stand among these bytes
 pub record PackedRecords : Type 0 where
   pub header : Header
+  pub bytes : List ℕ
   pub records : List Record
 
 -- a fixed part, and behind it no more bytes than an event of the kind carries
@@ -32,6 +33,11 @@ slice_of bytes at len = take len (drop at bytes)
 abbrev pub form_record : Header → List ℕ → Form → Record
 form_record h bytes (Parts p) = parts_record h p.head (slice_of bytes p.at p.len)
 form_record h bytes (Apart r) = r.value
+
+-- these are the last of all the bytes
+pub record StandLast (bytes last : List ℕ) : Type 0 where
+  pub front : List ℕ
+  pub joined : bytes ≡ front ++ last
 
 -- its parts are among the bytes
 abbrev pub IsWithin : Header → List ℕ → Form → Type 0

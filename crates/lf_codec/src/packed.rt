@@ -4,7 +4,7 @@ ghost use Rattle.std.specs.Prelude.{◌≡◌, ◌<◌, ◌≤◌, ◌+◌, ◌+
 ghost use Rattle.lf_rules.specs.declared.event.Record.{Record};
 ghost use Rattle.lf_codec.specs.Steps.{fixed_len, record_of};
 ghost use Rattle.lf_codec.specs.Sound.{IsInRange, most_data};
-ghost use Rattle.lf_codec.specs.Packed.{AreParts, parts_record};
+ghost use Rattle.lf_codec.specs.Packed.{AreParts, StandLast, parts_record};
 
 use crate::event::{event_at, put_bytes};
 use crate::header::Header;
@@ -14,12 +14,13 @@ use lf_rules::{NoMemory, Record};
 use std::alloc::Global;
 use std::marker::Model;
 
-/// Where the fixed part of a record and the bytes that its event carries stand, one behind the other.
+/// Where the fixed part of a record and the bytes that its event carries stand, one behind the other. The
+/// numbers are short, since one thread writes the forms and others read them.
 #[derive(Drop)]
 struct Parts {
     head: Head,
-    at: usize,
-    len: usize,
+    at: u32,
+    len: u32,
 }
 
 /// The parts of a record, or the record elsewhere.
@@ -30,7 +31,8 @@ enum Form {
 }
 
 /// Event records that a reader found, in the form of their bytes: most take less than a fifth of the room
-/// of a `Record`, which has room for a second-level block. One that was put together from several pieces is kept whole.
+/// of a `Record`, which has room for a second-level block. They stand among the bytes of the pieces that were
+/// read, which are kept as they came. A record that was put together from several pieces is kept whole.
 #[derive(Drop)]
 pub struct Packed {
     alloc: Global,
@@ -44,7 +46,7 @@ impl Model for Packed {
 
     ghost Value = { PackedRecords };
 
-    ghost view = { λ p. record { header = p.header; records = records_in_forms p.header p.bytes.items p.forms.items } };
+    ghost view = { λ p. record { header = p.header; bytes = p.bytes.items; records = records_in_forms p.header p.bytes.items p.forms.items } };
 
     ghost invariant = { λ p. AreWithin p.header p.bytes.items p.forms.items };
 }
@@ -132,7 +134,8 @@ impl Packed {
 
     /// From now on parts are kept under this header, where there is no record. There is one header at a time.
     pub(crate) fn take_header(&mut self, header: &Header)
-        ensures { self.new.records ≡ self.old.records }
+        ensures rest { self.new ≡ record self.old { header = self.new.header } }
+        ensures header { self.old.records ≡ [] → self.new.header ≡ header.now }
     {
         if self.forms.is_empty() {
             self.header = *header;
@@ -141,33 +144,53 @@ impl Packed {
 
     /// Whether records under this header can be kept by their parts.
     pub(crate) fn takes(&mut self, header: &Header) -> bool
-        ensures records { self.new.records ≡ self.old.records }
+        ensures rest { self.new ≡ record self.old { header = self.new.header } }
         ensures header { IsTrue result → self.new.header ≡ header.now }
     {
         self.take_header(header);
         self.header == *header
     }
 
-    /// Keeps a record by its parts.
-    #[inline(always)]
-    pub(crate) fn push_parts(&mut self, head: Head, parts: &[u8]) -> Result<(), NoMemory>
-        requires range { IsInRange self.old.header }
-        requires parts { AreParts self.old.header head.kind parts.now }
-        ensures { OnOk result (self.new.records ≡ self.old.records ++ parts_record self.old.header head parts.now ∷ []) }
+    /// Keeps the bytes of a piece behind the others.
+    pub(crate) fn keep(&mut self, piece: &[u8]) -> Result<(), NoMemory>
+        ensures { OnOk result (self.new ≡ record self.old { bytes = self.old.bytes ++ piece.now }) }
     {
-        let at = self.bytes.as_slice().len();
-        self.bytes.extend_from_slice(parts)?;
-        self.forms.push(Form::Parts(Parts {
-            head,
-            at,
-            len: parts.len(),
-        }))?;
+        self.bytes.extend_from_slice(piece)?;
         Ok(())
+    }
+
+    /// Keeps a record by its parts, so many bytes at the front of the last ones, and says whether there
+    /// was room for it. No room is made here.
+    #[inline(always)]
+    pub(crate) fn push_parts(&mut self, head: Head, last: &[u8], len: usize) -> bool
+        requires last { StandLast self.old.bytes last.now }
+        requires len { len ≤ length last.now }
+        requires parts { AreParts self.old.header head.kind (take len last.now) }
+        ensures kept { IsTrue result → self.new ≡ record self.old { records = self.old.records ++ parts_record self.old.header head (take len last.now) ∷ [] } }
+        ensures none { ¬ IsTrue result → self.new ≡ self.old }
+    {
+        let at = self.bytes.as_slice().len() - last.len();
+        if self.forms.len() >= self.forms.capacity() || at + len >= 0x1_0000_0000 {
+            return false;
+        }
+        self.forms.push_reserved(Form::Parts(Parts {
+            head,
+            at: at as u32,
+            len: len as u32,
+        }));
+        true
     }
 
     /// Keeps a record whole. `NoMemory` where a growth was refused.
     pub fn push(&mut self, item: Record) -> Result<(), NoMemory>
         ensures { OnOk result (self.new.records ≡ self.old.records ++ item ∷ []) }
+    {
+        self.push_whole(item)
+    }
+
+    /// The same, which changes nothing else.
+    pub(crate) fn push_whole(&mut self, item: Record) -> Result<(), NoMemory>
+        ensures { OnOk result (self.new ≡ record self.old { records = self.old.records ++ item ∷ [] }) }
     {
         let apart = Box::new(self.alloc, item)?;
         self.forms.push(Form::Apart(apart))?;
@@ -214,7 +237,8 @@ impl Packed {
     {
         match &self.forms[at] {
             Form::Parts(parts) => {
-                let bytes = &self.bytes[parts.at..parts.at + parts.len];
+                let at = parts.at as usize;
+                let bytes = &self.bytes[at..at + parts.len as usize];
                 unpack(&self.header, parts.head, bytes, place);
                 place
             }

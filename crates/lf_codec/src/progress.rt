@@ -2,6 +2,7 @@
 
 ghost use Rattle.std.specs.Prelude.{◌≡◌, ◌+◌, ◌<◌, ◌≤◌, ◌^◌, length, slice_index, OnOk};
 ghost use Rattle.lf_codec.specs.Reading.{at_start};
+ghost use Rattle.lf_codec.specs.declared.stage.Stage.TheVariants as stages;
 ghost use Rattle.lf_codec.specs.Steps.{fixed_len, stage_len, within, at_next, past_header, past_memory, counted, past_head, past_fixed, advanced};
 
 use crate::checks::{check_end, check_fixed, check_head, check_header, check_memory};
@@ -94,15 +95,29 @@ impl Progress {
         self.least = u64::from(block) + 1;
     }
 
-    #[inline(always)]
-    pub(crate) fn count(&mut self, n: u64, log: u8)
+    fn count(&mut self, n: u64, log: u8)
         requires room { self.old.position + n < 2 ^ 64 }
         requires log { log < 32 }
         requires one_more { self.old.count + 1 < 2 ^ 32 }
         requires one_more_of_log { slice_index self.old.counts log + 1 < 2 ^ 32 }
         ensures { self.new ≡ counted self.old n log }
     {
-        self.at_next(n, Stage::Head);
+        self.stage = Stage::Head;
+        self.count_on(n, log);
+    }
+
+    /// The same where the stage is a head. It stays as it is, since it costs time to write one.
+    #[inline(always)]
+    pub(crate) fn count_on(&mut self, n: u64, log: u8)
+        requires stage { self.old.stage ≡ stages.Head }
+        requires room { self.old.position + n < 2 ^ 64 }
+        requires log { log < 32 }
+        requires one_more { self.old.count + 1 < 2 ^ 32 }
+        requires one_more_of_log { slice_index self.old.counts log + 1 < 2 ^ 32 }
+        ensures { self.new ≡ counted self.old n log }
+    {
+        self.position += n;
+        self.offset = self.position;
         self.counts[log as usize] += 1;
         self.count += 1;
     }

@@ -1,17 +1,20 @@
 //! An event record that stands whole in a piece.
 
-ghost use Rattle.std.specs.Prelude.{◌≡◌, ◌++◌, length, Some, IfSome, IfNone, IfOk, OnErr};
+ghost use Rattle.std.specs.Prelude.{◌≡◌, ◌++◌, length, Some, IfSome, IfNone};
 ghost use Rattle.lf_codec.specs.declared.stage.Stage.TheVariants as stages;
+ghost use Rattle.lf_codec.specs.Layout.{code_of};
+ghost use Rattle.lf_codec.specs.Checks.{byte_at};
+ghost use Rattle.lf_codec.specs.Packed.{StandLast};
 ghost use Rattle.lf_codec.specs.Carrying.{carrying, CanCarry};
 ghost use Rattle.lf_codec.specs.Takes.{IsWholeHead, AreWholeParts, ReadsInto, MayPack};
 
-use crate::checks::{check_fixed, check_head};
+use crate::checks::{check_fixed, check_head_of};
 use crate::event::{event_at, put_bytes};
 use crate::packed::Packed;
 use crate::progress::Progress;
 use crate::stage::{Head, Kind, Stage};
 use crate::step::{data_len, fixed_len};
-use lf_rules::{NoMemory, Record};
+use lf_rules::Record;
 
 /// The first bytes and those behind them, where there are so many.
 fn split(bytes: &[u8], len: usize) -> Option<(&[u8], &[u8])>
@@ -21,6 +24,19 @@ fn split(bytes: &[u8], len: usize) -> Option<(&[u8], &[u8])>
         return None;
     }
     Some(bytes.split_at(len))
+}
+
+/// The kind that the first byte names.
+fn first_kind(bytes: &[u8]) -> Option<Kind>
+    ensures { IfSome result (λ kind. code_of kind ≡ byte_at 0 bytes.now) }
+{
+    if bytes.is_empty() {
+        return None;
+    }
+    match Kind::try_from(bytes[0]) {
+        Ok(kind) => Some(kind),
+        Err(_) => None,
+    }
 }
 
 /// Puts the record into the place, and then the bytes into its event, so that neither is copied.
@@ -39,22 +55,21 @@ fn put_record(place: &mut Option<Record>, bare: Record, carried: &[u8])
 impl Progress {
     ghost use Rattle.lf_codec.specs.Sound.{IsInRange, IsSound};
 
-    /// The head of the next record and the bytes behind it, where the bytes have it whole and its checks
-    /// pass.
-    fn whole_head<'a>(&self, bytes: &'a [u8]) -> Option<(Head, &'a [u8])>
-        requires { IsSound self.now }
+    /// The head of the next record, which is of this kind, and the bytes behind it, where the bytes have it
+    /// whole and its checks pass.
+    #[inline(always)]
+    fn whole_head<'a>(&self, kind: Kind, bytes: &'a [u8]) -> Option<(Head, &'a [u8])>
+        requires sound { IsSound self.now }
+        requires kind { code_of kind ≡ byte_at 0 bytes.now }
         ensures stage { IfSome result (λ parts. self.now.stage ≡ stages.Head) }
-        ensures range { IfSome result (λ parts. IsInRange self.now.header) }
+        ensures kind { IfSome result (λ parts. kind ≡ parts.0.kind) }
         ensures head { IfSome result (λ parts. IsWholeHead self.now bytes.now parts.0 parts.1.now) }
     {
         let Stage::Head = self.stage else {
             return None;
         };
         let (first, rest) = split(bytes, 8)?;
-        if first[0] == 0 {
-            return None;
-        }
-        let Ok(head) = check_head(&self.header, &self.counts, first) else {
+        let Ok(head) = check_head_of(&self.header, &self.counts, kind, first) else {
             return None;
         };
         Some((head, rest))
@@ -75,25 +90,16 @@ impl Progress {
         Some((fixed, carried))
     }
 
-    /// Reads the event of this kind behind its record's head, where the bytes have it whole and its checks
-    /// pass: puts the record into `place`, counts it and says how many bytes it has. Otherwise nothing
-    /// changes.
+    /// Reads the next record, which is of this kind, where the bytes have it whole and its checks pass: puts
+    /// it into `place`, counts it and says how many bytes it has. Otherwise nothing changes.
     #[inline(always)]
-    fn read_event(
-        &mut self,
-        kind: Kind,
-        head: Head,
-        bytes: &[u8],
-        rest: &[u8],
-        place: &mut Option<Record>,
-    ) -> Option<usize>
+    fn read_event(&mut self, kind: Kind, bytes: &[u8], place: &mut Option<Record>) -> Option<usize>
         requires sound { IsSound self.old }
-        requires stage { self.old.stage ≡ stages.Head }
-        requires kind { kind ≡ head.kind }
-        requires front { IsWholeHead self.old bytes.now head rest.now }
+        requires kind { code_of kind ≡ byte_at 0 bytes.now }
         ensures some { IfSome result (λ n. ReadsInto self.old bytes.now n place.new self.new) }
         ensures none { IfNone result (self.new ≡ self.old) }
     {
+        let (head, rest) = self.whole_head(kind, bytes)?;
         let (fixed, carried) = self.whole_parts(kind, head.bank, rest)?;
         let len = 8 + fixed.len() + carried.len();
         let bare = Record {
@@ -103,99 +109,84 @@ impl Progress {
             event: event_at(&self.header, kind, fixed, &[]),
         };
         put_record(place, bare, carried);
-        self.count(len as u64, head.log);
+        self.count_on(len as u64, head.log);
         Some(len)
     }
 
     /// Reads the next record, where the bytes have it whole and all of its checks pass: puts it into
     /// `place`, counts it and says how many bytes it has. Otherwise nothing changes. Each call of
     /// `read_event` names its kind: that and what it calls are inlined, so that the code of a kind has its
-    /// own lengths, has no test of another kind, and writes the record once.
+    /// own checks and lengths, has no test of another kind, and writes the record once.
     pub(crate) fn read_record(&mut self, bytes: &[u8], place: &mut Option<Record>) -> Option<usize>
         requires { IsSound self.old }
         ensures some { IfSome result (λ n. ReadsInto self.old bytes.now n place.new self.new) }
         ensures none { IfNone result (self.new ≡ self.old) }
     {
-        let (head, rest) = self.whole_head(bytes)?;
-        match head.kind {
-            Kind::Issue => self.read_event(Kind::Issue, head, bytes, rest, place),
-            Kind::Reply => self.read_event(Kind::Reply, head, bytes, rest, place),
-            Kind::Hit => self.read_event(Kind::Hit, head, bytes, rest, place),
-            Kind::Primary => self.read_event(Kind::Primary, head, bytes, rest, place),
-            Kind::Merge => self.read_event(Kind::Merge, head, bytes, rest, place),
-            Kind::Stall => self.read_event(Kind::Stall, head, bytes, rest, place),
-            Kind::Fill1 => self.read_event(Kind::Fill1, head, bytes, rest, place),
-            Kind::Evict1 => self.read_event(Kind::Evict1, head, bytes, rest, place),
-            Kind::SecondHit => self.read_event(Kind::SecondHit, head, bytes, rest, place),
-            Kind::SecondPrimary => self.read_event(Kind::SecondPrimary, head, bytes, rest, place),
-            Kind::SecondStall => self.read_event(Kind::SecondStall, head, bytes, rest, place),
-            Kind::Fill2 => self.read_event(Kind::Fill2, head, bytes, rest, place),
-            Kind::Evict2 => self.read_event(Kind::Evict2, head, bytes, rest, place),
-            Kind::Fence => self.read_event(Kind::Fence, head, bytes, rest, place),
-            Kind::SecondMerge => self.read_event(Kind::SecondMerge, head, bytes, rest, place),
+        match first_kind(bytes)? {
+            Kind::Issue => self.read_event(Kind::Issue, bytes, place),
+            Kind::Reply => self.read_event(Kind::Reply, bytes, place),
+            Kind::Hit => self.read_event(Kind::Hit, bytes, place),
+            Kind::Primary => self.read_event(Kind::Primary, bytes, place),
+            Kind::Merge => self.read_event(Kind::Merge, bytes, place),
+            Kind::Stall => self.read_event(Kind::Stall, bytes, place),
+            Kind::Fill1 => self.read_event(Kind::Fill1, bytes, place),
+            Kind::Evict1 => self.read_event(Kind::Evict1, bytes, place),
+            Kind::SecondHit => self.read_event(Kind::SecondHit, bytes, place),
+            Kind::SecondPrimary => self.read_event(Kind::SecondPrimary, bytes, place),
+            Kind::SecondStall => self.read_event(Kind::SecondStall, bytes, place),
+            Kind::Fill2 => self.read_event(Kind::Fill2, bytes, place),
+            Kind::Evict2 => self.read_event(Kind::Evict2, bytes, place),
+            Kind::Fence => self.read_event(Kind::Fence, bytes, place),
+            Kind::SecondMerge => self.read_event(Kind::SecondMerge, bytes, place),
         }
     }
 
-    /// The same, but that the parts of the record are kept with the others' and no event is built.
-    /// `NoMemory` where there is no room for them; then nothing changes here.
+    /// The same of a record of this kind, but that its parts are kept with the others' and no event is built.
+    /// The bytes are the last of those that are kept.
     #[inline(always)]
-    fn pack_event(
-        &mut self,
-        kind: Kind,
-        head: Head,
-        bytes: &[u8],
-        rest: &[u8],
-        records: &mut Packed,
-    ) -> Result<Option<usize>, NoMemory>
+    fn pack_event(&mut self, kind: Kind, bytes: &[u8], records: &mut Packed) -> Option<usize>
         requires sound { IsSound self.old }
-        requires stage { self.old.stage ≡ stages.Head }
-        requires kind { kind ≡ head.kind }
-        requires front { IsWholeHead self.old bytes.now head rest.now }
+        requires kind { code_of kind ≡ byte_at 0 bytes.now }
         requires header { records.old.header ≡ self.old.header }
-        ensures ok { IfOk result (λ n. MayPack self.old bytes.now n records.old.records records.new.records self.new) }
-        ensures err { OnErr result (self.new ≡ self.old) }
+        requires last { StandLast records.old.bytes bytes.now }
+        ensures packed { MayPack self.old bytes.now result records.old.records records.new.records self.new }
+        ensures rest { records.new ≡ record records.old { records = records.new.records } }
     {
-        let Some((fixed, carried)) = self.whole_parts(kind, head.bank, rest) else {
-            return Ok(None);
-        };
+        let (head, rest) = self.whole_head(kind, bytes)?;
+        let (fixed, carried) = self.whole_parts(kind, head.bank, rest)?;
         let len = fixed.len() + carried.len();
-        records.push_parts(head, &rest[..len])?;
-        self.count(8 + len as u64, head.log);
-        Ok(Some(8 + len))
+        if !records.push_parts(head, rest, len) {
+            return None;
+        }
+        self.count_on(8 + len as u64, head.log);
+        Some(8 + len)
     }
 
     /// Reads the next record as `read_record` does, and keeps it with the others by its parts.
-    pub(crate) fn pack_record(
-        &mut self,
-        bytes: &[u8],
-        records: &mut Packed,
-    ) -> Result<Option<usize>, NoMemory>
-        requires { IsSound self.old }
-        ensures ok { IfOk result (λ n. MayPack self.old bytes.now n records.old.records records.new.records self.new) }
-        ensures err { OnErr result (self.new ≡ self.old) }
+    #[inline(always)]
+    pub(crate) fn pack_record(&mut self, bytes: &[u8], records: &mut Packed) -> Option<usize>
+        requires sound { IsSound self.old }
+        requires header { records.old.header ≡ self.old.header }
+        requires last { StandLast records.old.bytes bytes.now }
+        ensures packed { MayPack self.old bytes.now result records.old.records records.new.records self.new }
+        ensures rest { records.new ≡ record records.old { records = records.new.records } }
     {
-        let Some((head, rest)) = self.whole_head(bytes) else {
-            return Ok(None);
-        };
-        if !records.takes(&self.header) {
-            return Ok(None);
-        }
-        match head.kind {
-            Kind::Issue => self.pack_event(Kind::Issue, head, bytes, rest, records),
-            Kind::Reply => self.pack_event(Kind::Reply, head, bytes, rest, records),
-            Kind::Hit => self.pack_event(Kind::Hit, head, bytes, rest, records),
-            Kind::Primary => self.pack_event(Kind::Primary, head, bytes, rest, records),
-            Kind::Merge => self.pack_event(Kind::Merge, head, bytes, rest, records),
-            Kind::Stall => self.pack_event(Kind::Stall, head, bytes, rest, records),
-            Kind::Fill1 => self.pack_event(Kind::Fill1, head, bytes, rest, records),
-            Kind::Evict1 => self.pack_event(Kind::Evict1, head, bytes, rest, records),
-            Kind::SecondHit => self.pack_event(Kind::SecondHit, head, bytes, rest, records),
-            Kind::SecondPrimary => self.pack_event(Kind::SecondPrimary, head, bytes, rest, records),
-            Kind::SecondStall => self.pack_event(Kind::SecondStall, head, bytes, rest, records),
-            Kind::Fill2 => self.pack_event(Kind::Fill2, head, bytes, rest, records),
-            Kind::Evict2 => self.pack_event(Kind::Evict2, head, bytes, rest, records),
-            Kind::Fence => self.pack_event(Kind::Fence, head, bytes, rest, records),
-            Kind::SecondMerge => self.pack_event(Kind::SecondMerge, head, bytes, rest, records),
+        match first_kind(bytes)? {
+            Kind::Issue => self.pack_event(Kind::Issue, bytes, records),
+            Kind::Reply => self.pack_event(Kind::Reply, bytes, records),
+            Kind::Hit => self.pack_event(Kind::Hit, bytes, records),
+            Kind::Primary => self.pack_event(Kind::Primary, bytes, records),
+            Kind::Merge => self.pack_event(Kind::Merge, bytes, records),
+            Kind::Stall => self.pack_event(Kind::Stall, bytes, records),
+            Kind::Fill1 => self.pack_event(Kind::Fill1, bytes, records),
+            Kind::Evict1 => self.pack_event(Kind::Evict1, bytes, records),
+            Kind::SecondHit => self.pack_event(Kind::SecondHit, bytes, records),
+            Kind::SecondPrimary => self.pack_event(Kind::SecondPrimary, bytes, records),
+            Kind::SecondStall => self.pack_event(Kind::SecondStall, bytes, records),
+            Kind::Fill2 => self.pack_event(Kind::Fill2, bytes, records),
+            Kind::Evict2 => self.pack_event(Kind::Evict2, bytes, records),
+            Kind::Fence => self.pack_event(Kind::Fence, bytes, records),
+            Kind::SecondMerge => self.pack_event(Kind::SecondMerge, bytes, records),
         }
     }
 }

@@ -8,6 +8,7 @@ invariant-loop-at l = record {
   within : l.at ≤ length l.piece;
   fine : l.self.fault ≡ None;
   so_far : with_records l.records.records l.self ≡ read_on (with_records l.initial.records.records l.initial.self) (take l.at l.piece);
+  bytes : l.records.bytes ≡ l.initial.records.bytes;
   drained : l.initial.self.records ≡ [] → l.self.records ≡ [];
 }
 
