@@ -11,7 +11,6 @@ use lf_samples::{
     records_at,
 };
 use std::alloc::Global;
-use std::collections::VecDeque;
 use std::process::Abort;
 use std::test::Fail;
 
@@ -190,27 +189,6 @@ fn waiting_records_into_a_place(rt: HostRuntime) -> Result<(), Fail> {
         rest = feed_one(&mut reader, rest, &mut place)?;
         assert_eq!(rt; place.as_ref(), Some(item));
     }
-    Ok(())
-}
-
-/// All records at once, in their order. The queue that the reader takes for them is the next to be filled.
-#[test]
-fn records_all_at_once(rt: HostRuntime) -> Result<(), Fail> {
-    let records = records(rt.alloc(), &C1, &[LOAD, LOADED])?;
-    let mut reader = Reader::new(rt.alloc());
-    let mut given = VecDeque::new(rt.alloc());
-    let (front, back) = LOAD_MISSES_BOTH_LEVELS.split_at(100);
-    reader.feed(front)?;
-    reader.swap_records(&mut given);
-    assert_eq!(rt; reader.front(), None);
-    let mut later = VecDeque::new(rt.alloc());
-    reader.feed(back)?;
-    reader.swap_records(&mut later);
-    given.append(&mut later)?;
-    assert!(rt; given.iter().eq(records.iter()));
-    reader.swap_records(&mut later);
-    assert!(rt; later.is_empty());
-    assert_eq!(rt; reader.finish()?, ONE_BANK);
     Ok(())
 }
 
