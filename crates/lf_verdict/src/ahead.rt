@@ -17,10 +17,6 @@ use std::alloc::Global;
 use std::mem;
 use std::thread::Threads;
 
-/// Fewer workers than these judge in the thread that reads, which is faster: two or three cannot take more
-/// from it than it costs to hand the records over.
-const FEWEST: u32 = 4;
-
 /// What was fed so far. The last records are read and wait to be judged, and those before them may be with
 /// a thread that judges them. A thread is lent `batch` records or more at a time.
 #[derive(Drop)]
@@ -49,11 +45,12 @@ impl Ahead {
         }
     }
 
-    /// How many threads judge beside the one that reads.
+    /// How many threads judge beside the one that reads: one enters the records into their logs, and as many
+    /// as there are workers judge the banks.
     fn threads(&self) -> usize
         ensures { 1 < result }
     {
-        (self.workers.saturating_sub(1) as usize).max(2)
+        self.workers.max(1) as usize + 1
     }
 
     /// Whether records are judged.
@@ -249,7 +246,7 @@ impl Ahead {
         if let Some(stop) = self.intake.stop {
             return Err(Told::Failed(refusal_of(stop)));
         }
-        if self.workers >= FEWEST && self.is_running() {
+        if self.workers > 1 && self.is_running() {
             return self.feed_ahead(rt, piece);
         }
         self.feed_alone(rt, piece)

@@ -23,9 +23,9 @@ use std::thread::Threads;
 /// fill the caches of the processors.
 const BATCH: usize = 16384;
 
-/// Judges a trace while its bytes come, as `Session` does. With four workers or more one reads the trace
-/// while the others judge what was read, so that a refusal for want of memory may come with a later piece.
-/// Fewer workers are the one that reads, which is faster then.
+/// Judges a trace while its bytes come, as `Session` does. With more than one worker a thread reads the trace,
+/// another enters what was read into the logs, and as many as there are workers judge the banks, so that a
+/// refusal for want of memory may come with a later piece. One worker does all in one thread.
 ///
 /// A session that is dropped before `finish` may leave a thread at work, which ends by itself.
 #[derive(Drop)]
