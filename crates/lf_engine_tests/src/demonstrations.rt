@@ -42,7 +42,7 @@ const WIDE_OF_FOUR: Shape = Shape {
 };
 
 /// Fails where the trace of a demonstration is not legal, or has another number of events.
-fn assert_legal<T: Abort + AllocGlobal + Threads + Wait + Sync>(
+fn assert_legal<T: Abort + AllocGlobal + Threads + Wait + Sync + Send + Copy + 'static>(
     rt: &T,
     shape: &Shape,
 ) -> Result<(), Fail>
