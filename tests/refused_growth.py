@@ -12,7 +12,7 @@ of `demo` are tried at some growths alone, since their number changes from run t
 Each test whose name begins with `refused_growth_of_` must then end with `want of memory`, where the call told it
 and what it left was right, or with `want of a thread` where the making of a thread was refused, which may have been
 the memory that it takes (a call with one worker has a clause that it never tells so); with AllocError or no memory
-where the growth was one of the samples that the test makes, before the call. The test of a session that is fed by
+where the growth was one of the samples that the test makes, before the call. The test of a session with
 four workers also ends well where a thread was refused, or the memory for one. Other ends are findings: a test that
 ends well, since an answer was given in place of want of memory, and one that an assertion stopped. The tests of
 `TOLD` are examples of further calls: they must fail and name the want of memory. A test of which no crate in out/
@@ -116,10 +116,10 @@ TOLD = [
     ("lf_replay_tests", "load_merges_behind_store_by_replay"),
 ]
 
-# A session that is fed by several workers goes on without a thread that was refused, or the memory for it: this for
-# the thread that reads, and for the one that enters the records.
+# A session with several workers goes on without a thread that was refused, or the memory for it: this for the thread
+# that is lent a batch, for the one that enters the records, and for those of the banks.
 BESIDE = "refused_growth_of_session_by_four_workers"
-THREAD_BYTES = (b"56", b"32")
+THREAD_BYTES = (b"160", b"56", b"32")
 
 # The status of a test that returned an error. One that an assertion stops ends by a signal.
 FAILED = 101

@@ -47,16 +47,20 @@ fn refused_growth_of_a_reader(rt: HostRuntime) -> Result<(), Fail> {
     Err(want_of_memory())
 }
 
-/// Nor is a growth of the caller's records passed over.
+/// Nor is a growth of the caller's records passed over. A record that is kept whole goes through the reader's
+/// own queue, whose want of memory is the reader's fault.
 #[test]
 fn refused_growth_of_packed_records(rt: HostRuntime) -> Result<(), Fail> {
     let mut packed = Packed::new(rt.alloc());
     let mut reader = Reader::new(rt.alloc());
     match reader.feed_into(&LOAD_MISSES_BOTH_LEVELS, &mut packed) {
-        Ok(told) => {
-            told?;
+        Ok(Ok(())) => {
             assert_eq!(rt; packed.len(), 6);
             Ok(())
+        }
+        Ok(Err(told)) => {
+            assert_eq!(rt; told.fault().cause, CodecCause::NoMemory);
+            Err(want_of_memory())
         }
         Err(NoMemory) => Err(want_of_memory()),
     }

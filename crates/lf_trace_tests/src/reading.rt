@@ -54,6 +54,7 @@ pub fn assert_packed(rt: &impl Abort, packed: &Packed, records: &[Record]) {
         let item = records.get(at);
         assert_eq!(rt; Some(packed.bank(at)), item.map(|r| r.bank));
         assert_eq!(rt; Some(packed.log(at)), item.map(|r| r.log));
+        assert_eq!(rt; Some(packed.number(at)), item.map(|r| r.number));
         assert_eq!(rt; Some(packed.lend(at, &mut place)), item);
     }
 }
