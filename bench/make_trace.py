@@ -9,128 +9,97 @@ size, for benchmarks and as an example of how a model of your own records a trac
 In versions 2 and 3 a port drains its tags now and then and records a fence. In version 3 a block of
 level two may be 2 or 4 blocks of level one. Both levels hold copies of the bytes, as a cache does.
 
-`Recorder` is all that a model needs to write a trace: one call for each event, which takes the next
-number of the event's bank. The format is in docs/FORMAT.md, the rules are in docs/RULES.md, and the
+It records by `lfts.Recorder` of recorders/python: one call for each event, which takes the next number
+of the event's bank. The format is in docs/FORMAT.md, the rules are in docs/RULES.md, and the
 configuration that `--config` writes is that of the same shape."""
+
+from __future__ import annotations
 
 import argparse
 import collections
+import functools
+import io
+import pathlib
 import random
-import struct
+import sys
+from dataclasses import dataclass
+from typing import BinaryIO, Callable, Deque, Dict, Generic, List, NamedTuple, Optional, Set, Tuple, TypeVar, Union
 
-LOAD, STORE = 0, 1
-NO_BANK = 255
+sys.path.insert(0, str(pathlib.Path(__file__).resolve().parent.parent / "recorders/python/src"))
+import lfts  # noqa: E402
+from lfts import LOAD, STORE  # noqa: E402
 
-
-class Recorder:
-    """The records of a trace, in the order in which they happen. A second-level block has `factor`
-    blocks, which is 1 before version 3."""
-
-    def __init__(self, ports, banks, block, version=1, factor=1):
-        self.ports, self.banks, self.block, self.version, self.factor = ports, banks, block, version, factor
-        self.numbers = [0] * banks
-        self.counts = [0] * (ports + banks)
-        self.records = []
-
-    def put(self, kind, log, bank, number, body):
-        self.counts[log] += 1
-        self.records.append(struct.pack("<BBBBI", kind, log, bank, 0, number) + body)
-
-    def record(self, kind, log, bank, body):
-        self.put(kind, log, bank, self.numbers[bank], body)
-        self.numbers[bank] += 1
-
-    def issue(self, port, bank, op, tag, size, address, data=b""):
-        self.record(1, port, bank, struct.pack("<BBBBQ", op, tag, size, 0, address) + data)
-
-    def reply(self, port, bank, tag, data):
-        self.record(2, port, bank, struct.pack("<BBH", tag, len(data), 0) + data)
-
-    def fence(self, port):
-        """No tag of the port is busy. A fence names no bank and has no number. From version 2 on."""
-        self.put(14, port, NO_BANK, 0, b"")
-
-    def by_bank(self, kind, bank, body):
-        self.record(kind, self.ports + bank, bank, body)
-
-    def hit(self, bank, port, tag):
-        self.by_bank(3, bank, struct.pack("<BBH", port, tag, 0))
-
-    def primary(self, bank, port, tag, register):
-        self.by_bank(4, bank, struct.pack("<BBH", port, tag, register))
-
-    def merge(self, bank, port, tag, register):
-        self.by_bank(5, bank, struct.pack("<BBH", port, tag, register))
-
-    def stall(self, bank, port, tag):
-        self.by_bank(6, bank, struct.pack("<BBH", port, tag, 0))
-
-    def fill1(self, bank, block, data):
-        self.by_bank(7, bank, struct.pack("<I", block) + data)
-
-    def evict1(self, bank, block, mask, data):
-        self.by_bank(8, bank, struct.pack("<IQ", block, mask) + masked(data, mask))
-
-    def second_hit(self, bank, block):
-        self.by_bank(9, bank, struct.pack("<I", block))
-
-    def second_primary(self, bank, block, register):
-        self.by_bank(10, bank, struct.pack("<IHH", block, register, 0))
-
-    def second_stall(self, bank, block):
-        self.by_bank(11, bank, struct.pack("<I", block))
-
-    def second_merge(self, bank, block, register):
-        """A block joins the fetch of its second-level block. In version 3."""
-        self.by_bank(15, bank, struct.pack("<IHH", block, register, 0))
-
-    def fill2(self, bank, second, parts):
-        """A second-level block comes, with the bytes of each of its blocks."""
-        self.by_bank(12, bank, struct.pack("<I", second) + b"".join(parts))
-
-    def evict2(self, bank, second, masks, parts):
-        """A second-level block goes, with the mask and the bytes of each of its blocks."""
-        spelled = struct.pack(f"<I{len(masks)}Q", second, *masks)
-        self.by_bank(13, bank, spelled + b"".join(masked(data, mask) for data, mask in zip(parts, masks)))
-
-    def write(self, path, memory, log_by_log=False):
-        """Writes the trace. `memory` has the bytes of each block that is not zero at first. The records
-        stand in the order in which they happened, or those of each log together."""
-        factor = self.factor if self.version == 3 else 0
-        header = b"LFTS" + struct.pack("<HBBHHI", self.version, self.ports, self.banks, self.block, factor, len(memory))
-        with open(path, "wb") as out:
-            out.write(header)
-            for block in sorted(memory):
-                out.write(struct.pack("<I", block) + bytes(memory[block]))
-            records = sorted(self.records, key=lambda record: record[1]) if log_by_log else self.records
-            out.write(b"".join(records))
-            out.write(struct.pack("<BBBBI", 0, 0, 0, 0, len(self.records)))
+Memory = Dict[int, bytearray]
+Out = Union[str, BinaryIO]
+Asked = TypeVar("Asked")
+Held = TypeVar("Held")
 
 
-def masked(data, mask):
-    return bytes(byte for place, byte in enumerate(data) if mask >> place & 1)
+@dataclass
+class Shape:
+    """The arguments: the cache, and what is run on it."""
+
+    version: int
+    factor: int
+    ports: int
+    banks: int
+    block: int
+    tags: int
+    sets1: int
+    ways1: int
+    organisation1: str
+    registers1: int
+    entries1: int
+    sets2: int
+    ways2: int
+    organisation2: str
+    registers2: int
+    entries2: int
+    events: int
+    seed: int
+    footprint: int
+    fences: int
+    crowded: int
+    log_by_log: bool
+    out: str
+    config: Optional[str]
 
 
-Request = collections.namedtuple("Request", "port tag op size block offset data")
-# `asked` is what waits for the block: at level one a request, at level two one of its blocks
-Target = collections.namedtuple("Target", "register block destination position asked")
+class Request(NamedTuple):
+    port: int
+    tag: int
+    op: lfts.Op
+    size: int
+    block: int
+    offset: int
+    data: bytes
 
 
-class File:
+@dataclass(frozen=True)
+class Target(Generic[Asked]):
+    """What waits for a block in a register: at level one a request, at level two one of the block's own blocks."""
+
+    register: int
+    block: int
+    position: int
+    asked: Asked
+
+
+class File(Generic[Asked]):
     """The registers of one level of one bank: a list of targets in the order of acceptance."""
 
-    def __init__(self, organisation, registers, entries, destinations):
+    def __init__(self, organisation: str, registers: int, entries: int, destinations: int) -> None:
         self.organisation, self.entries = organisation, entries
         self.registers = destinations if organisation == "inverted" else registers
-        self.targets = []
+        self.targets: List[Target[Asked]] = []
 
-    def holds(self, block):
+    def holds(self, block: int) -> bool:
         return any(t.block == block for t in self.targets)
 
-    def free(self, register):
+    def free(self, register: int) -> bool:
         return all(t.register != register for t in self.targets)
 
-    def register_for(self, block, destination, position):
+    def register_for(self, block: int, destination: int, position: int) -> Optional[int]:
         """The register that a target may take, if there is room."""
         if self.organisation == "inverted":
             return destination if self.free(destination) else None
@@ -142,7 +111,7 @@ class File:
             return register if all(t.position != position for t in own) else None
         return register if len(own) < self.entries else None
 
-    def release(self, block):
+    def release(self, block: int) -> List[Target[Asked]]:
         released = [t for t in self.targets if t.block == block]
         self.targets = [t for t in self.targets if t.block != block]
         return released
@@ -151,36 +120,36 @@ class File:
 class Line:
     """The bytes of a block, and which of them were written since the line came."""
 
-    def __init__(self, data):
+    def __init__(self, data: bytes) -> None:
         self.data, self.mask = bytearray(data), 0
 
 
-def write_back(data, line):
+def write_back(data: bytearray, line: Line) -> None:
     """The written bytes of a line go to the level below."""
     for place, byte in enumerate(line.data):
         if line.mask >> place & 1:
             data[place] = byte
 
 
-class Level:
+class Level(Generic[Held]):
     """The lines of one level of one bank. `index` says the set of a block, off the number of sets."""
 
-    def __init__(self, sets, ways, index):
+    def __init__(self, sets: int, ways: int, index: Callable[[int], int]) -> None:
         self.sets, self.ways, self.index = sets, ways, index
-        self.lines = {}
-        self.by_set = collections.defaultdict(list)
+        self.lines: Dict[int, Held] = {}
+        self.by_set: Dict[int, List[int]] = collections.defaultdict(list)
 
-    def set_of(self, block):
+    def set_of(self, block: int) -> int:
         return self.index(block) % self.sets
 
-    def full(self, block):
+    def full(self, block: int) -> bool:
         return len(self.by_set[self.set_of(block)]) >= self.ways
 
-    def put(self, block, line):
+    def put(self, block: int, line: Held) -> None:
         self.lines[block] = line
         self.by_set[self.set_of(block)].append(block)
 
-    def take(self, block):
+    def take(self, block: int) -> Held:
         self.by_set[self.set_of(block)].remove(block)
         return self.lines.pop(block)
 
@@ -189,27 +158,32 @@ class Bank:
     """One bank of both levels, over the blocks of memory below it. A line of level two is on a
     second-level block: it is the list of the `Line`s of its blocks."""
 
-    def __init__(self, number, shape, recorder, memory, random):
+    def __init__(
+        self, number: int, shape: Shape, recorder: lfts.Recorder, memory: Memory, random: random.Random
+    ) -> None:
         self.number, self.shape, self.recorder, self.memory, self.random = number, shape, recorder, memory, random
         self.banks, self.factor = shape.banks, shape.factor
-        self.queues = [collections.deque() for _ in range(shape.ports)]
-        self.one = Level(shape.sets1, shape.ways1, self.index_in_one)
-        self.two = Level(shape.sets2, shape.ways2, lambda second: second // self.banks)
-        self.file1 = File(shape.organisation1, shape.registers1, shape.entries1, shape.ports * shape.tags)
-        self.file2 = File(shape.organisation2, shape.registers2, shape.entries2, self.file1.registers)
-        self.asked, self.supplied, self.ready = [], [], []
+        self.queues: List[Deque[Request]] = [collections.deque() for _ in range(shape.ports)]
+        self.one: Level[Line] = Level(shape.sets1, shape.ways1, self.index_in_one)
+        self.two: Level[List[Line]] = Level(shape.sets2, shape.ways2, lambda second: second // self.banks)
+        destinations = shape.ports * shape.tags
+        self.file1: File[Request] = File(shape.organisation1, shape.registers1, shape.entries1, destinations)
+        self.file2: File[int] = File(shape.organisation2, shape.registers2, shape.entries2, self.file1.registers)
+        self.asked: List[Tuple[int, int]] = []
+        self.supplied: List[int] = []
+        self.ready: List[Tuple[Request, bytes]] = []
 
-    def index_in_one(self, block):
+    def index_in_one(self, block: int) -> int:
         return block // self.factor // self.banks * self.factor + block % self.factor
 
-    def blocks_of(self, second):
+    def blocks_of(self, second: int) -> range:
         return range(second * self.factor, (second + 1) * self.factor)
 
-    def line_below(self, block):
+    def line_below(self, block: int) -> Line:
         """The line of a block in its second-level block's line."""
         return self.two.lines[block // self.factor][block % self.factor]
 
-    def serve(self, request, line):
+    def serve(self, request: Request, line: Line) -> bytes:
         """A load reads the line, a store writes it. What the reply carries."""
         place = slice(request.offset, request.offset + request.size)
         if request.op == STORE:
@@ -218,7 +192,7 @@ class Bank:
             return b""
         return bytes(line.data[place])
 
-    def accept(self, port):
+    def accept(self, port: int) -> bool:
         """The oldest request of a port hits, misses, merges or stalls."""
         request = self.queues[port][0]
         line = self.one.lines.get(request.block)
@@ -240,10 +214,10 @@ class Bank:
         else:
             self.recorder.primary(self.number, port, request.tag, register)
             self.asked.append((request.block, register))
-        self.file1.targets.append(Target(register, request.block, destination, position, request))
+        self.file1.targets.append(Target(register, request.block, position, request))
         return True
 
-    def look_up(self):
+    def look_up(self) -> bool:
         """Level two looks up a block that level one asked for."""
         block, destination = item = self.random.choice(self.asked)
         second, place = divmod(block, self.factor)
@@ -263,17 +237,17 @@ class Bank:
         else:
             self.recorder.second_primary(self.number, block, register)
         self.asked.remove(item)
-        self.file2.targets.append(Target(register, second, destination, place, block))
+        self.file2.targets.append(Target(register, second, place, block))
         return True
 
-    def evict1(self, block):
+    def evict1(self, block: int) -> None:
         line = self.one.take(block)
         self.recorder.evict1(self.number, block, line.mask, line.data)
         below = self.line_below(block)
         write_back(below.data, line)
         below.mask |= line.mask
 
-    def fetch(self):
+    def fetch(self) -> bool:
         """Level two gets a second-level block from memory, or makes room for it."""
         second = self.random.choice(self.file2.targets).block
         if self.two.full(second):
@@ -284,7 +258,7 @@ class Bank:
         self.two.put(second, lines)
         return True
 
-    def make_room_at_two(self, second):
+    def make_room_at_two(self, second: int) -> bool:
         own = self.two.by_set[self.two.set_of(second)]
         movable = [s for s in own if not any(self.file1.holds(block) for block in self.blocks_of(s))]
         if not movable:
@@ -300,7 +274,7 @@ class Bank:
             write_back(self.memory.setdefault(block, bytearray(self.shape.block)), line)
         return True
 
-    def fill(self):
+    def fill(self) -> bool:
         """Level one gets a block that level two supplied, or makes room for it."""
         block = self.random.choice(self.supplied)
         if self.one.full(block):
@@ -314,9 +288,10 @@ class Bank:
         self.one.put(block, line)
         return True
 
-    def step(self):
+    def step(self) -> bool:
         """One event of the bank, if one can happen."""
-        choices = [lambda p=p: self.accept(p) for p, queue in enumerate(self.queues) if queue]
+        ports = [port for port, queue in enumerate(self.queues) if queue]
+        choices: List[Callable[[], bool]] = [functools.partial(self.accept, port) for port in ports]
         if self.asked:
             choices.append(self.look_up)
         if self.file2.targets:
@@ -327,24 +302,31 @@ class Bank:
         return any(choice() for choice in choices)
 
 
-def block_for(shape, footprint, chance):
+def block_for(shape: Shape, chance: random.Random) -> int:
     """A block to touch. Of a hundred requests `crowded` go to bank 0, and the others to any bank."""
-    block = chance.randrange(footprint)
+    block = chance.randrange(shape.footprint)
     if shape.crowded and chance.randrange(100) < shape.crowded:
         block -= block // shape.factor % shape.banks * shape.factor
     return block
 
 
-def run(shape, events, footprint, seed):
-    """Runs the cache for so many events. The trace, and the memory that it begins with."""
-    chance = random.Random(seed)
-    recorder = Recorder(shape.ports, shape.banks, shape.block, shape.version, shape.factor)
-    memory = {block: bytearray(chance.randbytes(shape.block)) for block in range(0, footprint, 3)}
-    first = {block: bytes(data) for block, data in memory.items()}
+def run(shape: Shape, out: Out) -> lfts.Recorder:
+    """Runs the cache, and records the trace into a file. The recorder, when the trace is whole."""
+    chance = random.Random(shape.seed)
+    memory = {block: bytearray(chance.randbytes(shape.block)) for block in range(0, shape.footprint, 3)}
+    with lfts.Recorder(out, shape.ports, shape.banks, shape.block, shape.version, shape.factor) as recorder:
+        for block, data in memory.items():
+            recorder.memory(block, data)
+        drive(shape, recorder, memory, chance)
+    return recorder
+
+
+def drive(shape: Shape, recorder: lfts.Recorder, memory: Memory, chance: random.Random) -> None:
+    """Sends random requests, until there are as many events as the shape says."""
     banks = [Bank(number, shape, recorder, memory, chance) for number in range(shape.banks)]
     free = [list(range(shape.tags)) for _ in range(shape.ports)]
-    draining = set()
-    while len(recorder.records) < events:
+    draining: Set[int] = set()
+    while recorder.events < shape.events:
         port = chance.randrange(shape.ports)
         if port in draining:
             if len(free[port]) == shape.tags:
@@ -354,7 +336,7 @@ def run(shape, events, footprint, seed):
         elif free[port] and chance.random() < 0.5:
             tag = free[port].pop(chance.randrange(len(free[port])))
             op, size = chance.choice((LOAD, LOAD, STORE)), chance.choice((1, 2, 4, 8))
-            block = block_for(shape, footprint, chance)
+            block = block_for(shape, chance)
             address = block * shape.block + chance.randrange(shape.block // size) * size
             data = chance.randbytes(size) if op == STORE else b""
             request = Request(port, tag, op, size, block, address % shape.block, data)
@@ -371,10 +353,21 @@ def run(shape, events, footprint, seed):
             free[request.port].append(request.tag)
         else:
             bank.step()
-    return recorder, first
 
 
-def configuration(shape):
+def log_by_log(trace: bytes) -> bytes:
+    """The trace with the records of each log together."""
+    reader = lfts.Reader(trace)
+    first = bytearray(reader.header.encode(reader.memory_records))
+    logs = [bytearray() for _ in range(reader.header.logs)]
+    for item in reader:
+        part = logs[item.log] if isinstance(item, lfts.Record) else first
+        part += item.encode()
+    end = trace[-8:]
+    return b"".join((first, *logs, end))
+
+
+def configuration(shape: Shape) -> str:
     """The configuration of the shape, as `score check` reads it."""
     lines = [f"ports = {shape.ports}", f"banks = {shape.banks}", f"block = {shape.block}", f"tags = {shape.tags}"]
     for level in "12":
@@ -391,17 +384,29 @@ def configuration(shape):
     return "\n".join(lines) + "\n"
 
 
-def main():
+def main() -> None:
     parser = argparse.ArgumentParser(description=__doc__, formatter_class=argparse.RawDescriptionHelpFormatter)
     parser.add_argument("--events", type=int, default=10000)
     parser.add_argument("--seed", type=int, default=1)
     parser.add_argument("--footprint", type=int, default=4096, help="how many blocks the requests touch")
     parser.add_argument("--version", type=int, default=1, choices=(1, 2, 3), help="the version of the trace")
-    parser.add_argument("--factor", type=int, default=1, choices=(1, 2, 4), help="how many blocks a second-level block has")
-    parser.add_argument("--fences", type=int, default=50, metavar="N", help="from version 2 on a port records a fence "
-                        "after about N issues, and none where N is 0")
-    parser.add_argument("--crowded", type=int, default=0, metavar="PERCENT", help="how many of a hundred requests go to "
-                        "bank 0 whatever the block, so that one bank has most events")
+    parser.add_argument(
+        "--factor", type=int, default=1, choices=(1, 2, 4), help="how many blocks a second-level block has"
+    )
+    parser.add_argument(
+        "--fences",
+        type=int,
+        default=50,
+        metavar="N",
+        help="from version 2 on a port records a fence after about N issues, and none where N is 0",
+    )
+    parser.add_argument(
+        "--crowded",
+        type=int,
+        default=0,
+        metavar="PERCENT",
+        help="how many of a hundred requests go to bank 0 whatever the block, so that one bank has most events",
+    )
     parser.add_argument("--log-by-log", action="store_true", help="write the records of each log together")
     parser.add_argument("--out", required=True, help="the trace to write")
     parser.add_argument("--config", help="the configuration to write")
@@ -413,17 +418,21 @@ def main():
         parser.add_argument("--organisation" + level, default="explicit", choices=("implicit", "explicit", "inverted"))
         parser.add_argument("--registers" + level, type=int, default=8)
         parser.add_argument("--entries" + level, type=int, default=4)
-    shape = parser.parse_args()
+    shape = Shape(**vars(parser.parse_args()))
     if shape.factor > 1 and shape.version < 3:
         parser.error("before version 3 a second-level block is one block")
     if shape.version == 1:
         shape.fences = 0
-    recorder, memory = run(shape, shape.events, shape.footprint, shape.seed)
-    recorder.write(shape.out, memory, shape.log_by_log)
+    if shape.log_by_log:
+        trace = io.BytesIO()
+        recorder = run(shape, trace)
+        pathlib.Path(shape.out).write_bytes(log_by_log(trace.getvalue()))
+    else:
+        recorder = run(shape, shape.out)
     if shape.config:
         with open(shape.config, "w") as out:
             out.write(configuration(shape))
-    print(f"{len(recorder.records)} events, logs of {', '.join(map(str, recorder.counts))} records")
+    print(f"{recorder.events} events, logs of {', '.join(map(str, recorder.counts))} records")
 
 
 if __name__ == "__main__":

@@ -14,7 +14,8 @@ use Rattle.lf_codec.specs.Steps.{record_of, counted}
 use Rattle.lf_codec.specs.Sound.{IsInRange, IsSound, IsSoundReader}
 use Rattle.lf_codec.specs.declared.fault.CodecFault.{CodecFault}
 use Rattle.lf_codec.specs.Reading.{Reading, read_on, byte_read, with_front}
-use Rattle.lf_codec.specs.Takes.{AreWholeParts, IsRefused, WasRefused, TakesPart, PacksInto, MayPack}
+use Rattle.lf_codec.specs.Takes.{AreWholeParts, IsRefused, WasRefused, TakesPart, PacksPart, PacksInto, MayPack, HasReadOn, cut_short}
+use Rattle.lf_codec.proofs.Parts.{part_after, fault_after}
 use Rattle.lf_codec.proofs.Pieces.{read_on-with_front}
 use Rattle.lf_codec.proofs.Soundness.{data_limit, sound_reader}
 use Rattle.lf_codec.proofs.WholeRecord.{sound_behind, taken_at_once}
@@ -150,6 +151,43 @@ packed_takes r new bytes n before after into fine empty none sound same =
     ∙ ap (λ (q : Progress). with_front [] after (record r { progress = q })) into.is_counted
     ∙ ap (λ (rs : List Record). record r { progress = counted r.progress n into.item.log; records = rs }) behind in
     taken_at_once (with_front [] before r) (with_front [] after new) bytes into.item n fine empty into.stage into.whole sound is
+
+-- what the bytes behind some of a piece do
+pub on_after : (r mid new : Reading) (piece : List ℕ) (at : ℕ) → at ≤ length piece → mid ≡ read_on r (take at piece) → HasReadOn mid (drop at piece) new → HasReadOn r piece new
+on_after r mid new piece at within so_far outcome =
+    elim outcome [
+      | inl read ↦ inl (fault_after r mid new piece at within so_far read)
+      | inr was ↦
+          let there : read_on mid (take was.count (drop at piece)) ≡ read_on r (take (at + was.count) piece) =
+          part_after r mid (read_on mid (take was.count (drop at piece))) piece at was.count so_far refl in
+          inr (record {
+            count = at + was.count;
+            within = omega (arith, was.within, length-drop at piece);
+            fine = ap (λ (q : Reading). q.fault) (sym there) ∙ was.fine;
+            is = was.is ∙ ap cut_short there;
+          })
+    ]
+
+-- nothing of the bytes is read
+pub cut_at_once : (r new : Reading) (bytes : List ℕ) → r.fault ≡ None → new ≡ cut_short r → HasReadOn r bytes new
+cut_at_once r new bytes fine is = inr (record { count = 0; within = omega arith; fine = fine; is = is })
+
+-- a part that is taken from the bytes, with what the caller has in front
+pub part_fails_in_front : (rs : List Record) (old new : Reading) (bytes : List ℕ) (fault : CodecFault) → TakesPart old bytes (Err fault) new
+    → PacksPart (with_front [] rs old) bytes (Err fault) (with_front [] rs new)
+part_fails_in_front rs old new bytes fault took = let front = front_takes rs old bytes (Err fault) new took in (front.0, inl front.1)
+
+-- ... and whose record is moved
+pub part_moved : (rs : List Record) (old mid : Reading) (bytes : List ℕ) (n : ℕ) (whole new : Reading) → TakesPart old bytes (Ok n) mid → whole ≡ with_front [] rs mid → new ≡ whole
+    → TakesPart (with_front [] rs old) bytes (Ok n) new
+part_moved rs old mid bytes n whole new took is moved =
+    subst (TakesPart (with_front [] rs old) bytes (Ok n)) (sym (moved ∙ is)) (front_takes rs old bytes (Ok n) mid took)
+
+pub part_cut : (rs : List Record) (old mid : Reading) (bytes : List ℕ) (n : ℕ) (fault : CodecFault) (whole new : Reading) → TakesPart old bytes (Ok n) mid → whole ≡ with_front [] rs mid
+    → new ≡ cut_short whole → new.fault ≡ Some fault → PacksPart (with_front [] rs old) bytes (Err fault) new
+part_cut rs old mid bytes n fault whole new took is cut told =
+    let front = front_takes rs old bytes (Ok n) mid took in
+    (told, inr (record { count = n; within = front.1; fine = ap (λ (r : Reading). r.fault) (sym front.2) ∙ front.3; is = cut ∙ ap cut_short (is ∙ front.2) }))
 
 -- what follows of both answers, where there is one
 pub both : {A F : Type 0} {P S : A → Type 0} {Q : Type 0} (result : Result A F) → IfOk result P → OnOk result Q → ((a : A) → P a → Q → S a) → IfOk result S

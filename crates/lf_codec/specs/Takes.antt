@@ -45,6 +45,26 @@ pub record WasRefused (old : Reading) (bytes : List ℕ) (new : Reading) : Type 
   pub refused : IsRefused (read_on old (take count bytes)) (slice_index bytes count) new fault
   pub fine : (read_on old (take count bytes)).fault ≡ None
 
+-- a growth was refused where the next record begins
+abbrev pub cut_short : Reading → Reading
+cut_short r = record r { fault = Some (record { cause = NoMemory; offset = r.progress.offset }) }
+
+-- so many of the bytes were read, and then a growth was refused
+pub record WasCutShort (old : Reading) (bytes : List ℕ) (new : Reading) : Type 0 where
+  pub count : ℕ
+  pub within : count ≤ length bytes
+  pub fine : (read_on old (take count bytes)).fault ≡ None
+  pub is : new ≡ cut_short (read_on old (take count bytes))
+
+-- what a piece does to a reader and the caller's records, seen as one
+abbrev pub HasReadOn : Reading → List ℕ → Reading → Type 0
+HasReadOn old bytes new = ((new ≡ read_on old bytes) ⊎ WasRefused old bytes new) ⊎ WasCutShort old bytes new
+
+-- the records that wait are moved, which changes nothing of both as one, or a growth was refused
+abbrev pub MovesAll : Reading → Result (Unit {0}) CodecFault → Reading → Type 0
+MovesAll old (Ok _) new = new ≡ old
+MovesAll old (Err fault) new = (new ≡ cut_short old) × (fault.cause ≡ NoMemory) × (new.fault ≡ Some fault)
+
 -- at the front of these bytes the head of an event record stands whole, and its checks pass
 pub record IsWholeHead (p : Progress) (bytes : List ℕ) (head : Head) (rest : List ℕ) : Type 0 where
   pub first : List ℕ
@@ -77,6 +97,15 @@ pub record IsWholeRecord (p : Progress) (bytes : List ℕ) (item : Record) (len 
 abbrev pub TakesPart : Reading → List ℕ → Result ℕ CodecFault → Reading → Type 0
 TakesPart old bytes (Ok n) new = (0 < n) × (n ≤ length bytes) × (new ≡ read_on old (take n bytes)) × (new.fault ≡ None)
 TakesPart old bytes (Err fault) new = (new.fault ≡ Some fault) × ((new ≡ read_on old bytes) ⊎ WasRefused old bytes new)
+
+-- the same of a reader and the caller's records
+abbrev pub PacksPart : Reading → List ℕ → Result ℕ CodecFault → Reading → Type 0
+PacksPart old bytes (Ok n) new = TakesPart old bytes (Ok n) new
+PacksPart old bytes (Err fault) new = (new.fault ≡ Some fault) × HasReadOn old bytes new
+
+abbrev pub PacksAll : Reading → List ℕ → Result (Unit {0}) CodecFault → Reading → Type 0
+PacksAll old bytes (Ok _) new = (new ≡ read_on old bytes) × (new.fault ≡ None)
+PacksAll old bytes (Err fault) new = (new.fault ≡ Some fault) × HasReadOn old bytes new
 
 -- a growth was refused where what these bytes give was to be kept
 pub record IsUnkept (old : Reading) (bytes : List ℕ) (new : Reading) (fault : CodecFault) : Type 0 where

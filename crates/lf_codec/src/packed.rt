@@ -1,6 +1,6 @@
 //! Event records in the form of their bytes.
 
-ghost use Rattle.std.specs.Prelude.{◌≡◌, ◌<◌, ◌≤◌, ◌+◌, ◌++◌, ◌∷◌, ◌↔◌, [], IsTrue, OnOk, length, take, drop, slice_index_or};
+ghost use Rattle.std.specs.Prelude.{◌≡◌, ◌<◌, ◌≤◌, ◌+◌, ◌++◌, ◌∷◌, ◌↔◌, [], IsTrue, OnOk, OnErr, IfErr, length, take, drop, slice_index_or};
 ghost use Rattle.lf_rules.specs.declared.event.Record.{Record};
 ghost use Rattle.lf_codec.specs.Steps.{fixed_len, record_of};
 ghost use Rattle.lf_codec.specs.Sound.{IsInRange, most_data};
@@ -11,7 +11,7 @@ use crate::header::Header;
 use crate::stage::{Head, Kind};
 use crate::step::fixed_len;
 use lf_rules::{NoMemory, Record};
-use std::alloc::Global;
+use std::alloc::{AllocFailed, Global};
 use std::marker::Model;
 
 /// Where the fixed part of a record and the bytes that its event carries stand, one behind the other. The
@@ -153,7 +153,8 @@ impl Packed {
 
     /// Keeps the bytes of a piece behind the others.
     pub(crate) fn keep(&mut self, piece: &[u8]) -> Result<(), NoMemory>
-        ensures { OnOk result (self.new ≡ record self.old { bytes = self.old.bytes ++ piece.now }) }
+        ensures kept { OnOk result (self.new ≡ record self.old { bytes = self.old.bytes ++ piece.now }) }
+        ensures unchanged { OnErr result (self.new ≡ self.old) }
     {
         self.bytes.extend_from_slice(piece)?;
         Ok(())
@@ -181,19 +182,26 @@ impl Packed {
         true
     }
 
-    /// Keeps a record whole. `NoMemory` where a growth was refused.
+    /// Keeps a record whole. `NoMemory` where a growth was refused: then nothing has changed.
     pub fn push(&mut self, item: Record) -> Result<(), NoMemory>
-        ensures { OnOk result (self.new.records ≡ self.old.records ++ item ∷ []) }
+        ensures kept { OnOk result (self.new.records ≡ self.old.records ++ item ∷ []) }
+        ensures unchanged { OnErr result (self.new ≡ self.old) }
     {
-        self.push_whole(item)
+        self.push_whole(item)?;
+        Ok(())
     }
 
-    /// The same, which changes nothing else.
-    pub(crate) fn push_whole(&mut self, item: Record) -> Result<(), NoMemory>
-        ensures { OnOk result (self.new ≡ record self.old { records = self.old.records ++ item ∷ [] }) }
+    /// The same, which changes nothing else, and gives a record back that it could not keep.
+    pub(crate) fn push_whole(&mut self, item: Record) -> Result<(), AllocFailed<Record>>
+        ensures kept { OnOk result (self.new ≡ record self.old { records = self.old.records ++ item ∷ [] }) }
+        ensures given_back { IfErr result (λ refused. refused.value ≡ item) }
+        ensures unchanged { OnErr result (self.new ≡ self.old) }
     {
+        if self.forms.reserve(1).is_err() {
+            return Err(AllocFailed { value: item });
+        }
         let apart = Box::new(self.alloc, item)?;
-        self.forms.push(Form::Apart(apart))?;
+        self.forms.push_reserved(Form::Apart(apart));
         Ok(())
     }
 

@@ -1,13 +1,20 @@
--- Laws of the bytes that were handed to a session.
-use Rattle.std.proofs.Common.{◌≡◌, ◌≢◌, ℕ, List, Option, None, Some, sym, ◌∙◌, refl}
-use Rattle.std.specs.Io.KnownBytes.{Consumes}
+-- Laws of the bytes that were fed to a session.
+use Rattle.std.proofs.Common.{◌≡◌, ◌≢◌, ℕ, List, None, Some, Result, Ok, Err, sym, ◌∙◌, refl}
+use Rattle.std.specs.Prelude.{OnOk}
 use Rattle.lf_codec.specs.Laws.{AreBytes, FaultsSoFarAreNotTruncated}
 use Rattle.lf_codec.specs.Reading.{fault_so_far}
 use Rattle.lf_verdict.specs.declared.answer.Refusal.{Refusal}
 use Rattle.lf_verdict.specs.declared.answer.Refusal.TheVariants.{Workers, Config, Format, Header, Memory, Thread}
 use Rattle.lf_verdict.specs.declared.intake.Intake.{Intake}
 use Rattle.lf_verdict.specs.Session.{HasFed, IsRefusalSoFar}
+use Rattle.lf_stream.specs.Account.{Account}
+use Rattle.lf_stream.specs.Gathered.{IsPartRead}
 use Rattle.lf_engine.specs.Gathered.{HasFault}
+
+-- What holds holds where a call succeeded.
+pub on_ok : {T E P : Type 0} (r : Result T E) → P → OnOk r P
+on_ok (Ok v) p = p
+on_ok (Err e) p = tt
 
 -- Where no fault so far stands in the bytes, none stands whatever comes after them.
 pub none_stands : FaultsSoFarAreNotTruncated → (bytes : List ℕ) → fault_so_far bytes ≡ None → ¬ HasFault bytes
@@ -22,10 +29,9 @@ refused_stands so_far bytes (Header f) other is = absurd is
 refused_stands so_far bytes Memory other is = absurd (other refl)
 refused_stands so_far bytes Thread other is = absurd is
 
--- The session was fed all bytes that the reader gave so far, and no fault stands in them.
-pub record IsGathering {R : Type 0} (remaining : R → Option (List ℕ)) (old new : R) (session : Intake) : Type 0 where
+-- The session was fed what the reader answered so far, and no fault stands in that.
+pub record IsGathering (old new : Account) (session : Intake) : Type 0 where
   pub bytes : List ℕ
-  pub are_bytes : AreBytes bytes
-  pub given : Consumes (remaining old) (remaining new) bytes
   pub fed : HasFed session bytes
-  pub sound : ¬ HasFault bytes
+  pub are_bytes : AreBytes bytes
+  pub part : IsPartRead HasFault old new bytes

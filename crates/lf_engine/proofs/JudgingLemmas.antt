@@ -1,5 +1,5 @@
 -- Laws of the verdicts for a shape and for a configuration.
-use Rattle.std.proofs.Common.{◌≡◌, ◌≢◌, ℕ, ◌<◌, ◌≤◌, List, Option, None, Some, Result, Ok, Err, sym, ◌∙◌, subst, refl, inl, inr, [], arith}
+use Rattle.std.proofs.Common.{◌≡◌, ◌≢◌, ℕ, ◌<◌, ◌≤◌, List, None, Some, Result, Ok, Err, sym, ◌∙◌, subst, refl, inl, inr, [], arith}
 use Rattle.lf_rules.specs.declared.shape.Shape.{Shape}
 use Rattle.lf_rules.specs.Fits.{Bytes}
 use Rattle.lf_rules.specs.declared.event.Record.{Record}
@@ -20,11 +20,11 @@ use Rattle.lf_verdict.specs.declared.intake.Intake.{Intake}
 use Rattle.lf_verdict.specs.Session.{HasFed}
 use Rattle.lf_verdict.specs.Configured.{IsConfigFault, IsConfiguredVerdict, IsVerdictFor, IsLegalFor, IsRunlessNoFor}
 use Rattle.lf_verdict.proofs.One.{any_workers}
-use Rattle.lf_engine.specs.declared.counted.Counted.{Counted}
+use Rattle.lf_stream.specs.Account.{Account}
+use Rattle.lf_stream.specs.Gathered.{IsAllRead}
 use Rattle.lf_engine.specs.declared.fault.RunFault.{RunFault}
-use Rattle.lf_engine.specs.Counted.{calls_of, failures_of, inner_of}
 use Rattle.lf_engine.specs.Gathered.{HasFault}
-use Rattle.lf_engine.specs.Run.{IsAsked, IsRefusedFirst, IsVerdictOfRead, IsLegalRead, IfYes, IsOutcome, HasFedAll}
+use Rattle.lf_engine.specs.Run.{IsAsked, IsRefusedFirst, IsVerdictOfRead, IsLegalRead, IfYes, IsOutcome, Reads, piece_len}
 use Rattle.lf_engine.proofs.RunLemmas.{IsKept, IsFreeUnless, HasNoFault, MeansOfNo, MeansNothingElse}
 
 -- A trace has no fault.
@@ -88,31 +88,35 @@ shape_nothing shape bytes (No f) h = absurd h
 shape_nothing shape bytes (Yes events order) h = tt
 shape_nothing shape bytes (Refused f) h = tt
 
-legal_read : {R : Type 0} (remaining : R → Option (List ℕ)) (old new : R) (shape : Shape) (session : Intake) (v : Verdict)
-    → (g : HasFedAll remaining old new session)
-    → IsLegalYes shape g.bytes v → IfYes v (IsLegalRead remaining old new (IsLegal shape))
-legal_read remaining old new shape session (Yes events order) g h = record { bytes = g.bytes; reads = g.reads; legal = h.0 }
-legal_read remaining old new shape session (No f) g h = tt
-legal_read remaining old new shape session (Refused f) g h = tt
+legal_read : (old new : Account) (shape : Shape) (v : Verdict) (bytes : List ℕ) → Reads old new bytes → IsLegalYes shape bytes v
+    → IfYes v (IsLegalRead old new (IsLegal shape))
+legal_read old new shape (Yes events order) bytes reads h = record { bytes = bytes; reads = reads; legal = h.0 }
+legal_read old new shape (No f) bytes reads h = tt
+legal_read old new shape (Refused f) bytes reads h = tt
+
+-- All that was read, by pieces of so many bytes.
+pub all_read : (old new : Account) (most : ℕ) (bytes : List ℕ) → most ≡ piece_len → AreBytes bytes → IsAllRead HasFault most old new bytes
+    → Reads old new bytes
+all_read old new most bytes len are all = record { are_bytes = are; all = subst (λ (m : ℕ). IsAllRead HasFault m old new bytes) len all }
 
 -- What a session says of all that was read is what the run came to.
-pub finished : {R : Type 0} (remaining : R → Option (List ℕ)) (old new : Counted R) (shape : Shape) (workers turns : ℕ) (session : Intake) (v : Verdict)
-    → session.shape ≡ shape → IsWorkerCount workers → calls_of new ≤ turns → ¬ (0 < failures_of new)
-    → HasFedAll remaining (inner_of old) (inner_of new) session
+pub finished : (old new : Account) (shape : Shape) (workers turns : ℕ) (session : Intake) (v : Verdict)
+    → session.shape ≡ shape → IsWorkerCount workers → new.calls ≤ turns → ¬ (0 < new.failures)
+    → (bytes : List ℕ) → HasFed session bytes → Reads old new bytes
     → ((bytes : List ℕ) → HasFed session bytes → IsLegalYes session.shape bytes v)
     → ((bytes : List ℕ) → HasFed session bytes → IsDecided v → IsVerdictOf session.shape 1 bytes v)
     → ¬ (v ≡ Refused Thread)
-    → IsOutcome remaining old new (IsWorkerCount workers) (IsLegal shape) (IsVerdictOf shape workers) turns (Ok v)
-finished remaining old new shape workers turns session v same count few none g legal verdict thread = record {
+    → IsOutcome old new (IsWorkerCount workers) (IsLegal shape) (IsVerdictOf shape workers) turns (Ok v)
+finished old new shape workers turns session v same count few none bytes fed read legal verdict thread = record {
   reads = few;
   unread = λ unasked. absurd (unasked count);
   verdict = λ judged. record {
-    bytes = g.bytes;
-    reads = λ _. g.reads;
-    verdict = any_workers shape workers 1 g.bytes v count (omega arith, omega arith)
-        (subst (λ (s : Shape). IsVerdictOf s 1 g.bytes v) same (verdict g.bytes g.fed judged));
+    bytes = bytes;
+    reads = λ _. read;
+    verdict = any_workers shape workers 1 bytes v count (omega arith, omega arith)
+        (subst (λ (s : Shape). IsVerdictOf s 1 bytes v) same (verdict bytes fed judged));
   };
-  legal = legal_read remaining (inner_of old) (inner_of new) shape session v g (subst (λ (s : Shape). IsLegalYes s g.bytes v) same (legal g.bytes g.fed));
+  legal = legal_read old new shape v bytes read (subst (λ (s : Shape). IsLegalYes s bytes v) same (legal bytes fed));
   no_thread = λ e. thread cc;
   read = (λ e. cc, λ failed. absurd (none failed));
   turned = λ e. cc;
@@ -183,23 +187,23 @@ verdict_for text shape workers bytes (Refused Thread) e h = absurd h.1
 verdict_for text shape workers bytes (No f) e h = (h.0, record { shape = shape; configured = e; verdict = h.1 })
 verdict_for text shape workers bytes (Yes events order) e h = (h.0, record { shape = shape; configured = e; verdict = h.1 })
 
-legal_for : {R : Type 0} (remaining : R → Option (List ℕ)) (old new : R) (text : List ℕ) (shape : Shape) (v : Verdict) → configuration_of text ≡ Ok shape
-    → IfYes v (IsLegalRead remaining old new (IsLegal shape)) → IfYes v (IsLegalRead remaining old new (IsLegalFor text))
-legal_for remaining old new text shape (Yes events order) e h = record {
+legal_for : (old new : Account) (text : List ℕ) (shape : Shape) (v : Verdict) → configuration_of text ≡ Ok shape
+    → IfYes v (IsLegalRead old new (IsLegal shape)) → IfYes v (IsLegalRead old new (IsLegalFor text))
+legal_for old new text shape (Yes events order) e h = record {
   bytes = h.bytes;
   reads = h.reads;
   legal = record { shape = shape; configured = e; legal = h.legal };
 }
-legal_for remaining old new text shape (No f) e h = tt
-legal_for remaining old new text shape (Refused f) e h = tt
+legal_for old new text shape (No f) e h = tt
+legal_for old new text shape (Refused f) e h = tt
 
 -- What a run for a shape came to is what one for each text that says it comes to.
-pub outcome_for : {R : Type 0} (remaining : R → Option (List ℕ)) (old new : Counted R) (text : List ℕ) (shape : Shape) (workers turns : ℕ)
+pub outcome_for : (old new : Account) (text : List ℕ) (shape : Shape) (workers turns : ℕ)
     (outcome : Result Verdict RunFault)
     → configuration_of text ≡ Ok shape → IsWorkerCount workers
-    → IsOutcome remaining old new (IsWorkerCount workers) (IsLegal shape) (IsVerdictOf shape workers) turns outcome
-    → IsOutcome remaining old new (IsAsked text workers) (IsLegalFor text) (IsVerdictFor text workers) turns outcome
-outcome_for remaining old new text shape workers turns (Ok v) e count h = record {
+    → IsOutcome old new (IsWorkerCount workers) (IsLegal shape) (IsVerdictOf shape workers) turns outcome
+    → IsOutcome old new (IsAsked text workers) (IsLegalFor text) (IsVerdictFor text workers) turns outcome
+outcome_for old new text shape workers turns (Ok v) e count h = record {
   reads = h.reads;
   unread = λ unasked. absurd (unasked (count, (shape, e)));
   verdict = λ judged. let is = h.verdict judged in record {
@@ -207,14 +211,14 @@ outcome_for remaining old new text shape workers turns (Ok v) e count h = record
     reads = λ _. is.reads count;
     verdict = verdict_for text shape workers is.bytes v e is.verdict;
   };
-  legal = legal_for remaining (inner_of old) (inner_of new) text shape v e h.legal;
+  legal = legal_for old new text shape v e h.legal;
   no_thread = h.no_thread;
   read = h.read;
   turned = h.turned;
   sound = h.sound;
   no_write = h.no_write;
 }
-outcome_for remaining old new text shape workers turns (Err f) e count h = record {
+outcome_for old new text shape workers turns (Err f) e count h = record {
   reads = h.reads;
   unread = λ unasked. absurd (unasked (count, (shape, e)));
   verdict = tt;
@@ -236,16 +240,16 @@ fault_is_none text shape (told.Range key) h e = cc
 fault_is_none text shape told.NoMemory h e = h
 
 -- a refusal that comes before the trace is asked for is the verdict of any bytes
-refused_verdict : {R : Type 0} (remaining : R → Option (List ℕ)) (old new : R) (text : List ℕ) (workers : ℕ) (r : Refusal) → IsRefusedFirst text workers r
+refused_verdict : (old new : Account) (text : List ℕ) (workers : ℕ) (r : Refusal) → IsRefusedFirst text workers r
     → IsDecided (Refused r)
-    → IsVerdictOfRead remaining old new (IsAsked text workers) (IsVerdictFor text workers) (Refused r)
-refused_verdict remaining old new text workers (Workers n) h judged = record { bytes = []; reads = λ yes_asked. absurd (h.1 yes_asked.0); verdict = h }
-refused_verdict remaining old new text workers (Config f) h judged =
+    → IsVerdictOfRead old new (IsAsked text workers) (IsVerdictFor text workers) (Refused r)
+refused_verdict old new text workers (Workers n) h judged = record { bytes = []; reads = λ yes_asked. absurd (h.1 yes_asked.0); verdict = h }
+refused_verdict old new text workers (Config f) h judged =
     record { bytes = []; reads = λ yes_asked. absurd (fault_is_none text yes_asked.1.0 f h.1 yes_asked.1.1); verdict = h }
-refused_verdict remaining old new text workers (Format f) h judged = absurd h
-refused_verdict remaining old new text workers (OtherHeader f) h judged = absurd h
-refused_verdict remaining old new text workers Memory h judged = absurd judged
-refused_verdict remaining old new text workers Thread h judged = absurd h
+refused_verdict old new text workers (Format f) h judged = absurd h
+refused_verdict old new text workers (OtherHeader f) h judged = absurd h
+refused_verdict old new text workers Memory h judged = absurd judged
+refused_verdict old new text workers Thread h judged = absurd h
 
 not_thread : (text : List ℕ) (workers : ℕ) (r : Refusal) → IsRefusedFirst text workers r → r ≢ Thread
 not_thread text workers (Workers n) h = λ e. cc
@@ -255,13 +259,13 @@ not_thread text workers (OtherHeader f) h = absurd h
 not_thread text workers Memory h = λ e. cc
 not_thread text workers Thread h = absurd h
 
-pub refused_outcome : {R : Type 0} (remaining : R → Option (List ℕ)) (c : Counted R) (text : List ℕ) (workers turns : ℕ) (r : Refusal)
-    → IsRefusedFirst text workers r → calls_of c ≡ 0 → failures_of c ≡ 0
-    → IsOutcome remaining c c (IsAsked text workers) (IsLegalFor text) (IsVerdictFor text workers) turns (Ok (Refused r))
-refused_outcome remaining c text workers turns r h calls failures = record {
+pub refused_outcome : (a : Account) (text : List ℕ) (workers turns : ℕ) (r : Refusal)
+    → IsRefusedFirst text workers r → a.calls ≡ 0 → a.failures ≡ 0
+    → IsOutcome a a (IsAsked text workers) (IsLegalFor text) (IsVerdictFor text workers) turns (Ok (Refused r))
+refused_outcome a text workers turns r h calls failures = record {
   reads = omega (arith, calls);
   unread = λ _. refl;
-  verdict = refused_verdict remaining (inner_of c) (inner_of c) text workers r h;
+  verdict = refused_verdict a a text workers r h;
   legal = tt;
   no_thread = λ e. not_thread text workers r h cc;
   read = (λ e. cc, λ failed. let bad = failed in absurd (omega (arith, failures, bad)));

@@ -1,8 +1,6 @@
-pub mod KnownLemmas
 pub mod JudgingLemmas
 pub mod RunLemmas
 pub mod GatheringLemmas
-pub mod KeepingLemmas
 pub mod ReportLemmas
 pub mod TellingLemmas
 pub mod ProgramLemmas

@@ -1,14 +1,12 @@
 -- What a run came to, and what was told of it, are a run of the program.
-use Rattle.std.proofs.Common.{◌≡◌, ◌≢◌, ℕ, ◌<◌, List, take, Option, Result, Ok, Err, IfOk, IfErr, sym, ◌∙◌, subst, arith}
+use Rattle.std.proofs.Common.{◌≡◌, ◌≢◌, ℕ, ◌<◌, List, take, Result, Ok, Err, IfOk, IfErr, sym, ◌∙◌, subst, arith}
 use Rattle.std.specs.Prelude.{◌↔◌, IsErrOf}
-use Rattle.std.specs.Io.KnownBytes.{Appends}
 use Rattle.lf_codec.specs.Laws.{FaultsSoFarAreNotTruncated}
 use Rattle.lf_verdict.specs.declared.answer.Verdict.{Verdict}
 use Rattle.lf_verdict.specs.Verdict.{IsDecided}
-use Rattle.lf_engine.specs.declared.counted.Counted.{Counted}
+use Rattle.lf_stream.specs.Account.{Account, WentOut}
 use Rattle.lf_engine.specs.declared.fault.RunFault.{RunFault}
 use Rattle.lf_engine.specs.declared.fault.RunFault.TheVariants.{Read, Write}
-use Rattle.lf_engine.specs.Counted.{failures_of, inner_of}
 use Rattle.lf_engine.specs.Run.{GaveSound, IsVerdictOfRead, IsLegalRead, IfYes, IsOutcome, Follows, IsRunWriting}
 use Rattle.lf_engine.proofs.RunLemmas.{IsKept, IsFreeUnless, HasNoFault, MeansOfNo, MeansNothingElse, outcome_told}
 use Rattle.lf_engine.proofs.RunLemmas.{told_whole, told_legal, told_runless, whole_runless}
@@ -22,39 +20,39 @@ same_fault (Err x) said e follows is = sym follows ∙ is
 none_of : (n : ℕ) → ¬ (0 < n) → n ≡ 0
 none_of n none = omega (arith, none)
 
-module _ {R W : Type 0} (remaining : R → Option (List ℕ)) (contents : W → Option (List ℕ)) (old new : Counted R) (writer writer' : Counted W)
+module _ (old new writer writer' : Account)
     (asked : Type 0) (L : List ℕ → List ℕ → Type 0) (N V : List ℕ → Verdict → Type 0) (D : Result Verdict RunFault → List ℕ → Type 0) (turns : ℕ)
     (outcome said : Result Verdict RunFault)
-    (h : IsOutcome remaining old new asked L V turns outcome) (write : IsErrOf said Write ↔ (0 < failures_of writer'))
+    (h : IsOutcome old new asked L V turns outcome) (write : IsErrOf said Write ↔ (0 < writer'.failures))
     (follows : said ≢ Err Write → Follows outcome said) where
-  of_said : said ≢ Err Write → IsOutcome remaining old new asked L V turns said
-  of_said other = outcome_told remaining old new asked L V turns outcome said h (follows other)
+  of_said : said ≢ Err Write → IsOutcome old new asked L V turns said
+  of_said other = outcome_told old new asked L V turns outcome said h (follows other)
 
-  read_told : IsErrOf said Read → (0 < failures_of new) × (failures_of writer' ≡ 0)
+  read_told : IsErrOf said Read → (0 < new.failures) × (writer'.failures ≡ 0)
   read_told is =
       let other : said ≢ Err Write = λ w. cc in
-      (h.read.0 (same_fault outcome said Read (follows other) is), none_of (failures_of writer') (λ failed. other (write.1 failed)))
+      (h.read.0 (same_fault outcome said Read (follows other) is), none_of (writer'.failures) (λ failed. other (write.1 failed)))
 
-  told_read : (0 < failures_of new) × (failures_of writer' ≡ 0) → IsErrOf said Read
+  told_read : (0 < new.failures) × (writer'.failures ≡ 0) → IsErrOf said Read
   told_read failed =
       let other : said ≢ Err Write = λ w. let wrote = write.0 w in absurd (omega (arith, wrote, failed.1)) in
       let is : outcome ≡ Err Read = h.read.1 failed.0 in
       subst (λ (o : Result Verdict RunFault). Follows o said) is (follows other)
 
   pub run_of_program : FaultsSoFarAreNotTruncated → IsKept V → IsFreeUnless asked V → HasNoFault L → MeansOfNo asked V N → MeansNothingElse N
-      → (said ≢ Err Write → (text : List ℕ) × D said text × Appends (contents (inner_of writer)) (contents (inner_of writer')) text)
+      → (said ≢ Err Write → (text : List ℕ) × D said text × WentOut writer writer' text)
       → (said ≡ Err Write → (told : Result Verdict RunFault) × Follows outcome told
-      × ((text : List ℕ) × D told text × ((n : ℕ) × Appends (contents (inner_of writer)) (contents (inner_of writer')) (take n text))))
-      → IsRunWriting remaining contents old new writer writer' asked L N V D turns said
+      × ((text : List ℕ) × D told text × ((n : ℕ) × WentOut writer writer' (take n text))))
+      → IsRunWriting old new writer writer' asked L N V D turns said
   run_of_program so_far kept free sound means nothing written prefix =
-      let all = told_whole so_far remaining old new asked L V kept free turns outcome said h follows in
+      let all = told_whole so_far old new asked L V kept free turns outcome said h follows in
       record {
         reads = h.reads;
         unread = h.unread;
         legal = legal_of said (λ other. (of_said other).legal);
-        legal_whole = told_legal remaining old new asked L V sound turns outcome said h follows;
-        runless = told_runless remaining old new asked L V N means turns outcome said h follows;
-        runless_whole = whole_runless asked V N means nothing (remaining (inner_of old)) said all;
+        legal_whole = told_legal old new asked L V sound turns outcome said h follows;
+        runless = told_runless old new asked L V N means turns outcome said h follows;
+        runless_whole = whole_runless asked V N means nothing old.known said all;
         verdict = verdict_of said (λ other. (of_said other).verdict);
         whole = all;
         thread = λ e. let other : said ≢ Err Write = λ w. cc in (of_said other).no_thread e;
@@ -65,21 +63,21 @@ module _ {R W : Type 0} (remaining : R → Option (List ℕ)) (contents : W → 
         sound = sound_of said (λ other. (of_said other).sound);
         prefix = λ failed.
             let (told, told_follows, out) = prefix failed in
-            (told, outcome_told remaining old new asked L V turns outcome told h told_follows, out);
+            (told, outcome_told old new asked L V turns outcome told h told_follows, out);
       }
     where
-      legal_of : (r : Result Verdict RunFault) → (r ≢ Err Write → IfOk r (λ v. IfYes v (IsLegalRead remaining (inner_of old) (inner_of new) L)))
-          → IfOk r (λ v. IfYes v (IsLegalRead remaining (inner_of old) (inner_of new) L))
+      legal_of : (r : Result Verdict RunFault) → (r ≢ Err Write → IfOk r (λ v. IfYes v (IsLegalRead old new L)))
+          → IfOk r (λ v. IfYes v (IsLegalRead old new L))
       legal_of (Ok v) is = is (λ e. cc)
       legal_of (Err e) is = tt
 
       verdict_of : (r : Result Verdict RunFault)
-          → (r ≢ Err Write → IfOk r (λ v. IsDecided v → IsVerdictOfRead remaining (inner_of old) (inner_of new) asked V v))
-          → IfOk r (λ v. IsDecided v → IsVerdictOfRead remaining (inner_of old) (inner_of new) asked V v)
+          → (r ≢ Err Write → IfOk r (λ v. IsDecided v → IsVerdictOfRead old new asked V v))
+          → IfOk r (λ v. IsDecided v → IsVerdictOfRead old new asked V v)
       verdict_of (Ok v) is = is (λ e. cc)
       verdict_of (Err e) is = tt
 
-      sound_of : (r : Result Verdict RunFault) → (r ≢ Err Write → IfErr r (λ _. GaveSound remaining (inner_of old) (inner_of new)))
-          → IfErr r (λ e. e ≢ Write → GaveSound remaining (inner_of old) (inner_of new))
+      sound_of : (r : Result Verdict RunFault) → (r ≢ Err Write → IfErr r (λ _. GaveSound old new))
+          → IfErr r (λ e. e ≢ Write → GaveSound old new)
       sound_of (Ok v) is = tt
       sound_of (Err e) is = λ other. is (λ same. other (cc))

@@ -7,20 +7,19 @@ use Rattle.lf_codec.specs.Laws.{AreBytes, FaultsSoFarAreNotTruncated}
 use Rattle.lf_verdict.specs.declared.answer.Verdict.{Verdict}
 use Rattle.lf_verdict.specs.declared.answer.Verdict.TheVariants.{Yes, No, Refused}
 use Rattle.lf_verdict.specs.Verdict.{IsDecided}
-use Rattle.lf_engine.specs.declared.counted.Counted.{Counted}
+use Rattle.lf_stream.specs.Account.{Account}
 use Rattle.lf_engine.specs.declared.fault.RunFault.{RunFault}
 use Rattle.lf_engine.specs.declared.fault.RunFault.TheVariants.{Write}
-use Rattle.lf_engine.specs.Counted.{inner_of}
 use Rattle.lf_engine.specs.Gathered.{HasFault}
 use Rattle.lf_engine.proofs.GatheringLemmas.{none_stands}
 use Rattle.lf_engine.specs.Run.{IsVerdictOfRead, IsLegalRead, IsRunlessRead, IfYes, IfNo, IsOutcome, Follows}
 
 -- What is told of an outcome is an outcome.
-pub outcome_told : {R : Type 0} (remaining : R → Option (List ℕ)) (old new : Counted R) (asked : Type 0) (L : List ℕ → List ℕ → Type 0)
+pub outcome_told : (old new : Account) (asked : Type 0) (L : List ℕ → List ℕ → Type 0)
     (V : List ℕ → Verdict → Type 0) (turns : ℕ) (outcome said : Result Verdict RunFault)
-    → IsOutcome remaining old new asked L V turns outcome → Follows outcome said → IsOutcome remaining old new asked L V turns said
-outcome_told remaining old new asked L V turns (Ok v) (Ok w) h (inl e) = subst (λ x. IsOutcome remaining old new asked L V turns (Ok x)) (sym e) h
-outcome_told remaining old new asked L V turns (Ok v) (Ok w) h (inr e) = rw e (record {
+    → IsOutcome old new asked L V turns outcome → Follows outcome said → IsOutcome old new asked L V turns said
+outcome_told old new asked L V turns (Ok v) (Ok w) h (inl e) = subst (λ x. IsOutcome old new asked L V turns (Ok x)) (sym e) h
+outcome_told old new asked L V turns (Ok v) (Ok w) h (inr e) = rw e (record {
   reads = h.reads;
   unread = h.unread;
   verdict = λ judged. absurd judged;
@@ -31,8 +30,8 @@ outcome_told remaining old new asked L V turns (Ok v) (Ok w) h (inr e) = rw e (r
   sound = tt;
   no_write = λ x. cc;
 })
-outcome_told remaining old new asked L V turns (Ok v) (Err f) h e = absurd e
-outcome_told remaining old new asked L V turns (Err f) said h e = subst (IsOutcome remaining old new asked L V turns) (sym e) h
+outcome_told old new asked L V turns (Ok v) (Err f) h e = absurd e
+outcome_told old new asked L V turns (Err f) said h e = subst (IsOutcome old new asked L V turns) (sym e) h
 
 -- ---- what the verdicts are judged by
 
@@ -69,28 +68,28 @@ asked_whole so_far V kept v None b bytes are p q h = tt
 asked_whole so_far V kept v (Some all) None bytes are p q h = absurd p
 asked_whole so_far V kept v (Some all) (Some left) bytes are p q h = verdict_of_all so_far V kept v all left bytes are p q h
 
-judged_whole : {R : Type 0} → FaultsSoFarAreNotTruncated → (remaining : R → Option (List ℕ)) (old new : R) (asked : Type 0) (V : List ℕ → Verdict → Type 0)
-    → IsKept V → IsFreeUnless asked V → (v : Verdict) → IsVerdictOfRead remaining old new asked V v → IfSome (remaining old) (λ all. V all v)
-judged_whole so_far remaining old new asked V kept free v is = go (remaining old) refl
+judged_whole : FaultsSoFarAreNotTruncated → (old new : Account) (asked : Type 0) (V : List ℕ → Verdict → Type 0)
+    → IsKept V → IsFreeUnless asked V → (v : Verdict) → IsVerdictOfRead old new asked V v → IfSome old.known (λ all. V all v)
+judged_whole so_far old new asked V kept free v is = go old.known refl
   where
-    go : (a : Option (List ℕ)) → remaining old ≡ a → IfSome a (λ all. V all v)
+    go : (a : Option (List ℕ)) → old.known ≡ a → IfSome a (λ all. V all v)
     go None e = tt
     go (Some all) e = elim (free is.bytes all v is.verdict) [
       | inl yes_asked ↦
           let r = is.reads yes_asked in
-          rw e at (asked_whole so_far V kept v (remaining old) (remaining new) is.bytes r.are_bytes r.given r.enough is.verdict)
+          rw e at (asked_whole so_far V kept v old.known new.known is.bytes r.are_bytes r.all.given r.all.at_end is.verdict)
       | inr h ↦ h
     ]
 
-pub told_whole : {R : Type 0} → FaultsSoFarAreNotTruncated
-    → (remaining : R → Option (List ℕ)) (old new : Counted R) (asked : Type 0) (L : List ℕ → List ℕ → Type 0) (V : List ℕ → Verdict → Type 0)
+pub told_whole : FaultsSoFarAreNotTruncated
+    → (old new : Account) (asked : Type 0) (L : List ℕ → List ℕ → Type 0) (V : List ℕ → Verdict → Type 0)
     → IsKept V → IsFreeUnless asked V → (turns : ℕ) (outcome said : Result Verdict RunFault)
-    → IsOutcome remaining old new asked L V turns outcome → (said ≢ Err Write → Follows outcome said)
-    → IfOk said (λ v. IsDecided v → IfSome (remaining (inner_of old)) (λ all. V all v))
-told_whole so_far remaining old new asked L V kept free turns outcome (Ok v) h follows = λ judged.
-    judged_whole so_far remaining (inner_of old) (inner_of new) asked V kept free v
-    ((outcome_told remaining old new asked L V turns outcome (Ok v) h (follows (λ e. cc))).verdict judged)
-told_whole so_far remaining old new asked L V kept free turns outcome (Err e) h follows = tt
+    → IsOutcome old new asked L V turns outcome → (said ≢ Err Write → Follows outcome said)
+    → IfOk said (λ v. IsDecided v → IfSome old.known (λ all. V all v))
+told_whole so_far old new asked L V kept free turns outcome (Ok v) h follows = λ judged.
+    judged_whole so_far old new asked V kept free v
+    ((outcome_told old new asked L V turns outcome (Ok v) h (follows (λ e. cc))).verdict judged)
+told_whole so_far old new asked L V kept free turns outcome (Err e) h follows = tt
 
 -- Legal bytes that a reader gave are all that it had.
 legal_of_all : (L : List ℕ → List ℕ → Type 0) → HasNoFault L → (order : List ℕ) (a b : Option (List ℕ)) (bytes : List ℕ)
@@ -105,21 +104,21 @@ nothing_of_all : (a : Option (List ℕ)) → IfSome a (λ all. Unit {0})
 nothing_of_all None = tt
 nothing_of_all (Some all) = tt
 
-yes_whole : {R : Type 0} → (remaining : R → Option (List ℕ)) (old new : R) (L : List ℕ → List ℕ → Type 0) → HasNoFault L → (v : Verdict)
-    → IfYes v (IsLegalRead remaining old new L) → IfSome (remaining old) (λ all. IfYes v (L all))
-yes_whole remaining old new L sound (Yes events order) h =
-    legal_of_all L sound order.items (remaining old) (remaining new) h.bytes h.reads.are_bytes h.reads.given h.reads.enough h.legal
-yes_whole remaining old new L sound (No f) h = nothing_of_all (remaining old)
-yes_whole remaining old new L sound (Refused f) h = nothing_of_all (remaining old)
+yes_whole : (old new : Account) (L : List ℕ → List ℕ → Type 0) → HasNoFault L → (v : Verdict)
+    → IfYes v (IsLegalRead old new L) → IfSome old.known (λ all. IfYes v (L all))
+yes_whole old new L sound (Yes events order) h =
+    legal_of_all L sound order.items old.known new.known h.bytes h.reads.are_bytes h.reads.all.given h.reads.all.at_end h.legal
+yes_whole old new L sound (No f) h = nothing_of_all old.known
+yes_whole old new L sound (Refused f) h = nothing_of_all old.known
 
-pub told_legal : {R : Type 0} → (remaining : R → Option (List ℕ)) (old new : Counted R) (asked : Type 0) (L : List ℕ → List ℕ → Type 0)
+pub told_legal : (old new : Account) (asked : Type 0) (L : List ℕ → List ℕ → Type 0)
     (V : List ℕ → Verdict → Type 0)
     → HasNoFault L → (turns : ℕ) (outcome said : Result Verdict RunFault)
-    → IsOutcome remaining old new asked L V turns outcome → (said ≢ Err Write → Follows outcome said)
-    → IfOk said (λ v. IfSome (remaining (inner_of old)) (λ all. IfYes v (L all)))
-told_legal remaining old new asked L V sound turns outcome (Ok v) h follows =
-    yes_whole remaining (inner_of old) (inner_of new) L sound v (outcome_told remaining old new asked L V turns outcome (Ok v) h (follows (λ e. cc))).legal
-told_legal remaining old new asked L V sound turns outcome (Err e) h follows = tt
+    → IsOutcome old new asked L V turns outcome → (said ≢ Err Write → Follows outcome said)
+    → IfOk said (λ v. IfSome old.known (λ all. IfYes v (L all)))
+told_legal old new asked L V sound turns outcome (Ok v) h follows =
+    yes_whole old new L sound v (outcome_told old new asked L V turns outcome (Ok v) h (follows (λ e. cc))).legal
+told_legal old new asked L V sound turns outcome (Err e) h follows = tt
 
 -- ---- what a no means
 
@@ -131,25 +130,25 @@ MeansOfNo asked V N = (bytes : List ℕ) (v : Verdict) → V bytes v → IfNo v 
 abbrev pub MeansNothingElse : (List ℕ → Verdict → Type 0) → Type 0
 MeansNothingElse N = (bytes : List ℕ) (v : Verdict) → IfNo v ⊥ → N bytes v
 
-runless_read : {R : Type 0} → (remaining : R → Option (List ℕ)) (old new : R) (asked : Type 0) (V N : List ℕ → Verdict → Type 0) → MeansOfNo asked V N
+runless_read : (old new : Account) (asked : Type 0) (V N : List ℕ → Verdict → Type 0) → MeansOfNo asked V N
     → (v : Verdict)
-    → (IsDecided v → IsVerdictOfRead remaining old new asked V v) → IfNo v (IsRunlessRead remaining old new (λ bytes. N bytes v))
-runless_read remaining old new asked V N means (No f) h =
+    → (IsDecided v → IsVerdictOfRead old new asked V v) → IfNo v (IsRunlessRead old new (λ bytes. N bytes v))
+runless_read old new asked V N means (No f) h =
     let is = h tt in
     let both = means is.bytes (No f) is.verdict in
     record { bytes = is.bytes; reads = is.reads both.0; runless = both.1 }
-runless_read remaining old new asked V N means (Yes events order) h = tt
-runless_read remaining old new asked V N means (Refused f) h = tt
+runless_read old new asked V N means (Yes events order) h = tt
+runless_read old new asked V N means (Refused f) h = tt
 
-pub told_runless : {R : Type 0} → (remaining : R → Option (List ℕ)) (old new : Counted R) (asked : Type 0) (L : List ℕ → List ℕ → Type 0)
+pub told_runless : (old new : Account) (asked : Type 0) (L : List ℕ → List ℕ → Type 0)
     (V N : List ℕ → Verdict → Type 0)
     → MeansOfNo asked V N → (turns : ℕ) (outcome said : Result Verdict RunFault)
-    → IsOutcome remaining old new asked L V turns outcome → (said ≢ Err Write → Follows outcome said)
-    → IfOk said (λ v. IfNo v (IsRunlessRead remaining (inner_of old) (inner_of new) (λ bytes. N bytes v)))
-told_runless remaining old new asked L V N means turns outcome (Ok v) h follows =
-    runless_read remaining (inner_of old) (inner_of new) asked V N means v
-    (outcome_told remaining old new asked L V turns outcome (Ok v) h (follows (λ e. cc))).verdict
-told_runless remaining old new asked L V N means turns outcome (Err e) h follows = tt
+    → IsOutcome old new asked L V turns outcome → (said ≢ Err Write → Follows outcome said)
+    → IfOk said (λ v. IfNo v (IsRunlessRead old new (λ bytes. N bytes v)))
+told_runless old new asked L V N means turns outcome (Ok v) h follows =
+    runless_read old new asked V N means v
+    (outcome_told old new asked L V turns outcome (Ok v) h (follows (λ e. cc))).verdict
+told_runless old new asked L V N means turns outcome (Err e) h follows = tt
 
 all_runless : (asked : Type 0) (V N : List ℕ → Verdict → Type 0) → MeansOfNo asked V N → MeansNothingElse N → (a : Option (List ℕ)) (v : Verdict)
     → (IsDecided v → IfSome a (λ all. V all v)) → IfSome a (λ all. N all v)

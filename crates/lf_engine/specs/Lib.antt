@@ -2,5 +2,5 @@
 pub mod Run
 pub mod Report
 pub mod Line
-pub mod Counted
 pub mod Gathered
+pub mod Watch

@@ -12,7 +12,9 @@ use Rattle.lf_stats.specs.Text.{stats_text}
 use Rattle.lf_verdict.specs.declared.answer.Verdict.{Verdict}
 use Rattle.lf_verdict.specs.declared.answer.Verdict.TheVariants.{Yes}
 use Rattle.lf_verdict.specs.Legal.{IsTraceFor}
+use Rattle.lf_stream.specs.Account.{Account}
 use Rattle.lf_engine.specs.declared.fault.RunFault.{RunFault}
+use Rattle.lf_engine.specs.declared.report.Judged.{Judged}
 use Rattle.lf_engine.specs.declared.report.Report.{Report}
 use Rattle.lf_engine.specs.Run.{Reads, Follows, outcome_line}
 
@@ -36,18 +38,19 @@ pub record ArePrintedFor (shape : Shape) (bytes text : List ℕ) : Type 0 where
   pub statistics : AreStatisticsOf shape bytes stats
   pub lines : text ≡ stats_text stats
 
--- The text has the lines of the statistics of the bytes that the reader gave, for the shape that the configuration says.
-pub record ArePrinted {R : Type 0} (remaining : R → Option (List ℕ)) (old new : R) (config text : List ℕ) : Type 0 where
+-- The text has the lines of the statistics of the bytes that the reader answered, for the shape that the
+-- configuration says.
+pub record ArePrinted (old new : Account) (config text : List ℕ) : Type 0 where
   pub bytes : List ℕ
-  pub reads : Reads remaining old new bytes
+  pub reads : Reads old new bytes
   pub shape : Shape
   pub configured : configuration_of config ≡ Ok shape
   pub printed : ArePrintedFor shape bytes text
 
 -- What is written for this answer: the statistics for a yes, otherwise its line.
-abbrev pub IsWritten : {R : Type 0} → (R → Option (List ℕ)) → R → R → List ℕ → Result Verdict RunFault → List ℕ → Type 0
-IsWritten remaining old new config (Ok (Yes events order)) text = ArePrinted remaining old new config text
-IsWritten remaining old new config answer text = text ≡ outcome_line answer
+abbrev pub IsWritten : Account → Account → List ℕ → Result Verdict RunFault → List ℕ → Type 0
+IsWritten old new config (Ok (Yes events order)) text = ArePrinted old new config text
+IsWritten old new config answer text = text ≡ outcome_line answer
 
 -- ---- before it is written
 
@@ -60,10 +63,15 @@ abbrev pub HasLinesFor : Shape → List ℕ → Verdict → Option (String Globa
 HasLinesFor shape bytes verdict (Some text) = IsYesVerdict verdict × ArePrintedFor shape bytes (string_bytes text)
 HasLinesFor shape bytes verdict None = ¬ IsYesVerdict verdict
 
--- The same of the bytes that the reader gave.
-abbrev pub HasLinesIfYes : {R : Type 0} → (R → Option (List ℕ)) → R → R → List ℕ → Verdict → Option (String Global) → Type 0
-HasLinesIfYes remaining old new config verdict (Some text) = IsYesVerdict verdict × ArePrinted remaining old new config (string_bytes text)
-HasLinesIfYes remaining old new config verdict None = ¬ IsYesVerdict verdict
+-- Of the bytes that the reader answered the lines are there exactly where the verdict is a yes.
+abbrev pub HasLinesIfYes : Account → Account → List ℕ → Verdict → Option (String Global) → Type 0
+HasLinesIfYes old new config verdict (Some text) = IsYesVerdict verdict × ArePrinted old new config (string_bytes text)
+HasLinesIfYes old new config verdict None = ¬ IsYesVerdict verdict
+
+-- the verdict that a run came to
+abbrev pub judged_in : Result Judged RunFault → Result Verdict RunFault
+judged_in (Ok judged) = Ok judged.verdict
+judged_in (Err fault) = Err fault
 
 abbrev pub verdict_in : Result Report RunFault → Result Verdict RunFault
 verdict_in (Ok report) = Ok report.verdict

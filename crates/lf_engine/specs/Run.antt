@@ -1,6 +1,6 @@
 -- What a run of the engine reads, answers and writes.
-use Rattle.std.specs.Prelude.{◌≡◌, ◌≢◌, ℕ, ◌≤◌, ◌<◌, ◌↔◌, List, ◌++◌, length, take, Option, Result, Ok, Err, IfOk, IfErr, IfSome, IsErrOf, ◌⊎◌}
-use Rattle.std.specs.Io.KnownBytes.{Consumes, IsAtEnd, Appends}
+use Rattle.std.specs.Prelude.{◌≡◌, ◌≢◌, ℕ, ◌≤◌, ◌<◌, ◌↔◌, ◌⊎◌, List, take, Result, Ok, Err}
+use Rattle.std.specs.Prelude.{IfOk, IfErr, IfSome, IsErrOf}
 use Rattle.lf_rules.specs.declared.shape.Shape.{Shape}
 use Rattle.lf_codec.specs.Laws.{AreBytes}
 use Rattle.lf_verdict.specs.declared.answer.Verdict.{Verdict}
@@ -10,46 +10,28 @@ use Rattle.lf_verdict.specs.declared.answer.Refusal.TheVariants.{Workers, Config
 use Rattle.lf_config.specs.Configuration.{configuration_of}
 use Rattle.lf_verdict.specs.Verdict.{IsWorkerCount, IsDecided}
 use Rattle.lf_verdict.specs.Configured.{IsConfigFault}
-use Rattle.lf_verdict.specs.declared.intake.Intake.{Intake}
-use Rattle.lf_verdict.specs.Session.{HasFed}
-use Rattle.lf_engine.specs.declared.counted.Counted.{Counted}
+use Rattle.lf_stream.specs.Account.{Account, WentOut}
+use Rattle.lf_stream.specs.Gathered.{IsPartRead, IsAllRead}
 use Rattle.lf_engine.specs.declared.fault.RunFault.{RunFault}
 use Rattle.lf_engine.specs.declared.fault.RunFault.TheVariants.{Read, Turns, Write}
-use Rattle.lf_engine.specs.Counted.{calls_of, failures_of, inner_of}
 use Rattle.lf_engine.specs.Line.{line_of, not_read_line}
 use Rattle.lf_engine.specs.Gathered.{HasFault}
 
 -- ---- what is read
 
--- No fault stood in the bytes before the last read, which gave at most so many.
-pub record NoMore (most : ℕ) (bytes : List ℕ) : Type 0 where
-  pub before : List ℕ
-  pub last : List ℕ
-  pub cut : bytes ≡ before ++ last
-  pub one_read : length last ≤ most
-  pub sound : ¬ HasFault before
-
 -- the most bytes that one read asks for
 abbrev pub piece_len : ℕ
 piece_len = 65536
 
--- The reader gave these bytes between two moments, and then no more were wanted: it was at its end, or a fault
--- stands in them, which came with the last read.
-pub record Reads {R : Type 0} (remaining : R → Option (List ℕ)) (old new : R) (bytes : List ℕ) : Type 0 where
+-- These are the bytes that the reader answered between two moments, and then no more were wanted: the last read
+-- answered none, or a fault stands in them, which came with the last read.
+pub record Reads (old new : Account) (bytes : List ℕ) : Type 0 where
   pub are_bytes : AreBytes bytes
-  pub given : Consumes (remaining old) (remaining new) bytes
-  pub enough : ¬ HasFault bytes → IsAtEnd (remaining new)
-  pub no_more : NoMore piece_len bytes
+  pub all : IsAllRead HasFault piece_len old new bytes
 
--- The session was fed all bytes that the reader gave.
-pub record HasFedAll {R : Type 0} (remaining : R → Option (List ℕ)) (old new : R) (session : Intake) : Type 0 where
-  pub bytes : List ℕ
-  pub reads : Reads remaining old new bytes
-  pub fed : HasFed session bytes
-
--- The reader gave bytes in which no fault stands.
-abbrev pub GaveSound : {R : Type 0} → (R → Option (List ℕ)) → R → R → Type 0
-GaveSound remaining old new = (bytes : List ℕ) × Consumes (remaining old) (remaining new) bytes × ¬ HasFault bytes
+-- The reader answered bytes in which no fault stands.
+abbrev pub GaveSound : Account → Account → Type 0
+GaveSound old new = (bytes : List ℕ) × IsPartRead HasFault old new bytes
 
 -- ---- what is answered
 
@@ -64,23 +46,23 @@ IsRefusedFirst text workers (Config fault) = IsWorkerCount workers × IsConfigFa
 IsRefusedFirst text workers Memory = Unit {0}
 IsRefusedFirst text workers _ = ⊥
 
--- The verdict is that of the bytes that the reader gave. Where the trace was not asked for, nothing was read.
-pub record IsVerdictOfRead {R : Type 0} (remaining : R → Option (List ℕ)) (old new : R) (asked : Type 0)
-    (IsVerdict : List ℕ → Verdict → Type 0) (v : Verdict) : Type 0 where
+-- The verdict is that of the bytes that the reader answered. Where the trace was not asked for, nothing was read.
+pub record IsVerdictOfRead (old new : Account) (asked : Type 0) (IsVerdict : List ℕ → Verdict → Type 0)
+    (v : Verdict) : Type 0 where
   pub bytes : List ℕ
-  pub reads : asked → Reads remaining old new bytes
+  pub reads : asked → Reads old new bytes
   pub verdict : IsVerdict bytes v
 
--- The bytes that the reader gave are a legal trace, by this order.
-pub record IsLegalRead {R : Type 0} (remaining : R → Option (List ℕ)) (old new : R) (IsLegal : List ℕ → List ℕ → Type 0) (order : List ℕ) : Type 0 where
+-- The bytes that the reader answered are a legal trace, by this order.
+pub record IsLegalRead (old new : Account) (IsLegal : List ℕ → List ℕ → Type 0) (order : List ℕ) : Type 0 where
   pub bytes : List ℕ
-  pub reads : Reads remaining old new bytes
+  pub reads : Reads old new bytes
   pub legal : IsLegal bytes order
 
--- The bytes that the reader gave have no run where the verdict is a no.
-pub record IsRunlessRead {R : Type 0} (remaining : R → Option (List ℕ)) (old new : R) (IsRunless : List ℕ → Type 0) : Type 0 where
+-- The bytes that the reader answered have no run where the verdict is a no.
+pub record IsRunlessRead (old new : Account) (IsRunless : List ℕ → Type 0) : Type 0 where
   pub bytes : List ℕ
-  pub reads : Reads remaining old new bytes
+  pub reads : Reads old new bytes
   pub runless : IsRunless bytes
 
 abbrev pub IfNo : Verdict → Type 0 → Type 0
@@ -93,16 +75,16 @@ IfYes _ P = Unit {0}
 
 -- What a run came to before it wrote: when the trace is asked for, which orders make it legal and which verdict is
 -- that of some bytes is as it was said.
-pub record IsOutcome {R : Type 0} (remaining : R → Option (List ℕ)) (old new : Counted R) (asked : Type 0)
-    (IsLegal : List ℕ → List ℕ → Type 0) (IsVerdict : List ℕ → Verdict → Type 0) (turns : ℕ) (outcome : Result Verdict RunFault) : Type 0 where
-  pub reads : calls_of new ≤ turns
+pub record IsOutcome (old new : Account) (asked : Type 0) (IsLegal : List ℕ → List ℕ → Type 0)
+    (IsVerdict : List ℕ → Verdict → Type 0) (turns : ℕ) (outcome : Result Verdict RunFault) : Type 0 where
+  pub reads : new.calls ≤ turns
   pub unread : ¬ asked → new ≡ old
-  pub verdict : IfOk outcome (λ v. IsDecided v → IsVerdictOfRead remaining (inner_of old) (inner_of new) asked IsVerdict v)
-  pub legal : IfOk outcome (λ v. IfYes v (IsLegalRead remaining (inner_of old) (inner_of new) IsLegal))
+  pub verdict : IfOk outcome (λ v. IsDecided v → IsVerdictOfRead old new asked IsVerdict v)
+  pub legal : IfOk outcome (λ v. IfYes v (IsLegalRead old new IsLegal))
   pub no_thread : outcome ≢ Ok (Refused Thread)
-  pub read : (outcome ≡ Err Read) ↔ (0 < failures_of new)
-  pub turned : outcome ≡ Err Turns → calls_of new ≡ turns
-  pub sound : IfErr outcome (λ _. GaveSound remaining (inner_of old) (inner_of new))
+  pub read : (outcome ≡ Err Read) ↔ (0 < new.failures)
+  pub turned : outcome ≡ Err Turns → new.calls ≡ turns
+  pub sound : IfErr outcome (λ _. GaveSound old new)
   pub no_write : outcome ≢ Err Write
 
 -- What is told is what a run came to, or that memory ran out in telling a verdict.
@@ -123,40 +105,41 @@ IsLine answer text = text ≡ outcome_line answer
 
 -- ---- a run of the program
 
--- What a run reads, answers and writes. The words handed in say when the trace is asked for, by which orders bytes are
--- legal, what a no means of bytes, which verdict they have, and which text is due for an answer. The counts of the
--- reader and of the writer were 0.
-pub record IsRunWriting {R W : Type 0} (remaining : R → Option (List ℕ)) (contents : W → Option (List ℕ))
-    (reader reader' : Counted R) (writer writer' : Counted W) (asked : Type 0)
+-- What a run reads, answers and writes. The words handed in say when the trace is asked for, by which orders bytes
+-- are legal, what a no means of bytes, which verdict they have, and which text is due for an answer. The counts of
+-- the reader and of the writer were 0. What is said of the bytes that the reader answered holds for any reader, and
+-- what is said of all that it had for one of which that is known.
+pub record IsRunWriting (reader reader' writer writer' : Account) (asked : Type 0)
     (IsLegal : List ℕ → List ℕ → Type 0) (IsRunless IsVerdict : List ℕ → Verdict → Type 0)
     (IsDue : Result Verdict RunFault → List ℕ → Type 0) (turns : ℕ) (answer : Result Verdict RunFault) : Type 0 where
   -- No more reads than the caller allows, and none where the trace is not asked for.
-  pub reads : calls_of reader' ≤ turns
+  pub reads : reader'.calls ≤ turns
   pub unread : ¬ asked → reader' ≡ reader
-  -- A yes means that the bytes that the reader gave are a legal trace, and so are all that it had.
-  pub legal : IfOk answer (λ v. IfYes v (IsLegalRead remaining (inner_of reader) (inner_of reader') IsLegal))
-  pub legal_whole : IfOk answer (λ v. IfSome (remaining (inner_of reader)) (λ bytes. IfYes v (IsLegal bytes)))
-  -- A no means that the bytes that the reader gave have no run, and so with all that it had.
-  pub runless : IfOk answer (λ v. IfNo v (IsRunlessRead remaining (inner_of reader) (inner_of reader') (λ bytes. IsRunless bytes v)))
-  pub runless_whole : IfOk answer (λ v. IfSome (remaining (inner_of reader)) (λ bytes. IsRunless bytes v))
-  -- The verdict is that of the bytes that the reader gave, and of all that it had.
-  pub verdict : IfOk answer (λ v. IsDecided v → IsVerdictOfRead remaining (inner_of reader) (inner_of reader') asked IsVerdict v)
-  pub whole : IfOk answer (λ v. IsDecided v → IfSome (remaining (inner_of reader)) (λ bytes. IsVerdict bytes v))
+  -- A yes means that the bytes that the reader answered are a legal trace, and so are all that it had.
+  pub legal : IfOk answer (λ v. IfYes v (IsLegalRead reader reader' IsLegal))
+  pub legal_whole : IfOk answer (λ v. IfSome reader.known (λ bytes. IfYes v (IsLegal bytes)))
+  -- A no means that the bytes that the reader answered have no run, and so with all that it had.
+  pub runless : IfOk answer (λ v. IfNo v (IsRunlessRead reader reader' (λ bytes. IsRunless bytes v)))
+  pub runless_whole : IfOk answer (λ v. IfSome reader.known (λ bytes. IsRunless bytes v))
+  -- The verdict is that of the bytes that the reader answered, and of all that it had.
+  pub verdict : IfOk answer (λ v. IsDecided v → IsVerdictOfRead reader reader' asked IsVerdict v)
+  pub whole : IfOk answer (λ v. IsDecided v → IfSome reader.known (λ bytes. IsVerdict bytes v))
   pub thread : answer ≢ Ok (Refused Thread)
   -- What goes out is the text that is due for the answer.
-  pub written : answer ≢ Err Write → (text : List ℕ) × IsDue answer text × Appends (contents (inner_of writer)) (contents (inner_of writer')) text
+  pub written : answer ≢ Err Write → (text : List ℕ) × IsDue answer text × WentOut writer writer' text
   -- When each fault comes.
-  pub read : IsErrOf answer Read ↔ ((0 < failures_of reader') × (failures_of writer' ≡ 0))
-  pub turns_ran_out : IsErrOf answer Turns → calls_of reader' ≡ turns
-  pub write : IsErrOf answer Write ↔ (0 < failures_of writer')
+  pub read : IsErrOf answer Read ↔ ((0 < reader'.failures) × (writer'.failures ≡ 0))
+  pub turns_ran_out : IsErrOf answer Turns → reader'.calls ≡ turns
+  pub write : IsErrOf answer Write ↔ (0 < writer'.failures)
   -- Where a read failed or the turns were used up, no fault stood in what was read.
-  pub sound : IfErr answer (λ e. e ≢ Write → GaveSound remaining (inner_of reader) (inner_of reader'))
+  pub sound : IfErr answer (λ e. e ≢ Write → GaveSound reader reader')
   -- Where a write failed, what went out is the beginning of what was due.
-  pub prefix : IsErrOf answer Write → (told : Result Verdict RunFault) × IsOutcome remaining reader reader' asked IsLegal IsVerdict turns told
-      × ((text : List ℕ) × IsDue told text × ((n : ℕ) × Appends (contents (inner_of writer)) (contents (inner_of writer')) (take n text)))
+  pub prefix : IsErrOf answer Write → (told : Result Verdict RunFault)
+      × IsOutcome reader reader' asked IsLegal IsVerdict turns told
+      × ((text : List ℕ) × IsDue told text × ((n : ℕ) × WentOut writer writer' (take n text)))
 
 -- What goes out is the line of the verdict, or that the trace was not read.
-abbrev pub IsRunOfProgram : {R W : Type 0} → (R → Option (List ℕ)) → (W → Option (List ℕ)) → Counted R → Counted R → Counted W → Counted W
-    → Type 0 → (List ℕ → List ℕ → Type 0) → (List ℕ → Verdict → Type 0) → (List ℕ → Verdict → Type 0) → ℕ → Result Verdict RunFault → Type 0
-IsRunOfProgram remaining contents reader reader' writer writer' asked IsLegal IsRunless IsVerdict turns answer =
-    IsRunWriting remaining contents reader reader' writer writer' asked IsLegal IsRunless IsVerdict IsLine turns answer
+abbrev pub IsRunOfProgram : Account → Account → Account → Account → Type 0 → (List ℕ → List ℕ → Type 0)
+    → (List ℕ → Verdict → Type 0) → (List ℕ → Verdict → Type 0) → ℕ → Result Verdict RunFault → Type 0
+IsRunOfProgram reader reader' writer writer' asked IsLegal IsRunless IsVerdict turns answer =
+    IsRunWriting reader reader' writer writer' asked IsLegal IsRunless IsVerdict IsLine turns answer

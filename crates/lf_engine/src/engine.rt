@@ -1,7 +1,7 @@
 //! Reads the bytes of a trace, judges them and writes the line of the verdict.
 
-ghost use Rattle.std.specs.Prelude.{◌≡◌, ◌≢◌, ◌<◌, ◌↔◌, ℕ, List, take, Ok, Err, IfOk, IfErr, IsErrOf, IsTrue, Result, string_bytes};
-ghost use Rattle.std.specs.Io.KnownBytes.{Appends};
+ghost use Rattle.std.specs.Prelude.{◌≡◌, ◌≢◌, ◌<◌, ◌↔◌, ℕ, List, take, Result, Ok, Err, string_bytes};
+ghost use Rattle.std.specs.Prelude.{IfOk, IfErr, IsErrOf, IsTrue};
 ghost use Rattle.lf_rules.specs.InRange.{IsShape};
 ghost use Rattle.lf_config.specs.Configuration.{Tells, configuration_of};
 ghost use Rattle.lf_verdict.specs.declared.answer.Verdict.{Verdict};
@@ -10,19 +10,19 @@ ghost use Rattle.lf_verdict.specs.Legal.{IsLegal};
 ghost use Rattle.lf_verdict.specs.Laws.{IsRunlessNo};
 ghost use Rattle.lf_verdict.specs.Configured.{IsVerdictFor, IsLegalFor, IsRunlessNoFor};
 ghost use Rattle.lf_verdict.specs.declared.answer.Refusal.{Refusal};
-ghost use Rattle.lf_engine.specs.Counted.{calls_of, failures_of, inner_of};
+ghost use Rattle.lf_stream.specs.Account.{WentOut};
+ghost use Rattle.lf_stream.specs.Counted.{calls_of, failures_of, account_of};
 ghost use Rattle.lf_engine.specs.declared.fault.RunFault.{RunFault};
 ghost use Rattle.lf_engine.specs.Line.{line_of};
 ghost use Rattle.lf_engine.specs.Run.{outcome_line, IsAsked, IsRefusedFirst, IsOutcome, Follows, IsRunOfProgram};
 
-use crate::counted::Counted;
 use crate::fault::RunFault;
-use crate::gathering::{Stop, gather, zeros};
+use crate::gathering::gather_by;
 use crate::line::{Line, no_memory, not_read};
-use crate::output::put;
 use lf_codec::{exact_reading, fault_so_far, faults_stand};
 use lf_config::{ConfigFault, read};
-use lf_rules::Shape;
+use lf_rules::{NoMemory, Shape};
+use lf_stream::{Counted, Source, Stop, put, zeros};
 use lf_verdict::{ParallelSession, Refusal, Verdict, is_worker_count, no_has_no_run};
 use std::alloc::{AllocError, Global};
 use std::io::{Read, Write};
@@ -39,56 +39,60 @@ pub fn are_workers(workers: u32) -> bool
 }
 
 /// Reads and judges.
-fn judge<T: AllocGlobal + Threads + Sync + Send + Copy + 'static, R: Read>(
+fn judge<T: AllocGlobal + Threads + Sync + Send + Copy + 'static, S: Source>(
     rt: &T,
-    reader: &mut Counted<R>,
+    source: &mut S,
     shape: &Shape,
     workers: u32,
     turns: u32,
 ) -> Result<Verdict, RunFault>
-    requires calls { calls_of reader.old ≡ 0 }
-    requires failures { failures_of reader.old ≡ 0 }
+    requires calls { (S.account source.old).calls ≡ 0 }
+    requires failures { (S.account source.old).failures ≡ 0 }
     requires shape { IsShape shape.now }
     requires workers { IsWorkerCount workers }
-    ensures { IsOutcome R.remaining reader.old reader.new (IsWorkerCount workers) (IsLegal shape.now) (IsVerdictOf shape.now workers) turns result }
+    ensures { IsOutcome (S.account source.old) (S.account source.new)
+        (IsWorkerCount workers) (IsLegal shape.now) (IsVerdictOf shape.now workers) turns result }
 {
     let Ok(mut buffer) = zeros(rt.alloc(), PIECE) else {
         return Ok(Verdict::Refused(Refusal::Memory));
     };
     let mut session = ParallelSession::for_shape(rt.alloc(), shape, workers);
-    let gathered = gather(rt, reader, buffer.as_mut_slice(), &mut session, turns);
+    let gathered = gather_by(rt, source, buffer.as_mut_slice(), &mut session, turns);
     // Also after a failed read, so that no thread is left at work.
     let verdict = session.finish(rt);
     match gathered {
         Ok(()) => Ok(verdict),
-        Err(Stop::Memory) => Ok(Verdict::Refused(Refusal::Memory)),
+        Err(Stop::Sink(NoMemory)) => Ok(Verdict::Refused(Refusal::Memory)),
         Err(Stop::Read) => Err(RunFault::Read),
         Err(Stop::Turns) => Err(RunFault::Turns),
     }
 }
 
 /// Judges the workers, and only then reads.
-fn decide<T: AllocGlobal + Threads + Sync + Send + Copy + 'static, R: Read>(
+fn decide<T: AllocGlobal + Threads + Sync + Send + Copy + 'static, S: Source>(
     rt: &T,
-    reader: &mut Counted<R>,
+    source: &mut S,
     shape: &Shape,
     workers: u32,
     turns: u32,
 ) -> Result<Verdict, RunFault>
-    requires calls { calls_of reader.old ≡ 0 }
-    requires failures { failures_of reader.old ≡ 0 }
+    requires calls { (S.account source.old).calls ≡ 0 }
+    requires failures { (S.account source.old).failures ≡ 0 }
     requires shape { IsShape shape.now }
-    ensures { IsOutcome R.remaining reader.old reader.new (IsWorkerCount workers) (IsLegal shape.now) (IsVerdictOf shape.now workers) turns result }
+    ensures unread { ¬ IsWorkerCount workers → source.new ≡ source.old }
+    ensures outcome { IsOutcome (S.account source.old) (S.account source.new)
+        (IsWorkerCount workers) (IsLegal shape.now) (IsVerdictOf shape.now workers) turns result }
 {
     if !are_workers(workers) {
         return Ok(Verdict::Refused(Refusal::Workers(workers)));
     }
-    judge(rt, reader, shape, workers, turns)
+    judge(rt, source, shape, workers, turns)
 }
 
 /// The refusal for a text that is no configuration.
 fn refusal_of(fault: ConfigFault) -> Refusal
-    ensures { (text : List ℕ) → (workers : ℕ) → IsWorkerCount workers → Tells fault (configuration_of text) → IsRefusedFirst text workers result }
+    ensures { (text : List ℕ) → (workers : ℕ) → IsWorkerCount workers → Tells fault (configuration_of text) →
+        IsRefusedFirst text workers result }
 {
     match fault {
         ConfigFault::NoMemory => Refusal::Memory,
@@ -113,19 +117,21 @@ pub fn shape_for(alloc: Global, config: &str, workers: u32) -> Result<Shape, Ref
 }
 
 /// Judges the workers and the configuration, and only then reads.
-fn decide_configured<T: AllocGlobal + Threads + Sync + Send + Copy + 'static, R: Read>(
+fn decide_configured<T: AllocGlobal + Threads + Sync + Send + Copy + 'static, S: Source>(
     rt: &T,
-    reader: &mut Counted<R>,
+    source: &mut S,
     config: &str,
     workers: u32,
     turns: u32,
 ) -> Result<Verdict, RunFault>
-    requires calls { calls_of reader.old ≡ 0 }
-    requires failures { failures_of reader.old ≡ 0 }
-    ensures { IsOutcome R.remaining reader.old reader.new (IsAsked config.now workers) (IsLegalFor config.now) (IsVerdictFor config.now workers) turns result }
+    requires calls { (S.account source.old).calls ≡ 0 }
+    requires failures { (S.account source.old).failures ≡ 0 }
+    ensures unread { ¬ IsAsked config.now workers → source.new ≡ source.old }
+    ensures outcome { IsOutcome (S.account source.old) (S.account source.new)
+        (IsAsked config.now workers) (IsLegalFor config.now) (IsVerdictFor config.now workers) turns result }
 {
     match shape_for(rt.alloc(), config, workers) {
-        Ok(shape) => judge(rt, reader, &shape, workers, turns),
+        Ok(shape) => judge(rt, source, &shape, workers, turns),
         Err(refusal) => Ok(Verdict::Refused(refusal)),
     }
 }
@@ -149,9 +155,10 @@ pub fn tell<W: Write>(
     ensures write { IsErrOf result RunFault.Write ↔ (0 < failures_of writer.new) }
     ensures follows { result ≢ Err RunFault.Write → Follows outcome result }
     ensures whole { result ≢ Err RunFault.Write →
-        Appends (W.contents (inner_of writer.old)) (W.contents (inner_of writer.new)) (outcome_line result) }
-    ensures prefix { result ≡ Err RunFault.Write → (told : Result Verdict RunFault) × Follows outcome told × ((n : ℕ) ×
-        Appends (W.contents (inner_of writer.old)) (W.contents (inner_of writer.new)) (take n (outcome_line told))) }
+        WentOut (account_of W.contents writer.old) (account_of W.contents writer.new) (outcome_line result) }
+    ensures prefix { result ≡ Err RunFault.Write →
+        (told : Result Verdict RunFault) × Follows outcome told × ((n : ℕ) ×
+        WentOut (account_of W.contents writer.old) (account_of W.contents writer.new) (take n (outcome_line told))) }
 {
     let verdict = match outcome {
         Ok(verdict) => verdict,
@@ -191,8 +198,11 @@ pub fn run_shape<T: AllocGlobal + Threads + Sync + Send + Copy + 'static, R: Rea
     requires failures { failures_of reader.old ≡ 0 }
     requires writes { failures_of writer.old ≡ 0 }
     requires shape { IsShape shape.now }
-    ensures { IsRunOfProgram R.remaining W.contents reader.old reader.new writer.old writer.new
-        (IsWorkerCount workers) (IsLegal shape.now) (IsRunlessNo shape.now) (IsVerdictOf shape.now workers) turns result }
+    ensures unread { ¬ IsWorkerCount workers → reader.new ≡ reader.old }
+    ensures run { IsRunOfProgram (account_of R.remaining reader.old) (account_of R.remaining reader.new)
+        (account_of W.contents writer.old) (account_of W.contents writer.new)
+        (IsWorkerCount workers) (IsLegal shape.now) (IsRunlessNo shape.now) (IsVerdictOf shape.now workers)
+        turns result }
 {
     exact_reading();
     fault_so_far();
@@ -221,8 +231,11 @@ pub fn run<T: AllocGlobal + Threads + Sync + Send + Copy + 'static, R: Read, W: 
     requires calls { calls_of reader.old ≡ 0 }
     requires failures { failures_of reader.old ≡ 0 }
     requires writes { failures_of writer.old ≡ 0 }
-    ensures { IsRunOfProgram R.remaining W.contents reader.old reader.new writer.old writer.new
-        (IsAsked config.now workers) (IsLegalFor config.now) (IsRunlessNoFor config.now) (IsVerdictFor config.now workers) turns result }
+    ensures unread { ¬ IsAsked config.now workers → reader.new ≡ reader.old }
+    ensures run { IsRunOfProgram (account_of R.remaining reader.old) (account_of R.remaining reader.new)
+        (account_of W.contents writer.old) (account_of W.contents writer.new)
+        (IsAsked config.now workers) (IsLegalFor config.now) (IsRunlessNoFor config.now)
+        (IsVerdictFor config.now workers) turns result }
 {
     exact_reading();
     fault_so_far();

@@ -1,5 +1,6 @@
 //! Why a run gave no verdict.
 
+use lf_stream::NotWritten;
 use thiserror::Error;
 
 /// Why a run gave no verdict, or did not write its line.
@@ -14,4 +15,15 @@ pub enum RunFault {
     /// A write failed, or took nothing.
     #[error("the line could not be written")]
     Write,
+}
+
+impl From<NotWritten> for RunFault {
+    ghost use Rattle.std.specs.Prelude.{◌≡◌};
+    ghost use Rattle.lf_engine.specs.declared.fault.RunFault.{RunFault};
+
+    ghost from_gives = { λ _ fault. fault ≡ RunFault.Write };
+
+    fn from(_fault: NotWritten) -> Self {
+        RunFault::Write
+    }
 }

@@ -1,45 +1,27 @@
-//! Reads the bytes of a trace.
+//! Reads the bytes of a trace and judges them by several workers.
 
-ghost use Rattle.std.specs.Prelude.{◌≡◌, ◌≢◌, ◌≤◌, ◌<◌, ◌↔◌, ◌++◌, ℕ, List, [], None, length, IfOk, IfErr, OnOk, IsErrOf, IsTrue, vec_len};
+ghost use Rattle.std.specs.Prelude.{◌≡◌, ◌≤◌, ◌<◌, ◌↔◌, ◌++◌, ℕ, List, [], None, length};
+ghost use Rattle.std.specs.Prelude.{IfOk, IfErr, OnOk, IsErrOf, IsTrue};
 ghost use Rattle.lf_codec.specs.Laws.{AreBytes};
 ghost use Rattle.lf_codec.specs.Reader.{fault_in};
 ghost use Rattle.lf_codec.specs.Reading.{fault_so_far};
 ghost use Rattle.lf_verdict.specs.Session.{HasFed, IsRefusalSoFar};
-ghost use Rattle.lf_engine.specs.Counted.{calls_of, failures_of, inner_of};
-ghost use Rattle.lf_engine.specs.declared.gathering.Stop.{Stop};
+ghost use Rattle.lf_stream.specs.declared.gathering.Stop.{Stop};
+ghost use Rattle.lf_stream.specs.Gathered.{IsPartRead, IsAllRead, OfReading};
 ghost use Rattle.lf_engine.specs.Gathered.{HasFault};
-ghost use Rattle.lf_engine.specs.Run.{GaveSound, HasFedAll, piece_len};
 
-use crate::counted::Counted;
 use lf_codec::{Told, fault_so_far};
 use lf_rules::NoMemory;
-use lf_verdict::{ParallelSession, Refusal, Session};
-use std::alloc::{AllocError, Global};
-use std::io::{ErrorKind, Read};
+use lf_stream::{Source, Stop};
+use lf_verdict::{ParallelSession, Refusal};
+use std::io::ErrorKind;
 use std::thread::Threads;
-
-/// Why the bytes of a trace are not all there.
-#[derive(Clone, Copy, Debug, PartialEq, Eq)]
-pub enum Stop {
-    /// A read failed.
-    Read,
-    /// All turns were used up, and one more read was needed.
-    Turns,
-    /// A growth was refused.
-    Memory,
-}
-
-/// A buffer of so many bytes.
-pub fn zeros(alloc: Global, len: usize) -> Result<Vec<u8>, AllocError>
-    ensures { IfOk result (λ v. vec_len v ≡ len) }
-{
-    vec![in alloc; 0u8; len]
-}
 
 /// Whether a fault stands in what a session was fed, by its answer to the last piece. `NoMemory` says
 /// that a growth was refused.
-fn has_fault(answer: Result<(), Told<Refusal>>) -> Result<bool, NoMemory>
-    ensures told { (bytes : List ℕ) → OnOk answer (fault_so_far bytes ≡ None) → IfErr answer (λ t. IsRefusalSoFar bytes (fault_in t)) →
+pub fn has_fault(answer: Result<(), Told<Refusal>>) -> Result<bool, NoMemory>
+    ensures told { (bytes : List ℕ) → OnOk answer (fault_so_far bytes ≡ None) →
+        IfErr answer (λ t. IsRefusalSoFar bytes (fault_in t)) →
         IfOk result (λ broken. IsTrue broken ↔ HasFault bytes) }
 {
     fault_so_far();
@@ -54,24 +36,15 @@ fn has_fault(answer: Result<(), Told<Refusal>>) -> Result<bool, NoMemory>
 
 /// Hands the session a piece, and tells whether a fault stands in what it was fed so far. `NoMemory`
 /// says that a growth was refused.
-pub fn feed(session: &mut Session, piece: &[u8]) -> Result<bool, NoMemory>
-    ensures shape { session.new.shape ≡ session.old.shape }
-    ensures fed { (bytes : List ℕ) → HasFed session.old bytes → HasFed session.new (bytes ++ piece.now) }
-    ensures told { (bytes : List ℕ) → HasFed session.old bytes → IfOk result (λ broken. IsTrue broken ↔ HasFault (bytes ++ piece.now)) }
-    ensures are_bytes { (bytes : List ℕ) → AreBytes bytes → AreBytes (bytes ++ piece.now) }
-{
-    has_fault(session.feed(piece))
-}
-
-/// The same by several workers.
-pub fn feed_by<T: Threads + Sync + Send + Copy + 'static>(
-    session: &mut ParallelSession,
+fn feed<T: Threads + Sync + Send + Copy + 'static>(
     rt: &T,
+    session: &mut ParallelSession,
     piece: &[u8],
 ) -> Result<bool, NoMemory>
     ensures shape { session.new.shape ≡ session.old.shape }
     ensures fed { (bytes : List ℕ) → HasFed session.old bytes → HasFed session.new (bytes ++ piece.now) }
-    ensures told { (bytes : List ℕ) → HasFed session.old bytes → IfOk result (λ broken. IsTrue broken ↔ HasFault (bytes ++ piece.now)) }
+    ensures told { (bytes : List ℕ) → HasFed session.old bytes →
+        IfOk result (λ broken. IsTrue broken ↔ HasFault (bytes ++ piece.now)) }
     ensures are_bytes { (bytes : List ℕ) → AreBytes bytes → AreBytes (bytes ++ piece.now) }
 {
     has_fault(session.feed(rt, piece))
@@ -80,33 +53,37 @@ pub fn feed_by<T: Threads + Sync + Send + Copy + 'static>(
 /// Reads pieces, each at most as long as the buffer, and hands them to the session, until a read gives
 /// no bytes or a fault stands in what was read. Each read is a turn, also one that is interrupted,
 /// which is tried again.
-pub fn gather<T: Threads + Sync + Send + Copy + 'static, R: Read>(
+///
+/// This is `lf_stream::gather` for a session that needs the handle: a sink has none, since what a
+/// thread is given may not rest on a bound of an `impl`.
+pub fn gather_by<T: Threads + Sync + Send + Copy + 'static, S: Source>(
     rt: &T,
-    reader: &mut Counted<R>,
+    source: &mut S,
     buffer: &mut [u8],
     session: &mut ParallelSession,
     turns: u32,
-) -> Result<(), Stop>
-    requires calls { calls_of reader.old ≡ 0 }
-    requires failures { failures_of reader.old ≡ 0 }
+) -> Result<(), Stop<NoMemory>>
+    requires calls { (S.account source.old).calls ≡ 0 }
+    requires failures { (S.account source.old).failures ≡ 0 }
     requires room { 0 < length buffer.old }
-    requires few { length buffer.old ≤ piece_len }
     requires fresh { HasFed session.old [] }
-    ensures reads { calls_of reader.new ≤ turns }
+    ensures reads { (S.account source.new).calls ≤ turns }
     ensures shape { session.new.shape ≡ session.old.shape }
-    ensures bytes { OnOk result (HasFedAll R.remaining (inner_of reader.old) (inner_of reader.new) session.new) }
-    ensures read { IsErrOf result Stop.Read ↔ (0 < failures_of reader.new) }
-    ensures turns { IsErrOf result Stop.Turns → calls_of reader.new ≡ turns }
-    ensures sound { IfErr result (λ e. e ≢ Stop.Memory → GaveSound R.remaining (inner_of reader.old) (inner_of reader.new)) }
+    ensures all { OnOk result ((bytes : List ℕ) × HasFed session.new bytes × AreBytes bytes × IsAllRead
+        HasFault (length buffer.old) (S.account source.old) (S.account source.new) bytes) }
+    ensures part { IfErr result (λ e. OfReading e ((bytes : List ℕ) × IsPartRead
+        HasFault (S.account source.old) (S.account source.new) bytes)) }
+    ensures read { IsErrOf result Stop.Read ↔ (0 < (S.account source.new).failures) }
+    ensures turns { IsErrOf result Stop.Turns → (S.account source.new).calls ≡ turns }
 {
     fault_so_far();
     for _turn in 0..turns {
-        match reader.read(buffer) {
+        match source.pull(buffer) {
             Ok(0) => return Ok(()),
-            Ok(n) => match feed_by(session, rt, &buffer[..n]) {
+            Ok(n) => match feed(rt, session, &buffer[..n]) {
                 Ok(false) => {}
                 Ok(true) => return Ok(()),
-                Err(_) => return Err(Stop::Memory),
+                Err(fault) => return Err(Stop::Sink(fault)),
             },
             Err(e) => {
                 if e.kind() != ErrorKind::Interrupted {

@@ -14,6 +14,13 @@ use lf_stats::{Stats, stats};
 use lf_verdict::Verdict;
 use std::alloc::{AllocError, Global};
 
+/// A verdict, and the bytes that it is of.
+#[derive(Drop)]
+pub struct Judged {
+    pub verdict: Verdict,
+    pub bytes: Vec<u8>,
+}
+
 /// What a run for statistics came to: a verdict, and after a yes the lines of the statistics.
 #[derive(Drop)]
 pub struct Report {

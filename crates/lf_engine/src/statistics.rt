@@ -1,54 +1,73 @@
 //! Reads the bytes of a trace, judges them and writes their statistics.
 
-ghost use Rattle.std.specs.Prelude.{◌≡◌, ◌≢◌, ◌<◌, ◌↔◌, ℕ, List, [], take, Ok, Err, IfOk, IsErrOf, Result};
-ghost use Rattle.std.specs.Io.KnownBytes.{Appends};
+ghost use Rattle.std.specs.Prelude.{◌≡◌, ◌≢◌, ◌<◌, ◌↔◌, ℕ, List, take, Ok, Err, IfOk, IsErrOf, Result};
 ghost use Rattle.lf_rules.specs.InRange.{IsShape};
 ghost use Rattle.lf_config.specs.Configuration.{configuration_of};
 ghost use Rattle.lf_verdict.specs.declared.answer.Verdict.{Verdict};
+ghost use Rattle.lf_verdict.specs.declared.answer.Refusal.{Refusal};
 ghost use Rattle.lf_verdict.specs.Verdict.{IsWorkerCount, IsDecided, IsVerdictOf};
 ghost use Rattle.lf_verdict.specs.Legal.{IsLegal};
 ghost use Rattle.lf_verdict.specs.Configured.{IsVerdictFor, IsLegalFor, IsRunlessNoFor};
-ghost use Rattle.lf_engine.specs.Counted.{calls_of, failures_of, inner_of};
+ghost use Rattle.lf_stream.specs.Account.{WentOut};
+ghost use Rattle.lf_stream.specs.Counted.{calls_of, failures_of, account_of};
 ghost use Rattle.lf_engine.specs.declared.fault.RunFault.{RunFault};
-ghost use Rattle.lf_engine.specs.Report.{HasLinesFor, HasLinesIfYes, IsWritten, verdict_in, FollowsReport, report_text};
+ghost use Rattle.lf_engine.specs.Report.{HasLinesFor, HasLinesIfYes, IsWritten};
+ghost use Rattle.lf_engine.specs.Report.{judged_in, verdict_in, FollowsReport, report_text};
 ghost use Rattle.lf_engine.specs.Run.{IsAsked, IsOutcome, Reads, Follows, IsRunWriting};
 
-use crate::counted::Counted;
 use crate::engine::{PIECE, shape_for, tell};
 use crate::fault::RunFault;
-use crate::gathering::{Stop, zeros};
-use crate::keeping::gather_and_keep;
-use crate::output::put;
-use crate::report::{Report, lines_of};
+use crate::keeping::Keeping;
+use crate::report::{Judged, Report, lines_of};
 use lf_codec::{exact_reading, fault_so_far, faults_stand};
-use lf_rules::Shape;
+use lf_rules::{NoMemory, Shape};
+use lf_stream::{Counted, Source, Stop, gather, put, zeros};
 use lf_verdict::{Refusal, Session, Verdict, no_has_no_run};
 use std::alloc::Global;
 use std::io::{Read, Write};
 
-/// Reads, keeps what it read, and judges.
-fn judge_and_keep<T: AllocGlobal, R: Read>(
-    rt: &T,
-    reader: &mut Counted<R>,
-    shape: &Shape,
-    bytes: &mut Vec<u8>,
-    turns: u32,
-) -> Result<Verdict, RunFault>
-    requires calls { calls_of reader.old ≡ 0 }
-    requires failures { failures_of reader.old ≡ 0 }
-    requires shape { IsShape shape.now }
-    requires nothing { bytes.old.items ≡ [] }
-    ensures outcome { IsOutcome R.remaining reader.old reader.new (IsWorkerCount 1) (IsLegal shape.now) (IsVerdictOf shape.now 1) turns result }
-    ensures kept { IfOk result (λ v. IsDecided v → Reads R.remaining (inner_of reader.old) (inner_of reader.new) bytes.new.items) }
-    ensures verdict { IfOk result (λ v. IsDecided v → IsVerdictOf shape.now 1 bytes.new.items v) }
+fn out_of_memory(bytes: Vec<u8>) -> Judged
+    ensures { result.verdict ≡ Verdict.Refused Refusal.Memory }
 {
-    let Ok(mut buffer) = zeros(rt.alloc(), PIECE) else {
-        return Ok(Verdict::Refused(Refusal::Memory));
+    Judged {
+        verdict: Verdict::Refused(Refusal::Memory),
+        bytes,
+    }
+}
+
+/// Reads, keeps what it read, and judges.
+fn judge_and_keep<T: AllocGlobal, S: Source>(
+    rt: &T,
+    source: &mut S,
+    shape: &Shape,
+    turns: u32,
+) -> Result<Judged, RunFault>
+    requires calls { (S.account source.old).calls ≡ 0 }
+    requires failures { (S.account source.old).failures ≡ 0 }
+    requires shape { IsShape shape.now }
+    ensures outcome { IsOutcome (S.account source.old) (S.account source.new)
+        (IsWorkerCount 1) (IsLegal shape.now) (IsVerdictOf shape.now 1) turns (judged_in result) }
+    ensures kept { IfOk result (λ j. IsDecided j.verdict →
+        Reads (S.account source.old) (S.account source.new) j.bytes.items) }
+    ensures verdict { IfOk result (λ j. IsDecided j.verdict → IsVerdictOf shape.now 1 j.bytes.items j.verdict) }
+{
+    fault_so_far();
+    let mut keeping = Keeping {
+        session: Session::for_shape(rt.alloc(), shape),
+        bytes: Vec::new(rt.alloc()),
     };
-    let mut session = Session::for_shape(rt.alloc(), shape);
-    match gather_and_keep(reader, buffer.as_mut_slice(), &mut session, bytes, turns) {
-        Ok(()) => Ok(session.finish()),
-        Err(Stop::Memory) => Ok(Verdict::Refused(Refusal::Memory)),
+    let Ok(mut buffer) = zeros(rt.alloc(), PIECE) else {
+        return Ok(out_of_memory(keeping.bytes));
+    };
+    match gather(source, buffer.as_mut_slice(), &mut keeping, turns) {
+        Ok(()) => {
+            let Keeping { session, bytes } = keeping;
+            Ok(Judged {
+                verdict: session.finish(),
+                bytes,
+            })
+        }
+        Err(Stop::Sink(NoMemory)) => Ok(out_of_memory(keeping.bytes)),
         Err(Stop::Read) => Err(RunFault::Read),
         Err(Stop::Turns) => Err(RunFault::Turns),
     }
@@ -80,40 +99,41 @@ fn report_of(alloc: Global, shape: &Shape, bytes: &[u8], verdict: Verdict) -> Re
 }
 
 /// Reads, judges and counts for the shape.
-fn report_for<T: AllocGlobal, R: Read>(
+fn report_for<T: AllocGlobal, S: Source>(
     rt: &T,
-    reader: &mut Counted<R>,
+    source: &mut S,
     shape: &Shape,
     turns: u32,
 ) -> Result<Report, RunFault>
-    requires calls { calls_of reader.old ≡ 0 }
-    requires failures { failures_of reader.old ≡ 0 }
+    requires calls { (S.account source.old).calls ≡ 0 }
+    requires failures { (S.account source.old).failures ≡ 0 }
     requires shape { IsShape shape.now }
-    ensures outcome { IsOutcome R.remaining reader.old reader.new (IsWorkerCount 1) (IsLegal shape.now) (IsVerdictOf shape.now 1) turns (verdict_in result) }
+    ensures outcome { IsOutcome (S.account source.old) (S.account source.new)
+        (IsWorkerCount 1) (IsLegal shape.now) (IsVerdictOf shape.now 1) turns (verdict_in result) }
     ensures lines { (config : List ℕ) → configuration_of config ≡ Ok shape.now → IfOk result (λ r.
-        HasLinesIfYes R.remaining (inner_of reader.old) (inner_of reader.new) config r.verdict r.lines) }
+        HasLinesIfYes (S.account source.old) (S.account source.new) config r.verdict r.lines) }
 {
-    let mut bytes = Vec::new(rt.alloc());
-    let verdict = judge_and_keep(rt, reader, shape, &mut bytes, turns)?;
+    let Judged { verdict, bytes } = judge_and_keep(rt, source, shape, turns)?;
     Ok(report_of(rt.alloc(), shape, bytes.as_slice(), verdict))
 }
 
 /// Judges the configuration, and only then reads.
-fn report_configured<T: AllocGlobal, R: Read>(
+fn report_configured<T: AllocGlobal, S: Source>(
     rt: &T,
-    reader: &mut Counted<R>,
+    source: &mut S,
     config: &str,
     turns: u32,
 ) -> Result<Report, RunFault>
-    requires calls { calls_of reader.old ≡ 0 }
-    requires failures { failures_of reader.old ≡ 0 }
-    ensures outcome { IsOutcome R.remaining reader.old reader.new (IsAsked config.now 1) (IsLegalFor config.now) (IsVerdictFor config.now 1)
-        turns (verdict_in result) }
+    requires calls { (S.account source.old).calls ≡ 0 }
+    requires failures { (S.account source.old).failures ≡ 0 }
+    ensures unread { ¬ IsAsked config.now 1 → source.new ≡ source.old }
+    ensures outcome { IsOutcome (S.account source.old) (S.account source.new)
+        (IsAsked config.now 1) (IsLegalFor config.now) (IsVerdictFor config.now 1) turns (verdict_in result) }
     ensures lines { IfOk result (λ r.
-        HasLinesIfYes R.remaining (inner_of reader.old) (inner_of reader.new) config.now r.verdict r.lines) }
+        HasLinesIfYes (S.account source.old) (S.account source.new) config.now r.verdict r.lines) }
 {
     match shape_for(rt.alloc(), config, 1) {
-        Ok(shape) => report_for(rt, reader, &shape, turns),
+        Ok(shape) => report_for(rt, source, &shape, turns),
         Err(refusal) => Ok(Report {
             verdict: Verdict::Refused(refusal),
             lines: None,
@@ -132,9 +152,10 @@ fn tell_report<W: Write>(
     ensures write { IsErrOf result RunFault.Write ↔ (0 < failures_of writer.new) }
     ensures follows { result ≢ Err RunFault.Write → FollowsReport outcome result }
     ensures whole { result ≢ Err RunFault.Write →
-        Appends (W.contents (inner_of writer.old)) (W.contents (inner_of writer.new)) (report_text outcome result) }
-    ensures prefix { result ≡ Err RunFault.Write → (told : Result Verdict RunFault) × FollowsReport outcome told × ((n : ℕ) ×
-        Appends (W.contents (inner_of writer.old)) (W.contents (inner_of writer.new)) (take n (report_text outcome told))) }
+        WentOut (account_of W.contents writer.old) (account_of W.contents writer.new) (report_text outcome result) }
+    ensures prefix { result ≡ Err RunFault.Write →
+        (told : Result Verdict RunFault) × FollowsReport outcome told × ((n : ℕ) × WentOut
+        (account_of W.contents writer.old) (account_of W.contents writer.new) (take n (report_text outcome told))) }
 {
     let Report { verdict, lines } = match outcome {
         Ok(report) => report,
@@ -168,9 +189,11 @@ pub fn run_stats<T: AllocGlobal, R: Read, W: Write>(
     requires calls { calls_of reader.old ≡ 0 }
     requires failures { failures_of reader.old ≡ 0 }
     requires writes { failures_of writer.old ≡ 0 }
-    ensures { IsRunWriting R.remaining W.contents reader.old reader.new writer.old writer.new
+    ensures unread { ¬ IsAsked config.now 1 → reader.new ≡ reader.old }
+    ensures run { IsRunWriting (account_of R.remaining reader.old) (account_of R.remaining reader.new)
+        (account_of W.contents writer.old) (account_of W.contents writer.new)
         (IsAsked config.now 1) (IsLegalFor config.now) (IsRunlessNoFor config.now) (IsVerdictFor config.now 1)
-        (IsWritten R.remaining (inner_of reader.old) (inner_of reader.new) config.now) turns result }
+        (IsWritten (account_of R.remaining reader.old) (account_of R.remaining reader.new) config.now) turns result }
 {
     exact_reading();
     fault_so_far();

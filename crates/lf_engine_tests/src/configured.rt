@@ -1,11 +1,10 @@
 //! What is told of configurations, and of traces that are judged for one.
 
-use crate::streams::{Pieces, Sink};
+use crate::streams::Pieces;
 use crate::told::assert_configured;
 use crate::traces::{cycle, loads_numbered};
 use lf_engine::{Counted, RunFault, run};
 use lf_samples::{C1, C1_TEXT, LOAD, LOAD_MISSES_BOTH_LEVELS, changed, trace_of};
-use std::io::ErrorKind;
 use std::process::Abort;
 use std::test::Fail;
 use std::thread::Threads;
@@ -157,46 +156,5 @@ fn trace_that_is_not_read(rt: HostRuntime) -> Result<(), Fail> {
     assert_eq!(rt; answer.err(), Some(RunFault::Read));
     let text = std::str::from_utf8(writer.inner());
     assert_eq!(rt; text, Ok("refused read trace\n"));
-    Ok(())
-}
-
-#[test]
-fn reads_that_fail_or_run_out(rt: HostRuntime) -> Result<(), Fail> {
-    for (reads, interruptions, turns, fault) in [
-        (1, 0, 1000, RunFault::Read),
-        (1000, 0, 2, RunFault::Turns),
-        (2000, 1000, 1000, RunFault::Turns),
-    ] {
-        let mut failing = Pieces::new(&LOAD_MISSES_BOTH_LEVELS, 50);
-        failing.reads_before_failure = reads;
-        failing.interruptions = interruptions;
-        let mut reader = Counted::new(failing);
-        let mut writer = Counted::new(Vec::new(rt.alloc()));
-        let answer = run(&rt, &mut reader, &mut writer, C1_TEXT, 1, turns);
-        assert_eq!(rt; answer.err(), Some(fault));
-        let line = b"refused read trace\n".as_slice();
-        assert_eq!(rt; writer.inner().as_slice(), line);
-    }
-    Ok(())
-}
-
-#[test]
-fn writes_that_fail(rt: HostRuntime) -> Result<(), Fail> {
-    for (room, failure, written) in [
-        (4, Some(ErrorKind::Other), "yes "),
-        (4, Some(ErrorKind::Interrupted), "yes "),
-        (0, None, ""),
-    ] {
-        let mut reader = Counted::new(Pieces::new(&LOAD_MISSES_BOTH_LEVELS, 50));
-        let mut writer = Counted::new(Sink {
-            taken: Vec::new(rt.alloc()),
-            room,
-            failure,
-        });
-        let answer = run(&rt, &mut reader, &mut writer, C1_TEXT, 1, 1000);
-        assert_eq!(rt; answer.err(), Some(RunFault::Write));
-        assert_eq!(rt; writer.inner().taken.as_slice(), written.as_bytes());
-        assert_eq!(rt; writer.failures(), 1);
-    }
     Ok(())
 }

@@ -1,8 +1,8 @@
 //! Readers that are interrupted, run on or fail, and writers that fail.
 
 use crate::streams::{Pieces, Sink};
-use lf_engine::{Counted, RunFault, run_shape};
-use lf_samples::{C1, LOAD_MISSES_BOTH_LEVELS};
+use lf_engine::{Counted, RunFault, run, run_shape};
+use lf_samples::{C1, C1_TEXT, LOAD_MISSES_BOTH_LEVELS};
 use std::io::ErrorKind;
 use std::process::Abort;
 use std::test::Fail;
@@ -22,7 +22,7 @@ fn assert_run<T: Abort + AllocGlobal + Threads + Sync + Send + Copy + 'static>(
 ) -> Result<(), Fail> {
     let mut reader = Counted::new(reader);
     let mut writer = Counted::new(Vec::new(rt.alloc()));
-    let answer = run_shape(rt, &mut reader, &mut writer, &C1, 1, turns);
+    let answer = run(rt, &mut reader, &mut writer, C1_TEXT, 1, turns);
     assert_eq!(rt; answer.err(), fault);
     assert_eq!(rt; writer.inner().as_slice(), line.as_bytes());
     Ok(())
@@ -97,7 +97,7 @@ fn write_fails(rt: HostRuntime) -> Result<(), Fail> {
             room,
             failure,
         });
-        let answer = run_shape(&rt, &mut reader, &mut writer, &C1, 1, 1000);
+        let answer = run(&rt, &mut reader, &mut writer, C1_TEXT, 1, 1000);
         assert_eq!(rt; answer.err(), Some(RunFault::Write));
         assert_eq!(rt; writer.inner().taken.as_slice(), written.as_bytes());
         assert_eq!(rt; writer.failures(), 1);
@@ -106,7 +106,7 @@ fn write_fails(rt: HostRuntime) -> Result<(), Fail> {
 }
 
 #[test]
-fn refused_before_reading(rt: HostRuntime) -> Result<(), Fail> {
+fn refused_before_reading_for_a_shape(rt: HostRuntime) -> Result<(), Fail> {
     let mut failing = Pieces::new(&[], 1);
     failing.reads_before_failure = 0;
     let mut reader = Counted::new(failing);

@@ -1,4 +1,4 @@
-//! Tests of `lf_engine`, in a crate of their own so that it is proved once.
+//! Tests of `lf_engine` and `lf_stream`, in a crate of their own so that they are proved once.
 #![tactic(auto)]
 
 #[cfg(test)]
@@ -14,6 +14,8 @@ mod demonstrations;
 #[cfg(test)]
 mod examples;
 #[cfg(test)]
+mod gathered;
+#[cfg(test)]
 mod hostile;
 #[cfg(test)]
 mod lines;
@@ -27,3 +29,5 @@ mod told;
 mod traces;
 #[cfg(test)]
 mod versions;
+#[cfg(test)]
+mod watched;

@@ -1,13 +1,13 @@
 -- The lines that stand in ways.
 use Rattle.std.proofs.Common.{ℕ, zero, suc, ◌≡◌, ◌≢◌, ◌<◌, ◌≤◌, ◌==◌, Bool, true, false, cond, List, [], ◌∷◌, length, replicate, get_or}
 use Rattle.std.proofs.Common.{Option, Some, None, refl, sym, ap, ◌∙◌, subst, arith, eqb-true, eq-eqb, ne_eqb, get_or-set_same, length-set}
-use Rattle.std.specs.Prelude.{count_by, slice_set}
+use Rattle.std.specs.Prelude.{count_by, slice_set, IfSome}
 use Rattle.std.proofs.Math.Logic.{⊎_elim}
 use Rattle.std.proofs.lemmas.Bool.{cases_Bool, cases_eq}
 use Rattle.std.proofs.lemmas.List.{length-replicate, get_or-replicate}
 use Rattle.lf_rules.specs.Lines.{line_at, with_line, without_line}
 use Rattle.lf_levels.specs.declared.ways.Line.{Line}
-use Rattle.lf_levels.specs.Rows.{is_free, is_on, lines_of}
+use Rattle.lf_levels.specs.Rows.{is_free, is_on, lines_of, HasDirty}
 use Rattle.lf_levels.proofs.Counting.{worth-yes, count-cons, count-some, count-none}
 use Rattle.lf_levels.proofs.Entries.{line_put, line_gone, AreRising, rising-with, rising-without, same_lines, passing, passing-with}
 
@@ -63,6 +63,21 @@ module _ {M : Type 0} where
       ⊎_elim
       (λ e. absurd (omega (arith, none, count-cons (is_on y) way ways, worth-yes (is_on y) way e)))
       (λ e. skip y way ways e ∙ dirty_in-none y ways (omega (arith, none, count-cons (is_on y) way ways)))
+      (cases_Bool (is_on y way))
+
+  -- what each line has
+  dirty_of-has : (test : M → Bool) (way : Option (Line M)) → HasDirty test way → IfSome (dirty_of way) (λ dirty. test dirty ≡ true)
+  dirty_of-has test None h = tt
+  dirty_of-has test (Some line) h = h
+
+  pub dirty_in-has : (test : M → Bool) (y : ℕ) (ways : List (Option (Line M))) → ((k : ℕ) → k < length ways → HasDirty test (get_or ways k None))
+      → IfSome (dirty_in y ways) (λ dirty. test dirty ≡ true)
+  dirty_in-has test y [] each = tt
+  dirty_in-has test y (way ∷ ways) each =
+      let P : Option M → Type 0 = λ o. IfSome o (λ dirty. test dirty ≡ true) in
+      ⊎_elim
+      (λ e. subst P (sym (ap (λ b. cond b (dirty_of way) (dirty_in y ways)) e)) (dirty_of-has test way (each 0 (omega arith))))
+      (λ e. subst P (sym (skip y way ways e)) (dirty_in-has test y ways (λ k lt. each (suc k) (omega arith))))
       (cases_Bool (is_on y way))
 
   some_dirty : (y : ℕ) (way : Option (Line M)) → is_on y way ≡ true → dirty_of way ≡ None → ⊥

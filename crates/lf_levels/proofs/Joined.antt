@@ -1,17 +1,21 @@
 -- Masks that stand beside each other, joined.
-use Rattle.std.proofs.Common.{ℕ, zero, suc, ◌≡◌, ◌<◌, ◌+◌, List, [], ◌∷◌, length, take, ◌++◌, get_or, refl, ap, sym, ◌∙◌, arith}
+use Rattle.std.proofs.Common.{ℕ, zero, suc, ◌≡◌, ◌<◌, ◌+◌, List, [], ◌∷◌, length, take, ◌==◌, true, ◌++◌, get_or, refl, ap, sym, ◌∙◌, arith}
 use Rattle.std.specs.Prelude.{bit_or}
 use Rattle.std.specs.Int.Bits.{or_zero_r}
 use Rattle.std.proofs.lemmas.List.{take_more}
 use Rattle.std.proofs.Math.Seq.{take-length}
 use Rattle.lf_rules.specs.declared.mask.Mask.{Mask}
 use Rattle.lf_rules.specs.Address.{clean_mask}
-use Rattle.lf_levels.specs.LineTable.{joined}
+use Rattle.lf_levels.specs.LineTable.{joined, is_line2}
 
 pub length-joined : (ms others : List Mask) → length (joined ms others) ≡ length ms
 length-joined [] others = refl
 length-joined (m ∷ ms) [] = refl
 length-joined (m ∷ ms) (o ∷ others) = ap suc (length-joined ms others)
+
+-- a mask for each block is still one for each
+pub joined_keeps : (factor : ℕ) (ms others : List Mask) → is_line2 factor (record { items = ms }) ≡ true → is_line2 factor (record { items = joined ms others }) ≡ true
+joined_keeps factor ms others e = ap (λ n. n == factor) (length-joined ms others) ∙ e
 
 -- the masks of both at a place
 abbrev pub both_at : List Mask → List Mask → ℕ → Mask

@@ -1,7 +1,7 @@
 -- What the rows of a table say of its lines, and how they change.
 use Rattle.std.proofs.Common.{ℕ, ◌≡◌, ◌≢◌, ◌<◌, ◌≤◌, ◌+◌, ◌-◌, ◌*◌, ◌==◌, Bool, true, false, not, List, length, get_or, Option, Some, None, is_some}
 use Rattle.std.proofs.Common.{refl, sym, ap, ◌∙◌, subst, arith, eqb-true, eq-eqb, ne_eqb, get_or-set_same, get_or-set_other, length-set}
-use Rattle.std.specs.Prelude.{count_by, slice_set}
+use Rattle.std.specs.Prelude.{count_by, slice_set, IfSome}
 use Rattle.std.proofs.Math.Logic.{⊎_elim}
 use Rattle.std.proofs.lemmas.Bool.{cases_Bool, cases_eq, lt-ltb, le-ltb}
 use Rattle.std.proofs.lemmas.Nat.{row_fits, same_from_place}
@@ -10,10 +10,10 @@ use Rattle.lf_rules.specs.Fits.{is_factor}
 use Rattle.lf_rules.specs.Lines.{line_at, has_line, with_line, without_line, lines_of_set}
 use Rattle.lf_levels.specs.declared.ways.Line.{Line}
 use Rattle.lf_levels.specs.LineTable.{LineTable, IsLineTable, set_in, is_full}
-use Rattle.lf_levels.specs.Rows.{is_free, is_on, lines_of, IsInOwnRow, AreWholeRows, FindsWay}
+use Rattle.lf_levels.specs.Rows.{is_free, is_on, lines_of, IsInOwnRow, HasDirty, AreWholeRows, FindsWay}
 use Rattle.lf_levels.proofs.Counting.{worth-yes, worth-no, worth-le, count-set, count-none, count-all, count-short, part, length-part, part_at, count-part}
 use Rattle.lf_levels.proofs.Entries.{sorted_from_rising}
-use Rattle.lf_levels.proofs.InWays.{dirty_of, line_at-ways, rising, free_is, on_one, dirty_in-at, dirty_in-none, unseen}
+use Rattle.lf_levels.proofs.InWays.{dirty_of, line_at-ways, rising, free_is, on_one, dirty_in-at, dirty_in-none, dirty_in-has, unseen}
 use Rattle.lf_levels.proofs.InWays.{lines_of-put, lines_of-gone, passes, passing-ways, all_free, length-free, free_at}
 
 -- a way with a line on the block
@@ -24,7 +24,8 @@ line_on block dirty = Some (record { block = block; dirty = dirty })
 abbrev pub table_of : {M : Type 0} → ℕ → ℕ → ℕ → ℕ → List (ℕ × M) → LineTable M
 table_of sets ways banks factor lines = record { sets = sets; ways = ways; banks = banks; factor = factor; lines = lines }
 
-module _ {M : Type 0} {set : ℕ → ℕ → ℕ → ℕ → ℕ} {sets ways banks factor : ℕ} {rows : List (Option (Line M))} (is : AreWholeRows set sets ways banks factor rows) where
+module _ {M : Type 0} {set : ℕ → ℕ → ℕ → ℕ → ℕ} {is_line : ℕ → M → Bool} {sets ways banks factor : ℕ} {rows : List (Option (Line M))}
+    (is : AreWholeRows set is_line sets ways banks factor rows) where
   abbrev of : ℕ → ℕ
   of block = set banks factor sets block
 
@@ -97,8 +98,11 @@ module _ {M : Type 0} {set : ℕ → ℕ → ℕ → ℕ → ℕ} {sets ways ban
   bounded block =
       omega (arith, count_is block, long block, count_by-le-length (passes (λ b. of b == of block)) (part (passes (λ b. of b == of block)) rows (of block * ways) ways None (row_within block)))
 
-  pub is_table : IsLineTable set (table_of sets ways banks factor (lines_of rows))
-  is_table = record { sorted = sorted_from_rising (lines_of rows) (rising rows); bounded = bounded }
+  each_line : (block : ℕ) → IfSome (line_at (lines_of rows) block) (λ dirty. is_line factor dirty ≡ true)
+  each_line block = subst (λ o. IfSome o (λ dirty. is_line factor dirty ≡ true)) (sym (line_at-ways block rows)) (dirty_in-has (is_line factor) block rows is.masks)
+
+  pub is_table : IsLineTable set is_line (table_of sets ways banks factor (lines_of rows))
+  is_table = record { sorted = sorted_from_rising (lines_of rows) (rising rows); bounded = bounded; masks = each_line }
 
   no_line : (test : ℕ → Bool) (way : Option (Line M)) → is_free way ≡ true → passes test way ≡ false
   no_line test None e = refl
@@ -129,16 +133,17 @@ module _ {M : Type 0} {set : ℕ → ℕ → ℕ → ℕ → ℕ} {sets ways ban
 
   -- ---- how the rows change
 
-  home_after : (way : ℕ) (new : Option (Line M)) → way < length rows → IsInOwnRow of ways way new
-      → (place : ℕ) → place < length (slice_set rows way new) → IsInOwnRow of ways place (get_or (slice_set rows way new) place None)
-  home_after way new inside home place lt = ⊎_elim
-      (λ e. subst (λ n. IsInOwnRow of ways n (get_or (slice_set rows way new) n None)) (sym e) (subst (λ w. IsInOwnRow of ways way w) (sym (get_or-set_same rows way new None inside)) home))
-      (λ ne. subst (λ w. IsInOwnRow of ways place w) (sym (get_or-set_other rows way place new None ne)) (is.home place (omega (arith, lt, length-set rows way new))))
+  -- what holds of each way still does, where it holds of the new one
+  each_after : (P : ℕ → Option (Line M) → Type 0) → ((place : ℕ) → place < length rows → P place (get_or rows place None)) → (way : ℕ) (new : Option (Line M)) → way < length rows → P way new
+      → (place : ℕ) → place < length (slice_set rows way new) → P place (get_or (slice_set rows way new) place None)
+  each_after P each way new inside here place lt = ⊎_elim
+      (λ e. subst (λ n. P n (get_or (slice_set rows way new) n None)) (sym e) (subst (λ w. P way w) (sym (get_or-set_same rows way new None inside)) here))
+      (λ ne. subst (λ w. P place w) (sym (get_or-set_other rows way place new None ne)) (each place (omega (arith, lt, length-set rows way new))))
       (cases_eq place way)
 
-  whole_after : (way : ℕ) (new : Option (Line M)) → way < length rows → IsInOwnRow of ways way new → ((block : ℕ) → count_by (is_on block) (slice_set rows way new) ≤ 1)
-      → AreWholeRows set sets ways banks factor (slice_set rows way new)
-  whole_after way new inside home once = record {
+  whole_after : (way : ℕ) (new : Option (Line M)) → way < length rows → IsInOwnRow of ways way new → HasDirty (is_line factor) new
+      → ((block : ℕ) → count_by (is_on block) (slice_set rows way new) ≤ 1) → AreWholeRows set is_line sets ways banks factor (slice_set rows way new)
+  whole_after way new inside home has once = record {
     some_sets = is.some_sets;
     below = is.below;
     few_sets = is.few_sets;
@@ -146,13 +151,15 @@ module _ {M : Type 0} {set : ℕ → ℕ → ℕ → ℕ → ℕ} {sets ways ban
     some_banks = is.some_banks;
     in_range = is.in_range;
     each_set = length-set rows way new ∙ is.each_set;
-    home = home_after way new inside home;
+    home = each_after (IsInOwnRow of ways) is.home way new inside home;
+    masks = each_after (λ place. HasDirty (is_line factor)) is.masks way new inside has;
     once = once;
   }
 
   -- ---- a line comes
 
-  module _ (block way : ℕ) (dirty : M) (found : FindsWay is_free rows (of block * ways) ways (Some way)) (absent : line_at (lines_of rows) block ≡ None) where
+  module _ (block way : ℕ) (dirty : M) (found : FindsWay is_free rows (of block * ways) ways (Some way)) (absent : line_at (lines_of rows) block ≡ None)
+      (has : is_line factor dirty ≡ true) where
     free_inside : way < length rows
     free_inside = omega (arith, found.1, row_within block)
 
@@ -168,8 +175,8 @@ module _ {M : Type 0} {set : ℕ → ℕ → ℕ → ℕ → ℕ} {sets ways ban
         (λ ne. omega (arith, change, is.once y, worth-no (is_on y) (line_on block dirty) (ne_eqb block y ne)))
         (cases_eq block y)
 
-    pub whole-filled : AreWholeRows set sets ways banks factor (slice_set rows way (line_on block dirty))
-    whole-filled = whole_after way (line_on block dirty) free_inside (found.0, found.1) once_filled
+    pub whole-filled : AreWholeRows set is_line sets ways banks factor (slice_set rows way (line_on block dirty))
+    whole-filled = whole_after way (line_on block dirty) free_inside (found.0, found.1) has once_filled
 
     pub lines-filled : lines_of (slice_set rows way (line_on block dirty)) ≡ with_line (lines_of rows) block dirty
     lines-filled = lines_of-put rows way block free_inside (λ y ne. ap (is_on y) free_way) dirty (once_filled block)
@@ -192,8 +199,12 @@ module _ {M : Type 0} {set : ℕ → ℕ → ℕ → ℕ → ℕ} {sets ways ban
         (λ ne. omega (arith, change, is.once y, worth-no (is_on y) (line_on block dirty) (ne_eqb block y ne)))
         (cases_eq block y)
 
-    pub whole-set : (dirty : M) → AreWholeRows set sets ways banks factor (slice_set rows way (line_on block dirty))
-    whole-set dirty = whole_after way (line_on block dirty) line_inside (found.0, found.1) (once_set dirty)
+    -- what is dirty of the line in the way
+    pub has-found : (line : Line M) → Some line ≡ get_or rows way None → is_line factor line.dirty ≡ true
+    has-found line e = subst (HasDirty (is_line factor)) (sym e) (is.masks way line_inside)
+
+    pub whole-set : (dirty : M) → is_line factor dirty ≡ true → AreWholeRows set is_line sets ways banks factor (slice_set rows way (line_on block dirty))
+    whole-set dirty has = whole_after way (line_on block dirty) line_inside (found.0, found.1) has (once_set dirty)
 
     pub lines-set : (dirty : M) → lines_of (slice_set rows way (line_on block dirty)) ≡ with_line (lines_of rows) block dirty
     lines-set dirty = lines_of-put rows way block line_inside no_other dirty (once_set dirty block)
@@ -204,17 +215,17 @@ module _ {M : Type 0} {set : ℕ → ℕ → ℕ → ℕ → ℕ} {sets ways ban
     none_left : count_by (is_on block) (slice_set rows way None) ≡ 0
     none_left = omega (arith, count-set (is_on block) rows way None None line_inside, is.once block, worth-yes (is_on block) (get_or rows way None) found.2)
 
-    pub whole-gone : AreWholeRows set sets ways banks factor (slice_set rows way None)
-    whole-gone = whole_after way None line_inside tt once_gone
+    pub whole-gone : AreWholeRows set is_line sets ways banks factor (slice_set rows way None)
+    whole-gone = whole_after way None line_inside tt tt once_gone
 
     pub lines-gone : lines_of (slice_set rows way None) ≡ without_line (lines_of rows) block
     lines-gone = lines_of-gone rows way block line_inside no_other none_left
 
 -- ---- a new table, whose ways are free
 
-pub whole-new : {M : Type 0} (set : ℕ → ℕ → ℕ → ℕ → ℕ) (sets ways banks factor : ℕ) (rows : List (Option (Line M))) → 0 < sets → sets ≤ 4096 → ways ≤ 16 → 0 < banks → is_factor factor ≡ true
-    → ((b f s block : ℕ) → 0 < s → set b f s block < s) → rows ≡ all_free (sets * ways) → AreWholeRows set sets ways banks factor rows
-whole-new {M} set sets ways banks factor rows some few few_ways some_banks in_range below e = subst (λ r. AreWholeRows set sets ways banks factor r) (sym e) (record {
+pub whole-new : {M : Type 0} (set : ℕ → ℕ → ℕ → ℕ → ℕ) (is_line : ℕ → M → Bool) (sets ways banks factor : ℕ) (rows : List (Option (Line M))) → 0 < sets → sets ≤ 4096 → ways ≤ 16 → 0 < banks → is_factor factor ≡ true
+    → ((b f s block : ℕ) → 0 < s → set b f s block < s) → rows ≡ all_free (sets * ways) → AreWholeRows set is_line sets ways banks factor rows
+whole-new {M} set is_line sets ways banks factor rows some few few_ways some_banks in_range below e = subst (λ r. AreWholeRows set is_line sets ways banks factor r) (sym e) (record {
   some_sets = some;
   below = λ block. below banks factor sets block some;
   few_sets = few;
@@ -223,6 +234,7 @@ whole-new {M} set sets ways banks factor rows some few few_ways some_banks in_ra
   in_range = in_range;
   each_set = length-free M (sets * ways);
   home = λ place lt. subst (λ w. IsInOwnRow (λ block. set banks factor sets block) ways place w) (sym (free_at M (sets * ways) place (omega (arith, lt, length-free M (sets * ways))))) tt;
+  masks = λ place lt. subst (HasDirty (is_line factor)) (sym (free_at M (sets * ways) place (omega (arith, lt, length-free M (sets * ways))))) tt;
   once =
       λ block. omega (
         arith,

@@ -9,7 +9,7 @@ use Rattle.lf_levels.specs.Rows.{is_free, is_on, lines_of, AreWholeRows, FindsWa
 use Rattle.lf_levels.proofs.Entries.{flip, line_put, line_gone}
 use Rattle.lf_levels.proofs.InWays.{dirty_of}
 use Rattle.lf_levels.proofs.Rows.{table_of, row_is, row_within, is_table, has-is, full-is, line_at-found, line_at-none}
-use Rattle.lf_levels.proofs.Rows.{line_on, whole-filled, lines-filled, whole-set, lines-set, whole-gone, lines-gone}
+use Rattle.lf_levels.proofs.Rows.{line_on, whole-filled, lines-filled, has-found, whole-set, lines-set, whole-gone, lines-gone}
 
 -- no way is free
 pub taken : (none some full : Bool) → some ≡ not none → full ≡ not some → none ≡ full
@@ -30,10 +30,10 @@ module _ {M : Type 0} where
   none_from None e = refl
   none_from (Some x) e = absurd (cc e)
 
-module _ {M : Type 0} {set : ℕ → ℕ → ℕ → ℕ → ℕ} {sets ways banks factor : ℕ} {rows : List (Option (Line M))} (is : AreWholeRows set sets ways banks factor rows)
-    (table : LineTable M) (same : table_of sets ways banks factor (lines_of rows) ≡ table) where
-  pub table_is : IsLineTable set table
-  table_is = subst (IsLineTable set) same (is_table is)
+module _ {M : Type 0} {set : ℕ → ℕ → ℕ → ℕ → ℕ} {is_line : ℕ → M → Bool} {sets ways banks factor : ℕ} {rows : List (Option (Line M))}
+    (is : AreWholeRows set is_line sets ways banks factor rows) (table : LineTable M) (same : table_of sets ways banks factor (lines_of rows) ≡ table) where
+  pub table_is : IsLineTable set is_line table
+  table_is = subst (IsLineTable set is_line) same (is_table is)
 
   -- a full set is one that has as many lines as ways
   pub full_all : (block : ℕ) (full : Bool) → full ≡ is_full set table block → IsTrue full ↔ (lines_of_set (set_in set table) table.lines block ≡ table.ways)
@@ -79,19 +79,27 @@ module _ {M : Type 0} {set : ℕ → ℕ → ℕ → ℕ → ℕ} {sets ways ban
     filled : (dirty : M) (new : List (Option (Line M))) → lines_of new ≡ with_line (lines_of rows) block dirty → table_of sets ways banks factor (lines_of new) ≡ after_fill table block dirty
     filled dirty new e = ap (table_of sets ways banks factor) e ∙ ap (λ (t : LineTable M). after_fill t block dirty) same
 
-    module _ (way : ℕ) (found : FindsWay is_free shown row ways (Some way)) (absent : has_line table.lines block ≡ false) (dirty : M) where
+    module _ (way : ℕ) (found : FindsWay is_free shown row ways (Some way)) (absent : has_line table.lines block ≡ false) (dirty : M)
+        (has : is_line table.factor dirty ≡ true) where
+      has_before : is_line factor dirty ≡ true
+      has_before = ap (λ (t : LineTable M). is_line t.factor dirty) same ∙ has
+
       absent_before : line_at (lines_of rows) block ≡ None
       absent_before = ap (λ (t : LineTable M). line_at t.lines block) same ∙ none_from (line_at table.lines block) absent
 
-      pub filled_whole : AreWholeRows set sets ways banks factor (slice_set rows way (line_on block dirty))
-      filled_whole = whole-filled is block way dirty (found_at is_free (Some way) found) absent_before
+      pub filled_whole : AreWholeRows set is_line sets ways banks factor (slice_set rows way (line_on block dirty))
+      filled_whole = whole-filled is block way dirty (found_at is_free (Some way) found) absent_before has_before
 
       pub filled_table : table_of sets ways banks factor (lines_of (slice_set rows way (line_on block dirty))) ≡ after_fill table block dirty
-      filled_table = filled dirty (slice_set rows way (line_on block dirty)) (lines-filled is block way dirty (found_at is_free (Some way) found) absent_before)
+      filled_table = filled dirty (slice_set rows way (line_on block dirty)) (lines-filled is block way dirty (found_at is_free (Some way) found) absent_before has_before)
 
     module _ (way : ℕ) (found : FindsWay (is_on block) shown row ways (Some way)) where
-      pub set_whole : (dirty : M) → AreWholeRows set sets ways banks factor (slice_set rows way (line_on block dirty))
-      set_whole dirty = whole-set is block way (found_at (is_on block) (Some way) found) dirty
+      -- what is dirty of the line in the way
+      pub line_has : (line : Line M) → Some line ≡ get_or rows way None → is_line factor line.dirty ≡ true
+      line_has line e = has-found is block way (found_at (is_on block) (Some way) found) line e
+
+      pub set_whole : (dirty : M) → is_line factor dirty ≡ true → AreWholeRows set is_line sets ways banks factor (slice_set rows way (line_on block dirty))
+      set_whole dirty has = whole-set is block way (found_at (is_on block) (Some way) found) dirty has
 
       pub line_found : (line : Line M) → Some line ≡ get_or rows way None → line_at table.lines block ≡ Some line.dirty
       line_found line e = ap (λ (t : LineTable M). line_at t.lines block) (sym same) ∙ line_at-found is block way (found_at (is_on block) (Some way) found) ∙ ap dirty_of (sym e)
@@ -103,7 +111,7 @@ module _ {M : Type 0} {set : ℕ → ℕ → ℕ → ℕ → ℕ} {sets ways ban
           filled dirty (slice_set rows way (line_on block dirty)) (lines-set is block way (found_at (is_on block) (Some way) found) dirty)
           ∙ ap (after_fill table block) (joined ∙ ap (λ d. join d more) (sym (ap (λ (o : Option M). unwrap_or o clean) (line_found line e))))
 
-      pub gone_whole : AreWholeRows set sets ways banks factor (slice_set rows way None)
+      pub gone_whole : AreWholeRows set is_line sets ways banks factor (slice_set rows way None)
       gone_whole = whole-gone is block way (found_at (is_on block) (Some way) found)
 
       pub gone_table : table_of sets ways banks factor (lines_of (slice_set rows way None)) ≡ after_evict table block

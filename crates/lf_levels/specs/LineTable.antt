@@ -1,5 +1,5 @@
 -- What a table of lines is: a map from each block that is there to what is dirty of it, and the numbers of its sets.
-use Rattle.std.specs.Prelude.{◌≡◌, ℕ, ◌≤◌, ◌*◌, ◌+◌, Bool, not, ◌==◌, List, [], ◌∷◌, Option, bit_or, if◌then◌else◌}
+use Rattle.std.specs.Prelude.{◌≡◌, ℕ, ◌≤◌, ◌*◌, ◌+◌, Bool, true, not, ◌==◌, List, [], ◌∷◌, length, Option, IfSome, bit_or, if◌then◌else◌}
 use Rattle.std.specs.List.{range_with_len, list_all}
 use Rattle.std.specs.List.Sorted.{IsStrictlySortedBy}
 use Rattle.std.specs.Map.{keys_of}
@@ -20,10 +20,12 @@ module _ {M : Type 0} where
   abbrev pub set_in : (ℕ → ℕ → ℕ → ℕ → ℕ) → LineTable M → ℕ → ℕ
   set_in set table = set table.banks table.factor table.sets
 
-  -- The lines stand by rising blocks, and no set has more of them than it has ways.
-  pub record IsLineTable (set : ℕ → ℕ → ℕ → ℕ → ℕ) (table : LineTable M) : Type 0 where
+  -- The lines stand by rising blocks, no set has more of them than it has ways, and each has the masks that a level says
+  -- a line has, of so many first-level blocks in one of level two.
+  pub record IsLineTable (set : ℕ → ℕ → ℕ → ℕ → ℕ) (is_line : ℕ → M → Bool) (table : LineTable M) : Type 0 where
     pub sorted : IsStrictlySortedBy nat_cmp (keys_of table.lines)
     pub bounded : (block : ℕ) → lines_of_set (set_in set table) table.lines block ≤ table.ways
+    pub masks : (block : ℕ) → IfSome (line_at table.lines block) (λ dirty. is_line table.factor dirty ≡ true)
 
   abbrev pub empty_table : ℕ → ℕ → ℕ → ℕ → LineTable M
   empty_table sets ways banks factor = record { sets = sets; ways = ways; banks = banks; factor = factor; lines = [] }
@@ -46,6 +48,10 @@ module _ {M : Type 0} where
 
 -- ---- level one
 
+-- a line has one mask
+abbrev pub is_line1 : ℕ → ℕ → Bool
+is_line1 factor mask = true
+
 -- the line's mask with these bytes
 abbrev pub joined1 : LineTable ℕ → ℕ → ℕ → ℕ
 joined1 table block mask = bit_or (dirty_mask table.lines block) mask
@@ -54,6 +60,10 @@ joined1 table block mask = bit_or (dirty_mask table.lines block) mask
 
 abbrev pub wide_set : ℕ → ℕ → ℕ → ℕ → ℕ
 wide_set banks factor sets second = set2_of banks sets second
+
+-- a line has a mask for each first-level block of its block
+abbrev pub is_line2 : ℕ → Masks → Bool
+is_line2 factor masks = length masks.items == factor
 
 -- each mask with the bytes of the other that stands beside it
 abbrev pub joined : List Mask → List Mask → List Mask

@@ -25,8 +25,13 @@ module _ {M : Type 0} where
   IsInOwnRow set ways place None = ⊤
   IsInOwnRow set ways place (Some line) = (set line.block * ways ≤ place) × (place < set line.block * ways + ways)
 
-  -- There is a row for each set, each line stands in the row of its set, and no block has two.
-  pub record AreWholeRows (set : ℕ → ℕ → ℕ → ℕ → ℕ) (sets ways banks factor : ℕ) (rows : List (Option (Line M))) : Type 0 where
+  -- What is dirty of the line in the way passes the test.
+  abbrev pub HasDirty : (M → Bool) → Option (Line M) → Type 0
+  HasDirty test None = ⊤
+  HasDirty test (Some line) = test line.dirty ≡ true
+
+  -- There is a row for each set, each line stands in the row of its set and has its level's masks, and no block has two.
+  pub record AreWholeRows (set : ℕ → ℕ → ℕ → ℕ → ℕ) (is_line : ℕ → M → Bool) (sets ways banks factor : ℕ) (rows : List (Option (Line M))) : Type 0 where
     pub some_sets : 0 < sets
     pub below : (block : ℕ) → set banks factor sets block < sets
     pub few_sets : sets ≤ 4096
@@ -35,6 +40,7 @@ module _ {M : Type 0} where
     pub in_range : is_factor factor ≡ true
     pub each_set : length rows ≡ sets * ways
     pub home : (place : ℕ) → place < length rows → IsInOwnRow (set banks factor sets) ways place (slice_index_or rows place None)
+    pub masks : (place : ℕ) → place < length rows → HasDirty (is_line factor) (slice_index_or rows place None)
     pub once : (block : ℕ) → count_by (is_on block) rows ≤ 1
 
   -- This is a place of so many ways from a place on that passes the test, or none of them does.

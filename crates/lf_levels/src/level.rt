@@ -9,7 +9,7 @@ use lf_rules::{Masks, quotient, remainder};
 
 /// A level of the cache: what is dirty of its lines, and which set a block is in.
 pub trait Level {
-    ghost use Rattle.std.specs.Prelude.{◌≡◌, ℕ, ◌<◌, true};
+    ghost use Rattle.std.specs.Prelude.{◌≡◌, ℕ, ◌<◌, Bool, true};
     ghost use Rattle.lf_rules.specs.Fits.{is_factor};
 
     /// What is dirty of a line.
@@ -21,6 +21,9 @@ pub trait Level {
     // what is dirty of a line of which more is written
     ghost join: { Self.Dirty → Self.Dirty → Self.Dirty };
 
+    // is this what is dirty of a line, where a block of level two has so many first-level blocks?
+    ghost is_line: { ℕ → Self.Dirty → Bool };
+
     // the set of a block, of so many banks, first-level blocks in one of level two, and sets
     ghost set: { ℕ → ℕ → ℕ → ℕ → ℕ };
 
@@ -29,7 +32,8 @@ pub trait Level {
 
     /// What is dirty of a line of which more is written.
     fn join(dirty: &Self::Dirty, more: &Self::Dirty) -> Self::Dirty
-        ensures { result ≡ join dirty.now more.now };
+        ensures value { result ≡ join dirty.now more.now }
+        ensures line { (factor : ℕ) → is_line factor dirty.now ≡ true → is_line factor result ≡ true };
 
     /// The set of a block.
     fn set_of(banks: u32, factor: u32, sets: u32, block: u32) -> u32
@@ -50,6 +54,7 @@ pub struct Two;
 
 impl Level for One {
     ghost use Rattle.std.specs.Prelude.{bit_or};
+    ghost use Rattle.lf_levels.specs.LineTable.{is_line1};
     ghost use Rattle.lf_rules.specs.Address.{set1_of};
     ghost use Rattle.std.proofs.lemmas.Nat.{mod_below};
 
@@ -58,6 +63,8 @@ impl Level for One {
     ghost clean = { 0 };
 
     ghost join = { bit_or };
+
+    ghost is_line = { is_line1 };
 
     ghost set = { set1_of };
 
@@ -85,7 +92,7 @@ fn set1_of(banks: u32, factor: u32, sets: u32, block: u32) -> u32
 }
 
 impl Level for Two {
-    ghost use Rattle.lf_levels.specs.LineTable.{wide_set, joined};
+    ghost use Rattle.lf_levels.specs.LineTable.{wide_set, joined, is_line2};
     ghost use Rattle.lf_rules.specs.Lines.{no_masks};
     ghost use Rattle.std.proofs.lemmas.Nat.{mod_below};
 
@@ -94,6 +101,8 @@ impl Level for Two {
     ghost clean = { no_masks };
 
     ghost join = { λ dirty more. record { items = joined dirty.items more.items } };
+
+    ghost is_line = { is_line2 };
 
     ghost set = { wide_set };
 

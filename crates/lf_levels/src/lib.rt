@@ -3,7 +3,8 @@
 //! line came. The lines of level two are on second-level blocks.
 //!
 //! A `Lines` is seen as its numbers of sets, ways, banks and first-level blocks in one of level two, and
-//! a map from block to what is dirty, by the words of `lf_rules`. No set ever has more lines than ways.
+//! a map from block to what is dirty, by the words of `lf_rules`. No set ever has more lines than ways, and each
+//! line of level two has a mask for every first-level block of its block.
 //! Only `new` takes memory: it makes all ways, a row of them for each set.
 #![tactic(auto)]
 

@@ -33,7 +33,7 @@ impl<L: Level> Model for Lines<L> {
 
     ghost view = { λ a. record { sets = a.sets; ways = a.ways; banks = a.banks; factor = a.factor; lines = lines_of a.rows.items } };
 
-    ghost invariant = { λ a. AreWholeRows L.set a.sets a.ways a.banks a.factor a.rows.items };
+    ghost invariant = { λ a. AreWholeRows L.set L.is_line a.sets a.ways a.banks a.factor a.rows.items };
 }
 
 impl<L: Level> Lines<L> {
@@ -64,7 +64,7 @@ impl<L: Level> Lines<L> {
     /// Whether a line is on the block.
     pub fn has(&self, block: u32) -> bool
         ensures value { result ≡ has_line self.now.lines block }
-        ensures table { IsLineTable L.set self.now }
+        ensures table { IsLineTable L.set L.is_line self.now }
     {
         find_line(&self.rows, self.row(block), self.ways as usize, block).is_some()
     }
@@ -73,7 +73,7 @@ impl<L: Level> Lines<L> {
     pub fn full(&self, block: u32) -> bool
         ensures value { result ≡ is_full L.set self.now block }
         ensures all_ways { IsTrue result ↔ (lines_of_set (set_in L.set self.now) self.now.lines block ≡ self.now.ways) }
-        ensures table { IsLineTable L.set self.now }
+        ensures table { IsLineTable L.set L.is_line self.now }
     {
         find_free(&self.rows, self.row(block), self.ways as usize).is_none()
     }
@@ -96,7 +96,7 @@ impl<L: Level> Lines<L> {
     /// What is dirty of the block's line.
     pub(crate) fn line(&self, block: u32) -> Option<&L::Dirty>
         ensures value { option_copied result ≡ line_at self.now.lines block }
-        ensures table { IsLineTable L.set self.now }
+        ensures table { IsLineTable L.set L.is_line self.now }
     {
         let Some(way) = find_line(&self.rows, self.row(block), self.ways as usize, block) else {
             return None;
@@ -109,7 +109,8 @@ impl<L: Level> Lines<L> {
 
     /// A line comes to a block that has none.
     pub(crate) fn put(&mut self, block: u32, dirty: L::Dirty) -> Result<(), LineFault>
-        requires { has_line self.old.lines block ≡ false }
+        requires absent { has_line self.old.lines block ≡ false }
+        requires masks { L.is_line self.old.factor dirty ≡ true }
         ensures free_way { IfOk result (λ _. is_full L.set self.old block ≡ false) }
         ensures filled { IfOk result (λ _. self.new ≡ after_fill self.old block dirty) }
         ensures here { IfOk result (λ _. ChangesOnly self.old self.new block (Some dirty)) }

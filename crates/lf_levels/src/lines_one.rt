@@ -3,7 +3,7 @@
 ghost use Rattle.std.specs.Prelude.{◌≡◌, true, false, Option, Some, None, option_map, IfOk, IfErr, OnErr};
 ghost use Rattle.lf_rules.specs.Address.{set1_of};
 ghost use Rattle.lf_rules.specs.Lines.{line_at, has_line, dirty_mask};
-ghost use Rattle.lf_levels.specs.LineTable.{IsLineTable, ChangesOnly, is_full, after_fill, after_evict, joined1};
+ghost use Rattle.lf_levels.specs.LineTable.{IsLineTable, is_line1, ChangesOnly, is_full, after_fill, after_evict, joined1};
 ghost use Rattle.lf_levels.specs.Refusals.{FillRefusal, EvictRefusal};
 
 use crate::fault::LineFault;
@@ -15,7 +15,7 @@ impl Lines<One> {
     /// The dirty mask of the block's line.
     pub fn dirty(&self, block: u32) -> Option<Mask>
         ensures value { option_map (λ mask. mask.0) result ≡ line_at self.now.lines block }
-        ensures table { IsLineTable set1_of self.now }
+        ensures table { IsLineTable set1_of is_line1 self.now }
     {
         match self.line(block) {
             Some(mask) => Some(Mask(*mask)),

@@ -1,9 +1,9 @@
 //! The lines of level two, each with a mask for every first-level block of its block.
 
-ghost use Rattle.std.specs.Prelude.{◌≡◌, ◌<◌, ◌/◌, ◌&&◌, true, false, not, Option, Some, None, option_copied, IfOk, IfErr, OnErr};
+ghost use Rattle.std.specs.Prelude.{◌≡◌, ◌<◌, ◌/◌, ◌&&◌, true, false, not, length, Option, Some, None, option_copied, IfOk, IfErr, OnErr};
 ghost use Rattle.lf_rules.specs.Fits.{is_factor};
 ghost use Rattle.lf_rules.specs.Lines.{line_at, has_line, dirty_masks, same_masks};
-ghost use Rattle.lf_levels.specs.LineTable.{IsLineTable, ChangesOnly, is_full, wide_set, after_fill, after_evict, joined, joined2, are_absent};
+ghost use Rattle.lf_levels.specs.LineTable.{IsLineTable, is_line2, ChangesOnly, is_full, wide_set, after_fill, after_evict, joined, joined2, are_absent};
 ghost use Rattle.lf_levels.specs.Refusals.{FillRefusal, WideEvictRefusal};
 
 use crate::fault::LineFault;
@@ -26,15 +26,16 @@ impl Lines<Two> {
     /// The dirty masks of the second-level block's line.
     pub fn dirty(&self, second: u32) -> Option<&Masks>
         ensures value { option_copied result ≡ line_at self.now.lines second }
-        ensures table { IsLineTable wide_set self.now }
+        ensures table { IsLineTable wide_set is_line2 self.now }
     {
         self.line(second)
     }
 
-    /// A line comes to a second-level block that has none, with these dirty masks. `SetFull` where each
-    /// way of the block's set has a line.
+    /// A line comes to a second-level block that has none, with these dirty masks, one for each of its
+    /// first-level blocks. `SetFull` where each way of the block's set has a line.
     pub fn fill(&mut self, second: u32, masks: Masks) -> Result<(), LineFault>
-        requires { has_line self.old.lines second ≡ false }
+        requires absent { has_line self.old.lines second ≡ false }
+        requires count { length masks.items ≡ self.old.factor }
         ensures free_way { IfOk result (λ _. is_full wide_set self.old second ≡ false) }
         ensures filled { IfOk result (λ _. self.new ≡ after_fill self.old second masks) }
         ensures here { IfOk result (λ _. ChangesOnly self.old self.new second (Some masks)) }
@@ -44,18 +45,22 @@ impl Lines<Two> {
         self.put(second, masks)
     }
 
-    /// The dirty masks of the second-level block's line gain these bytes.
+    /// The dirty masks of the second-level block's line gain these bytes, a mask for each of its
+    /// first-level blocks.
     pub fn mark(&mut self, second: u32, masks: &Masks)
-        requires { has_line self.old.lines second ≡ true }
+        requires there { has_line self.old.lines second ≡ true }
+        requires count { length masks.now.items ≡ self.old.factor }
         ensures marked { self.new ≡ after_fill self.old second (joined2 self.old second masks.now) }
         ensures here { ChangesOnly self.old self.new second (Some (joined2 self.old second masks.now)) }
     {
         self.gain(second, masks);
     }
 
-    /// The second-level block's line goes, where the masks are its dirty masks. `EvictAbsent` where no
-    /// line is on the block; `EvictMask` where there is one with another mask at some place.
+    /// The second-level block's line goes, where the masks, one for each of its first-level blocks, are
+    /// its dirty masks. `EvictAbsent` where no line is on the block; `EvictMask` where there is one with
+    /// another mask at some place.
     pub fn evict(&mut self, second: u32, masks: &Masks) -> Result<(), LineFault>
+        requires { length masks.now.items ≡ self.old.factor }
         ensures there { IfOk result (λ _. has_line self.old.lines second ≡ true) }
         ensures same_mask { IfOk result (λ _. same_masks self.old.factor masks.now (dirty_masks self.old.lines second) ≡ true) }
         ensures evicted { IfOk result (λ _. self.new ≡ after_evict self.old second) }

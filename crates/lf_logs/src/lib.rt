@@ -9,6 +9,7 @@ mod laws;
 mod logs;
 mod order;
 mod port;
+mod port_look;
 mod port_step;
 mod reorder;
 mod skeleton;

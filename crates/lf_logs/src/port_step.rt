@@ -14,7 +14,7 @@ use std::marker::Model;
 pub struct PortStep {
     shape: Shape,
     port: u8,
-    tags: BusyTags,
+    pub(crate) tags: BusyTags,
 }
 
 impl Model for PortStep {

@@ -5,7 +5,7 @@ ghost use Rattle.std.specs.Prelude.{option_to_list, is_some, IsSome, None, Some,
 ghost use Rattle.lf_rules.specs.declared.event.Record.{Record};
 ghost use Rattle.lf_rules.specs.Numbers.{numbers_of, times, IsMissing, IsWhole};
 ghost use Rattle.lf_logs.specs.Places.{IsNumberFault};
-ghost use Rattle.lf_logs.specs.Reordering.{first_with, early_at, if_given, waiting_at, waiting_count, has_come, least_double, HasOrdered};
+ghost use Rattle.lf_logs.specs.Reordering.{first_with, early_at, if_given, waiting_at, waiting_count, has_come, least_double, IsLeastDouble, HasOrdered};
 
 use crate::early::Early;
 use crate::order::NumberFault;
@@ -254,6 +254,14 @@ impl Reorder {
             }
         }
         None
+    }
+
+    /// The least number that came more than once, of the records put in so far, whatever is missing below it. It
+    /// takes no memory.
+    pub fn double(&self) -> Option<u32>
+        ensures { (put : List Record) (gave : List Record) → HasOrdered self.now put gave → IsLeastDouble (numbers_of put) result }
+    {
+        self.double
     }
 
     /// The least number that is missing below a greater one or that came more than once, of the

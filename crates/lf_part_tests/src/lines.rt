@@ -1,9 +1,30 @@
 //! A happy call of each function, at both levels, and each refusal.
 
+ghost use Rattle.std.specs.Prelude.{◌≡◌, length};
+
 use lf_levels::{LineFault, Lines, One, Two};
-use lf_rules::Mask;
-use lf_samples::masks;
+use lf_rules::{Mask, Masks, clean_masks};
 use std::test::Fail;
+
+/// The masks of a second-level block of two blocks.
+fn two_masks(first: u64, second: u64) -> Masks
+    ensures { length result.items ≡ 2 }
+{
+    let mut masks = Masks::new();
+    masks.push(Mask(first));
+    masks.push(Mask(second));
+    masks
+}
+
+/// The mask of the second block. A line of level two has a mask for each block, so it is there.
+fn second_mask(lines: &Lines<Two>, second: u32) -> Option<Mask>
+    requires { lines.now.factor ≡ 2 }
+{
+    match lines.dirty(second) {
+        Some(masks) => Some(masks[1]),
+        None => None,
+    }
+}
 
 /// Two sets of two ways in one of two banks: block 0 and block 4 are in set 0, block 2 is in set 1.
 #[test]
@@ -26,16 +47,16 @@ fn lines_come_and_go(rt: HostRuntime) -> Result<(), Fail> {
 #[test]
 fn a_set_has_as_many_lines_as_ways(rt: HostRuntime) -> Result<(), Fail> {
     let mut lines: Lines<Two> = Lines::new(rt.alloc(), 2, 2, 2, 1).ok().ok_or("no memory")?;
-    for block in [0, 4] {
-        assert!(rt; !lines.has(block));
-        assert!(rt; !lines.full(8));
-        assert_eq!(rt; lines.fill(block, masks("00")), Ok(()));
-    }
+    assert!(rt; !lines.has(0));
+    assert_eq!(rt; lines.fill(0, clean_masks(1)), Ok(()));
+    assert!(rt; !lines.has(4));
+    assert!(rt; !lines.full(8));
+    assert_eq!(rt; lines.fill(4, clean_masks(1)), Ok(()));
     assert!(rt; lines.full(8));
     assert!(rt; !lines.full(2));
     assert!(rt; !lines.has(8));
-    assert_eq!(rt; lines.fill(8, masks("00")), Err(LineFault::SetFull));
-    assert_eq!(rt; lines.evict(4, &masks("00")), Ok(()));
+    assert_eq!(rt; lines.fill(8, clean_masks(1)), Err(LineFault::SetFull));
+    assert_eq!(rt; lines.evict(4, &clean_masks(1)), Ok(()));
     assert!(rt; !lines.full(8));
     Ok(())
 }
@@ -62,7 +83,7 @@ fn level_two_keeps_what_level_one_holds(rt: HostRuntime) -> Result<(), Fail> {
     let mut inner: Lines<One> = Lines::new(rt.alloc(), 1, 1, 1, 1).ok().ok_or("no memory")?;
     let mut outer: Lines<Two> = Lines::new(rt.alloc(), 1, 2, 1, 1).ok().ok_or("no memory")?;
     assert!(rt; !outer.has(5));
-    assert_eq!(rt; outer.fill(5, masks("00")), Ok(()));
+    assert_eq!(rt; outer.fill(5, clean_masks(1)), Ok(()));
     assert!(rt; outer.may_leave(5, &inner, false));
     assert!(rt; !outer.may_leave(5, &inner, true));
     assert!(rt; !inner.has(5));
@@ -77,19 +98,28 @@ fn each_block_of_a_wide_line_has_a_mask(rt: HostRuntime) -> Result<(), Fail> {
     let mut inner: Lines<One> = Lines::new(rt.alloc(), 1, 1, 1, 2).ok().ok_or("no memory")?;
     let mut outer: Lines<Two> = Lines::new(rt.alloc(), 1, 2, 1, 2).ok().ok_or("no memory")?;
     assert!(rt; !outer.has(5));
-    assert_eq!(rt; outer.fill(5, masks("00,02")), Ok(()));
+    assert_eq!(rt; outer.fill(5, two_masks(0, 2)), Ok(()));
     assert!(rt; outer.has(5));
-    outer.mark(5, &masks("00,01"));
-    assert!(rt; outer.dirty(5) == Some(&masks("00,03")));
+    outer.mark(5, &two_masks(0, 1));
+    assert!(rt; outer.dirty(5) == Some(&two_masks(0, 3)));
+    assert_eq!(rt; second_mask(&outer, 5), Some(Mask(3)));
     assert!(rt; outer.may_leave(5, &inner, false));
     assert!(rt; !inner.has(11));
     assert_eq!(rt; inner.fill(11, Mask(0)), Ok(()));
     assert!(rt; !outer.may_leave(5, &inner, false));
-    assert_eq!(rt; outer.evict(5, &masks("03,00")), Err(LineFault::EvictMask));
     assert_eq!(rt;
-        outer.evict(4, &masks("00,00")),
+        outer.evict(4, &two_masks(0, 0)),
         Err(LineFault::EvictAbsent)
     );
-    assert_eq!(rt; outer.evict(5, &masks("00,03")), Ok(()));
+    Ok(())
+}
+
+#[test]
+fn a_wide_line_goes_with_its_masks(rt: HostRuntime) -> Result<(), Fail> {
+    let mut outer: Lines<Two> = Lines::new(rt.alloc(), 1, 2, 1, 2).ok().ok_or("no memory")?;
+    assert!(rt; !outer.has(5));
+    assert_eq!(rt; outer.fill(5, two_masks(0, 3)), Ok(()));
+    assert_eq!(rt; outer.evict(5, &two_masks(3, 0)), Err(LineFault::EvictMask));
+    assert_eq!(rt; outer.evict(5, &two_masks(0, 3)), Ok(()));
     Ok(())
 }

@@ -77,3 +77,17 @@ fn fences_of_a_port_as_they_come(rt: HostRuntime) -> Result<(), Fail> {
     assert_eq!(rt; answers(rt.alloc(), &events)?.as_slice(), told.as_slice());
     Ok(())
 }
+
+/// The bank that owes a tag's reply is the one that its issue names, until the reply.
+#[test]
+fn bank_that_owes_a_reply(rt: HostRuntime) -> Result<(), Fail> {
+    let mut step = PortStep::new(&C1, 0);
+    let issue = record(rt.alloc(), &C1, 0, 0, 0, LOAD)?;
+    assert_eq!(rt; step.apply(&issue), Ok(()));
+    assert_eq!(rt; step.owing_bank(0), Some(0));
+    assert_eq!(rt; step.owing_bank(1), None);
+    let reply = record(rt.alloc(), &C1, 0, 0, 0, REPLY)?;
+    assert_eq!(rt; step.apply(&reply), Ok(()));
+    assert_eq!(rt; step.owing_bank(0), None);
+    Ok(())
+}

@@ -1,6 +1,6 @@
 //! The state of the whole system, and the step of one record.
 
-ghost use Rattle.std.specs.Prelude.{◌≡◌, ℕ, Bool, true, length, None, Option, IfOk, OnOk};
+ghost use Rattle.std.specs.Prelude.{◌≡◌, ℕ, Bool, true, false, length, None, Option, IsSome, IsErr, IfOk, OnOk, OnErr};
 ghost use Rattle.lf_rules.specs.Fits.{Fits, is_of_level_two};
 ghost use Rattle.std.specs.List.{All};
 ghost use Rattle.lf_rules.specs.Address.{FlatMemory as Contents, flat_memory};
@@ -27,6 +27,8 @@ pub struct Machine {
     pub busy: Vec<BusyTag>,
     /// One for each bank.
     pub slices: Vec<PlainSlice>,
+    /// Whether memory ran out within a step. The state may then be that of half a step.
+    pub failed: bool,
 }
 
 fn judge_fence(shape: &Shape, busy: &[BusyTag], log: u8) -> Option<Rule>
@@ -220,6 +222,7 @@ impl Machine {
             memory: FlatMemory::new(alloc, memory)?,
             busy: Vec::new(alloc),
             slices: new_slices(alloc, shape)?,
+            failed: false,
         })
     }
 
@@ -249,7 +252,8 @@ impl Machine {
         requires holds { first_failing OfBoth (clauses self.old.shape (seen_by item.now.log item.now.bank (state_of self.old)) item.now) ≡ None }
         ensures state { OnOk result (state_of self.new ≡ state_after self.old.shape (state_of self.old) item.now) }
         ensures machine { OnOk result (IsMachine self.new) }
-        ensures shape { OnOk result (self.new.shape ≡ self.old.shape) }
+        ensures shape { self.new.shape ≡ self.old.shape }
+        ensures failed { self.new.failed ≡ self.old.failed }
     {
         apply_busy(&mut self.busy, item)?;
         let bank = usize::from(item.bank);
@@ -260,20 +264,30 @@ impl Machine {
         apply_event(&self.shape, &mut self.memory, slice, item)
     }
 
-    /// The first rule that the record breaks, or else it takes effect.
+    /// The first rule that the record breaks, or else it takes effect. Where a rule is broken nothing has
+    /// changed. After want of memory the machine has failed: it answers `NoMemory` from then on.
     pub fn step(&mut self, item: &Record) -> Result<Option<Rule>, NoMemory>
-        requires machine { IsMachine self.old }
+        requires machine { self.old.failed ≡ false → IsMachine self.old }
         requires fits { Fits self.old.shape item.now }
         ensures rule { IfOk result (λ rule.
             rule ≡ first_failing OfBoth (clauses self.old.shape (seen_by item.now.log item.now.bank (state_of self.old)) item.now)) }
         ensures state { IfOk result (λ rule. rule ≡ None → state_of self.new ≡ state_after self.old.shape (state_of self.old) item.now) }
         ensures machine { OnOk result (IsMachine self.new) }
-        ensures shape { OnOk result (self.new.shape ≡ self.old.shape) }
+        ensures shape { self.new.shape ≡ self.old.shape }
+        ensures unchanged { IfOk result (λ rule. IsSome rule → self.new ≡ self.old) }
+        ensures fails { OnErr result (self.new.failed ≡ true) }
+        ensures failed { self.old.failed ≡ true → IsErr result × (self.new ≡ self.old) }
     {
-        let rule = self.judge(item);
-        if rule.is_none() {
-            self.apply(item)?;
+        if self.failed {
+            return Err(NoMemory);
         }
-        Ok(rule)
+        if let Some(rule) = self.judge(item) {
+            return Ok(Some(rule));
+        }
+        if self.apply(item).is_err() {
+            self.failed = true;
+            return Err(NoMemory);
+        }
+        Ok(None)
     }
 }

@@ -2,22 +2,41 @@
 use Rattle.std.proofs.Common.{◌≡◌, ◌≢◌, ℕ, ◌+◌, ◌%◌, ◌^◌, ◌<◌, ◌≤◌, Bool, true, false, cond, List, [], ◌∷◌, ◌++◌, length, get_or}
 use Rattle.std.proofs.Common.{set, refl, sym, ap, ◌∙◌, subst, ⊎_elim, arith, length-append, length-set, get_or-set_same}
 use Rattle.std.specs.Prelude.{◌==◌, slice_index, nat_lt, nat_le, sum_by, All}
-use mathlib.Core.Option.{some, none}
+use mathlib.Core.Option.{some, none, some-injective}
 use mathlib.Core.Logic.{dite}
 use native.Mathlib.Decide.{dec_le}
 use lib.ListN.{get_elem?}
-use Rattle.std.proofs.lemmas.List.Sums.{sum_by_push}
+use Rattle.std.proofs.lemmas.List.Elements.{All-head, All-tail, All-push}
+use Rattle.std.proofs.lemmas.List.Quantifiers.{all_pairs_push}
+use Rattle.std.proofs.lemmas.List.Sums.{sum_by-cons, sum_by_push}
 use Rattle.atomic_table.specs.Table.{step, keeps, stepped, Allows, Splits, Joins}
-use Rattle.atomic_table.proofs.Lists.{at_set}
+use Rattle.atomic_table.proofs.Lists.{at_set, at_longer, set_here, set_else}
 use Rattle.lf_pool.specs.declared.rule.View.{View}
 use Rattle.lf_pool.specs.declared.rule.View.TheVariants.{Keeper, Worker, Spent}
-use Rattle.lf_pool.specs.Rule.{PoolState, times, past, times_in, past_in, workers_in, FitsSeat, AreClaimed, Claims}
-use Rattle.lf_pool.proofs.Places.{at_snoc_place}
+use Rattle.lf_pool.specs.Rule.{PoolState, times, past, times_in, past_in, workers_in, AreTakenIn, FitsSeat, AreClaimed, Claims}
+use Rattle.lf_pool.proofs.Places.{at_snoc_place, at_within}
 use Rattle.lf_pool.proofs.Totals.{total_set, at_most_total, total_le, total_one, once_below, times_here, one_more_below, below_from_once, not_past, is_past}
+
+-- what stays of the workers that were taken in, where their seats stay spent
+still_taken : (jobs : ℕ) (old new : List View) (joined : List (ℕ × List ℕ)) → ((j : ℕ) → get_elem? old j ≡ some Spent → get_elem? new j ≡ some Spent)
+    → AreTakenIn jobs old joined → AreTakenIn jobs new joined
+still_taken jobs old new joined stay is = record { spent = λ i d lt. stay ((get_or joined i d).0 + 1) (is.spent i d lt); numbers = is.numbers; past = is.past }
+
+-- a seat that is not spent changes
+spent_set : (views : List View) (seat j : ℕ) (v w : View) → get_elem? views seat ≡ some v → (v ≡ Spent → ⊥) → get_elem? views j ≡ some Spent → get_elem? (set views seat w) j ≡ some Spent
+spent_set views seat j v w at busy spent =
+    set_else views seat j w (λ e. busy (some-injective v Spent (sym at ∙ ap (get_elem? views) (sym e) ∙ spent))) ∙ spent
+
+few_past : (jobs : ℕ) (joined : List (ℕ × List ℕ)) → All (λ w. past jobs w.1 ≤ 1) joined → sum_by (λ (w : ℕ × List ℕ). past jobs w.1) joined ≤ length joined
+few_past jobs [] all = omega arith
+few_past jobs (w ∷ ws) all =
+    let P : ℕ × List ℕ → Type 0 = λ v. past jobs v.1 ≤ 1 in
+    let here = All-head P w ws all in let rest = few_past jobs ws (All-tail P w ws all) in
+    omega (arith, sum_by-cons (λ (v : ℕ × List ℕ). past jobs v.1) w ws)
 
 -- no view has more claims past the jobs than workers
 each_past : (jobs : ℕ) (views : List View) (j : ℕ) (v : View) → FitsSeat jobs views j v → past_in jobs v ≤ workers_in v
-each_past jobs views j (Keeper made joined) fits = fits.2
+each_past jobs views j (Keeper made joined) fits = few_past jobs joined fits.2.past
 each_past jobs views j (Worker number claims) fits = fits.1
 each_past jobs views j Spent fits = omega arith
 
@@ -80,7 +99,8 @@ module _ (jobs slots seat number : ℕ) (claims : List ℕ) (s : PoolState) (was
       change ∙ (was.workers ∙ sym (length-set s.views seat new))
 
   still_fits : (j : ℕ) (u : View) → FitsSeat jobs s.views j u → FitsSeat jobs (set s.views seat new) j u
-  still_fits j (Keeper made joined) fits = (fits.0, length-set s.views seat new ∙ fits.1, fits.2)
+  still_fits j (Keeper made joined) fits =
+      (fits.0, length-set s.views seat new ∙ fits.1, still_taken jobs s.views (set s.views seat new) joined (λ k. spent_set s.views seat k mine new at (λ e. cc)) fits.2)
   still_fits j (Worker m cs) fits = fits
   still_fits j Spent fits = tt
 
@@ -133,6 +153,11 @@ module _ (jobs seat made : ℕ) (joined : List (ℕ × List ℕ)) (room : made <
   longer : length with_next ≡ made + 2
   longer = let a = length-append front (Worker made [] ∷ []) in let b = length-set s.views seat (Keeper (made + 1) joined) in let c = keeper_fits.1 in omega arith
 
+  still_open : AreTakenIn jobs with_next joined
+  still_open =
+      still_taken jobs s.views with_next joined
+      (λ k spent. at_longer front (Worker made [] ∷ []) k Spent (spent_set s.views seat k (Keeper made joined) (Keeper (made + 1) joined) at (λ e. cc) spent)) keeper_fits.2
+
   -- a total stays, where the new view adds what the seat's change leaves out
   total_opened : (f : View → ℕ) (more : ℕ) → f (Keeper (made + 1) joined) ≡ f (Keeper made joined) → f (Worker made []) ≡ more → sum_by f with_next ≡ sum_by f s.views + more
   total_opened f more same new_is =
@@ -148,7 +173,7 @@ module _ (jobs seat made : ℕ) (joined : List (ℕ × List ℕ)) (room : made <
   seats_opened : (j : ℕ) (u : View) → get_elem? with_next j ≡ some u → FitsSeat jobs with_next j u
   seats_opened j u e = ⊎_elim
       (λ (old : get_elem? front j ≡ some u). ⊎_elim
-      (λ (x : (j ≡ seat) × (Keeper (made + 1) joined ≡ u)). subst (λ v. FitsSeat jobs with_next j v) x.1 (x.0 ∙ keeper_fits.0, (let l = longer in omega arith), keeper_fits.2))
+      (λ (x : (j ≡ seat) × (Keeper (made + 1) joined ≡ u)). subst (λ v. FitsSeat jobs with_next j v) x.1 (x.0 ∙ keeper_fits.0, (let l = longer in omega arith), still_open))
       (λ (x : (j ≢ seat) × (get_elem? s.views j ≡ some u)). old_fits j u x.0 (was.seats j u x.1))
       (at_set s.views seat j (Keeper (made + 1) joined) u old))
       (λ (x : (j ≡ length front) × (Worker made [] ≡ u)).
@@ -203,13 +228,33 @@ module _ (jobs seat made : ℕ) (joined : List (ℕ × List ℕ)) (other number 
   rest_fits j (Worker m cs) differ fits = fits
   rest_fits j Spent differ fits = tt
 
+  still_spent : (k : ℕ) → get_elem? s.views k ≡ some Spent → get_elem? taken k ≡ some Spent
+  still_spent k spent =
+      spent_set (set s.views seat both) other k (Worker number claims) Spent there (λ e. cc) (spent_set s.views seat k (Keeper made joined) both at (λ e. cc) spent)
+
+  now_spent : get_elem? taken (number + 1) ≡ some Spent
+  now_spent =
+      subst (λ k. get_elem? taken k ≡ some Spent) worker_fits.0
+      (set_here (set s.views seat both) other Spent (at_within (set s.views seat both) other (Worker number claims) there))
+
+  -- the worker's number is none of those that were taken in, whose seats are spent
+  other_number : (i : ℕ) (d : ℕ × List ℕ) → i < length joined → (get_or joined i d).0 ≡ number → ⊥
+  other_number i d lt e =
+      let spent = pool_fits.2.spent i d lt in
+      let busy : get_elem? s.views ((get_or joined i d).0 + 1) ≡ some (Worker number claims) =
+      ap (λ n. get_elem? s.views (n + 1)) e ∙ (ap (get_elem? s.views) (sym worker_fits.0) ∙ worker_there) in
+      let same : Worker number claims ≡ Spent = some-injective (Worker number claims) Spent (sym busy ∙ spent) in cc
+
+  one_taken : AreTakenIn jobs taken (joined ++ (number, claims) ∷ [])
+  one_taken =
+      let before = still_taken jobs s.views taken joined still_spent pool_fits.2 in record {
+        spent = All-push (λ (w : ℕ × List ℕ). get_elem? taken (w.0 + 1) ≡ some Spent) joined (number, claims) before.spent now_spent;
+        numbers = all_pairs_push (λ (v w : ℕ × List ℕ). v.0 ≢ w.0) joined (number, claims) before.numbers other_number;
+        past = All-push (λ (w : ℕ × List ℕ). past jobs w.1 ≤ 1) joined (number, claims) before.past worker_fits.1;
+      }
+
   both_fits : FitsSeat jobs taken seat both
-  both_fits = (
-    pool_fits.0,
-    same_length ∙ pool_fits.1,
-    let sum_is : past_in jobs both ≡ past_in jobs (Keeper made joined) + past jobs claims = sum_by_push (λ (w : ℕ × List ℕ). past jobs w.1) joined (number, claims) in
-        let old = pool_fits.2 in let one = worker_fits.1 in let long = length-append joined ((number, claims) ∷ []) in omega arith,
-  )
+  both_fits = (pool_fits.0, same_length ∙ pool_fits.1, one_taken)
 
   seats_taken : (j : ℕ) (u : View) → get_elem? taken j ≡ some u → FitsSeat jobs taken j u
   seats_taken j u e = ⊎_elim

@@ -1,5 +1,5 @@
 -- The jobs, and what the outcome of each is.
-use Rattle.std.specs.Prelude.{◌≡◌, ℕ, ◌+◌, ◌<◌, ◌≤◌, ◌^◌, List, length, slice_index_or}
+use Rattle.std.specs.Prelude.{◌≡◌, ◌≢◌, ℕ, ◌+◌, ◌<◌, ◌≤◌, ◌^◌, List, length, slice_index_or}
 use Rattle.std.specs.List.{All, AllByRecursion}
 use Rattle.lf_rules.specs.declared.event.Record.{Record}
 use Rattle.lf_rules.specs.declared.outcome.Outcome.{Outcome}
@@ -34,12 +34,17 @@ pub record AreJobs (jobs : Jobs) : Type 0 where
   pub orders : length jobs.orders.items ≡ jobs.shape.banks
   pub ordered : (bank : ℕ) → bank < jobs.shape.banks → ArePlacesOfBank (lists_of jobs.logs) bank (places_of jobs bank)
 
--- The job's outcome is that of its port's log or of its bank's records. Want of memory says nothing.
+-- The job's outcome is that of its port's log, whose replay takes no memory, or of its bank's records, whose replay may run
+-- out of memory.
 pub record IsJobOutcome (jobs : Jobs) (job : ℕ) (outcome : Outcome) : Type 0 where
   pub port : job < jobs.shape.ports → IsPortOutcome jobs.shape (log_at (lists_of jobs.logs) job) outcome
+  pub port_memory : job < jobs.shape.ports → outcome ≢ NoMemory
   pub bank : (bank : ℕ) → job ≡ jobs.shape.ports + bank → IsBankOutcome jobs.shape (flat_memory jobs.memory.items) (records_of jobs bank) outcome
 
--- an outcome for each job
-pub record AreJobOutcomes (jobs : Jobs) (outcomes : List Outcome) : Type 0 where
+-- an outcome for each job, each one that the replay of its own job may give
+pub record AreOutcomesBy (MayGive : Jobs → ℕ → Outcome → Type 0) (jobs : Jobs) (outcomes : List Outcome) : Type 0 where
   pub count : length outcomes ≡ count_of jobs
-  pub each : (job : ℕ) → job < count_of jobs → IsJobOutcome jobs job (slice_index_or outcomes job NoMemory)
+  pub each : (job : ℕ) → job < count_of jobs → MayGive jobs job (slice_index_or outcomes job NoMemory)
+
+abbrev pub AreJobOutcomes : Jobs → List Outcome → Type 0
+AreJobOutcomes jobs outcomes = AreOutcomesBy IsJobOutcome jobs outcomes

@@ -1,5 +1,5 @@
 -- What holds of the claim word and of the seats' views between any two steps.
-use Rattle.std.specs.Prelude.{◌≡◌, ◌==◌, ℕ, ◌+◌, ◌<◌, ◌≤◌, List, [], ◌∷◌, ◌++◌, length, slice_index, cond, nat_lt, nat_le, sum_by, count_by, All}
+use Rattle.std.specs.Prelude.{◌≡◌, ◌≢◌, ◌==◌, ℕ, ◌+◌, ◌<◌, ◌≤◌, List, [], ◌∷◌, ◌++◌, length, slice_index, cond, nat_lt, nat_le, sum_by, count_by, All, AllPairs}
 use mathlib.Core.Option.{some}
 use lib.ListN.{get_elem?}
 use Rattle.atomic_table.specs.Table.{State, Me, Step}
@@ -40,8 +40,15 @@ workers_in (Keeper made joined) = length joined
 workers_in (Worker number claims) = 1
 workers_in Spent = 0
 
+-- these workers were taken in: the seat of each is spent, no two have one number, and of the claims of each at most one is past
+-- the jobs
+pub record AreTakenIn (jobs : ℕ) (views : List View) (joined : List (ℕ × List ℕ)) : Type 0 where
+  pub spent : All (λ w. get_elem? views (w.0 + 1) ≡ some Spent) joined
+  pub numbers : AllPairs (λ v w. v.0 ≢ w.0) joined
+  pub past : All (λ w. past jobs w.1 ≤ 1) joined
+
 abbrev pub FitsSeat : ℕ → List View → ℕ → View → Type 0
-FitsSeat jobs views seat (Keeper made joined) = (seat ≡ 0) × (length views ≡ made + 1) × (past_in jobs (Keeper made joined) ≤ length joined)
+FitsSeat jobs views seat (Keeper made joined) = (seat ≡ 0) × (length views ≡ made + 1) × AreTakenIn jobs views joined
 FitsSeat jobs views seat (Worker number claims) = (seat ≡ number + 1) × (past jobs claims ≤ 1)
 FitsSeat jobs views seat Spent = Unit {0}
 

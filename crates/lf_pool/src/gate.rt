@@ -6,7 +6,14 @@ pub trait Gate {
     fn enter(&self, job: u32);
 }
 
+impl<G: Gate> Gate for &G {
+    fn enter(&self, job: u32) {
+        (**self).enter(job);
+    }
+}
+
 /// Returns at once.
+#[derive(Clone, Copy, Debug)]
 pub struct NoGate;
 
 impl Gate for NoGate {

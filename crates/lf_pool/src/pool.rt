@@ -4,12 +4,13 @@ ghost use Rattle.std.specs.Prelude.{◌≡◌, ◌↔◌, ◌≤◌, ◌<◌, �
 ghost use Rattle.std.specs.Prelude.{[], length, map, All, replicate, slice_get, slice_index_or};
 ghost use Rattle.std.specs.Bool.{OnTrue};
 ghost use Rattle.lf_pool.specs.declared.rule.View.TheVariants.{Keeper};
-ghost use Rattle.lf_pool.specs.Job.{AreJobs, AreJobOutcomes, count_of};
+ghost use Rattle.lf_pool.specs.Job.{AreJobs, AreJobOutcomes, AreOutcomesBy, count_of};
 ghost use Rattle.lf_pool.specs.Workers.{IsWorkerCount, IsPoolFault};
 ghost use Rattle.lf_pool.specs.Worked.{IsClaimer, IsWorked, entry_of, put_all, put_each};
 
 use crate::gate::Gate;
 use crate::job::{Jobs, count};
+use crate::replays::{Gated, Replays};
 use crate::rule::{NextWorker, PoolShared, PoolTable, Takes, View};
 use crate::worker::{Claimer, Worked, WorkedBy, work};
 use atomic_table::Seat;
@@ -68,8 +69,8 @@ pub fn is_worker_count(workers: u32) -> bool
     (1..=16).contains(&workers)
 }
 
-impl<'a> Promise<Worked> for WorkedBy<'a> {
-    ghost kept_by = { λ p r. IsWorked p.jobs.now p.shared.now.table_id r };
+impl<'a, P: Replays> Promise<Worked> for WorkedBy<'a, P> {
+    ghost kept_by = { λ p r. IsWorked P.may_give p.jobs.now p.shared.now.table_id r };
 }
 
 /// A seat for the next worker.
@@ -105,50 +106,54 @@ fn new_claimers(
 }
 
 /// Runs one worker here, and each other in a thread of the scope.
-fn run_in<'s, E, G: Gate + Sync, R: Threads + Sync>(
+fn run_in<'s, E, P: Replays + Sync, R: Threads + Sync>(
     rt: &R,
     scope: &Scope<'s, E>,
     shared: &'s PoolShared,
     jobs: &'s Jobs,
-    gate: &'s G,
+    replays: &'s P,
     alloc: Global,
     claimers: Vec<Claimer>,
 ) -> Result<Vec<Worked>, PoolFault>
     requires table { (0 < shared.now.table_id.words) × (shared.now.key ≡ count_of jobs.now) }
     requires ready { AreJobs jobs.now }
     requires claimers { (0 < length claimers.items) × All (IsClaimer shared.now.table_id) claimers.items }
-    ensures worked { IfOk result (λ v. (length v.items ≡ length claimers.items) × All (IsWorked jobs.entry.now shared.entry.now.table_id) v.items) }
+    ensures worked { IfOk result (λ v. (length v.items ≡ length claimers.items) × All (IsWorked P.may_give jobs.entry.now shared.entry.now.table_id) v.items) }
     ensures fault { IfErr result (IsPoolFault (length claimers.items)) }
 {
     let mut claimers = claimers;
     let own = claimers.pop().unwrap();
     let mut handles = Vec::with_capacity(alloc, claimers.len())?;
     for claimer in claimers {
-        let promise = WorkedBy { jobs, shared };
-        match scope.spawn_with(promise, move || work(shared, jobs, gate, alloc, claimer)) {
+        let promise = WorkedBy {
+            jobs,
+            shared,
+            replays,
+        };
+        match scope.spawn_with(promise, move || work(shared, jobs, replays, alloc, claimer)) {
             Ok(handle) => handles.push_reserved(handle),
             Err(_) => return Err(PoolFault::Spawn),
         }
     }
-    let own = work(shared, jobs, gate, alloc, own);
+    let own = work(shared, jobs, replays, alloc, own);
     let mut all = thread::join_promised(rt, handles)?;
     all.push(own)?;
     Ok(all)
 }
 
 /// The same in a scope of its own, which ends when each of its threads has.
-fn in_threads<G: Gate + Sync, R: Threads + Wait + Sync>(
+fn in_threads<P: Replays + Sync, R: Threads + Wait + Sync>(
     rt: &R,
     shared: &PoolShared,
     jobs: &Jobs,
-    gate: &G,
+    replays: &P,
     alloc: Global,
     claimers: Vec<Claimer>,
 ) -> Result<Vec<Worked>, PoolFault>
     requires table { (0 < shared.now.table_id.words) × (shared.now.key ≡ count_of jobs.now) }
     requires ready { AreJobs jobs.now }
     requires claimers { (0 < length claimers.items) × All (IsClaimer shared.now.table_id) claimers.items }
-    ensures worked { IfOk result (λ v. (length v.items ≡ length claimers.items) × All (IsWorked jobs.now shared.now.table_id) v.items) }
+    ensures worked { IfOk result (λ v. (length v.items ≡ length claimers.items) × All (IsWorked P.may_give jobs.now shared.now.table_id) v.items) }
     ensures fault { IfErr result (IsPoolFault (length claimers.items)) }
 {
     thread::scope(
@@ -158,9 +163,9 @@ fn in_threads<G: Gate + Sync, R: Threads + Wait + Sync>(
             requires table { (0 < shared.now.table_id.words) × (shared.now.key ≡ count_of jobs.now) }
             requires ready { AreJobs jobs.now }
             requires claimers { (0 < length claimers.items) × All (IsClaimer shared.now.table_id) claimers.items }
-            ensures worked { IfOk result (λ v. (length v.items ≡ length claimers.items) × All (IsWorked jobs.entry.now shared.entry.now.table_id) v.items) }
+            ensures worked { IfOk result (λ v. (length v.items ≡ length claimers.items) × All (IsWorked P.may_give jobs.entry.now shared.entry.now.table_id) v.items) }
             ensures fault { IfErr result (IsPoolFault (length claimers.items)) }
-        { run_in(rt, scope, shared, jobs, gate, alloc, claimers) },
+        { run_in(rt, scope, shared, jobs, replays, alloc, claimers) },
     )
 }
 
@@ -176,7 +181,7 @@ fn put(outcomes: &mut Vec<Option<Outcome>>, done: Vec<(u64, Outcome)>)
 }
 
 /// Takes the workers' seats in, and puts each outcome at its job's number.
-fn take_in(
+fn take_in<P: Replays>(
     shared: &PoolShared,
     keeper: &mut Seat<(), View>,
     jobs: &Jobs,
@@ -185,7 +190,7 @@ fn take_in(
     outcomes: &mut Vec<Option<Outcome>>,
 )
     requires table { (keeper.old.table_id ≡ shared.now.table_id) × (0 < shared.now.table_id.words) }
-    requires worked { All (IsWorked jobs.now shared.now.table_id) worked.items }
+    requires worked { All (IsWorked P.may_give jobs.now shared.now.table_id) worked.items }
     requires made { keeper.old.me ≡ (Keeper made [], []) }
     ensures table { keeper.new.table_id ≡ keeper.old.table_id }
     ensures made { keeper.new.me ≡ (Keeper made (map entry_of worked.items), []) }
@@ -236,11 +241,48 @@ fn is_whole(worked: &Vec<Worked>) -> bool
     worked.iter().all(|one| one.last.is_some())
 }
 
-/// Does each job, by so many workers: one here, and each other in a thread of its own, so that with one
-/// no thread is made. The outcomes are those of the ports, and behind them those of the banks; an outcome
-/// is `NoMemory` where its own replay ran out of memory. `Workers` where there cannot be so many;
-/// `Spawn` where a thread was refused, and `NoMemory` where a growth was refused: then no worker is left
-/// at work.
+/// Does each job by these replays, by so many workers: one here, and each other in a thread of its own, so that
+/// with one no thread is made. The outcomes are those of the ports, and behind them those of the banks, each one that
+/// the replay of its own job may give. `Workers` where there cannot be so many; `Spawn` where a thread was refused,
+/// and `NoMemory` where a growth of the pool's own was refused: then no worker is left at work.
+pub fn run_jobs_by<P: Replays + Sync, R: Threads + Wait + Sync>(
+    rt: &R,
+    alloc: Global,
+    jobs: &Jobs,
+    workers: u32,
+    replays: &P,
+) -> Result<Vec<Outcome>, PoolFault>
+    requires ready { AreJobs jobs.now }
+    ensures outcomes { IfOk result (λ v. AreOutcomesBy P.may_give jobs.now v.items) }
+    ensures workers { (result ≡ Err (PoolFault.Workers workers)) ↔ ¬ IsWorkerCount workers }
+    ensures fault { IfErr result (IsPoolFault workers) }
+{
+    if !is_worker_count(workers) {
+        return Err(PoolFault::Workers(workers));
+    }
+    let count = count(jobs);
+    let (table, mut keeper) = PoolTable::of_words(alloc, &[0], &u64::from(count))?;
+    let claimers = new_claimers(&table.shared, &mut keeper, alloc, workers)?;
+    let worked = in_threads(rt, &table.shared, jobs, replays, alloc, claimers)?;
+    let mut outcomes = blank(alloc, count as usize)?;
+    if !is_whole(&worked) {
+        return Err(PoolFault::NoMemory);
+    }
+    take_in::<P>(
+        &table.shared,
+        &mut keeper,
+        jobs,
+        workers,
+        worked,
+        &mut outcomes,
+    );
+    table.close_with(keeper).free();
+    Ok(unwrapped(alloc, outcomes)?)
+}
+
+/// Does each job as `run_jobs_by` does: a port's by the replay of its log, which never runs out of memory, a bank's by
+/// the replay of its records, whose outcome is `NoMemory` where that replay ran out. Each worker passes the gate
+/// before each of its jobs.
 pub fn run_jobs<G: Gate + Sync, R: Threads + Wait + Sync>(
     rt: &R,
     alloc: Global,
@@ -253,25 +295,5 @@ pub fn run_jobs<G: Gate + Sync, R: Threads + Wait + Sync>(
     ensures workers { (result ≡ Err (PoolFault.Workers workers)) ↔ ¬ IsWorkerCount workers }
     ensures fault { IfErr result (IsPoolFault workers) }
 {
-    if !is_worker_count(workers) {
-        return Err(PoolFault::Workers(workers));
-    }
-    let count = count(jobs);
-    let (table, mut keeper) = PoolTable::of_words(alloc, &[0], &u64::from(count))?;
-    let claimers = new_claimers(&table.shared, &mut keeper, alloc, workers)?;
-    let worked = in_threads(rt, &table.shared, jobs, gate, alloc, claimers)?;
-    let mut outcomes = blank(alloc, count as usize)?;
-    if !is_whole(&worked) {
-        return Err(PoolFault::NoMemory);
-    }
-    take_in(
-        &table.shared,
-        &mut keeper,
-        jobs,
-        workers,
-        worked,
-        &mut outcomes,
-    );
-    table.close_with(keeper).free();
-    Ok(unwrapped(alloc, outcomes)?)
+    run_jobs_by(rt, alloc, jobs, workers, &Gated { gate })
 }

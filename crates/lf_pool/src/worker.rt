@@ -5,8 +5,8 @@ ghost use Rattle.lf_pool.specs.declared.rule.View.TheVariants.{Worker};
 ghost use Rattle.lf_pool.specs.Job.{AreJobs, count_of};
 ghost use Rattle.lf_pool.specs.Worked.{number_of, IsClaimer, IsWorked};
 
-use crate::gate::Gate;
-use crate::job::{Jobs, count, job};
+use crate::job::{Jobs, count};
+use crate::replays::Replays;
 use crate::rule::{Claim, PoolShared, View};
 use atomic_table::Seat;
 use lf_rules::Outcome;
@@ -29,10 +29,11 @@ pub struct Worked {
 }
 
 /// What the thread of a worker gives.
-#[derive(Clone, Copy)]
-pub struct WorkedBy<'a> {
+#[derive_where(Clone, Copy)]
+pub struct WorkedBy<'a, P> {
     pub jobs: &'a Jobs,
     pub shared: &'a PoolShared,
+    pub replays: &'a P,
 }
 
 /// Claims a number, which is above all that this worker claimed before. `number` is its own, `done` what
@@ -59,17 +60,17 @@ fn claim(
 }
 
 /// Claims jobs and does them, until none is left or memory runs out.
-pub fn work<G: Gate>(
+pub fn work<P: Replays>(
     shared: &PoolShared,
     jobs: &Jobs,
-    gate: &G,
+    replays: &P,
     alloc: Global,
     claimer: Claimer,
 ) -> Worked
     requires table { (0 < shared.now.table_id.words) × (shared.now.key ≡ count_of jobs.now) }
     requires ready { AreJobs jobs.now }
     requires claimer { IsClaimer shared.now.table_id claimer }
-    ensures { IsWorked jobs.now shared.now.table_id result }
+    ensures { IsWorked P.may_give jobs.now shared.now.table_id result }
 {
     let Claimer { mut seat, number } = claimer;
     let count = u64::from(count(jobs));
@@ -93,8 +94,7 @@ pub fn work<G: Gate>(
                 last: Some(next),
             };
         }
-        gate.enter(next as u32);
-        done.push_reserved((next, job(alloc, jobs, next as u32)));
+        done.push_reserved((next, replays.replay(alloc, jobs, next as u32)));
         low = next + 1;
     }
 }

@@ -20,7 +20,7 @@ use std::marker::Model;
 #[derive(Drop)]
 pub struct Step {
     bank: u32,
-    state: AnyBank,
+    pub(crate) state: AnyBank,
 }
 
 impl Model for Step {

@@ -39,6 +39,7 @@ fn alone(factor: u32, place: u32, mask: Mask) -> Masks
 /// The mask at a place of a second-level block's line gains these bytes.
 pub fn mark_at(lines: &mut Lines<Two>, shape: &Shape, second: u32, place: u32, mask: Mask)
     requires in_range { IsShape shape.now }
+    requires factor { lines.old.factor ≡ shape.now.factor }
     requires inside { place < shape.now.factor }
     requires there { has_line lines.old.lines second ≡ true }
     ensures { lines.new ≡ after_fill lines.old second (marked (dirty_masks lines.old.lines second) place mask.0) }

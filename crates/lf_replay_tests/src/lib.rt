@@ -4,7 +4,11 @@
 #[cfg(test)]
 mod examples;
 #[cfg(test)]
+mod explained;
+#[cfg(test)]
 mod judged;
+#[cfg(test)]
+mod looks;
 #[cfg(test)]
 mod organisations;
 #[cfg(test)]

@@ -59,7 +59,7 @@ fn a_step_goes_on_after_a_fault(rt: HostRuntime) -> Result<(), Fail> {
 
 /// Applies these records of bank 0, and once more the one that is refused for want of memory. Whether one
 /// was, or nothing where one is no record of the bank or is refused otherwise.
-fn applied(step: &mut Step, shape: &Shape, records: &[Record]) -> Option<bool>
+pub fn applied(step: &mut Step, shape: &Shape, records: &[Record]) -> Option<bool>
     requires in_range { IsShape shape.now }
     requires shape { step.old.state.shape ≡ shape.now }
     requires bank { step.old.bank ≡ 0 }

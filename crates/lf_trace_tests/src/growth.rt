@@ -3,7 +3,6 @@
 
 use crate::reading::{ONE_BANK, encoded};
 use lf_codec::{CodecCause, CodecFault, Packed, Reader, Told};
-use lf_rules::NoMemory;
 use lf_samples::{C1, LOAD, LOAD_MISSES_BOTH_LEVELS, LOADED, records, want_of_memory};
 use std::test::Fail;
 
@@ -47,21 +46,32 @@ fn refused_growth_of_a_reader(rt: HostRuntime) -> Result<(), Fail> {
     Err(want_of_memory())
 }
 
-/// Nor is a growth of the caller's records passed over. A record that is kept whole goes through the reader's
-/// own queue, whose want of memory is the reader's fault.
+/// Nor is a growth of the caller's records passed over: the reader has failed, and the records that begin before the
+/// fault are there, with the caller or with the reader.
 #[test]
 fn refused_growth_of_packed_records(rt: HostRuntime) -> Result<(), Fail> {
     let mut packed = Packed::new(rt.alloc());
     let mut reader = Reader::new(rt.alloc());
-    match reader.feed_into(&LOAD_MISSES_BOTH_LEVELS, &mut packed) {
-        Ok(Ok(())) => {
-            assert_eq!(rt; packed.len(), 6);
-            Ok(())
+    let Err(told) = reader.feed_into(&LOAD_MISSES_BOTH_LEVELS, &mut packed) else {
+        assert_eq!(rt; packed.len(), 6);
+        return Ok(());
+    };
+    let fault = told.fault();
+    assert_eq!(rt; fault.cause, CodecCause::NoMemory);
+    assert_eq!(rt; reader.feed(&[]), Err(Told::Failed(fault)));
+    assert_eq!(rt;
+        reader.feed_into(&[], &mut packed),
+        Err(Told::Failed(fault))
+    );
+    let mut there = packed.len();
+    for _ in 0..6 {
+        if reader.take().is_some() {
+            there = there.saturating_add(1);
         }
-        Ok(Err(told)) => {
-            assert_eq!(rt; told.fault().cause, CodecCause::NoMemory);
-            Err(want_of_memory())
-        }
-        Err(NoMemory) => Err(want_of_memory()),
     }
+    let begun = [16u64, 36, 48, 64, 84, 104]
+        .iter()
+        .filter(|start| **start < fault.offset);
+    assert_eq!(rt; there, begun.count());
+    Err(want_of_memory())
 }

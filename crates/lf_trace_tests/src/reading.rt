@@ -36,7 +36,7 @@ pub fn feed(reader: &mut Reader, piece: &[u8]) -> Result<(), Fail> {
 
 /// The same, where the records go behind these.
 pub fn feed_into(reader: &mut Reader, piece: &[u8], records: &mut Packed) -> Result<(), Fail> {
-    reader.feed_into(piece, records)??;
+    reader.feed_into(piece, records)?;
     Ok(())
 }
 

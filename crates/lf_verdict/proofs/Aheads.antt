@@ -16,18 +16,18 @@ use Rattle.lf_verdict.specs.Standing.{MayAllCome, IsNextBatch, JudgesAll, CanBeJ
 use Rattle.lf_verdict.specs.declared.intake.Stop.{Stop}
 use Rattle.lf_verdict.specs.declared.intake.Stop.TheVariants as stops
 use Rattle.lf_verdict.specs.Session.{HasTaken, HasFed, HasFedUntil}
-use Rattle.std.specs.declared.thread.PromisedHandle.{PromisedHandle}
-use Rattle.lf_verdict.specs.declared.batch.Judged.{Judged}
-use Rattle.lf_verdict.specs.declared.batch.Judges.{Judges}
+use Rattle.lf_verdict.specs.declared.batch.Lent.{Lent}
 use Rattle.lf_verdict.specs.declared.ahead.Ahead.{Ahead}
+use Rattle.lf_verdict.specs.declared.breaking.Watch.{Watch}
+use Rattle.lf_verdict.specs.Breaking.{IsWatch}
 use Rattle.lf_verdict.specs.Ahead.{session_of, running_before, lent_records}
 use Rattle.lf_verdict.proofs.Sessions.{may_all_come, running_more, on_ok, judged_feed}
 
 -- what was lent stands in front
-pub lent_before : (a : Ahead) (lent : PromisedHandle Judged Judges) (bytes : List ℕ) → a.lent ≡ Some lent → HasTaken (session_of a) bytes
-    → HasTaken (running_before lent.promise.batch.value.standing (lent.promise.batch.value.records.records ++ a.records.records) a.intake) bytes
+pub lent_before : {G : Type 0} (a : Ahead G) (lent : Lent) (bytes : List ℕ) → a.lent ≡ Some lent → HasTaken (session_of a) bytes
+    → HasTaken (running_before lent.thread.promise.batch.value.standing (lent.thread.promise.batch.value.records.records ++ a.records.records) a.intake) bytes
 lent_before a lent bytes e taken =
-    subst (λ (l : Option (PromisedHandle Judged Judges)). HasTaken (session_of (record a { lent = l })) bytes) e taken
+    subst (λ (l : Option Lent). HasTaken (session_of (record a { lent = l })) bytes) e taken
 
 -- the first of the records that may come
 first_come : (shape : Shape) (before xs ys : List Record) → MayAllCome shape before (xs ++ ys) → MayAllCome shape before xs
@@ -70,14 +70,15 @@ module _ (law : WhatIsReadFits) (s : Intake) (bytes : List ℕ) (b : Batch) (res
   pub judged_next : {F : Type 0} (result : Result (Unit {0}) F) (after : Batch) → JudgesAll b result after
       → OnOk result ((after.records.records ≡ []) × HasTaken (running_before after.standing rest s) bytes)
   judged_next result after judges = on_ok result (judges s.shape (flat_memory s.memory.items) taken.0 is_next) (λ got. (
-    got.1,
+    got.1.0,
     (
       taken.0 ++ b.records.records,
       record {
         in_range = taken.1.in_range;
         read = taken_too s.reader bytes s.memory.items taken.0 b.records.records rest taken.1.read;
         fine = taken.1.fine;
-        judging = running_more s.shape bytes s.memory.items taken.0 (taken.0 ++ b.records.records) b.standing after.standing taken.1.judging got.0;
+        judging = running_more s.shape bytes s.memory.items taken.0 (taken.0 ++ b.records.records) b.standing after.standing taken.1.judging got.0
+            (subst (λ (w : Watch). IsWatch s.shape (flat_memory s.memory.items) (taken.0 ++ b.records.records) w) (sym got.1.1) tt);
       },
     ),
   ))
@@ -99,7 +100,7 @@ handed s bytes lent b rest same none taken =
 -- ---- what is fed
 
 -- a piece was read behind what waits
-pub read_ahead : HeaderIsOfItsBytes → (a : Ahead) (bytes piece : List ℕ) (r : Reading) (rs : PackedRecords) → HasTaken (session_of a) bytes
+pub read_ahead : HeaderIsOfItsBytes → {G : Type 0} (a : Ahead G) (bytes piece : List ℕ) (r : Reading) (rs : PackedRecords) → HasTaken (session_of a) bytes
     → ((fed : List ℕ) (memory : List (ℕ × Bytes)) (taken : List Record) → HasRead (with_records a.records.records a.intake.reader) fed memory taken
     → HasRead (with_records rs.records r) (fed ++ piece) memory taken)
     → r.fault ≡ None → HasTaken (session_of (record a { intake = record a.intake { reader = r }; records = rs })) (bytes ++ piece)
@@ -123,7 +124,7 @@ pub still_going : (s : Intake) (bytes : List ℕ) → s.stop ≡ None → HasTak
 still_going s bytes is taken = subst (λ (o : Option Stop). HasFedUntil s bytes o) (sym is) taken
 
 -- no record waits
-pub none_ahead : (a : Ahead) (bytes : List ℕ) → a.lent ≡ None → a.records.records ≡ [] → HasFed a.intake bytes → HasFed (session_of a) bytes
+pub none_ahead : {G : Type 0} (a : Ahead G) (bytes : List ℕ) → a.lent ≡ None → a.records.records ≡ [] → HasFed a.intake bytes → HasFed (session_of a) bytes
 none_ahead a bytes alone none fed =
-    subst (λ (l : Option (PromisedHandle Judged Judges)). HasFed (session_of (record a { lent = l })) bytes) (sym alone)
+    subst (λ (l : Option Lent). HasFed (session_of (record a { lent = l })) bytes) (sym alone)
     (subst (λ (xs : List Record). HasFed (record a.intake { reader = with_records xs a.intake.reader }) bytes) (sym none) fed)

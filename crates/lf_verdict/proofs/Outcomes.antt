@@ -17,7 +17,7 @@ use Rattle.lf_rules.specs.Lists.{lists_of}
 use Rattle.lf_logs.specs.Lists.{AreNumbered}
 use Rattle.lf_pool.specs.declared.job.Jobs.{Jobs}
 use Rattle.lf_pool.specs.Job.{AreJobs, AreJobOutcomes, records_of}
-use Rattle.lf_verdict.specs.declared.broken.Broken.{Broken}
+use Rattle.lf_verdict.specs.declared.broken.BrokenPart.{BrokenPart}
 use Rattle.lf_verdict.specs.Jobs.{NoneRanOut}
 use Rattle.lf_verdict.specs.Parts.{PartsRun, PortRuns, BankRuns, IsPortFault, IsBankFault}
 use Rattle.lf_verdict.specs.Judging.{AreWholeBelow, NoneBroken, IsFirstBroken, IsBroken, outcome_at}
@@ -57,7 +57,7 @@ module _ (shape : Shape) (memory : FlatMemory) (logs lists : List (List Record))
         (j.of_banks.each bank (omega (arith, j.numbered.each_bank)));
   }
 
-  pub port_fault : (broken : Broken) → IsFirstBroken ports broken → IsPortFault shape memory logs broken.part broken.at broken.rule
+  pub port_fault : (broken : BrokenPart) → IsFirstBroken ports broken → IsPortFault shape memory logs broken.part broken.at broken.rule
   port_fault broken first = record {
     numbers = j.whole;
     is_port = omega (arith, first.within, j.of_ports.count);
@@ -65,7 +65,7 @@ module _ (shape : Shape) (memory : FlatMemory) (logs lists : List (List Record))
     breaks = subst (IsOutcomeOf OfPort shape memory (log_at logs broken.part)) first.is (j.of_ports.each broken.part (omega (arith, first.within, j.of_ports.count)) memory);
   }
 
-  pub bank_fault : NoneBroken ports (length ports) → (broken : Broken) → IsFirstBroken banks broken → IsBankFault shape memory logs broken.part broken.at broken.rule
+  pub bank_fault : NoneBroken ports (length ports) → (broken : BrokenPart) → IsFirstBroken banks broken → IsBankFault shape memory logs broken.part broken.at broken.rule
   bank_fault fine broken first = record {
     numbers = j.whole;
     ports = λ p lt. port_runs p lt (fine p (omega (arith, j.of_ports.count)));

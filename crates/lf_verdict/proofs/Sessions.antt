@@ -22,7 +22,7 @@ use Rattle.lf_verdict.proofs.Pieces.{fault_told}
 use Rattle.lf_verdict.proofs.Traces.{fits_shape}
 use Rattle.lf_verdict.proofs.Answered.{limit_is_small}
 use Rattle.lf_codec.specs.Reading.{Reading, reading_of, fault_so_far, header_now, header_of}
-use Rattle.lf_codec.specs.Reader.{HasRead, RanOut, told, fault_in, with_record}
+use Rattle.lf_codec.specs.Reader.{HasRead, RanOut, WantsMemory, told, fault_in, with_record}
 use Rattle.lf_codec.specs.Trace.{IsTrace, FitsIn}
 use Rattle.lf_verdict.specs.declared.answer.Verdict.TheVariants.{Refused}
 use Rattle.lf_verdict.specs.declared.answer.HeaderField.{HeaderField}
@@ -33,6 +33,7 @@ use Rattle.lf_verdict.specs.declared.standing.Standing.{Standing}
 use Rattle.lf_verdict.specs.Legal.{Agrees, IsTraceFor}
 use Rattle.lf_verdict.specs.Judging.{IsVerdictOrWant}
 use Rattle.lf_verdict.specs.Reading.{IsFaultOrWant}
+use Rattle.lf_verdict.specs.Breaking.{IsWatch}
 use Rattle.lf_verdict.specs.Standing.{MayCome, MayAllCome, IsShort, StandsAfterAll, logs_so_far}
 use Rattle.lf_verdict.specs.Session.{IsRunning, IsOfAnotherHeader, IsJudging, HasJudged, HasFedUntil, HasTaken, IsLacking, HasFed, refusal_of, stop_told, IsRefusalSoFar, IsStopOf}
 use Rattle.lf_verdict.specs.declared.answer.Refusal.{Refusal}
@@ -66,9 +67,9 @@ may_come law shape bytes memory records r running item rest read run next =
     }
 
 pub running_more : (shape : Shape) (bytes : List ℕ) (memory : List (ℕ × Bytes)) (records more : List Record) (old new : Standing) → IsRunning shape bytes memory records old
-    → StandsAfterAll shape (flat_memory memory) more new → IsRunning shape bytes memory more new
-running_more shape bytes memory records more old new running stands =
-    record { header = running.header; read = running.read; agrees = running.agrees; whole = running.whole; stands = stands }
+    → StandsAfterAll shape (flat_memory memory) more new → IsWatch shape (flat_memory memory) more new.watch → IsRunning shape bytes memory more new
+running_more shape bytes memory records more old new running stands watched =
+    record { header = running.header; read = running.read; agrees = running.agrees; whole = running.whole; stands = stands; watched = watched }
 
 -- where it ends well
 pub on_ok : {F : Type 0} {P Q : Type 0} (result : Result (Unit {0}) F) → OnOk result P → (P → Q) → OnOk result Q
@@ -211,7 +212,7 @@ waits_no_more exact bytes r h memory records read trace lacking =
 
 -- ---- one feed more
 
-both_bytes : (xs ys : List ℕ) → AreBytes xs → AreBytes ys → AreBytes (xs ++ ys)
+pub both_bytes : (xs ys : List ℕ) → AreBytes xs → AreBytes ys → AreBytes (xs ++ ys)
 both_bytes xs ys a b i =
     elim (cases_lt i (length xs)) [
       | inl lt ↦ rw (get_or_append_left xs ys 0 i lt) (a i)
@@ -222,21 +223,41 @@ pub stop_stays : FaultsStand → (s : Intake) (bytes piece : List ℕ) (stop : S
 stop_stays law s bytes piece (stops.Format fault) fit at = ((law bytes piece fault at.0).so_far, both_bytes bytes piece at.1 fit)
 stop_stays law s bytes piece stops.Memory fit at = tt
 
-pub read_stop : (s : Intake) (old : Option CodecFault) (new : Reading) (bytes : List ℕ) (memory : List (ℕ × Bytes)) (records : List Record) (t : Told CodecFault) (stop : Stop)
-    → old ≡ None → told old new.fault ≡ Err t
-    → HasRead new bytes memory records ⊎ RanOut new bytes memory records → IsStopOf (fault_in t) stop → HasFedUntil s bytes (Some stop)
-read_stop s old new bytes memory records t (stops.Format fault) fine e either is =
+-- a reader that has failed for want of memory, however that came
+pub record Wants (r : Reading) : Type 0 where
+  pub fault : CodecFault
+  pub failed : r.fault ≡ Some fault
+  pub cause : fault.cause ≡ NoMemory
+
+stop_is : (s : Intake) (old : Option CodecFault) (new : Reading) (bytes : List ℕ) (memory : List (ℕ × Bytes)) (records : List Record) (t : Told CodecFault) (stop : Stop)
+    → old ≡ None → told old new.fault ≡ Err t → HasRead new bytes memory records ⊎ Wants new → IsStopOf (fault_in t) stop → HasFedUntil s bytes (Some stop)
+stop_is s old new bytes memory records t (stops.Format fault) fine e either is =
     let here : new.fault ≡ Some (fault_in t) = fault_told new.fault t (sym (ap (λ (f : Option CodecFault). told f new.fault) fine) ∙ e) in
     ⊎_elim
     (λ (has : HasRead new bytes memory records). (ap (λ (q : Reading). q.fault) has.same ∙ here ∙ ap Some (sym is.0), has.are_bytes))
-    (λ (out : RanOut new bytes memory records).
+    (λ (out : Wants new).
     let same : Some out.fault ≡ Some (fault_in t) = sym out.failed ∙ here in
     let one : out.fault ≡ fault_in t = cc in
     absurd (is.1 (subst (λ (f : CodecFault). f.cause ≡ NoMemory) one out.cause)))
     either
-read_stop s old new bytes memory records t stops.Memory fine e either is = tt
+stop_is s old new bytes memory records t stops.Memory fine e either is = tt
 
-header_stays : HeaderIsOfItsBytes → (bytes piece : List ℕ) (h : Header) → header_of bytes ≡ Some h → header_of (bytes ++ piece) ≡ Some h
+pub read_stop : (s : Intake) (old : Option CodecFault) (new : Reading) (bytes : List ℕ) (memory : List (ℕ × Bytes)) (records : List Record) (t : Told CodecFault) (stop : Stop)
+    → old ≡ None → told old new.fault ≡ Err t
+    → HasRead new bytes memory records ⊎ RanOut new bytes memory records → IsStopOf (fault_in t) stop → HasFedUntil s bytes (Some stop)
+read_stop s old new bytes memory records t stop fine e either =
+    stop_is s old new bytes memory records t stop fine e
+    (⊎_elim inl (λ (out : RanOut new bytes memory records). inr (record { fault = out.fault; failed = out.failed; cause = out.cause })) either)
+
+-- the same of a reader that packs what it reads
+pub packed_stop : (s : Intake) (old : Option CodecFault) (new : Reading) (bytes : List ℕ) (memory : List (ℕ × Bytes)) (records : List Record) (t : Told CodecFault) (stop : Stop)
+    → old ≡ None → told old new.fault ≡ Err t
+    → HasRead new bytes memory records ⊎ WantsMemory new bytes memory records → IsStopOf (fault_in t) stop → HasFedUntil s bytes (Some stop)
+packed_stop s old new bytes memory records t stop fine e either =
+    stop_is s old new bytes memory records t stop fine e
+    (⊎_elim inl (λ (out : WantsMemory new bytes memory records). inr (record { fault = out.fault; failed = out.has_failed.failed; cause = out.cause })) either)
+
+pub header_stays : HeaderIsOfItsBytes → (bytes piece : List ℕ) (h : Header) → header_of bytes ≡ Some h → header_of (bytes ++ piece) ≡ Some h
 header_stays law bytes piece h e = elim (cases_lt (length bytes) 16) [
   | inl lt ↦ let no : Some h ≡ None = sym e ∙ law.fewer bytes lt in absurd (cc)
   | inr le ↦
@@ -252,5 +273,5 @@ judged_feed law s bytes piece records new was read fine = record { in_range = wa
   where
     go : (j : Judging) → IsJudging s.shape bytes s.memory.items records j → IsJudging s.shape (bytes ++ piece) s.memory.items records j
     go Waiting h = h
-    go (Running running) h = record { header = h.header; read = header_stays law bytes piece h.header h.read; agrees = h.agrees; whole = h.whole; stands = h.stands }
+    go (Running running) h = record { header = h.header; read = header_stays law bytes piece h.header h.read; agrees = h.agrees; whole = h.whole; stands = h.stands; watched = h.watched }
     go (Another field) h = record { header = h.header; read = header_stays law bytes piece h.header h.read; differs = h.differs }

@@ -107,7 +107,7 @@ port_outcome shape rs step outcomes.Passed at = (at.is_run, λ e. cc)
 port_outcome shape rs step (outcomes.Broken n rule) at = (at, λ e. cc)
 port_outcome shape rs step outcomes.NoMemory at = absurd at
 
-bank_outcome : (shape : Shape) (memory : FlatMemory) (bank : ℕ) (rs : List Record) (step : StepView) (outcome : Outcome) → IsBankAt shape memory bank rs step outcome
+pub bank_outcome : (shape : Shape) (memory : FlatMemory) (bank : ℕ) (rs : List Record) (step : StepView) (outcome : Outcome) → IsBankAt shape memory bank rs step outcome
     → IsBankOutcome shape memory rs outcome × (outcome ≡ outcomes.NoMemory → ⊥)
 bank_outcome shape memory bank rs step outcomes.Passed at = (at.state.is_run, λ e. cc)
 bank_outcome shape memory bank rs step (outcomes.Broken n rule) at = (at, λ e. cc)
@@ -117,13 +117,13 @@ bank_outcome shape memory bank rs step outcomes.NoMemory at = absurd at
 
 module _ (shape : Shape) (memory : FlatMemory) (records : List Record) (s : Standing) (stands : StandsAfterAll shape memory records s) where
   -- the bank at a place, whatever stands past the end
-  bank_here : (bank : ℕ) → bank < shape.banks → (judge : BankJudge) × ((outcome_at (map (λ (j : BankJudge). j.outcome) s.banks.items) bank ≡ judge.outcome)
+  pub bank_here : (bank : ℕ) → bank < shape.banks → (judge : BankJudge) × ((outcome_at (map (λ (j : BankJudge). j.outcome) s.banks.items) bank ≡ judge.outcome)
       × IsBankSettled shape (bank_part shape bank memory) bank (of_bank bank records) (log_at stands.given bank) judge)
   bank_here bank lt =
       let at = map_at (λ (j : BankJudge). j.outcome) s.banks.items bank (omega (arith, stands.count_banks)) in
       (at.0, (at.1.1, subst (λ (j : BankJudge). IsBankSettled shape (bank_part shape bank memory) bank (of_bank bank records) (log_at stands.given bank) j) (at.1.0 at.0) (stands.banks bank at.0 lt)))
 
-  port_here : (port : ℕ) → port < shape.ports → (judge : PortJudge)
+  pub port_here : (port : ℕ) → port < shape.ports → (judge : PortJudge)
       × ((outcome_at (map (λ (j : PortJudge). j.outcome) s.entries.ports.items) port ≡ judge.outcome) × IsPortJudged shape port (of_log port records) judge)
   port_here port lt =
       let at = map_at (λ (j : PortJudge). j.outcome) s.entries.ports.items port (omega (arith, stands.entered.count_ports)) in
@@ -150,7 +150,7 @@ module _ (shape : Shape) (memory : FlatMemory) (records : List Record) (s : Stan
       let same = length_permutation (numbers_of xs) (numbers_of ys) (IsPermutation-map (λ (r : Record). r.number) xs ys moved) in
       times_moved xs ys moved k ∙ whole k (omega (arith, same))
 
-  bank_order : (bank : ℕ) → bank < shape.banks → IsBankOrder shape bank (log_at stands.given bank)
+  pub bank_order : (bank : ℕ) → bank < shape.banks → IsBankOrder shape bank (log_at stands.given bank)
   bank_order bank lt =
       let here = bank_here bank lt in
       let judged = here.1.1.bank_judged in

@@ -137,7 +137,7 @@ module _ (shape : Shape) (memory : FlatMemory) (records : List Record) (s : Stan
 
   -- its entry is kept, and its bank has judged it
   pub stands_more : (entries : Entries) (after : Standing) (i : ℕ) (new : BankJudge) → AreEntered shape (records ++ r ∷ []) entries → r.bank < shape.banks
-      → after ≡ record { entries = entries; banks = with_item s.banks i new } → i ≡ r.bank
+      → after ≡ record { entries = entries; banks = with_item s.banks i new; watch = s.watch } → i ≡ r.bank
       → (more : List Record) × IsBankSettled shape (bank_part shape r.bank memory) r.bank (of_bank r.bank records ++ r ∷ []) more new
       → StandsAfterAll shape memory (records ++ r ∷ []) after
   stands_more entries after i new entered within same at settled =

@@ -10,7 +10,7 @@ use Rattle.lf_rules.specs.Ring.{skeletons_of}
 use Rattle.lf_logs.specs.declared.order.NumberFault.{NumberFault}
 use Rattle.lf_logs.specs.declared.order.NumberFault.TheVariants as numbers
 use Rattle.lf_verdict.specs.declared.answer.Fault.TheVariants as faults
-use Rattle.lf_verdict.specs.declared.broken.Broken.{Broken}
+use Rattle.lf_verdict.specs.declared.broken.BrokenPart.{BrokenPart}
 use Rattle.lf_verdict.specs.declared.ending.Ending.{Ending}
 use Rattle.lf_verdict.specs.declared.ending.Ending.TheVariants as endings
 use Rattle.lf_verdict.specs.declared.answer.Verdict.{Verdict}
@@ -47,7 +47,7 @@ IsBroken _ = ⊥
 abbrev pub NoneBroken : List Outcome → ℕ → Type 0
 NoneBroken all parts = (part : ℕ) → part < parts → ¬ IsBroken (outcome_at all part)
 
-pub record IsFirstBroken (all : List Outcome) (broken : Broken) : Type 0 where
+pub record IsFirstBroken (all : List Outcome) (broken : BrokenPart) : Type 0 where
   pub within : broken.part < length all
   pub is : outcome_at all broken.part ≡ outcomes.Broken broken.at broken.rule
   pub before : NoneBroken all broken.part

@@ -10,6 +10,8 @@ pub mod Laws
 pub mod ConfiguredLaws
 pub mod Collected
 pub mod Rechecked
+pub mod Breaking
+pub mod Final
 -- For the contracts of the crate alone: how a trace is read, and how its parts are judged.
 pub mod Reading
 pub mod Standing

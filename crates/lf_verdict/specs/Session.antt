@@ -24,16 +24,18 @@ use Rattle.lf_verdict.specs.declared.answer.Refusal.{Refusal}
 use Rattle.lf_verdict.specs.declared.answer.Refusal.TheVariants as refusals
 use Rattle.lf_verdict.specs.Configured.{IsConfigFault}
 use Rattle.lf_verdict.specs.Legal.{Agrees}
+use Rattle.lf_verdict.specs.Breaking.{IsWatch}
 use Rattle.lf_verdict.specs.Standing.{StandsAfterAll}
 use Rattle.lf_verdict.specs.Verdict.{Differs}
 
--- The memory is whole and of a header that agrees with the shape, and the parts stand where the records lead.
+-- The memory is whole and of a header that agrees with the shape, the parts stand where the records lead, and it is known whether one broke.
 pub record IsRunning (shape : Shape) (bytes : List ℕ) (memory : List (ℕ × Bytes)) (records : List Record) (running : Standing) : Type 0 where
   pub header : Header
   pub read : header_of bytes ≡ Some header
   pub agrees : Agrees shape header
   pub whole : length memory ≡ header.memory_count
   pub stands : StandsAfterAll shape (flat_memory memory) records running
+  pub watched : IsWatch shape (flat_memory memory) records running.watch
 
 -- The header is of another hierarchy.
 pub record IsOfAnotherHeader (shape : Shape) (bytes : List ℕ) (field : HeaderField) : Type 0 where

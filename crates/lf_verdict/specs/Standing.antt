@@ -23,6 +23,7 @@ use Rattle.lf_verdict.specs.declared.port_judge.PortJudge.{PortJudge}
 use Rattle.lf_verdict.specs.declared.bank_judge.BankJudge.{BankJudge}
 use Rattle.lf_verdict.specs.declared.entries.Entries.{Entries}
 use Rattle.lf_verdict.specs.declared.standing.Standing.{Standing}
+use Rattle.lf_verdict.specs.declared.breaking.Watch.TheVariants.{Unknown}
 use Rattle.lf_verdict.specs.declared.batch.Batch.{Batch}
 
 -- ---- one port
@@ -106,10 +107,10 @@ pub record IsNextBatch (shape : Shape) (memory : FlatMemory) (records : List Rec
   pub may_come : MayAllCome shape records b.records.records
   pub stands : StandsAfterAll shape memory records b.standing
 
--- Each record of the batch was judged and none is left, unless memory ran out.
+-- Each record of the batch was judged and none is left, and it is not known upon which of them a part broke, unless memory ran out.
 abbrev pub JudgesAll : {F : Type 0} → Batch → Result (Unit {0}) F → Batch → Type 0
 JudgesAll before result after = (shape : Shape) (memory : FlatMemory) (records : List Record) → IsNextBatch shape memory records before
-    → OnOk result (StandsAfterAll shape memory (records ++ before.records.records) after.standing × (after.records.records ≡ []))
+    → OnOk result (StandsAfterAll shape memory (records ++ before.records.records) after.standing × ((after.records.records ≡ []) × (after.standing.watch ≡ Unknown)))
 
 -- Some records of a trace came before it.
 abbrev pub CanBeJudged : Batch → Type 0

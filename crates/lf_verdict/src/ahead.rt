@@ -12,6 +12,7 @@ use crate::answer::{Refusal, Verdict};
 use crate::batch::{Batch, Judged, Lent, lend};
 use crate::intake::{Intake, Judging, Stop, refusal_of, stop_of};
 use lf_codec::{Packed, Told, faults_stand, header_of_bytes, read_so_far};
+use lf_pool::Gate;
 use lf_rules::{NoMemory, Shape};
 use std::alloc::Global;
 use std::mem;
@@ -19,18 +20,18 @@ use std::thread::Threads;
 
 /// What was fed so far. The last records are read and wait to be judged, and those before them may be with
 /// a thread that judges them. A thread is lent `batch` records or more at a time.
-#[derive(Drop)]
-pub struct Ahead {
+pub struct Ahead<G> {
     pub intake: Intake,
     pub workers: u32,
     pub batch: usize,
+    pub gate: G,
     pub records: Packed,
     pub lent: Option<Lent>,
 }
 
-impl Ahead {
+impl<G: Gate + Sync + Send + Copy + 'static> Ahead<G> {
     /// Nothing was fed yet.
-    pub fn new(alloc: Global, shape: &Shape, workers: u32, batch: usize) -> Ahead
+    pub fn new(alloc: Global, shape: &Shape, workers: u32, batch: usize, gate: G) -> Ahead<G>
         requires { IsShape shape.now }
         ensures shape { result.intake.shape ≡ shape.now }
         ensures fed { HasFed (session_of result) [] }
@@ -40,6 +41,7 @@ impl Ahead {
             intake: Intake::new(alloc, shape),
             workers,
             batch,
+            gate,
             records: Packed::new(alloc),
             lent: None,
         }
@@ -118,9 +120,9 @@ impl Ahead {
     {
         read_so_far();
         let batch = self.next_batch(rt)?;
-        match lend(rt, self.threads(), batch) {
+        match lend(rt, self.threads(), self.gate, batch) {
             Ok(lent) => {
-                self.lent = Some(lent);
+                end(mem::replace(&mut self.lent, Some(lent)));
                 Ok(())
             }
             Err(Judged { batch, result }) => {
@@ -137,7 +139,8 @@ impl Ahead {
         requires taken { (bytes : List ℕ) × HasTaken (session_of self.old) bytes }
         ensures shape { self.new.intake.shape ≡ self.old.intake.shape }
         ensures stop { self.new.intake.stop ≡ self.old.intake.stop }
-        ensures none { OnOk result ((self.new.lent ≡ None) × (self.new.records.records ≡ [])) }
+        ensures alone { self.new.lent ≡ None }
+        ensures none { OnOk result (self.new.records.records ≡ []) }
         ensures taken { (bytes : List ℕ) → HasTaken (session_of self.old) bytes → OnOk result (HasTaken self.new.intake bytes) }
     {
         if self.lent.is_none() && self.records.is_empty() {
@@ -145,7 +148,7 @@ impl Ahead {
         }
         read_so_far();
         let mut batch = self.next_batch(rt)?;
-        let result = batch.judge_by(rt, self.threads());
+        let result = batch.judge_by(rt, self.threads(), &self.gate);
         self.intake.judging = Judging::Running(batch.standing);
         result
     }
@@ -166,10 +169,8 @@ impl Ahead {
             → HasFedUntil self.new.intake (bytes ++ piece.now) (Some stop)) }
     {
         header_of_bytes();
-        match self.intake.reader.feed_into(piece, &mut self.records) {
-            Ok(Ok(())) => {}
-            Ok(Err(told)) => return Err(stop_of(told)),
-            Err(NoMemory) => return Err(Stop::Memory),
+        if let Err(told) = self.intake.reader.feed_into(piece, &mut self.records) {
+            return Err(stop_of(told));
         }
         if self.records.len() < self.batch {
             return Ok(());
@@ -185,6 +186,7 @@ impl Ahead {
         ensures shape { self.new.intake.shape ≡ self.old.intake.shape }
         ensures stopped { self.new.intake.stop ≡ Some stop }
         ensures told { result ≡ tolds.Fault (refusal_of stop) }
+        ensures alone { self.new.lent ≡ None }
     {
         if let Some(lent) = self.lent.take() {
             drop(lent.join(rt));
@@ -252,12 +254,13 @@ impl Ahead {
         self.feed_alone(rt, piece)
     }
 
-    /// The verdict of the bytes that were fed.
+    /// The verdict of the bytes that were fed. No thread is left at work.
     pub fn answer<R: Threads + Sync>(&mut self, rt: &R) -> Verdict
         requires fed { (bytes : List ℕ) × HasFed (session_of self.old) bytes }
         requires ahead { IsAhead self.old }
         ensures answer { (bytes : List ℕ) → HasFed (session_of self.old) bytes → IsVerdictOrWant self.old.intake.shape bytes result }
         ensures stopped { IfSome self.old.intake.stop (λ stop. result ≡ Verdict.Refused (refusal_of stop)) }
+        ensures alone { self.new.lent ≡ None }
     {
         if let Some(stop) = self.intake.stop {
             return Verdict::Refused(refusal_of(stop));
@@ -266,5 +269,30 @@ impl Ahead {
             Ok(()) => self.intake.answer(),
             Err(NoMemory) => Verdict::Refused(Refusal::Memory),
         }
+    }
+
+    /// Ends it, where no thread is at work.
+    pub fn end(self)
+        requires { self.lent ≡ None }
+    {
+        let Ahead {
+            intake: _,
+            workers: _,
+            batch: _,
+            gate: _,
+            records: _,
+            lent,
+        } = self;
+        end(lent);
+    }
+}
+
+/// No thread is at work.
+fn end(lent: Option<Lent>)
+    requires { lent ≡ None }
+{
+    match lent {
+        None => {}
+        Some(_lent) => unreachable!(),
     }
 }

@@ -7,9 +7,11 @@ ghost use Rattle.std.specs.Thread.{IsSync};
 ghost use Rattle.lf_verdict.specs.Standing.{CanBeJudged, JudgesAll, CanEnterAll, EntersAll, CanTakeAll, TakesAll, CanAllTake, AllTake};
 
 use crate::bank_judge::BankJudge;
+use crate::breaking::Watch;
 use crate::entries::Entries;
 use crate::standing::Standing;
 use lf_codec::Packed;
+use lf_pool::Gate;
 use lf_rules::{NoMemory, Outcome};
 use std::alloc::Global;
 use std::snapshot::Snapshot;
@@ -40,11 +42,31 @@ impl Promise<Judged> for Judges {
     ghost kept_by = { λ p judged. JudgesAll p.batch.value judged.result judged.batch };
 }
 
-/// A thread that judges a batch and gives it back.
-pub type Lent = PromisedHandle<Judged, Judges>;
+/// A thread that judges a batch and gives it back. It cannot be dropped: only `join` ends it, so none is left at
+/// work.
+pub struct Lent {
+    pub thread: PromisedHandle<Judged, Judges>,
+}
 
-/// Each bank is judged on those of the records that are its own, in so many threads.
-fn judge_banks<R: Threads + Sync>(rt: &R, threads: usize, records: &Packed, banks: &mut [BankJudge])
+impl Lent {
+    /// Waits for the thread.
+    pub fn join<R: Threads>(self, rt: &R) -> Judged
+        ensures { JudgesAll self.thread.promise.batch.value result.result result.batch }
+    {
+        let Lent { thread } = self;
+        thread.join(rt)
+    }
+}
+
+/// Each bank is judged on those of the records that are its own, in so many threads, each of which passes
+/// the gate before each bank.
+fn judge_banks<R: Threads + Sync, G: Gate + Sync>(
+    rt: &R,
+    threads: usize,
+    gate: &G,
+    records: &Packed,
+    banks: &mut [BankJudge],
+)
     requires threads { 0 < threads }
     requires each { CanAllTake records.now.records banks.old }
     ensures { AllTake records.now.records banks.old banks.new }
@@ -56,14 +78,18 @@ fn judge_banks<R: Threads + Sync>(rt: &R, threads: usize, records: &Packed, bank
         &|bank: usize, judge: &mut BankJudge|
             requires { CanTakeAll bank records.now.records judge.now }
             ensures { TakesAll bank records.entry.now.records judge.entry.now judge.exit.now }
-        { judge.take_all(bank, records) },
+        {
+            gate.enter(u32::try_from(bank).unwrap_or(u32::MAX));
+            judge.take_all(bank, records)
+        },
     );
 }
 
 /// Enters the records in a thread of its own, beside the banks, which are judged in so many others.
-fn enter_beside<R: Threads + Sync>(
+fn enter_beside<R: Threads + Sync, G: Gate + Sync>(
     rt: &R,
     threads: usize,
+    gate: &G,
     records: &Packed,
     entries: &mut Entries,
     banks: &mut [BankJudge],
@@ -83,7 +109,7 @@ fn enter_beside<R: Threads + Sync>(
         &mut ||
             requires { IsSync R.row × ((0 < threads) × CanAllTake records.now.records banks.now) }
             ensures { AllTake records.entry.now.records banks.entry.now banks.exit.now }
-        { judge_banks(rt, threads, records, banks) },
+        { judge_banks(rt, threads, gate, records, banks) },
     );
     entered
 }
@@ -113,42 +139,55 @@ impl Batch {
     }
 
     /// Judges the records in so many threads, one of which enters them while the others judge the banks.
-    pub fn judge_by<R: Threads + Sync>(&mut self, rt: &R, threads: usize) -> Result<(), NoMemory>
+    pub fn judge_by<R: Threads + Sync, G: Gate + Sync>(
+        &mut self,
+        rt: &R,
+        threads: usize,
+        gate: &G,
+    ) -> Result<(), NoMemory>
         requires threads { 1 < threads }
         requires batch { CanBeJudged self.old }
         ensures { JudgesAll self.old result self.new }
     {
         let records = &self.records;
         let banks = self.standing.banks.as_mut_slice();
-        enter_beside(rt, threads - 1, records, &mut self.standing.entries, banks)?;
+        let entries = &mut self.standing.entries;
+        enter_beside(rt, threads - 1, gate, records, entries, banks)?;
         if ran_out(&self.standing.banks) {
             return Err(NoMemory);
         }
+        self.standing.watch = Watch::Unknown;
         self.records.clear();
         Ok(())
     }
 
     /// The batch once it is judged in so many threads.
-    fn judged_by<R: Threads + Sync>(self, rt: &R, threads: usize) -> Judged
+    fn judged_by<R: Threads + Sync, G: Gate + Sync>(
+        self,
+        rt: &R,
+        threads: usize,
+        gate: &G,
+    ) -> Judged
         requires threads { 1 < threads }
         requires batch { CanBeJudged self }
         ensures { JudgesAll self result.result result.batch }
     {
         let mut batch = self;
-        let result = batch.judge_by(rt, threads);
+        let result = batch.judge_by(rt, threads, gate);
         Judged { batch, result }
     }
 }
 
 /// Has the batch judged in so many threads while the caller goes on, or at once where no thread can be made.
-pub fn lend<R: Threads + Sync + Send + Copy + 'static>(
+pub fn lend<R: Threads + Sync + Send + Copy + 'static, G: Gate + Sync + Send + Copy + 'static>(
     rt: &R,
     threads: usize,
+    gate: G,
     batch: Batch,
 ) -> Result<Lent, Judged>
     requires threads { 1 < threads }
     requires batch { CanBeJudged batch }
-    ensures lent { IfOk result (λ lent. lent.promise.batch.value ≡ batch) }
+    ensures lent { IfOk result (λ lent. lent.thread.promise.batch.value ≡ batch) }
     ensures judged { IfErr result (λ judged. JudgesAll batch judged.result judged.batch) }
 {
     let own = *rt;
@@ -158,9 +197,9 @@ pub fn lend<R: Threads + Sync + Send + Copy + 'static>(
     let judge = move || -> Judged
         requires { IsSync R.row × ((1 < threads) × CanBeJudged batch) }
         ensures { JudgesAll batch result.result result.batch }
-    { batch.judged_by(&own, threads) };
+    { batch.judged_by(&own, threads, &gate) };
     match thread::spawn_with(rt, promise, judge) {
-        Ok(lent) => Ok(lent),
+        Ok(thread) => Ok(Lent { thread }),
         Err(refused) => Err((refused.value)()),
     }
 }

@@ -10,7 +10,7 @@ use lf_rules::{Outcome, Rule};
 
 /// A port or a bank that is broken: at a place, by a rule.
 #[derive(Clone, Copy)]
-pub struct Broken {
+pub struct BrokenPart {
     pub part: u8,
     pub at: u32,
     pub rule: Rule,
@@ -49,14 +49,14 @@ impl Part for BankJudge {
 }
 
 /// The first part that is broken.
-pub fn first_broken<P: Part>(parts: &[P]) -> Option<Broken>
+pub fn first_broken<P: Part>(parts: &[P]) -> Option<BrokenPart>
     requires { length parts.now ≤ 16 }
     ensures some { IfSome result (IsFirstBroken (map P.outcome_of parts.now)) }
     ensures none { IfNone result (NoneBroken (map P.outcome_of parts.now) (length parts.now)) }
 {
     for (part, judged) in parts.iter().enumerate() {
         if let Outcome::Broken(at, rule) = judged.outcome() {
-            return Some(Broken {
+            return Some(BrokenPart {
                 part: part as u8,
                 at,
                 rule,

@@ -1,14 +1,17 @@
 //! The logs of a trace, kept while their records come.
 
-ghost use Rattle.std.specs.Prelude.{◌≡◌, ◌<◌, List, [], ◌∷◌, ◌++◌, length, slice_index_or, OnOk};
+ghost use Rattle.std.specs.Prelude.{◌≡◌, ◌<◌, List, [], ◌∷◌, ◌++◌, length, slice_index_or, IfSome, IfNone, OnOk};
 ghost use Rattle.lf_rules.specs.declared.shape.Shape.{Shape};
 ghost use Rattle.lf_rules.specs.declared.event.Record.{Record};
+ghost use Rattle.lf_rules.specs.Address.{FlatMemory};
+ghost use Rattle.lf_verdict.specs.Breaking.{IsFaultOfPart, IsPortWhole, IsPlaceOf};
 ghost use Rattle.lf_verdict.specs.Standing.{MayCome, AreEntered, CanEnterAll, EntersAll};
 
+use crate::breaking::{PartFault, Upon};
 use crate::place::no_record;
 use crate::port_judge::PortJudge;
 use lf_codec::Packed;
-use lf_rules::{NoMemory, Record, Skeleton};
+use lf_rules::{NoMemory, Outcome, Record, Skeleton};
 
 /// Each log's entries so far, and how each port stands. No bank is among them, so that records can be
 /// entered while the banks are judged.
@@ -19,6 +22,38 @@ pub struct Entries {
 }
 
 impl Entries {
+    /// The place at which the next record will stand.
+    pub fn place_of(&self, item: &Record) -> Upon
+        requires { (shape : Shape) × ((records : List Record) × (MayCome shape records item.now × AreEntered shape records self.now)) }
+        ensures { (shape : Shape) (records : List Record) → MayCome shape records item.now → AreEntered shape records self.now
+            → IsPlaceOf records item.now result }
+    {
+        let log = usize::from(item.log);
+        let at = self.logs[log].len() as u32;
+        Upon { log: item.log, at }
+    }
+
+    /// The fault of the port, where the log is a port's and the port broke a rule.
+    pub fn port_fault(&self, log: u8) -> Option<PartFault>
+        ensures some { (shape : Shape) (records : List Record) → AreEntered shape records self.now
+            → IfSome result (λ fault. (memory : FlatMemory) → IsFaultOfPart shape memory records fault) }
+        ensures none { (shape : Shape) (records : List Record) → AreEntered shape records self.now
+            → IfNone result ((memory : FlatMemory) → IsPortWhole shape memory records log) }
+    {
+        let port = usize::from(log);
+        if port >= self.ports.len() {
+            return None;
+        }
+        match self.ports[port].outcome {
+            Outcome::Broken(at, rule) => Some(PartFault::Port {
+                port: log,
+                at,
+                rule,
+            }),
+            _ => None,
+        }
+    }
+
     /// Keeps the entry of the next record, and judges it by its port where it stands in a port's log.
     pub fn enter(&mut self, item: &Record) -> Result<(), NoMemory>
         requires { (shape : Shape) × ((records : List Record) × (MayCome shape records item.now × AreEntered shape records self.old)) }

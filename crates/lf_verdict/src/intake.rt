@@ -1,8 +1,10 @@
 //! What a session keeps of the bytes that it was fed.
 
-ghost use Rattle.std.specs.Prelude.{◌≡◌, ◌<◌, ◌++◌, ℕ, List, [], Some, None, IsSome, IfSome, IfOk, Ok, OnOk, option_to_list};
+ghost use Rattle.std.specs.Prelude.{◌≡◌, ◌<◌, ◌++◌, ℕ, List, [], Some, None, IsSome, IfSome, IfNone, IfOk, Ok, OnOk, option_to_list};
 ghost use Rattle.lf_rules.specs.InRange.{IsShape};
 ghost use Rattle.lf_verdict.specs.Judging.{IsVerdictOrWant};
+ghost use Rattle.lf_verdict.specs.Breaking.{IsWatch};
+ghost use Rattle.lf_verdict.specs.Final.{IsFinal, IsEarliest, IsUnbroken};
 ghost use Rattle.lf_verdict.specs.Session.{refusal_of, stop_told, IsStopOf, IsRunning, HasTaken, IsLackingIf, IsDrained, IsRunningNow, HasFed};
 ghost use Rattle.lf_codec.specs.Reader.{fault_in, answer_of, bytes_taken, with_record, TakesSome};
 ghost use Rattle.lf_verdict.specs.declared.intake.Judging.TheVariants.{Waiting};
@@ -15,7 +17,9 @@ ghost use Rattle.lf_codec.specs.declared.fault.Told.TheVariants as tolds;
 ghost use Rattle.lf_verdict.specs.Standing.{MayAllCome, StandsAfterAll};
 
 use crate::answer::{HeaderField, Refusal, Verdict};
+use crate::breaking::Broken;
 use crate::header::differing;
+use crate::laws::{other_headers_are_final, part_faults_are_final};
 use crate::standing::Standing;
 use lf_codec::{
     CodecCause, CodecFault, Reader, Told, exact_reading, faults_stand, header_of_bytes, read_so_far,
@@ -102,9 +106,12 @@ fn judge_records(reader: &mut Reader, standing: &mut Standing) -> Result<(), NoM
 fn judge_one(standing: &mut Standing, place: &Option<Record>) -> Result<(), NoMemory>
     requires { (shape : Shape) × ((memory : FlatMemory) × ((records : List Record) ×
         (StandsAfterAll shape memory records standing.old × MayAllCome shape records (option_to_list place.now)))) }
-    ensures { (shape : Shape) (memory : FlatMemory) (records : List Record) → StandsAfterAll shape memory records standing.old
+    ensures judged { (shape : Shape) (memory : FlatMemory) (records : List Record) → StandsAfterAll shape memory records standing.old
         → MayAllCome shape records (option_to_list place.now)
         → OnOk result (StandsAfterAll shape memory (records ++ option_to_list place.now) standing.new) }
+    ensures watched { (shape : Shape) (memory : FlatMemory) (records : List Record) → StandsAfterAll shape memory records standing.old
+        → MayAllCome shape records (option_to_list place.now) → IsWatch shape memory records standing.old.watch
+        → OnOk result (IsWatch shape memory (records ++ option_to_list place.now) standing.new.watch) }
 {
     match place {
         Some(item) => standing.take(item),
@@ -352,6 +359,26 @@ impl Intake {
             Judging::Waiting => unreachable!(),
             Judging::Another(field) => Verdict::Refused(Refusal::Header(*field)),
             Judging::Running(standing) => standing.verdict(self.alloc),
+        }
+    }
+
+    /// What is final for the bytes that were fed, where something is.
+    pub fn broken(&self) -> Option<Broken>
+        requires { (bytes : List ℕ) × HasFed self.now bytes }
+        ensures stands { (bytes : List ℕ) → HasFed self.now bytes → IfSome result (IsFinal self.now.shape bytes) }
+        ensures earliest { (bytes : List ℕ) → HasFed self.now bytes → IfSome result (IsEarliest self.now.shape bytes) }
+        ensures none { (bytes : List ℕ) → IfNone result (IsUnbroken self.now bytes) }
+    {
+        read_so_far();
+        part_faults_are_final();
+        other_headers_are_final();
+        if self.stop.is_some() {
+            return None;
+        }
+        match &self.judging {
+            Judging::Waiting => None,
+            Judging::Another(field) => Some(Broken::Header(*field)),
+            Judging::Running(standing) => standing.broken(),
         }
     }
 }

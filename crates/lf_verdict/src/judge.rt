@@ -1,6 +1,6 @@
-//! The logs of a whole trace, judged by several workers.
+//! The logs of a whole trace, judged by workers.
 
-ghost use Rattle.std.specs.Prelude.{◌≡◌, ◌+◌, ◌≤◌, ◌^◌, length, IfOk, IfErr};
+ghost use Rattle.std.specs.Prelude.{◌≡◌, ◌+◌, ◌<◌, ◌≤◌, ◌^◌, length, IfOk, IfErr};
 ghost use Rattle.std.specs.List.{All};
 ghost use Rattle.lf_rules.specs.Address.{flat_memory};
 ghost use Rattle.lf_rules.specs.InRange.{IsShape};
@@ -85,7 +85,8 @@ pub fn logs_verdict<G: Gate + Sync, R: Threads + Wait + Sync>(
     requires count { length logs.items ≡ shape.now.ports + shape.now.banks }
     requires short { All (λ log. length log.items ≤ 2 ^ 24) logs.items }
     requires fit { LogsFit shape.now (lists_of logs) }
-    ensures { IsWorkersVerdict shape.now (flat_memory memory.items) (lists_of logs) result }
+    ensures verdict { IsWorkersVerdict shape.now (flat_memory memory.items) (lists_of logs) result }
+    ensures thread { result ≡ Verdict.Refused Refusal.Thread → 1 < workers }
 {
     match jobs_of(alloc, shape, memory, logs) {
         Ok(jobs) => match run_jobs(rt, alloc, &jobs, workers, gate) {

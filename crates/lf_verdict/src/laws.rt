@@ -1,8 +1,9 @@
 //! The laws about verdicts. Each function only calls the laws from which its own follows.
 
+ghost use Rattle.lf_verdict.specs.Final.{PartFaultsAreFinal, OtherHeadersAreFinal};
 ghost use Rattle.lf_verdict.specs.Laws.{YesIsLegal, NoHasNoRun, VerdictsAreOne, MixturesAreAlike, WorkersAreAlike};
 
-use lf_codec::{faultless_bytes, one_trace};
+use lf_codec::{exact_reading, faultless_bytes, header_of_bytes, one_trace};
 use lf_join::joins_are_one;
 use lf_rules::{
     copies_are_flat, gaps_admit_none, interleavings_are_numbered, numbers_are_whole,
@@ -64,4 +65,21 @@ pub fn mixtures_are_alike()
 {
     one_trace();
     faultless_bytes();
+}
+
+/// A port or a bank that broke a rule, and a number that came twice, are final: no bytes behind them lead to a
+/// yes, nor to a fault that is named after it.
+pub fn part_faults_are_final()
+    ensures { PartFaultsAreFinal }
+{
+    exact_reading();
+    header_of_bytes();
+}
+
+/// So is a header of another hierarchy: the bytes are no trace, or it is that field that is refused.
+pub fn other_headers_are_final()
+    ensures { OtherHeadersAreFinal }
+{
+    exact_reading();
+    header_of_bytes();
 }

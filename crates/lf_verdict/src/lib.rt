@@ -11,6 +11,7 @@ mod ahead;
 mod answer;
 mod bank_judge;
 mod batch;
+mod breaking;
 mod broken;
 mod collected;
 mod configured;
@@ -37,13 +38,16 @@ mod standing_verdict;
 mod text;
 
 pub use answer::{Fault, HeaderField, Refusal, Verdict};
+pub use breaking::{Broken, PartFault, Upon};
 pub use collected::collected_logs_are_in_order;
 pub use configured::check;
 pub use configured_laws::{mixtures_are_alike_for, verdicts_for_are_one};
 pub use laws::{
-    mixtures_are_alike, no_has_no_run, verdicts_are_one, workers_are_alike, yes_is_legal,
+    mixtures_are_alike, no_has_no_run, other_headers_are_final, part_faults_are_final,
+    verdicts_are_one, workers_are_alike, yes_is_legal,
 };
 pub use lf_pool::{Gate, NoGate, is_worker_count};
+pub use lf_rules::Ring;
 pub use parallel::ParallelSession;
 pub use rechecked::yes_is_rechecked;
 pub use session::Session;

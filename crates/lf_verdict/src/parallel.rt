@@ -14,6 +14,7 @@ use crate::ahead::Ahead;
 use crate::answer::{Refusal, Verdict};
 use crate::laws::{no_has_no_run, yes_is_legal};
 use lf_codec::Told;
+use lf_pool::{Gate, NoGate};
 use lf_rules::Shape;
 use std::alloc::Global;
 use std::marker::Model;
@@ -27,13 +28,12 @@ const BATCH: usize = 16384;
 /// another enters what was read into the logs, and as many as there are workers judge the banks, so that a
 /// refusal for want of memory may come with a later piece. One worker does all in one thread.
 ///
-/// A session that is dropped before `finish` may leave a thread at work, which ends by itself.
-#[derive(Drop)]
-pub struct ParallelSession {
-    ahead: Ahead,
+/// It is ended by `finish` alone, so that no thread is left at work.
+pub struct ParallelSession<G = NoGate> {
+    ahead: Ahead<G>,
 }
 
-impl Model for ParallelSession {
+impl<G> Model for ParallelSession<G> {
     ghost use Rattle.lf_verdict.specs.declared.intake.Intake.{Intake};
     ghost use Rattle.lf_verdict.specs.Session.{WasFed};
     ghost use Rattle.lf_verdict.specs.Ahead.{session_of, IsAhead};
@@ -52,18 +52,27 @@ impl ParallelSession {
         ensures shape { result.shape ≡ shape.now }
         ensures fed { HasFed result [] }
     {
-        ParallelSession::in_batches(alloc, shape, workers, BATCH)
+        ParallelSession::in_batches(alloc, shape, workers, BATCH, NoGate)
     }
+}
 
-    /// The same, which has records judged once so many are read: 16,384 where nothing is said. No answer
-    /// depends on it.
-    pub fn in_batches(alloc: Global, shape: &Shape, workers: u32, batch: usize) -> ParallelSession
+impl<G: Gate + Sync + Send + Copy + 'static> ParallelSession<G> {
+    /// The same for tests, which see by the gate who judges at once: a thread passes it before it judges a bank on
+    /// the records of a batch. Records are judged once so many are read, 16,384 where nothing is said. No answer
+    /// depends on either.
+    pub fn in_batches(
+        alloc: Global,
+        shape: &Shape,
+        workers: u32,
+        batch: usize,
+        gate: G,
+    ) -> ParallelSession<G>
         requires { IsShape shape.now }
         ensures shape { result.shape ≡ shape.now }
         ensures fed { HasFed result [] }
     {
         ParallelSession {
-            ahead: Ahead::new(alloc, shape, workers, batch),
+            ahead: Ahead::new(alloc, shape, workers, batch, gate),
         }
     }
 
@@ -97,7 +106,9 @@ impl ParallelSession {
     {
         yes_is_legal();
         no_has_no_run();
-        let mut ahead = self.ahead;
-        ahead.answer(rt)
+        let ParallelSession { mut ahead } = self;
+        let verdict = ahead.answer(rt);
+        ahead.end();
+        verdict
     }
 }

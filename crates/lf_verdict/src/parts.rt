@@ -10,7 +10,7 @@ ghost use Rattle.lf_verdict.specs.Judging.{IsEnding, AreWholeBelow};
 ghost use Rattle.lf_verdict.specs.Jobs.{NoneRanOut};
 
 use crate::answer::Fault;
-use crate::broken::{Broken, first_broken};
+use crate::broken::{BrokenPart, first_broken};
 use crate::ending::Ending;
 use lf_pool::Jobs;
 use lf_rules::Outcome;
@@ -40,11 +40,11 @@ pub fn judge_outcomes(jobs: &Jobs, outcomes: &[Outcome]) -> Result<(), Ending>
         return Err(Ending::NoMemory);
     }
     let (of_ports, of_banks) = outcomes.split_at(jobs.shape.ports as usize);
-    if let Some(Broken { part, at, rule }) = first_broken(of_ports) {
+    if let Some(BrokenPart { part, at, rule }) = first_broken(of_ports) {
         let port = part;
         return Err(Ending::Fault(Fault::Port { port, at, rule }));
     }
-    if let Some(Broken { part, at, rule }) = first_broken(of_banks) {
+    if let Some(BrokenPart { part, at, rule }) = first_broken(of_banks) {
         let (bank, number) = (part, at);
         return Err(Ending::Fault(Fault::Bank { bank, number, rule }));
     }

@@ -1,6 +1,6 @@
 //! The verdict of a trace, judged while its bytes come.
 
-ghost use Rattle.std.specs.Prelude.{◌≡◌, ◌++◌, ℕ, List, [], Ok, None, IfOk, IfErr, IfSome, IsSome, OnOk};
+ghost use Rattle.std.specs.Prelude.{◌≡◌, ◌++◌, ℕ, List, [], Ok, None, IfOk, IfErr, IfSome, IfNone, IsSome, OnOk};
 ghost use Rattle.lf_rules.specs.InRange.{IsShape};
 ghost use Rattle.lf_codec.specs.Reader.{fault_in};
 ghost use Rattle.lf_codec.specs.Reading.{fault_so_far};
@@ -9,9 +9,11 @@ ghost use Rattle.lf_verdict.specs.declared.answer.Verdict.{Verdict};
 ghost use Rattle.lf_verdict.specs.declared.answer.Refusal.{Refusal};
 ghost use Rattle.lf_verdict.specs.Verdict.{IsDecided, IsVerdictOf, IsLegalYes};
 ghost use Rattle.lf_verdict.specs.Laws.{IsRunlessNo};
+ghost use Rattle.lf_verdict.specs.Final.{IsFinal, IsEarliest, IsUnbroken};
 ghost use Rattle.lf_verdict.specs.Session.{IsConfigRefusal, refusal_of, stop_told, IsRefusalSoFar, HasFed};
 
 use crate::answer::{Refusal, Verdict};
+use crate::breaking::Broken;
 use crate::intake::Intake;
 use crate::laws::{no_has_no_run, yes_is_legal};
 use lf_codec::Told;
@@ -74,6 +76,17 @@ impl Session {
         ensures fault { IfErr result (λ t. (bytes : List ℕ) → HasFed self.old bytes → IsRefusalSoFar (bytes ++ piece.now) (fault_in t)) }
     {
         self.intake.feed(piece)
+    }
+
+    /// What broke, where something did for which no bytes that follow lead to a yes: a header of another hierarchy, or
+    /// a part of the records so far, with the first record upon which one was at fault. The verdict is then that
+    /// fault, one that is named before it, or that the bytes are no trace. After a refused `feed` nothing is told.
+    pub fn broken(&self) -> Option<Broken>
+        ensures stands { (bytes : List ℕ) → HasFed self.now bytes → IfSome result (IsFinal self.now.shape bytes) }
+        ensures earliest { (bytes : List ℕ) → HasFed self.now bytes → IfSome result (IsEarliest self.now.shape bytes) }
+        ensures none { (bytes : List ℕ) → IfNone result (IsUnbroken self.now bytes) }
+    {
+        self.intake.broken()
     }
 
     /// The verdict of the bytes that were fed: that of `check_shape`. After a refused

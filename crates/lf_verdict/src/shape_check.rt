@@ -1,6 +1,6 @@
 //! The verdict of bytes that come in pieces.
 
-ghost use Rattle.std.specs.Prelude.{◌≡◌, ◌↔◌, ◌<◌, ℕ};
+ghost use Rattle.std.specs.Prelude.{◌≡◌, ◌↔◌, ◌<◌};
 ghost use Rattle.lf_rules.specs.InRange.{IsShape};
 ghost use Rattle.lf_verdict.specs.Legal.{joined};
 ghost use Rattle.lf_verdict.specs.Verdict.{IsWorkerCount, IsVerdictOf, IsLegalYes, IsDecided};
@@ -12,31 +12,13 @@ use crate::gathering::{Trace, read};
 use crate::header::differing;
 use crate::judge::logs_verdict;
 use crate::laws::{no_has_no_run, yes_is_legal};
-use crate::session::Session;
 use lf_pool::{Gate, is_worker_count};
 use lf_rules::Shape;
 use std::alloc::Global;
 use std::sync::Wait;
 use std::thread::Threads;
 
-/// The verdict of the bytes in these pieces, by a session that is fed them.
-fn fed_verdict(alloc: Global, shape: &Shape, pieces: &[&[u8]]) -> Verdict
-    requires { IsShape shape.now }
-    ensures legal { IsLegalYes shape.now (joined pieces.now) result }
-    ensures runless { IsRunlessNo shape.now (joined pieces.now) result }
-    ensures verdict { IsDecided result → IsVerdictOf shape.now 1 (joined pieces.now) result }
-    ensures workers { (n : ℕ) → ¬ (result ≡ Verdict.Refused (Refusal.Workers n)) }
-    ensures thread { ¬ (result ≡ Verdict.Refused Refusal.Thread) }
-{
-    let mut session = Session::for_shape(alloc, shape);
-    for piece in pieces {
-        // `finish` tells a refusal.
-        let _ = session.feed(piece);
-    }
-    session.finish()
-}
-
-/// The same by so many workers, once all bytes are read.
+/// The verdict of the bytes in these pieces, by so many workers once all bytes are read.
 fn workers_verdict<G: Gate + Sync, R: Threads + Wait + Sync>(
     rt: &R,
     alloc: Global,
@@ -46,7 +28,8 @@ fn workers_verdict<G: Gate + Sync, R: Threads + Wait + Sync>(
     gate: &G,
 ) -> Verdict
     requires { IsShape shape.now }
-    ensures { IsWorkersAnswer shape.now (joined pieces.now) result }
+    ensures answer { IsWorkersAnswer shape.now (joined pieces.now) result }
+    ensures thread { result ≡ Verdict.Refused Refusal.Thread → 1 < workers }
 {
     let trace = match read(alloc, shape, pieces) {
         Ok(trace) => trace,
@@ -63,9 +46,9 @@ fn workers_verdict<G: Gate + Sync, R: Threads + Wait + Sync>(
     logs_verdict(rt, alloc, shape, memory, logs, workers, gate)
 }
 
-/// The verdict of the trace that comes in these pieces, judged by so many workers, 1 to 16. One judges
-/// it while its bytes are read; with more, each passes the gate before each port and each bank that it
-/// replays, once all bytes are read. `Thread` where a thread was refused.
+/// The verdict of the trace that comes in these pieces, judged by so many workers, 1 to 16. All bytes are
+/// read first; then each worker passes the gate before each port and each bank that it replays. `Thread`
+/// where a thread was refused. A `Session` judges a trace while its bytes come.
 pub fn check_shape<G: Gate + Sync, R: AllocGlobal + Threads + Wait + Sync>(
     rt: &R,
     shape: &Shape,
@@ -87,9 +70,6 @@ pub fn check_shape<G: Gate + Sync, R: AllocGlobal + Threads + Wait + Sync>(
     no_has_no_run();
     if !is_worker_count(workers) {
         return Verdict::Refused(Refusal::Workers(workers));
-    }
-    if workers == 1 {
-        return fed_verdict(rt.alloc(), shape, pieces);
     }
     workers_verdict(rt, rt.alloc(), shape, pieces, workers, gate)
 }

@@ -1,31 +1,52 @@
 //! The parts of a trace, judged while its records come.
 
-ghost use Rattle.std.specs.Prelude.{List, [], ◌∷◌, ◌++◌, OnOk};
+ghost use Rattle.std.specs.Prelude.{◌≡◌, List, [], ◌∷◌, ◌++◌, IfSome, IfNone, OnOk};
 ghost use Rattle.lf_rules.specs.declared.shape.Shape.{Shape};
 ghost use Rattle.lf_rules.specs.declared.event.Record.{Record};
 ghost use Rattle.lf_rules.specs.Address.{FlatMemory};
+ghost use Rattle.lf_verdict.specs.Breaking.{IsFaultOfPart, NoneBroke, IsBankWhole, IsPlaceOf, IsWatch};
 ghost use Rattle.lf_verdict.specs.Standing.{MayCome, StandsAfterAll};
 
 use crate::bank_judge::BankJudge;
+use crate::breaking::{FirstBreak, PartFault, Upon, Watch};
 use crate::entries::Entries;
-use lf_rules::{NoMemory, Record};
+use lf_rules::{NoMemory, Outcome, Record};
 
-/// The entries of the logs so far, with how each port stands, and how each bank stands.
+/// The entries of the logs so far, with how each port stands, how each bank stands, and whether one of them broke.
 #[derive(Drop)]
 pub struct Standing {
     pub entries: Entries,
     pub banks: Vec<BankJudge>,
+    pub watch: Watch,
 }
 
 impl Standing {
     /// Takes the next record of the trace: keeps its entry, judges it by its port and hands it to its
-    /// bank, which judges it in its turn.
+    /// bank, which judges it in its turn. Where it is the first upon which a part breaks, that is noted.
     pub fn take(&mut self, item: &Record) -> Result<(), NoMemory>
         requires { (shape : Shape) × ((memory : FlatMemory) × ((records : List Record) ×
             (MayCome shape records item.now × StandsAfterAll shape memory records self.old))) }
-        ensures { (shape : Shape) (memory : FlatMemory) (records : List Record) → MayCome shape records item.now
+        ensures judged { (shape : Shape) (memory : FlatMemory) (records : List Record) → MayCome shape records item.now
             → StandsAfterAll shape memory records self.old
             → OnOk result (StandsAfterAll shape memory (records ++ item.now ∷ []) self.new) }
+        ensures watched { (shape : Shape) (memory : FlatMemory) (records : List Record) → MayCome shape records item.now
+            → StandsAfterAll shape memory records self.old → IsWatch shape memory records self.old.watch
+            → OnOk result (IsWatch shape memory (records ++ item.now ∷ []) self.new.watch) }
+    {
+        let upon = self.entries.place_of(item);
+        self.judge(item)?;
+        self.note(item, upon);
+        Ok(())
+    }
+
+    /// Judges the next record of the trace.
+    fn judge(&mut self, item: &Record) -> Result<(), NoMemory>
+        requires { (shape : Shape) × ((memory : FlatMemory) × ((records : List Record) ×
+            (MayCome shape records item.now × StandsAfterAll shape memory records self.old))) }
+        ensures judged { (shape : Shape) (memory : FlatMemory) (records : List Record) → MayCome shape records item.now
+            → StandsAfterAll shape memory records self.old
+            → OnOk result (StandsAfterAll shape memory (records ++ item.now ∷ []) self.new) }
+        ensures watch { self.new.watch ≡ self.old.watch }
     {
         self.entries.enter(item)?;
         let bank = usize::from(item.bank);
@@ -33,5 +54,55 @@ impl Standing {
             return Ok(());
         }
         self.banks[bank].take(item)
+    }
+
+    /// A fault of the bank: a rule that it broke, or otherwise a number that came twice.
+    pub fn bank_fault(&self, bank: u8) -> Option<PartFault>
+        ensures some { (shape : Shape) (memory : FlatMemory) (records : List Record) → StandsAfterAll shape memory records self.now
+            → IfSome result (IsFaultOfPart shape memory records) }
+        ensures none { (shape : Shape) (memory : FlatMemory) (records : List Record) → StandsAfterAll shape memory records self.now
+            → IfNone result (IsBankWhole shape memory records bank) }
+    {
+        let at = usize::from(bank);
+        if at >= self.banks.len() {
+            return None;
+        }
+        let judge = &self.banks[at];
+        if let Outcome::Broken(number, rule) = judge.outcome {
+            return Some(PartFault::Bank { bank, number, rule });
+        }
+        match judge.order.double() {
+            Some(k) => Some(PartFault::Double { bank, k }),
+            None => None,
+        }
+    }
+
+    /// What broke upon the record, which came last: its port, or its bank.
+    fn broke_upon(&self, item: &Record) -> Option<PartFault>
+        ensures some { (shape : Shape) (memory : FlatMemory) (records : List Record) → StandsAfterAll shape memory records self.now
+            → IfSome result (IsFaultOfPart shape memory records) }
+        ensures none { (shape : Shape) (memory : FlatMemory) (before : List Record) → NoneBroke shape memory before
+            → StandsAfterAll shape memory (before ++ item.now ∷ []) self.now
+            → IfNone result (NoneBroke shape memory (before ++ item.now ∷ [])) }
+    {
+        match self.entries.port_fault(item.log) {
+            Some(fault) => Some(fault),
+            None => self.bank_fault(item.bank),
+        }
+    }
+
+    /// Notes what broke upon the record, which came last and stands at this place, unless a part broke before.
+    fn note(&mut self, item: &Record, upon: Upon)
+        ensures rest { self.new ≡ record self.old { watch = self.new.watch } }
+        ensures watched { (shape : Shape) (memory : FlatMemory) (before : List Record) → IsPlaceOf before item.now upon
+            → StandsAfterAll shape memory (before ++ item.now ∷ []) self.old → IsWatch shape memory before self.old.watch
+            → IsWatch shape memory (before ++ item.now ∷ []) self.new.watch }
+    {
+        let Watch::Whole = self.watch else {
+            return;
+        };
+        if let Some(fault) = self.broke_upon(item) {
+            self.watch = Watch::First(FirstBreak { fault, upon });
+        }
     }
 }

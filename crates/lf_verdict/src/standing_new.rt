@@ -7,9 +7,11 @@ ghost use Rattle.lf_join.specs.Join.{skeleton_lists};
 ghost use Rattle.lf_replay.specs.Bytes.{bank_part};
 ghost use Rattle.lf_verdict.specs.declared.port_judge.PortJudge.{PortJudge};
 ghost use Rattle.lf_verdict.specs.declared.bank_judge.BankJudge.{BankJudge};
+ghost use Rattle.lf_verdict.specs.Breaking.{IsWatch};
 ghost use Rattle.lf_verdict.specs.Standing.{IsPortJudged, IsBankSettled, StandsAfterAll};
 
 use crate::bank_judge::BankJudge;
+use crate::breaking::Watch;
 use crate::entries::Entries;
 use crate::port_judge::PortJudge;
 use crate::standing::Standing;
@@ -57,12 +59,17 @@ impl Standing {
     /// No record has come. `memory` is the whole memory of the trace.
     pub fn new(alloc: Global, shape: &Shape, memory: &Memory) -> Result<Standing, NoMemory>
         requires { IsShape shape.now }
-        ensures { IfOk result (StandsAfterAll shape.now (flat_memory memory.now.items) []) }
+        ensures stands { IfOk result (StandsAfterAll shape.now (flat_memory memory.now.items) []) }
+        ensures watched { IfOk result (λ s. IsWatch shape.now (flat_memory memory.now.items) [] s.watch) }
     {
         let logs = empty_logs(alloc, shape.ports + shape.banks)?;
         let ports = port_judges(alloc, shape)?;
         let banks = bank_judges(alloc, shape, memory)?;
         let entries = Entries { logs, ports };
-        Ok(Standing { entries, banks })
+        Ok(Standing {
+            entries,
+            banks,
+            watch: Watch::Whole,
+        })
     }
 }

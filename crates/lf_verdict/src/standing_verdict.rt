@@ -1,15 +1,17 @@
 //! The verdict of a trace whose records have all come.
 
-ghost use Rattle.std.specs.Prelude.{◌≡◌, ◌≤◌, List, length, IfOk, IfErr, OnOk};
+ghost use Rattle.std.specs.Prelude.{◌≡◌, ◌≤◌, ◌<◌, ℕ, List, length, IfOk, IfErr, OnOk, IfSome, IfNone};
 ghost use Rattle.lf_rules.specs.declared.shape.Shape.{Shape};
 ghost use Rattle.lf_rules.specs.declared.event.Record.{Record};
 ghost use Rattle.lf_rules.specs.Address.{FlatMemory};
 ghost use Rattle.lf_verdict.specs.Parts.{PartsRun};
 ghost use Rattle.lf_verdict.specs.Judging.{IsEnding, number_ending, AreWholeBelow, IsOrderOf, IsLogsVerdict};
 ghost use Rattle.lf_verdict.specs.Standing.{logs_so_far, IsShort, StandsAfterAll};
+ghost use Rattle.lf_verdict.specs.Breaking.{IsFaultOfPart, NoneBroke, IsPortWhole, IsBankWhole, IsPartBroken, IsWatch};
 
 use crate::answer::{Fault, Refusal, Verdict};
-use crate::broken::{Broken, first_broken};
+use crate::breaking::{Broken, FirstBreak, PartFault, Watch};
+use crate::broken::{BrokenPart, first_broken};
 use crate::ending::Ending;
 use crate::order::least_order;
 use crate::standing::Standing;
@@ -53,11 +55,11 @@ impl Standing {
         ensures fault { (shape : Shape) (memory : FlatMemory) (records : List Record) → StandsAfterAll shape memory records self.now
             → AreWholeBelow (logs_so_far shape records) shape.banks → IfErr result (IsEnding shape memory (logs_so_far shape records)) }
     {
-        if let Some(Broken { part, at, rule }) = first_broken(&self.entries.ports) {
+        if let Some(BrokenPart { part, at, rule }) = first_broken(&self.entries.ports) {
             let port = part;
             return Err(Ending::Fault(Fault::Port { port, at, rule }));
         }
-        if let Some(Broken { part, at, rule }) = first_broken(&self.banks) {
+        if let Some(BrokenPart { part, at, rule }) = first_broken(&self.banks) {
             let (bank, number) = (part, at);
             return Err(Ending::Fault(Fault::Bank { bank, number, rule }));
         }
@@ -93,6 +95,75 @@ impl Standing {
             },
             Err(Ending::Fault(fault)) => Verdict::No(fault),
             Err(Ending::NoMemory) => Verdict::Refused(Refusal::Memory),
+        }
+    }
+
+    /// The lowest port that is at fault.
+    fn port_at_fault(&self) -> Option<PartFault>
+        requires { length self.now.entries.ports.items ≤ 16 }
+        ensures some { (shape : Shape) (memory : FlatMemory) (records : List Record) → StandsAfterAll shape memory records self.now
+            → IfSome result (IsFaultOfPart shape memory records) }
+        ensures none { (shape : Shape) (memory : FlatMemory) (records : List Record) → StandsAfterAll shape memory records self.now
+            → IfNone result ((port : ℕ) → port < shape.ports → IsPortWhole shape memory records port) }
+    {
+        for port in 0..self.entries.ports.len() {
+            if let Some(fault) = self.entries.port_fault(port as u8) {
+                return Some(fault);
+            }
+        }
+        None
+    }
+
+    /// The lowest bank that is at fault.
+    fn bank_at_fault(&self) -> Option<PartFault>
+        requires { length self.now.banks.items ≤ 16 }
+        ensures some { (shape : Shape) (memory : FlatMemory) (records : List Record) → StandsAfterAll shape memory records self.now
+            → IfSome result (IsFaultOfPart shape memory records) }
+        ensures none { (shape : Shape) (memory : FlatMemory) (records : List Record) → StandsAfterAll shape memory records self.now
+            → IfNone result ((bank : ℕ) → bank < shape.banks → IsBankWhole shape memory records bank) }
+    {
+        for bank in 0..self.banks.len() {
+            if let Some(fault) = self.bank_fault(bank as u8) {
+                return Some(fault);
+            }
+        }
+        None
+    }
+
+    /// A part that is at fault, where there is one.
+    fn at_fault(&self) -> Option<PartFault>
+        requires ports { length self.now.entries.ports.items ≤ 16 }
+        requires banks { length self.now.banks.items ≤ 16 }
+        ensures some { (shape : Shape) (memory : FlatMemory) (records : List Record) → StandsAfterAll shape memory records self.now
+            → IfSome result (IsFaultOfPart shape memory records) }
+        ensures none { (shape : Shape) (memory : FlatMemory) (records : List Record) → StandsAfterAll shape memory records self.now
+            → IfNone result (NoneBroke shape memory records) }
+    {
+        match self.port_at_fault() {
+            Some(fault) => Some(fault),
+            None => self.bank_at_fault(),
+        }
+    }
+
+    /// A part that is at fault, where there is one, and where that is known the first record upon which one was.
+    pub fn broken(&self) -> Option<Broken>
+        requires ports { length self.now.entries.ports.items ≤ 16 }
+        requires banks { length self.now.banks.items ≤ 16 }
+        ensures some { (shape : Shape) (memory : FlatMemory) (records : List Record) → StandsAfterAll shape memory records self.now
+            → IsWatch shape memory records self.now.watch → IfSome result (IsPartBroken shape memory records) }
+        ensures none { (shape : Shape) (memory : FlatMemory) (records : List Record) → StandsAfterAll shape memory records self.now
+            → IsWatch shape memory records self.now.watch → IfNone result (NoneBroke shape memory records) }
+    {
+        match self.watch {
+            Watch::Whole => None,
+            Watch::First(FirstBreak { fault, upon }) => Some(Broken::Part {
+                fault,
+                upon: Some(upon),
+            }),
+            Watch::Unknown => match self.at_fault() {
+                Some(fault) => Some(Broken::Part { fault, upon: None }),
+                None => None,
+            },
         }
     }
 }

@@ -1,9 +1,10 @@
-//! The texts of faults and refusals.
+//! The texts of faults, of what broke, and of refusals.
 
 ghost use Rattle.std.specs.Prelude.{◌≡◌, Some};
-ghost use Rattle.lf_verdict.specs.Text.{field_text, logs_text, fault_text, refusal_text};
+ghost use Rattle.lf_verdict.specs.Text.{field_text, logs_text, fault_text, part_text, broken_text, refusal_text};
 
 use crate::answer::{Fault, HeaderField, Refusal};
+use crate::breaking::{Broken, PartFault, Upon};
 use lf_rules::Knot;
 use std::fmt;
 
@@ -67,6 +68,37 @@ impl fmt::Display for Fault {
                 let logs = RingLogs(ring.as_slice());
                 write!(f, "cycle logs={logs}")
             }
+        }
+    }
+}
+
+/// What a fault of a part says: as that of a no.
+impl fmt::Display for PartFault {
+    ghost output = { λ fault. Some (part_text fault) };
+
+    fn fmt<W: fmt::Write>(&self, f: &mut fmt::Formatter<W>) -> fmt::Result {
+        match self {
+            PartFault::Double { bank, k } => write!(f, "numbering bank={bank} double={k}"),
+            PartFault::Port { port, at, rule } => write!(f, "port={port} event={at} rule={rule}"),
+            PartFault::Bank { bank, number, rule } => {
+                write!(f, "bank={bank} number={number} rule={rule}")
+            }
+        }
+    }
+}
+
+/// What broke, and where it is known the record upon which the first part did.
+impl fmt::Display for Broken {
+    ghost output = { λ found. Some (broken_text found) };
+
+    fn fmt<W: fmt::Write>(&self, f: &mut fmt::Formatter<W>) -> fmt::Result {
+        match self {
+            Broken::Header(field) => write!(f, "header {field}"),
+            Broken::Part { fault, upon: None } => write!(f, "{fault}"),
+            Broken::Part {
+                fault,
+                upon: Some(Upon { log, at }),
+            } => write!(f, "{fault} upon log={log} event={at}"),
         }
     }
 }

@@ -2,7 +2,8 @@
 
 use crate::verdicts::{assert_verdict, format_fault, yes};
 use lf_codec::CodecCause;
-use lf_samples::{C1, LOAD_MISSES_BOTH_LEVELS};
+use lf_samples::{C1, C1_TEXT, LOAD_MISSES_BOTH_LEVELS};
+use lf_verdict::check;
 use std::process::Abort;
 use std::sync::Wait;
 use std::test::Fail;
@@ -52,5 +53,6 @@ fn mixed_logs(rt: HostRuntime) -> Result<(), Fail> {
     mixed.extend_from_slice(&load[16..36])?;
     mixed.extend_from_slice(&load[104..])?;
     let legal = yes(rt.alloc(), &[0, 1, 1, 1, 1, 0])?;
+    assert_eq!(rt; check(&rt, C1_TEXT, &[mixed.as_slice()], 1), legal);
     assert_verdict(&rt, &C1, &mixed, &legal)
 }

@@ -12,7 +12,7 @@ use lf_samples::{
     LOAD_MISSES_BOTH_LEVELS, LOWEST_BANK, TWO_PORTS_TWO_BANKS_TEXT, want_of_a_thread,
     want_of_memory,
 };
-use lf_verdict::{Fault, ParallelSession, Refusal, Session, Verdict, check};
+use lf_verdict::{Fault, NoGate, ParallelSession, Refusal, Session, Verdict, check};
 use std::io::Cursor;
 use std::process::Abort;
 use std::sync::Wait;
@@ -157,7 +157,7 @@ fn refused_growth_of_session_on_cycle_of_two_logs(rt: HostRuntime) -> Result<(),
 #[test]
 fn refused_growth_of_session_by_four_workers(rt: HostRuntime) -> Result<(), Fail> {
     let bytes = hits_and(rt.alloc(), 60, HIT)?;
-    let mut session = ParallelSession::in_batches(rt.alloc(), &C1, 4, 40);
+    let mut session = ParallelSession::in_batches(rt.alloc(), &C1, 4, 40, NoGate);
     for piece in bytes.chunks(1024) {
         if let Err(told) = session.feed(&rt, piece) {
             assert_eq!(rt; told, Told::Fault(Refusal::Memory));

@@ -6,11 +6,13 @@ use crate::verdicts::{format_fault, port_fault};
 use lf_codec::CodecCause;
 use lf_engine::{Counted, run_shape};
 use lf_rules::{Rule, Shape};
-use lf_samples::{C1, LOAD, LOADED, trace_of};
-use lf_verdict::{Fault, ParallelSession, Verdict};
+use lf_samples::{C1, FOUR_BANKS, LOAD, LOADED, trace_of};
+use lf_verdict::{Fault, Gate, NoGate, ParallelSession, Verdict};
 use std::alloc::Global;
 use std::process::Abort;
+use std::sync::atomic::{AtomicU64, Ordering};
 use std::test::Fail;
+use std::thread;
 use std::thread::Threads;
 
 /// A load that hits, and its reply.
@@ -43,7 +45,7 @@ fn by_workers<T: AllocGlobal + Threads + Sync + Send + Copy + 'static>(
 ) -> Verdict
     requires { IsShape shape.now }
 {
-    let mut session = ParallelSession::in_batches(rt.alloc(), shape, workers, BATCH);
+    let mut session = ParallelSession::in_batches(rt.alloc(), shape, workers, BATCH, NoGate);
     for piece in bytes.chunks(PIECE) {
         let _ = session.feed(rt, piece);
     }
@@ -108,6 +110,50 @@ fn assert_line_by_workers<T: Abort + AllocGlobal + Threads + Sync + Send + Copy 
         assert!(rt; answer.is_ok());
         assert_eq!(rt; std::str::from_utf8(writer.inner()), Ok(line));
     }
+    Ok(())
+}
+
+/// Holds each of the first two judges until both have entered.
+#[derive(Drop)]
+struct Pair {
+    entered: AtomicU64,
+    /// How many of the two saw both inside.
+    met: AtomicU64,
+}
+
+impl Gate for Pair {
+    fn enter(&self, _bank: u32) {
+        if self.entered.fetch_add(1, Ordering::SeqCst) >= 2 {
+            return;
+        }
+        for _ in 0..10_000_000u64 {
+            if self.entered.load(Ordering::SeqCst) >= 2 {
+                self.met.fetch_add(1, Ordering::SeqCst);
+                break;
+            }
+            thread::yield_now();
+        }
+    }
+}
+
+/// Two workers judge two banks at once: each sees the other inside.
+#[test]
+fn judges_inside_at_once(rt: HostRuntime) -> Result<(), Fail> {
+    let bytes = trace_of(rt.alloc(), &FOUR_BANKS, &[LOAD, LOADED])?;
+    let pair: &'static Pair = Box::leak(Box::new(
+        rt.alloc(),
+        Pair {
+            entered: AtomicU64::new(0),
+            met: AtomicU64::new(0),
+        },
+    )?);
+    let mut session = ParallelSession::in_batches(rt.alloc(), &FOUR_BANKS, 2, 1, pair);
+    for piece in bytes.chunks(64) {
+        let _ = session.feed(&rt, piece);
+    }
+    let is_yes = matches!(session.finish(&rt), Verdict::Yes { .. });
+    assert!(rt; is_yes);
+    assert_eq!(rt; pair.met.load(Ordering::SeqCst), 2);
     Ok(())
 }
 

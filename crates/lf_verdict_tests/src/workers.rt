@@ -118,3 +118,48 @@ fn all_jobs_on_one_thread(rt: HostRuntime) -> Result<(), Fail> {
     assert_eq!(rt; gate.met.load(Ordering::SeqCst), 5);
     Ok(())
 }
+
+/// How often the job of the port and those of four banks were entered, and any other.
+#[derive(Drop)]
+struct Counts {
+    jobs: [AtomicU64; 5],
+    others: AtomicU64,
+}
+
+impl Counts {
+    fn new() -> Counts {
+        Counts {
+            jobs: [
+                AtomicU64::new(0),
+                AtomicU64::new(0),
+                AtomicU64::new(0),
+                AtomicU64::new(0),
+                AtomicU64::new(0),
+            ],
+            others: AtomicU64::new(0),
+        }
+    }
+}
+
+impl Gate for Counts {
+    fn enter(&self, job: u32) {
+        let count = self.jobs.get(job as usize).unwrap_or(&self.others);
+        count.fetch_add(1, Ordering::SeqCst);
+    }
+}
+
+/// Each number of workers, one included, passes the gate before each job, once.
+#[test]
+fn each_job_is_entered_once(rt: HostRuntime) -> Result<(), Fail> {
+    let bytes = trace_of(rt.alloc(), &FOUR_BANKS, &[])?;
+    for workers in 1..17u32 {
+        let gate = Counts::new();
+        let verdict = check_shape(&rt, &FOUR_BANKS, &[&bytes], workers, &gate);
+        assert_eq!(rt; verdict, yes(rt.alloc(), &[])?);
+        for job in &gate.jobs {
+            assert_eq!(rt; job.load(Ordering::SeqCst), 1);
+        }
+        assert_eq!(rt; gate.others.load(Ordering::SeqCst), 0);
+    }
+    Ok(())
+}

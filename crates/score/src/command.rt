@@ -1,5 +1,6 @@
 //! What the command line asks for.
 
+use crate::watch;
 use clap::error::ErrorKind;
 use clap::{Arg, ArgMatches, Command, Error, value_parser};
 use std::alloc::{AllocError, Global};
@@ -34,7 +35,7 @@ The answer of check is one line on standard output:
   refused header Ports                the trace is one of another hierarchy
   refused config Missing tags         the configuration says no hierarchy
   refused read trace                  the file cannot be read (or: read config)
-  refused usage, refused workers 17, refused memory, refused thread
+  refused usage, refused workers 17, refused memory
 
 Where check says yes, stats prints a line for each bank and then one for each port. Where it does not,
 stats prints that line.
@@ -85,6 +86,11 @@ pub enum Request<'a> {
     Demo {
         config: &'a str,
         out: &'a str,
+    },
+    /// Judge the trace in a file or on standard input while it comes, for the configuration in a file.
+    Watch {
+        config: &'a str,
+        trace: &'a str,
     },
 }
 
@@ -145,6 +151,14 @@ fn demo_command<'a>(alloc: Global) -> Result<Command<'a>, AllocError> {
         .arg(out)
 }
 
+fn watch_command<'a>(alloc: Global) -> Result<Command<'a>, AllocError> {
+    Command::new(alloc, "watch")
+        .about(watch::ABOUT)
+        .after_help(watch::HELP)
+        .arg(config_arg(alloc))?
+        .arg(trace_arg(alloc))
+}
+
 fn program<'a>(alloc: Global) -> Result<Command<'a>, AllocError> {
     Command::new(alloc, "score")
         .bin_name("score")?
@@ -155,7 +169,8 @@ fn program<'a>(alloc: Global) -> Result<Command<'a>, AllocError> {
         .subcommand_required(true)
         .subcommand(check_command(alloc)?)?
         .subcommand(stats_command(alloc)?)?
-        .subcommand(demo_command(alloc)?)
+        .subcommand(demo_command(alloc)?)?
+        .subcommand(watch_command(alloc)?)
 }
 
 fn fault_of(error: Error) -> CommandFault {
@@ -188,6 +203,13 @@ fn demo_request<'a>(matches: &ArgMatches<'a>) -> Option<Request<'a>> {
     })
 }
 
+fn watch_request<'a>(matches: &ArgMatches<'a>) -> Option<Request<'a>> {
+    Some(Request::Watch {
+        config: matches.get_str("CONFIG")?,
+        trace: matches.get_str("TRACE")?,
+    })
+}
+
 /// What the words ask for, the program's own name first.
 pub fn asked<'a>(alloc: Global, words: &'a [String]) -> Result<Request<'a>, CommandFault> {
     let Ok(command) = program(alloc) else {
@@ -201,6 +223,7 @@ pub fn asked<'a>(alloc: Global, words: &'a [String]) -> Result<Request<'a>, Comm
         Some(("check", inner)) => check_request(inner),
         Some(("stats", inner)) => stats_request(inner),
         Some(("demo", inner)) => demo_request(inner),
+        Some(("watch", inner)) => watch_request(inner),
         _ => None,
     };
     found.ok_or(CommandFault::Usage)

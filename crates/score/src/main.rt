@@ -1,8 +1,8 @@
 //! `score check CONFIG TRACE` judges a recorded trace of a two-level lockup-free cache for the hierarchy
 //! that a configuration says, and prints one line: a yes with the number of events, a no with the fault
 //! and its place, or why the trace is not judged. `score stats CONFIG TRACE` prints the statistics of a
-//! trace that is legal, and `score demo CONFIG OUT` records a small cache in threads. The status is 0 for a
-//! yes, 1 for a no and 2 for a refusal.
+//! trace that is legal, `score demo CONFIG OUT` records a small cache in threads, and `score watch CONFIG
+//! TRACE` ends as soon as a trace broke for good. The status is 0 for a yes, 1 for a no and 2 for a refusal.
 #![tactic(auto)]
 
 mod command;
@@ -11,6 +11,7 @@ mod demonstration;
 #[cfg(test)]
 mod tests;
 mod trace;
+mod watch;
 
 use command::{CommandFault, Request, asked};
 use configuration::{bytes_at, text_in};
@@ -24,6 +25,7 @@ use std::rt::{Env, Files};
 use std::sync::Wait;
 use std::thread::Threads;
 use trace::Trace;
+use watch::watch;
 
 const NO: u8 = 1;
 
@@ -140,6 +142,7 @@ where
         ) => check(rt, config, trace, u32::from(workers)),
         Ok(Request::Stats { config, trace }) => stats(rt, config, trace),
         Ok(Request::Demo { config, out }) => demo(rt, config, out),
+        Ok(Request::Watch { config, trace }) => watch(rt, config, trace),
         Err(CommandFault::Help(help)) => {
             print!(rt; "{help}")?;
             Ok(ExitCode::SUCCESS)

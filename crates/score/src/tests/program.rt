@@ -244,3 +244,27 @@ fn help_of_stats(rt: HostRuntime) -> Result<(), Fail> {
     }
     Ok(())
 }
+
+#[test]
+fn words_of_watch(rt: HostRuntime) -> Result<(), Fail> {
+    for (line, trace) in [
+        ("score watch c.toml a.lfts", "a.lfts"),
+        ("score watch c.toml -", "-"),
+    ] {
+        let words = words_of(rt.alloc(), line)?;
+        let config = "c.toml";
+        assert_eq!(rt;
+            asked(rt.alloc(), words.as_slice()).ok(),
+            Some(Request::Watch { config, trace })
+        );
+    }
+    for line in [
+        "score watch",
+        "score watch c.toml",
+        "score watch c.toml a.lfts b.lfts",
+        "score watch c.toml a.lfts --workers 1",
+    ] {
+        is_refused(&rt, line)?;
+    }
+    Ok(())
+}

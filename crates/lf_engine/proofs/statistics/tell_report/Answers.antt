@@ -1,6 +1,6 @@
 use Rattle.std.proofs.Common.{◌≡◌, ℕ, List, Ok, take, rules, sym, ◌∙◌, subst, string_bytes}
-use Rattle.std.specs.Io.KnownBytes.{Appends}
-use Rattle.lf_engine.specs.Counted.{inner_of}
+use Rattle.lf_stream.specs.Account.{WentOut}
+use Rattle.lf_stream.specs.Counted.{account_of}
 use Rattle.lf_engine.proofs.TellingLemmas.{lines_follow, lines_text}
 use Rattle.lf_engine.proofs.statistics.tell_report.Goals as goal
 
@@ -11,7 +11,7 @@ returns-in_err-put-in-Some-clause-prefix g c = λ _.
     let due = lines_text c.args.outcome report c.in-Some.text (Ok report.verdict) c.in-Ok.is c.in-Some.is in (
       Ok report.verdict,
       lines_follow c.args.outcome report c.in-Some.text c.in-Ok.is c.in-Some.is,
-      subst (λ (t : List ℕ). (n : ℕ) × Appends (g.W.Write.contents (inner_of c.args.writer.now)) (g.W.Write.contents (inner_of c.put.new.writer)) (take n t))
+      subst (λ (t : List ℕ). (n : ℕ) × WentOut (account_of g.W.Write.contents c.args.writer.now) (account_of g.W.Write.contents c.put.new.writer) (take n t))
           (text ∙ sym due)
           c.in_err-put-in-Some.ensures.prefix,
     )

@@ -15,5 +15,6 @@ returns-then-number-ports c =
     let log : c.deref.result.now ≡ log_at (lists_of jobs.logs) c.args.number = c.deref.ensures.value ∙ ap (λ (v : Vec Record). v.items) c.index.ensures
     ∙ sym (list_of jobs.logs c.args.number c.index.result.now there) in record {
       port = λ lt. subst (λ rs. IsPortOutcome jobs.shape rs c.port_replay.result) log c.port_replay.ensures.outcome;
+      port_memory = λ lt. c.port_replay.ensures.memory;
       bank = λ bank e. absurd (omega arith);
     }

@@ -1,7 +1,8 @@
 use Rattle.std.proofs.Common.{◌≡◌, ◌≤◌, ◌+◌, length, vec_capacity}
 use Rattle.std.specs.Prelude.{All}
 use Rattle.std.specs.Vec.Iter.{into_iter_items, into_iter_len}
-use Rattle.lf_pool.specs.Worked.{IsClaimer, IsFor}
+use Rattle.lf_pool.specs.Worked.{IsClaimer}
+use Rattle.lf_pool.proofs.Joined.{IsFor}
 use Rattle.lf_pool.proofs.pool.run_in.Given as goal
 
 abbrev pub invariant-loop-claimer : goal.invariant-loop-claimer

@@ -12,13 +12,13 @@ use Rattle.lf_pool.proofs.Placing.{put_each_snoc, keeper_after}
 use Rattle.lf_pool.proofs.pool.take_in.Goals as goal
 
 pub join_seat-requires : goal.join_seat-requires
-join_seat-requires c =
+join_seat-requires g c =
     let at = c.loop-one in
     let shared = c.args.shared.now in
     let x = c.in-Some.one in
-    let P : Worked → Type 0 = IsWorked c.args.jobs.now shared.table_id in
+    let P : Worked → Type 0 = IsWorked g.P.Replays.may_give c.args.jobs.now shared.table_id in
     let steps : into_iter_items at.one-iterator ≡ x ∷ into_iter_items c.next.new.self = c.in-Some.ensures.steps.0 in
-    let own : IsWorked c.args.jobs.now shared.table_id x = All-head P x (into_iter_items c.next.new.self) (subst (All P) steps at.invariant.mine) in (
+    let own : IsWorked g.P.Replays.may_give c.args.jobs.now shared.table_id x = All-head P x (into_iter_items c.next.new.self) (subst (All P) steps at.invariant.mine) in (
       at.invariant.table,
       own.own,
       ap (λ (m : Mine). m.1) own.view,
@@ -30,13 +30,13 @@ join_seat-requires c =
     )
 
 pub loop-one-preserved : goal.loop-one-preserved
-loop-one-preserved c =
+loop-one-preserved g c =
     let at = c.loop-one in
     let x = c.in-Some.one in
     let shared = c.args.shared.now in
-    let P : Worked → Type 0 = IsWorked c.args.jobs.now shared.table_id in
+    let P : Worked → Type 0 = IsWorked g.P.Replays.may_give c.args.jobs.now shared.table_id in
     let steps : into_iter_items at.one-iterator ≡ x ∷ into_iter_items c.next.new.self = c.in-Some.ensures.steps.0 in
-    let own : IsWorked c.args.jobs.now shared.table_id x = All-head P x (into_iter_items c.next.new.self) (subst (All P) steps at.invariant.mine) in record {
+    let own : IsWorked g.P.Replays.may_give c.args.jobs.now shared.table_id x = All-head P x (into_iter_items c.next.new.self) (subst (All P) steps at.invariant.mine) in record {
       rest = append_assoc at.yielded (x ∷ []) _ ∙ rw (← steps) at.invariant.rest;
       left = (let was = at.invariant.left in let gone = c.in-Some.ensures.steps.1 in let short = ap length steps in omega arith);
       mine = All-tail P x (into_iter_items c.next.new.self) (subst (All P) steps at.invariant.mine);

@@ -8,7 +8,7 @@ abbrev pub invariant-jobs : goal.invariant-jobs
 invariant-jobs g l = record {
   own : l.seat.table_id ≡ l.shared.table_id;
   view : l.seat.me ≡ (Worker l.number (map number_of l.done.items), []);
-  done : All (IsDone l.jobs) l.done.items;
+  done : All (IsDone g.P.Replays.may_give l.jobs) l.done.items;
   low : 0 < l.low → Any (λ p. p.0 + 1 ≡ l.low) l.done.items;
 }
 

@@ -1,17 +1,29 @@
 use Rattle.std.proofs.Common.{◌++◌, List, Option, option_to_list, sym, subst}
 use Rattle.std.proofs.lemmas.List.{append-nil}
 use Rattle.lf_rules.specs.declared.event.Record.{Record}
+use Rattle.lf_verdict.specs.Breaking.{IsWatch}
 use Rattle.lf_verdict.specs.Standing.{MayAllCome, StandsAfterAll}
 use Rattle.lf_verdict.proofs.Sessions.{on_ok}
 use Rattle.lf_verdict.proofs.intake.judge_one.Goals as goal
 
-pub returns-in-Some : goal.returns-in-Some
-returns-in-Some c shape memory records stands may =
+pub returns-in-Some-clause-judged : goal.returns-in-Some-clause-judged
+returns-in-Some-clause-judged c shape memory records stands may =
     let own = subst (λ (p : Option Record). MayAllCome shape records (option_to_list p)) c.in-Some.is may in
-    on_ok c.take.result (c.take.ensures shape memory records own.0 stands)
+    on_ok c.take.result (c.take.ensures.judged shape memory records own.0 stands)
     (λ after. subst (λ (p : Option Record). StandsAfterAll shape memory (records ++ option_to_list p) c.take.new.self) (sym c.in-Some.is) after)
 
-pub returns-in-None : goal.returns-in-None
-returns-in-None c shape memory records stands may =
+pub returns-in-Some-clause-watched : goal.returns-in-Some-clause-watched
+returns-in-Some-clause-watched c shape memory records stands may watched =
+    let own = subst (λ (p : Option Record). MayAllCome shape records (option_to_list p)) c.in-Some.is may in
+    on_ok c.take.result (c.take.ensures.watched shape memory records own.0 stands watched)
+    (λ after. subst (λ (p : Option Record). IsWatch shape memory (records ++ option_to_list p) c.take.new.self.watch) (sym c.in-Some.is) after)
+
+pub returns-in-None-clause-judged : goal.returns-in-None-clause-judged
+returns-in-None-clause-judged c shape memory records stands may =
     let all = subst (λ (rs : List Record). StandsAfterAll shape memory rs c.args.standing.now) (sym (append-nil records)) stands in
     subst (λ (p : Option Record). StandsAfterAll shape memory (records ++ option_to_list p) c.args.standing.now) (sym c.in-None.is) all
+
+pub returns-in-None-clause-watched : goal.returns-in-None-clause-watched
+returns-in-None-clause-watched c shape memory records stands may watched =
+    let all = subst (λ (rs : List Record). IsWatch shape memory rs c.args.standing.now.watch) (sym (append-nil records)) watched in
+    subst (λ (p : Option Record). IsWatch shape memory (records ++ option_to_list p) c.args.standing.now.watch) (sym c.in-None.is) all

@@ -17,7 +17,8 @@ judge_records-requires c =
     let read = r.1.1.1.1.0 in
     let run = r.1.1.1.1.1 in
     let may = place_may_come c.read_so_far.ensures r.0 r.1.0 r.1.1.0 r.1.1.1.0 c.args.reader.now c.args.standing.now place read run in
-    let judged = c.in_ok-judge_one.ensures r.0 (flat_memory r.1.1.0) r.1.1.1.0 run.stands may in
+    let judged = c.in_ok-judge_one.ensures.judged r.0 (flat_memory r.1.1.0) r.1.1.1.0 run.stands may in
+    let watched = c.in_ok-judge_one.ensures.watched r.0 (flat_memory r.1.1.0) r.1.1.1.0 run.stands may run.watched in
     let more = r.1.1.1.0 ++ option_to_list place in (
       r.0,
       (
@@ -28,7 +29,7 @@ judge_records-requires c =
             more,
             (
               given_one c.args.reader.now place r.1.0 r.1.1.0 r.1.1.1.0 read,
-              running_more r.0 r.1.0 r.1.1.0 r.1.1.1.0 more c.args.standing.now c.judge_one.new.standing run judged,
+              running_more r.0 r.1.0 r.1.1.0 r.1.1.1.0 more c.args.standing.now c.judge_one.new.standing run judged watched,
             ),
           ),
         ),
@@ -39,15 +40,17 @@ pub returns-clause-judged : goal.returns-clause-judged
 returns-clause-judged c shape bytes memory records read run =
     let place = c.args.place.now in
     let may = place_may_come c.read_so_far.ensures shape bytes memory records c.args.reader.now c.args.standing.now place read run in
-    let judged = c.in_ok-judge_one.ensures shape (flat_memory memory) records run.stands may in
+    let judged = c.in_ok-judge_one.ensures.judged shape (flat_memory memory) records run.stands may in
+    let watched = c.in_ok-judge_one.ensures.watched shape (flat_memory memory) records run.stands may run.watched in
     let more = records ++ option_to_list place in
     c.judge_records.ensures.judged shape bytes memory more (given_one c.args.reader.now place bytes memory records read)
-    (running_more shape bytes memory records more c.args.standing.now c.judge_one.new.standing run judged)
+    (running_more shape bytes memory records more c.args.standing.now c.judge_one.new.standing run judged watched)
 
 pub returns-then-is_none-clause-judged : goal.returns-then-is_none-clause-judged
 returns-then-is_none-clause-judged c shape bytes memory records read run =
     let place = c.args.place.now in
     let may = place_may_come c.read_so_far.ensures shape bytes memory records c.args.reader.now c.args.standing.now place read run in
-    let judged = c.in_ok-judge_one.ensures shape (flat_memory memory) records run.stands may in
+    let judged = c.in_ok-judge_one.ensures.judged shape (flat_memory memory) records run.stands may in
+    let watched = c.in_ok-judge_one.ensures.watched shape (flat_memory memory) records run.stands may run.watched in
     let more = records ++ option_to_list place in
-    (more, (given_one c.args.reader.now place bytes memory records read, running_more shape bytes memory records more c.args.standing.now c.judge_one.new.standing run judged))
+    (more, (given_one c.args.reader.now place bytes memory records read, running_more shape bytes memory records more c.args.standing.now c.judge_one.new.standing run judged watched))

@@ -38,7 +38,8 @@ loop-item-preserved c = record {
           subst (λ (rs : List Record). HasRead c.drop_front.new.self bytes memory (m.0 ++ rs)) (front_of there (drop 1 there) front c.in-Some.ensures)
               (c.drop_front.ensures.taken bytes memory m.0 m.1.0),
           running_more shape bytes memory m.0 (m.0 ++ front ∷ []) c.loop-item.standing c.take.new.self m.1.1
-              (c.in_ok-take.ensures shape (flat_memory memory) m.0 may m.1.1.stands),
+              (c.in_ok-take.ensures.judged shape (flat_memory memory) m.0 may m.1.1.stands)
+              (c.in_ok-take.ensures.watched shape (flat_memory memory) m.0 may m.1.1.stands m.1.1.watched),
         ),
       );
 }

@@ -18,17 +18,17 @@ logs_verdict-requires-clause-fit g c κs lives =
     logs_fit_shape c.args.shape.now c.in-Ok.trace.logs _ t.records t.logs
     (records_fit c.args.shape.now c.in-Ok.trace.header c.in-Ok.trace.memory.items t.records t.trace.fits c.in_default.ensures.none)
 
-pub returns-in-Some : goal.returns-in-Some
-returns-in-Some g c =
+pub returns-in-Some-clause-answer : goal.returns-in-Some-clause-answer
+returns-in-Some-clause-answer g c =
     let t = c.in-Ok.ensures.ok in
     of_header c.args.shape.now (joined c.args.pieces.now) c.in-Ok.trace.header c.in-Ok.trace.memory.items t.records c.in-Some.field t.trace c.in-Some.ensures.some
 
-pub returns-in-Err : goal.returns-in-Err
-returns-in-Err g c = of_reading c.args.shape.now (joined c.args.pieces.now) c.in-Err.refusal c.in-Err.ensures.err
+pub returns-in-Err-clause-answer : goal.returns-in-Err-clause-answer
+returns-in-Err-clause-answer g c = of_reading c.args.shape.now (joined c.args.pieces.now) c.in-Err.refusal c.in-Err.ensures.err
 
-pub returns : goal.returns
-returns g c =
+pub returns-clause-answer : goal.returns-clause-answer
+returns-clause-answer g c =
     let t = c.in-Ok.ensures.ok in
     of_workers_logs c.args.shape.now (joined c.args.pieces.now) c.in-Ok.trace.memory.items (lists_of c.in-Ok.trace.logs) c.logs_verdict.result
     (record { header = c.in-Ok.trace.header; records = t.records; trace = t.trace; agrees = c.in_default.ensures.none; are_logs = t.logs })
-    c.logs_verdict.ensures
+    c.logs_verdict.ensures.verdict

@@ -8,8 +8,8 @@ invariant_of-self-2 c =
     let s = c.self.inside in
     rw c.in_ok-extend_from_slice.ensures.items (within_stay s.header s.bytes.items c.args.piece.now s.forms.items c.self.invariant)
 
-pub returns : goal.returns
-returns c =
+pub returns-clause-kept : goal.returns-clause-kept
+returns-clause-kept c =
     let s = c.self.inside in let piece = c.args.piece.now in
     rw (c.in_ok-extend_from_slice.ensures.items, ← c.self.view_is)
     (ap (λ (rs : List Record). record { header = s.header; bytes = s.bytes.items ++ piece; records = rs })

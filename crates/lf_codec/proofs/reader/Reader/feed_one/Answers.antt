@@ -2,6 +2,7 @@ use Rattle.std.proofs.Common.{arith, subst, sym}
 use Rattle.lf_codec.specs.Reading.{Reading}
 use Rattle.lf_codec.specs.Reader.{Gives, answer_of, bytes_taken, with_record}
 use Rattle.lf_codec.proofs.Pieces as pieces
+use Rattle.lf_codec.proofs.Refused as refused
 use Rattle.lf_codec.proofs.reader.Reader.feed_one.Goals as goal
 
 pub returns-clause-kept : goal.returns-clause-kept
@@ -30,3 +31,8 @@ returns-clause-faults c fed memory records has =
 pub returns-clause-given : goal.returns-clause-given
 returns-clause-given c bytes memory records some gives =
     subst (λ (r : Reading). Gives r bytes memory records) (sym (c.take_one.ensures.failed some).0) gives
+
+pub returns-clause-refused : goal.returns-clause-refused
+returns-clause-refused c =
+    refused.refused_taking c.args.self.now (with_record c.take_one.new.place c.take_one.new.self) c.args.bytes.now c.take_one.result (λ i. omega (arith, c.type_inv.bytes i))
+    c.take_one.ensures.told c.take_one.ensures.read

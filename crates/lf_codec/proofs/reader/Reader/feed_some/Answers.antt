@@ -2,6 +2,7 @@ use Rattle.std.proofs.Common.{arith, sym, subst}
 use Rattle.lf_codec.specs.Reading.{Reading}
 use Rattle.lf_codec.specs.Reader.{Gives, answer_of, bytes_taken}
 use Rattle.lf_codec.proofs.Pieces as pieces
+use Rattle.lf_codec.proofs.Refused as refused
 use Rattle.lf_codec.proofs.reader.Reader.feed_some.Goals as goal
 
 pub returns-clause-failed : goal.returns-clause-failed
@@ -34,3 +35,7 @@ pub returns-clause-given : goal.returns-clause-given
 returns-clause-given c bytes memory records some gives =
     let same = pieces.failed_stays c.args.self.now c.take_some.new.self (bytes_taken c.take_some.result c.args.bytes.now) c.take_some.ensures.read some in
     subst (λ (r : Reading). Gives r bytes memory records) (sym same) gives
+
+pub returns-clause-refused : goal.returns-clause-refused
+returns-clause-refused c =
+    refused.refused_taking c.args.self.now c.take_some.new.self c.args.bytes.now c.take_some.result (λ i. omega (arith, c.type_inv.bytes i)) c.take_some.ensures.told c.take_some.ensures.read

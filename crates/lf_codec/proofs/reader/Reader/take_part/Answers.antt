@@ -6,8 +6,8 @@ use Rattle.lf_codec.proofs.Soundness.{some_len}
 use Rattle.lf_codec.proofs.Parts.{lacks, part_waits, part_ends, part_ends_badly}
 use Rattle.lf_codec.proofs.reader.Reader.take_part.Goals as goal
 
-pub returns-then-rest-lacks : goal.returns-then-rest-lacks
-returns-then-rest-lacks c =
+pub returns-then-rest-lacks-clause-takes : goal.returns-then-rest-lacks-clause-takes
+returns-then-rest-lacks-clause-takes c =
     let r : Reading = record {
       progress = c.self.inside.progress;
       pending = c.self.inside.pending.items;
@@ -23,14 +23,14 @@ returns-then-rest-lacks c =
     rw (← c.self.view_is) (part_waits r (record r { pending = c.try_extend_from_slice.new.self.items }) c.args.rest.now fine c.requires.some short
     (ap (λ (xs : List ℕ). record r { pending = xs }) longer))
 
-pub returns-in-Ok : goal.returns-in-Ok
-returns-in-Ok c =
+pub returns-in-Ok-clause-takes : goal.returns-in-Ok-clause-takes
+returns-in-Ok-clause-takes c =
     let part : length c.args.self.now.pending < stage_len c.args.self.now.progress.header c.args.self.now.progress.stage = rw (← c.self.view_is) c.self.invariant.part in
     let n : c.step_len.result - c.len.result ≡ lacks c.args.self.now = rw (← c.self.view_is) (omega (arith, c.step_len.ensures, c.len.ensures.value)) in
-    part_ends c.args.self.now c.end_step.new.self c.args.rest.now (c.step_len.result - c.len.result) n c.requires.fine part c.if-rest-lacks.false tt c.in-Ok.ensures
+    part_ends c.args.self.now c.end_step.new.self c.args.rest.now (c.step_len.result - c.len.result) n c.requires.fine part c.if-rest-lacks.false tt c.in-Ok.ensures.takes
 
-pub returns-in-Err : goal.returns-in-Err
-returns-in-Err c =
+pub returns-in-Err-clause-takes : goal.returns-in-Err-clause-takes
+returns-in-Err-clause-takes c =
     let part : length c.args.self.now.pending < stage_len c.args.self.now.progress.header c.args.self.now.progress.stage = rw (← c.self.view_is) c.self.invariant.part in
     let n : c.step_len.result - c.len.result ≡ lacks c.args.self.now = rw (← c.self.view_is) (omega (arith, c.step_len.ensures, c.len.ensures.value)) in
-    part_ends_badly c.args.self.now c.end_step.new.self c.args.rest.now (c.step_len.result - c.len.result) c.in-Err.fault n c.requires.fine part c.if-rest-lacks.false c.in-Err.ensures
+    part_ends_badly c.args.self.now c.end_step.new.self c.args.rest.now (c.step_len.result - c.len.result) c.in-Err.fault n c.requires.fine part c.if-rest-lacks.false c.in-Err.ensures.takes

@@ -3,8 +3,8 @@ use Rattle.lf_codec.proofs.Judged.{passed_from_no_error}
 use Rattle.lf_codec.proofs.Bytes.{header_kept}
 use Rattle.lf_codec.proofs.reader.Reader.take_step.Goals as goal
 
-pub returns-in-Err-keep : goal.returns-in-Err-keep
-returns-in-Err-keep c =
+pub returns-in-Err-keep-clause-takes : goal.returns-in-Err-keep-clause-takes
+returns-in-Err-keep-clause-takes c =
     let same = c.in-Err-keep.ensures.err in
     let some = rw c.advance-found.ensures.found at c.in-Err-keep.ensures.some in
     rw c.fail-in-Err-keep.ensures.failed (

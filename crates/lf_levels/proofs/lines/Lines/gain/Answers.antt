@@ -1,7 +1,7 @@
 use Rattle.std.proofs.Common.{arith, ◌∙◌, sym, None}
 use Rattle.std.proofs.lemmas.List.{get_or_read}
 use Rattle.lf_levels.specs.Rows.{is_on}
-use Rattle.lf_levels.proofs.Searched.{row_fits, way_inside, not_lacking, set_whole, gained_table, changed-fill}
+use Rattle.lf_levels.proofs.Searched.{row_fits, way_inside, not_lacking, line_has, set_whole, gained_table, changed-fill}
 use Rattle.lf_levels.proofs.lines.Lines.gain.Goals as goal
 
 pub find_line-requires : goal.find_line-requires
@@ -22,13 +22,18 @@ index-requires g c =
 pub invariant_of-self : goal.invariant_of-self
 invariant_of-self g c =
     set_whole c.self.invariant c.args.self.now c.self.view_is c.args.block c.row-row.result c.row-row.ensures _ c.deref.ensures.value c.in-Some.way c.in-Some.ensures c.join-dirty.result
+    (c.join-dirty.ensures.line c.self.inside.factor
+    (line_has c.self.invariant c.args.self.now c.self.view_is c.args.block c.row-row.result c.row-row.ensures _ c.deref.ensures.value c.in-Some.way c.in-Some.ensures _
+    (sym c.in-Some-index.is ∙ get_or_read c.self.inside.rows.items c.in-Some.way _
+    (way_inside c.self.invariant c.args.self.now c.self.view_is c.args.block c.row-row.result c.row-row.ensures _ c.deref.ensures.value
+    (is_on c.args.block) c.in-Some.way c.in-Some.ensures) c.index.ensures None)))
 
 pub returns-clause-gained : goal.returns-clause-gained
 returns-clause-gained g c =
     gained_table c.self.invariant c.args.self.now c.self.view_is c.args.block c.row-row.result c.row-row.ensures _ c.deref.ensures.value c.in-Some.way c.in-Some.ensures _
     (sym c.in-Some-index.is ∙ get_or_read c.self.inside.rows.items c.in-Some.way _
     (way_inside c.self.invariant c.args.self.now c.self.view_is c.args.block c.row-row.result c.row-row.ensures _ c.deref.ensures.value
-    (is_on c.args.block) c.in-Some.way c.in-Some.ensures) c.index.ensures None) g.L.Level.join g.L.Level.clean c.args.more.now c.join-dirty.result c.join-dirty.ensures
+    (is_on c.args.block) c.in-Some.way c.in-Some.ensures) c.index.ensures None) g.L.Level.join g.L.Level.clean c.args.more.now c.join-dirty.result c.join-dirty.ensures.value
 
 pub returns-clause-here : goal.returns-clause-here
 returns-clause-here g c =
@@ -36,4 +41,4 @@ returns-clause-here g c =
     (gained_table c.self.invariant c.args.self.now c.self.view_is c.args.block c.row-row.result c.row-row.ensures _ c.deref.ensures.value c.in-Some.way c.in-Some.ensures _
     (sym c.in-Some-index.is ∙ get_or_read c.self.inside.rows.items c.in-Some.way _
     (way_inside c.self.invariant c.args.self.now c.self.view_is c.args.block c.row-row.result c.row-row.ensures _ c.deref.ensures.value
-    (is_on c.args.block) c.in-Some.way c.in-Some.ensures) c.index.ensures None) g.L.Level.join g.L.Level.clean c.args.more.now c.join-dirty.result c.join-dirty.ensures)
+    (is_on c.args.block) c.in-Some.way c.in-Some.ensures) c.index.ensures None) g.L.Level.join g.L.Level.clean c.args.more.now c.join-dirty.result c.join-dirty.ensures.value)

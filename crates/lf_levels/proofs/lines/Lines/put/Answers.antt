@@ -17,7 +17,7 @@ index_mut-requires g c =
 
 pub invariant_of-self : goal.invariant_of-self
 invariant_of-self g c =
-    filled_whole c.self.invariant c.args.self.now c.self.view_is c.args.block c.row-row.result c.row-row.ensures _ c.deref.ensures.value c.in-Some.way c.in-Some.ensures c.requires c.args.dirty
+    filled_whole c.self.invariant c.args.self.now c.self.view_is c.args.block c.row-row.result c.row-row.ensures _ c.deref.ensures.value c.in-Some.way c.in-Some.ensures c.requires.absent c.args.dirty c.requires.masks
 
 pub returns-in_default-clause-refused : goal.returns-in_default-clause-refused
 returns-in_default-clause-refused g c = full_value c.self.invariant c.args.self.now c.self.view_is c.args.block c.row-row.result c.row-row.ensures _ c.deref.ensures.value None c.in_default.ensures
@@ -27,12 +27,12 @@ returns-clause-free_way g c = full_value c.self.invariant c.args.self.now c.self
 
 pub returns-clause-filled : goal.returns-clause-filled
 returns-clause-filled g c =
-    filled_table c.self.invariant c.args.self.now c.self.view_is c.args.block c.row-row.result c.row-row.ensures _ c.deref.ensures.value c.in-Some.way c.in-Some.ensures c.requires c.args.dirty
+    filled_table c.self.invariant c.args.self.now c.self.view_is c.args.block c.row-row.result c.row-row.ensures _ c.deref.ensures.value c.in-Some.way c.in-Some.ensures c.requires.absent c.args.dirty c.requires.masks
 
 pub returns-clause-here : goal.returns-clause-here
 returns-clause-here g c =
     changed-fill c.args.self.now _ c.args.block c.args.dirty
-    (filled_table c.self.invariant c.args.self.now c.self.view_is c.args.block c.row-row.result c.row-row.ensures _ c.deref.ensures.value c.in-Some.way c.in-Some.ensures c.requires c.args.dirty)
+    (filled_table c.self.invariant c.args.self.now c.self.view_is c.args.block c.row-row.result c.row-row.ensures _ c.deref.ensures.value c.in-Some.way c.in-Some.ensures c.requires.absent c.args.dirty c.requires.masks)
 
 pub returns-in_default-clause-free_way : goal.returns-in_default-clause-free_way
 returns-in_default-clause-free_way g c = tt

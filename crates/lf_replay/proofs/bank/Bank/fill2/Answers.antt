@@ -3,8 +3,8 @@ use Rattle.lf_replay.proofs.Keeping.{absent2}
 use Rattle.lf_replay.proofs.Placed.{released2, home_released}
 use Rattle.lf_replay.proofs.bank.Bank.fill2.Goals as goal
 
-pub fill-requires : goal.fill-requires
-fill-requires g c =
+pub fill-requires-clause-absent : goal.fill-requires-clause-absent
+fill-requires-clause-absent g c =
     let keeps = rw (← c.self.view_is) at c.requires.reached in
     let fetched = rw (← c.self.view_is) at c.in_default.ensures.fetched in
     absent2 _ keeps c.args.second fetched

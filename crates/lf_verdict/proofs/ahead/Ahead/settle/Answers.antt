@@ -19,4 +19,4 @@ returns-clause-taken g c bytes taken =
     let b = c.in_ok-batch.batch in
     let after = c.judge_by-result.new.self in
     on_ok c.judge_by-result.result (judged_next c.read_so_far.ensures s bytes b [] (alone s bytes b (c.in_ok-batch.ensures.taken bytes taken)) c.judge_by-result.result after c.judge_by-result.ensures)
-    (λ got. subst (λ (a : Ahead). HasTaken (record a.intake { judging = Running after.standing }) bytes) (sym c.in_ok-batch.ensures.rest) got.1)
+    (λ got. subst (λ (a : Ahead g.row.G.Denot). HasTaken (record a.intake { judging = Running after.standing }) bytes) (sym c.in_ok-batch.ensures.rest) got.1)

@@ -1,7 +1,8 @@
-use Rattle.std.proofs.Common.{◌≡◌, List, length, get_or, sym, ap, ◌∙◌, subst, arith}
+use Rattle.std.proofs.Common.{◌≡◌, List, length, get_or, refl, sym, ap, ◌∙◌, subst, arith}
 use Rattle.std.specs.Vec.{with_items}
 use Rattle.std.specs.List.{length_refill}
 use Rattle.lf_verdict.specs.declared.bank_judge.BankJudge.{BankJudge}
+use Rattle.lf_verdict.specs.declared.breaking.Watch.TheVariants.{Unknown}
 use Rattle.lf_verdict.specs.declared.standing.Standing.{Standing}
 use Rattle.lf_rules.specs.declared.outcome.Outcome.TheVariants as outcomes
 use Rattle.lf_verdict.specs.Standing.{CanTakeAll, TakesAll}
@@ -29,7 +30,7 @@ returns g c shape memory records is =
     let old = c.args.self.now.standing in
     let slice = c.as_mut_slice-banks.ensures.value in
     let ws = c.enter_beside.new.banks in
-    let new : Standing = record { entries = c.enter_beside.new.entries; banks = with_items old.banks ws } in (
+    let new : Standing = record { entries = c.enter_beside.new.entries; banks = with_items old.banks ws; watch = Unknown } in (
       stands_together shape memory records rs old new is.stands (all_fit shape records rs is.may_come)
           (c.in_ok-enter_beside.ensures.entries shape records is.may_come is.stands.entered)
           (sym (length_refill old.banks.len old.banks.items ws old.banks.ok.0) ∙ old.banks.ok.0)
@@ -39,5 +40,5 @@ returns g c shape memory records is =
           (λ bank d lt.
           subst (λ (js : List BankJudge). (get_or js bank d).outcome ≡ outcomes.NoMemory → ⊥) c.deref.ensures.value
           (c.ran_out.ensures (λ e. cc) bank d (omega (arith, lt, ap length c.deref.ensures.value)))),
-      c.clear.ensures,
+      (c.clear.ensures, refl),
     )

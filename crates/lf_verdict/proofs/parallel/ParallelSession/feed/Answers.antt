@@ -33,5 +33,5 @@ returns-clause-fault g c = go c.feed.result c.feed.ensures.told
         → IfErr r (λ t. (bytes : List ℕ) → HasFed c.args.self.now bytes → IsRefusalSoFar (bytes ++ c.args.piece.now) (fault_in t))
     go (Ok tt) told = tt
     go (Err t) told = λ bytes fed. fed_fault (session_of c.feed.new.self) (bytes ++ c.args.piece.now) c.self.inside.ahead.intake.stop c.feed.new.self.intake.stop t refl
-        (λ some. sym (ap (λ (a : Ahead). a.intake.stop) (c.feed.ensures.failed some))) told
+        (λ some. sym (ap (λ (a : Ahead g.row.G.Denot). a.intake.stop) (c.feed.ensures.failed some))) told
         (c.feed.ensures.fed bytes (subst (λ (s : Intake). HasFed s bytes) (sym c.self.view_is) fed))

@@ -5,11 +5,12 @@ use Rattle.lf_rules.specs.Address.{flat_memory}
 use Rattle.lf_replay.specs.Bytes.{bank_part}
 use Rattle.std.proofs.Common.{get_or}
 use Rattle.lf_verdict.specs.Standing.{IsBankSettled}
+use Rattle.lf_verdict.proofs.Breaks.{none_broke_nothing}
 use Rattle.lf_verdict.proofs.Opened.{no_entries, nothing_at, length-nothing}
 use Rattle.lf_verdict.proofs.standing.Standing.new.Goals as goal
 
-pub returns : goal.returns
-returns c =
+pub returns-clause-stands : goal.returns-clause-stands
+returns-clause-stands c =
     let shape = c.args.shape.now in
     record {
       fit = tt;
@@ -25,3 +26,6 @@ returns c =
           subst (λ (gave : List Record). IsBankSettled shape (bank_part shape bank (flat_memory c.args.memory.now.items)) bank [] gave (get_or c.in_ok-banks.banks.items bank d))
           (sym (nothing_at {X = Record} shape.banks bank)) (c.in_ok-banks.ensures.each bank d lt);
     }
+
+pub returns-clause-watched : goal.returns-clause-watched
+returns-clause-watched c = none_broke_nothing c.args.shape.now (flat_memory c.args.memory.now.items)

@@ -1,0 +1,113 @@
+use Rattle.std.proofs.Common.{◌++◌, [], ◌≡◌, take, rules, arith, refl, ap, sym, ◌∙◌, append-nil, subst}
+use Rattle.lf_codec.specs.Laws.{AreBytes}
+use Rattle.lf_verdict.specs.Session.{HasFed}
+use Rattle.lf_stream.proofs.GatheringLemmas.{begun, same_part, more_part, last_part}
+use Rattle.lf_engine.specs.Gathered.{HasFault}
+use Rattle.lf_engine.specs.Watch.{IsBrokenFor}
+use Rattle.lf_engine.proofs.GatheringLemmas.{none_stands}
+use Rattle.lf_engine.proofs.watching.gather_watching.Goals as goal
+use Rattle.lf_engine.proofs.watching.gather_watching.Goals.{in-Ok+in-Ok-More, in-Err+else-ne}
+
+pub loop-turn-init : goal.loop-turn-init
+loop-turn-init g c = record {
+  calls = c.requires.calls;
+  failures = c.requires.failures;
+  room = refl;
+  shape = refl;
+  gathered = record {
+    bytes = [];
+    fed = c.requires.fresh;
+    are_bytes = search rules;
+    part = begun _ _ (none_stands c.fault_so_far.ensures.other [] refl);
+  };
+}
+
+pub returns-in-Ok-eq0-clause-all : goal.returns-in-Ok-eq0-clause-all
+returns-in-Ok-eq0-clause-all g c =
+    let so_far = c.loop-turn.invariant.gathered in
+    let piece = take c.in-Ok-eq0.field-0 c.pull.new.buffer in
+    let none : piece ≡ [] = search rules in
+    let same : so_far.bytes ≡ so_far.bytes ++ piece =
+    sym (ap (λ p. so_far.bytes ++ p) none ∙ append-nil so_far.bytes) in
+    let read = c.in-Ok-eq0.ensures.read in
+    record {
+      bytes = so_far.bytes ++ piece;
+      fed = subst (HasFed c.loop-turn.session) same so_far.fed;
+      are_bytes = subst AreBytes same so_far.are_bytes;
+      all = last_part _ _ _ _ so_far.bytes so_far.part piece read.pieces read.known.0 _ (search rules) (λ _. none)
+          (λ _. read.known.1 c.in-Ok-eq0.field-0-test (search rules));
+    }
+
+pub returns-in-Ok-Fault-clause-all : goal.returns-in-Ok-Fault-clause-all
+returns-in-Ok-Fault-clause-all g c =
+    let so_far = c.loop-turn.invariant.gathered in
+    let piece = take c.in-Ok.n c.pull.new.buffer in
+    let read = c.in-Ok.ensures.read in
+    let stands : HasFault (so_far.bytes ++ piece) = rw c.in-Ok-Fault.field-0-is at (c.in-Ok-Fault.ensures.told so_far.bytes so_far.fed) in
+    record {
+      bytes = so_far.bytes ++ piece;
+      fed = c.in-Ok-Fault.ensures.fed so_far.bytes so_far.fed;
+      are_bytes = c.in-Ok-Fault.ensures.are_bytes so_far.bytes so_far.are_bytes;
+      all = last_part _ _ _ _ so_far.bytes so_far.part piece read.pieces read.known.0 _ (search rules)
+          (λ sound. absurd (sound stands)) (λ sound. absurd (sound stands));
+    }
+
+pub returns-in-Ok-Broken-clause-all : goal.returns-in-Ok-Broken-clause-all
+returns-in-Ok-Broken-clause-all g c =
+    let so_far = c.loop-turn.invariant.gathered in
+    let piece = take c.in-Ok.n c.pull.new.buffer in
+    let read = c.in-Ok.ensures.read in
+    let told : IsBrokenFor c.feed.new.session.shape (so_far.bytes ++ piece) c.in-Ok-Broken.found = rw c.in-Ok-Broken.field-0-is at (c.in-Ok-Broken.ensures.told so_far.bytes so_far.fed) in
+    record {
+      bytes = so_far.bytes ++ piece;
+      are_bytes = c.in-Ok-Broken.ensures.are_bytes so_far.bytes so_far.are_bytes;
+      part = more_part _ _ _ _ so_far.bytes so_far.part piece read.pieces read.known.0 told.sound;
+      broken = told;
+    }
+
+pub loop-turn-preserved : goal.loop-turn-preserved
+loop-turn-preserved g c = record {
+  calls = elim c.match-pull.branch [
+    | in-Ok+in-Ok-More w ↦ omega (arith, w.in-Ok.ensures.read.calls, c.loop-turn.invariant.calls)
+    | in-Err+else-ne w ↦ omega (arith, w.in-Err.ensures.read.calls, c.loop-turn.invariant.calls)
+  ];
+  failures = elim c.match-pull.branch [
+    | in-Ok+in-Ok-More w ↦ w.in-Ok.ensures.read.failures ∙ c.loop-turn.invariant.failures
+    | in-Err+else-ne w ↦ search (rules, w.in-Err.ensures.read.failures)
+  ];
+  room = search rules;
+  shape = elim c.match-pull.branch [
+    | in-Ok+in-Ok-More w ↦ search (rules, w.in-Ok-More.ensures.shape)
+    | in-Err+else-ne w ↦ search rules
+  ];
+  gathered =
+      let so_far = c.loop-turn.invariant.gathered in
+      elim c.match-pull.branch [
+        | in-Ok+in-Ok-More w ↦
+            let piece = take w.in-Ok.n c.pull.new.buffer in
+            let read = w.in-Ok.ensures.read in
+            rw w.session-is (record {
+              bytes = so_far.bytes ++ piece;
+              fed = w.in-Ok-More.ensures.fed so_far.bytes so_far.fed;
+              are_bytes = w.in-Ok-More.ensures.are_bytes so_far.bytes so_far.are_bytes;
+              part = more_part _ _ _ _ so_far.bytes so_far.part piece read.pieces read.known.0 (rw w.in-Ok-More.field-0-is at (w.in-Ok-More.ensures.told so_far.bytes so_far.fed));
+            })
+        | in-Err+else-ne w ↦
+            let read = w.in-Err.ensures.read in
+            rw w.session-is (record {
+              bytes = so_far.bytes;
+              fed = so_far.fed;
+              are_bytes = so_far.are_bytes;
+              part = same_part _ _ _ _ so_far.bytes so_far.part read.pieces read.known;
+            })
+      ];
+}
+
+pub returns-then-ne-clause-part : goal.returns-then-ne-clause-part
+returns-then-ne-clause-part g c =
+    let so_far = c.loop-turn.invariant.gathered in
+    let read = c.in-Err.ensures.read in
+    (so_far.bytes, same_part _ _ _ _ so_far.bytes so_far.part read.pieces read.known)
+
+pub returns-clause-part : goal.returns-clause-part
+returns-clause-part g c = let so_far = c.loop-turn.invariant.gathered in (so_far.bytes, so_far.part)

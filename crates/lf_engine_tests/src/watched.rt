@@ -1,0 +1,68 @@
+//! Traces that are watched: what is written, and how far is read.
+
+use crate::streams::Pieces;
+use lf_engine::{Counted, Watched, run_watch};
+use lf_rules::Rule;
+use lf_samples::{C1_TEXT, LOAD_MISSES_BOTH_LEVELS, TWO_PORTS_TWO_BANKS_TEXT};
+use lf_verdict::{Broken, PartFault, Upon, Verdict};
+use std::process::Abort;
+use std::test::Fail;
+
+/// Fails where another line is written for the bytes, which are read in pieces of so many, or another number of reads
+/// is made.
+fn assert_watched<T: Abort + AllocGlobal>(
+    rt: &T,
+    config: &str,
+    bytes: &[u8],
+    size: usize,
+    line: &str,
+    reads: u64,
+) -> Result<Watched, Fail> {
+    let mut reader = Counted::new(Pieces::new(bytes, size));
+    let mut writer = Counted::new(Vec::new(rt.alloc()));
+    let answer = run_watch(rt, &mut reader, &mut writer, config, 100_000);
+    assert_eq!(rt; writer.inner().as_slice(), line.as_bytes());
+    assert_eq!(rt; reader.calls(), reads);
+    answer.map_err(|_| Fail::new("no answer"))
+}
+
+#[test]
+fn a_legal_trace_is_read_to_its_end(rt: HostRuntime) -> Result<(), Fail> {
+    let bytes = &LOAD_MISSES_BOTH_LEVELS;
+    let told = assert_watched(&rt, C1_TEXT, bytes, 1, "yes events=6\n", 133)?;
+    assert!(rt; matches!(told, Watched::Judged(Verdict::Yes { .. })));
+    Ok(())
+}
+
+#[test]
+fn nothing_is_read_behind_a_broken_record(rt: HostRuntime) -> Result<(), Fail> {
+    let mut bytes = LOAD_MISSES_BOTH_LEVELS;
+    bytes[116] = 1;
+    let line = "broken bank=0 number=5 rule=ReplyData upon log=0 event=1\n";
+    for (size, reads) in [(1usize, 124), (4, 31), (132, 1)] {
+        let told = assert_watched(&rt, C1_TEXT, &bytes, size, line, reads)?;
+        let fault = PartFault::Bank {
+            bank: 0,
+            number: 5,
+            rule: Rule::ReplyData,
+        };
+        let upon = Some(Upon { log: 0, at: 1 });
+        assert_eq!(rt; told, Watched::Broken(Broken::Part { fault, upon }));
+    }
+    Ok(())
+}
+
+#[test]
+fn another_header_is_told_at_once(rt: HostRuntime) -> Result<(), Fail> {
+    let bytes = &LOAD_MISSES_BOTH_LEVELS;
+    let config = TWO_PORTS_TWO_BANKS_TEXT;
+    assert_watched(&rt, config, bytes, 16, "broken header Ports\n", 1)?;
+    Ok(())
+}
+
+#[test]
+fn a_cut_trace_is_told_as_cut(rt: HostRuntime) -> Result<(), Fail> {
+    let line = "refused format Truncated at=104\n";
+    assert_watched(&rt, C1_TEXT, &LOAD_MISSES_BOTH_LEVELS[..110], 16, line, 8)?;
+    Ok(())
+}

@@ -1,0 +1,2 @@
+-- The text of each line of a trace.
+pub mod Text

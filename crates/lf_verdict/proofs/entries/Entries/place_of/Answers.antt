@@ -1,0 +1,26 @@
+use Rattle.std.proofs.Common.{◌≡◌, ◌<◌, ◌+◌, refl, ◌∙◌, arith}
+use Rattle.lf_verdict.proofs.Standings.{entries_count, log_below_all, log_length}
+use Rattle.lf_verdict.proofs.entries.Entries.place_of.Goals as goal
+
+pub index-requires : goal.index-requires
+index-requires c =
+    let r = c.requires in
+    let stands = r.1.1.1 in
+    omega (
+      arith,
+      c.from-log.ensures,
+      log_below_all r.0 r.1.0 c.args.self.now stands c.args.item.now r.1.1.0,
+      entries_count (r.0.ports + r.0.banks) r.1.0 c.args.self.now.logs.items stands.logs,
+    )
+
+pub overflow_cast-at : goal.overflow_cast-at
+overflow_cast-at c =
+    let r = c.requires in
+    let may = r.1.1.0 in
+    omega (arith, c.len-at.ensures, log_length r.0 r.1.0 c.args.self.now r.1.1.1 c.args.item.now may c.from-log.result c.index.result.now c.from-log.ensures c.index.ensures, may.room)
+
+pub returns : goal.returns
+returns c shape records may entered = record {
+  log = refl;
+  at = omega (arith, c.len-at.ensures, log_length shape records c.args.self.now entered c.args.item.now may c.from-log.result c.index.result.now c.from-log.ensures c.index.ensures);
+}

@@ -1,0 +1,90 @@
+-- Which faults stand, whatever bytes follow.
+use Rattle.std.specs.Prelude.{◌≡◌, ◌⊎◌, ℕ, ◌<◌, ◌≤◌, List, ◌++◌, length, Option, Some, None}
+use Rattle.lf_rules.specs.declared.shape.Shape.{Shape}
+use Rattle.lf_rules.specs.declared.event.Record.{Record}
+use Rattle.lf_rules.specs.Address.{FlatMemory, flat_memory}
+use Rattle.lf_rules.specs.Fits.{Bytes}
+use Rattle.lf_codec.specs.declared.header.Header.{Header}
+use Rattle.lf_codec.specs.Laws.{AreBytes}
+use Rattle.lf_codec.specs.Reading.{reading_of, header_of}
+use Rattle.lf_verdict.specs.declared.breaking.PartFault.{PartFault}
+use Rattle.lf_verdict.specs.declared.breaking.PartFault.TheVariants as parts
+use Rattle.lf_verdict.specs.declared.breaking.Upon.{Upon}
+use Rattle.lf_verdict.specs.declared.breaking.Broken.{Broken}
+use Rattle.lf_verdict.specs.declared.breaking.Broken.TheVariants as broken
+use Rattle.lf_verdict.specs.declared.answer.HeaderField.{HeaderField}
+use Rattle.lf_verdict.specs.Breaking.{IsFaultOfPart, NoneBroke, IsFirstBreak}
+use Rattle.lf_verdict.specs.Legal.{Agrees}
+use Rattle.lf_verdict.specs.declared.intake.Intake.{Intake}
+use Rattle.lf_verdict.specs.declared.intake.Judging.{Judging}
+use Rattle.lf_verdict.specs.declared.intake.Judging.TheVariants.{Waiting, Running, Another}
+use Rattle.lf_verdict.specs.Session.{HasJudged}
+use Rattle.lf_verdict.specs.declared.answer.Fault.{Fault}
+use Rattle.lf_verdict.specs.declared.answer.Fault.TheVariants.{Missing, Double, Port, Bank, Cycle}
+use Rattle.lf_verdict.specs.declared.answer.Verdict.{Verdict}
+use Rattle.lf_verdict.specs.declared.answer.Verdict.TheVariants.{Yes, No, Refused}
+use Rattle.lf_verdict.specs.declared.answer.Refusal.TheVariants as refusals
+use Rattle.lf_verdict.specs.Verdict.{Differs, IsVerdictOf}
+
+-- The fault that is told of the whole is the one that was found, or one that is named before it.
+abbrev pub IsNoLater : PartFault → Fault → Type 0
+IsNoLater (parts.Double bank k) (Missing bank' k') = (bank' < bank) ⊎ ((bank' ≡ bank) × (k' < k))
+IsNoLater (parts.Double bank k) (Double bank' k') = (bank' < bank) ⊎ ((bank' ≡ bank) × (k' ≤ k))
+IsNoLater (parts.Port port at rule) (Missing bank' k') = Unit {0}
+IsNoLater (parts.Port port at rule) (Double bank' k') = Unit {0}
+IsNoLater (parts.Port port at rule) (Port port' at' rule') = (port' < port) ⊎ (Port port' at' rule' ≡ Port port at rule)
+IsNoLater (parts.Bank bank number rule) (Missing bank' k') = Unit {0}
+IsNoLater (parts.Bank bank number rule) (Double bank' k') = Unit {0}
+IsNoLater (parts.Bank bank number rule) (Port port' at' rule') = Unit {0}
+IsNoLater (parts.Bank bank number rule) (Bank bank' number' rule') = (bank' < bank) ⊎ (Bank bank' number' rule' ≡ Bank bank number rule)
+IsNoLater _ _ = ⊥
+
+-- Not a yes: a fault of a part, or one named before it, or the same field of the header, or the bytes are no trace.
+abbrev pub IsNoYesAfter : Broken → Verdict → Type 0
+IsNoYesAfter (broken.Header field) (Refused (refusals.Header told)) = told ≡ field
+IsNoYesAfter (broken.Part fault upon) (No told) = IsNoLater fault told
+IsNoYesAfter found (Refused (refusals.Format format)) = Unit {0}
+IsNoYesAfter _ _ = ⊥
+
+-- What broke is final for these bytes: whatever bytes follow, the verdict is no yes.
+abbrev pub IsFinal : Shape → List ℕ → Broken → Type 0
+IsFinal shape bytes found = (more : List ℕ) (verdict : Verdict) → AreBytes more → IsVerdictOf shape 1 (bytes ++ more) verdict → IsNoYesAfter found verdict
+
+-- ---- the laws
+
+-- The bytes begin a trace for the shape: its header and its memory are whole, and these records have come.
+pub record Begins (shape : Shape) (bytes : List ℕ) (memory : List (ℕ × Bytes)) (records : List Record) : Type 0 where
+  pub header : Header
+  pub read : header_of bytes ≡ Some header
+  pub agrees : Agrees shape header
+  pub whole : length memory ≡ header.memory_count
+  pub memory_is : (reading_of bytes).memory ≡ memory
+  pub rest : List Record
+  pub records_are : (reading_of bytes).records ≡ records ++ rest
+
+-- A fault of a part of the records so far is final.
+abbrev pub PartFaultsAreFinal : Type 0
+PartFaultsAreFinal = (shape : Shape) (bytes : List ℕ) (memory : List (ℕ × Bytes)) (records : List Record) (fault : PartFault) (upon : Option Upon) → AreBytes bytes
+    → Begins shape bytes memory records → IsFaultOfPart shape (flat_memory memory) records fault → IsFinal shape bytes (broken.Part fault upon)
+
+-- So is a header of another hierarchy.
+abbrev pub OtherHeadersAreFinal : Type 0
+OtherHeadersAreFinal = (shape : Shape) (bytes : List ℕ) (header : Header) (field : HeaderField) → AreBytes bytes → header_of bytes ≡ Some header → Differs shape header field
+    → IsFinal shape bytes (broken.Header field)
+
+-- ---- what a session says
+
+-- The record that is named is the first of the records so far upon which a part broke, and the fault broke upon it.
+abbrev pub IsEarliest : Shape → List ℕ → Broken → Type 0
+IsEarliest shape bytes (broken.Part fault (Some upon)) = (memory : List (ℕ × Bytes)) × ((records : List Record)
+    × (Begins shape bytes memory records × IsFirstBreak shape (flat_memory memory) records fault upon))
+IsEarliest shape bytes _ = Unit {0}
+
+-- Unless it was stopped, the trace is of no other hierarchy so far, and no part of the records that the session took is at fault.
+abbrev pub IsUnbrokenSoFar : Intake → Judging → List Record → Type 0
+IsUnbrokenSoFar s Waiting records = Unit {0}
+IsUnbrokenSoFar s (Running running) records = NoneBroke s.shape (flat_memory s.memory.items) records
+IsUnbrokenSoFar s (Another field) records = ⊥
+
+abbrev pub IsUnbroken : Intake → List ℕ → Type 0
+IsUnbroken s bytes = s.stop ≡ None → (records : List Record) → HasJudged s bytes records → IsUnbrokenSoFar s s.judging records

@@ -1,0 +1,54 @@
+//! What broke for good, whatever bytes follow.
+
+use crate::answer::HeaderField;
+use lf_rules::Rule;
+
+/// A fault of one part of a trace. It stands whatever records follow.
+#[derive(Clone, Copy, Debug, PartialEq, Eq)]
+pub enum PartFault {
+    /// Two events of the bank have the number k.
+    Double { bank: u8, k: u32 },
+    /// The port's events before the place `at` of its log are a run of the port, and the one there fails
+    /// with the rule first.
+    Port { port: u8, at: u32, rule: Rule },
+    /// The bank's events before this number are a run of the bank, and the one of this number fails with
+    /// the rule first.
+    Bank { bank: u8, number: u32, rule: Rule },
+}
+
+/// A record of a trace: its log, and how many records of that log stand before it.
+#[derive(Clone, Copy, Debug, PartialEq, Eq)]
+pub struct Upon {
+    pub log: u8,
+    pub at: u32,
+}
+
+/// Why no bytes that follow lead to a yes.
+#[derive(Clone, Copy, Debug, PartialEq, Eq)]
+pub enum Broken {
+    /// The trace is one of another hierarchy.
+    Header(HeaderField),
+    /// A part is at fault. Where `upon` is told, that record is the first of the trace upon which any part broke, and
+    /// the fault is one that broke upon it.
+    Part {
+        fault: PartFault,
+        upon: Option<Upon>,
+    },
+}
+
+/// The first record of a trace upon which a part broke, and a fault that broke upon it.
+#[derive(Clone, Copy)]
+pub struct FirstBreak {
+    pub fault: PartFault,
+    pub upon: Upon,
+}
+
+/// Whether a part broke, while the records of a trace are judged one after another.
+#[derive(Clone, Copy)]
+pub enum Watch {
+    /// None did.
+    Whole,
+    First(FirstBreak),
+    /// Records were judged together, so it is not known upon which of them.
+    Unknown,
+}

@@ -1,0 +1,133 @@
+"""The checks of recorders/systemverilog. All calls are made by tests/recording/driver.sv under Verilator."""
+
+from __future__ import annotations
+
+import shutil
+import tempfile
+from functools import partial
+from pathlib import Path
+from typing import Optional
+
+from outside import TOP, Checks, Failure, expect, run
+
+from recording.c_recorder import ABBREVIATIONS, misuses
+from recording.reference import EVERY_KIND, Chance, Shape, every_kind, every_kind_trace, number, reference, shape_of
+
+C = TOP / "recorders/c"
+SV = TOP / "recorders/systemverilog"
+HERE = Path(__file__).resolve().parent
+SOURCES = [SV / "lfts_pkg.sv", HERE / "driver.sv"]
+
+
+def hexadecimal(line: str, shape: Shape) -> str:
+    """A call as the driver in SystemVerilog reads it: the name, five numbers, an address, a mask and data."""
+    name, *words = line.split()
+    numbers, address, mask, data = [0] * 5, 0, 0, 0
+    if name == "cycle":
+        address = number(words[0])
+    elif name == "evict2":
+        numbers[:2] = map(number, words[:2])
+        mask = sum(number(word) << place * shape.block for place, word in enumerate(words[2:-1]))
+    elif name == "evict1":
+        numbers[:2], mask = map(number, words[:2]), number(words[2])
+    elif name == "issue":
+        numbers, address = [number(word) for word in words[:5]], number(words[5])
+    else:
+        count = {"memory": 1, "reply": 4, "fill1": 2, "fill2": 2, "map": 0}.get(name, len(words))
+        numbers[:count] = map(number, words[:count])
+    if name in ("memory", "issue", "reply", "fill1", "fill2", "evict1", "evict2") and words[-1] != "-":
+        data = int.from_bytes(bytes.fromhex(words[-1]), "little")
+    numbers += [0] * (5 - len(numbers))
+    return " ".join([name, *(f"{value:x}" for value in (*numbers, address, mask, data))])
+
+
+class SvRecorder:
+    """The checks over a simulation that makes calls."""
+
+    def __init__(self, checks: Checks, folder: Path) -> None:
+        self.checks, self.folder = checks, folder
+        self.trace = folder / "trace.lfts"
+
+    def build(self) -> None:
+        words = ["verilator", "--binary", "--timing", "-j", "1", "-Wall", "--top-module", "driver"]
+        words += ["-Mdir", str(self.folder / "driver"), "-CFLAGS", f"-I{C}"]
+        words += ["-MAKEFLAGS", "OPT_FAST=-O0"]
+        run([*words, *SOURCES, SV / "lfts_dpi.c"], seconds=300, cwd=self.folder)
+
+    def all(self) -> None:
+        for version in EVERY_KIND:
+            name = f"recorders/systemverilog: each kind of version {version}"
+            self.checks.check(name, partial(self.same, every_kind(version), every_kind_trace(version)))
+        self.checks.check("recorders/systemverilog: random scripts give the bytes of the format", self.random_scripts)
+        self.checks.check("recorders/systemverilog: cycles, phases and the time map", self.cycles)
+        self.checks.check("recorders/systemverilog: each misuse is an $error with its text", self.misuses)
+        self.checks.check("recorders/systemverilog: lfts_dpi.c as C and as C++", self.compiles)
+
+    def play(self, script: list[str], limit: int = 1) -> str:
+        """Makes the calls of a script, and gives what the simulator printed."""
+        shape = next(shape_of(line) for line in script if line.startswith("open"))
+        lines = [hexadecimal(line, shape) for line in script]
+        calls = self.folder / "calls.txt"
+        calls.write_text("\n".join([*lines, ""]), encoding="utf-8")
+        plus = [f"+script={calls}", f"+trace={self.trace}", f"+verilator+error+limit+{limit}"]
+        done = run([self.folder / "driver/Vdriver", *plus], cwd=self.folder)
+        return done.stdout + done.stderr
+
+    def same(self, script: list[str], due: Optional[Path] = None) -> None:
+        printed = self.play([*script, "close"])
+        if "lfts_" in printed:
+            raise Failure(printed)
+        expect(self.trace.read_bytes(), due.read_bytes() if due else reference(script), script[0])
+
+    def random_scripts(self) -> None:
+        chance = Chance(36)
+        for turn in range(30):
+            self.same(chance.script(chance.shape(), memory=turn % 4 * 5, events=200))
+
+    def cycles(self) -> None:
+        shape = "open 2 2 8 1 2"
+        issue, reply, fence, hit = "issue 1 0 0 0 8 0x0 -", "reply 1 0 0 0 -", "fence 1", "hit 0 1 0"
+        calls = ["map", "cycle 5", issue, hit, reply, fence, "cycle 5", hit, "set_phase 0", hit, "cycle 70", hit]
+        self.play([shape, *calls, "end_cycle", issue, "flush", "close"])
+        due = [shape, reply, hit, hit, fence, hit, issue, hit, issue]
+        expect(self.trace.read_bytes(), reference(due))
+        lines = "1 0 5\n2 0 5\n2 1 5\n1 1 5\n2 2 5\n1 2 5\n2 3 70\n"
+        expect((self.folder / "trace.lfts.map").read_text(encoding="utf-8"), lines)
+
+    def misuses(self) -> None:
+        """Those of misuses.txt that can be said in SystemVerilog."""
+        made = 0
+        for script, due in misuses():
+            last = script[-1].split()
+            known = script[0] in ABBREVIATIONS.values() and last[0] not in ("map", "close")
+            if not known or due.status in ("BYTES", "NOT_OPEN") or "op is" in due.error:
+                continue
+            calls = [script[0].replace("path m.lfts ", ""), *script[1:]]
+            printed = self.play([*calls, "close"] if "as was told" not in due.error else calls, limit=10)
+            if due.call == "evict2" and "mask" in due.error:
+                due_text = "lfts_evict2: mask has a bit above 63; allowed: bits 0 to 63"
+            else:
+                due_text = due.error
+            if due_text not in printed:
+                raise Failure(f"{script[-1]}: {due_text!r} is not in {printed!r}")
+            made += 1
+        if made < 40:
+            raise Failure(f"only {made} misuses")
+
+    def compiles(self) -> None:
+        include = run(["verilator", "--getenv", "VERILATOR_ROOT"]).stdout.strip() + "/include/vltstd"
+        warnings = "-Wall -Wextra -Wpedantic -Wconversion -Wshadow -Werror".split()
+        for compiler in (["gcc", "-std=c99"], ["g++", "-std=c++11", "-x", "c++"]):
+            words = [*compiler, *warnings, f"-I{C}", "-isystem", include, "-c", str(SV / "lfts_dpi.c")]
+            run([*words, "-o", "/dev/null"], seconds=120)
+
+
+def check(checks: Checks) -> None:
+    """Makes the checks of recorders/systemverilog."""
+    if shutil.which("verilator") is None:
+        checks.skip("recorders/systemverilog", "verilator not installed")
+        return
+    with tempfile.TemporaryDirectory(prefix="recorders_sv_") as folder:
+        recorder = SvRecorder(checks, Path(folder))
+        checks.check("recorders/systemverilog: the driver, by Verilator without a warning", recorder.build)
+        recorder.all()
