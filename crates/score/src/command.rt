@@ -1,72 +1,14 @@
 //! What the command line asks for.
 
-use crate::watch;
+use crate::trace::STANDARD_INPUT;
+use crate::{check, demonstration, help, stats, watch};
 use clap::error::ErrorKind;
-use clap::{Arg, ArgMatches, Command, Error, value_parser};
+use clap::{Arg, ArgAction, ArgMatches, Command, Error, value_parser};
 use std::alloc::{AllocError, Global};
 
 /// What `--version` prints after the program's name: the version, and on a line of its own what `rt version`
 /// prints of the kit that proved and built the program. It changes with the kit.
-const VERSION: &str = "0.1.0\nrattle-kit-13f logic dac8208d650f15bf";
-
-/// What the help says of the whole program.
-const ABOUT: &str = "Judges recorded traces of a two-level lockup-free (non-blocking) cache.";
-
-/// What the help says of `check`.
-const ABOUT_CHECK: &str =
-    "Judges a trace for the hierarchy that a configuration says, and prints one line.";
-
-/// What the help says of `stats`.
-const ABOUT_STATS: &str =
-    "Judges a trace with one worker, and prints the statistics of one that is legal.";
-
-/// What the help says of `demo`.
-const ABOUT_DEMO: &str = "Runs a small cache in threads for a configuration, and writes its trace.";
-
-/// What the help says after the arguments.
-const ANSWERS: &str = "\
-The answer of check is one line on standard output:
-  yes events=6                        some order of all events is a legal run
-  no port=0 event=1 rule=TagBusy      the port's event of this place breaks the rule
-  no bank=0 number=5 rule=ReplyData   the bank's event of this number breaks the rule
-  no numbering bank=0 missing=2       no event of the bank has this number (or: double=2)
-  no cycle logs=0,1                   the logs wait for one another
-  refused format Truncated at=16      the bytes are no trace from this one on
-  refused header Ports                the trace is one of another hierarchy
-  refused config Missing tags         the configuration says no hierarchy
-  refused read trace                  the file cannot be read (or: read config)
-  refused usage, refused workers 17, refused memory
-
-Where check says yes, stats prints a line for each bank and then one for each port. Where it does not,
-stats prints that line.
-  bank=0 hits=0 primary=1 merges=0 stalls=0 peak=1
-  port=0 unanswered=0
-Of a bank's level one:
-  hits        requests that found their block there
-  primary     misses that started a fetch of their block
-  merges      misses that joined a fetch of their block, each recorded beside the first
-  stalls      misses that found no room in the registers and waited
-  peak        the greatest number of registers that were held at once
-Of a port:
-  unanswered  tags whose last request has no reply in the trace
-
-The answer of demo is one line:
-  demo events=200                     so many events are written
-  refused write                       the file cannot be written
-  refused turns                       a thread came to nothing for too long
-  refused thread                      a thread was refused
-                                      (or as check: read config, config, memory)
-
-The status is 0 for yes, 1 for no and 2 for refused. Ports, banks, places and numbers count from 0.
-
-CONFIG is a TOML document with the keys ports, banks, block (bytes) and tags (of each port), and the
-tables level1 and level2 with the keys sets, ways, organisation (\"implicit\", \"explicit\" or
-\"inverted\"), registers (not for inverted) and entries (only for explicit). level2 may have the key
-blocks (level2.blocks): of how many first-level blocks its blocks are, 1, 2 or 4. Without it that is 1.
-A file of more than 1 MiB is no configuration, and told as one that cannot be read.
-
-TRACE is of version 1, 2 or 3 of the format. Version 2 adds fences and longer logs, version 3 blocks of
-level two that have 2 or 4 blocks.";
+const VERSION: &str = "0.2.0\nrattle-kit-13f logic dac8208d650f15bf";
 
 /// A command, with the words that it was given.
 #[derive(Clone, Copy, Debug, PartialEq, Eq)]
@@ -76,11 +18,13 @@ pub enum Request<'a> {
         config: &'a str,
         trace: &'a str,
         workers: u16,
+        progress: bool,
     },
     /// Count over the trace in a file, judged for the configuration in a file.
     Stats {
         config: &'a str,
         trace: &'a str,
+        progress: bool,
     },
     /// Run the demonstration for the configuration in a file, and write its trace to another.
     Demo {
@@ -108,13 +52,20 @@ pub enum CommandFault {
 fn config_arg<'a>(alloc: Global) -> Arg<'a> {
     Arg::new(alloc, "CONFIG")
         .required(true)
-        .help("The configuration of the hierarchy")
+        .help("The configuration of the hierarchy, or -")
 }
 
 fn trace_arg<'a>(alloc: Global) -> Arg<'a> {
     Arg::new(alloc, "TRACE")
         .required(true)
-        .help("The recorded trace")
+        .help("The recorded trace, or -")
+}
+
+fn progress_arg<'a>(alloc: Global) -> Arg<'a> {
+    Arg::new(alloc, "progress")
+        .long("progress")
+        .action(ArgAction::SetTrue)
+        .help("Shows on standard error how far it is")
 }
 
 fn check_command<'a>(alloc: Global) -> Result<Command<'a>, AllocError> {
@@ -123,21 +74,23 @@ fn check_command<'a>(alloc: Global) -> Result<Command<'a>, AllocError> {
         .value_name("N")
         .value_parser(value_parser!(u16))
         .default_value("1")
-        .help("How many workers judge the trace, 1 to 16; the answer is the same");
+        .help("How many threads judge the trace, 1 to 16");
     Command::new(alloc, "check")
-        .about(ABOUT_CHECK)
-        .after_help(ANSWERS)
+        .about(check::ABOUT)
+        .after_help(check::HELP)
         .arg(config_arg(alloc))?
         .arg(trace_arg(alloc))?
-        .arg(workers)
+        .arg(workers)?
+        .arg(progress_arg(alloc))
 }
 
 fn stats_command<'a>(alloc: Global) -> Result<Command<'a>, AllocError> {
     Command::new(alloc, "stats")
-        .about(ABOUT_STATS)
-        .after_help(ANSWERS)
+        .about(stats::ABOUT)
+        .after_help(stats::HELP)
         .arg(config_arg(alloc))?
-        .arg(trace_arg(alloc))
+        .arg(trace_arg(alloc))?
+        .arg(progress_arg(alloc))
 }
 
 fn demo_command<'a>(alloc: Global) -> Result<Command<'a>, AllocError> {
@@ -145,8 +98,8 @@ fn demo_command<'a>(alloc: Global) -> Result<Command<'a>, AllocError> {
         .required(true)
         .help("The file that is created or emptied for the trace");
     Command::new(alloc, "demo")
-        .about(ABOUT_DEMO)
-        .after_help(ANSWERS)
+        .about(demonstration::ABOUT)
+        .after_help(demonstration::HELP)
         .arg(config_arg(alloc))?
         .arg(out)
 }
@@ -163,9 +116,8 @@ fn program<'a>(alloc: Global) -> Result<Command<'a>, AllocError> {
     Command::new(alloc, "score")
         .bin_name("score")?
         .version(VERSION)
-        .disable_help_subcommand(true)
-        .about(ABOUT)
-        .after_help(ANSWERS)
+        .about(help::ABOUT)
+        .after_help(help::HELP)
         .subcommand_required(true)
         .subcommand(check_command(alloc)?)?
         .subcommand(stats_command(alloc)?)?
@@ -181,18 +133,32 @@ fn fault_of(error: Error) -> CommandFault {
     }
 }
 
+/// The configuration and the trace. Standard input is read once, so it is not both.
+fn files_of<'a>(matches: &ArgMatches<'a>) -> Option<(&'a str, &'a str)> {
+    let config = matches.get_str("CONFIG")?;
+    let trace = matches.get_str("TRACE")?;
+    if config == STANDARD_INPUT && trace == STANDARD_INPUT {
+        return None;
+    }
+    Some((config, trace))
+}
+
 fn check_request<'a>(matches: &ArgMatches<'a>) -> Option<Request<'a>> {
+    let (config, trace) = files_of(matches)?;
     Some(Request::Check {
-        config: matches.get_str("CONFIG")?,
-        trace: matches.get_str("TRACE")?,
+        config,
+        trace,
         workers: matches.get_one::<u16>("workers")?,
+        progress: matches.get_flag("progress"),
     })
 }
 
 fn stats_request<'a>(matches: &ArgMatches<'a>) -> Option<Request<'a>> {
+    let (config, trace) = files_of(matches)?;
     Some(Request::Stats {
-        config: matches.get_str("CONFIG")?,
-        trace: matches.get_str("TRACE")?,
+        config,
+        trace,
+        progress: matches.get_flag("progress"),
     })
 }
 
@@ -204,10 +170,8 @@ fn demo_request<'a>(matches: &ArgMatches<'a>) -> Option<Request<'a>> {
 }
 
 fn watch_request<'a>(matches: &ArgMatches<'a>) -> Option<Request<'a>> {
-    Some(Request::Watch {
-        config: matches.get_str("CONFIG")?,
-        trace: matches.get_str("TRACE")?,
-    })
+    let (config, trace) = files_of(matches)?;
+    Some(Request::Watch { config, trace })
 }
 
 /// What the words ask for, the program's own name first.

@@ -2,6 +2,7 @@
 
 ghost use Rattle.std.specs.Prelude.{◌≤◌, IfOk, vec_len};
 
+use crate::trace::STANDARD_INPUT;
 use lf_engine::InputFault;
 use std::alloc::Global;
 use std::io;
@@ -26,11 +27,14 @@ pub fn bytes_within<R: Read + Drop>(alloc: Global, reader: R, most: u32) -> io::
     Ok(bytes)
 }
 
-/// The bytes of the configuration at this path.
-pub fn bytes_at<T: Files + AllocGlobal>(rt: &T, path: &str) -> io::Result<Vec<u8>>
+/// The bytes of the configuration at this path, or of standard input for `-`.
+pub fn bytes_at<T: Input + Files + AllocGlobal>(rt: &T, path: &str) -> io::Result<Vec<u8>>
 where
     T::File: Drop,
 {
+    if path == STANDARD_INPUT {
+        return bytes_within(rt.alloc(), rt.reader(), MOST_BYTES);
+    }
     bytes_within(rt.alloc(), std::fs::open(rt, path)?, MOST_BYTES)
 }
 

@@ -10,6 +10,30 @@ use std::rt::Files;
 use std::sync::Wait;
 use std::thread::Threads;
 
+/// What the help says of `demo`.
+pub const ABOUT: &str = "Runs a small cache in threads for a configuration, and writes its trace";
+
+/// What the help says after the arguments.
+pub const HELP: &str = "\
+Answers:
+  demo events=200              so many events are written
+  refused write                the file cannot be written
+  refused turns                a thread made no progress
+  refused thread               a thread was refused
+  refused config Missing tags  the configuration says no hierarchy
+  refused read config          the file cannot be read
+  refused usage                the words are none of a command
+  refused memory               there is not enough memory
+
+Two runs may write different traces: the threads run as they come.
+
+Exit status:
+  0  written
+  2  refused
+
+Examples:
+  score demo small.toml demo.lfts && score check small.toml demo.lfts";
+
 /// A thread that makes so many turns without an event gives up.
 pub const DEMO_TURNS: u32 = 10_000_000;
 

@@ -2,29 +2,35 @@
 //! that a configuration says, and prints one line: a yes with the number of events, a no with the fault
 //! and its place, or why the trace is not judged. `score stats CONFIG TRACE` prints the statistics of a
 //! trace that is legal, `score demo CONFIG OUT` records a small cache in threads, and `score watch CONFIG
-//! TRACE` ends as soon as a trace broke for good. The status is 0 for a yes, 1 for a no and 2 for a refusal.
+//! TRACE` ends as soon as a trace broke for good. `score help COMMAND` says more of each. The status is 0
+//! for a yes, 1 for a no and 2 for a refusal.
 #![tactic(auto)]
 
+mod check;
 mod command;
 mod configuration;
 mod demonstration;
+mod help;
+mod progress;
+mod stats;
 #[cfg(test)]
 mod tests;
 mod trace;
 mod watch;
 
+use check::check;
 use command::{CommandFault, Request, asked};
 use configuration::{bytes_at, text_in};
 use demonstration::{Demonstration, demonstrate};
-use lf_engine::{Counted, InputFault, Line, RunFault, are_workers, run, run_stats};
+use lf_engine::{InputFault, Line, RunFault};
 use lf_verdict::Verdict;
+use stats::stats;
 use std::io;
-use std::io::{ErrorKind, Read};
+use std::io::ErrorKind;
 use std::process::ExitCode;
 use std::rt::{Env, Files};
 use std::sync::Wait;
 use std::thread::Threads;
-use trace::Trace;
 use watch::watch;
 
 const NO: u8 = 1;
@@ -45,55 +51,8 @@ fn status_of(answer: &Result<Verdict, RunFault>) -> ExitCode {
     }
 }
 
-fn judge<T: Print + AllocGlobal + Threads + Sync + Send + Copy + 'static, R: Read + Drop>(
-    rt: &T,
-    config: &str,
-    trace: R,
-    workers: u32,
-) -> ExitCode {
-    let mut reader = Counted::new(trace);
-    let mut writer = Counted::new(io::writer(rt));
-    status_of(&run(rt, &mut reader, &mut writer, config, workers, u32::MAX))
-}
-
-/// Judges the workers before it opens a file, and the configuration before the trace is read.
-fn check<T: Print + Files + AllocGlobal + Threads + Sync + Send + Copy + 'static>(
-    rt: &T,
-    config: &str,
-    trace: &str,
-    workers: u32,
-) -> io::Result<ExitCode>
-where
-    T::File: Drop,
-{
-    if !are_workers(workers) {
-        return Ok(judge(rt, "", io::empty(), workers));
-    }
-    let read = bytes_at(rt, config);
-    match text_in(&read) {
-        Ok(text) => Ok(judge(rt, text, Trace::open(rt, trace), workers)),
-        Err(why) => refused(rt, why),
-    }
-}
-
-/// Judges the configuration before the trace is read.
-fn stats<T: Print + Files + AllocGlobal>(rt: &T, config: &str, trace: &str) -> io::Result<ExitCode>
-where
-    T::File: Drop,
-{
-    let read = bytes_at(rt, config);
-    let text = match text_in(&read) {
-        Ok(text) => text,
-        Err(why) => return refused(rt, why),
-    };
-    let mut reader = Counted::new(Trace::open(rt, trace));
-    let mut writer = Counted::new(io::writer(rt));
-    let answer = run_stats(rt, &mut reader, &mut writer, text, u32::MAX);
-    Ok(status_of(&answer))
-}
-
 /// Reads the configuration before the demonstration runs.
-fn demo<T: Print + Files + AllocGlobal + Threads + Wait + Sync>(
+fn demo<T: Print + Input + Files + AllocGlobal + Threads + Wait + Sync>(
     rt: &T,
     config: &str,
     out: &str,
@@ -114,9 +73,20 @@ where
     }
 }
 
-fn start<T: Env + Print + Files + AllocGlobal + Threads + Wait + Sync + Send + Copy + 'static>(
-    rt: &T,
-) -> io::Result<ExitCode>
+fn start<
+    T: Env
+        + Print
+        + Eprint
+        + Input
+        + Files
+        + AllocGlobal
+        + Threads
+        + Wait
+        + Sync
+        + Send
+        + Copy
+        + 'static,
+>(rt: &T) -> io::Result<ExitCode>
 where
     T::File: Drop,
 {
@@ -138,9 +108,16 @@ where
                 config,
                 trace,
                 workers,
+                progress,
             },
-        ) => check(rt, config, trace, u32::from(workers)),
-        Ok(Request::Stats { config, trace }) => stats(rt, config, trace),
+        ) => check(rt, config, trace, u32::from(workers), progress),
+        Ok(
+            Request::Stats {
+                config,
+                trace,
+                progress,
+            },
+        ) => stats(rt, config, trace, progress),
         Ok(Request::Demo { config, out }) => demo(rt, config, out),
         Ok(Request::Watch { config, trace }) => watch(rt, config, trace),
         Err(CommandFault::Help(help)) => {

@@ -4,29 +4,47 @@ use std::io;
 use std::io::{ErrorKind, Read};
 use std::rt::Files;
 
-/// A file, or one that could not be opened, whose reads fail.
+/// The word of the command line that stands for standard input where a file is read.
+pub const STANDARD_INPUT: &str = "-";
+
+/// A file, standard input, or a file that could not be opened, whose reads fail.
 #[derive(Drop)]
-pub enum Trace<F> {
+pub enum Trace<F, I> {
     Open(F),
+    Input(I),
     /// What each read answers.
     Failed(ErrorKind),
 }
 
-impl<F> Trace<F> {
-    /// The file at this path.
-    pub fn open<R: Files<File = F>>(files: &R, path: &str) -> Trace<F> {
-        match std::fs::open(files, path) {
+impl<F, I> Trace<F, I> {
+    /// The file at this path, or standard input for `-`.
+    pub fn open<R: Files<File = F> + Input<Reader = I>>(rt: &R, path: &str) -> Trace<F, I> {
+        if path == STANDARD_INPUT {
+            return Trace::Input(rt.reader());
+        }
+        match std::fs::open(rt, path) {
             Ok(file) => Trace::Open(file),
             Err(e) => Trace::Failed(e.kind()),
         }
     }
 }
 
-impl<F: Read> Read for Trace<F> {
+impl<F: Read, I: Read> Read for Trace<F, I> {
     fn read(&mut self, buf: &mut [u8]) -> io::Result<usize> {
         match self {
             Trace::Open(file) => file.read(buf),
+            Trace::Input(input) => input.read(buf),
             Trace::Failed(kind) => Err(io::Error::from(*kind)),
         }
+    }
+}
+
+/// How many bytes the file at this path has, where it is a regular one.
+pub fn size_of_file<R: Files>(files: &R, path: &str) -> Option<u64> {
+    let metadata = std::fs::metadata(files, path).ok()?;
+    if metadata.is_file() {
+        Some(metadata.len())
+    } else {
+        None
     }
 }

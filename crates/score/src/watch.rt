@@ -11,29 +11,35 @@ use std::rt::Files;
 
 /// What the help says of `watch`.
 pub const ABOUT: &str =
-    "Judges a trace while it comes, and ends at the first fault that no bytes behind it can undo.";
+    "Judges a trace while it comes, and ends at the first fault that no bytes behind it can undo";
 
 /// What the help says after the arguments.
 pub const HELP: &str = "\
-The answer of watch is one line on standard output, within the read that completes the record:
+Answers:
   broken bank=0 number=5 rule=ReplyData upon log=0 event=1
-                                      the bank's event of this number breaks the rule, and the event at place 1 of
-                                      log 0 is the first of the trace upon which a port or a bank broke
   broken port=0 event=1 rule=TagBusy upon log=0 event=1
   broken numbering bank=0 double=2 upon log=1 event=7
-  broken header Ports                 the trace is one of another hierarchy
-Where nothing broke before the end of the trace, it is the line of check.
+  broken header Ports
 
-The status is 1 for a broken part, 2 for a header of another hierarchy, otherwise that of check.
+The first three name the fault as check does, and the event of the trace
+upon which a port or a bank broke first: here the one at place 1 of log 0.
+The line comes within the read that completes that record. The last one
+says that the trace is one of another hierarchy.
 
-So a simulation ends by a closed pipe as soon as its trace cannot become a legal one:
-  simulation | score watch small.toml -
-A TRACE of - is standard input. It may be a FIFO too.";
+Where nothing broke before the end of the trace, the line is that of
+check; see score help check.
 
-/// The path of the trace: `-` is standard input.
-fn path_of(trace: &str) -> &str {
-    if trace == "-" { "/dev/stdin" } else { trace }
-}
+So a simulation ends by a closed pipe as soon as its trace cannot become a
+legal one. TRACE may be a FIFO too.
+
+Exit status:
+  0  yes
+  1  no, or something broke
+  2  refused, or the header is one of another hierarchy
+
+Examples:
+  score watch small.toml run.lfts
+  simulate | score watch small.toml -";
 
 fn status_of_watch(answer: Result<Watched, RunFault>) -> ExitCode {
     match answer {
@@ -45,7 +51,7 @@ fn status_of_watch(answer: Result<Watched, RunFault>) -> ExitCode {
 }
 
 /// Judges the configuration before the trace is read.
-pub fn watch<T: Print + Files + AllocGlobal>(
+pub fn watch<T: Print + Input + Files + AllocGlobal>(
     rt: &T,
     config: &str,
     trace: &str,
@@ -58,7 +64,7 @@ where
         Ok(text) => text,
         Err(why) => return refused(rt, why),
     };
-    let mut reader = Counted::new(Trace::open(rt, path_of(trace)));
+    let mut reader = Counted::new(Trace::open(rt, trace));
     let mut writer = Counted::new(io::writer(rt));
     let answer = run_watch(rt, &mut reader, &mut writer, text, u32::MAX);
     Ok(status_of_watch(answer))

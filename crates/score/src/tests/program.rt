@@ -2,12 +2,13 @@
 
 use crate::command::{CommandFault, Request, asked};
 use crate::configuration::{MOST_BYTES, bytes_at, bytes_within, text_in};
+use crate::progress::{Progress, line_of};
 use crate::tests::demonstration::SMALL_TEXT;
 use crate::trace::Trace;
 use lf_engine::{Counted, InputFault, RunFault, run};
 use std::alloc::{AllocError, Global};
 use std::io;
-use std::io::{Empty, ErrorKind};
+use std::io::{Empty, ErrorKind, Read};
 use std::process::Abort;
 use std::test::Fail;
 
@@ -32,6 +33,7 @@ fn is_check<T: Abort + AllocGlobal>(
         config,
         trace,
         workers,
+        progress: false,
     };
     assert_eq!(rt;
         asked(rt.alloc(), words.as_slice()).ok(),
@@ -87,30 +89,55 @@ fn refused_usage(rt: HostRuntime) -> Result<(), Fail> {
         "score judge c.toml a.lfts",
         "score c.toml a.lfts",
         "score check --version",
+        "score check - -",
+        "score stats - -",
+        "score watch - -",
+        "score help judge",
+        "score check c.toml a.lfts --progress=yes",
     ] {
         is_refused(&rt, line)?;
     }
     Ok(())
 }
 
-#[test]
-fn help_is_asked_for(rt: HostRuntime) -> Result<(), Fail> {
-    for line in ["score --help", "score -h", "score check --help"] {
-        let words = words_of(rt.alloc(), line)?;
-        let Err(CommandFault::Help(help)) = asked(rt.alloc(), words.as_slice()) else {
-            return Err(Fail::new("no help"));
-        };
-        assert_eq!(rt; help.exit_code(), 0);
-        let text = format!(in rt.alloc(); "{help}")?;
-        assert!(rt; text.contains("refused format Truncated at=16"), "{line}");
-        assert!(rt;
-            text.contains("The status is 0 for yes, 1 for no and 2 for refused."),
-            "{line}"
-        );
-        assert!(rt; text.contains("blocks (level2.blocks)"), "{line}");
-        assert!(rt; text.contains("version 1, 2 or 3"), "{line}");
+/// Fails where the words ask for no help, or for one without these texts.
+fn has_help<T: Abort + AllocGlobal>(rt: &T, line: &str, texts: &[&str]) -> Result<(), Fail> {
+    let words = words_of(rt.alloc(), line)?;
+    let Err(CommandFault::Help(help)) = asked(rt.alloc(), words.as_slice()) else {
+        return Err(Fail::new("no help"));
+    };
+    assert_eq!(rt; help.exit_code(), 0);
+    let text = format!(in rt.alloc(); "{help}")?;
+    for part in texts {
+        assert!(rt; text.contains(*part), "{line}: {part}");
     }
     Ok(())
+}
+
+#[test]
+fn help_is_asked_for(rt: HostRuntime) -> Result<(), Fail> {
+    let whole = [
+        "score help COMMAND has the answers",
+        "  2  refused: the input cannot be judged",
+        "level2 may have the key blocks",
+        "version 1, 2 or 3",
+    ];
+    for line in ["score --help", "score -h", "score help"] {
+        has_help(&rt, line, whole.as_slice())?;
+    }
+    let check = [
+        "refused format Truncated at=16",
+        "--workers <N>",
+        "--progress",
+        "Examples:",
+    ];
+    for line in ["score check --help", "score check -h", "score help check"] {
+        has_help(&rt, line, check.as_slice())?;
+    }
+    let demo = ["demo events=200", "refused turns", "Examples:"];
+    has_help(&rt, "score help demo", demo.as_slice())?;
+    let watch = ["broken header Ports", "closed pipe", "Examples:"];
+    has_help(&rt, "score help watch", watch.as_slice())
 }
 
 #[test]
@@ -124,7 +151,7 @@ fn version_is_asked_for(rt: HostRuntime) -> Result<(), Fail> {
         let text = format!(in rt.alloc(); "{version}")?;
         assert_eq!(rt;
             text.as_str(),
-            "score 0.1.0\nrattle-kit-13f logic dac8208d650f15bf\n"
+            "score 0.2.0\nrattle-kit-13f logic dac8208d650f15bf\n"
         );
     }
     Ok(())
@@ -132,7 +159,7 @@ fn version_is_asked_for(rt: HostRuntime) -> Result<(), Fail> {
 
 #[test]
 fn file_that_cannot_be_opened(rt: HostRuntime) -> Result<(), Fail> {
-    let trace: Trace<Empty> = Trace::Failed(ErrorKind::NotFound);
+    let trace: Trace<Empty, Empty> = Trace::Failed(ErrorKind::NotFound);
     let mut reader = Counted::new(trace);
     let mut writer = Counted::new(Vec::new(rt.alloc()));
     let answer = run(&rt, &mut reader, &mut writer, SMALL_TEXT, 1, 1000);
@@ -210,7 +237,11 @@ fn words_of_stats(rt: HostRuntime) -> Result<(), Fail> {
     let (config, trace) = ("c.toml", "a.lfts");
     assert_eq!(rt;
         asked(rt.alloc(), words.as_slice()).ok(),
-        Some(Request::Stats { config, trace })
+        Some(Request::Stats {
+            config,
+            trace,
+            progress: false,
+        })
     );
     for line in [
         "score stats",
@@ -225,22 +256,16 @@ fn words_of_stats(rt: HostRuntime) -> Result<(), Fail> {
 
 #[test]
 fn help_of_stats(rt: HostRuntime) -> Result<(), Fail> {
-    for line in ["score --help", "score stats --help"] {
-        let words = words_of(rt.alloc(), line)?;
-        let Err(CommandFault::Help(help)) = asked(rt.alloc(), words.as_slice()) else {
-            return Err(Fail::new("no help"));
-        };
-        let text = format!(in rt.alloc(); "{help}")?;
-        for counted in [
-            "  hits        requests",
-            "  primary     misses",
-            "  merges      misses",
-            "  stalls      misses",
-            "  peak        the greatest number of registers",
-            "  unanswered  tags",
-        ] {
-            assert!(rt; text.contains(counted), "{line}: {counted}");
-        }
+    let counted = [
+        "  hits        requests",
+        "  primary     misses",
+        "  merges      misses",
+        "  stalls      misses",
+        "  peak        the greatest number of registers",
+        "  unanswered  tags",
+    ];
+    for line in ["score help stats", "score stats --help"] {
+        has_help(&rt, line, counted.as_slice())?;
     }
     Ok(())
 }
@@ -266,5 +291,54 @@ fn words_of_watch(rt: HostRuntime) -> Result<(), Fail> {
     ] {
         is_refused(&rt, line)?;
     }
+    Ok(())
+}
+
+#[test]
+fn words_of_progress(rt: HostRuntime) -> Result<(), Fail> {
+    let (config, trace) = ("-", "./-");
+    let words = words_of(rt.alloc(), "score check - ./- --progress")?;
+    let check = Request::Check {
+        config,
+        trace,
+        workers: 1,
+        progress: true,
+    };
+    assert_eq!(rt; asked(rt.alloc(), words.as_slice()).ok(), Some(check));
+    let words = words_of(rt.alloc(), "score stats --progress - ./-")?;
+    let stats = Request::Stats {
+        config,
+        trace,
+        progress: true,
+    };
+    assert_eq!(rt; asked(rt.alloc(), words.as_slice()).ok(), Some(stats));
+    Ok(())
+}
+
+#[test]
+fn lines_of_progress(rt: HostRuntime) -> Result<(), Fail> {
+    for (read, size, line) in [
+        (50, Some(200), "read 50 of 200 bytes, 25%"),
+        (3, Some(0), "read 3 bytes"),
+        (3, None, "read 3 bytes"),
+        (
+            u64::MAX,
+            Some(u64::MAX),
+            "read 18446744073709551615 of 18446744073709551615 bytes, 100%",
+        ),
+    ] {
+        let text = line_of(rt.alloc(), read, size)?;
+        assert_eq!(rt; text.as_str(), line);
+    }
+    Ok(())
+}
+
+/// A reader that tells how far it is gives the bytes of the one below it.
+#[test]
+fn progress_gives_the_bytes(rt: HostRuntime) -> Result<(), Fail> {
+    let mut bytes = Vec::new(rt.alloc());
+    Progress::silent(&rt, b"trace".as_slice()).read_to_end(&mut bytes)?;
+    Progress::telling(&rt, b" of bytes".as_slice(), Some(9)).read_to_end(&mut bytes)?;
+    assert_eq!(rt; bytes.as_slice(), b"trace of bytes".as_slice());
     Ok(())
 }

@@ -1,0 +1,29 @@
+# Completions of score for bash. Made by tools/make_man from what score help prints.
+_score() {
+  local word=${COMP_WORDS[COMP_CWORD]} before=${COMP_WORDS[COMP_CWORD - 1]} options='' valued=''
+  COMPREPLY=()
+  if ((COMP_CWORD == 1)); then
+    mapfile -t COMPREPLY < <(compgen -W 'check stats demo watch help -h --help -V --version' -- "$word")
+    return
+  fi
+  case ${COMP_WORDS[1]} in
+    check) options='--workers --progress -h --help' valued='--workers' ;;
+    stats) options='--progress -h --help' valued='' ;;
+    demo) options='-h --help' valued='' ;;
+    watch) options='-h --help' valued='' ;;
+    help)
+      mapfile -t COMPREPLY < <(compgen -W 'check stats demo watch' -- "$word")
+      return
+      ;;
+  esac
+  if [[ " $valued " == *" $before "* ]]; then
+    return # a value, of which nothing is known
+  fi
+  if [[ $word == -* ]]; then
+    mapfile -t COMPREPLY < <(compgen -W "$options" -- "$word")
+  else
+    compopt -o filenames
+    mapfile -t COMPREPLY < <(compgen -f -- "$word")
+  fi
+}
+complete -F _score score

@@ -1,0 +1,80 @@
+//! `score check`: judges a trace, and prints one line.
+
+use crate::configuration::{bytes_at, text_in};
+use crate::progress::reader_of;
+use crate::{refused, status_of};
+use lf_engine::{Counted, are_workers, run};
+use std::io;
+use std::io::Read;
+use std::process::ExitCode;
+use std::rt::Files;
+use std::thread::Threads;
+
+/// What the help says of `check`.
+pub const ABOUT: &str =
+    "Judges a trace for the hierarchy that a configuration says, and prints one line";
+
+/// What the help says after the arguments.
+pub const HELP: &str = "\
+Answers:
+  yes events=6                       some order of all events is a legal run
+  no port=0 event=1 rule=TagBusy     the port's event of this place breaks
+                                     the rule
+  no bank=0 number=5 rule=ReplyData  the bank's event of this number breaks
+                                     the rule
+  no numbering bank=0 missing=2      no event of the bank has this number
+  no numbering bank=0 double=2       two events of the bank have it
+  no cycle logs=0,1                  the logs wait for one another
+  refused format Truncated at=16     the bytes are no trace from this one on
+  refused header Ports               the trace is one of another hierarchy
+  refused config Missing tags        the configuration says no hierarchy
+  refused read trace                 the file cannot be read
+  refused read config                the file cannot be read
+  refused workers 17                 there are 1 to 16
+  refused usage                      the words are none of a command
+  refused memory                     there is not enough memory
+
+Places, numbers, ports, banks and logs count from 0. docs/RULES.md has
+each rule, docs/GUIDE.md what usually breaks it.
+
+With --progress, standard error has a line for each twentieth of a file,
+and for each 64 MiB of a TRACE whose size is not known. Without it nothing
+is written there.
+
+Exit status:
+  0  yes
+  1  no
+  2  refused
+
+Examples:
+  score check small.toml run.lfts
+  score check --workers 4 --progress small.toml run.lfts
+  zstd -dc run.lfts.zst | score check small.toml -";
+
+fn judge<T: Print + AllocGlobal + Threads + Sync + Send + Copy + 'static, R: Read + Drop>(
+    rt: &T,
+    config: &str,
+    trace: R,
+    workers: u32,
+) -> ExitCode {
+    let mut reader = Counted::new(trace);
+    let mut writer = Counted::new(io::writer(rt));
+    status_of(&run(rt, &mut reader, &mut writer, config, workers, u32::MAX))
+}
+
+/// Judges the workers before it opens a file, and the configuration before the trace is read.
+pub fn check<
+    T: Print + Eprint + Input + Files + AllocGlobal + Threads + Sync + Send + Copy + 'static,
+>(rt: &T, config: &str, trace: &str, workers: u32, progress: bool) -> io::Result<ExitCode>
+where
+    T::File: Drop,
+{
+    if !are_workers(workers) {
+        return Ok(judge(rt, "", io::empty(), workers));
+    }
+    let read = bytes_at(rt, config);
+    match text_in(&read) {
+        Ok(text) => Ok(judge(rt, text, reader_of(rt, trace, progress), workers)),
+        Err(why) => refused(rt, why),
+    }
+}

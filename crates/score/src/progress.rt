@@ -1,0 +1,105 @@
+//! How far the reading of a trace is, line by line on standard error.
+
+use crate::trace::{Trace, size_of_file};
+use std::alloc::{AllocError, Global};
+use std::io;
+use std::io::Read;
+use std::rt::Files;
+
+/// Where the size of the trace is known, a line comes each time that this part of it was read.
+const PARTS: u64 = 20;
+
+/// Where it is not, a line comes each time that so many bytes were read.
+const STRIDE: u64 = 64 << 20;
+
+/// A reader that tells how many bytes it gave.
+#[derive(Drop)]
+pub struct Progress<'a, P, R> {
+    rt: &'a P,
+    reader: R,
+    /// All bytes that there are, where that is known.
+    size: Option<u64>,
+    /// So many bytes are read between two lines. Without it there are no lines.
+    stride: Option<u64>,
+    read: u64,
+    /// The bytes that the last line told.
+    told: u64,
+}
+
+/// What a line says: so many bytes were read, of so many.
+pub fn line_of(alloc: Global, read: u64, size: Option<u64>) -> Result<String, AllocError> {
+    match size {
+        Some(size) if size > 0 => {
+            let percent = u128::from(read) * 100 / u128::from(size);
+            format!(in alloc; "read {read} of {size} bytes, {percent}%")
+        }
+        _ => format!(in alloc; "read {read} bytes"),
+    }
+}
+
+impl<'a, P: Eprint + AllocGlobal, R> Progress<'a, P, R> {
+    /// A reader that tells nothing.
+    pub fn silent(rt: &'a P, reader: R) -> Progress<'a, P, R> {
+        Progress {
+            rt,
+            reader,
+            size: None,
+            stride: None,
+            read: 0,
+            told: 0,
+        }
+    }
+
+    /// A reader that tells how much of these bytes it gave.
+    pub fn telling(rt: &'a P, reader: R, size: Option<u64>) -> Progress<'a, P, R> {
+        let stride = match size {
+            Some(size) => size / PARTS,
+            None => STRIDE,
+        };
+        Progress {
+            rt,
+            reader,
+            size,
+            stride: Some(stride),
+            read: 0,
+            told: 0,
+        }
+    }
+
+    /// Tells a line where one is due: a part was read, or the end came. A line that cannot be written is left out.
+    fn tell(&mut self, count: usize) {
+        let Some(stride) = self.stride else {
+            return;
+        };
+        self.read = self.read.saturating_add(count as u64);
+        let untold = self.read.saturating_sub(self.told);
+        if untold > 0 && (untold >= stride || count == 0) {
+            self.told = self.read;
+            if let Ok(line) = line_of(self.rt.alloc(), self.read, self.size) {
+                let _ = eprintln!(self.rt; "{line}");
+            }
+        }
+    }
+}
+
+impl<P: Eprint + AllocGlobal, R: Read> Read for Progress<'_, P, R> {
+    fn read(&mut self, buf: &mut [u8]) -> io::Result<usize> {
+        let count = self.reader.read(buf)?;
+        self.tell(count);
+        Ok(count)
+    }
+}
+
+/// The reader of the trace at this path, which tells how far it is where that is asked for.
+pub fn reader_of<'a, T: Eprint + Input + Files + AllocGlobal>(
+    rt: &'a T,
+    trace: &str,
+    progress: bool,
+) -> Progress<'a, T, Trace<T::File, T::Reader>> {
+    let reader = Trace::open(rt, trace);
+    if progress {
+        Progress::telling(rt, reader, size_of_file(rt, trace))
+    } else {
+        Progress::silent(rt, reader)
+    }
+}
