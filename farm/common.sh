@@ -32,7 +32,7 @@ begin() {
   fi
 }
 
-# The traces that have no answer yet, each with its line in the list. A refusal for want of memory is none.
+# The traces that have no answer yet, each with its line in the list. A refusal for out of memory is none.
 todo() {
   awk -v OFS='\t' -v rows="$out/rows/" '{
     row = ""; file = rows NR; getline row < file; close(file)
