@@ -1,5 +1,7 @@
 //! How far the reading of a trace is, line by line on standard error.
 
+ghost use Rattle.std.specs.Prelude.{◌≡◌};
+
 use crate::trace::{Trace, size_of_file};
 use std::alloc::{AllocError, Global};
 use std::io;
@@ -67,7 +69,9 @@ impl<'a, P: Eprint + AllocGlobal, R> Progress<'a, P, R> {
     }
 
     /// Tells a line where one is due: a part was read, or the end came. A line that cannot be written is left out.
-    fn tell(&mut self, count: usize) {
+    fn tell(&mut self, count: usize)
+        ensures { self.new.reader ≡ self.old.reader }
+    {
         let Some(stride) = self.stride else {
             return;
         };
@@ -82,7 +86,10 @@ impl<'a, P: Eprint + AllocGlobal, R> Progress<'a, P, R> {
     }
 }
 
+/// The bytes that are left are those of the reader below, so what is proved of that one holds of this one.
 impl<P: Eprint + AllocGlobal, R: Read> Read for Progress<'_, P, R> {
+    ghost remaining = { λ p. R.remaining p.reader };
+
     fn read(&mut self, buf: &mut [u8]) -> io::Result<usize> {
         let count = self.reader.read(buf)?;
         self.tell(count);
