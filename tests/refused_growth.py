@@ -81,17 +81,17 @@ int pthread_create(pthread_t *thread, const pthread_attr_t *how, void *(*start)(
 
 # Commands of the program, each with what it prints with ample memory.
 COMMANDS = [
-    ("check", "c1.toml", "empty_trace.lfts", "yes events=0"),
-    ("check", "c1.toml", "load_misses_both_levels.lfts", "yes events=6"),
-    ("check", "c1.toml", "load_merges_behind_store.lfts", "yes events=9"),
-    ("check", "c1.toml", "reply_with_a_wrong_byte.lfts", "no bank=0 number=5 rule=ReplyData"),
-    ("check", "c1.toml", "initial_memory.lfts", "yes events=6"),
+    ("check", "small.toml", "empty_trace.lfts", "yes events=0"),
+    ("check", "small.toml", "load_misses_both_levels.lfts", "yes events=6"),
+    ("check", "small.toml", "load_merges_behind_store.lfts", "yes events=9"),
+    ("check", "small.toml", "reply_with_a_wrong_byte.lfts", "no bank=0 number=5 rule=ReplyData"),
+    ("check", "small.toml", "initial_memory.lfts", "yes events=6"),
     ("check", "two_ports.toml", "cycle_of_two_logs.lfts", "no cycle logs=0,1"),
     ("check", "four_banks.toml", "lowest_bank.lfts", "no bank=1 number=0 rule=NotHead"),
     ("check", "four_ports.toml", "four_ports.lfts", "yes events="),
     ("check", "four_ports_wide.toml", "four_ports_wide.lfts", "yes events="),
-    ("stats", "c1.toml", "load_merges_behind_store.lfts", "bank=0 hits=0 primary=1 merges=1 stalls=0 peak=1"),
-    ("stats", "c1.toml", "explicit_entries_full.lfts", "bank=0 hits=0 primary=1 merges=1 stalls=1 peak=1"),
+    ("stats", "small.toml", "load_merges_behind_store.lfts", "bank=0 hits=0 primary=1 merges=1 stalls=0 peak=1"),
+    ("stats", "small.toml", "explicit_entries_full.lfts", "bank=0 hits=0 primary=1 merges=1 stalls=1 peak=1"),
     ("stats", "inverted.toml", "inverted_two_registers.lfts", "bank=0 hits=0 primary=1 merges=1 stalls=0 peak=2"),
 ]
 
@@ -260,7 +260,7 @@ def sweep_program(runs, folder):
     words = [score, command, os.path.join(EXAMPLES, config), os.path.join(EXAMPLES, trace), "--workers", "2"]
     if subprocess.run(words, capture_output=True).stdout.startswith(line.encode()):
         runs.sweep(f"score {command} {trace} --workers 2", words, judge_line(line), folder)
-    for shape in ("c1.toml", "two_ports.toml", "four_ports_wide.toml"):
+    for shape in ("small.toml", "two_ports.toml", "four_ports_wide.toml"):
         words = [score, "demo", os.path.join(EXAMPLES, shape), os.path.join(folder, "demo.lfts")]
         numbers = iter([*range(1, 150), *range(150, 3000, 37)])
         runs.sweep(f"score demo {shape}", words, judge_demo, folder, numbers)
