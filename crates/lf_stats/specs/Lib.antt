@@ -2,5 +2,6 @@
 pub mod Statistics
 pub mod Answer
 pub mod Text
+pub mod Incomplete
 -- For the contracts of the crate alone: what is held between two records.
 pub mod Standing

@@ -5,11 +5,13 @@
 mod bank;
 mod counts;
 mod held;
+mod incomplete;
 mod issued;
 mod port;
 mod statistics;
 mod text;
 
 pub use counts::{BankStats, Stats};
+pub use incomplete::{Incomplete, first_incomplete};
 pub use lf_rules::NoMemory;
 pub use statistics::stats;

@@ -1,6 +1,6 @@
 use Rattle.std.proofs.Common.{◌≡◌, ℕ, ◌<◌, false, take, get_or, length}
 use Rattle.lf_stats.specs.Statistics.{waits}
-use Rattle.lf_stats.proofs.port.unanswered.Given as goal
+use Rattle.lf_stats.proofs.port.waits_of.Given as goal
 
 abbrev pub invariant-loop-item : goal.invariant-loop-item
 invariant-loop-item l = record {
