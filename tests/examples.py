@@ -5,7 +5,7 @@
 
 A row is a configuration, a trace and what is printed of them: one line for `check`, several for `stats`. Beside
 the text, the status must be that of the answer and standard error must be empty. `check` has the same answer for
-1, 2, 4 and 16 workers. Each trace and each configuration of examples/ must stand in a row. The status is 1 where
+1, 2, 4 and 16 workers, and with `--complete` too, but for a yes where a reply is missing. Each trace and each configuration of examples/ must stand in a row. The status is 1 where
 anything differs. PROGRAM is crates/score/out/score where it is left out."""
 
 import argparse
@@ -15,6 +15,9 @@ import subprocess
 import sys
 
 TOP = pathlib.Path(__file__).resolve().parent.parent
+sys.path.insert(0, str(TOP / "recorders/python/src"))
+
+import lfts  # noqa: E402
 EXAMPLES = TOP / "examples"
 ROW = re.compile(r"^\| `(\S+\.toml)` \| `(\S+\.lfts)` \| (`.*`) \|$", re.M)
 STATUS = {"yes": 0, "no": 1, "refused": 2, "bank": 0}
@@ -29,13 +32,27 @@ def rows():
             for config, trace, lines in found]
 
 
-def commands(config, trace, text):
-    """The words of each run that has to print this text."""
+def complete(trace, text):
+    """What `check --complete` prints where `check` prints this."""
+    if not text.startswith("yes"):
+        return text
+    waiting = set()
+    for item in lfts.Reader((EXAMPLES / trace).open("rb")):
+        if isinstance(item, lfts.Record) and isinstance(item.event, lfts.Issue):
+            waiting.add((item.log, item.event.tag))
+        elif isinstance(item, lfts.Record) and isinstance(item.event, lfts.Reply):
+            waiting.remove((item.log, item.event.tag))
+    return "no incomplete port={} tag={}\n".format(*min(waiting)) if waiting else text
+
+
+def runs_of(config, trace, text):
+    """The words of each run of these files, and the text that it has to print."""
     files = [str(EXAMPLES / config), str(EXAMPLES / trace)]
     if text.startswith("bank="):
-        return [["stats", *files]]
-    checks = [["check", *files, "--workers", str(count)] for count in WORKERS]
-    return checks if text.startswith("yes") else [*checks, ["stats", *files]]
+        return [(["stats", *files], text)]
+    checks = [(["check", *files, "--workers", str(count)], text) for count in WORKERS]
+    checks.append((["check", *files, "--complete"], complete(trace, text)))
+    return checks if text.startswith("yes") else [*checks, (["stats", *files], text)]
 
 
 def difference(program, words, text):
@@ -62,9 +79,9 @@ def main():
         parser.error(f"{program} is not built")
     all_rows, runs, differences = rows(), 0, []
     for config, trace, text in all_rows:
-        for words in commands(config, trace, text):
+        for words, due in runs_of(config, trace, text):
             runs += 1
-            found = difference(program, words, text)
+            found = difference(program, words, due)
             if found:
                 differences.append(f"{config} {trace}: {words[0]} {' '.join(words[3:])}".rstrip() + f": {found}")
     named = {name for row in all_rows for name in row[:2]}

@@ -4,3 +4,4 @@ pub mod GatheringLemmas
 pub mod ReportLemmas
 pub mod TellingLemmas
 pub mod ProgramLemmas
+pub mod CompletionLemmas

@@ -4,3 +4,4 @@ pub mod Report
 pub mod Line
 pub mod Gathered
 pub mod Watch
+pub mod Complete

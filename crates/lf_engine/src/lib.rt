@@ -2,12 +2,14 @@
 //! of its verdict goes to a writer.
 //!
 //! `run` judges for the text of a configuration, `run_shape` for a shape. `run_stats` also counts over
-//! a trace that is legal, and writes the lines of its statistics. `run_watch` reads no further than to the
+//! a trace that is legal, and writes the lines of its statistics. `run_complete` asks whether each request of
+//! a legal trace has a reply. `run_watch` reads no further than to the
 //! piece with which a trace broke for good. Both streams are `Counted`, so that
 //! the contracts can say how often they were called, when a call failed, and which bytes the reads
 //! answered and the writes took. `Line` is each line that a program over the engine prints.
 #![tactic(auto)]
 
+mod complete;
 mod engine;
 mod fault;
 mod gathering;
@@ -18,6 +20,7 @@ mod statistics;
 mod watch;
 mod watching;
 
+pub use complete::{Completion, run_complete};
 pub use engine::{are_workers, run, run_shape};
 pub use fault::RunFault;
 pub use lf_stream::Counted;

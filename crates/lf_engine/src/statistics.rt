@@ -36,7 +36,7 @@ fn out_of_memory(bytes: Vec<u8>) -> Judged
 }
 
 /// Reads, keeps what it read, and judges.
-fn judge_and_keep<T: AllocGlobal, S: Source>(
+pub fn judge_and_keep<T: AllocGlobal, S: Source>(
     rt: &T,
     source: &mut S,
     shape: &Shape,

@@ -2,6 +2,8 @@
 #![tactic(auto)]
 
 #[cfg(test)]
+mod complete;
+#[cfg(test)]
 mod configured;
 #[cfg(test)]
 mod counts;

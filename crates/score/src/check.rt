@@ -2,8 +2,8 @@
 
 use crate::configuration::{bytes_at, text_in};
 use crate::progress::reader_of;
-use crate::{refused, status_of};
-use lf_engine::{Counted, are_workers, run};
+use crate::{NO, refused, status_of};
+use lf_engine::{Completion, Counted, are_workers, run, run_complete};
 use std::io;
 use std::io::Read;
 use std::process::ExitCode;
@@ -25,6 +25,8 @@ Answers:
   no numbering bank=0 missing=2      no event of the bank has this number
   no numbering bank=0 double=2       two events of the bank have it
   no cycle logs=0,1                  the logs wait for one another
+  no incomplete port=0 tag=3         with --complete alone: the tag's last
+                                     request has no reply in the trace
   refused format Truncated at=16     the bytes are no trace from this one on
   refused header Ports               the trace is one of another hierarchy
   refused config Missing tags        the configuration says no hierarchy
@@ -37,6 +39,11 @@ Answers:
 Places, numbers, ports, banks and logs count from 0. docs/RULES.md has
 each rule, docs/GUIDE.md what usually breaks it.
 
+A trace may end anywhere, so one of a design that hangs can be legal. With
+--complete, a legal trace is also asked for a reply to each request, and
+the lowest tag of the lowest port that has none is told. One thread judges
+it then.
+
 With --progress, standard error has a line for each twentieth of a file,
 and for each 64 MiB of a TRACE whose size is not known. Without it nothing
 is written there.
@@ -48,6 +55,7 @@ Exit status:
 
 Examples:
   score check small.toml run.lfts
+  score check --complete small.toml run.lfts
   score check --workers 4 --progress small.toml run.lfts
   zstd -dc run.lfts.zst | score check small.toml -";
 
@@ -62,19 +70,56 @@ fn judge<T: Print + AllocGlobal + Threads + Sync + Send + Copy + 'static, R: Rea
     status_of(&run(rt, &mut reader, &mut writer, config, workers, u32::MAX))
 }
 
+/// Judges with one worker, and asks whether each request has a reply.
+fn judge_complete<T: Print + AllocGlobal, R: Read + Drop>(
+    rt: &T,
+    config: &str,
+    trace: R,
+) -> ExitCode {
+    let mut reader = Counted::new(trace);
+    let mut writer = Counted::new(io::writer(rt));
+    match run_complete(rt, &mut reader, &mut writer, config, u32::MAX) {
+        Ok(
+            Completion {
+                incomplete: Some(_),
+                ..
+            },
+        ) => ExitCode::from(NO),
+        Ok(Completion { verdict, .. }) => status_of(&Ok(verdict)),
+        Err(fault) => status_of(&Err(fault)),
+    }
+}
+
+/// How a trace is judged.
+#[derive(Clone, Copy, Debug, PartialEq, Eq)]
+pub struct CheckOptions {
+    /// So many threads judge it.
+    pub workers: u16,
+    /// Each request has to have a reply.
+    pub complete: bool,
+    /// Standard error is told how far it is.
+    pub progress: bool,
+}
+
 /// Judges the workers before it opens a file, and the configuration before the trace is read.
 pub fn check<
     T: Print + Eprint + Input + Files + AllocGlobal + Threads + Sync + Send + Copy + 'static,
->(rt: &T, config: &str, trace: &str, workers: u32, progress: bool) -> io::Result<ExitCode>
+>(rt: &T, config: &str, trace: &str, options: CheckOptions) -> io::Result<ExitCode>
 where
     T::File: Drop,
 {
+    let workers = u32::from(options.workers);
     if !are_workers(workers) {
         return Ok(judge(rt, "", io::empty(), workers));
     }
     let read = bytes_at(rt, config);
-    match text_in(&read) {
-        Ok(text) => Ok(judge(rt, text, reader_of(rt, trace, progress), workers)),
-        Err(why) => refused(rt, why),
+    let text = match text_in(&read) {
+        Ok(text) => text,
+        Err(why) => return refused(rt, why),
+    };
+    let reader = reader_of(rt, trace, options.progress);
+    if options.complete {
+        return Ok(judge_complete(rt, text, reader));
     }
+    Ok(judge(rt, text, reader, workers))
 }

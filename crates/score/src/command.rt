@@ -1,5 +1,6 @@
 //! What the command line asks for.
 
+use crate::check::CheckOptions;
 use crate::trace::STANDARD_INPUT;
 use crate::{check, demonstration, help, stats, watch};
 use clap::error::ErrorKind;
@@ -13,12 +14,11 @@ const VERSION: &str = "0.2.0\nrattle-kit-13f logic dac8208d650f15bf";
 /// A command, with the words that it was given.
 #[derive(Clone, Copy, Debug, PartialEq, Eq)]
 pub enum Request<'a> {
-    /// Judge the trace in a file for the configuration in a file, with so many workers.
+    /// Judge the trace in a file for the configuration in a file.
     Check {
         config: &'a str,
         trace: &'a str,
-        workers: u16,
-        progress: bool,
+        options: CheckOptions,
     },
     /// Count over the trace in a file, judged for the configuration in a file.
     Stats {
@@ -75,12 +75,17 @@ fn check_command<'a>(alloc: Global) -> Result<Command<'a>, AllocError> {
         .value_parser(value_parser!(u16))
         .default_value("1")
         .help("How many threads judge the trace, 1 to 16");
+    let complete = Arg::new(alloc, "complete")
+        .long("complete")
+        .action(ArgAction::SetTrue)
+        .help("Also asks for a reply to each request");
     Command::new(alloc, "check")
         .about(check::ABOUT)
         .after_help(check::HELP)
         .arg(config_arg(alloc))?
         .arg(trace_arg(alloc))?
         .arg(workers)?
+        .arg(complete)?
         .arg(progress_arg(alloc))
 }
 
@@ -148,8 +153,11 @@ fn check_request<'a>(matches: &ArgMatches<'a>) -> Option<Request<'a>> {
     Some(Request::Check {
         config,
         trace,
-        workers: matches.get_one::<u16>("workers")?,
-        progress: matches.get_flag("progress"),
+        options: CheckOptions {
+            workers: matches.get_one::<u16>("workers")?,
+            complete: matches.get_flag("complete"),
+            progress: matches.get_flag("progress"),
+        },
     })
 }
 

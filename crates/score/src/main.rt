@@ -107,10 +107,9 @@ where
             Request::Check {
                 config,
                 trace,
-                workers,
-                progress,
+                options,
             },
-        ) => check(rt, config, trace, u32::from(workers), progress),
+        ) => check(rt, config, trace, options),
         Ok(
             Request::Stats {
                 config,

@@ -1,5 +1,6 @@
 //! What the words of the command line ask for, and files that cannot be read.
 
+use crate::check::CheckOptions;
 use crate::command::{CommandFault, Request, asked};
 use crate::configuration::{MOST_BYTES, bytes_at, bytes_within, text_in};
 use crate::progress::{Progress, line_of};
@@ -32,8 +33,11 @@ fn is_check<T: Abort + AllocGlobal>(
     let check = Request::Check {
         config,
         trace,
-        workers,
-        progress: false,
+        options: CheckOptions {
+            workers,
+            complete: false,
+            progress: false,
+        },
     };
     assert_eq!(rt;
         asked(rt.alloc(), words.as_slice()).ok(),
@@ -129,6 +133,7 @@ fn help_is_asked_for(rt: HostRuntime) -> Result<(), Fail> {
         "refused format Truncated at=16",
         "--workers <N>",
         "--progress",
+        "--complete",
         "Examples:",
     ];
     for line in ["score check --help", "score check -h", "score help check"] {
@@ -297,12 +302,15 @@ fn words_of_watch(rt: HostRuntime) -> Result<(), Fail> {
 #[test]
 fn words_of_progress(rt: HostRuntime) -> Result<(), Fail> {
     let (config, trace) = ("-", "./-");
-    let words = words_of(rt.alloc(), "score check - ./- --progress")?;
+    let words = words_of(rt.alloc(), "score check - ./- --progress --complete")?;
     let check = Request::Check {
         config,
         trace,
-        workers: 1,
-        progress: true,
+        options: CheckOptions {
+            workers: 1,
+            complete: true,
+            progress: true,
+        },
     };
     assert_eq!(rt; asked(rt.alloc(), words.as_slice()).ok(), Some(check));
     let words = words_of(rt.alloc(), "score stats --progress - ./-")?;
