@@ -1,0 +1,3 @@
+mod Touched
+mod Numbered
+mod FixedParts

@@ -1,0 +1,16 @@
+//! The history of a record: which records of a trace came before it.
+//!
+//! A place is a record's number in the trace, from 0, and an offset is that of its first byte. Before a
+//! record of a port stand those of its log. Before a record of a bank stand the bank's records with lower
+//! numbers; those that touch the same second-level block are told.
+#![tactic(auto)]
+
+mod history;
+mod offsets;
+mod places;
+mod requests;
+mod touching;
+
+pub use history::{History, history_in_bank, history_in_log};
+pub use lf_rules::NoMemory;
+pub use offsets::record_offsets;

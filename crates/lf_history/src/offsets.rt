@@ -1,0 +1,77 @@
+//! Where records begin in the bytes of a trace.
+
+ghost use Rattle.std.specs.Prelude.{◌≡◌, ◌-◌, ◌<◌, ◌≤◌, ◌^◌, length, IfOk};
+ghost use Rattle.lf_codec.specs.Layout.{data_of, record_bytes};
+ghost use Rattle.lf_history.specs.Offsets.{fixed_len, offsets_from, bytes_len};
+
+use lf_rules::{Event, NoMemory, Record};
+use std::alloc::Global;
+
+/// How many bytes the fixed part of an event takes.
+fn fixed_len(event: &Event) -> usize
+    ensures { result ≡ fixed_len event.now }
+{
+    match event {
+        Event::Fence => 0,
+        Event::Reply { .. }
+        | Event::Hit { .. }
+        | Event::Primary { .. }
+        | Event::Merge { .. }
+        | Event::Stall { .. }
+        | Event::Fill1 { .. }
+        | Event::Fill2 { .. }
+        | Event::SecondHit { .. }
+        | Event::SecondStall { .. } => 4,
+        Event::SecondPrimary { .. } | Event::SecondMerge { .. } => 8,
+        Event::Issue { .. } | Event::Evict1 { .. } => 12,
+        Event::Evict2 { masks, .. } => 4 + 8 * masks.len(),
+    }
+}
+
+/// How many bytes an event carries.
+fn data_len(event: &Event) -> usize
+    ensures { result ≡ length (data_of event.now) }
+{
+    match event {
+        Event::Issue { bytes, .. }
+        | Event::Reply { bytes, .. }
+        | Event::Fill1 { bytes, .. }
+        | Event::Evict1 { bytes, .. } => bytes.len(),
+        Event::Fill2 { bytes, .. } | Event::Evict2 { bytes, .. } => bytes.len(),
+        _ => 0,
+    }
+}
+
+/// How many bytes a record takes.
+fn record_len(item: &Record) -> u64
+    requires { length (record_bytes item.now) < 2 ^ 64 }
+    ensures { result ≡ length (record_bytes item.now) }
+{
+    8 + fixed_len(&item.event) as u64 + data_len(&item.event) as u64
+}
+
+/// How many bytes the records take.
+fn total_len(records: &[Record]) -> u64
+    requires { bytes_len records.now < 2 ^ 64 }
+    ensures { result ≡ bytes_len records.now }
+{
+    let mut total = 0;
+    for item in records {
+        total += record_len(item);
+    }
+    total
+}
+
+/// The offset of the first byte of each record, where the last ends at this offset.
+pub fn record_offsets(alloc: Global, end: u64, records: &[Record]) -> Result<Vec<u64>, NoMemory>
+    requires { bytes_len records.now ≤ end }
+    ensures { IfOk result (λ offsets. offsets.items ≡ offsets_from (end - bytes_len records.now) records.now) }
+{
+    let mut offsets = Vec::new(alloc);
+    let mut offset = end - total_len(records);
+    for item in records {
+        offsets.push(offset)?;
+        offset += record_len(item);
+    }
+    Ok(offsets)
+}

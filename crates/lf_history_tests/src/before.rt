@@ -1,0 +1,76 @@
+//! What came before a record.
+
+use lf_history::{NoMemory, history_in_bank, history_in_log, record_offsets};
+use lf_rules::Record;
+use lf_samples::{C1, LOAD, LOADED, records, want_of_memory};
+use std::alloc::Global;
+use std::process::Abort;
+use std::test::Fail;
+
+/// A load of block 0, and one of block 1 between its events.
+const TWO_BLOCKS: &str = "L 0 8@0, L 1 8@8, P 0 0, X 1, SP 0 0, F2 0, F1 0, R 0=0000000000000000";
+
+fn in_bank(
+    alloc: Global,
+    records: &[Record],
+    number: u32,
+    most: usize,
+) -> Result<(Option<usize>, Vec<usize>), Fail> {
+    match history_in_bank(alloc, &C1, records, 0, number, most) {
+        Ok(history) => Ok((history.place, history.before)),
+        Err(NoMemory) => Err(want_of_memory()),
+    }
+}
+
+/// Fails where other records are told before the record of this number.
+fn assert_before<T: Abort + AllocGlobal>(
+    rt: &T,
+    parts: &[&str],
+    number: u32,
+    most: usize,
+    due: &[usize],
+) -> Result<(), Fail> {
+    let records = records(rt.alloc(), &C1, parts)?;
+    let (place, before) = in_bank(rt.alloc(), &records, number, most)?;
+    assert_eq!(rt; place, Some(number as usize));
+    assert_eq!(rt; before.as_slice(), due);
+    Ok(())
+}
+
+#[test]
+fn before_a_record_of_a_port(rt: HostRuntime) -> Result<(), Fail> {
+    let records = records(rt.alloc(), &C1, &[LOAD, LOADED])?;
+    let Ok(history) = history_in_log(rt.alloc(), &records, 0, 1, 15) else {
+        return Err(want_of_memory());
+    };
+    assert_eq!(&rt; history.place, Some(5));
+    assert_eq!(&rt; history.before.as_slice(), [0].as_slice());
+    Ok(())
+}
+
+/// A merge or a reply touches the block of its request.
+#[test]
+fn before_a_record_of_a_bank(rt: HostRuntime) -> Result<(), Fail> {
+    assert_before(&rt, &[TWO_BLOCKS], 7, 15, &[0, 2, 4, 5, 6])?;
+    assert_before(&rt, &[TWO_BLOCKS], 3, 15, &[1])
+}
+
+#[test]
+fn at_most_so_many(rt: HostRuntime) -> Result<(), Fail> {
+    assert_before(&rt, &[LOAD, LOADED], 5, 2, &[3, 4])
+}
+
+/// Without the request, each record of the bank counts.
+#[test]
+fn before_a_request_that_never_came(rt: HostRuntime) -> Result<(), Fail> {
+    assert_before(&rt, &[LOAD, "H 3"], 5, 2, &[3, 4])
+}
+
+#[test]
+fn offsets_of_no_record(rt: HostRuntime) -> Result<(), Fail> {
+    let Ok(offsets) = record_offsets(rt.alloc(), 16, &[]) else {
+        return Err(want_of_memory());
+    };
+    assert!(rt; offsets.is_empty());
+    Ok(())
+}
