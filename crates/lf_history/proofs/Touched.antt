@@ -1,9 +1,8 @@
 -- One place more, of a record and of none.
-use Rattle.std.proofs.Common.{◌≡◌, ℕ, List, [], ◌∷◌, Option, Some, None, refl}
+use Rattle.std.proofs.Common.{◌≡◌, ℕ, List, ◌∷◌, Option, Some, None, refl}
 use Rattle.std.specs.Prelude.{slice_get}
 use Rattle.lf_rules.specs.declared.event.Record.{Record}
 use Rattle.lf_rules.specs.declared.shape.Shape.{Shape}
-use Rattle.lf_history.specs.declared.touching.Touch.{Touch}
 use Rattle.lf_history.specs.Touching.{touched, touches, all_before}
 
 pub touches_none : (shape : Shape) (before rs : List Record) (place : ℕ) (places : List (Option ℕ)) → slice_get rs place ≡ None
