@@ -1,0 +1,17 @@
+use Rattle.std.proofs.Common.{◌++◌, arith}
+use Rattle.std.proofs.lemmas.List.{length-append}
+use Rattle.lf_codec.specs.Layout.{u32_bytes, fixed_bytes, data_of}
+use Rattle.lf_codec.proofs.Numbers.{length-u32_bytes}
+use Rattle.lf_dump.proofs.len.record_len.Goals as goal
+
+pub returns-clause-len : goal.returns-clause-len
+returns-clause-len c =
+    let item = c.args.item.now in
+    omega (
+      arith,
+      c.fixed_len.ensures.len,
+      c.data_len.ensures.len,
+      length-u32_bytes item.number,
+      length-append (u32_bytes item.number ++ fixed_bytes item.event) (data_of item.event),
+      length-append (u32_bytes item.number) (fixed_bytes item.event),
+    )

@@ -1,0 +1,17 @@
+//! Prints the text of a trace while it is read.
+//!
+//! `dump` reads a trace in pieces and writes the line of each record as soon as its bytes are there, so it
+//! keeps no more than a piece and its lines. `specs/Lines` says what the text of some bytes is: a line for
+//! each part that the format reads from them, with its offset, and then the end or why they are no trace.
+#![tactic(auto)]
+
+mod dumping;
+mod fault;
+mod len;
+mod lines;
+mod printer;
+#[cfg(test)]
+mod tests;
+
+pub use dumping::dump;
+pub use fault::DumpFault;
