@@ -2,7 +2,7 @@
 
 use crate::check::CheckOptions;
 use crate::trace::STANDARD_INPUT;
-use crate::{check, demonstration, help, stats, watch};
+use crate::{check, demonstration, dump, help, stats, watch};
 use clap::error::ErrorKind;
 use clap::{Arg, ArgAction, ArgMatches, Command, Error, value_parser};
 use std::alloc::{AllocError, Global};
@@ -34,6 +34,10 @@ pub enum Request<'a> {
     /// Judge the trace in a file or on standard input while it comes, for the configuration in a file.
     Watch {
         config: &'a str,
+        trace: &'a str,
+    },
+    /// Print the text of the trace in a file or on standard input.
+    Dump {
         trace: &'a str,
     },
 }
@@ -117,6 +121,13 @@ fn watch_command<'a>(alloc: Global) -> Result<Command<'a>, AllocError> {
         .arg(trace_arg(alloc))
 }
 
+fn dump_command<'a>(alloc: Global) -> Result<Command<'a>, AllocError> {
+    Command::new(alloc, "dump")
+        .about(dump::ABOUT)
+        .after_help(dump::HELP)
+        .arg(trace_arg(alloc))
+}
+
 fn program<'a>(alloc: Global) -> Result<Command<'a>, AllocError> {
     Command::new(alloc, "score")
         .bin_name("score")?
@@ -127,7 +138,8 @@ fn program<'a>(alloc: Global) -> Result<Command<'a>, AllocError> {
         .subcommand(check_command(alloc)?)?
         .subcommand(stats_command(alloc)?)?
         .subcommand(demo_command(alloc)?)?
-        .subcommand(watch_command(alloc)?)
+        .subcommand(watch_command(alloc)?)?
+        .subcommand(dump_command(alloc)?)
 }
 
 fn fault_of(error: Error) -> CommandFault {
@@ -182,6 +194,12 @@ fn watch_request<'a>(matches: &ArgMatches<'a>) -> Option<Request<'a>> {
     Some(Request::Watch { config, trace })
 }
 
+fn dump_request<'a>(matches: &ArgMatches<'a>) -> Option<Request<'a>> {
+    Some(Request::Dump {
+        trace: matches.get_str("TRACE")?,
+    })
+}
+
 /// What the words ask for, the program's own name first.
 pub fn asked<'a>(alloc: Global, words: &'a [String]) -> Result<Request<'a>, CommandFault> {
     let Ok(command) = program(alloc) else {
@@ -196,6 +214,7 @@ pub fn asked<'a>(alloc: Global, words: &'a [String]) -> Result<Request<'a>, Comm
         Some(("stats", inner)) => stats_request(inner),
         Some(("demo", inner)) => demo_request(inner),
         Some(("watch", inner)) => watch_request(inner),
+        Some(("dump", inner)) => dump_request(inner),
         _ => None,
     };
     found.ok_or(CommandFault::Usage)

@@ -2,14 +2,15 @@
 //! that a configuration says, and prints one line: a yes with the number of events, a no with the fault
 //! and its place, or why the trace is not judged. `score stats CONFIG TRACE` prints the statistics of a
 //! trace that is legal, `score demo CONFIG OUT` records a small cache in threads, and `score watch CONFIG
-//! TRACE` ends as soon as a trace broke for good. `score help COMMAND` says more of each. The status is 0
-//! for a yes, 1 for a no and 2 for a refusal.
+//! TRACE` ends as soon as a trace broke for good, and `score dump TRACE` prints a trace as text. `score help
+//! COMMAND` says more of each. The status is 0 for a yes, 1 for a no and 2 for a refusal.
 #![tactic(auto)]
 
 mod check;
 mod command;
 mod configuration;
 mod demonstration;
+mod dump;
 mod help;
 mod progress;
 mod stats;
@@ -22,6 +23,7 @@ use check::check;
 use command::{CommandFault, Request, asked};
 use configuration::{bytes_at, text_in};
 use demonstration::{Demonstration, demonstrate};
+use dump::dump;
 use lf_engine::{InputFault, Line, RunFault};
 use lf_verdict::Verdict;
 use stats::stats;
@@ -119,6 +121,7 @@ where
         ) => stats(rt, config, trace, progress),
         Ok(Request::Demo { config, out }) => demo(rt, config, out),
         Ok(Request::Watch { config, trace }) => watch(rt, config, trace),
+        Ok(Request::Dump { trace }) => Ok(dump(rt, trace)),
         Err(CommandFault::Help(help)) => {
             print!(rt; "{help}")?;
             Ok(ExitCode::SUCCESS)

@@ -142,7 +142,9 @@ fn help_is_asked_for(rt: HostRuntime) -> Result<(), Fail> {
     let demo = ["demo events=200", "refused turns", "Examples:"];
     has_help(&rt, "score help demo", demo.as_slice())?;
     let watch = ["broken header Ports", "closed pipe", "Examples:"];
-    has_help(&rt, "score help watch", watch.as_slice())
+    has_help(&rt, "score help watch", watch.as_slice())?;
+    let dump = ["end count=2 ; at 60", "refused read trace", "Examples:"];
+    has_help(&rt, "score help dump", dump.as_slice())
 }
 
 #[test]
@@ -349,4 +351,14 @@ fn progress_gives_the_bytes(rt: HostRuntime) -> Result<(), Fail> {
     Progress::telling(&rt, b" of bytes".as_slice(), Some(9)).read_to_end(&mut bytes)?;
     assert_eq!(rt; bytes.as_slice(), b"trace of bytes".as_slice());
     Ok(())
+}
+
+#[test]
+fn words_of_dump(rt: HostRuntime) -> Result<(), Fail> {
+    let words = words_of(rt.alloc(), "score dump -")?;
+    let dump = Request::Dump { trace: "-" };
+    assert_eq!(rt; asked(rt.alloc(), words.as_slice()).ok(), Some(dump));
+    is_refused(&rt, "score dump")?;
+    is_refused(&rt, "score dump a.lfts b.lfts")?;
+    is_refused(&rt, "score dump a.lfts --progress")
 }

@@ -1,0 +1,51 @@
+//! `score dump`: prints the text of a trace.
+
+use crate::REFUSED;
+use crate::trace::Trace;
+use lf_engine::Counted;
+use std::io;
+use std::process::ExitCode;
+use std::rt::Files;
+
+/// What the help says of `dump`.
+pub const ABOUT: &str = "Prints a trace as text while it is read, a line for each record";
+
+/// What the help says after the arguments.
+pub const HELP: &str = "\
+Answers:
+  lfts version=1 ports=1 banks=1 block=8 factor=1 memory=1 ; at 0
+  memory block=3 bytes=0102030405060708 ; at 16
+  load port=0 bank=0 number=0 tag=0 size=8 address=0x0 ; at 28
+  primary bank=0 number=1 port=0 tag=0 register=0 ; at 48
+  end count=2 ; at 60
+
+A line for the header, for each memory record, for each event record and
+for the end, with the offset of its first byte. Numbers are decimal,
+addresses and masks hexadecimal, and bytes stand in the order of the trace.
+
+Where the bytes are no trace, the last line says so, behind what was read:
+  refused format Truncated at=48
+  refused read trace
+  refused memory
+
+Exit status:
+  0  the whole trace is printed
+  2  refused
+
+Examples:
+  score dump run.lfts
+  score dump run.lfts | grep ' bank=0 number=5 '
+  simulate | score dump -";
+
+/// Prints the text of the trace.
+pub fn dump<T: Print + Input + Files + AllocGlobal>(rt: &T, trace: &str) -> ExitCode
+where
+    T::File: Drop,
+{
+    let mut reader = Counted::new(Trace::open(rt, trace));
+    let mut writer = Counted::new(io::writer(rt));
+    match lf_dump::dump(rt, &mut reader, &mut writer, u32::MAX) {
+        Ok(None) => ExitCode::SUCCESS,
+        _ => ExitCode::from(REFUSED),
+    }
+}
