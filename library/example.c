@@ -1,0 +1,41 @@
+// Judges a trace as a simulator would: piece by piece, and no further than to what broke.
+//
+//     cc -o judge example.c $(pkg-config --cflags --libs wudzark) && ./judge CONFIG TRACE
+
+#include "wudzark.h"
+
+#include <stdio.h>
+
+// The last line and status. What broke is the last word of a simulation that stops there.
+static wudzark_answer judge(wudzark_board *board, FILE *trace, char *line) {
+    char piece[64];
+    size_t length;
+    wudzark_answer answer;
+    while ((length = fread(piece, 1, sizeof piece, trace)) > 0) {
+        if (wudzark_feed(board, piece, length) != WUDZARK_FINE) break;
+        answer = wudzark_broken(board, line, WUDZARK_LINE_BYTES);
+        if (answer.status != WUDZARK_FINE) {
+            wudzark_finish(board, line, 0); // closes the board, and leaves the line
+            return answer;
+        }
+    }
+    return wudzark_finish(board, line, WUDZARK_LINE_BYTES);
+}
+
+int main(int count, char **words) {
+    static char config[1 << 16];
+    char line[WUDZARK_LINE_BYTES];
+    wudzark_board board = WUDZARK_BOARD;
+    FILE *file = count == 3 ? fopen(words[1], "rb") : NULL, *trace = count == 3 ? fopen(words[2], "rb") : NULL;
+    wudzark_answer answer;
+    if (!file || !trace) {
+        fprintf(stderr, "judge CONFIG TRACE\n");
+        return WUDZARK_REFUSED;
+    }
+    answer = wudzark_open(&board, config, fread(config, 1, sizeof config, file), line, sizeof line);
+    if (answer.status == WUDZARK_FINE) answer = judge(&board, trace, line);
+    printf("%.*s\n", (int)answer.length, line);
+    fclose(trace);
+    fclose(file);
+    return (int)answer.status;
+}
