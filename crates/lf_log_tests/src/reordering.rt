@@ -2,9 +2,8 @@
 
 ghost use Rattle.std.specs.Prelude.{◌≡◌, IfOk};
 
-use crate::recording;
 use lf_logs::{NumberFault, Reorder};
-use lf_rules::Record;
+use lf_rules::{Block, Event, Op, Record};
 use lf_samples::{C1, record};
 use std::alloc::Global;
 use std::test::Fail;
@@ -121,7 +120,13 @@ fn made(number: u32) -> Record
         log: 0,
         bank: 0,
         number,
-        event: recording::load(0),
+        event: Event::Issue {
+            op: Op::Load,
+            tag: 0,
+            size: 8,
+            address: 0,
+            bytes: Block::new(),
+        },
     }
 }
 

@@ -1,0 +1,14 @@
+//! Tests of lines, registers, masks, and what a run keeps beside them, in a crate of their own so that each
+//! part is proved once.
+#![tactic(auto)]
+
+#[cfg(test)]
+mod divisions;
+#[cfg(test)]
+mod kept_values;
+#[cfg(test)]
+mod lines;
+#[cfg(test)]
+mod masks_and_blocks;
+#[cfg(test)]
+mod register_files;
