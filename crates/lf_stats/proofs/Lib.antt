@@ -1,9 +1,9 @@
 mod Distinct
 mod Holds
-mod Orders
-mod Blocks
+pub mod Orders
+pub mod Blocks
 mod Waits
-mod Sizes
+pub mod Sizes
 mod Pushed
 mod Lines
 mod Examples

@@ -91,6 +91,10 @@ distinct (n ∷ ns) = if is_among ns n then distinct ns else distinct ns + 1
 abbrev pub held_count : Shape → List Record → ℕ → ℕ
 held_count shape rs n = distinct (map (λ h. h.1) (held shape rs n))
 
+-- that number before the first record, and after each
+abbrev pub held_counts : Shape → List Record → List ℕ
+held_counts shape rs = map (held_count shape rs) (range_with_len 0 (length rs + 1))
+
 -- the greatest of f 0 to f (n - 1)
 abbrev pub greatest : (ℕ → ℕ) → ℕ → ℕ
 greatest f zero = 0

@@ -4,7 +4,7 @@ ghost use Rattle.std.specs.Prelude.{◌≡◌, ◌<◌, ◌≤◌, ◌^◌, ℕ,
 ghost use Rattle.lf_rules.specs.Lists.{lists_of};
 ghost use Rattle.lf_logs.specs.Places.{record_at, records_at};
 ghost use Rattle.lf_stats.specs.Standing.{next_of, named, AreAlike, IsHeld};
-ghost use Rattle.lf_stats.specs.Statistics.{held_by, bank_stats};
+ghost use Rattle.lf_stats.specs.Statistics.{held_by, held_counts, bank_stats};
 
 use crate::counts::BankStats;
 use crate::held::Held;
@@ -63,4 +63,29 @@ pub(crate) fn bank_stats(
         stats.peak = stats.peak.max(held.distinct());
     }
     Ok(stats)
+}
+
+/// How many registers of level one are held before the first of the records at these places, and after each.
+pub fn held_counts(
+    alloc: Global,
+    shape: &Shape,
+    logs: &Logs,
+    places: &[Place],
+) -> Result<Vec<u32>, NoMemory>
+    requires block { 0 < shape.now.block }
+    requires named { All (λ place. IsSome (record_at (lists_of logs.now) place)) places.now }
+    requires few { length places.now ≤ 2 ^ 29 }
+    ensures { IfOk result (λ counts. counts.items ≡ held_counts shape.now (records_at (lists_of logs.now) places.now)) }
+{
+    let issued = blocks_issued(alloc, shape, logs, places)?;
+    let mut accepted = Accepted::new();
+    let mut held = Held::new(alloc);
+    let mut counts = vec![in alloc; 0]?;
+    for place in places {
+        let event = &record_at(logs, *place).event;
+        hold(alloc, &mut held, issued.as_slice(), &accepted, event)?;
+        accepted.count(event);
+        counts.push(held.distinct())?;
+    }
+    Ok(counts)
 }

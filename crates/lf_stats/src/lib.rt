@@ -11,6 +11,7 @@ mod port;
 mod statistics;
 mod text;
 
+pub use bank::held_counts;
 pub use counts::{BankStats, Stats};
 pub use incomplete::{Incomplete, first_incomplete};
 pub use lf_rules::NoMemory;

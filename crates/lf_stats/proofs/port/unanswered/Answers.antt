@@ -1,4 +1,4 @@
-use Rattle.std.proofs.Common.{◌≡◌, length, ap, ◌∙◌, arith}
+use Rattle.std.proofs.Common.{length, ap, ◌∙◌, arith}
 use Rattle.std.specs.List.{filter}
 use Rattle.lf_stats.proofs.Waits.{waiting_all, waiting_few}
 use Rattle.lf_stats.proofs.port.unanswered.Goals as goal
