@@ -1,0 +1,88 @@
+-- Kinds of events.
+use Rattle.std.specs.Prelude.{ℕ, Bool, true, false, not, ◌&&◌, ◌==◌, List, count_by}
+use Rattle.lf_rules.specs.Address.{mask_of}
+use Rattle.lf_rules.specs.declared.mask.Mask.{Mask}
+use Rattle.lf_rules.specs.declared.event.Op.TheVariants.{Load, Store}
+use Rattle.lf_rules.specs.declared.event.Event.{Event}
+use Rattle.lf_rules.specs.declared.event.Event.TheVariants.{Issue, Reply, Fence, Fill1, Evict1, SecondHit, SecondPrimary, SecondMerge, SecondStall, Fill2, Evict2}
+
+-- ---- events of a bank, beside those that lf_stats names
+
+abbrev pub is_fill1 : Event → Bool
+is_fill1 (Fill1 block bytes) = true
+is_fill1 _ = false
+
+abbrev pub is_evict1 : Event → Bool
+is_evict1 (Evict1 block mask bytes) = true
+is_evict1 _ = false
+
+abbrev pub is_second_hit : Event → Bool
+is_second_hit (SecondHit block) = true
+is_second_hit _ = false
+
+abbrev pub is_second_primary : Event → Bool
+is_second_primary (SecondPrimary block register) = true
+is_second_primary _ = false
+
+abbrev pub is_second_merge : Event → Bool
+is_second_merge (SecondMerge block register) = true
+is_second_merge _ = false
+
+abbrev pub is_second_stall : Event → Bool
+is_second_stall (SecondStall block) = true
+is_second_stall _ = false
+
+abbrev pub is_fill2 : Event → Bool
+is_fill2 (Fill2 block bytes) = true
+is_fill2 _ = false
+
+abbrev pub is_evict2 : Event → Bool
+is_evict2 (Evict2 block masks bytes) = true
+is_evict2 _ = false
+
+-- ---- how much of a line that is evicted is dirty
+
+-- the mask of all bytes of a block
+abbrev pub whole_mask : ℕ → ℕ
+whole_mask size = mask_of 0 size
+
+-- no byte of the block
+abbrev pub is_clean : Event → Bool
+is_clean (Evict1 block mask bytes) = mask.0 == 0
+is_clean _ = false
+
+-- each byte of the block, where blocks have so many
+abbrev pub is_dirty_whole : ℕ → Event → Bool
+is_dirty_whole size (Evict1 block mask bytes) = mask.0 == whole_mask size
+is_dirty_whole size _ = false
+
+-- some bytes and not all
+abbrev pub is_dirty_in_part : ℕ → Event → Bool
+is_dirty_in_part size (Evict1 block mask bytes) = not (mask.0 == 0) && not (mask.0 == whole_mask size)
+is_dirty_in_part size _ = false
+
+-- how many blocks of a second-level block have a dirty byte
+abbrev pub dirty_blocks : List Mask → ℕ
+dirty_blocks masks = count_by (λ mask. not (mask.0 == 0)) masks
+
+abbrev pub is_dirty2 : ℕ → Event → Bool
+is_dirty2 n (Evict2 block masks bytes) = dirty_blocks masks.items == n
+is_dirty2 n _ = false
+
+-- ---- events of a port
+
+abbrev pub is_load : ℕ → Event → Bool
+is_load n (Issue Load tag size address bytes) = size == n
+is_load n _ = false
+
+abbrev pub is_store : ℕ → Event → Bool
+is_store n (Issue Store tag size address bytes) = size == n
+is_store n _ = false
+
+abbrev pub is_reply : Event → Bool
+is_reply (Reply tag size bytes) = true
+is_reply _ = false
+
+abbrev pub is_fence : Event → Bool
+is_fence Fence = true
+is_fence _ = false

@@ -1,0 +1,6 @@
+-- The points of a trace, how often each was reached, and the text of that.
+pub mod Kinds
+pub mod Points
+pub mod Reachable
+pub mod Coverage
+pub mod Text

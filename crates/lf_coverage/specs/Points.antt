@@ -1,0 +1,59 @@
+-- What reaches a point, and how often a list of records does.
+use Rattle.std.specs.Prelude.{ℕ, zero, suc, ◌+◌, Bool, false, ◌&&◌, ◌==◌, nat_lt, if◌then◌else◌}
+use Rattle.std.specs.Prelude.{List, count_by, slice_get, Option, Some, None}
+use Rattle.lf_rules.specs.declared.shape.Shape.{Shape}
+use Rattle.lf_rules.specs.declared.event.Record.{Record}
+use Rattle.lf_rules.specs.declared.event.Event.{Event}
+use Rattle.lf_stats.specs.Statistics.{is_hit, is_primary, is_merge, is_stall, held_count}
+use Rattle.lf_coverage.specs.declared.point.BankPoint.{BankPoint}
+use Rattle.lf_coverage.specs.declared.point.BankPoint.TheVariants as points
+use Rattle.lf_coverage.specs.declared.point.PortPoint.{PortPoint}
+use Rattle.lf_coverage.specs.declared.point.PortPoint.TheVariants.{Load, Store, Reply, Fence}
+use Rattle.lf_coverage.specs.Kinds.{is_fill1, is_evict1, is_second_hit, is_second_primary, is_second_merge, is_second_stall, is_fill2, is_evict2}
+use Rattle.lf_coverage.specs.Kinds.{is_clean, is_dirty_whole, is_dirty_in_part, is_dirty2, is_load, is_store, is_reply, is_fence}
+
+-- ---- a bank
+
+-- Does the event reach the point, where so many registers of level one are held before it and after it?
+abbrev pub reaches : Shape → BankPoint → ℕ → ℕ → Event → Bool
+reaches shape points.Hit before after event = is_hit event
+reaches shape points.Primary before after event = is_primary event
+reaches shape points.Merge before after event = is_merge event
+reaches shape points.Stall before after event = is_stall event
+reaches shape points.Fill1 before after event = is_fill1 event
+reaches shape points.Evict1 before after event = is_evict1 event
+reaches shape points.CleanEviction before after event = is_clean event
+reaches shape points.PartEviction before after event = is_dirty_in_part shape.block event
+reaches shape points.WholeEviction before after event = is_dirty_whole shape.block event
+reaches shape points.HitUnderMiss before after event = is_hit event && nat_lt 0 before
+reaches shape points.SecondHit before after event = is_second_hit event
+reaches shape points.SecondPrimary before after event = is_second_primary event
+reaches shape points.SecondMerge before after event = is_second_merge event
+reaches shape points.SecondStall before after event = is_second_stall event
+reaches shape points.Fill2 before after event = is_fill2 event
+reaches shape points.Evict2 before after event = is_evict2 event
+reaches shape (points.DirtyBlocks n) before after event = is_dirty2 n event
+reaches shape (points.Registers n) before after event = nat_lt before after && after == n
+
+abbrev pub reaches_at : Shape → BankPoint → ℕ → ℕ → Option Record → Bool
+reaches_at shape point before after None = false
+reaches_at shape point before after (Some r) = reaches shape point before after r.event
+
+-- how many of the first n records of a bank, in the order of their numbers, reach the point
+abbrev pub reached : Shape → List Record → BankPoint → ℕ → ℕ
+reached shape rs point zero = 0
+reached shape rs point (suc n) =
+    reached shape rs point n
+    + (if reaches_at shape point (held_count shape rs n) (held_count shape rs (suc n)) (slice_get rs n) then 1 else 0)
+
+-- ---- a port
+
+abbrev pub port_reaches : PortPoint → Event → Bool
+port_reaches (Load size) event = is_load size event
+port_reaches (Store size) event = is_store size event
+port_reaches Reply event = is_reply event
+port_reaches Fence event = is_fence event
+
+-- how many records of a port's log reach the point
+abbrev pub port_reached : List Record → PortPoint → ℕ
+port_reached log point = count_by (λ r. port_reaches point r.event) log

@@ -1,0 +1,21 @@
+//! The coverage of a trace: which situations of a lockup-free cache it reached, and how often.
+//!
+//! A point is a situation in a bank, as a merge at level one, or at a port, as a load of four bytes. `cover`
+//! counts each point that the hierarchy can reach; `specs/Points` says what reaches one. A `Coverage` is
+//! shown as lines, the points that were not reached first.
+#![tactic(auto)]
+
+mod counts;
+mod coverage;
+mod point;
+mod reach;
+mod reachable;
+mod tally;
+#[cfg(test)]
+mod tests;
+mod text;
+
+pub use coverage::{Coverage, cover};
+pub use lf_rules::NoMemory;
+pub use point::{BankPoint, Point, PortPoint};
+pub use tally::Tally;

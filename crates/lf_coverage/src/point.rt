@@ -1,0 +1,118 @@
+//! What is covered.
+
+ghost use Rattle.std.specs.Prelude.{◌≡◌, Some};
+ghost use Rattle.lf_coverage.specs.Text.{bank_point_text, port_point_text, point_text};
+
+use std::fmt;
+
+/// A situation in a bank.
+#[derive(Clone, Copy, Debug, PartialEq, Eq)]
+pub enum BankPoint {
+    /// A request finds its block in level one.
+    Hit,
+    /// A miss takes a register of level one.
+    Primary,
+    /// A miss joins another to its block.
+    Merge,
+    /// A miss finds no room in the registers of level one.
+    Stall,
+    /// Level one gets a block.
+    Fill1,
+    /// Level one gives up a line.
+    Evict1,
+    /// It gives up a line with no dirty byte.
+    CleanEviction,
+    /// It gives up a line with dirty bytes and others.
+    PartEviction,
+    /// It gives up a line with dirty bytes alone.
+    WholeEviction,
+    /// A hit while a register of level one is held.
+    HitUnderMiss,
+    /// Level two has what level one asks for.
+    SecondHit,
+    /// A miss takes a register of level two.
+    SecondPrimary,
+    /// A miss joins another to its second-level block.
+    SecondMerge,
+    /// A miss finds no room in the registers of level two.
+    SecondStall,
+    /// Level two gets a second-level block.
+    Fill2,
+    /// Level two gives up a line.
+    Evict2,
+    /// It gives up a line of which so many blocks have a dirty byte.
+    DirtyBlocks(u32),
+    /// A miss takes a register of level one, and then so many are held.
+    Registers(u32),
+}
+
+/// A situation at a port.
+#[derive(Clone, Copy, Debug, PartialEq, Eq)]
+pub enum PortPoint {
+    /// A load of so many bytes is issued.
+    Load(u8),
+    /// A store of so many bytes is issued.
+    Store(u8),
+    /// A request is replied to.
+    Reply,
+    /// A fence.
+    Fence,
+}
+
+/// A situation, and where it is.
+#[derive(Clone, Copy, Debug, PartialEq, Eq)]
+pub enum Point {
+    Bank { bank: u8, point: BankPoint },
+    Port { port: u8, point: PortPoint },
+}
+
+impl fmt::Display for BankPoint {
+    ghost output = { λ point. Some (bank_point_text point) };
+
+    fn fmt<W: fmt::Write>(&self, f: &mut fmt::Formatter<W>) -> fmt::Result {
+        match self {
+            BankPoint::Hit => write!(f, "hit"),
+            BankPoint::Primary => write!(f, "primary"),
+            BankPoint::Merge => write!(f, "merge"),
+            BankPoint::Stall => write!(f, "stall"),
+            BankPoint::Fill1 => write!(f, "fill1"),
+            BankPoint::Evict1 => write!(f, "evict1"),
+            BankPoint::CleanEviction => write!(f, "evict1_clean"),
+            BankPoint::PartEviction => write!(f, "evict1_part"),
+            BankPoint::WholeEviction => write!(f, "evict1_whole"),
+            BankPoint::HitUnderMiss => write!(f, "hit_under_miss"),
+            BankPoint::SecondHit => write!(f, "second_hit"),
+            BankPoint::SecondPrimary => write!(f, "second_primary"),
+            BankPoint::SecondMerge => write!(f, "second_merge"),
+            BankPoint::SecondStall => write!(f, "second_stall"),
+            BankPoint::Fill2 => write!(f, "fill2"),
+            BankPoint::Evict2 => write!(f, "evict2"),
+            BankPoint::DirtyBlocks(n) => write!(f, "evict2_dirty_{n}"),
+            BankPoint::Registers(n) => write!(f, "registers_{n}"),
+        }
+    }
+}
+
+impl fmt::Display for PortPoint {
+    ghost output = { λ point. Some (port_point_text point) };
+
+    fn fmt<W: fmt::Write>(&self, f: &mut fmt::Formatter<W>) -> fmt::Result {
+        match self {
+            PortPoint::Load(size) => write!(f, "load_{size}"),
+            PortPoint::Store(size) => write!(f, "store_{size}"),
+            PortPoint::Reply => write!(f, "reply"),
+            PortPoint::Fence => write!(f, "fence"),
+        }
+    }
+}
+
+impl fmt::Display for Point {
+    ghost output = { λ point. Some (point_text point) };
+
+    fn fmt<W: fmt::Write>(&self, f: &mut fmt::Formatter<W>) -> fmt::Result {
+        match self {
+            Point::Bank { bank, point } => write!(f, "bank={bank} {point}"),
+            Point::Port { port, point } => write!(f, "port={port} {point}"),
+        }
+    }
+}
