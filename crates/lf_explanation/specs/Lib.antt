@@ -1,0 +1,4 @@
+-- Which records explain why a trace is not legal, and their text.
+pub mod Explanation
+pub mod Sentence
+pub mod Text

@@ -1,0 +1,40 @@
+-- The text of an explanation.
+use Rattle.std.specs.Prelude.{ℕ, List, [], ◌∷◌, ◌++◌, Option, Some, None, codes, slice_get}
+use Rattle.std.specs.Fmt.{decimal}
+use Rattle.std.specs.List.{flat_map}
+use Rattle.lf_rules.specs.declared.event.Record.{Record}
+use Rattle.lf_rules.specs.declared.rule.Rule.{Rule}
+use Rattle.lf_rules.specs.Text.{rule_text}
+use Rattle.lf_text.specs.Text as lf_text
+use Rattle.lf_explanation.specs.declared.explanation.Explanation.{Explanation}
+use Rattle.lf_explanation.specs.Sentence.{sentence}
+
+-- the record, and in a comment the offset of its first byte
+abbrev pub line_if : Option Record → Option ℕ → List ℕ
+line_if (Some item) (Some offset) = lf_text.record_text item ++ codes " ; at " ++ decimal offset ++ 10 ∷ []
+line_if _ _ = []
+
+-- the line of the record at a place, where there is one
+abbrev pub line_at : List Record → List ℕ → ℕ → List ℕ
+line_at rs offsets place = line_if (slice_get rs place) (slice_get offsets place)
+
+-- the line of the record that breaks the rule
+abbrev pub record_text : List Record → List ℕ → Option ℕ → List ℕ
+record_text rs offsets None = []
+record_text rs offsets (Some place) = line_at rs offsets place
+
+-- what the rule asks
+abbrev pub asked_text : Rule → List ℕ
+asked_text rule = codes "  " ++ rule_text rule ++ codes " asks that " ++ sentence rule ++ 10 ∷ []
+
+abbrev pub lines_text : List Record → List ℕ → List ℕ → List ℕ
+lines_text rs offsets places = flat_map (line_at rs offsets) places
+
+-- the records before, under a heading of their own, where there are any
+abbrev pub before_text : List Record → List ℕ → List ℕ → List ℕ
+before_text rs offsets [] = []
+before_text rs offsets (place ∷ places) = 10 ∷ codes "before it:" ++ 10 ∷ lines_text rs offsets (place ∷ places)
+
+-- the record, what the rule asks, and the records before
+abbrev pub explained_text : List Record → List ℕ → Explanation → List ℕ
+explained_text rs offsets why = record_text rs offsets why.history.place ++ asked_text why.rule ++ before_text rs offsets why.history.before.items

@@ -1,0 +1,77 @@
+//! Which records explain why a trace is not legal.
+
+ghost use Rattle.std.specs.Prelude.{◌≡◌, ◌<◌, IfOk};
+ghost use Rattle.lf_explanation.specs.Explanation.{rule_of, IsHistoryOf, IsExplanation};
+
+use lf_history::{History, history_in_bank, history_in_log};
+use lf_rules::{NoMemory, Record, Rule, Shape};
+use std::alloc::Global;
+
+/// Which record breaks a rule, and which rule.
+#[derive(Clone, Copy, Debug, PartialEq, Eq)]
+pub enum Breach {
+    /// The record at the place `at` of the port's log.
+    Port { port: u8, at: u32, rule: Rule },
+    /// The record of the bank that has this number.
+    Bank { bank: u8, number: u32, rule: Rule },
+}
+
+impl Breach {
+    /// The rule that is broken.
+    pub fn rule(&self) -> Rule
+        ensures { result ≡ rule_of self.now }
+    {
+        match self {
+            Breach::Port { rule, .. } | Breach::Bank { rule, .. } => *rule,
+        }
+    }
+}
+
+/// Why a trace is not legal: a record that breaks a rule, and what came before it.
+#[derive(Debug, Drop, PartialEq, Eq)]
+pub struct Explanation {
+    /// The rule that the record breaks first.
+    pub rule: Rule,
+    /// The record, and the last before it that matter.
+    pub history: History,
+}
+
+/// The record, and the last before it that matter, at most so many.
+fn history_of(
+    alloc: Global,
+    shape: &Shape,
+    records: &[Record],
+    breach: &Breach,
+    most: usize,
+) -> Result<History, NoMemory>
+    requires block { 0 < shape.now.block }
+    requires factor { 0 < shape.now.factor }
+    ensures { IfOk result (IsHistoryOf shape.now records.now breach.now most) }
+{
+    match breach {
+        Breach::Port { port, at, .. } => history_in_log(alloc, records, *port, *at as usize, most),
+        Breach::Bank { bank, number, .. } => {
+            history_in_bank(alloc, shape, records, *bank, *number, most)
+        }
+    }
+}
+
+/// Why the trace with these records is not legal: the record that breaks the rule, and the last before it
+/// that matter, at most so many. Before a record of a port those of its log matter, and before one of a bank
+/// those with lower numbers that touch its second-level block.
+pub fn explain(
+    alloc: Global,
+    shape: &Shape,
+    records: &[Record],
+    breach: &Breach,
+    most: usize,
+) -> Result<Explanation, NoMemory>
+    requires block { 0 < shape.now.block }
+    requires factor { 0 < shape.now.factor }
+    ensures { IfOk result (IsExplanation shape.now records.now breach.now most) }
+{
+    Ok(Explanation {
+        rule: breach.rule(),
+        history: history_of(alloc, shape, records, breach, most)?,
+    })
+}

@@ -1,0 +1,15 @@
+//! Why a trace is not legal, for people: the record that breaks a rule, what the rule asks, and the records
+//! before it that matter.
+//!
+//! `explain` finds the records, and `Explained` is their text. A record is told as `lf_text` does, with the
+//! offset of its first byte. `specs/Explanation` says which records, and `specs/Text` each line exactly.
+#![tactic(auto)]
+
+mod explained;
+mod explanation;
+mod sentence;
+#[cfg(test)]
+mod tests;
+
+pub use explained::{Explained, Told};
+pub use explanation::{Breach, Explanation, explain};

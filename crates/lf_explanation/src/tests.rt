@@ -1,0 +1,125 @@
+//! Explanations, with their texts written out.
+
+use crate::{Breach, Explained, Told, explain};
+use lf_rules::{Block, Event, Level, Op, OrgShape, Record, Rule, Shape};
+use std::process::Abort;
+use std::test::Fail;
+
+const LEVEL: Level = Level {
+    sets: 1,
+    ways: 1,
+    organisation: OrgShape::Implicit { registers: 1 },
+};
+
+const SHAPE: Shape = Shape {
+    ports: 1,
+    banks: 1,
+    block: 8,
+    tags: 4,
+    factor: 1,
+    level1: LEVEL,
+    level2: LEVEL,
+};
+
+/// Fails where these records, at the offsets 16, 24, and so on, have another explanation.
+fn assert_explained<T: Abort + AllocGlobal>(
+    rt: &T,
+    records: &[Record],
+    breach: Breach,
+    most: usize,
+    due: &str,
+) -> Result<(), Fail> {
+    let Ok(why) = explain(rt.alloc(), &SHAPE, records, &breach, most) else {
+        return Err(Fail::from("out of memory"));
+    };
+    let explained = Explained {
+        told: Told {
+            records,
+            offsets: &[16, 24, 32, 40],
+        },
+        why: &why,
+    };
+    let text = format!(in rt.alloc(); "{explained}")?;
+    assert_eq!(rt; text.as_str(), due);
+    Ok(())
+}
+
+fn load(number: u32) -> Record {
+    Record {
+        log: 0,
+        bank: 0,
+        number,
+        event: Event::Issue {
+            op: Op::Load,
+            tag: 1,
+            size: 8,
+            address: 0,
+            bytes: Block::new(),
+        },
+    }
+}
+
+fn second_hit(number: u32, block: u32) -> Record {
+    Record {
+        log: 1,
+        bank: 0,
+        number,
+        event: Event::SecondHit { block },
+    }
+}
+
+#[test]
+fn record_of_a_port(rt: HostRuntime) -> Result<(), Fail> {
+    let records = [load(0), second_hit(1, 0), load(2)];
+    let breach = Breach::Port {
+        port: 0,
+        at: 1,
+        rule: Rule::TagBusy,
+    };
+    let due = "\
+load port=0 bank=0 number=2 tag=1 size=8 address=0x0 ; at 32
+  TagBusy asks that the tag is not in use
+
+before it:
+load port=0 bank=0 number=0 tag=1 size=8 address=0x0 ; at 16
+";
+    assert_explained(&rt, &records, breach, 15, due)
+}
+
+/// Records of another block are not told, and no more than were asked for.
+#[test]
+fn record_of_a_bank(rt: HostRuntime) -> Result<(), Fail> {
+    let records = [
+        second_hit(0, 3),
+        second_hit(1, 3),
+        second_hit(2, 4),
+        second_hit(3, 3),
+    ];
+    let breach = Breach::Bank {
+        bank: 0,
+        number: 3,
+        rule: Rule::SecondAbsent,
+    };
+    let due = "\
+second_hit bank=0 number=3 block=3 ; at 40
+  SecondAbsent asks that level two has the second-level block
+
+before it:
+second_hit bank=0 number=1 block=3 ; at 24
+";
+    assert_explained(&rt, &records, breach, 1, due)
+}
+
+#[test]
+fn nothing_before(rt: HostRuntime) -> Result<(), Fail> {
+    let breach = Breach::Port {
+        port: 0,
+        at: 0,
+        rule: Rule::TagRange,
+    };
+    let due = "\
+load port=0 bank=0 number=0 tag=1 size=8 address=0x0 ; at 16
+  TagRange asks that the tag is below the number of tags of a port
+";
+    assert_explained(&rt, &[load(0)], breach, 15, due)
+}
