@@ -1,0 +1,5 @@
+pub mod Cuts
+pub mod MaskLoop
+pub mod Pieces
+pub mod EventFields
+pub mod PrintedLines

@@ -1,0 +1,140 @@
+//! A line of the text, read back.
+
+ghost use Rattle.std.specs.Prelude.{◌≡◌, ◌++◌, ℕ, List, true, Ok};
+ghost use Rattle.lf_parse.specs.Words.{Gives, word_of, word_named};
+ghost use Rattle.lf_parse.specs.Lines.{header_at, memory_at, end_at, event_line_at, part_from, closed, line_from, line_of, text_of, LineInRange, is_behind};
+ghost use Rattle.lf_parse.specs.declared.line.Line.{Line};
+
+use crate::event::record;
+use crate::fault::{Expected, Lack, Name, TextFault};
+use crate::field::{block_bytes, byte, short, word};
+use crate::scan::{is_over, split_word, without_blanks};
+use crate::word::Word;
+use lf_codec::Header;
+use lf_rules::{Block, Record};
+
+/// What a line of the text says.
+#[derive(Clone, Debug, Drop, PartialEq, Eq)]
+pub enum Line {
+    /// Nothing: it is empty, or has a comment alone.
+    Blank,
+    /// What the trace says of the hierarchy.
+    Header(Header),
+    /// The bytes of a block before the first event.
+    Memory { block: u32, bytes: Block },
+    /// An event record.
+    Event(Record),
+    /// The end, after so many event records.
+    End { count: u32 },
+}
+
+#[tactic(auto, unfolding(crate::specs::Lines::header_at))]
+fn header(text: &[u8]) -> Result<(Line, &[u8]), Lack>
+    ensures { Gives (λ x. (x.0, x.1.now)) result (header_at text.now) }
+{
+    let (version, text) = short(Name::Version, text)?;
+    let (ports, text) = byte(Name::Ports, text)?;
+    let (banks, text) = byte(Name::Banks, text)?;
+    let (block, text) = short(Name::Block, text)?;
+    let (factor, text) = short(Name::Factor, text)?;
+    let (memory_count, text) = word(Name::Memory, text)?;
+    let header = Header {
+        version,
+        ports,
+        banks,
+        block,
+        factor,
+        memory_count,
+    };
+    Ok((Line::Header(header), text))
+}
+
+#[tactic(auto, unfolding(crate::specs::Lines::memory_at))]
+fn memory(text: &[u8]) -> Result<(Line, &[u8]), Lack>
+    ensures { Gives (λ x. (x.0, x.1.now)) result (memory_at text.now) }
+{
+    let (block, text) = word(Name::Block, text)?;
+    let (bytes, text) = block_bytes(text)?;
+    Ok((Line::Memory { block, bytes }, text))
+}
+
+#[tactic(auto, unfolding(crate::specs::Lines::end_at))]
+fn end(text: &[u8]) -> Result<(Line, &[u8]), Lack>
+    ensures { Gives (λ x. (x.0, x.1.now)) result (end_at text.now) }
+{
+    let (count, text) = word(Name::Count, text)?;
+    Ok((Line::End { count }, text))
+}
+
+/// The line of this word, and the text behind its part.
+#[tactic(auto, unfolding(crate::specs::Lines::event_line_at))]
+fn part(ports: u8, word: Word, text: &[u8]) -> Result<(Line, &[u8]), Lack>
+    ensures { Gives (λ x. (x.0, x.1.now)) result (event_line_at ports word text.now) }
+{
+    match word {
+        Word::Lfts => header(text),
+        Word::Memory => memory(text),
+        Word::End => end(text),
+        Word::Event(word) => {
+            let (item, rest) = record(ports, word, text)?;
+            Ok((Line::Event(item), rest))
+        }
+    }
+}
+
+/// The line whose first word begins the text.
+fn named(ports: u8, text: &[u8]) -> Result<(Line, &[u8]), Lack>
+    ensures { Gives (λ x. (x.0, x.1.now)) result (part_from ports text.now (word_named (word_of text.now))) }
+{
+    let (first, rest) = split_word(text);
+    match Word::named(first) {
+        Some(word) => part(ports, word, rest),
+        None => Err(Lack {
+            expected: Expected::Word,
+            left: text.len(),
+        }),
+    }
+}
+
+/// The line, if nothing but a comment stands behind it.
+fn closed(line: Line, rest: &[u8]) -> Result<Line, Lack>
+    ensures { result ≡ closed (line, rest.now) }
+{
+    let rest = without_blanks(rest);
+    if is_over(rest) {
+        Ok(line)
+    } else {
+        Err(Lack {
+            expected: Expected::End,
+            left: rest.len(),
+        })
+    }
+}
+
+fn line_from(ports: u8, text: &[u8]) -> Result<Line, Lack>
+    ensures { result ≡ line_from ports text.now }
+{
+    if is_over(text) {
+        return Ok(Line::Blank);
+    }
+    let (line, rest) = named(ports, text)?;
+    closed(line, rest)
+}
+
+/// What the line says, in a trace of so many ports. A part, its fields and a comment may have any blanks
+/// before them, and the line may end with a carriage return.
+#[tactic(auto, unfolding(crate::specs::Lines::line_of))]
+pub fn read_line(ports: u8, text: &[u8]) -> Result<Line, TextFault>
+    ensures exact { result ≡ line_of ports text.now }
+    // A line that is printed is read as what it was printed of, whatever comment stands behind it.
+    ensures again { (line : Line) (rest : List ℕ) → LineInRange ports line → is_behind rest ≡ true
+        → text.now ≡ text_of line ++ rest → result ≡ Ok line }
+{
+    match line_from(ports, without_blanks(text)) {
+        Ok(line) => Ok(line),
+        Err(lack) => Err(TextFault {
+            column: text.len().saturating_sub(lack.left) + 1,
+            expected: lack.expected,
+        }),
+    }
+}
