@@ -1,0 +1,129 @@
+-- What the lines of a text give: the bytes of a trace, or the first fault and its line.
+use Rattle.std.specs.Prelude.{◌≡◌, ◌⊎◌, ℕ, zero, suc, ◌+◌, ◌-◌, ◌*◌, Bool, true, ◌==◌, ◌||◌, not, List, [], ◌∷◌, ◌++◌, length, if◌then◌else◌, Option, Some, None, Result, Ok, Err}
+use Rattle.std.specs.Global.{Vec}
+use Rattle.std.specs.List.{slice_split}
+use Rattle.std.specs.Int.RustNames.{count_ones}
+use Rattle.lf_rules.specs.Fits.{issue_len, masks_len}
+use Rattle.lf_rules.specs.declared.event.Event.{Event}
+use Rattle.lf_rules.specs.declared.event.Event.TheVariants as events
+use Rattle.lf_codec.specs.declared.header.Header.{Header}
+use Rattle.lf_codec.specs.declared.fault.CodecFault.{CodecFault}
+use Rattle.lf_codec.specs.Layout.{header_bytes, memory_bytes, record_bytes, end_bytes, data_of}
+use Rattle.lf_codec.specs.Reading.{fault_so_far, trace_fault}
+use Rattle.lf_parse.specs.declared.fault.TextFault.{TextFault}
+use Rattle.lf_parse.specs.declared.line.Line.{Line}
+use Rattle.lf_parse.specs.declared.line.Line.TheVariants as lines
+use Rattle.lf_parse.specs.Lines.{line_of}
+use Rattle.lf_assemble.specs.declared.fault.Part.{Part}
+use Rattle.lf_assemble.specs.declared.fault.Part.TheVariants as parts
+use Rattle.lf_assemble.specs.declared.fault.AssembleCause.{AssembleCause}
+use Rattle.lf_assemble.specs.declared.fault.AssembleCause.TheVariants as causes
+use Rattle.lf_assemble.specs.declared.fault.AssembleFault.{AssembleFault}
+use Rattle.lf_assemble.specs.declared.due.Due.{Due}
+use Rattle.lf_assemble.specs.declared.due.Due.TheVariants as due
+
+-- ---- what is due
+
+abbrev pub ports_of : Due → ℕ
+ports_of (due.Memory h left) = h.ports
+ports_of (due.Event h) = h.ports
+ports_of due.Lfts = 0
+ports_of due.Nothing = 0
+
+abbrev pub part_of : Due → Part
+part_of due.Lfts = parts.Lfts
+part_of (due.Memory h left) = parts.Memory
+part_of (due.Event h) = parts.Event
+part_of due.Nothing = parts.Nothing
+
+-- where so many memory records are left
+abbrev pub behind : Header → ℕ → Due
+behind h zero = due.Event h
+behind h (suc n) = due.Memory h (suc n)
+
+-- how many bytes an event has to carry
+abbrev pub carried_len : Header → Event → ℕ
+carried_len h (events.Issue op tag size address bytes) = issue_len op size
+carried_len h (events.Reply tag size bytes) = size
+carried_len h (events.Fill1 block bytes) = h.block
+carried_len h (events.Evict1 block mask bytes) = count_ones mask.0
+carried_len h (events.Fill2 second bytes) = h.factor * h.block
+carried_len h (events.Evict2 second masks bytes) = masks_len masks.items
+carried_len h event = 0
+
+abbrev pub masks_fit : Header → Event → Bool
+masks_fit h (events.Evict2 second masks bytes) = length masks.items == h.factor
+masks_fit h event = true
+
+abbrev pub checked : Header → Event → Result (Unit {0}) AssembleCause
+checked h event =
+    if not (masks_fit h event) then Err (causes.Masks h.factor)
+    else if length (data_of event) == carried_len h event then Ok tt
+    else Err (causes.Bytes (carried_len h event))
+
+abbrev pub event_due : Header → Result (Unit {0}) AssembleCause → Result Due AssembleCause
+event_due h (Ok _) = Ok (due.Event h)
+event_due h (Err cause) = Err cause
+
+-- what is due behind this line
+abbrev pub due_after : Due → Line → Result Due AssembleCause
+due_after now lines.Blank = Ok now
+due_after due.Lfts (lines.Header h) =
+    if h.version == 3 || h.factor == 1 then Ok (behind h h.memory_count) else Err causes.Factor
+due_after (due.Memory h left) (lines.Memory block bytes) =
+    if length bytes.items == h.block then Ok (behind h (left - 1)) else Err (causes.Bytes h.block)
+due_after (due.Event h) (lines.Event r) = event_due h (checked h r.event)
+due_after (due.Event h) (lines.End count) = Ok due.Nothing
+due_after now line = Err (causes.Part (part_of now))
+
+-- ---- the lines
+
+abbrev pub line_bytes : Line → List ℕ
+line_bytes lines.Blank = []
+line_bytes (lines.Header h) = header_bytes h
+line_bytes (lines.Memory block bytes) = memory_bytes (block, bytes)
+line_bytes (lines.Event r) = record_bytes r
+line_bytes (lines.End count) = end_bytes count
+
+-- what was said so far: what is due, and the bytes
+abbrev pub judged : Due → List ℕ → Option CodecFault → Result (Due × List ℕ) AssembleCause
+judged next bytes None = Ok (next, bytes)
+judged next bytes (Some fault) = Err (causes.Format fault.cause)
+
+abbrev pub put_behind : List ℕ → Line → Result Due AssembleCause → Result (Due × List ℕ) AssembleCause
+put_behind bytes line (Ok next) = judged next (bytes ++ line_bytes line) (fault_so_far (bytes ++ line_bytes line))
+put_behind bytes line (Err cause) = Err cause
+
+abbrev pub said : Due → List ℕ → Result Line TextFault → Result (Due × List ℕ) AssembleCause
+said now bytes (Ok line) = put_behind bytes line (due_after now line)
+said now bytes (Err fault) = Err (causes.Text fault)
+
+-- one line more
+unfoldable pub added : Due → List ℕ → List ℕ → Result (Due × List ℕ) AssembleCause
+added now bytes text = said now bytes (line_of (ports_of now) text)
+
+abbrev pub ended : ℕ → List ℕ → Option CodecFault → Result (List ℕ) AssembleFault
+ended number bytes None = Ok bytes
+ended number bytes (Some fault) = Err (record { line = number; cause = causes.Format fault.cause })
+
+-- the bytes with those of these lines behind them, before which so many lines stand
+abbrev pub or_fault : {A : Type 0} → ℕ → Result A AssembleCause → (A → Result (List ℕ) AssembleFault) → Result (List ℕ) AssembleFault
+or_fault number (Ok x) f = f x
+or_fault number (Err cause) f = Err (record { line = number; cause = cause })
+
+unfoldable pub assembled : Due → List ℕ → ℕ → List (List ℕ) → Result (List ℕ) AssembleFault
+assembled now bytes number [] = ended number bytes (trace_fault bytes)
+assembled now bytes number (text ∷ texts) =
+    or_fault (number + 1) (added now bytes text) (λ next. assembled next.0 next.1 (number + 1) texts)
+
+abbrev pub is_newline : ℕ → Bool
+is_newline b = b == 10
+
+-- what a text gives
+abbrev pub assembled_text : List ℕ → Result (List ℕ) AssembleFault
+assembled_text text = assembled due.Lfts [] 0 (slice_split is_newline text)
+
+-- the answer is that, or memory ran out
+abbrev pub Assembles : Result (Vec ℕ) AssembleFault → Result (List ℕ) AssembleFault → Type 0
+Assembles (Ok v) due = due ≡ Ok v.items
+Assembles (Err fault) due = (fault.cause ≡ causes.Memory) ⊎ (due ≡ Err fault)

@@ -1,0 +1,71 @@
+//! Reads the lines of a text into the bytes of a trace.
+
+ghost use Rattle.std.specs.Prelude.{◌≡◌, ◌≤◌, ◌+◌, ◌∷◌, ◌^◌, ◌<◌, ℕ, List, length, IfOk, IfErr};
+ghost use Rattle.std.specs.List.{slice_split, position_or_len};
+ghost use Rattle.lf_codec.specs.Laws.{IsSomeTrace};
+ghost use Rattle.lf_dump.specs.Lines.{text_of};
+ghost use Rattle.lf_assemble.specs.declared.fault.AssembleCause.TheVariants.{Memory};
+ghost use Rattle.lf_assemble.specs.Assembly.{is_newline, assembled_text, Assembles};
+ghost use Rattle.lf_assemble.specs.Draft.{IsDraft, lines_in, left_in, Reads};
+
+use crate::draft::Draft;
+use crate::fault::AssembleFault;
+use lf_codec::faultless_bytes;
+use std::alloc::Global;
+
+/// How many bytes stand before the first newline.
+fn line_len(text: &[u8]) -> usize
+    ensures within { result ≤ length text.now }
+    ensures value { result ≡ position_or_len is_newline text.now }
+{
+    text.iter().take_while(|byte| **byte != b'\n').count()
+}
+
+/// The first line of a text, and what stands behind its newline, where it has one.
+fn split_line(text: &[u8]) -> (&[u8], Option<&[u8]>)
+    ensures lines { slice_split is_newline text.now ≡ result.0.now ∷ lines_in result.1 }
+    ensures shorter { left_in result.1 ≤ length text.now }
+{
+    let (line, rest) = text.split_at(line_len(text));
+    match rest {
+        [] => (line, None),
+        [_, behind @ ..] => (line, Some(behind)),
+    }
+}
+
+/// Adds each line of the text to the draft, and tells how many there were.
+fn add_lines(draft: &mut Draft, text: &[u8]) -> Result<u64, AssembleFault>
+    requires { IsDraft draft.old }
+    ensures { Reads draft.old draft.new (slice_split is_newline text.now) result }
+{
+    let mut number = 0;
+    let mut rest = Some(text);
+    while let Some(ahead) = rest {
+        let (line, behind) = split_line(ahead);
+        number += 1;
+        if let Err(cause) = draft.add(line) {
+            return Err(AssembleFault {
+                line: number,
+                cause,
+            });
+        }
+        rest = behind;
+    }
+    Ok(number)
+}
+
+/// The bytes of the trace whose text this is. A line may also be empty or have a comment alone, and each
+/// line may have any comment behind it.
+pub fn assemble(alloc: Global, text: &[u8]) -> Result<Vec<u8>, AssembleFault>
+    ensures exact { Assembles result (assembled_text text.now) }
+    // What is written is a trace.
+    ensures trace { IfOk result (λ v. IsSomeTrace v.items) }
+    // What was printed of a trace is read as that trace again.
+    ensures again { (bytes : List ℕ) → IsSomeTrace bytes → text.now ≡ text_of bytes → IfOk result (λ v. v.items ≡ bytes) }
+    ensures only { (bytes : List ℕ) → IsSomeTrace bytes → text.now ≡ text_of bytes → IfErr result (λ fault. fault.cause ≡ Memory) }
+{
+    faultless_bytes();
+    let mut draft = Draft::new(alloc);
+    let lines = add_lines(&mut draft, text)?;
+    draft.end(lines)
+}

@@ -1,0 +1,95 @@
+//! A trace that is being written, line by line.
+
+ghost use Rattle.std.specs.Prelude.{◌≡◌, ◌++◌, ℕ, List, [], None, IfOk};
+ghost use Rattle.lf_codec.specs.Reading.{trace_fault};
+ghost use Rattle.lf_assemble.specs.Assembly.{ended, Assembles};
+ghost use Rattle.lf_assemble.specs.declared.due.Due.TheVariants as due;
+ghost use Rattle.lf_assemble.specs.Draft.{IsFine, IsDraft, Judges, Adds};
+
+use crate::due::Due;
+use crate::fault::{AssembleCause, AssembleFault};
+use crate::spelling::put_line;
+use lf_codec::{CodecCause, Reader, fault_so_far};
+use lf_parse::read_line;
+use std::alloc::Global;
+
+/// The bytes of the lines so far.
+#[derive(Drop)]
+pub(crate) struct Draft {
+    /// What the next line has to say.
+    due: Due,
+    bytes: Vec<u8>,
+    /// It was fed the bytes, and judges them.
+    reader: Reader,
+}
+
+/// Hands the reader the bytes of one more line. What it reads of them is let go.
+fn judge(reader: &mut Reader, piece: &[u8]) -> Result<(), AssembleCause>
+    ensures { (bytes : List ℕ) → IsFine bytes reader.old → Judges reader.new (bytes ++ piece.now) result }
+{
+    fault_so_far();
+    match reader.feed(piece) {
+        Ok(()) => {
+            let _ = reader.take_memory();
+            reader.drop_front();
+            Ok(())
+        }
+        Err(told) => match told.fault().cause {
+            CodecCause::NoMemory => Err(AssembleCause::Memory),
+            cause => Err(AssembleCause::Format(cause)),
+        },
+    }
+}
+
+impl Draft {
+    /// A draft of no lines. It takes no memory.
+    pub(crate) fn new(alloc: Global) -> Draft
+        ensures draft { IsDraft result }
+        ensures due { result.due ≡ due.Lfts }
+        ensures bytes { result.bytes.items ≡ [] }
+    {
+        Draft {
+            due: Due::Lfts,
+            bytes: Vec::new(alloc),
+            reader: Reader::new(alloc),
+        }
+    }
+
+    /// Reads one more line, and puts its bytes behind those of the lines before.
+    #[tactic(auto, unfolding(crate::specs::Assembly::added))]
+    pub(crate) fn add(&mut self, text: &[u8]) -> Result<(), AssembleCause>
+        requires { IsDraft self.old }
+        ensures { Adds self.old self.new text.now result }
+    {
+        let line = match read_line(self.due.ports(), text) {
+            Ok(line) => line,
+            Err(fault) => return Err(AssembleCause::Text(fault)),
+        };
+        let due = self.due.after(&line)?;
+        let start = self.bytes.len();
+        put_line(&mut self.bytes, &line)?;
+        judge(&mut self.reader, &self.bytes[start..])?;
+        self.due = due;
+        Ok(())
+    }
+
+    /// The bytes, if they are a whole trace, where so many lines were read.
+    pub(crate) fn end(self, line: u64) -> Result<Vec<u8>, AssembleFault>
+        requires { IsDraft self }
+        ensures assembles { Assembles result (ended line self.bytes.items (trace_fault self.bytes.items)) }
+        ensures whole { IfOk result (λ v. trace_fault v.items ≡ None) }
+    {
+        let Draft {
+            bytes,
+            mut reader,
+            ..
+        } = self;
+        match reader.finish() {
+            Ok(_) => Ok(bytes),
+            Err(told) => {
+                let cause = AssembleCause::Format(told.fault().cause);
+                Err(AssembleFault { line, cause })
+            }
+        }
+    }
+}

@@ -1,0 +1,17 @@
+//! Assembles a trace from its text.
+//!
+//! `assemble` reads the lines that `lf_dump` prints of a trace, one after another, and writes the bytes of
+//! each. What was printed of a trace gives the bytes of that trace again, and what is written is a trace.
+//! `specs/Assembly` says what a text gives, and which fault another text has at which line.
+#![tactic(auto)]
+
+mod assembling;
+mod draft;
+mod due;
+mod fault;
+mod spelling;
+#[cfg(test)]
+mod tests;
+
+pub use assembling::assemble;
+pub use fault::{AssembleCause, AssembleFault, Part};
