@@ -5,3 +5,4 @@ pub mod ReportLemmas
 pub mod TellingLemmas
 pub mod ProgramLemmas
 pub mod CompletionLemmas
+pub mod ExplainLemmas

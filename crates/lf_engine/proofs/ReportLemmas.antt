@@ -1,4 +1,4 @@
--- From the bytes of a trace to its statistics.
+-- From the bytes of a trace to its statistics and its coverage.
 use Rattle.std.proofs.Common.{◌≡◌, ℕ, ◌+◌, ◌<◌, ◌≤◌, ◌^◌, List, [], ◌∷◌, Result, Ok, Err, IfOk, length, get_or, sym, ◌∙◌, ap, subst, arith}
 use Rattle.std.specs.List.{AllByRecursion, All}
 use Rattle.std.specs.Global.{Vec}
@@ -16,9 +16,11 @@ use Rattle.lf_codec.specs.Reading.{reading_of}
 use Rattle.lf_logs.specs.Lists.{lists_of, logs_of}
 use Rattle.lf_stats.specs.declared.counts.Stats.{Stats}
 use Rattle.lf_stats.specs.Answer.{AreStats}
+use Rattle.lf_coverage.specs.declared.coverage.Coverage.{Coverage}
+use Rattle.lf_coverage.specs.Coverage.{IsCoverage}
 use Rattle.lf_verdict.proofs.Answered.{log_below, limit_is_small}
 use Rattle.lf_verdict.proofs.Traces.{records_fit, log_of_logs}
-use Rattle.lf_engine.specs.Report.{IsCountable, AreStatisticsOf}
+use Rattle.lf_engine.specs.Report.{IsCountable, AreStatisticsOf, IsCoverageOf}
 
 all_below : (shape : Shape) (rs : List Record) → AllByRecursion (Fits shape) rs → AllByRecursion (λ r. r.log < shape.ports + shape.banks) rs
 all_below shape [] fits = tt
@@ -75,3 +77,14 @@ pub counted_if : {E : Type 0} (shape : Shape) (bytes : List ℕ) (c : IsCountabl
     → IfOk r (AreStats shape (lists_of logs)) → IfOk r (AreStatisticsOf shape bytes)
 counted_if shape bytes c logs (Ok stats) e are = counted shape bytes c logs stats e are
 counted_if shape bytes c logs (Err w) e are = tt
+
+covered : (shape : Shape) (bytes : List ℕ) (c : IsCountable shape bytes) (logs : Vec (Vec Record)) (coverage : Coverage) → lists_of logs ≡ c.logs
+    → IsCoverage shape (lists_of logs) coverage → IsCoverageOf shape bytes coverage
+covered shape bytes c logs coverage e is =
+    record { memory = c.memory; logs = c.logs; trace = c.trace; counts = subst (λ (ls : List (List Record)). IsCoverage shape ls coverage) e is }
+
+pub covered_if : {E : Type 0} (shape : Shape) (bytes : List ℕ) (c : IsCountable shape bytes) (logs : Vec (Vec Record)) (r : Result Coverage E)
+    → lists_of logs ≡ c.logs
+    → IfOk r (IsCoverage shape (lists_of logs)) → IfOk r (IsCoverageOf shape bytes)
+covered_if shape bytes c logs (Ok coverage) e is = covered shape bytes c logs coverage e is
+covered_if shape bytes c logs (Err w) e is = tt

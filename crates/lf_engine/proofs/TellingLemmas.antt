@@ -1,4 +1,4 @@
--- Laws of what a run for statistics comes to and tells.
+-- Laws of what a run for statistics or for the coverage comes to and tells.
 use Rattle.std.proofs.Common.{◌≡◌, ℕ, List, Option, None, Some, Result, Ok, Err, IfOk, String, string_bytes, sym, ap, ◌∙◌, subst, refl, inl, inr}
 use Rattle.std.specs.Global.{Global}
 use Rattle.lf_rules.specs.declared.shape.Shape.{Shape}
@@ -8,6 +8,7 @@ use Rattle.lf_verdict.specs.Verdict.{IsDecided, IsVerdictOf}
 use Rattle.lf_stream.specs.Account.{Account}
 use Rattle.lf_engine.specs.declared.fault.RunFault.{RunFault}
 use Rattle.lf_engine.specs.declared.report.Report.{Report}
+use Rattle.lf_engine.specs.declared.report.Wanted.{Wanted}
 use Rattle.lf_engine.specs.Report.{IsCountable, IsWritten, IsYesVerdict, HasLinesIfYes, verdict_in, FollowsLines, FollowsReport, lines_or, report_text}
 use Rattle.lf_engine.specs.Run.{Follows, outcome_line}
 
@@ -31,35 +32,35 @@ pub follows_verdict : (out : Result Report RunFault) (said : Result Verdict RunF
 follows_verdict (Ok report) said h = follows_lines report.lines report.verdict said h
 follows_verdict (Err fault) said h = h
 
-yes_written : (old new : Account) (config : List ℕ) (v : Verdict) (text : String Global)
-    → HasLinesIfYes old new config v (Some text)
-    → IsWritten old new config (Ok v) (string_bytes text)
-yes_written old new config (Yes events order) text h = h.1
-yes_written old new config (No f) text h = absurd h.0
-yes_written old new config (Refused f) text h = absurd h.0
+yes_written : (wanted : Wanted) (old new : Account) (config : List ℕ) (v : Verdict) (text : String Global)
+    → HasLinesIfYes wanted old new config v (Some text)
+    → IsWritten wanted old new config (Ok v) (string_bytes text)
+yes_written wanted old new config (Yes events order) text h = h.1
+yes_written wanted old new config (No f) text h = absurd h.0
+yes_written wanted old new config (Refused f) text h = absurd h.0
 
-other_written : (old new : Account) (config : List ℕ) (v : Verdict) → ¬ IsYesVerdict v
-    → IsWritten old new config (Ok v) (outcome_line (Ok v))
-other_written old new config (Yes events order) other = absurd (other tt)
-other_written old new config (No f) other = refl
-other_written old new config (Refused f) other = refl
+other_written : (wanted : Wanted) (old new : Account) (config : List ℕ) (v : Verdict) → ¬ IsYesVerdict v
+    → IsWritten wanted old new config (Ok v) (outcome_line (Ok v))
+other_written wanted old new config (Yes events order) other = absurd (other tt)
+other_written wanted old new config (No f) other = refl
+other_written wanted old new config (Refused f) other = refl
 
-lines_written : (old new : Account) (config : List ℕ) (lines : Option (String Global)) (v : Verdict)
+lines_written : (wanted : Wanted) (old new : Account) (config : List ℕ) (lines : Option (String Global)) (v : Verdict)
     (said : Result Verdict RunFault)
-    → HasLinesIfYes old new config v lines → FollowsLines lines v said → IsWritten old new config said (lines_or lines said)
-lines_written old new config (Some text) v said h e =
-    subst (λ (r : Result Verdict RunFault). IsWritten old new config r (string_bytes text)) (sym e) (yes_written old new config v text h)
-lines_written old new config None v (Ok w) h (inl same) = other_written old new config w (λ is. h (subst IsYesVerdict same is))
-lines_written old new config None v (Ok w) h (inr memory) = other_written old new config w (λ is. subst IsYesVerdict memory is)
-lines_written old new config None v (Err fault) h e = absurd e
+    → HasLinesIfYes wanted old new config v lines → FollowsLines lines v said → IsWritten wanted old new config said (lines_or lines said)
+lines_written wanted old new config (Some text) v said h e =
+    subst (λ (r : Result Verdict RunFault). IsWritten wanted old new config r (string_bytes text)) (sym e) (yes_written wanted old new config v text h)
+lines_written wanted old new config None v (Ok w) h (inl same) = other_written wanted old new config w (λ is. h (subst IsYesVerdict same is))
+lines_written wanted old new config None v (Ok w) h (inr memory) = other_written wanted old new config w (λ is. subst IsYesVerdict memory is)
+lines_written wanted old new config None v (Err fault) h e = absurd e
 
 -- What is written of a report is what is due for the answer.
-pub written : (old new : Account) (config : List ℕ) (out : Result Report RunFault) (said : Result Verdict RunFault)
-    → IfOk out (λ r. HasLinesIfYes old new config r.verdict r.lines) → FollowsReport out said
-    → IsWritten old new config said (report_text out said)
-written old new config (Ok report) said h follows = lines_written old new config report.lines report.verdict said h follows
-written old new config (Err fault) said h e =
-    subst (λ (r : Result Verdict RunFault). IsWritten old new config r (outcome_line r)) (sym e) refl
+pub written : (wanted : Wanted) (old new : Account) (config : List ℕ) (out : Result Report RunFault) (said : Result Verdict RunFault)
+    → IfOk out (λ r. HasLinesIfYes wanted old new config r.verdict r.lines) → FollowsReport out said
+    → IsWritten wanted old new config said (report_text out said)
+written wanted old new config (Ok report) said h follows = lines_written wanted old new config report.lines report.verdict said h follows
+written wanted old new config (Err fault) said h e =
+    subst (λ (r : Result Verdict RunFault). IsWritten wanted old new config r (outcome_line r)) (sym e) refl
 
 -- ---- lines that go out
 

@@ -5,3 +5,4 @@ pub mod Line
 pub mod Gathered
 pub mod Watch
 pub mod Complete
+pub mod Explain

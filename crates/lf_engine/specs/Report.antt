@@ -1,4 +1,4 @@
--- What a run for statistics answers and writes.
+-- What a run for statistics or for the coverage answers and writes.
 use Rattle.std.specs.Prelude.{◌≡◌, ℕ, ◌<◌, List, Option, Some, None, Result, Ok, Err, String, string_bytes}
 use Rattle.std.specs.Global.{Global}
 use Rattle.lf_rules.specs.declared.shape.Shape.{Shape}
@@ -9,6 +9,9 @@ use Rattle.lf_config.specs.Configuration.{configuration_of}
 use Rattle.lf_stats.specs.declared.counts.Stats.{Stats}
 use Rattle.lf_stats.specs.Answer.{AreStats}
 use Rattle.lf_stats.specs.Text.{stats_text}
+use Rattle.lf_coverage.specs.declared.coverage.Coverage.{Coverage}
+use Rattle.lf_coverage.specs.Coverage.{IsCoverage}
+use Rattle.lf_coverage.specs.Text.{coverage_text}
 use Rattle.lf_verdict.specs.declared.answer.Verdict.{Verdict}
 use Rattle.lf_verdict.specs.declared.answer.Verdict.TheVariants.{Yes}
 use Rattle.lf_verdict.specs.Legal.{IsTraceFor}
@@ -16,6 +19,8 @@ use Rattle.lf_stream.specs.Account.{Account}
 use Rattle.lf_engine.specs.declared.fault.RunFault.{RunFault}
 use Rattle.lf_engine.specs.declared.report.Judged.{Judged}
 use Rattle.lf_engine.specs.declared.report.Report.{Report}
+use Rattle.lf_engine.specs.declared.report.Wanted.{Wanted}
+use Rattle.lf_engine.specs.declared.report.Wanted.TheVariants as wants
 use Rattle.lf_engine.specs.Run.{Reads, Follows, outcome_line}
 
 -- The bytes are a trace for the shape, whose banks' numbers are whole.
@@ -32,25 +37,41 @@ pub record AreStatisticsOf (shape : Shape) (bytes : List ℕ) (stats : Stats) : 
   pub trace : IsTraceFor shape bytes memory logs
   pub counts : AreStats shape logs stats
 
--- The text has the lines of those statistics.
-pub record ArePrintedFor (shape : Shape) (bytes text : List ℕ) : Type 0 where
+-- This is the coverage of the logs of the trace in the bytes.
+pub record IsCoverageOf (shape : Shape) (bytes : List ℕ) (coverage : Coverage) : Type 0 where
+  pub memory : List (ℕ × Bytes)
+  pub logs : List (List Record)
+  pub trace : IsTraceFor shape bytes memory logs
+  pub counts : IsCoverage shape logs coverage
+
+-- The text has the lines of those statistics, or of that coverage.
+pub record AreStatisticsLines (shape : Shape) (bytes text : List ℕ) : Type 0 where
   pub stats : Stats
   pub statistics : AreStatisticsOf shape bytes stats
   pub lines : text ≡ stats_text stats
 
--- The text has the lines of the statistics of the bytes that the reader answered, for the shape that the
+pub record AreCoverageLines (shape : Shape) (bytes text : List ℕ) : Type 0 where
+  pub coverage : Coverage
+  pub covered : IsCoverageOf shape bytes coverage
+  pub lines : text ≡ coverage_text coverage
+
+abbrev pub ArePrintedFor : Wanted → Shape → List ℕ → List ℕ → Type 0
+ArePrintedFor wants.Statistics shape bytes text = AreStatisticsLines shape bytes text
+ArePrintedFor wants.Coverage shape bytes text = AreCoverageLines shape bytes text
+
+-- The text has the lines that are wanted of the bytes that the reader answered, for the shape that the
 -- configuration says.
-pub record ArePrinted (old new : Account) (config text : List ℕ) : Type 0 where
+pub record ArePrinted (wanted : Wanted) (old new : Account) (config text : List ℕ) : Type 0 where
   pub bytes : List ℕ
   pub reads : Reads old new bytes
   pub shape : Shape
   pub configured : configuration_of config ≡ Ok shape
-  pub printed : ArePrintedFor shape bytes text
+  pub printed : ArePrintedFor wanted shape bytes text
 
--- What is written for this answer: the statistics for a yes, otherwise its line.
-abbrev pub IsWritten : Account → Account → List ℕ → Result Verdict RunFault → List ℕ → Type 0
-IsWritten old new config (Ok (Yes events order)) text = ArePrinted old new config text
-IsWritten old new config answer text = text ≡ outcome_line answer
+-- What is written for this answer: the lines that are wanted for a yes, otherwise its line.
+abbrev pub IsWritten : Wanted → Account → Account → List ℕ → Result Verdict RunFault → List ℕ → Type 0
+IsWritten wanted old new config (Ok (Yes events order)) text = ArePrinted wanted old new config text
+IsWritten wanted old new config answer text = text ≡ outcome_line answer
 
 -- ---- before it is written
 
@@ -58,15 +79,15 @@ abbrev pub IsYesVerdict : Verdict → Type 0
 IsYesVerdict (Yes events order) = Unit {0}
 IsYesVerdict _ = ⊥
 
--- The lines of the statistics of the bytes are there exactly where the verdict is a yes.
-abbrev pub HasLinesFor : Shape → List ℕ → Verdict → Option (String Global) → Type 0
-HasLinesFor shape bytes verdict (Some text) = IsYesVerdict verdict × ArePrintedFor shape bytes (string_bytes text)
-HasLinesFor shape bytes verdict None = ¬ IsYesVerdict verdict
+-- The lines of the bytes are there exactly where the verdict is a yes.
+abbrev pub HasLinesFor : Wanted → Shape → List ℕ → Verdict → Option (String Global) → Type 0
+HasLinesFor wanted shape bytes verdict (Some text) = IsYesVerdict verdict × ArePrintedFor wanted shape bytes (string_bytes text)
+HasLinesFor wanted shape bytes verdict None = ¬ IsYesVerdict verdict
 
 -- Of the bytes that the reader answered the lines are there exactly where the verdict is a yes.
-abbrev pub HasLinesIfYes : Account → Account → List ℕ → Verdict → Option (String Global) → Type 0
-HasLinesIfYes old new config verdict (Some text) = IsYesVerdict verdict × ArePrinted old new config (string_bytes text)
-HasLinesIfYes old new config verdict None = ¬ IsYesVerdict verdict
+abbrev pub HasLinesIfYes : Wanted → Account → Account → List ℕ → Verdict → Option (String Global) → Type 0
+HasLinesIfYes wanted old new config verdict (Some text) = IsYesVerdict verdict × ArePrinted wanted old new config (string_bytes text)
+HasLinesIfYes wanted old new config verdict None = ¬ IsYesVerdict verdict
 
 -- the verdict that a run came to
 abbrev pub judged_in : Result Judged RunFault → Result Verdict RunFault

@@ -2,15 +2,17 @@
 //! of its verdict goes to a writer.
 //!
 //! `run` judges for the text of a configuration, `run_shape` for a shape. `run_stats` also counts over
-//! a trace that is legal, and writes the lines of its statistics. `run_complete` asks whether each request of
-//! a legal trace has a reply. `run_watch` reads no further than to the
-//! piece with which a trace broke for good. Both streams are `Counted`, so that
+//! a trace that is legal, and writes the lines of its statistics, and `run_cover` those of its coverage.
+//! `run_complete` asks whether each request of a legal trace has a reply. `run_explain` also writes why a
+//! record breaks a rule. `run_watch` reads no further than to the piece with which a trace broke for good.
+//! Both streams are `Counted`, so that
 //! the contracts can say how often they were called, when a call failed, and which bytes the reads
 //! answered and the writes took. `Line` is each line that a program over the engine prints.
 #![tactic(auto)]
 
 mod complete;
 mod engine;
+mod explain;
 mod fault;
 mod gathering;
 mod keeping;
@@ -21,9 +23,11 @@ mod watch;
 mod watching;
 
 pub use complete::{Completion, run_complete};
-pub use engine::{are_workers, run, run_shape};
+pub use engine::{are_workers, run, run_shape, shape_for};
+pub use explain::run_explain;
 pub use fault::RunFault;
 pub use lf_stream::Counted;
 pub use line::{InputFault, Line};
-pub use statistics::run_stats;
+pub use report::Judged;
+pub use statistics::{judge_and_keep, run_cover, run_stats};
 pub use watch::{Watched, run_watch};

@@ -1,18 +1,27 @@
-//! The statistics of a trace that was kept.
+//! The statistics and the coverage of a trace that was kept.
 
 ghost use Rattle.std.specs.Prelude.{◌≡◌, IfOk, OnOk, string_bytes};
 ghost use Rattle.lf_codec.specs.Laws.{AreBytes};
 ghost use Rattle.lf_codec.specs.Reading.{reading_of};
 ghost use Rattle.lf_rules.specs.InRange.{IsShape};
 ghost use Rattle.lf_stats.specs.Text.{stats_text};
-ghost use Rattle.lf_engine.specs.Report.{IsCountable, AreStatisticsOf, ArePrintedFor};
+ghost use Rattle.lf_coverage.specs.Text.{coverage_text};
+ghost use Rattle.lf_engine.specs.Report.{IsCountable, AreStatisticsOf, AreStatisticsLines, IsCoverageOf, AreCoverageLines, ArePrintedFor};
 
 use lf_codec::{Reader, exact_reading};
+use lf_coverage::{Coverage, cover};
 use lf_logs::split;
 use lf_rules::{NoMemory, Record, Shape};
 use lf_stats::{Stats, stats};
 use lf_verdict::Verdict;
 use std::alloc::{AllocError, Global};
+
+/// Which lines are wanted of a trace that is legal.
+#[derive(Clone, Copy, Debug, PartialEq, Eq)]
+pub enum Wanted {
+    Statistics,
+    Coverage,
+}
 
 /// A verdict, and the bytes that it is of.
 #[derive(Drop)]
@@ -21,7 +30,7 @@ pub struct Judged {
     pub bytes: Vec<u8>,
 }
 
-/// What a run for statistics came to: a verdict, and after a yes the lines of the statistics.
+/// What a run came to: a verdict, and after a yes the lines that are wanted.
 #[derive(Drop)]
 pub struct Report {
     pub verdict: Verdict,
@@ -59,21 +68,69 @@ fn statistics_of(alloc: Global, shape: &Shape, bytes: &[u8]) -> Result<Stats, No
     stats(alloc, shape, &logs)
 }
 
+/// The coverage of the trace in these bytes.
+fn coverage_of(alloc: Global, shape: &Shape, bytes: &[u8]) -> Result<Coverage, NoMemory>
+    requires in_range { IsShape shape.now }
+    requires countable { IsCountable shape.now bytes.now }
+    ensures { IfOk result (IsCoverageOf shape.now bytes.now) }
+{
+    exact_reading();
+    let records = records_in(alloc, bytes)?;
+    let logs = split(alloc, shape.ports, shape.banks, records)?;
+    cover(alloc, shape, &logs)
+}
+
 fn text_of(alloc: Global, counts: &Stats) -> Result<String, AllocError>
     ensures { IfOk result (λ text. string_bytes text ≡ stats_text counts.now) }
 {
     format!(in alloc; "{counts}")
 }
 
+fn text_of_coverage(alloc: Global, coverage: &Coverage) -> Result<String, AllocError>
+    ensures { IfOk result (λ text. string_bytes text ≡ coverage_text coverage.now) }
+{
+    format!(in alloc; "{coverage}")
+}
+
 /// The lines of the statistics of the trace in these bytes.
-pub fn lines_of(alloc: Global, shape: &Shape, bytes: &[u8]) -> Result<String, NoMemory>
+fn statistics_lines(alloc: Global, shape: &Shape, bytes: &[u8]) -> Result<String, NoMemory>
     requires in_range { IsShape shape.now }
     requires countable { IsCountable shape.now bytes.now }
-    ensures { IfOk result (λ text. ArePrintedFor shape.now bytes.now (string_bytes text)) }
+    ensures { IfOk result (λ text. AreStatisticsLines shape.now bytes.now (string_bytes text)) }
 {
     let counts = statistics_of(alloc, shape, bytes)?;
     match text_of(alloc, &counts) {
         Ok(text) => Ok(text),
         Err(_) => Err(NoMemory),
+    }
+}
+
+/// The lines of the coverage of the trace in these bytes.
+fn coverage_lines(alloc: Global, shape: &Shape, bytes: &[u8]) -> Result<String, NoMemory>
+    requires in_range { IsShape shape.now }
+    requires countable { IsCountable shape.now bytes.now }
+    ensures { IfOk result (λ text. AreCoverageLines shape.now bytes.now (string_bytes text)) }
+{
+    let coverage = coverage_of(alloc, shape, bytes)?;
+    match text_of_coverage(alloc, &coverage) {
+        Ok(text) => Ok(text),
+        Err(_) => Err(NoMemory),
+    }
+}
+
+/// The lines that are wanted of the trace in these bytes.
+pub fn lines_of(
+    alloc: Global,
+    shape: &Shape,
+    bytes: &[u8],
+    wanted: Wanted,
+) -> Result<String, NoMemory>
+    requires in_range { IsShape shape.now }
+    requires countable { IsCountable shape.now bytes.now }
+    ensures { IfOk result (λ text. ArePrintedFor wanted shape.now bytes.now (string_bytes text)) }
+{
+    match wanted {
+        Wanted::Statistics => statistics_lines(alloc, shape, bytes),
+        Wanted::Coverage => coverage_lines(alloc, shape, bytes),
     }
 }

@@ -1,4 +1,4 @@
-//! Reads the bytes of a trace, judges them and writes their statistics.
+//! Reads the bytes of a trace, judges them, and writes their statistics or their coverage.
 
 ghost use Rattle.std.specs.Prelude.{◌≡◌, ◌≢◌, ◌<◌, ◌↔◌, ℕ, List, take, Ok, Err, IfOk, IsErrOf, Result};
 ghost use Rattle.lf_rules.specs.InRange.{IsShape};
@@ -18,7 +18,7 @@ ghost use Rattle.lf_engine.specs.Run.{IsAsked, IsOutcome, Reads, Follows, IsRunW
 use crate::engine::{PIECE, shape_for, tell};
 use crate::fault::RunFault;
 use crate::keeping::Keeping;
-use crate::report::{Judged, Report, lines_of};
+use crate::report::{Judged, Report, Wanted, lines_of};
 use lf_codec::{exact_reading, fault_so_far, faults_stand};
 use lf_rules::{NoMemory, Shape};
 use lf_stream::{Counted, Source, Stop, gather, put, zeros};
@@ -73,12 +73,12 @@ pub fn judge_and_keep<T: AllocGlobal, S: Source>(
     }
 }
 
-/// The lines of the statistics go with a yes. Where they want memory, that is the verdict.
-fn report_of(alloc: Global, shape: &Shape, bytes: &[u8], verdict: Verdict) -> Report
+/// The lines that are wanted go with a yes. Where they are refused memory, that is the verdict.
+fn report_of(alloc: Global, shape: &Shape, bytes: &[u8], verdict: Verdict, wanted: Wanted) -> Report
     requires shape { IsShape shape.now }
     requires judged { IsDecided verdict → IsVerdictOf shape.now 1 bytes.now verdict }
     ensures follows { Follows (Ok verdict) (Ok result.verdict) }
-    ensures lines { HasLinesFor shape.now bytes.now result.verdict result.lines }
+    ensures lines { HasLinesFor wanted shape.now bytes.now result.verdict result.lines }
 {
     if !matches!(&verdict, Verdict::Yes { .. }) {
         return Report {
@@ -86,7 +86,7 @@ fn report_of(alloc: Global, shape: &Shape, bytes: &[u8], verdict: Verdict) -> Re
             lines: None,
         };
     }
-    match lines_of(alloc, shape, bytes) {
+    match lines_of(alloc, shape, bytes, wanted) {
         Ok(text) => Report {
             verdict,
             lines: Some(text),
@@ -104,6 +104,7 @@ fn report_for<T: AllocGlobal, S: Source>(
     source: &mut S,
     shape: &Shape,
     turns: u32,
+    wanted: Wanted,
 ) -> Result<Report, RunFault>
     requires calls { (S.account source.old).calls ≡ 0 }
     requires failures { (S.account source.old).failures ≡ 0 }
@@ -111,10 +112,10 @@ fn report_for<T: AllocGlobal, S: Source>(
     ensures outcome { IsOutcome (S.account source.old) (S.account source.new)
         (IsWorkerCount 1) (IsLegal shape.now) (IsVerdictOf shape.now 1) turns (verdict_in result) }
     ensures lines { (config : List ℕ) → configuration_of config ≡ Ok shape.now → IfOk result (λ r.
-        HasLinesIfYes (S.account source.old) (S.account source.new) config r.verdict r.lines) }
+        HasLinesIfYes wanted (S.account source.old) (S.account source.new) config r.verdict r.lines) }
 {
     let Judged { verdict, bytes } = judge_and_keep(rt, source, shape, turns)?;
-    Ok(report_of(rt.alloc(), shape, bytes.as_slice(), verdict))
+    Ok(report_of(rt.alloc(), shape, bytes.as_slice(), verdict, wanted))
 }
 
 /// Judges the configuration, and only then reads.
@@ -123,6 +124,7 @@ fn report_configured<T: AllocGlobal, S: Source>(
     source: &mut S,
     config: &str,
     turns: u32,
+    wanted: Wanted,
 ) -> Result<Report, RunFault>
     requires calls { (S.account source.old).calls ≡ 0 }
     requires failures { (S.account source.old).failures ≡ 0 }
@@ -130,10 +132,10 @@ fn report_configured<T: AllocGlobal, S: Source>(
     ensures outcome { IsOutcome (S.account source.old) (S.account source.new)
         (IsAsked config.now 1) (IsLegalFor config.now) (IsVerdictFor config.now 1) turns (verdict_in result) }
     ensures lines { IfOk result (λ r.
-        HasLinesIfYes (S.account source.old) (S.account source.new) config.now r.verdict r.lines) }
+        HasLinesIfYes wanted (S.account source.old) (S.account source.new) config.now r.verdict r.lines) }
 {
     match shape_for(rt.alloc(), config, 1) {
-        Ok(shape) => report_for(rt, source, &shape, turns),
+        Ok(shape) => report_for(rt, source, &shape, turns, wanted),
         Err(refusal) => Ok(Report {
             verdict: Verdict::Refused(refusal),
             lines: None,
@@ -142,7 +144,7 @@ fn report_configured<T: AllocGlobal, S: Source>(
 }
 
 /// Writes the lines of a report, or else the line of its verdict.
-fn tell_report<W: Write>(
+pub fn tell_report<W: Write>(
     alloc: Global,
     writer: &mut Counted<W>,
     outcome: Result<Report, RunFault>,
@@ -170,6 +172,32 @@ fn tell_report<W: Write>(
     }
 }
 
+/// Reads, judges and writes the lines that are wanted, or the line of the verdict.
+fn run_report<T: AllocGlobal, R: Read, W: Write>(
+    rt: &T,
+    reader: &mut Counted<R>,
+    writer: &mut Counted<W>,
+    config: &str,
+    turns: u32,
+    wanted: Wanted,
+) -> Result<Verdict, RunFault>
+    requires calls { calls_of reader.old ≡ 0 }
+    requires failures { failures_of reader.old ≡ 0 }
+    requires writes { failures_of writer.old ≡ 0 }
+    ensures unread { ¬ IsAsked config.now 1 → reader.new ≡ reader.old }
+    ensures run { IsRunWriting (account_of R.remaining reader.old) (account_of R.remaining reader.new)
+        (account_of W.contents writer.old) (account_of W.contents writer.new)
+        (IsAsked config.now 1) (IsLegalFor config.now) (IsRunlessNoFor config.now) (IsVerdictFor config.now 1)
+        (IsWritten wanted (account_of R.remaining reader.old) (account_of R.remaining reader.new) config.now) turns result }
+{
+    exact_reading();
+    fault_so_far();
+    faults_stand();
+    no_has_no_run();
+    let outcome = report_configured(rt, reader, config, turns, wanted);
+    tell_report(rt.alloc(), writer, outcome)
+}
+
 /// Reads the trace until the reader is at its end or a fault stands in what it gave, judges it with one
 /// worker for the shape that the configuration says, and writes the statistics of a trace that is legal: a
 /// line for each bank and one for each port. Otherwise it writes the line of the verdict. Each read is a
@@ -193,12 +221,28 @@ pub fn run_stats<T: AllocGlobal, R: Read, W: Write>(
     ensures run { IsRunWriting (account_of R.remaining reader.old) (account_of R.remaining reader.new)
         (account_of W.contents writer.old) (account_of W.contents writer.new)
         (IsAsked config.now 1) (IsLegalFor config.now) (IsRunlessNoFor config.now) (IsVerdictFor config.now 1)
-        (IsWritten (account_of R.remaining reader.old) (account_of R.remaining reader.new) config.now) turns result }
+        (IsWritten Wanted.Statistics (account_of R.remaining reader.old) (account_of R.remaining reader.new) config.now) turns result }
 {
-    exact_reading();
-    fault_so_far();
-    faults_stand();
-    no_has_no_run();
-    let outcome = report_configured(rt, reader, config, turns);
-    tell_report(rt.alloc(), writer, outcome)
+    run_report(rt, reader, writer, config, turns, Wanted::Statistics)
+}
+
+/// As `run_stats`, but writes the coverage of a trace that is legal: a line for each point that was not reached, one
+/// for each point that was, and how many were.
+pub fn run_cover<T: AllocGlobal, R: Read, W: Write>(
+    rt: &T,
+    reader: &mut Counted<R>,
+    writer: &mut Counted<W>,
+    config: &str,
+    turns: u32,
+) -> Result<Verdict, RunFault>
+    requires calls { calls_of reader.old ≡ 0 }
+    requires failures { failures_of reader.old ≡ 0 }
+    requires writes { failures_of writer.old ≡ 0 }
+    ensures unread { ¬ IsAsked config.now 1 → reader.new ≡ reader.old }
+    ensures run { IsRunWriting (account_of R.remaining reader.old) (account_of R.remaining reader.new)
+        (account_of W.contents writer.old) (account_of W.contents writer.new)
+        (IsAsked config.now 1) (IsLegalFor config.now) (IsRunlessNoFor config.now) (IsVerdictFor config.now 1)
+        (IsWritten Wanted.Coverage (account_of R.remaining reader.old) (account_of R.remaining reader.new) config.now) turns result }
+{
+    run_report(rt, reader, writer, config, turns, Wanted::Coverage)
 }

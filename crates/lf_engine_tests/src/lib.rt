@@ -8,6 +8,8 @@ mod configured;
 #[cfg(test)]
 mod counts;
 #[cfg(test)]
+mod coverage;
+#[cfg(test)]
 mod cuts;
 #[cfg(test)]
 mod damage;
@@ -15,6 +17,8 @@ mod damage;
 mod demonstrations;
 #[cfg(test)]
 mod examples;
+#[cfg(test)]
+mod explained;
 #[cfg(test)]
 mod gathered;
 #[cfg(test)]

@@ -1,4 +1,4 @@
-use Rattle.std.proofs.Common.{◌≡◌, Ok, Err, refl, inl, inr, rules}
+use Rattle.std.proofs.Common.{◌≡◌, Ok, refl, inl, inr, rules}
 use Rattle.lf_verdict.specs.declared.answer.Refusal.TheVariants.{Memory}
 use Rattle.lf_verdict.specs.declared.answer.Verdict.TheVariants.{Refused}
 use Rattle.lf_engine.specs.declared.watch.Watched.TheVariants.{Judged, Broken}

@@ -1,5 +1,4 @@
-use Rattle.std.proofs.Common.{◌∙◌, arith, rules, refl, sym, subst, Some}
-use Rattle.lf_rules.specs.declared.shape.Shape.{Shape}
+use Rattle.std.proofs.Common.{◌∙◌, arith, rules}
 use Rattle.lf_engine.specs.Watch.{IsWhollyRead}
 use Rattle.lf_engine.proofs.JudgingLemmas.{all_read, finished}
 use Rattle.lf_engine.proofs.watch.watch_shape.Goals as goal

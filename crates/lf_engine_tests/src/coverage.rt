@@ -1,0 +1,62 @@
+//! The coverage that is written, and what is written in its place.
+
+use crate::streams::Pieces;
+use lf_engine::{Counted, run_cover};
+use lf_samples::{C1, C1_TEXT, LOAD, LOADED, trace_of};
+use std::process::Abort;
+use std::test::Fail;
+
+/// The coverage of a load that misses both levels and has its reply.
+const OF_LOAD: &str = "\
+bank=0 hit=0
+bank=0 merge=0
+bank=0 stall=0
+bank=0 evict1=0
+bank=0 evict1_clean=0
+bank=0 evict1_part=0
+bank=0 evict1_whole=0
+bank=0 hit_under_miss=0
+bank=0 second_hit=0
+bank=0 evict2=0
+bank=0 evict2_dirty_0=0
+bank=0 evict2_dirty_1=0
+port=0 load_1=0
+port=0 load_2=0
+port=0 load_4=0
+port=0 store_1=0
+port=0 store_2=0
+port=0 store_4=0
+port=0 store_8=0
+port=0 fence=0
+bank=0 primary=1
+bank=0 fill1=1
+bank=0 second_primary=1
+bank=0 fill2=1
+bank=0 registers_1=1
+port=0 load_8=1
+port=0 reply=1
+covered 7 of 27
+";
+
+/// Fails where another text is written of the trace of these events of port 0 and bank 0.
+fn assert_covered<T: Abort + AllocGlobal>(rt: &T, parts: &[&str], text: &str) -> Result<(), Fail> {
+    let bytes = trace_of(rt.alloc(), &C1, parts)?;
+    let mut reader = Counted::new(Pieces::new(&bytes, 50));
+    let mut writer = Counted::new(Vec::new(rt.alloc()));
+    let answer = run_cover(rt, &mut reader, &mut writer, C1_TEXT, 1000);
+    assert!(rt; answer.is_ok());
+    assert_eq!(rt; std::str::from_utf8(writer.inner()), Ok(text));
+    Ok(())
+}
+
+#[test]
+fn coverage_of_load_misses_both_levels(rt: HostRuntime) -> Result<(), Fail> {
+    assert_covered(&rt, &[LOAD, LOADED], OF_LOAD)
+}
+
+#[test]
+fn coverage_of_reply_with_a_wrong_byte(rt: HostRuntime) -> Result<(), Fail> {
+    let wrong = "R 0=0100000000000000";
+    let line = "no bank=0 number=5 rule=ReplyData\n";
+    assert_covered(&rt, &[LOAD, wrong], line)
+}
