@@ -1,0 +1,5 @@
+use Rattle.lf_shrink.proofs.Larger.{same_size}
+use Rattle.lf_shrink.proofs.search.smallest.Goals as goal
+
+pub loop-checks-init : goal.loop-checks-init
+loop-checks-init c = record { kept = c.requires.kept; smaller = same_size _ }

@@ -1,0 +1,5 @@
+-- What a search for a smaller trace answers.
+pub mod Broken
+pub mod Candidate
+pub mod Shrunk
+pub mod Text

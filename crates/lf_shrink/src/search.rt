@@ -1,0 +1,100 @@
+//! The search for a smaller trace.
+
+ghost use Rattle.std.specs.Prelude.{◌≡◌, ◌≤◌, IfOk, IfErr};
+ghost use Rattle.lf_rules.specs.InRange.{IsShape};
+ghost use Rattle.lf_shrink.specs.declared.candidate.Kept.{Kept};
+ghost use Rattle.lf_shrink.specs.Candidate.{IsKept, IsNoLargerThan};
+
+use crate::broken::Wanted;
+use crate::candidate::{Candidate, Kept, kept_if};
+use crate::plan::Plan;
+use lf_codec::Header;
+use lf_rules::{NoMemory, Shape};
+use std::alloc::Global;
+
+/// The smallest trace that was found, and how many were judged.
+#[derive(Drop)]
+pub(crate) struct Found {
+    pub best: Kept,
+    pub checks: u32,
+}
+
+/// The smallest trace after a candidate was judged.
+#[derive(Drop)]
+struct Tried {
+    best: Kept,
+    was_kept: bool,
+}
+
+/// Judges a candidate. Where memory runs out, the smallest trace is handed back.
+#[tactic(auto, using(crate::proofs::Larger::smaller_still))]
+fn judge(
+    alloc: Global,
+    shape: &Shape,
+    header: &Header,
+    wanted: Wanted,
+    candidate: Candidate,
+    best: Kept,
+) -> Result<Tried, Kept>
+    requires shape { IsShape shape.now }
+    requires kept { IsKept shape.now wanted best }
+    ensures kept { IfOk result (λ tried. IsKept shape.now wanted tried.best) }
+    ensures smaller { IfOk result (λ tried. (first : Kept) → IsNoLargerThan first best → IsNoLargerThan first tried.best) }
+    ensures unchanged { IfErr result (λ last. last ≡ best) }
+{
+    match kept_if(alloc, shape, header, wanted, candidate, &best) {
+        Ok(Some(kept)) => Ok(Tried {
+            best: kept,
+            was_kept: true,
+        }),
+        Ok(None) => Ok(Tried {
+            best,
+            was_kept: false,
+        }),
+        Err(NoMemory) => Err(best),
+    }
+}
+
+/// Judges at most so many traces, each smaller than the smallest one so far. Where memory runs out, the search
+/// ends with what it found.
+#[tactic(auto, using(crate::proofs::Larger::same_size))]
+pub(crate) fn smallest(
+    alloc: Global,
+    shape: &Shape,
+    header: &Header,
+    wanted: Wanted,
+    first: Kept,
+    most: u32,
+) -> Found
+    requires shape { IsShape shape.now }
+    requires kept { IsKept shape.now wanted first }
+    ensures kept { IsKept shape.now wanted result.best }
+    ensures smaller { IsNoLargerThan first result.best }
+    ensures checks { result.checks ≤ most }
+{
+    let mut best = first;
+    let Ok(mut plan) = Plan::new(alloc, shape, &best) else {
+        return Found { best, checks: 0 };
+    };
+    for checks in 0..most {
+        let Ok(Some(candidate)) = plan.next(&best) else {
+            return Found { best, checks };
+        };
+        match judge(alloc, shape, header, wanted, candidate, best) {
+            Ok(
+                Tried {
+                    best: next,
+                    was_kept,
+                },
+            ) => {
+                best = next;
+                if plan.note(&best, was_kept).is_err() {
+                    let checks = checks + 1;
+                    return Found { best, checks };
+                }
+            }
+            Err(last) => return Found { best: last, checks },
+        }
+    }
+    Found { best, checks: most }
+}

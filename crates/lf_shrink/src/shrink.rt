@@ -1,0 +1,240 @@
+//! Reads the bytes of a trace, judges them, and searches for a smaller trace with the same rule broken.
+
+ghost use Rattle.std.specs.Prelude.{◌≡◌, ◌↔◌, ℕ, List, Ok, IfOk, IfSome, IfNone};
+ghost use Rattle.lf_rules.specs.InRange.{IsShape};
+ghost use Rattle.lf_codec.specs.Trace.{IsTrace};
+ghost use Rattle.lf_config.specs.Configuration.{configuration_of};
+ghost use Rattle.lf_verdict.specs.declared.answer.Verdict.{Verdict};
+ghost use Rattle.lf_verdict.specs.Verdict.{IsWorkerCount, IsDecided, IsVerdictOf};
+ghost use Rattle.lf_verdict.specs.Legal.{IsLegal};
+ghost use Rattle.lf_verdict.specs.Configured.{IsVerdictFor, IsLegalFor};
+ghost use Rattle.lf_stream.specs.Counted.{calls_of, failures_of, account_of};
+ghost use Rattle.lf_engine.specs.Run.{IsAsked, IsOutcome, Follows};
+ghost use Rattle.lf_shrink.specs.Broken.{fault_of};
+ghost use Rattle.lf_shrink.specs.Candidate.{IsKept};
+ghost use Rattle.lf_shrink.specs.Shrunk.{IsRuleNo, IsShrunk, IsShrinkingFor, IsShrinking, verdict_of};
+
+use crate::broken::{RuleFault, Wanted};
+use crate::candidate::Kept;
+use crate::search::{Found, smallest};
+use lf_codec::{Header, Reader};
+use lf_engine::{Counted, Judged, RunFault, judge_and_keep, shape_for};
+use lf_rules::{Memory, NoMemory, Record, Shape};
+use lf_stream::Source;
+use lf_verdict::{Refusal, Verdict};
+use std::alloc::Global;
+use std::io::Read;
+
+/// The smallest trace that was found.
+#[derive(Debug, Drop, PartialEq)]
+pub struct Shrunk {
+    /// Its bytes.
+    pub bytes: Vec<u8>,
+    /// Its fault.
+    pub fault: RuleFault,
+    /// How many events it has.
+    pub left: usize,
+    /// The fault of the trace that was read.
+    pub first: RuleFault,
+    /// How many events that trace has.
+    pub events: usize,
+    /// How many smaller traces were judged.
+    pub checks: u32,
+}
+
+/// What a search for a smaller trace came to.
+#[derive(Debug, Drop, PartialEq)]
+pub enum Shrinking {
+    /// The verdict of the trace names no rule, so there is nothing to search for.
+    Judged(Verdict),
+    /// It names one.
+    Shrunk(Shrunk),
+}
+
+/// The fault of a verdict that names a rule.
+fn rule_fault(verdict: &Verdict) -> Option<RuleFault>
+    ensures some { IfSome result (λ fault. verdict.now ≡ Verdict.No (fault_of fault)) }
+    ensures none { IfNone result (¬ IsRuleNo verdict.now) }
+{
+    match verdict {
+        Verdict::No(fault) => RuleFault::of(fault),
+        _ => None,
+    }
+}
+
+/// The memory that a reader still has.
+fn memory_of(alloc: Global, reader: &mut Reader) -> Result<Memory, NoMemory>
+    ensures memory { IfOk result (λ memory. memory.items ≡ reader.old.memory) }
+    ensures records { reader.new.records ≡ reader.old.records }
+{
+    let mut memory = Vec::new(alloc);
+    while let Some(block) = reader.take_memory() {
+        memory.push(block)?;
+    }
+    Ok(memory)
+}
+
+/// The records that a reader still has.
+fn records_of(alloc: Global, reader: &mut Reader) -> Result<Vec<Record>, NoMemory>
+    ensures { IfOk result (λ records. records.items ≡ reader.old.records) }
+{
+    let mut records = Vec::new(alloc);
+    while let Some(item) = reader.take() {
+        records.push(item)?;
+    }
+    Ok(records)
+}
+
+/// What a trace has.
+#[derive(Drop)]
+struct Parts {
+    header: Header,
+    memory: Memory,
+    records: Vec<Record>,
+}
+
+/// The header, the memory and the records of a trace. A trace has no fault, so a reader refuses it where there is
+/// no memory.
+fn parts_of(alloc: Global, bytes: &[u8]) -> Result<Parts, NoMemory>
+    ensures { IfOk result (λ parts. IsTrace bytes.now parts.header parts.memory.items parts.records.items) }
+{
+    let mut reader = Reader::new(alloc);
+    let Ok(()) = reader.feed(bytes) else {
+        return Err(NoMemory);
+    };
+    let Ok(header) = reader.finish() else {
+        return Err(NoMemory);
+    };
+    let memory = memory_of(alloc, &mut reader)?;
+    let records = records_of(alloc, &mut reader)?;
+    Ok(Parts {
+        header,
+        memory,
+        records,
+    })
+}
+
+/// The smallest trace that is found for a trace whose verdict has this fault.
+fn shrunk_of(
+    alloc: Global,
+    shape: &Shape,
+    bytes: Vec<u8>,
+    fault: RuleFault,
+    most: u32,
+) -> Result<Shrunk, NoMemory>
+    requires shape { IsShape shape.now }
+    requires verdict { IsVerdictOf shape.now 1 bytes.items (Verdict.No (fault_of fault)) }
+    ensures shrunk { IfOk result (IsShrunk shape.now bytes.items most) }
+    ensures first { IfOk result (λ s. s.first ≡ fault) }
+{
+    let Parts {
+        header,
+        memory,
+        records,
+    } = parts_of(alloc, &bytes)?;
+    let wanted = Wanted {
+        rule: fault.rule(),
+        kind: fault.kind(&records),
+    };
+    let events = records.len();
+    let whole = Kept {
+        memory,
+        records,
+        bytes,
+        fault,
+    };
+    let Found { best, checks } = smallest(alloc, shape, &header, wanted, whole, most);
+    let left = best.records.len();
+    Ok(Shrunk {
+        bytes: best.bytes,
+        fault: best.fault,
+        left,
+        first: fault,
+        events,
+        checks,
+    })
+}
+
+/// Searches where the verdict names a rule. Where memory runs out before the search, that is the verdict.
+fn shrinking_of(alloc: Global, shape: &Shape, judged: Judged, most: u32) -> Shrinking
+    requires shape { IsShape shape.now }
+    requires judged { IsDecided judged.verdict → IsVerdictOf shape.now 1 judged.bytes.items judged.verdict }
+    ensures follows { Follows (Ok judged.verdict) (verdict_of (Ok result)) }
+    ensures shrunk { IsShrinkingFor shape.now judged.bytes.items most result }
+{
+    let Judged { verdict, bytes } = judged;
+    let Some(fault) = rule_fault(&verdict) else {
+        return Shrinking::Judged(verdict);
+    };
+    match shrunk_of(alloc, shape, bytes, fault, most) {
+        Ok(shrunk) => Shrinking::Shrunk(shrunk),
+        Err(NoMemory) => Shrinking::Judged(Verdict::Refused(Refusal::Memory)),
+    }
+}
+
+/// Reads, judges and searches for the shape.
+fn shrink_for<T: AllocGlobal, S: Source>(
+    rt: &T,
+    source: &mut S,
+    shape: &Shape,
+    most: u32,
+    turns: u32,
+) -> Result<Shrinking, RunFault>
+    requires calls { (S.account source.old).calls ≡ 0 }
+    requires failures { (S.account source.old).failures ≡ 0 }
+    requires shape { IsShape shape.now }
+    ensures outcome { IsOutcome (S.account source.old) (S.account source.new)
+        (IsWorkerCount 1) (IsLegal shape.now) (IsVerdictOf shape.now 1) turns (verdict_of result) }
+    ensures shrunk { (config : List ℕ) → configuration_of config ≡ Ok shape.now → IfOk result
+        (IsShrinking (S.account source.old) (S.account source.new) config most) }
+{
+    let judged = judge_and_keep(rt, source, shape, turns)?;
+    Ok(shrinking_of(rt.alloc(), shape, judged, most))
+}
+
+/// Judges the configuration, and only then reads.
+fn shrink_configured<T: AllocGlobal, S: Source>(
+    rt: &T,
+    source: &mut S,
+    config: &str,
+    most: u32,
+    turns: u32,
+) -> Result<Shrinking, RunFault>
+    requires calls { (S.account source.old).calls ≡ 0 }
+    requires failures { (S.account source.old).failures ≡ 0 }
+    ensures unread { ¬ IsAsked config.now 1 → source.new ≡ source.old }
+    ensures outcome { IsOutcome (S.account source.old) (S.account source.new)
+        (IsAsked config.now 1) (IsLegalFor config.now) (IsVerdictFor config.now 1) turns (verdict_of result) }
+    ensures shrunk { IfOk result (IsShrinking (S.account source.old) (S.account source.new) config.now most) }
+{
+    match shape_for(rt.alloc(), config, 1) {
+        Ok(shape) => shrink_for(rt, source, &shape, most, turns),
+        Err(refusal) => Ok(Shrinking::Judged(Verdict::Refused(refusal))),
+    }
+}
+
+/// Reads the trace until the reader is at its end or a fault of the format stands in what it gave, and judges it with
+/// one worker for the shape that the configuration says. Where the verdict is that a port or a bank breaks a rule, it
+/// searches for a smaller trace whose verdict is a no by the same rule, upon an event of the same kind: it judges at
+/// most so many, and answers the smallest one of these, or the trace itself. Each read is a turn, and there are at
+/// most so many turns. Where the text is no configuration, nothing is read.
+///
+/// `RunFault::Read` says that a read failed, and `RunFault::Turns` that the turns were used up before the trace was
+/// read.
+pub fn run_shrink<T: AllocGlobal, R: Read>(
+    rt: &T,
+    reader: &mut Counted<R>,
+    config: &str,
+    most: u32,
+    turns: u32,
+) -> Result<Shrinking, RunFault>
+    requires calls { calls_of reader.old ≡ 0 }
+    requires failures { failures_of reader.old ≡ 0 }
+    ensures unread { ¬ IsAsked config.now 1 → reader.new ≡ reader.old }
+    ensures outcome { IsOutcome (account_of R.remaining reader.old) (account_of R.remaining reader.new)
+        (IsAsked config.now 1) (IsLegalFor config.now) (IsVerdictFor config.now 1) turns (verdict_of result) }
+    ensures shrunk { IfOk result (IsShrinking
+        (account_of R.remaining reader.old) (account_of R.remaining reader.new) config.now most) }
+{
+    shrink_configured(rt, reader, config, most, turns)
+}
