@@ -3,17 +3,21 @@ _score() {
   local word=${COMP_WORDS[COMP_CWORD]} before=${COMP_WORDS[COMP_CWORD - 1]} options='' valued=''
   COMPREPLY=()
   if ((COMP_CWORD == 1)); then
-    mapfile -t COMPREPLY < <(compgen -W 'check stats demo watch dump help -h --help -V --version' -- "$word")
+    mapfile -t COMPREPLY < <(compgen -W 'check stats explain cover demo watch dump assemble shrink help -h --help -V --version' -- "$word")
     return
   fi
   case ${COMP_WORDS[1]} in
     check) options='--workers --complete --progress -h --help' valued='--workers' ;;
     stats) options='--progress -h --help' valued='' ;;
+    explain) options='--events -h --help' valued='--events' ;;
+    cover) options='--progress -h --help' valued='' ;;
     demo) options='-h --help' valued='' ;;
     watch) options='-h --help' valued='' ;;
     dump) options='-h --help' valued='' ;;
+    assemble) options='-h --help' valued='' ;;
+    shrink) options='--checks -h --help' valued='--checks' ;;
     help)
-      mapfile -t COMPREPLY < <(compgen -W 'check stats demo watch dump' -- "$word")
+      mapfile -t COMPREPLY < <(compgen -W 'check stats explain cover demo watch dump assemble shrink' -- "$word")
       return
       ;;
   esac

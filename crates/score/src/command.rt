@@ -2,7 +2,7 @@
 
 use crate::check::CheckOptions;
 use crate::trace::STANDARD_INPUT;
-use crate::{check, demonstration, dump, help, stats, watch};
+use crate::{assemble, check, cover, demonstration, dump, explain, help, shrink, stats, watch};
 use clap::error::ErrorKind;
 use clap::{Arg, ArgAction, ArgMatches, Command, Error, value_parser};
 use std::alloc::{AllocError, Global};
@@ -26,6 +26,19 @@ pub enum Request<'a> {
         trace: &'a str,
         progress: bool,
     },
+    /// Judge the trace in a file for the configuration in a file, and tell why a record breaks a rule, with so
+    /// many records before it.
+    Explain {
+        config: &'a str,
+        trace: &'a str,
+        events: u16,
+    },
+    /// Count what the trace in a file reached, judged for the configuration in a file.
+    Cover {
+        config: &'a str,
+        trace: &'a str,
+        progress: bool,
+    },
     /// Run the demonstration for the configuration in a file, and write its trace to another.
     Demo {
         config: &'a str,
@@ -39,6 +52,18 @@ pub enum Request<'a> {
     /// Print the text of the trace in a file or on standard input.
     Dump {
         trace: &'a str,
+    },
+    /// Write the trace of the text in a file or on standard input.
+    Assemble {
+        text: &'a str,
+        out: &'a str,
+    },
+    /// Search for a smaller trace with the same rule broken, and write it to another file.
+    Shrink {
+        config: &'a str,
+        trace: &'a str,
+        out: &'a str,
+        checks: u32,
     },
 }
 
@@ -102,6 +127,30 @@ fn stats_command<'a>(alloc: Global) -> Result<Command<'a>, AllocError> {
         .arg(progress_arg(alloc))
 }
 
+fn explain_command<'a>(alloc: Global) -> Result<Command<'a>, AllocError> {
+    let events = Arg::new(alloc, "events")
+        .long("events")
+        .value_name("N")
+        .value_parser(value_parser!(u16))
+        .default_value("15")
+        .help("How many records before it are told");
+    Command::new(alloc, "explain")
+        .about(explain::ABOUT)
+        .after_help(explain::HELP)
+        .arg(config_arg(alloc))?
+        .arg(trace_arg(alloc))?
+        .arg(events)
+}
+
+fn cover_command<'a>(alloc: Global) -> Result<Command<'a>, AllocError> {
+    Command::new(alloc, "cover")
+        .about(cover::ABOUT)
+        .after_help(cover::HELP)
+        .arg(config_arg(alloc))?
+        .arg(trace_arg(alloc))?
+        .arg(progress_arg(alloc))
+}
+
 fn demo_command<'a>(alloc: Global) -> Result<Command<'a>, AllocError> {
     let out = Arg::new(alloc, "OUT")
         .required(true)
@@ -128,6 +177,39 @@ fn dump_command<'a>(alloc: Global) -> Result<Command<'a>, AllocError> {
         .arg(trace_arg(alloc))
 }
 
+fn assemble_command<'a>(alloc: Global) -> Result<Command<'a>, AllocError> {
+    let text = Arg::new(alloc, "TEXT")
+        .required(true)
+        .help("The text of a trace, or -");
+    let out = Arg::new(alloc, "OUT")
+        .required(true)
+        .help("The file that is created or emptied, or -");
+    Command::new(alloc, "assemble")
+        .about(assemble::ABOUT)
+        .after_help(assemble::HELP)
+        .arg(text)?
+        .arg(out)
+}
+
+fn shrink_command<'a>(alloc: Global) -> Result<Command<'a>, AllocError> {
+    let out = Arg::new(alloc, "OUT")
+        .required(true)
+        .help("The file to write, or -");
+    let checks = Arg::new(alloc, "checks")
+        .long("checks")
+        .value_name("N")
+        .value_parser(value_parser!(u32))
+        .default_value("10000")
+        .help("How many smaller traces are tried at most");
+    Command::new(alloc, "shrink")
+        .about(shrink::ABOUT)
+        .after_help(shrink::HELP)
+        .arg(config_arg(alloc))?
+        .arg(trace_arg(alloc))?
+        .arg(out)?
+        .arg(checks)
+}
+
 fn program<'a>(alloc: Global) -> Result<Command<'a>, AllocError> {
     Command::new(alloc, "score")
         .bin_name("score")?
@@ -137,9 +219,13 @@ fn program<'a>(alloc: Global) -> Result<Command<'a>, AllocError> {
         .subcommand_required(true)
         .subcommand(check_command(alloc)?)?
         .subcommand(stats_command(alloc)?)?
+        .subcommand(explain_command(alloc)?)?
+        .subcommand(cover_command(alloc)?)?
         .subcommand(demo_command(alloc)?)?
         .subcommand(watch_command(alloc)?)?
-        .subcommand(dump_command(alloc)?)
+        .subcommand(dump_command(alloc)?)?
+        .subcommand(assemble_command(alloc)?)?
+        .subcommand(shrink_command(alloc)?)
 }
 
 fn fault_of(error: Error) -> CommandFault {
@@ -182,6 +268,24 @@ fn stats_request<'a>(matches: &ArgMatches<'a>) -> Option<Request<'a>> {
     })
 }
 
+fn explain_request<'a>(matches: &ArgMatches<'a>) -> Option<Request<'a>> {
+    let (config, trace) = files_of(matches)?;
+    Some(Request::Explain {
+        config,
+        trace,
+        events: matches.get_one::<u16>("events")?,
+    })
+}
+
+fn cover_request<'a>(matches: &ArgMatches<'a>) -> Option<Request<'a>> {
+    let (config, trace) = files_of(matches)?;
+    Some(Request::Cover {
+        config,
+        trace,
+        progress: matches.get_flag("progress"),
+    })
+}
+
 fn demo_request<'a>(matches: &ArgMatches<'a>) -> Option<Request<'a>> {
     Some(Request::Demo {
         config: matches.get_str("CONFIG")?,
@@ -200,6 +304,23 @@ fn dump_request<'a>(matches: &ArgMatches<'a>) -> Option<Request<'a>> {
     })
 }
 
+fn assemble_request<'a>(matches: &ArgMatches<'a>) -> Option<Request<'a>> {
+    Some(Request::Assemble {
+        text: matches.get_str("TEXT")?,
+        out: matches.get_str("OUT")?,
+    })
+}
+
+fn shrink_request<'a>(matches: &ArgMatches<'a>) -> Option<Request<'a>> {
+    let (config, trace) = files_of(matches)?;
+    Some(Request::Shrink {
+        config,
+        trace,
+        out: matches.get_str("OUT")?,
+        checks: matches.get_one::<u32>("checks")?,
+    })
+}
+
 /// What the words ask for, the program's own name first.
 pub fn asked<'a>(alloc: Global, words: &'a [String]) -> Result<Request<'a>, CommandFault> {
     let Ok(command) = program(alloc) else {
@@ -212,9 +333,13 @@ pub fn asked<'a>(alloc: Global, words: &'a [String]) -> Result<Request<'a>, Comm
     let found = match matches.subcommand() {
         Some(("check", inner)) => check_request(inner),
         Some(("stats", inner)) => stats_request(inner),
+        Some(("explain", inner)) => explain_request(inner),
+        Some(("cover", inner)) => cover_request(inner),
         Some(("demo", inner)) => demo_request(inner),
         Some(("watch", inner)) => watch_request(inner),
         Some(("dump", inner)) => dump_request(inner),
+        Some(("assemble", inner)) => assemble_request(inner),
+        Some(("shrink", inner)) => shrink_request(inner),
         _ => None,
     };
     found.ok_or(CommandFault::Usage)

@@ -10,7 +10,8 @@ score help COMMAND has the answers of a command, its exit status and
 examples.
 
 Standard input:
-A CONFIG or a TRACE of - is standard input. A file of that name is ./-.
+A CONFIG, a TRACE or a TEXT of - is standard input. A file of that name
+is ./-.
 
 Exit status:
   0  yes, or done

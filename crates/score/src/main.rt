@@ -1,31 +1,40 @@
 //! `score check CONFIG TRACE` judges a recorded trace of a two-level lockup-free cache for the hierarchy
 //! that a configuration says, and prints one line: a yes with the number of events, a no with the fault
-//! and its place, or why the trace is not judged. `score stats CONFIG TRACE` prints the statistics of a
-//! trace that is legal, `score demo CONFIG OUT` records a small cache in threads, and `score watch CONFIG
-//! TRACE` ends as soon as a trace broke for good, and `score dump TRACE` prints a trace as text. `score help
-//! COMMAND` says more of each. The status is 0 for a yes, 1 for a no and 2 for a refusal.
+//! and its place, or why the trace is not judged. `explain` also prints why a record breaks a rule, `watch`
+//! ends as soon as a trace broke for good, `stats` prints the statistics of a trace that is legal and `cover`
+//! what it reached, `shrink` writes a smaller trace with the same rule broken, `demo` records a small cache in
+//! threads, `dump` prints a trace as text, and `assemble` writes the trace of a text. `score help COMMAND` says
+//! more of each. The status is 0 for a yes, 1 for a no and 2 for a refusal.
 #![tactic(auto)]
 
+mod assemble;
 mod check;
 mod command;
 mod configuration;
+mod cover;
 mod demonstration;
 mod dump;
+mod explain;
 mod help;
 mod progress;
+mod shrink;
 mod stats;
 #[cfg(test)]
 mod tests;
 mod trace;
 mod watch;
 
+use assemble::assemble;
 use check::check;
 use command::{CommandFault, Request, asked};
 use configuration::{bytes_at, text_in};
+use cover::cover;
 use demonstration::{Demonstration, demonstrate};
 use dump::dump;
+use explain::explain;
 use lf_engine::{InputFault, Line, RunFault};
 use lf_verdict::Verdict;
+use shrink::shrink;
 use stats::stats;
 use std::io;
 use std::io::ErrorKind;
@@ -75,6 +84,64 @@ where
     }
 }
 
+/// The words of the command line, the program's own name first.
+fn words_of<T: Env + AllocGlobal>(rt: &T) -> Result<Vec<String>, InputFault> {
+    let mut words: Vec<String> = Vec::new(rt.alloc());
+    match std::env::args(rt) {
+        Ok(args) => {
+            for word in args {
+                if words.push(word).is_err() {
+                    return Err(InputFault::Memory);
+                }
+            }
+            Ok(words)
+        }
+        Err(e) if e.kind() == ErrorKind::OutOfMemory => Err(InputFault::Memory),
+        Err(_) => Err(InputFault::Usage),
+    }
+}
+
+/// Does what was asked for.
+fn answer<
+    T: Print + Eprint + Input + Files + AllocGlobal + Threads + Wait + Sync + Send + Copy + 'static,
+>(rt: &T, request: Request<'_>) -> io::Result<ExitCode>
+where
+    T::File: Drop,
+{
+    match request {
+        Request::Check {
+            config,
+            trace,
+            options,
+        } => check(rt, config, trace, options),
+        Request::Stats {
+            config,
+            trace,
+            progress,
+        } => stats(rt, config, trace, progress),
+        Request::Explain {
+            config,
+            trace,
+            events,
+        } => explain(rt, config, trace, events),
+        Request::Cover {
+            config,
+            trace,
+            progress,
+        } => cover(rt, config, trace, progress),
+        Request::Shrink {
+            config,
+            trace,
+            out,
+            checks,
+        } => shrink(rt, config, trace, out, checks),
+        Request::Demo { config, out } => demo(rt, config, out),
+        Request::Watch { config, trace } => watch(rt, config, trace),
+        Request::Dump { trace } => Ok(dump(rt, trace)),
+        Request::Assemble { text, out } => assemble(rt, text, out),
+    }
+}
+
 fn start<
     T: Env
         + Print
@@ -92,36 +159,12 @@ fn start<
 where
     T::File: Drop,
 {
-    let mut words: Vec<String> = Vec::new(rt.alloc());
-    match std::env::args(rt) {
-        Ok(args) => {
-            for word in args {
-                if words.push(word).is_err() {
-                    return refused(rt, InputFault::Memory);
-                }
-            }
-        }
-        Err(e) if e.kind() == ErrorKind::OutOfMemory => return refused(rt, InputFault::Memory),
-        Err(_) => return refused(rt, InputFault::Usage),
-    }
+    let words = match words_of(rt) {
+        Ok(words) => words,
+        Err(why) => return refused(rt, why),
+    };
     match asked(rt.alloc(), words.as_slice()) {
-        Ok(
-            Request::Check {
-                config,
-                trace,
-                options,
-            },
-        ) => check(rt, config, trace, options),
-        Ok(
-            Request::Stats {
-                config,
-                trace,
-                progress,
-            },
-        ) => stats(rt, config, trace, progress),
-        Ok(Request::Demo { config, out }) => demo(rt, config, out),
-        Ok(Request::Watch { config, trace }) => watch(rt, config, trace),
-        Ok(Request::Dump { trace }) => Ok(dump(rt, trace)),
+        Ok(request) => answer(rt, request),
         Err(CommandFault::Help(help)) => {
             print!(rt; "{help}")?;
             Ok(ExitCode::SUCCESS)

@@ -96,6 +96,8 @@ fn refused_usage(rt: HostRuntime) -> Result<(), Fail> {
         "score check - -",
         "score stats - -",
         "score watch - -",
+        "score explain - -",
+        "score shrink - - out",
         "score help judge",
         "score check c.toml a.lfts --progress=yes",
     ] {
@@ -143,8 +145,14 @@ fn help_is_asked_for(rt: HostRuntime) -> Result<(), Fail> {
     has_help(&rt, "score help demo", demo.as_slice())?;
     let watch = ["broken header Ports", "closed pipe", "Examples:"];
     has_help(&rt, "score help watch", watch.as_slice())?;
+    let explain = ["before it:", "--events <N>", "[default: 15]", "Examples:"];
+    has_help(&rt, "score help explain", explain.as_slice())?;
     let dump = ["end count=2 ; at 60", "refused read trace", "Examples:"];
-    has_help(&rt, "score help dump", dump.as_slice())
+    has_help(&rt, "score help dump", dump.as_slice())?;
+    let assemble = ["column=9 expected tag=", "refused write", "Examples:"];
+    has_help(&rt, "score help assemble", assemble.as_slice())?;
+    let shrink = ["shrunk events=20000", "--checks <N>", "refused write"];
+    has_help(&rt, "score help shrink", shrink.as_slice())
 }
 
 #[test]
@@ -238,6 +246,39 @@ fn configuration_that_never_ends(rt: HostRuntime) -> Result<(), Fail> {
     assert_text(&rt, &endless, Err(InputFault::ReadConfig))
 }
 
+/// Fails where the words ask for another explanation than one with so many records.
+fn is_explain<T: Abort + AllocGlobal>(rt: &T, line: &str, events: u16) -> Result<(), Fail> {
+    let words = words_of(rt.alloc(), line)?;
+    let explain = Request::Explain {
+        config: "c.toml",
+        trace: "a.lfts",
+        events,
+    };
+    assert_eq!(rt;
+        asked(rt.alloc(), words.as_slice()).ok(),
+        Some(explain),
+        "{line}"
+    );
+    Ok(())
+}
+
+#[test]
+fn words_of_explain(rt: HostRuntime) -> Result<(), Fail> {
+    is_explain(&rt, "score explain c.toml a.lfts", 15)?;
+    is_explain(&rt, "score explain --events 0 c.toml a.lfts", 0)?;
+    is_explain(&rt, "score explain c.toml a.lfts --events=65535", 65535)?;
+    for line in [
+        "score explain",
+        "score explain c.toml",
+        "score explain c.toml a.lfts b.lfts",
+        "score explain c.toml a.lfts --events 65536",
+        "score explain c.toml a.lfts --workers 1",
+    ] {
+        is_refused(&rt, line)?;
+    }
+    Ok(())
+}
+
 #[test]
 fn words_of_stats(rt: HostRuntime) -> Result<(), Fail> {
     let words = words_of(rt.alloc(), "score stats c.toml a.lfts")?;
@@ -275,6 +316,22 @@ fn help_of_stats(rt: HostRuntime) -> Result<(), Fail> {
         has_help(&rt, line, counted.as_slice())?;
     }
     Ok(())
+}
+
+#[test]
+fn words_of_cover(rt: HostRuntime) -> Result<(), Fail> {
+    let words = words_of(rt.alloc(), "score cover c.toml - --progress")?;
+    let cover = Request::Cover {
+        config: "c.toml",
+        trace: "-",
+        progress: true,
+    };
+    assert_eq!(rt; asked(rt.alloc(), words.as_slice()).ok(), Some(cover));
+    for line in ["score cover", "score cover c.toml", "score cover - -"] {
+        is_refused(&rt, line)?;
+    }
+    let points = ["  hit_under_miss    hits", "  registers_N       misses"];
+    has_help(&rt, "score help cover", points.as_slice())
 }
 
 #[test]
@@ -361,4 +418,38 @@ fn words_of_dump(rt: HostRuntime) -> Result<(), Fail> {
     is_refused(&rt, "score dump")?;
     is_refused(&rt, "score dump a.lfts b.lfts")?;
     is_refused(&rt, "score dump a.lfts --progress")
+}
+
+#[test]
+fn words_of_assemble(rt: HostRuntime) -> Result<(), Fail> {
+    let words = words_of(rt.alloc(), "score assemble - a.lfts")?;
+    let assemble = Request::Assemble {
+        text: "-",
+        out: "a.lfts",
+    };
+    assert_eq!(rt; asked(rt.alloc(), words.as_slice()).ok(), Some(assemble));
+    is_refused(&rt, "score assemble a.text")?;
+    is_refused(&rt, "score assemble a.text a.lfts b.lfts")
+}
+
+#[test]
+fn words_of_shrink(rt: HostRuntime) -> Result<(), Fail> {
+    let (config, trace, out) = ("c.toml", "a.lfts", "b.lfts");
+    for (line, checks) in [
+        ("score shrink c.toml a.lfts b.lfts", 10000),
+        ("score shrink c.toml a.lfts b.lfts --checks 0", 0),
+    ] {
+        let words = words_of(rt.alloc(), line)?;
+        assert_eq!(rt;
+            asked(rt.alloc(), words.as_slice()).ok(),
+            Some(Request::Shrink {
+                config,
+                trace,
+                out,
+                checks,
+            })
+        );
+    }
+    is_refused(&rt, "score shrink c.toml a.lfts")?;
+    is_refused(&rt, "score shrink c.toml a.lfts b.lfts --checks -1")
 }

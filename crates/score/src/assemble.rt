@@ -1,0 +1,123 @@
+//! `score assemble`: writes the trace of a text.
+
+use crate::REFUSED;
+use crate::configuration::bytes_within;
+use crate::trace::{STANDARD_INPUT, Trace};
+use lf_assemble::AssembleFault;
+use std::io::{ErrorKind, Write};
+use std::process::ExitCode;
+use std::rt::Files;
+use std::{fmt, io};
+
+/// What the help says of `assemble`.
+pub const ABOUT: &str = "Writes the trace whose text this is, as dump prints it";
+
+/// What the help says after the arguments.
+pub const HELP: &str = "\
+Nothing is printed where the trace is written. Lines may be empty, and a
+semicolon begins a comment. Between words may stand any spaces and tabs.
+A text that is refused leaves OUT as it was. Where OUT is - the line of a
+refusal goes to standard error.
+
+Answers:
+  refused text line=3 column=9 expected tag=  the line cannot be read
+  refused text line=2 expected memory         another line is due there
+  refused text line=4 expected 8 bytes        it carries too many or too few
+  refused format WrongBank line=5             no trace may have this record
+  refused format Truncated line=9             there is no end
+  refused read text                           the file cannot be read
+  refused write                               the file cannot be written
+  refused usage                               the words are none of a command
+  refused memory                              there is not enough memory
+
+Exit status:
+  0  written
+  2  refused
+
+Examples:
+  score assemble run.text run.lfts
+  score dump run.lfts | sed 's/size=4/size=8/' | score assemble - new.lfts
+  score assemble run.text - | score check small.toml -";
+
+/// Why no trace was written.
+#[derive(Clone, Copy, Debug, PartialEq, Eq)]
+pub enum Refusal {
+    /// The text cannot be read, or has 4 GiB or more.
+    Read,
+    /// The text gives no trace.
+    Text(AssembleFault),
+    /// The trace cannot be written.
+    Write,
+    /// A growth was refused.
+    Memory,
+}
+
+impl fmt::Display for Refusal {
+    fn fmt<W: fmt::Write>(&self, f: &mut fmt::Formatter<W>) -> fmt::Result {
+        match self {
+            Refusal::Read => f.write_str("refused read text"),
+            Refusal::Text(fault) => write!(f, "refused {fault}"),
+            Refusal::Write => f.write_str("refused write"),
+            Refusal::Memory => f.write_str("refused memory"),
+        }
+    }
+}
+
+/// The bytes of the file at this path, or of standard input for `-`.
+fn text_at<T: Input + Files + AllocGlobal>(rt: &T, path: &str) -> Result<Vec<u8>, Refusal>
+where
+    T::File: Drop,
+{
+    match bytes_within(rt.alloc(), Trace::open(rt, path), u32::MAX) {
+        Ok(text) => Ok(text),
+        Err(e) if e.kind() == ErrorKind::OutOfMemory => Err(Refusal::Memory),
+        Err(_) => Err(Refusal::Read),
+    }
+}
+
+/// Writes the bytes to standard output for `-`, and else to the file, which is created or emptied.
+fn write_to<T: Print + Files>(rt: &T, out: &str, bytes: &[u8]) -> io::Result<()>
+where
+    T::File: Drop,
+{
+    if out == STANDARD_INPUT {
+        io::writer(rt).write_all(bytes)
+    } else {
+        std::fs::write(rt, out, bytes)
+    }
+}
+
+fn assembled<T: Print + Input + Files + AllocGlobal>(
+    rt: &T,
+    text: &str,
+    out: &str,
+) -> Result<(), Refusal>
+where
+    T::File: Drop,
+{
+    let text = text_at(rt, text)?;
+    match lf_assemble::assemble(rt.alloc(), text.as_slice()) {
+        Ok(bytes) => write_to(rt, out, bytes.as_slice()).map_err(|_| Refusal::Write),
+        Err(fault) => Err(Refusal::Text(fault)),
+    }
+}
+
+/// Writes the trace of the text, or prints why there is none.
+pub fn assemble<T: Print + Eprint + Input + Files + AllocGlobal>(
+    rt: &T,
+    text: &str,
+    out: &str,
+) -> io::Result<ExitCode>
+where
+    T::File: Drop,
+{
+    let Err(refusal) = assembled(rt, text, out) else {
+        return Ok(ExitCode::SUCCESS);
+    };
+    if out == STANDARD_INPUT {
+        eprintln!(rt; "{refusal}")?;
+    } else {
+        println!(rt; "{refusal}")?;
+    }
+    Ok(ExitCode::from(REFUSED))
+}
