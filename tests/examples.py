@@ -5,38 +5,49 @@
 
 A row is a configuration, a trace and what is printed of them: one line for `check`, several for `stats`. Beside
 the text, the status must be that of the answer and standard error must be empty. `check` has the same answer for
-1, 2, 4 and 16 workers, and with `--complete` too, but for a yes where a reply is missing. Each trace and each configuration of examples/ must stand in a row. The status is 1 where
-anything differs. PROGRAM is crates/score/out/score where it is left out."""
+1, 2, 4 and 16 workers, and with `--complete` too, but for a yes where a reply is missing. `explain` prints the line of
+`check`, and behind it what stands in examples/NAME.explained where a record of NAME.lfts breaks a rule. Each trace and
+each configuration of examples/ must stand in a row. The status is 1 where anything differs. PROGRAM is
+crates/score/out/score where it is left out."""
+
+from __future__ import annotations
 
 import argparse
 import pathlib
 import re
 import subprocess
 import sys
+from typing import List, Optional, Set, Tuple
 
 TOP = pathlib.Path(__file__).resolve().parent.parent
 sys.path.insert(0, str(TOP / "recorders/python/src"))
 
 import lfts  # noqa: E402
+
 EXAMPLES = TOP / "examples"
 ROW = re.compile(r"^\| `(\S+\.toml)` \| `(\S+\.lfts)` \| (`.*`) \|$", re.M)
 STATUS = {"yes": 0, "no": 1, "refused": 2, "bank": 0}
 WORKERS = (1, 2, 4, 16)
 SECONDS = 60
 
+Row = Tuple[str, str, str]
+Run = Tuple[List[str], str]
 
-def rows():
+
+def rows() -> list[Row]:
     """Of each row the configuration, the trace, and the text that is due."""
     found = ROW.findall((EXAMPLES / "README.md").read_text(encoding="utf-8"))
-    return [(config, trace, "".join(line + "\n" for line in re.findall(r"`([^`]*)`", lines)))
-            for config, trace, lines in found]
+    return [
+        (config, trace, "".join(line + "\n" for line in re.findall(r"`([^`]*)`", lines)))
+        for config, trace, lines in found
+    ]
 
 
-def complete(trace, text):
+def complete(trace: str, text: str) -> str:
     """What `check --complete` prints where `check` prints this."""
     if not text.startswith("yes"):
         return text
-    waiting = set()
+    waiting: Set[Tuple[int, int]] = set()
     for item in lfts.Reader((EXAMPLES / trace).open("rb")):
         if isinstance(item, lfts.Record) and isinstance(item.event, lfts.Issue):
             waiting.add((item.log, item.event.tag))
@@ -45,23 +56,32 @@ def complete(trace, text):
     return "no incomplete port={} tag={}\n".format(*min(waiting)) if waiting else text
 
 
-def runs_of(config, trace, text):
+def explained(trace: str, text: str) -> str:
+    """What `explain` prints where `check` prints this."""
+    if " rule=" not in text:
+        return text
+    return (EXAMPLES / trace).with_suffix(".explained").read_text(encoding="utf-8")
+
+
+def runs_of(config: str, trace: str, text: str) -> list[Run]:
     """The words of each run of these files, and the text that it has to print."""
     files = [str(EXAMPLES / config), str(EXAMPLES / trace)]
     if text.startswith("bank="):
         return [(["stats", *files], text)]
     checks = [(["check", *files, "--workers", str(count)], text) for count in WORKERS]
     checks.append((["check", *files, "--complete"], complete(trace, text)))
+    checks.append((["explain", *files], explained(trace, text)))
     return checks if text.startswith("yes") else [*checks, (["stats", *files], text)]
 
 
-def difference(program, words, text):
+def difference(program: str, words: list[str], text: str) -> Optional[str]:
     """What a run printed or answered otherwise, or None."""
     try:
         run = subprocess.run([program, *words], capture_output=True, timeout=SECONDS, check=False)
     except subprocess.TimeoutExpired:
         return f"no answer in {SECONDS} seconds"
-    status = STATUS[re.match(r"[a-z]+", text).group()]
+    word = re.match(r"[a-z]*", text)
+    status = STATUS[word.group()] if word else None
     if run.stdout != text.encode():
         return f"printed {run.stdout.decode(errors='replace')!r} and not {text!r}"
     if run.returncode != status:
@@ -71,13 +91,14 @@ def difference(program, words, text):
     return None
 
 
-def main():
+def main() -> int:
     parser = argparse.ArgumentParser(description=__doc__, formatter_class=argparse.RawDescriptionHelpFormatter)
     parser.add_argument("program", nargs="?", default=str(TOP / "crates/score/out/score"))
     program = parser.parse_args().program
     if not pathlib.Path(program).is_file():
         parser.error(f"{program} is not built")
-    all_rows, runs, differences = rows(), 0, []
+    all_rows, runs = rows(), 0
+    differences: list[str] = []
     for config, trace, text in all_rows:
         for words, due in runs_of(config, trace, text):
             runs += 1

@@ -1,6 +1,6 @@
 #!/usr/bin/env python3
 """Runs the program and tests of the crates with their first growth refused, then with their second, and so on
-until a run meets no refusal, and tells each run in which a refused growth was not answered as want of memory.
+until a run meets no refusal, and tells each run in which a refused growth was not answered as out of memory.
 
     refused_growth.py [WORD]      only the runs whose name has the word
 
@@ -14,8 +14,8 @@ and what it left was right, or with `want of a thread` where the making of a thr
 the memory that it takes (a call with one worker has a clause that it never tells so); with AllocError or no memory
 where the growth was one of the samples that the test makes, before the call. The test of a session with
 four workers also ends well where a thread was refused, or the memory for one. Other ends are findings: a test that
-ends well, since an answer was given in place of want of memory, and one that an assertion stopped. The tests of
-`TOLD` are examples of further calls: they must fail and name the want of memory. A test of which no crate in out/
+ends well, since an answer was given in place of out of memory, and one that an assertion stopped. The tests of
+`TOLD` are examples of further calls: they must fail and say `want of memory`. A test of which no crate in out/
 has the name is told as not built.
 
 The last lines are a table: for each run how many growths of the call were refused and told, how many of the
@@ -101,18 +101,29 @@ WITH_WORKERS = ("check", "four_banks.toml", "lowest_bank.lfts", "no bank=1 numbe
 # Tests that say how a call answered, in whichever crates have them. Each is at least one run of these.
 SWEPT = "refused_growth_of_"
 RUNS = [
-    *[f"{call}_on_{trace}" for call in ("check", "session", "run") for trace in (
-        "empty_trace", "load_misses_both_levels", "load_merges_behind_store", "cycle_of_two_logs")],
-    "check_with_two_workers", "session_by_four_workers", "read", "recheck", "encode", "stats", "ten_events", "a_step", "a_reader",
+    *[
+        f"{call}_on_{trace}"
+        for call in ("check", "session", "run")
+        for trace in ("empty_trace", "load_misses_both_levels", "load_merges_behind_store", "cycle_of_two_logs")
+    ],
+    "check_with_two_workers",
+    "session_by_four_workers",
+    "read",
+    "recheck",
+    "encode",
+    "stats",
+    "ten_events",
+    "a_step",
+    "a_reader",
 ]
 
 # Examples that fail where a growth is refused, with the crate that has them. The engine's example of the first name
 # writes its line to a list of its own, whose growth is none of the call's.
 TOLD = [
-    ("lf_part_tests", "gaps_and_doubles"),
+    ("lf_log_tests", "gaps_and_doubles"),
     ("lf_verdict_tests", "gaps_and_doubles"),
-    ("lf_part_tests", "many_records_before_their_turn"),
-    ("lf_part_tests", "least_order"),
+    ("lf_log_tests", "many_records_before_their_turn"),
+    ("lf_log_tests", "least_order"),
     ("lf_replay_tests", "load_merges_behind_store_by_replay"),
 ]
 
@@ -189,12 +200,14 @@ class Runs:
 
 def judge_line(line):
     """For a run of the program that prints this line with ample memory."""
+
     def judge(ran, told):
         text = ran.stdout.decode(errors="replace")
         if not told:
             return None if text.startswith(line) else text
         lawful = ["refused memory\n"] + ["refused thread\n"] * (told[1] == b"thread")
         return None if text in lawful and ran.returncode == 2 else text
+
     return judge
 
 
@@ -270,7 +283,9 @@ def sweep_tests(runs, folder):
     built = tests_by_name()
     swept = sorted({SWEPT + run for run in RUNS} | {name for name in built if name.startswith(SWEPT)})
     rows = [(crate_of(program), name, program, test) for name in built for program, test in built[name]]
-    wanted = [row for name in swept for row in rows if row[1] == name] + [row for told in TOLD for row in rows if row[:2] == told]
+    wanted = [row for name in swept for row in rows if row[1] == name] + [
+        row for told in TOLD for row in rows if row[:2] == told
+    ]
     for crate, name, program, test in wanted:
         judge = judge_told if (crate, name) in TOLD else judge_beside if name == BESIDE else judge_swept
         runs.sweep(f"{crate} {test}", [program, test], judge, folder)
