@@ -1,7 +1,7 @@
 use Rattle.std.proofs.Common.{◌≡◌, sym, subst, arith}
 use Rattle.lf_rules.specs.Numbers.{bank_numbers, IsWhole}
 use Rattle.lf_logs.specs.Lists.{lists_of}
-use Rattle.lf_part_tests.proofs.logs_of_traces.ordered.Goals as goal
+use Rattle.lf_log_tests.proofs.logs_of_traces.ordered.Goals as goal
 
 pub bank_records-requires : goal.bank_records-requires
 bank_records-requires c = record {
