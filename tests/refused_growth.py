@@ -9,13 +9,13 @@ The programs are those that `rt run` in crates/score and `rt test` in each crate
 growth is refused, the program must print `refused memory`, or `refused thread` where it was the making of a thread. Runs
 of `demo` are tried at some growths alone, since their number changes from run to run.
 
-Each test whose name begins with `refused_growth_of_` must then end with `want of memory`, where the call told it
-and what it left was right, or with `want of a thread` where the making of a thread was refused, which may have been
+Each test whose name begins with `refused_growth_of_` must then end with `out of memory`, where the call told it
+and what it left was right, or with `a thread was refused` where the making of a thread was refused, which may have been
 the memory that it takes (a call with one worker has a clause that it never tells so); with AllocError or no memory
 where the growth was one of the samples that the test makes, before the call. The test of a session with
 four workers also ends well where a thread was refused, or the memory for one. Other ends are findings: a test that
 ends well, since an answer was given in place of out of memory, and one that an assertion stopped. The tests of
-`TOLD` are examples of further calls: they must fail and say `want of memory`. A test of which no crate in out/
+`TOLD` are examples of further calls: they must fail and say `out of memory`. A test of which no crate in out/
 has the name is told as not built.
 
 The last lines are a table: for each run how many growths of the call were refused and told, how many of the

@@ -1,4 +1,4 @@
--- What a reader has after a refusal, for want of memory too.
+-- What a reader has after a refusal, also one since memory ran out.
 use Rattle.std.proofs.Common.{◌≡◌, ◌⊎◌, ℕ, ◌+◌, ◌≤◌, List, [], ◌++◌, length, take, drop, Option, Some, None, Result, Ok, Err, refl, sym, ap, subst, ◌∙◌, arith, append_assoc, inl, inr}
 use Rattle.std.specs.Prelude.{OnOk, IfErr, IsSome}
 use Rattle.std.proofs.lemmas.List.{length-append, take-append-le, take-append-drop}
@@ -32,11 +32,11 @@ failed_of_read r bytes memory records fault has is =
       };
     }
 
--- want of memory at a record
+-- memory ran out at a record
 wants : (r : Reading) (bytes : List ℕ) (memory : List (ℕ × Bytes)) (records : List Record) → RanOut r bytes memory records → WantsMemory r bytes memory records
 wants r bytes memory records out = record { fault = out.fault; cause = out.cause; has_failed = record { failed = out.failed; within = out.within; gives = out.gives } }
 
--- want of memory before one
+-- memory ran out before one
 wants_before : (old new : Reading) (before piece : List ℕ) (memory : List (ℕ × Bytes)) (records : List Record) → IsBytes piece → (was : WasCutShort old piece new)
     → HasRead old before memory records → WantsMemory new (before ++ piece) memory records
 wants_before old new before piece memory records fits was has =

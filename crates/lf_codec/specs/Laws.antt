@@ -86,7 +86,7 @@ pub record StandsBefore (bytes : List ℕ) (f : CodecFault) : Type 0 where
 abbrev pub WhatStandsBeforeIsGiven : Type 0
 WhatStandsBeforeIsGiven = (bytes : List ℕ) (f : CodecFault) → AreBytes bytes → fault_so_far bytes ≡ Some f → StandsBefore bytes f
 
--- want of memory is no fault of bytes
+-- out of memory is no fault of bytes
 abbrev pub BytesNeverWantMemory : Type 0
 BytesNeverWantMemory = (bytes : List ℕ) (f : CodecFault) → trace_fault bytes ≡ Some f → f.cause ≡ NoMemory → ⊥
 

@@ -7,7 +7,7 @@ use crate::key::Key;
 use lf_rules::NoMemory;
 
 /// The first fault of a text. Faults of one sort are told in the order of the keys, and the sorts in
-/// this order, with want of memory where it was met.
+/// this order, out of memory where it was met.
 #[derive(Debug, PartialEq, Eq, Drop)]
 pub enum ConfigFault {
     /// The text is no TOML document.

@@ -77,7 +77,7 @@ fn in_threads<R: Threads + Wait + Sync>(
     )
 }
 
-/// The seats of threads that did not give up. Want of memory is told before other causes.
+/// The seats of threads that did not give up. That memory ran out is told before other causes.
 fn seats_of(
     alloc: Global,
     recording: &Recording,

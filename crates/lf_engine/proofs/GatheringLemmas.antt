@@ -20,7 +20,7 @@ on_ok (Err e) p = tt
 pub none_stands : FaultsSoFarAreNotTruncated → (bytes : List ℕ) → fault_so_far bytes ≡ None → ¬ HasFault bytes
 none_stands so_far bytes none (fault, is, other) = let bad : None ≡ Some fault = sym none ∙ (so_far bytes fault).1 (is, other) in cc
 
--- a refusal other than want of memory is a fault that stands
+-- a refusal other than out of memory is a fault that stands
 pub refused_stands : FaultsSoFarAreNotTruncated → (bytes : List ℕ) (r : Refusal) → r ≢ Memory → IsRefusalSoFar bytes r → HasFault bytes
 refused_stands so_far bytes (Format fault) other is = let (whole, not) = (so_far bytes fault).0 is in (fault, whole, not)
 refused_stands so_far bytes (Workers n) other is = absurd is

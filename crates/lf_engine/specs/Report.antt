@@ -98,7 +98,7 @@ abbrev pub verdict_in : Result Report RunFault → Result Verdict RunFault
 verdict_in (Ok report) = Ok report.verdict
 verdict_in (Err fault) = Err fault
 
--- Lines are told as they are; a line may want memory.
+-- Lines are told as they are; a line may run out of memory.
 abbrev pub FollowsLines : Option (String Global) → Verdict → Result Verdict RunFault → Type 0
 FollowsLines (Some text) verdict told = told ≡ Ok verdict
 FollowsLines None verdict told = Follows (Ok verdict) told

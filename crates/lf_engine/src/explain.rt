@@ -91,7 +91,7 @@ fn why_in(
     }
 }
 
-/// Why the record that the verdict names breaks the rule goes with the verdict. Where it wants memory, that is
+/// Why the record that the verdict names breaks the rule goes with the verdict. Where memory runs out, that is
 /// the verdict.
 fn why_of(alloc: Global, shape: &Shape, bytes: &[u8], verdict: Verdict, most: u16) -> Report
     requires shape { IsShape shape.now }

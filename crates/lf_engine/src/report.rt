@@ -37,8 +37,7 @@ pub struct Report {
     pub lines: Option<String>,
 }
 
-/// The records that stand in the bytes. A trace has no fault, so a reader refuses it for want of memory
-/// alone.
+/// The records that stand in the bytes. A trace has no fault, so a reader refuses it only where memory ran out.
 pub fn records_in(alloc: Global, bytes: &[u8]) -> Result<Vec<Record>, NoMemory>
     ensures read { IfOk result (λ records. records.items ≡ (reading_of bytes.now).records) }
     ensures are_bytes { OnOk result (AreBytes bytes.now) }

@@ -2,7 +2,7 @@
 
 use lf_history::{NoMemory, history_in_bank, history_in_log, record_offsets};
 use lf_rules::Record;
-use lf_samples::{C1, LOAD, LOADED, records, want_of_memory};
+use lf_samples::{C1, LOAD, LOADED, records, memory_ran_out};
 use std::alloc::Global;
 use std::process::Abort;
 use std::test::Fail;
@@ -18,7 +18,7 @@ fn in_bank(
 ) -> Result<(Option<usize>, Vec<usize>), Fail> {
     match history_in_bank(alloc, &C1, records, 0, number, most) {
         Ok(history) => Ok((history.place, history.before)),
-        Err(NoMemory) => Err(want_of_memory()),
+        Err(NoMemory) => Err(memory_ran_out()),
     }
 }
 
@@ -41,7 +41,7 @@ fn assert_before<T: Abort + AllocGlobal>(
 fn before_a_record_of_a_port(rt: HostRuntime) -> Result<(), Fail> {
     let records = records(rt.alloc(), &C1, &[LOAD, LOADED])?;
     let Ok(history) = history_in_log(rt.alloc(), &records, 0, 1, 15) else {
-        return Err(want_of_memory());
+        return Err(memory_ran_out());
     };
     assert_eq!(&rt; history.place, Some(5));
     assert_eq!(&rt; history.before.as_slice(), [0].as_slice());
@@ -69,7 +69,7 @@ fn before_a_request_that_never_came(rt: HostRuntime) -> Result<(), Fail> {
 #[test]
 fn offsets_of_no_record(rt: HostRuntime) -> Result<(), Fail> {
     let Ok(offsets) = record_offsets(rt.alloc(), 16, &[]) else {
-        return Err(want_of_memory());
+        return Err(memory_ran_out());
     };
     assert!(rt; offsets.is_empty());
     Ok(())

@@ -20,7 +20,7 @@ pub record ArePlacesOfBank (logs : List (List Record)) (bank : ℕ) (places : Li
   pub numbered : IsNumbered logs bank (records_at logs places)
 
 -- The number is missing below a greater one, or occurs more than once, and no smaller number does.
--- Want of memory says nothing.
+-- Out of memory says nothing.
 abbrev pub IsNumberFault : List ℕ → NumberFault → Type 0
 IsNumberFault numbers (Missing k) = IsMissing numbers k × IsFineBelow numbers k
 IsNumberFault numbers (Double k) = IsDouble numbers k × IsFineBelow numbers k

@@ -138,7 +138,7 @@ pub fn bank_order(alloc: Global, logs: &Logs, bank: u8) -> Result<Vec<Place>, Nu
     ensures whole { OnOk result (IsWhole (bank_numbers (lists_of logs.now) bank)) }
     ensures fault { IfErr result (IsNumberFault (bank_numbers (lists_of logs.now) bank)) }
 
-    // Whole numbers have an order, so that only want of memory is left to refuse them.
+    // Whole numbers have an order, so that nothing but out of memory is left to refuse them.
     ensures succeeds { IsWhole (bank_numbers (lists_of logs.now) bank)
         → IfErr result (λ fault. fault ≡ NumberFault.NoMemory) }
 {

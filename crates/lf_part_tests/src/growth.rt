@@ -1,5 +1,5 @@
 //! What is told, and what is left, where a growth is refused. A test ends well with the answer that is
-//! due, and with `want_of_memory` where that was told and what was left was right.
+//! due, and with `memory_ran_out` where that was told and what was left was right.
 
 ghost use Rattle.std.specs.Prelude.{◌≡◌, IfSome};
 
@@ -9,7 +9,7 @@ use crate::statistics::{THREE, counted};
 use lf_config::{ConfigFault, read};
 use lf_model::{Logs, Recheck, Rule, recheck};
 use lf_recorder::{CloseFault, Desk, LogSeat, OpenFault, RecordFault};
-use lf_samples::{C1, C1_TEXT, LOAD, LOADED, logs, records, want_of_memory};
+use lf_samples::{C1, C1_TEXT, LOAD, LOADED, logs, records, memory_ran_out};
 use lf_stats::BankStats;
 use std::process::Abort;
 use std::test::Fail;
@@ -17,7 +17,7 @@ use std::test::Fail;
 #[test]
 fn refused_growth_of_read(rt: HostRuntime) -> Result<(), Fail> {
     match read(rt.alloc(), C1_TEXT) {
-        Err(ConfigFault::NoMemory) => Err(want_of_memory()),
+        Err(ConfigFault::NoMemory) => Err(memory_ran_out()),
         answer => {
             assert_eq!(rt; answer, Ok(C1));
             Ok(())
@@ -38,7 +38,7 @@ fn assert_rechecked<T: Abort + AllocGlobal>(
             assert!(rt; answer == due);
             Ok(())
         }
-        Err(_) => Err(want_of_memory()),
+        Err(_) => Err(memory_ran_out()),
     }
 }
 
@@ -70,7 +70,7 @@ fn refused_growth_of_stats(rt: HostRuntime) -> Result<(), Fail> {
         .zip(THREE_COUNTS)
     {
         let Some(stats) = counted(rt.alloc(), &[events])? else {
-            return Err(want_of_memory());
+            return Err(memory_ran_out());
         };
         let bank = BankStats {
             hits,
@@ -85,7 +85,7 @@ fn refused_growth_of_stats(rt: HostRuntime) -> Result<(), Fail> {
     Ok(())
 }
 
-// Records ten events of bank 0, each with its number. One that is refused for want of memory is recorded
+// Records ten events of bank 0, each with its number. One that is refused since memory ran out is recorded
 // again, as if it had not been.
 fn record_ten(desk: &Desk, seat: LogSeat, is_told: &mut bool) -> Option<LogSeat>
     requires { seat.desk ≡ desk.now.desk }
@@ -111,7 +111,7 @@ fn record_ten(desk: &Desk, seat: LogSeat, is_told: &mut bool) -> Option<LogSeat>
 #[test]
 fn refused_growth_of_ten_events(rt: HostRuntime) -> Result<(), Fail> {
     let Ok(mut desk) = Desk::new(rt.alloc(), 1, 1) else {
-        return Err(want_of_memory());
+        return Err(memory_ran_out());
     };
     let mut is_told = false;
     let opened = match desk.open() {
@@ -138,7 +138,7 @@ fn refused_growth_of_ten_events(rt: HostRuntime) -> Result<(), Fail> {
     let logs = closed.ok().expect(&rt, "each log has a seat");
     assert_eq!(rt; logs.first().map(|log| log.len()), Some(10));
     if is_told {
-        Err(want_of_memory())
+        Err(memory_ran_out())
     } else {
         Ok(())
     }

@@ -265,7 +265,7 @@ impl Machine {
     }
 
     /// The first rule that the record breaks, or else it takes effect. Where a rule is broken nothing has
-    /// changed. After want of memory the machine has failed: it answers `NoMemory` from then on.
+    /// changed. Once memory ran out the machine has failed: it answers `NoMemory` from then on.
     pub fn step(&mut self, item: &Record) -> Result<Option<Rule>, NoMemory>
         requires machine { self.old.failed ≡ false → IsMachine self.old }
         requires fits { Fits self.old.shape item.now }

@@ -3,7 +3,7 @@
 //! Each worker claims the number of a job by one `fetch_add` on a word that they share, passes the
 //! gate and does that job, until no number is left. What holds of the word and of what each worker
 //! claimed is a rule (`specs/Rule.antt`): the numbers below the word are claimed, each once. So each job
-//! is done, and its outcome is that of its own replay, whichever worker did it: so want of memory is that of
+//! is done, and its outcome is that of its own replay, whichever worker did it: so `NoMemory` is that of
 //! the job that it is told of.
 #![tactic(auto)]
 

@@ -19,7 +19,7 @@ pub struct Claimer {
     pub number: u64,
 }
 
-/// What a worker did. It has no last claim where it stopped for want of memory.
+/// What a worker did. It has no last claim where it stopped because memory ran out.
 #[derive(Drop)]
 pub struct Worked {
     pub seat: Seat<(), View>,

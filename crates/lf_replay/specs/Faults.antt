@@ -4,7 +4,7 @@ use Rattle.lf_rules.specs.declared.rule.Rule as model
 use Rattle.lf_replay.specs.declared.fault.BankFault.{BankFault}
 use Rattle.lf_replay.specs.declared.fault.BankFault.TheVariants.{Rule, NoMemory}
 
--- the first rule that the record breaks; want of memory is told only of one that breaks none
+-- the first rule that the record breaks; out of memory is told only of one that breaks none
 abbrev pub IsStepFault : Option model.Rule → BankFault → Type 0
 IsStepFault broken (Rule rule) = broken ≡ Some rule
 IsStepFault broken NoMemory = broken ≡ None

@@ -41,7 +41,7 @@ pub record IsStepAfter (step : StepView) (shape : Shape) (memory : FlatMemory) (
   pub of_bank : step.bank ≡ bank
   pub state : IsBankAfter step.state shape memory rs
 
--- After these records the next breaks the rule first; want of memory says that it breaks none.
+-- After these records the next breaks the rule first; out of memory says that it breaks none.
 abbrev pub IsFaultAfter : Shape → FlatMemory → List Record → Record → BankFault → Type 0
 IsFaultAfter shape memory rs r (Rule rule) = BreaksAt OfBank shape (first_local memory) (rs ++ r ∷ []) (length rs) rule
 IsFaultAfter shape memory rs r NoMemory = IsRunOf OfBank shape (first_local memory) (rs ++ r ∷ [])

@@ -5,7 +5,7 @@ ghost use Rattle.lf_rules.specs.InRange.{IsShape};
 use crate::judged::is_bank_order;
 use lf_explain::{Broken, Seen, first_broken};
 use lf_rules::{Rule, Shape};
-use lf_samples::{C1, LOAD, LOADED, records, want_of_memory};
+use lf_samples::{C1, LOAD, LOADED, records, memory_ran_out};
 use std::alloc::Global;
 use std::test::Fail;
 
@@ -19,7 +19,7 @@ fn told(alloc: Global, shape: &Shape, parts: &[&str]) -> Result<Option<Broken>, 
     }
     match first_broken(alloc, shape, &Vec::new(alloc), 0, &records) {
         Ok(told) => Ok(told),
-        Err(_) => Err(want_of_memory()),
+        Err(_) => Err(memory_ran_out()),
     }
 }
 

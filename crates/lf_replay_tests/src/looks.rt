@@ -6,7 +6,7 @@ ghost use Rattle.lf_rules.specs.InRange.{IsShape};
 use crate::steps::applied;
 use lf_replay::{BlockState, Step};
 use lf_rules::{Mask, Shape};
-use lf_samples::{C1, records, want_of_memory};
+use lf_samples::{C1, records, memory_ran_out};
 use std::alloc::Global;
 use std::test::Fail;
 
@@ -17,7 +17,7 @@ fn shown(alloc: Global, shape: &Shape, parts: &[&str]) -> Result<(BlockState, Op
 {
     let records = records(alloc, shape, parts)?;
     let Ok(mut step) = Step::new(alloc, shape, &Vec::new(alloc), 0) else {
-        return Err(want_of_memory());
+        return Err(memory_ran_out());
     };
     let taken = applied(&mut step, shape, &records);
     let state = step.block_state(0);
@@ -27,7 +27,7 @@ fn shown(alloc: Global, shape: &Shape, parts: &[&str]) -> Result<(BlockState, Op
     };
     drop(step);
     if taken != Some(false) {
-        return Err(want_of_memory());
+        return Err(memory_ran_out());
     }
     Ok((state, byte))
 }

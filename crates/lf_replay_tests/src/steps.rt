@@ -5,7 +5,7 @@ ghost use Rattle.lf_rules.specs.InRange.{IsShape};
 
 use lf_replay::{BankFault, Step};
 use lf_rules::{Record, Shape, fits};
-use lf_samples::{C1, records, want_of_memory};
+use lf_samples::{C1, records, memory_ran_out};
 use std::alloc::Global;
 use std::test::Fail;
 
@@ -57,7 +57,7 @@ fn a_step_goes_on_after_a_fault(rt: HostRuntime) -> Result<(), Fail> {
     Ok(())
 }
 
-/// Applies these records of bank 0, and once more the one that is refused for want of memory. Whether one
+/// Applies these records of bank 0, and once more the one that was refused since memory ran out. Whether one
 /// was, or nothing where one is no record of the bank or is refused otherwise.
 pub fn applied(step: &mut Step, shape: &Shape, records: &[Record]) -> Option<bool>
     requires in_range { IsShape shape.now }
@@ -82,7 +82,7 @@ pub fn applied(step: &mut Step, shape: &Shape, records: &[Record]) -> Option<boo
     (at == records.len()).then_some(is_told)
 }
 
-/// Whether want of memory was told of a new step or of one of these events of bank 0, each of which is then
+/// Whether out of memory was told of a new step or of one of these events of bank 0, each of which is then
 /// taken when it comes again.
 fn told_by_step(alloc: Global, shape: &Shape, parts: &[&str]) -> Result<bool, Fail>
     requires { IsShape shape.now }
@@ -99,12 +99,12 @@ fn told_by_step(alloc: Global, shape: &Shape, parts: &[&str]) -> Result<bool, Fa
     Ok(told.ok_or("a record is refused twice")?)
 }
 
-/// A record that is refused for want of memory is taken when it comes again.
+/// A record that is refused since memory ran out is taken when it comes again.
 #[test]
 fn refused_growth_of_a_step(rt: HostRuntime) -> Result<(), Fail> {
     let events = "S 0 1@0=aa, P 0 0, L 1 1@0, M 1 0, SP 0 0, F2 0, F1 0, R 0, R 1=aa";
     if told_by_step(rt.alloc(), &C1, &[events])? {
-        return Err(want_of_memory());
+        return Err(memory_ran_out());
     }
     Ok(())
 }

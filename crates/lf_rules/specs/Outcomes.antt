@@ -15,7 +15,7 @@ abbrev pub first_local : FlatMemory → Local
 first_local memory = seen_by 0 0 (opening memory)
 
 -- The records are a run of the side, or the outcome names the first that does not continue one.
--- Want of memory says nothing.
+-- Out of memory says nothing.
 abbrev pub IsOutcomeOf : Side → Shape → FlatMemory → List Record → Outcome → Type 0
 IsOutcomeOf side shape memory rs Passed = IsRunOf side shape (first_local memory) rs
 IsOutcomeOf side shape memory rs (Broken n rule) = BreaksAt side shape (first_local memory) rs n rule
@@ -29,7 +29,7 @@ IsBankOutcome shape memory rs outcome = IsOutcomeOf OfBank shape memory rs outco
 abbrev pub IsPortOutcome : Shape → List Record → Outcome → Type 0
 IsPortOutcome shape rs outcome = (memory : FlatMemory) → IsOutcomeOf OfPort shape memory rs outcome
 
--- one list of records has one outcome, want of memory aside
+-- one list of records has one outcome, out of memory aside
 abbrev pub OutcomesAreOne : Type 0
 OutcomesAreOne = (side : Side) (shape : Shape) (memory : FlatMemory) (rs : List Record) (a b : Outcome) →
     IsOutcomeOf side shape memory rs a → IsOutcomeOf side shape memory rs b → (a ≡ NoMemory → ⊥) → (b ≡ NoMemory → ⊥) → a ≡ b

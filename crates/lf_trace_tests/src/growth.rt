@@ -1,9 +1,9 @@
 //! What a writer and a reader tell where a growth is refused. A test ends well with the answer that is due,
-//! and with `want_of_memory` where that was told and what was left was right.
+//! and with `memory_ran_out` where that was told and what was left was right.
 
 use crate::reading::{ONE_BANK, encoded};
 use lf_codec::{CodecCause, CodecFault, Packed, Reader, Told};
-use lf_samples::{C1, LOAD, LOAD_MISSES_BOTH_LEVELS, LOADED, records, want_of_memory};
+use lf_samples::{C1, LOAD, LOAD_MISSES_BOTH_LEVELS, LOADED, records, memory_ran_out};
 use std::test::Fail;
 
 #[test]
@@ -15,7 +15,7 @@ fn refused_growth_of_encode(rt: HostRuntime) -> Result<(), Fail> {
             assert!(rt; bytes.as_slice() == LOAD_MISSES_BOTH_LEVELS.as_slice());
             Ok(())
         }
-        Err(_) => Err(want_of_memory()),
+        Err(_) => Err(memory_ran_out()),
     }
 }
 
@@ -43,7 +43,7 @@ fn refused_growth_of_a_reader(rt: HostRuntime) -> Result<(), Fail> {
     assert_eq!(rt; told, Told::Fault(fault));
     assert_eq!(rt; reader.feed(&[0]), Err(Told::Failed(fault)));
     assert_eq!(rt; reader.finish(), Err(Told::Failed(fault)));
-    Err(want_of_memory())
+    Err(memory_ran_out())
 }
 
 /// Nor is a growth of the caller's records passed over: the reader has failed, and the records that begin before the
@@ -73,5 +73,5 @@ fn refused_growth_of_packed_records(rt: HostRuntime) -> Result<(), Fail> {
         .iter()
         .filter(|start| **start < fault.offset);
     assert_eq!(rt; there, begun.count());
-    Err(want_of_memory())
+    Err(memory_ran_out())
 }

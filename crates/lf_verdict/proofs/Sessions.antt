@@ -223,7 +223,7 @@ pub stop_stays : FaultsStand → (s : Intake) (bytes piece : List ℕ) (stop : S
 stop_stays law s bytes piece (stops.Format fault) fit at = ((law bytes piece fault at.0).so_far, both_bytes bytes piece at.1 fit)
 stop_stays law s bytes piece stops.Memory fit at = tt
 
--- a reader that has failed for want of memory, however that came
+-- a reader that has failed since memory ran out, however that came
 pub record Wants (r : Reading) : Type 0 where
   pub fault : CodecFault
   pub failed : r.fault ≡ Some fault

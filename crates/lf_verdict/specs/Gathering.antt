@@ -27,7 +27,7 @@ pub record IsWholeTrace (count : ℕ) (bytes : List ℕ) (t : Trace) : Type 0 wh
   pub trace : IsTrace bytes t.header t.memory.items records
   pub logs : lists_of t.logs ≡ logs_of count records
 
--- the refusal of these bytes by their format, or for want of memory
+-- the refusal of these bytes by their format, or since memory ran out
 abbrev pub IsReadRefusal : List ℕ → Refusal → Type 0
 IsReadRefusal bytes (refusals.Format fault) = trace_fault bytes ≡ Some fault
 IsReadRefusal bytes refusals.Memory = Unit {0}

@@ -49,7 +49,7 @@ NoneRanOut all parts = (part : ℕ) → part < parts → ¬ (outcome_at all part
 abbrev pub AllAreWhole : List (List Record) → Type 0
 AllAreWhole logs = (bank : ℕ) → bank < no_bank → HasWholeNumbers logs bank
 
--- the logs that wait for one another, or want of memory
+-- the logs that wait for one another, or out of memory
 abbrev pub IsOrderEnding : List (List (ℕ × ℕ)) → Ending → Type 0
 IsOrderEnding skeletons (endings.Fault (faults.Cycle ring)) = IsStuckRing skeletons ring.items × IsRing skeletons ring.items
 IsOrderEnding skeletons endings.NoMemory = Unit {0}

@@ -19,7 +19,7 @@ use Rattle.lf_verdict.specs.declared.answer.Refusal.TheVariants as refusals
 use Rattle.lf_verdict.specs.Parts.{HasWholeNumbers, PartsRun}
 use Rattle.lf_verdict.specs.Verdict.{IsFaultOfLogs, IsTraceVerdict}
 
--- the fault of the logs, or want of memory
+-- the fault of the logs, or out of memory
 abbrev pub IsEnding : Shape → FlatMemory → List (List Record) → Ending → Type 0
 IsEnding shape memory logs (endings.Fault fault) = IsFaultOfLogs shape memory logs fault
 IsEnding shape memory logs endings.NoMemory = Unit {0}
@@ -58,14 +58,14 @@ pub record IsOrderOf (shape : Shape) (memory : FlatMemory) (logs : List (List Re
   pub parts : PartsRun shape memory logs
   pub least : IsLeastOrder (skeletons_of logs) order
 
--- the verdict of the logs of a trace, or want of memory
+-- the verdict of the logs of a trace, or out of memory
 abbrev pub IsLogsVerdict : Shape → FlatMemory → List (List Record) → Verdict → Type 0
 IsLogsVerdict shape memory logs (Yes events order) = IsOrderOf shape memory logs order.items × (events ≡ length order.items)
 IsLogsVerdict shape memory logs (No fault) = IsFaultOfLogs shape memory logs fault
 IsLogsVerdict shape memory logs (Refused refusals.Memory) = Unit {0}
 IsLogsVerdict shape memory logs _ = ⊥
 
--- the verdict of the bytes, or want of memory
+-- the verdict of the bytes, or out of memory
 abbrev pub IsVerdictOrWant : Shape → List ℕ → Verdict → Type 0
 IsVerdictOrWant shape bytes (Refused refusals.Memory) = Unit {0}
 IsVerdictOrWant shape bytes verdict = IsTraceVerdict shape bytes verdict

@@ -81,7 +81,8 @@ IsDrained Waiting reader memory = IsLacking reader memory
 IsDrained (Running running) reader memory = reader.records ≡ []
 IsDrained (Another field) reader memory = Unit {0}
 
--- Nothing stopped the session and it has judged the records that it took, or a fault that stands in the bytes stopped it, or want of memory.
+-- Nothing stopped the session and it has judged the records that it took, or a fault that stands in the bytes stopped
+-- it, or memory ran out.
 abbrev pub HasFedUntil : Intake → List ℕ → Option Stop → Type 0
 HasFedUntil s bytes None = HasTaken s bytes
 HasFedUntil s bytes (Some (stops.Format fault)) = (fault_so_far bytes ≡ Some fault) × AreBytes bytes
@@ -105,7 +106,7 @@ stop_told (Some stop) after = Err (tolds.Failed (refusal_of stop))
 stop_told None (Some stop) = Err (tolds.Fault (refusal_of stop))
 stop_told None None = Ok tt
 
--- The fault of the format that stands in the bytes so far, whatever comes after them, or want of memory.
+-- The fault of the format that stands in the bytes so far, whatever comes after them, or out of memory.
 abbrev pub IsRefusalSoFar : List ℕ → Refusal → Type 0
 IsRefusalSoFar bytes (refusals.Format fault) = fault_so_far bytes ≡ Some fault
 IsRefusalSoFar bytes refusals.Memory = Unit {0}
@@ -116,7 +117,7 @@ abbrev pub IsStopOf : CodecFault → Stop → Type 0
 IsStopOf fault (stops.Format told) = (told ≡ fault) × (fault.cause ≢ NoMemory)
 IsStopOf fault stops.Memory = fault.cause ≡ NoMemory
 
--- a text that is no configuration, or want of memory
+-- a text that is no configuration, or out of memory
 abbrev pub IsConfigRefusal : List ℕ → Refusal → Type 0
 IsConfigRefusal text (refusals.Config fault) = IsConfigFault text fault
 IsConfigRefusal text refusals.Memory = Unit {0}

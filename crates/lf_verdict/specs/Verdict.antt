@@ -74,7 +74,8 @@ IsTraceVerdict shape bytes (No fault) = IsNo shape bytes fault
 IsTraceVerdict shape bytes (Yes events order) = IsYes shape bytes events order.items
 IsTraceVerdict shape bytes _ = ⊥
 
--- The verdict of the bytes for the shape, with so many workers. Want of memory and of threads is never one.
+-- The verdict of the bytes for the shape, with so many workers. Out of memory is never one, nor is a thread that was
+-- refused.
 abbrev pub IsVerdictOf : Shape → ℕ → List ℕ → Verdict → Type 0
 IsVerdictOf shape workers bytes (Refused (refusals.Workers n)) = (n ≡ workers) × ¬ IsWorkerCount workers
 IsVerdictOf shape workers bytes verdict = IsWorkerCount workers × IsTraceVerdict shape bytes verdict

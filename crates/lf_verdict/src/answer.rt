@@ -40,7 +40,7 @@ pub enum Fault {
 pub enum Refusal {
     /// There cannot be so many workers.
     Workers(u32),
-    /// The text is no configuration. Want of memory is never told here.
+    /// The text is no configuration. Out of memory is never told here.
     Config(ConfigFault),
     /// The bytes are no trace.
     Format(CodecFault),

@@ -26,7 +26,7 @@ const BATCH: usize = 16384;
 
 /// Judges a trace while its bytes come, as `Session` does. With more than one worker a thread reads the trace,
 /// another enters what was read into the logs, and as many as there are workers judge the banks, so that a
-/// refusal for want of memory may come with a later piece. One worker does all in one thread.
+/// refusal for memory may come with a later piece. One worker does all in one thread.
 ///
 /// It is ended by `finish` alone, so that no thread is left at work.
 pub struct ParallelSession<G = NoGate> {
@@ -77,7 +77,7 @@ impl<G: Gate + Sync + Send + Copy + 'static> ParallelSession<G> {
     }
 
     /// Takes the next piece of the trace. It refuses a fault of the format that stands in the bytes so
-    /// far, other than `Truncated`, and want of memory; from then on it answers `Failed`. Where a thread is
+    /// far, other than `Truncated`, and out of memory; from then on it answers `Failed`. Where a thread is
     /// refused, its work is done here.
     pub fn feed<R: Threads + Sync + Send + Copy + 'static>(
         &mut self,

@@ -27,7 +27,7 @@ fn ran_out(all: &[Outcome]) -> bool
     false
 }
 
-/// Names what the outcomes of all jobs say: want of memory first, then the lowest port that is broken,
+/// Names what the outcomes of all jobs say: out of memory first, then the lowest port that is broken,
 /// then the lowest bank.
 pub fn judge_outcomes(jobs: &Jobs, outcomes: &[Outcome]) -> Result<(), Ending>
     requires ready { AreJobs jobs.now }

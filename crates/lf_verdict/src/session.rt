@@ -65,7 +65,7 @@ impl Session {
     }
 
     /// Takes the next piece of the trace. It refuses a fault of the format that stands in the bytes so
-    /// far, other than `Truncated`, and want of memory; from then on it answers `Failed`.
+    /// far, other than `Truncated`, and out of memory; from then on it answers `Failed`.
     pub fn feed(&mut self, piece: &[u8]) -> Result<(), Told<Refusal>>
         ensures shape { self.new.shape ≡ self.old.shape }
         ensures fed { (bytes : List ℕ) → HasFed self.old bytes → HasFed self.new (bytes ++ piece.now) }

@@ -1,5 +1,5 @@
-//! What is told where a growth is refused: want of memory, and no other answer than the one that is due.
-//! A test ends well with the latter, and with `want_of_memory` where that was told. None takes memory of
+//! What is told where a growth is refused: out of memory, and no other answer than the one that is due.
+//! A test ends well with the latter, and with `memory_ran_out` where that was told. None takes memory of
 //! its own, so in a run with one growth refused it was one of the call.
 
 use crate::examples::cycle_of;
@@ -9,8 +9,8 @@ use lf_engine::{Counted, run};
 use lf_rules::Rule;
 use lf_samples::{
     C1, C1_TEXT, CYCLE_OF_TWO_LOGS, EMPTY_TRACE, FOUR_BANKS_TEXT, LOAD_MERGES_BEHIND_STORE,
-    LOAD_MISSES_BOTH_LEVELS, LOWEST_BANK, TWO_PORTS_TWO_BANKS_TEXT, want_of_a_thread,
-    want_of_memory,
+    LOAD_MISSES_BOTH_LEVELS, LOWEST_BANK, TWO_PORTS_TWO_BANKS_TEXT, thread_refused,
+    memory_ran_out,
 };
 use lf_verdict::{Fault, NoGate, ParallelSession, Refusal, Session, Verdict, check};
 use std::io::Cursor;
@@ -49,8 +49,8 @@ fn two_logs() -> Due<'static> {
 
 fn assert_due(rt: &impl Abort, verdict: &Verdict, due: &Due<'_>) -> Result<(), Fail> {
     match verdict {
-        Verdict::Refused(Refusal::Memory) => Err(want_of_memory()),
-        Verdict::Refused(Refusal::Thread) => Err(want_of_a_thread()),
+        Verdict::Refused(Refusal::Memory) => Err(memory_ran_out()),
+        Verdict::Refused(Refusal::Thread) => Err(thread_refused()),
         verdict => {
             assert!(rt; due.is(verdict));
             Ok(())
@@ -115,7 +115,7 @@ fn assert_fed<T: Abort + AllocGlobal>(
         Ok(session) => session,
         Err(refusal) => {
             assert_eq!(rt; refusal, Refusal::Memory);
-            return Err(want_of_memory());
+            return Err(memory_ran_out());
         }
     };
     for piece in pieces {
@@ -124,7 +124,7 @@ fn assert_fed<T: Abort + AllocGlobal>(
             let again = session.feed(piece);
             assert_eq!(rt; again, Err(Told::Failed(Refusal::Memory)));
             assert_eq!(rt; session.finish(), Verdict::Refused(Refusal::Memory));
-            return Err(want_of_memory());
+            return Err(memory_ran_out());
         }
     }
     assert_due(rt, &session.finish(), due)
@@ -162,7 +162,7 @@ fn refused_growth_of_session_by_four_workers(rt: HostRuntime) -> Result<(), Fail
         if let Err(told) = session.feed(&rt, piece) {
             assert_eq!(rt; told, Told::Fault(Refusal::Memory));
             assert_eq!(rt; session.finish(&rt), Verdict::Refused(Refusal::Memory));
-            return Err(want_of_memory());
+            return Err(memory_ran_out());
         }
     }
     match session.finish(&rt) {
