@@ -1,1 +1,2 @@
 mod Tallies
+mod Standings

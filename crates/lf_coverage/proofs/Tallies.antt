@@ -10,7 +10,8 @@ use Rattle.lf_rules.specs.declared.shape.Shape.{Shape}
 use Rattle.lf_rules.specs.declared.event.Record.{Record}
 use Rattle.lf_stats.specs.Statistics.{held_count}
 use Rattle.lf_coverage.specs.declared.point.BankPoint.{BankPoint}
-use Rattle.lf_coverage.specs.Points.{reaches, reaches_at, reached}
+use Rattle.lf_coverage.specs.Sights.{sight}
+use Rattle.lf_coverage.specs.Points.{reaches, reaches_at, reaches_next, reached}
 
 bit_le : (b : Bool) → cond {A = ℕ} b 1 0 ≤ 1
 bit_le true = omega arith
@@ -19,16 +20,16 @@ bit_le false = omega arith
 pub reached_le : (shape : Shape) (rs : List Record) (point : BankPoint) (n : ℕ) → reached shape rs point n ≤ n
 reached_le shape rs point zero = omega arith
 reached_le shape rs point (suc n) =
-    let here = bit_le (reaches_at shape point (held_count shape rs n) (held_count shape rs (suc n)) (slice_get rs n)) in
+    let here = bit_le (reaches_next shape rs point n) in
     omega (arith, here, reached_le shape rs point n)
 
 pub reached_at : (shape : Shape) (rs : List Record) (point : BankPoint) (n : ℕ) (r : Record) → slice_get rs n ≡ Some r
     → reached shape rs point (n + 1)
-    ≡ reached shape rs point n + cond (reaches shape point (held_count shape rs n) (held_count shape rs (n + 1)) r.event) 1 0
+    ≡ reached shape rs point n + cond (reaches shape point (held_count shape rs n) (held_count shape rs (n + 1)) (sight shape rs n) r.event) 1 0
 reached_at shape rs point n r e =
     ap (reached shape rs point) (add-one n)
-    ∙ ap (λ (o : Option Record). reached shape rs point n + cond {A = ℕ} (reaches_at shape point (held_count shape rs n) (held_count shape rs (suc n)) o) 1 0) e
-    ∙ ap (λ (k : ℕ). reached shape rs point n + cond {A = ℕ} (reaches shape point (held_count shape rs n) (held_count shape rs k) r.event) 1 0) (sym (add-one n))
+    ∙ ap (λ (o : Option Record). reached shape rs point n + cond {A = ℕ} (reaches_at shape point (held_count shape rs n) (held_count shape rs (suc n)) (sight shape rs n) o) 1 0) e
+    ∙ ap (λ (k : ℕ). reached shape rs point n + cond {A = ℕ} (reaches shape point (held_count shape rs n) (held_count shape rs k) (sight shape rs n) r.event) 1 0) (sym (add-one n))
 
 -- ---- a list to which one more is added, or a list of more
 
@@ -58,9 +59,10 @@ module _ {Y : Type 0} (before now after : List Y) where
       more_pushed (filter p (map f (range_with_len a n))) (filter p (f j ∷ [])) e q
       ∙ ap (λ zs. before ++ zs) (sym (ap (filter p) (map-range_with_len_more f a n j is) ∙ filter-append p (map f (range_with_len a n)) (f j ∷ [])))
 
-pub joined : {Y : Type 0} (none first second third xs ys zs : List Y) → none ≡ [] → first ≡ none ++ xs → second ≡ first ++ ys → third ≡ second ++ zs
-    → third ≡ xs ++ ys ++ zs
-joined none first second third xs ys zs e f g h = h ∙ ap (λ l. l ++ zs) (g ∙ ap (λ l. l ++ ys) (f ∙ ap (λ l. l ++ xs) e))
+pub joined : {Y : Type 0} (none first second third fourth ws xs ys zs : List Y) → none ≡ []
+    → first ≡ none ++ ws → second ≡ first ++ xs → third ≡ second ++ ys → fourth ≡ third ++ zs → fourth ≡ ws ++ xs ++ ys ++ zs
+joined none first second third fourth ws xs ys zs e f g h i =
+    i ∙ ap (λ l. l ++ zs) (h ∙ ap (λ l. l ++ ys) (g ∙ ap (λ l. l ++ xs) (f ∙ ap (λ l. l ++ ws) e)))
 
 -- ---- a result
 

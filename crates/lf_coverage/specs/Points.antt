@@ -9,42 +9,56 @@ use Rattle.lf_coverage.specs.declared.point.BankPoint.{BankPoint}
 use Rattle.lf_coverage.specs.declared.point.BankPoint.TheVariants as points
 use Rattle.lf_coverage.specs.declared.point.PortPoint.{PortPoint}
 use Rattle.lf_coverage.specs.declared.point.PortPoint.TheVariants.{Load, Store, Reply, Fence}
+use Rattle.lf_coverage.specs.declared.sight.Sight.{Sight}
+use Rattle.lf_coverage.specs.Sights.{sight, load_behind_load, load_behind_store, store_behind_load, store_behind_store, is_refetch, overtakes, is_over_stores, makes_targets}
 use Rattle.lf_coverage.specs.Kinds.{is_fill1, is_evict1, is_second_hit, is_second_primary, is_second_merge, is_second_stall, is_fill2, is_evict2}
 use Rattle.lf_coverage.specs.Kinds.{is_clean, is_dirty_whole, is_dirty_in_part, is_dirty2, is_load, is_store, is_reply, is_fence}
 
 -- ---- a bank
 
--- Does the event reach the point, where so many registers of level one are held before it and after it?
-abbrev pub reaches : Shape → BankPoint → ℕ → ℕ → Event → Bool
-reaches shape points.Hit before after event = is_hit event
-reaches shape points.Primary before after event = is_primary event
-reaches shape points.Merge before after event = is_merge event
-reaches shape points.Stall before after event = is_stall event
-reaches shape points.Fill1 before after event = is_fill1 event
-reaches shape points.Evict1 before after event = is_evict1 event
-reaches shape points.CleanEviction before after event = is_clean event
-reaches shape points.PartEviction before after event = is_dirty_in_part shape.block event
-reaches shape points.WholeEviction before after event = is_dirty_whole shape.block event
-reaches shape points.HitUnderMiss before after event = is_hit event && nat_lt 0 before
-reaches shape points.SecondHit before after event = is_second_hit event
-reaches shape points.SecondPrimary before after event = is_second_primary event
-reaches shape points.SecondMerge before after event = is_second_merge event
-reaches shape points.SecondStall before after event = is_second_stall event
-reaches shape points.Fill2 before after event = is_fill2 event
-reaches shape points.Evict2 before after event = is_evict2 event
-reaches shape (points.DirtyBlocks n) before after event = is_dirty2 n event
-reaches shape (points.Registers n) before after event = nat_lt before after && after == n
+-- Does the event reach the point, where so many registers of level one are held before it and after it, and the
+-- records before it say so much of it?
+abbrev pub reaches : Shape → BankPoint → ℕ → ℕ → Sight → Event → Bool
+reaches shape points.Hit before after seen event = is_hit event
+reaches shape points.Primary before after seen event = is_primary event
+reaches shape points.Merge before after seen event = is_merge event
+reaches shape points.Stall before after seen event = is_stall event
+reaches shape points.Fill1 before after seen event = is_fill1 event
+reaches shape points.Evict1 before after seen event = is_evict1 event
+reaches shape points.CleanEviction before after seen event = is_clean event
+reaches shape points.PartEviction before after seen event = is_dirty_in_part shape.block event
+reaches shape points.WholeEviction before after seen event = is_dirty_whole shape.block event
+reaches shape points.HitUnderMiss before after seen event = is_hit event && nat_lt 0 before
+reaches shape points.SecondHit before after seen event = is_second_hit event
+reaches shape points.SecondPrimary before after seen event = is_second_primary event
+reaches shape points.SecondMerge before after seen event = is_second_merge event
+reaches shape points.SecondStall before after seen event = is_second_stall event
+reaches shape points.Fill2 before after seen event = is_fill2 event
+reaches shape points.Evict2 before after seen event = is_evict2 event
+reaches shape (points.DirtyBlocks n) before after seen event = is_dirty2 n event
+reaches shape (points.Registers n) before after seen event = nat_lt before after && after == n
+reaches shape points.LoadBehindLoad before after seen event = load_behind_load seen
+reaches shape points.LoadBehindStore before after seen event = load_behind_store seen
+reaches shape points.StoreBehindLoad before after seen event = store_behind_load seen
+reaches shape points.StoreBehindStore before after seen event = store_behind_store seen
+reaches shape (points.Targets n) before after seen event = makes_targets n seen
+reaches shape points.Refetch before after seen event = is_refetch seen
+reaches shape points.FillOutOfOrder before after seen event = overtakes seen
+reaches shape points.FillOverStores before after seen event = is_over_stores seen
 
-abbrev pub reaches_at : Shape → BankPoint → ℕ → ℕ → Option Record → Bool
-reaches_at shape point before after None = false
-reaches_at shape point before after (Some r) = reaches shape point before after r.event
+abbrev pub reaches_at : Shape → BankPoint → ℕ → ℕ → Sight → Option Record → Bool
+reaches_at shape point before after seen None = false
+reaches_at shape point before after seen (Some r) = reaches shape point before after seen r.event
+
+-- does the record behind the first n reach it?
+abbrev pub reaches_next : Shape → List Record → BankPoint → ℕ → Bool
+reaches_next shape rs point n =
+    reaches_at shape point (held_count shape rs n) (held_count shape rs (suc n)) (sight shape rs n) (slice_get rs n)
 
 -- how many of the first n records of a bank, in the order of their numbers, reach the point
 abbrev pub reached : Shape → List Record → BankPoint → ℕ → ℕ
 reached shape rs point zero = 0
-reached shape rs point (suc n) =
-    reached shape rs point n
-    + (if reaches_at shape point (held_count shape rs n) (held_count shape rs (suc n)) (slice_get rs n) then 1 else 0)
+reached shape rs point (suc n) = reached shape rs point n + (if reaches_next shape rs point n then 1 else 0)
 
 -- ---- a port
 

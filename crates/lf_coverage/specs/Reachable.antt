@@ -1,5 +1,5 @@
 -- The points that a hierarchy can reach. A hierarchy cannot reach the others, by what its registers hold.
-use Rattle.std.specs.Prelude.{ℕ, min, Bool, true, false, ◌&&◌, ◌||◌, nat_lt, nat_le, List, [], ◌∷◌, ◌++◌, map, filter}
+use Rattle.std.specs.Prelude.{ℕ, ◌/◌, min, Bool, true, false, ◌&&◌, ◌||◌, nat_lt, nat_le, List, [], ◌∷◌, ◌++◌, map, filter}
 use Rattle.std.specs.List.{range_with_len}
 use Rattle.lf_rules.specs.declared.shape.Shape.{Shape}
 use Rattle.lf_rules.specs.declared.shape.OrgShape.{OrgShape}
@@ -31,6 +31,12 @@ joins Inverted size = true
 
 abbrev pub can_merge : Shape → Bool
 can_merge shape = nat_lt 1 (requests shape) && joins shape.level1.organisation shape.block
+
+-- how many targets a register can take, where blocks have so many bytes, and no more than there are requests
+abbrev pub most_targets : OrgShape → ℕ → ℕ → ℕ
+most_targets (Implicit registers) size requests = min (size / 8) requests
+most_targets (Explicit registers entries) size requests = min entries requests
+most_targets Inverted size requests = requests
 
 -- can a miss of level one find no room, where so many requests can be outstanding?
 abbrev pub fills_up : OrgShape → ℕ → Bool
@@ -64,6 +70,12 @@ can_reach shape points.SecondMerge = can_merge2 shape
 can_reach shape points.SecondStall = fills_up2 shape.level2.organisation (most_held shape) shape.factor
 can_reach shape (points.DirtyBlocks n) = nat_le n shape.factor
 can_reach shape (points.Registers n) = nat_le n (most_held shape)
+can_reach shape points.LoadBehindLoad = can_merge shape
+can_reach shape points.LoadBehindStore = can_merge shape
+can_reach shape points.StoreBehindLoad = can_merge shape
+can_reach shape points.StoreBehindStore = can_merge shape
+can_reach shape (points.Targets n) = nat_le n (most_targets shape.level1.organisation shape.block (requests shape))
+can_reach shape points.FillOutOfOrder = nat_lt 1 (most_held shape)
 can_reach shape _ = true
 
 -- those without a number
@@ -85,14 +97,23 @@ kinds =
     ∷ points.SecondStall
     ∷ points.Fill2
     ∷ points.Evict2
+    ∷ points.LoadBehindLoad
+    ∷ points.LoadBehindStore
+    ∷ points.StoreBehindLoad
+    ∷ points.StoreBehindStore
+    ∷ points.Refetch
+    ∷ points.FillOutOfOrder
+    ∷ points.FillOverStores
     ∷ []
 
--- The points of a bank. More than 64 registers, which only an inverted organisation has, are not told apart.
+-- The points of a bank. More than 64 registers, which only an inverted organisation has, are not told apart, nor are
+-- more than 16 targets. The first target of a block is no merge.
 abbrev pub bank_points : Shape → List BankPoint
 bank_points shape =
     filter (can_reach shape) kinds
     ++ filter (can_reach shape) (map points.DirtyBlocks (range_with_len 0 5))
     ++ filter (can_reach shape) (map points.Registers (range_with_len 1 64))
+    ++ filter (can_reach shape) (map points.Targets (range_with_len 2 15))
 
 -- The points of a port.
 abbrev pub port_points : List PortPoint

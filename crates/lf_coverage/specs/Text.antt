@@ -30,6 +30,14 @@ bank_point_text points.Fill2 = codes "fill2"
 bank_point_text points.Evict2 = codes "evict2"
 bank_point_text (points.DirtyBlocks n) = codes "evict2_dirty_" ++ decimal n
 bank_point_text (points.Registers n) = codes "registers_" ++ decimal n
+bank_point_text points.LoadBehindLoad = codes "load_behind_load"
+bank_point_text points.LoadBehindStore = codes "load_behind_store"
+bank_point_text points.StoreBehindLoad = codes "store_behind_load"
+bank_point_text points.StoreBehindStore = codes "store_behind_store"
+bank_point_text (points.Targets n) = codes "targets_" ++ decimal n
+bank_point_text points.Refetch = codes "refetched"
+bank_point_text points.FillOutOfOrder = codes "fill1_out_of_order"
+bank_point_text points.FillOverStores = codes "fill1_over_stores"
 
 abbrev pub port_point_text : PortPoint → List ℕ
 port_point_text (Load size) = codes "load_" ++ decimal size

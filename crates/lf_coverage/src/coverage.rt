@@ -7,9 +7,10 @@ ghost use Rattle.lf_rules.specs.Lists.{lists_of};
 ghost use Rattle.lf_coverage.specs.Reachable.{bank_points};
 ghost use Rattle.lf_coverage.specs.Coverage.{AreOfBanks, of_ports, IsCoverage};
 
-use crate::counts::{add_bank, add_port};
+use crate::counts::{Order, add_bank, add_port};
 use crate::point::BankPoint;
 use crate::reachable::bank_points;
+use crate::standing::sights;
 use crate::tally::Tally;
 use lf_logs::bank_order;
 use lf_rules::{Logs, NoMemory, Shape};
@@ -43,15 +44,13 @@ fn cover_bank(
         return Err(NoMemory);
     };
     let held = held_counts(alloc, shape, logs, places.as_slice())?;
-    add_bank(
-        tallies,
-        shape,
-        logs,
-        bank,
-        points,
-        places.as_slice(),
-        held.as_slice(),
-    )
+    let seen = sights(alloc, shape, logs, places.as_slice())?;
+    let order = Order {
+        places: places.as_slice(),
+        held: held.as_slice(),
+        seen: seen.as_slice(),
+    };
+    add_bank(tallies, shape, logs, bank, points, order)
 }
 
 /// What the banks reached.

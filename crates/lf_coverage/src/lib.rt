@@ -10,6 +10,9 @@ mod coverage;
 mod point;
 mod reach;
 mod reachable;
+mod request;
+mod sight;
+mod standing;
 mod tally;
 #[cfg(test)]
 mod tests;

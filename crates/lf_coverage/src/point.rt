@@ -44,6 +44,22 @@ pub enum BankPoint {
     DirtyBlocks(u32),
     /// A miss takes a register of level one, and then so many are held.
     Registers(u32),
+    /// A load joins others to its block, and the last one is a load.
+    LoadBehindLoad,
+    /// A load joins others to its block, and the last one is a store.
+    LoadBehindStore,
+    /// A store joins others to its block, and the last one is a load.
+    StoreBehindLoad,
+    /// A store joins others to its block, and the last one is a store.
+    StoreBehindStore,
+    /// A miss joins others to its block, and then so many wait for it.
+    Targets(u32),
+    /// A miss takes a register of level one for a block that was written back before.
+    Refetch,
+    /// Level one gets a block before one that a miss asked for earlier.
+    FillOutOfOrder,
+    /// Level one gets a block that a store waits for.
+    FillOverStores,
 }
 
 /// A situation at a port.
@@ -89,6 +105,14 @@ impl fmt::Display for BankPoint {
             BankPoint::Evict2 => write!(f, "evict2"),
             BankPoint::DirtyBlocks(n) => write!(f, "evict2_dirty_{n}"),
             BankPoint::Registers(n) => write!(f, "registers_{n}"),
+            BankPoint::LoadBehindLoad => write!(f, "load_behind_load"),
+            BankPoint::LoadBehindStore => write!(f, "load_behind_store"),
+            BankPoint::StoreBehindLoad => write!(f, "store_behind_load"),
+            BankPoint::StoreBehindStore => write!(f, "store_behind_store"),
+            BankPoint::Targets(n) => write!(f, "targets_{n}"),
+            BankPoint::Refetch => write!(f, "refetched"),
+            BankPoint::FillOutOfOrder => write!(f, "fill1_out_of_order"),
+            BankPoint::FillOverStores => write!(f, "fill1_over_stores"),
         }
     }
 }

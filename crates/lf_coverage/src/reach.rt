@@ -5,6 +5,7 @@ ghost use Rattle.lf_coverage.specs.Kinds.{is_clean, is_dirty_in_part, is_dirty_w
 ghost use Rattle.lf_coverage.specs.Points.{reaches, port_reaches};
 
 use crate::point::{BankPoint, PortPoint};
+use crate::sight::Sight;
 use lf_rules::{Event, Mask, Op, Shape};
 
 /// Whether a line of level one with no dirty byte is given up.
@@ -90,10 +91,18 @@ fn is_store(bytes: u8, event: &Event) -> bool
 }
 
 impl BankPoint {
-    /// Whether the event reaches the point, where so many registers of level one are held before it and after it.
-    pub(crate) fn reaches(self, shape: &Shape, before: u32, after: u32, event: &Event) -> bool
+    /// Whether the event reaches the point, where so many registers of level one are held before it and after it,
+    /// and the records before it say so much of it.
+    pub(crate) fn reaches(
+        self,
+        shape: &Shape,
+        before: u32,
+        after: u32,
+        seen: Sight,
+        event: &Event,
+    ) -> bool
         requires { shape.now.block ≤ 64 }
-        ensures { result ≡ reaches shape.now self before after event.now }
+        ensures { result ≡ reaches shape.now self before after seen event.now }
     {
         match self {
             BankPoint::Hit => matches!(event, Event::Hit { .. }),
@@ -114,6 +123,14 @@ impl BankPoint {
             BankPoint::Evict2 => matches!(event, Event::Evict2 { .. }),
             BankPoint::DirtyBlocks(count) => is_dirty2(count, event),
             BankPoint::Registers(count) => before < after && after == count,
+            BankPoint::LoadBehindLoad => seen.load_behind_load(),
+            BankPoint::LoadBehindStore => seen.load_behind_store(),
+            BankPoint::StoreBehindLoad => seen.store_behind_load(),
+            BankPoint::StoreBehindStore => seen.store_behind_store(),
+            BankPoint::Targets(count) => seen.makes_targets(count),
+            BankPoint::Refetch => seen.is_refetch(),
+            BankPoint::FillOutOfOrder => seen.overtakes(),
+            BankPoint::FillOverStores => seen.is_over_stores(),
         }
     }
 }

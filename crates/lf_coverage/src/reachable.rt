@@ -3,14 +3,14 @@
 ghost use Rattle.std.specs.Prelude.{◌≡◌, ◌++◌, ◌∷◌, [], OnOk, IfOk, filter, map};
 ghost use Rattle.std.specs.List.{range_with_len};
 ghost use Rattle.lf_rules.specs.InRange.{IsShape};
-ghost use Rattle.lf_coverage.specs.Reachable.{requests, most_held, joins, can_merge, fills_up, joins2, can_merge2, fills_up2, can_reach, kinds, bank_points};
+ghost use Rattle.lf_coverage.specs.Reachable.{requests, most_held, joins, can_merge, most_targets, fills_up, joins2, can_merge2, fills_up2, can_reach, kinds, bank_points};
 
 use crate::point::BankPoint;
 use lf_rules::{NoMemory, OrgShape, Shape};
 use std::alloc::Global;
 
 /// The points of a bank without a number.
-const KINDS: [BankPoint; 16] = [
+const KINDS: [BankPoint; 23] = [
     BankPoint::Hit,
     BankPoint::Primary,
     BankPoint::Merge,
@@ -27,6 +27,13 @@ const KINDS: [BankPoint; 16] = [
     BankPoint::SecondStall,
     BankPoint::Fill2,
     BankPoint::Evict2,
+    BankPoint::LoadBehindLoad,
+    BankPoint::LoadBehindStore,
+    BankPoint::StoreBehindLoad,
+    BankPoint::StoreBehindStore,
+    BankPoint::Refetch,
+    BankPoint::FillOutOfOrder,
+    BankPoint::FillOverStores,
 ];
 
 /// How many requests can be outstanding at once.
@@ -67,6 +74,17 @@ fn can_merge(shape: &Shape) -> bool
     ensures { result ≡ can_merge shape.now }
 {
     1 < requests(shape) && joins(&shape.level1.organisation, shape.block)
+}
+
+/// How many targets a register of level one can take, of so many requests.
+fn most_targets(organisation: &OrgShape, size: u32, requests: u32) -> u32
+    ensures { result ≡ most_targets organisation.now size requests }
+{
+    match *organisation {
+        OrgShape::Implicit { .. } => (size / 8).min(requests),
+        OrgShape::Explicit { entries, .. } => entries.min(requests),
+        OrgShape::Inverted => requests,
+    }
 }
 
 /// Whether a miss of level one can find no room.
@@ -116,7 +134,11 @@ fn can_reach(shape: &Shape, point: BankPoint) -> bool
     ensures { result ≡ can_reach shape.now point }
 {
     match point {
-        BankPoint::Merge => can_merge(shape),
+        BankPoint::Merge
+        | BankPoint::LoadBehindLoad
+        | BankPoint::LoadBehindStore
+        | BankPoint::StoreBehindLoad
+        | BankPoint::StoreBehindStore => can_merge(shape),
         BankPoint::Stall => fills_up(&shape.level1.organisation, requests(shape)),
         BankPoint::HitUnderMiss => 1 < requests(shape),
         BankPoint::SecondMerge => can_merge2(shape),
@@ -125,6 +147,10 @@ fn can_reach(shape: &Shape, point: BankPoint) -> bool
         }
         BankPoint::DirtyBlocks(count) => count <= shape.factor,
         BankPoint::Registers(count) => count <= most_held(shape),
+        BankPoint::Targets(count) => {
+            count <= most_targets(&shape.level1.organisation, shape.block, requests(shape))
+        }
+        BankPoint::FillOutOfOrder => 1 < most_held(shape),
         _ => true,
     }
 }
@@ -175,6 +201,18 @@ fn add_registers(points: &mut Vec<BankPoint>, shape: &Shape) -> Result<(), NoMem
     Ok(())
 }
 
+/// Those of a number of targets.
+fn add_targets(points: &mut Vec<BankPoint>, shape: &Shape) -> Result<(), NoMemory>
+    requires { IsShape shape.now }
+    ensures { OnOk result (points.new.items
+        ≡ points.old.items ++ filter (can_reach shape.now) (map BankPoint.Targets (range_with_len 2 15))) }
+{
+    for more in 0..15 {
+        add(points, shape, BankPoint::Targets(more + 2))?;
+    }
+    Ok(())
+}
+
 /// The points that a bank can reach.
 pub(crate) fn bank_points(alloc: Global, shape: &Shape) -> Result<Vec<BankPoint>, NoMemory>
     requires { IsShape shape.now }
@@ -184,5 +222,6 @@ pub(crate) fn bank_points(alloc: Global, shape: &Shape) -> Result<Vec<BankPoint>
     add_kinds(&mut points, shape)?;
     add_dirty_blocks(&mut points, shape)?;
     add_registers(&mut points, shape)?;
+    add_targets(&mut points, shape)?;
     Ok(points)
 }

@@ -9,7 +9,7 @@ use lf_rules::{Block, Event, Level, Logs, Mask, Op, OrgShape, Record, Shape};
 use std::alloc::Global;
 use std::test::Fail;
 
-/// One port with two tags, one bank, blocks of 8 bytes, two registers at level one.
+/// One port with four tags, one bank, blocks of 8 bytes, two registers of two entries at level one.
 fn shape() -> Shape
     ensures in_range { IsShape result }
     ensures ports { result.ports ≡ 1 }
@@ -20,14 +20,14 @@ fn shape() -> Shape
         ways: 1,
         organisation: OrgShape::Explicit {
             registers: 2,
-            entries: 1,
+            entries: 2,
         },
     };
     Shape {
         ports: 1,
         banks: 1,
         block: 8,
-        tags: 2,
+        tags: 4,
         factor: 1,
         level1: level,
         level2: level,
@@ -43,44 +43,64 @@ fn item(log: u8, number: u32, event: Event) -> Record {
     }
 }
 
-/// A load of each of two blocks.
-fn loads(alloc: Global) -> Result<Vec<Record>, Fail> {
+fn issue(op: Op, tag: u8, address: u64) -> Record {
+    let event = Event::Issue {
+        op,
+        tag,
+        size: 4,
+        address,
+        bytes: Block::new(),
+    };
+    item(0, u32::from(tag), event)
+}
+
+fn primary(number: u32, tag: u8, register: u16) -> Record {
+    let event = Event::Primary {
+        port: 0,
+        tag,
+        register,
+    };
+    item(1, number, event)
+}
+
+fn fill(number: u32, block: u32) -> Record {
+    let event = Event::Fill1 {
+        block,
+        bytes: Block::new(),
+    };
+    item(1, number, event)
+}
+
+/// A store and a load of one block, a load of another, and a store to the first.
+fn requests(alloc: Global) -> Result<Vec<Record>, Fail> {
     let mut items = Vec::new(alloc);
-    for tag in 0..2 {
-        let load = Event::Issue {
-            op: Op::Load,
-            tag,
-            size: 4,
-            address: u64::from(tag) * 8,
-            bytes: Block::new(),
-        };
-        items.push(item(0, u32::from(tag), load))?;
-    }
+    items.push(issue(Op::Store, 0, 0))?;
+    items.push(issue(Op::Load, 1, 0))?;
+    items.push(issue(Op::Load, 2, 8))?;
+    items.push(issue(Op::Store, 3, 0))?;
     Ok(items)
 }
 
-/// Both miss, and the block of the first is filled and given up.
+/// The other block comes first. The first block is given up with a dirty byte, and the last store misses it.
 fn misses(alloc: Global) -> Result<Vec<Record>, Fail> {
     let mut items = Vec::new(alloc);
-    for tag in 0..2 {
-        let miss = Event::Primary {
-            port: 0,
-            tag,
-            register: u16::from(tag),
-        };
-        items.push(item(1, 2 + u32::from(tag), miss))?;
-    }
-    let fill = Event::Fill1 {
-        block: 0,
-        bytes: Block::new(),
+    items.push(primary(4, 0, 0))?;
+    let merge = Event::Merge {
+        port: 0,
+        tag: 1,
+        register: 0,
     };
-    items.push(item(1, 4, fill))?;
+    items.push(item(1, 5, merge))?;
+    items.push(primary(6, 2, 1))?;
+    items.push(fill(7, 1))?;
+    items.push(fill(8, 0))?;
     let eviction = Event::Evict1 {
         block: 0,
         mask: Mask(1),
         bytes: Block::new(),
     };
-    items.push(item(1, 5, eviction))?;
+    items.push(item(1, 9, eviction))?;
+    items.push(primary(10, 3, 0))?;
     Ok(items)
 }
 
@@ -105,6 +125,9 @@ bank=0 second_hit=0
 bank=0 second_primary=0
 bank=0 fill2=0
 bank=0 evict2=0
+bank=0 load_behind_load=0
+bank=0 store_behind_load=0
+bank=0 store_behind_store=0
 bank=0 evict2_dirty_0=0
 bank=0 evict2_dirty_1=0
 port=0 load_1=0
@@ -112,24 +135,30 @@ port=0 load_2=0
 port=0 load_8=0
 port=0 store_1=0
 port=0 store_2=0
-port=0 store_4=0
 port=0 store_8=0
 port=0 reply=0
 port=0 fence=0
-bank=0 primary=2
-bank=0 fill1=1
+bank=0 primary=3
+bank=0 merge=1
+bank=0 fill1=2
 bank=0 evict1=1
 bank=0 evict1_part=1
-bank=0 registers_1=1
+bank=0 load_behind_store=1
+bank=0 refetched=1
+bank=0 fill1_out_of_order=1
+bank=0 fill1_over_stores=1
+bank=0 registers_1=2
 bank=0 registers_2=1
+bank=0 targets_2=1
 port=0 load_4=2
-covered 7 of 27
+port=0 store_4=2
+covered 14 of 36
 ";
 
 #[test]
 fn coverage_of_a_trace(rt: HostRuntime) -> Result<(), Fail> {
     let mut logs = Vec::new(rt.alloc());
-    logs.push(loads(rt.alloc())?)?;
+    logs.push(requests(rt.alloc())?)?;
     logs.push(misses(rt.alloc())?)?;
     let coverage = covered(rt.alloc(), &logs)?.ok_or("no memory")?;
     let text = format!(in rt.alloc(); "{coverage}")?;

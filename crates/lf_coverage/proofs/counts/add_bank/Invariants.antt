@@ -6,4 +6,4 @@ use Rattle.lf_coverage.proofs.counts.add_bank.Given as goal
 
 abbrev pub invariant-loop-point : goal.invariant-loop-point
 invariant-loop-point l =
-    l.tallies.items ≡ l.initial.tallies.items ++ map (bank_tally l.shape l.bank (records_at (lists_of l.logs) l.places)) (take l.point-index l.points)
+    l.tallies.items ≡ l.initial.tallies.items ++ map (bank_tally l.shape l.bank (records_at (lists_of l.logs) l.order.places.now)) (take l.point-index l.points)

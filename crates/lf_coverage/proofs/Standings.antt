@@ -1,0 +1,59 @@
+-- Where a bank stands after one more record, and what is seen of it.
+use Rattle.std.proofs.Common.{◌≡◌, ℕ, zero, suc, ◌+◌, ◌≤◌, List, [], ◌∷◌, ◌++◌, map, length, Option, Some, None, not, ◌==◌, sym, ap, arith, add-one, ◌∙◌}
+use Rattle.std.specs.List.{slice_get, range_with_len}
+use Rattle.std.proofs.lemmas.List.{length-append}
+use Rattle.std.proofs.lemmas.List.FromFn.{map-range_with_len_more}
+use Rattle.std.proofs.lemmas.List.Sums.{length-filter, count_by-le-length}
+use Rattle.lf_rules.specs.declared.shape.Shape.{Shape}
+use Rattle.lf_rules.specs.declared.event.Record.{Record}
+use Rattle.lf_rules.specs.declared.event.Event.{Event}
+use Rattle.lf_rules.specs.declared.event.Event.TheVariants.{Primary, Merge, Fill1}
+use Rattle.lf_coverage.specs.declared.request.Request.{Request}
+use Rattle.lf_coverage.specs.declared.sight.Sight.{Sight}
+use Rattle.lf_coverage.specs.Standing.{Standing, with_request, waiting_after, standing_after, after_if, standing}
+use Rattle.lf_coverage.specs.Sights.{sight, sight_by, sight_if}
+
+-- ---- no more requests wait than there are records
+
+with_request_le : (o : Option Request) (waiting : List Request) → length (with_request o waiting) ≤ suc (length waiting)
+with_request_le None waiting = omega arith
+with_request_le (Some request) waiting = omega (arith, length-append waiting (request ∷ []))
+
+waiting_after_le : (latest : ℕ → ℕ → Option Request) (event : Event) (waiting : List Request)
+    → length (waiting_after latest event waiting) ≤ suc (length waiting)
+waiting_after_le latest (Primary port tag register) waiting = with_request_le (latest port tag) waiting
+waiting_after_le latest (Merge port tag register) waiting = with_request_le (latest port tag) waiting
+waiting_after_le latest (Fill1 block bytes) waiting =
+    let others = λ (request : Request). not (request.block == block) in
+    omega (arith, length-filter others waiting, count_by-le-length others waiting)
+waiting_after_le latest _ waiting = omega arith
+
+after_if_le : (shape : Shape) (o : Option Record) (s : Standing) → length ((after_if shape o s).waiting) ≤ suc (length s.waiting)
+after_if_le shape None s = omega arith
+after_if_le shape (Some r) s = waiting_after_le s.latest r.event s.waiting
+
+pub waiting_le : (shape : Shape) (rs : List Record) (n : ℕ) → length ((standing shape rs n).waiting) ≤ n
+waiting_le shape rs zero = omega arith
+waiting_le shape rs (suc n) =
+    let step = after_if_le shape (slice_get rs n) (standing shape rs n) in
+    omega (arith, step, waiting_le shape rs n)
+
+-- ---- one more record
+
+pub standing_at : (shape : Shape) (rs : List Record) (n : ℕ) (r : Record) → slice_get rs n ≡ Some r
+    → standing shape rs (n + 1) ≡ standing_after shape r (standing shape rs n)
+standing_at shape rs n r e = ap (standing shape rs) (add-one n) ∙ ap (λ o. after_if shape o (standing shape rs n)) e
+
+pub sight_at : (shape : Shape) (rs : List Record) (n : ℕ) (r : Record) → slice_get rs n ≡ Some r
+    → sight shape rs n ≡ sight_by (standing shape rs n) r.event
+sight_at shape rs n r e = ap (sight_if (standing shape rs n)) e
+
+-- the list of what is seen, after one more record
+pub sights_more : (shape : Shape) (rs : List Record) (n : ℕ) (before after : List Sight) (seen : Sight)
+    → before ≡ map (sight shape rs) (range_with_len 0 n) → after ≡ before ++ seen ∷ [] → seen ≡ sight shape rs n
+    → after ≡ map (sight shape rs) (range_with_len 0 (n + 1))
+sights_more shape rs n before after seen all pushed is =
+    pushed
+    ∙ ap (λ (ss : List Sight). ss ++ seen ∷ []) all
+    ∙ ap (λ (s : Sight). map (sight shape rs) (range_with_len 0 n) ++ s ∷ []) is
+    ∙ sym (map-range_with_len_more (sight shape rs) 0 n n (omega arith))

@@ -1,0 +1,95 @@
+-- What a bank's records, in the order of their numbers, leave for the records behind them.
+use Rattle.std.specs.Prelude.{ℕ, zero, suc, Bool, true, false, not, ◌&&◌, ◌||◌, ◌==◌, if◌then◌else◌}
+use Rattle.std.specs.Prelude.{List, [], ◌∷◌, ◌++◌, filter, fold, length, slice_get, Option, Some, None}
+use Rattle.std.specs.List.{list_any}
+use Rattle.lf_rules.specs.declared.shape.Shape.{Shape}
+use Rattle.lf_rules.specs.declared.event.Op.{Op}
+use Rattle.lf_rules.specs.declared.event.Op.TheVariants.{Load, Store}
+use Rattle.lf_rules.specs.declared.event.Record.{Record}
+use Rattle.lf_rules.specs.declared.event.Event.{Event}
+use Rattle.lf_rules.specs.declared.event.Event.TheVariants.{Issue, Primary, Merge, Fill1, Evict1}
+use Rattle.lf_rules.specs.Address.{block_of}
+use Rattle.lf_coverage.specs.declared.request.Request.{Request}
+
+pub record Standing : Type 0 where
+  -- the latest request of each port and tag
+  pub latest : ℕ → ℕ → Option Request
+  -- the requests that missed and wait for level one to get their block, in the order of their misses
+  pub waiting : List Request
+  -- has level one given up the block with a dirty byte?
+  pub written : ℕ → Bool
+
+-- ---- the latest request of a port and a tag
+
+abbrev pub request_of : Shape → Op → ℕ → Request
+request_of shape op address = record { op = op; block = block_of shape address }
+
+abbrev pub issued_with : Shape → Event → ℕ → Option Request → Option Request
+issued_with shape (Issue op t size address bytes) tag before = if t == tag then Some (request_of shape op address) else before
+issued_with shape _ tag before = before
+
+-- that of the record, where the port issues it with the tag, and otherwise the one before
+abbrev pub latest_after : Shape → Record → ℕ → ℕ → Option Request → Option Request
+latest_after shape r port tag before = if r.log == port then issued_with shape r.event tag before else before
+
+-- ---- the requests that wait
+
+abbrev pub with_request : Option Request → List Request → List Request
+with_request None waiting = waiting
+with_request (Some request) waiting = waiting ++ request ∷ []
+
+-- a miss waits until level one gets its block
+abbrev pub waiting_after : (ℕ → ℕ → Option Request) → Event → List Request → List Request
+waiting_after latest (Primary port tag register) waiting = with_request (latest port tag) waiting
+waiting_after latest (Merge port tag register) waiting = with_request (latest port tag) waiting
+waiting_after latest (Fill1 block bytes) waiting = filter (λ request. not (request.block == block)) waiting
+waiting_after latest _ waiting = waiting
+
+-- the kind of the last of these that asks for the block
+abbrev pub last_kind : ℕ → List Request → Option Op
+last_kind block waiting = fold (λ last request. if request.block == block then Some request.op else last) None waiting
+
+-- how many of these ask for the block
+abbrev pub targets : ℕ → List Request → ℕ
+targets block waiting = length (filter (λ request. request.block == block) waiting)
+
+-- does the first of these ask for another block?
+abbrev pub is_behind_others : ℕ → List Request → Bool
+is_behind_others block [] = false
+is_behind_others block (oldest ∷ waiting) = not (oldest.block == block)
+
+abbrev pub is_store : Op → Bool
+is_store Load = false
+is_store Store = true
+
+-- is one of these a store to the block?
+abbrev pub has_store : ℕ → List Request → Bool
+has_store block waiting = list_any (λ request. request.block == block && is_store request.op) waiting
+
+-- ---- blocks that were written back
+
+abbrev pub writes_back : Event → ℕ → Bool
+writes_back (Evict1 block mask bytes) b = block == b && not (mask.0 == 0)
+writes_back _ b = false
+
+-- ---- all three
+
+abbrev pub at_first : Standing
+at_first = record { latest = λ port tag. None; waiting = []; written = λ block. false }
+
+-- after one more record
+abbrev pub standing_after : Shape → Record → Standing → Standing
+standing_after shape r s = record {
+  latest = λ port tag. latest_after shape r port tag (s.latest port tag);
+  waiting = waiting_after s.latest r.event s.waiting;
+  written = λ block. writes_back r.event block || s.written block;
+}
+
+abbrev pub after_if : Shape → Option Record → Standing → Standing
+after_if shape None s = s
+after_if shape (Some r) s = standing_after shape r s
+
+-- after the first n records
+abbrev pub standing : Shape → List Record → ℕ → Standing
+standing shape rs zero = at_first
+standing shape rs (suc n) = after_if shape (slice_get rs n) (standing shape rs n)

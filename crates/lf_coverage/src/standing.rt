@@ -1,0 +1,199 @@
+//! What a bank's records so far say of the next one.
+
+ghost use Rattle.std.specs.Prelude.{◌≡◌, ℕ, ◌<◌, ◌≤◌, ◌^◌, not, ◌||◌, ◌==◌, length, filter, All, IsSome, IfOk, OnOk, vec_len};
+ghost use Rattle.lf_rules.specs.Lists.{lists_of};
+ghost use Rattle.lf_logs.specs.Places.{record_at, records_at};
+ghost use Rattle.lf_coverage.specs.Standing.{Standing, at_first, standing_after, waiting_after, last_kind, targets, is_behind_others, has_store, writes_back};
+ghost use Rattle.lf_coverage.specs.Sights.{joined, filled, sight_by, sights};
+ghost use Rattle.lf_coverage.specs.Kept.{IsKept, is_in};
+
+use crate::request::{Request, Requests};
+use crate::sight::Sight;
+use lf_logs::{Place, record_at};
+use lf_rules::{Event, Logs, NoMemory, Op, Record, Shape};
+use std::alloc::Global;
+use std::collections::HashSet;
+
+/// The kind of the last of these that asks for the block.
+fn last_kind(waiting: &[Request], block: u64) -> Option<Op>
+    ensures { result ≡ last_kind block waiting.now }
+{
+    let mut last = None;
+    for request in waiting {
+        if request.block == block {
+            last = Some(request.op);
+        }
+    }
+    last
+}
+
+/// How many of these ask for the block.
+fn targets(waiting: &[Request], block: u64) -> usize
+    ensures { result ≡ targets block waiting.now }
+{
+    waiting
+        .iter()
+        .filter(|request| request.block == block)
+        .count()
+}
+
+/// Whether the first of these asks for another block.
+fn is_behind_others(waiting: &[Request], block: u64) -> bool
+    ensures { result ≡ is_behind_others block waiting.now }
+{
+    match waiting {
+        [oldest, ..] => oldest.block != block,
+        [] => false,
+    }
+}
+
+/// Whether one of these is a store to the block.
+fn has_store(waiting: &[Request], block: u64) -> bool
+    ensures { result ≡ has_store block waiting.now }
+{
+    waiting.iter().any(|request| request.block == block && matches!(request.op, Op::Store))
+}
+
+/// What is seen of a miss that joins others.
+fn joined(waiting: &[Request], request: Request) -> Sight
+    requires few { length waiting.now < 2 ^ 29 }
+    ensures { result ≡ joined waiting.now request }
+{
+    match last_kind(waiting, request.block) {
+        Some(behind) => Sight::Joined {
+            op: request.op,
+            behind,
+            targets: targets(waiting, request.block) as u32 + 1,
+        },
+        None => Sight::Plain,
+    }
+}
+
+/// What is seen of a block that level one gets.
+fn filled(waiting: &[Request], block: u64) -> Sight
+    ensures { result ≡ filled waiting.now block }
+{
+    Sight::Filled {
+        early: is_behind_others(waiting, block),
+        stores: has_store(waiting, block),
+    }
+}
+
+/// Those that ask for another block stay.
+fn leave(waiting: &mut Vec<Request>, block: u64)
+    ensures { waiting.new.items ≡ filter (λ request. not (request.block == block)) waiting.old.items }
+{
+    waiting.retain(|request| request.block != block);
+}
+
+/// What a bank's records so far say of the next one.
+#[derive(Drop)]
+pub(crate) struct Kept {
+    requests: Requests,
+    /// The requests that missed and wait for their block.
+    waiting: Vec<Request>,
+    /// The blocks that were written back.
+    written: HashSet<u64>,
+}
+
+impl Kept {
+    /// No record yet.
+    pub fn new(alloc: Global) -> Result<Self, NoMemory>
+        ensures { IfOk result (λ kept. IsKept kept at_first) }
+    {
+        Ok(Kept {
+            requests: Requests::new(alloc)?,
+            waiting: Vec::new(alloc),
+            written: HashSet::new(alloc),
+        })
+    }
+
+    /// What is seen of the next event.
+    pub fn sight(&self, event: &Event) -> Sight
+        requires len { length self.now.requests.0.items ≡ 65536 }
+        requires few { vec_len self.now.waiting < 2 ^ 29 }
+        ensures { (s : Standing) → IsKept self.now s → result ≡ sight_by s event.now }
+    {
+        match event {
+            Event::Primary { port, tag, .. } => match self.requests.latest(*port, *tag) {
+                Some(request) => Sight::Taken {
+                    again: self.written.contains(&request.block),
+                },
+                None => Sight::Plain,
+            },
+            Event::Merge { port, tag, .. } => match self.requests.latest(*port, *tag) {
+                Some(request) => joined(self.waiting.as_slice(), request),
+                None => Sight::Plain,
+            },
+            Event::Fill1 { block, .. } => filled(self.waiting.as_slice(), u64::from(*block)),
+            _ => Sight::Plain,
+        }
+    }
+
+    /// Keeps what waits after the event.
+    fn wait(&mut self, event: &Event) -> Result<(), NoMemory>
+        requires len { length self.old.requests.0.items ≡ 65536 }
+        ensures requests { self.new.requests ≡ self.old.requests }
+        ensures written { self.new.written ≡ self.old.written }
+        ensures waiting { OnOk result ((s : Standing) → IsKept self.old s → self.new.waiting.items ≡ waiting_after s.latest event.now s.waiting) }
+    {
+        match event {
+            Event::Primary { port, tag, .. } | Event::Merge { port, tag, .. } => {
+                if let Some(request) = self.requests.latest(*port, *tag) {
+                    self.waiting.push(request)?;
+                }
+            }
+            Event::Fill1 { block, .. } => leave(&mut self.waiting, u64::from(*block)),
+            _ => {}
+        }
+        Ok(())
+    }
+
+    /// Keeps a block that is written back.
+    fn write_back(&mut self, event: &Event) -> Result<(), NoMemory>
+        ensures requests { self.new.requests ≡ self.old.requests }
+        ensures waiting { self.new.waiting ≡ self.old.waiting }
+        ensures written { OnOk result ((block : ℕ) → is_in self.new.written block ≡ (writes_back event.now block || is_in self.old.written block)) }
+    {
+        if let Event::Evict1 { block, mask, .. } = event {
+            if mask.0 != 0 {
+                let _ = self.written.insert(u64::from(*block))?;
+            }
+        }
+        Ok(())
+    }
+
+    /// Takes one more record.
+    pub fn take(&mut self, shape: &Shape, item: &Record) -> Result<(), NoMemory>
+        requires block { 0 < shape.now.block }
+        requires len { length self.old.requests.0.items ≡ 65536 }
+        ensures { OnOk result ((s : Standing) → IsKept self.old s → IsKept self.new (standing_after shape.now item.now s)) }
+    {
+        self.wait(&item.event)?;
+        self.write_back(&item.event)?;
+        self.requests.keep(shape, item);
+        Ok(())
+    }
+}
+
+/// What is seen of each of the records at these places.
+pub(crate) fn sights(
+    alloc: Global,
+    shape: &Shape,
+    logs: &Logs,
+    places: &[Place],
+) -> Result<Vec<Sight>, NoMemory>
+    requires block { 0 < shape.now.block }
+    requires named { All (λ place. IsSome (record_at (lists_of logs.now) place)) places.now }
+    requires few { length places.now ≤ 2 ^ 29 }
+    ensures { IfOk result (λ all. all.items ≡ sights shape.now (records_at (lists_of logs.now) places.now)) }
+{
+    let mut kept = Kept::new(alloc)?;
+    let mut all = Vec::new(alloc);
+    for place in places {
+        let item = record_at(logs, *place);
+        all.push(kept.sight(&item.event))?;
+        kept.take(shape, item)?;
+    }
+    Ok(all)
+}
