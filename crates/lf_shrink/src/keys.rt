@@ -3,7 +3,7 @@
 use crate::broken::RuleFault;
 use crate::candidate::Kept;
 use crate::requests::{owners, second_touched};
-use lf_rules::{NO_BANK, NoMemory, Record, Shape};
+use lf_rules::{Event, NO_BANK, NoMemory, Record, Shape};
 use std::alloc::Global;
 
 /// By what records are left out together, in the order in which it is tried.
@@ -21,12 +21,14 @@ pub(crate) enum Stage {
     Memory,
     /// The records of a request.
     Requests,
+    /// The reply to a request. Requests get tags anew, so that one without a reply keeps its own.
+    Replies,
     /// One record.
     Records,
 }
 
 /// How many stages there are.
-pub(crate) const STAGES: usize = 7;
+pub(crate) const STAGES: usize = 8;
 
 impl Stage {
     /// The stage after this one.
@@ -37,15 +39,12 @@ impl Stage {
             Stage::Ports => Some(Stage::Blocks),
             Stage::Blocks => Some(Stage::Memory),
             Stage::Memory => Some(Stage::Requests),
-            Stage::Requests => Some(Stage::Records),
+            Stage::Requests => Some(Stage::Replies),
+            Stage::Replies => Some(Stage::Records),
             Stage::Records => None,
         }
     }
 }
-
-/// How many of the last records before the one that breaks the rule stay where they touch its second-level block. They
-/// show why it breaks the rule.
-const SHOWN: usize = 8;
 
 /// The place of the bank's event of this number.
 fn place_of(records: &[Record], order: &[usize], bank: u8, number: u32) -> Option<usize> {
@@ -84,11 +83,12 @@ fn touching(
     Ok(places)
 }
 
-/// Whether each record stays, since it shows why the rule is broken: the bank's event that breaks it, and the last
-/// before it that touch its second-level block.
+/// Whether each record stays, since it shows why the rule is broken: the bank's event that breaks it, and so many of
+/// the last before it that touch its second-level block.
 fn shown(
     alloc: Global,
     shape: &Shape,
+    count: usize,
     best: &Kept,
     order: &[usize],
     owners: &[Option<usize>],
@@ -107,7 +107,7 @@ fn shown(
     let owner = owners.get(broken).copied().flatten();
     let second = second_touched(shape, records, owner, item);
     let places = touching(alloc, shape, best, order, owners, second)?;
-    let first = places.len().saturating_sub(SHOWN + 1);
+    let first = places.len().saturating_sub(count.saturating_add(1));
     for (at, place) in places.iter().enumerate() {
         if at < first {
             continue;
@@ -119,18 +119,19 @@ fn shown(
     Ok(shown)
 }
 
-/// The key of the part that each record belongs to, where it belongs to one. A record that shows why the rule is broken
-/// belongs to none, so it is not left out.
+/// The key of the part that each record belongs to, where it belongs to one. The record that breaks the rule and the
+/// last `count` before it that show why belong to none, so they are not left out.
 pub(crate) fn keys_of(
     alloc: Global,
     shape: &Shape,
     stage: Stage,
+    count: usize,
     best: &Kept,
     order: &[usize],
 ) -> Result<Vec<Option<u64>>, NoMemory> {
     let records = best.records.as_slice();
     let owners = owners(alloc, shape, records, order)?;
-    let shown = shown(alloc, shape, best, order, &owners)?;
+    let shown = shown(alloc, shape, count, best, order, &owners)?;
     let last = last_needed(best.fault, records);
     let mut keys = Vec::new(alloc);
     for (place, item) in records.iter().enumerate() {
@@ -146,6 +147,7 @@ pub(crate) fn keys_of(
             Stage::Blocks => second_touched(shape, records, owner, item),
             Stage::Memory => None,
             Stage::Requests => owner.map(|issue| issue as u64),
+            Stage::Replies => reply_key(item, place),
             Stage::Records => Some(place as u64),
         };
         keys.push(key)?;
@@ -155,6 +157,13 @@ pub(crate) fn keys_of(
 
 fn behind(last: usize, place: usize) -> Option<u64> {
     if place > last { Some(0) } else { None }
+}
+
+fn reply_key(item: &Record, place: usize) -> Option<u64> {
+    match &item.event {
+        Event::Reply { .. } => Some(place as u64),
+        _ => None,
+    }
 }
 
 fn bank_key(item: &Record) -> Option<u64> {

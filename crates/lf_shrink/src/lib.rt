@@ -14,6 +14,7 @@ mod plan;
 mod requests;
 mod search;
 mod shrink;
+mod tags;
 #[cfg(test)]
 mod tests;
 mod text;

@@ -4,16 +4,27 @@ use crate::candidate::{Candidate, Kept};
 use crate::keys::{STAGES, Stage, keys_of};
 use crate::numbers::{bank_order, renumbered};
 use crate::requests::{second_of, second_touched};
+use crate::tags::tagged_anew;
 use lf_rules::{Memory, NoMemory, Shape};
 use std::alloc::Global;
 
+/// How many of the last records before the one that breaks the rule stay where they touch its second-level block. They
+/// show why it breaks the rule.
+const SHOWN: usize = 8;
+
+/// A trace of fewer events than this is short enough to be read, so what shows why the rule is broken stays.
+const SHORT: usize = 30;
+
 /// Leaves parts of the smallest trace out: a half of them, then quarters, down to single ones, stage by stage, and
-/// again from the first stage until nothing more is kept.
+/// again from the first stage until nothing more is kept. Where the trace is not short by then, half as many records
+/// that show why the rule is broken stay, and so on until none does.
 #[derive(Drop)]
 pub(crate) struct Plan<'a> {
     alloc: Global,
     shape: &'a Shape,
     stage: Stage,
+    /// How many records that show why the rule is broken stay.
+    shown: usize,
     /// The places of the smallest trace's records, by bank and number.
     order: Vec<usize>,
     /// The key of the part that each of its records belongs to.
@@ -47,6 +58,7 @@ impl<'a> Plan<'a> {
             alloc,
             shape,
             stage: Stage::Behind,
+            shown: SHOWN,
             order: Vec::new(alloc),
             keys: Vec::new(alloc),
             parts: Vec::new(alloc),
@@ -61,7 +73,14 @@ impl<'a> Plan<'a> {
     /// Looks at the smallest trace again.
     fn look(&mut self, best: &Kept) -> Result<(), NoMemory> {
         self.order = bank_order(self.alloc, &best.records)?;
-        self.keys = keys_of(self.alloc, self.shape, self.stage, best, &self.order)?;
+        self.keys = keys_of(
+            self.alloc,
+            self.shape,
+            self.stage,
+            self.shown,
+            best,
+            &self.order,
+        )?;
         self.parts = parts_of(self.alloc, &self.keys)?;
         if self.stage == Stage::Memory {
             self.parts.push(0)?;
@@ -99,14 +118,20 @@ impl<'a> Plan<'a> {
         }
         match self.stage.next() {
             Some(stage) => self.stage = stage,
-            None if self.was_kept => {
-                self.stage = Stage::Behind;
-                self.was_kept = false;
+            None if self.was_kept => self.start_again(),
+            None if self.shown > 0 && best.records.len() >= SHORT => {
+                self.shown /= 2;
+                self.start_again();
             }
             None => return Ok(false),
         }
         self.begin(best)?;
         Ok(true)
+    }
+
+    fn start_again(&mut self) {
+        self.stage = Stage::Behind;
+        self.was_kept = false;
     }
 
     /// Whether the last candidate was kept, and is the smallest trace now.
@@ -131,9 +156,15 @@ impl<'a> Plan<'a> {
             });
         }
         let stays = self.stays()?;
+        let records = match self.stage {
+            Stage::Replies => {
+                tagged_anew(self.alloc, self.shape, &best.records, &self.order, &stays)?
+            }
+            _ => best.records.clone()?,
+        };
         Ok(Candidate {
             memory: best.memory.clone()?,
-            records: renumbered(self.alloc, &best.records, &self.order, &stays)?,
+            records: renumbered(self.alloc, &records, &self.order, &stays)?,
         })
     }
 

@@ -28,7 +28,8 @@ fn block_at(shape: &Shape, address: u64) -> Option<u64> {
     address.checked_div(u64::from(shape.block))
 }
 
-fn place_of(port: u8, tag: u8) -> usize {
+/// The place of a port's tag among those of all ports.
+pub(crate) fn place_of(port: u8, tag: u8) -> usize {
     usize::from(port) * 256 + usize::from(tag)
 }
 
