@@ -7,3 +7,6 @@ pub mod Faults
 pub mod Printed
 pub mod Placing
 pub mod Ending
+pub mod Kept
+pub mod Taken
+pub mod Stopping

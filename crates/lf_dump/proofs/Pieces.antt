@@ -19,7 +19,7 @@ joined : (a a' b b' : List Part) → (b ≡ []) ⊎ (a' ≡ []) → (a ++ a') ++
 joined a a' b b' (inl none) = rw (none, append-nil a) (append_assoc a a' b')
 joined a a' b b' (inr none) = rw (none, append-nil a) (sym (append_assoc a b b'))
 
-due_none : (n : ℕ) (h : Option Header) → 0 < n → header_due n h ≡ []
+pub due_none : (n : ℕ) (h : Option Header) → 0 < n → header_due n h ≡ []
 due_none zero h some = absurd (omega (arith, some))
 due_none (suc n) h some = refl
 
@@ -32,14 +32,21 @@ due offset h memory records = header_due offset h ++ (map memory_part memory ++ 
 module _ (bytes piece : List ℕ) (memory : List (ℕ × Bytes)) (records : List Record)
     (more_memory : (reading_of (bytes ++ piece)).memory ≡ (reading_of bytes).memory ++ memory)
     (more_records : (reading_of (bytes ++ piece)).records ≡ (reading_of bytes).records ++ records) where
-  then : Follows (reading_of bytes) (reading_of (bytes ++ piece))
-  then = subst (λ (q : Reading). Follows (reading_of bytes) q) (sym (read_on-append bytes piece nothing_read)) (follows piece (reading_of bytes))
+  pub later : Follows (reading_of bytes) (reading_of (bytes ++ piece))
+  later = subst (λ (q : Reading). Follows (reading_of bytes) q) (sym (read_on-append bytes piece nothing_read)) (follows piece (reading_of bytes))
+
+  pub only_some : ((reading_of bytes).records ≡ []) ⊎ (memory ≡ [])
+  only_some =
+      elim (no_more_memory (reading_of bytes) (reading_of (bytes ++ piece)) (orderly bytes) later) [
+        | inl none ↦ inl none
+        | inr same ↦ inr (no_more (reading_of bytes).memory memory (sym more_memory ∙ same))
+      ]
 
   only_one : (map record_part (reading_of bytes).records ≡ []) ⊎ (map memory_part memory ≡ [])
   only_one =
-      elim (no_more_memory (reading_of bytes) (reading_of (bytes ++ piece)) (orderly bytes) then) [
+      elim only_some [
         | inl none ↦ inl (ap (λ (rs : List Record). map record_part rs) none)
-        | inr same ↦ inr (ap (λ (ms : List (ℕ × Bytes)). map memory_part ms) (no_more (reading_of bytes).memory memory (sym more_memory ∙ same)))
+        | inr none ↦ inr (ap (λ (ms : List (ℕ × Bytes)). map memory_part ms) none)
       ]
 
   all_parts : (h : Option Header) → parts_in h (reading_of (bytes ++ piece)).memory (reading_of (bytes ++ piece)).records
@@ -73,7 +80,7 @@ module _ (bytes piece : List ℕ) (memory : List (ℕ × Bytes)) (records : List
       elim (header_cases (header_of bytes)) [
         | inl none ↦ from_header none
         | inr there ↦
-            elim then.header [
+            elim later.header [
               | inl none ↦ from_header none
               | inr kept ↦ behind_header there.0 there.1 (kept ∙ there.1)
             ]
@@ -129,16 +136,23 @@ pub few_now : (bytes piece : List ℕ) (old mid : Printer) → IsShown bytes old
 few_now bytes piece old mid shown has same =
     omega (arith, count_now bytes piece old mid shown has same, count_within (bytes ++ piece) has.are_bytes, length-append bytes piece)
 
+-- a printer after all that the reader had to give was taken
+pub shown_after : (bytes piece : List ℕ) (old mid new : Printer) → IsShown bytes old → HasRead mid.reader (bytes ++ piece) (reading_of bytes).memory (reading_of bytes).records
+    → mid.offset ≡ old.offset → mid.records ≡ old.records → new.reader ≡ record mid.reader { memory = []; records = [] }
+    → new.offset ≡ mid.offset + len_of (parts_due mid) → new.records ≡ mid.records + length mid.reader.records → IsShown (bytes ++ piece) new
+shown_after bytes piece old mid new shown has offset records reader taken counted = record {
+  read = subst (λ (r : Reading). HasRead r (bytes ++ piece) (reading_of (bytes ++ piece)).memory (reading_of (bytes ++ piece)).records) (sym reader)
+      (all_taken (bytes ++ piece) (reading_of bytes).memory (reading_of bytes).records mid.reader has);
+  no_memory = ap (λ (r : Reading). r.memory) reader;
+  no_records = ap (λ (r : Reading). r.records) reader;
+  offset = taken ∙ sym (len_now bytes piece old mid shown has offset);
+  count = counted ∙ sym (count_now bytes piece old mid shown has records);
+}
+
 pub shown_now : (bytes piece : List ℕ) (old mid new : Printer) → IsShown bytes old → HasRead mid.reader (bytes ++ piece) (reading_of bytes).memory (reading_of bytes).records
     → mid.offset ≡ old.offset → mid.records ≡ old.records → PrintsAll mid new → IsShown (bytes ++ piece) new
-shown_now bytes piece old mid new shown has offset records prints = record {
-  read = subst (λ (r : Reading). HasRead r (bytes ++ piece) (reading_of (bytes ++ piece)).memory (reading_of (bytes ++ piece)).records) (sym prints.reader)
-      (all_taken (bytes ++ piece) (reading_of bytes).memory (reading_of bytes).records mid.reader has);
-  no_memory = ap (λ (r : Reading). r.memory) prints.reader;
-  no_records = ap (λ (r : Reading). r.records) prints.reader;
-  offset = prints.puts.offset ∙ sym (len_now bytes piece old mid shown has offset);
-  count = prints.count ∙ sym (count_now bytes piece old mid shown has records);
-}
+shown_now bytes piece old mid new shown has offset records prints =
+    shown_after bytes piece old mid new shown has offset records prints.reader prints.puts.offset prints.count
 
 pub lines_now : (bytes piece : List ℕ) (old mid new : Printer) → IsShown bytes old → HasRead mid.reader (bytes ++ piece) (reading_of bytes).memory (reading_of bytes).records
     → mid.offset ≡ old.offset → string_bytes mid.text ≡ [] → PrintsAll mid new → lines_of (bytes ++ piece) ≡ lines_of bytes ++ string_bytes new.text

@@ -26,6 +26,12 @@ put_first old new h none there text offset =
     let len : old.offset + len_of (header_due old.offset (header_now old.reader)) ≡ 16 = rw (none, there) one in
     record { text = text ∙ ap (λ (l : List ℕ). string_bytes old.text ++ l) (sym lines); offset = offset ∙ sym len }
 
+-- where the header ends
+pub header_end : (n : ℕ) (h : Header) → n ≡ 0 → 16 ≡ n + len_of (header_due n (Some h))
+header_end n h none =
+    let one : 0 + len_of (header_part h ∷ []) ≡ 16 = omega (arith, sum_by-cons (λ (p : Part). length p.bytes) (header_part h) [], length_header h) in
+    rw none (sym one)
+
 module _ (at n : ℕ) (m : ℕ × Bytes) (rest memory : List (ℕ × Bytes)) (first : memory ≡ m ∷ rest) (size : n ≡ length (memory_bytes m)) where
   -- the line of a memory record
   pub one_line : (text more all : List ℕ) → more ≡ text ++ placed_line (memory_text m.0 m.1.items) at → text ++ lines_from at (map memory_part memory) ≡ all

@@ -26,12 +26,12 @@ out_on a b c xs ys first later = record {
   known = Appends-trans _ _ _ xs ys first.known later.known;
 }
 
-cut : (n : ℕ) (xs ys : List ℕ) → (k : ℕ) × (take n xs ≡ take k (xs ++ ys))
+pub cut : (n : ℕ) (xs ys : List ℕ) → (k : ℕ) × (take n xs ≡ take k (xs ++ ys))
 cut zero xs ys = (0, refl)
 cut (suc n) [] ys = (0, refl)
 cut (suc n) (x ∷ xs) ys = let rest = cut n xs ys in (suc rest.0, ap (λ (l : List ℕ). x ∷ l) rest.1)
 
-front : (xs ys : List ℕ) (n : ℕ) → take (length xs + n) (xs ++ ys) ≡ xs ++ take n ys
+pub front : (xs ys : List ℕ) (n : ℕ) → take (length xs + n) (xs ++ ys) ≡ xs ++ take n ys
 front [] ys n = let same : length {A = ℕ} [] + n ≡ n = omega arith in ap (λ (k : ℕ). take k ys) same
 front (x ∷ xs) ys n =
     let more : length (x ∷ xs) + n ≡ suc (length xs + n) = omega arith in
@@ -65,55 +65,57 @@ pub record IsTelling (old new writer writer' : Account) (turn : ℕ) (printer : 
   pub out : WentOut writer writer' (lines_of bytes)
   pub size : length bytes ≤ turn * piece_len
 
-pub stops_here : (a b w x : Account) (turn : ℕ) (printer : Printer) → IsTelling a b w x turn printer → IsToldSoFar a b w x []
+pub stops_here : (a b w x : Account) (turn : ℕ) (printer : Printer) → IsTelling a b w x turn printer → IsToldSoFar lines_of a b w x []
 stops_here a b w x turn printer t = record { bytes = t.bytes; part = t.part; out = subst (WentOut w x) (sym (append-nil (lines_of t.bytes))) t.out }
 
-pub stops_in_part : (a b w x : Account) (bytes more : List ℕ) → IsPartRead IsNone a b (bytes ++ more) → WentOut w x (lines_of bytes) → IsToldInPart a b w x []
-stops_in_part a b w x bytes more part out =
-    record { bytes = bytes; more = more; part = part; out = subst (WentOut w x) (sym (append-nil (lines_of bytes))) out }
+pub stops_in_part : (lines : List ℕ → List ℕ) (a b w x : Account) (bytes more : List ℕ) → IsPartRead IsNone a b (bytes ++ more) → WentOut w x (lines bytes)
+    → IsToldInPart lines a b w x []
+stops_in_part lines a b w x bytes more part out =
+    record { bytes = bytes; more = more; part = part; out = subst (WentOut w x) (sym (append-nil (lines bytes))) out }
 
-pub stops_at_end : (a b w x : Account) (bytes : List ℕ) → IsAllRead HasFault piece_len a b bytes → WentOut w x (lines_of bytes) → IsToldInPart a b w x []
-stops_at_end a b w x bytes all out = stops_in_part a b w x bytes [] (none_more a b bytes (all_part a b bytes all)) out
+pub stops_at_end : (lines : List ℕ → List ℕ) (a b w x : Account) (bytes : List ℕ) → IsAllRead HasFault piece_len a b bytes → WentOut w x (lines bytes)
+    → IsToldInPart lines a b w x []
+stops_at_end lines a b w x bytes all out = stops_in_part lines a b w x bytes [] (none_more a b bytes (all_part a b bytes all)) out
 
--- The lines of a piece went out as far as the writer took them.
-pub cut_in_lines : (a b w x y : Account) (bytes piece lines : List ℕ) (n : ℕ) → IsPartRead IsNone a b (bytes ++ piece) → lines_of (bytes ++ piece) ≡ lines_of bytes ++ lines
-    → WentOut w x (lines_of bytes) → WentOut x y (take n lines) → IsCutOff a b w y
-cut_in_lines a b w x y bytes piece lines n part same before out =
-    let line = closing_of (bytes ++ piece) in
-    let short = cut n lines line in
-    let count : ℕ = length (lines_of bytes) + short.0 in
-    let whole : take count (lines_of (bytes ++ piece) ++ line) ≡ lines_of bytes ++ take n lines =
+-- The last of the lines went out as far as the writer took them.
+pub cut_in_lines : (lines : List ℕ → List ℕ) (a b w x y : Account) (bytes early late : List ℕ) (n : ℕ) → IsPartRead IsNone a b bytes → lines bytes ≡ early ++ late
+    → WentOut w x early → WentOut x y (take n late) → IsCutOff lines a b w y
+cut_in_lines lines a b w x y bytes early late n part same before out =
+    let line = closing_of bytes in
+    let short = cut n late line in
+    let count : ℕ = length early + short.0 in
+    let whole : take count (lines bytes ++ line) ≡ early ++ take n late =
     ap (λ (l : List ℕ). take count (l ++ line)) same
-    ∙ ap (take count) (append_assoc (lines_of bytes) lines line)
-    ∙ front (lines_of bytes) (lines ++ line) short.0
-    ∙ ap (λ (l : List ℕ). lines_of bytes ++ l) (sym short.1) in
+    ∙ ap (take count) (append_assoc early late line)
+    ∙ front early (late ++ line) short.0
+    ∙ ap (λ (l : List ℕ). early ++ l) (sym short.1) in
     record {
-      bytes = bytes ++ piece;
+      bytes = bytes;
       more = [];
-      part = none_more a b (bytes ++ piece) part;
+      part = none_more a b bytes part;
       line = line;
       closes = inl refl;
       count = count;
-      out = subst (WentOut w y) (sym whole) (out_on w x y (lines_of bytes) (take n lines) before out);
+      out = subst (WentOut w y) (sym whole) (out_on w x y early (take n late) before out);
     }
 
 -- The line behind the lines went out as far as the writer took it.
-pub cut_in_closing : (a b w x y : Account) (bytes more line : List ℕ) (n : ℕ) → IsPartRead IsNone a b (bytes ++ more) → Closes line bytes
-    → WentOut w x (lines_of bytes) → WentOut x y (take n line) → IsCutOff a b w y
-cut_in_closing a b w x y bytes more line n part closes before out = record {
+pub cut_in_closing : (lines : List ℕ → List ℕ) (a b w x y : Account) (bytes more line : List ℕ) (n : ℕ) → IsPartRead IsNone a b (bytes ++ more) → Closes line bytes
+    → WentOut w x (lines bytes) → WentOut x y (take n line) → IsCutOff lines a b w y
+cut_in_closing lines a b w x y bytes more line n part closes before out = record {
   bytes = bytes;
   more = more;
   part = part;
   line = line;
   closes = closes;
-  count = length (lines_of bytes) + n;
-  out = subst (WentOut w y) (sym (front (lines_of bytes) line n)) (out_on w x y (lines_of bytes) (take n line) before out);
+  count = length (lines bytes) + n;
+  out = subst (WentOut w y) (sym (front (lines bytes) line n)) (out_on w x y (lines bytes) (take n line) before out);
 }
 
-pub cut_at_end : (a b w x y : Account) (bytes : List ℕ) (n : ℕ) → IsAllRead HasFault piece_len a b bytes
-    → WentOut w x (lines_of bytes) → WentOut x y (take n (closing_of bytes)) → IsCutOff a b w y
-cut_at_end a b w x y bytes n all before out =
-    cut_in_closing a b w x y bytes [] (closing_of bytes) n (none_more a b bytes (all_part a b bytes all)) (inl refl) before out
+pub cut_at_end : (lines : List ℕ → List ℕ) (a b w x y : Account) (bytes : List ℕ) (n : ℕ) → IsAllRead HasFault piece_len a b bytes
+    → WentOut w x (lines bytes) → WentOut x y (take n (closing_of bytes)) → IsCutOff lines a b w y
+cut_at_end lines a b w x y bytes n all before out =
+    cut_in_closing lines a b w x y bytes [] (closing_of bytes) n (none_more a b bytes (all_part a b bytes all)) (inl refl) before out
 
 -- ---- the line of a refusal
 
@@ -121,21 +123,21 @@ module _ (w x y : Account) (line : List ℕ) (out : WentOut x y line) where
   pub then_line : (lines : List ℕ) → WentOut w x (lines ++ []) → WentOut w y (lines ++ line)
   then_line lines before = subst (λ (l : List ℕ). WentOut w y (l ++ line)) (append-nil lines) (out_on w x y (lines ++ []) line before out)
 
-  pub line_so_far : (a b : Account) → IsToldSoFar a b w x [] → IsToldSoFar a b w y line
-  line_so_far a b t = record { bytes = t.bytes; part = t.part; out = then_line (lines_of t.bytes) t.out }
+  pub line_so_far : (lines : List ℕ → List ℕ) (a b : Account) → IsToldSoFar lines a b w x [] → IsToldSoFar lines a b w y line
+  line_so_far lines a b t = record { bytes = t.bytes; part = t.part; out = then_line (lines t.bytes) t.out }
 
-  pub line_in_part : (a b : Account) → IsToldInPart a b w x [] → IsToldInPart a b w y line
-  line_in_part a b t = record { bytes = t.bytes; more = t.more; part = t.part; out = then_line (lines_of t.bytes) t.out }
+  pub line_in_part : (lines : List ℕ → List ℕ) (a b : Account) → IsToldInPart lines a b w x [] → IsToldInPart lines a b w y line
+  line_in_part lines a b t = record { bytes = t.bytes; more = t.more; part = t.part; out = then_line (lines t.bytes) t.out }
 
-module _ (a b w x y : Account) (line : List ℕ) (n : ℕ) (out : WentOut x y (take n line)) where
-  pub cut_so_far : IsToldSoFar a b w x [] → ((bytes : List ℕ) → Closes line bytes) → IsCutOff a b w y
+module _ (lines : List ℕ → List ℕ) (a b w x y : Account) (line : List ℕ) (n : ℕ) (out : WentOut x y (take n line)) where
+  pub cut_so_far : IsToldSoFar lines a b w x [] → ((bytes : List ℕ) → Closes line bytes) → IsCutOff lines a b w y
   cut_so_far t closes =
-      cut_in_closing a b w x y t.bytes [] line n (none_more a b t.bytes (any_part a b t.bytes t.part)) (closes t.bytes)
-      (subst (WentOut w x) (append-nil (lines_of t.bytes)) t.out) out
+      cut_in_closing lines a b w x y t.bytes [] line n (none_more a b t.bytes (any_part a b t.bytes t.part)) (closes t.bytes)
+      (subst (WentOut w x) (append-nil (lines t.bytes)) t.out) out
 
-  pub cut_in_part : IsToldInPart a b w x [] → ((bytes : List ℕ) → Closes line bytes) → IsCutOff a b w y
+  pub cut_in_part : IsToldInPart lines a b w x [] → ((bytes : List ℕ) → Closes line bytes) → IsCutOff lines a b w y
   cut_in_part t closes =
-      cut_in_closing a b w x y t.bytes t.more line n t.part (closes t.bytes) (subst (WentOut w x) (append-nil (lines_of t.bytes)) t.out) out
+      cut_in_closing lines a b w x y t.bytes t.more line n t.part (closes t.bytes) (subst (WentOut w x) (append-nil (lines t.bytes)) t.out) out
 
 -- ---- one more read
 
@@ -193,11 +195,12 @@ module _ (a b c w x : Account) (turn : ℕ) (old : Printer) (t : IsTelling a b w
       size = omega (arith, t.size, one_read, length-append t.bytes piece);
     }
 
-    pub stopped_by : (fault : DumpFault) → Shows x y new t.bytes piece (Err fault) → IsStopped a c w y [] fault
+    pub stopped_by : (fault : DumpFault) → Shows x y new t.bytes piece (Err fault) → IsStopped lines_of a c w y [] fault
     stopped_by Read h = absurd h
     stopped_by Turns h = absurd h
     stopped_by Memory same =
-        stops_in_part a c w y t.bytes piece (more_part IsNone a b c t.bytes (any_part a b t.bytes t.part) piece pieces known (λ bad. bad))
+        stops_in_part lines_of a c w y t.bytes piece (more_part IsNone a b c t.bytes (any_part a b t.bytes t.part) piece pieces known (λ bad. bad))
         (subst (λ (z : Account). WentOut w z (lines_of t.bytes)) (sym same) t.out)
     stopped_by Write h =
-        cut_in_lines a c w x y t.bytes piece h.0 h.2.0 (more_part IsNone a b c t.bytes (any_part a b t.bytes t.part) piece pieces known (λ bad. bad)) h.1 t.out h.2.1
+        cut_in_lines lines_of a c w x y (t.bytes ++ piece) (lines_of t.bytes) h.0 h.2.0
+        (more_part IsNone a b c t.bytes (any_part a b t.bytes t.part) piece pieces known (λ bad. bad)) h.1 t.out h.2.1

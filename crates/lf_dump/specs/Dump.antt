@@ -11,7 +11,7 @@ use Rattle.lf_stream.specs.Gathered.{IsPartRead, IsAllRead}
 use Rattle.lf_dump.specs.declared.fault.DumpFault.{DumpFault}
 use Rattle.lf_dump.specs.declared.fault.DumpFault.TheVariants.{Read, Turns, Memory, Write}
 use Rattle.lf_dump.specs.declared.printer.Printer.{Printer}
-use Rattle.lf_dump.specs.Lines.{parts_of, len_of, lines_of, closing_of, text_of}
+use Rattle.lf_dump.specs.Lines.{parts_of, len_of, lines_of, closing_of}
 
 -- the most bytes that one read asks for
 abbrev pub piece_len : ℕ
@@ -34,19 +34,20 @@ pub record IsShown (bytes : List ℕ) (printer : Printer) : Type 0 where
   pub count : printer.records ≡ length (reading_of bytes).records
 
 -- ---- what was read and what went out, from readers and writers at two moments
+-- These are said of the lines that bytes have: all of them, or those that a choice takes.
 
 -- The reads answered these bytes, in which no fault stands, and all their lines went out, and then this line.
-pub record IsToldSoFar (old new writer writer' : Account) (line : List ℕ) : Type 0 where
+pub record IsToldSoFar (lines : List ℕ → List ℕ) (old new writer writer' : Account) (line : List ℕ) : Type 0 where
   pub bytes : List ℕ
   pub part : IsPartRead HasFault old new bytes
-  pub out : WentOut writer writer' (lines_of bytes ++ line)
+  pub out : WentOut writer writer' (lines bytes ++ line)
 
 -- The lines of a front of the bytes that the reads answered went out, and then this line.
-pub record IsToldInPart (old new writer writer' : Account) (line : List ℕ) : Type 0 where
+pub record IsToldInPart (lines : List ℕ → List ℕ) (old new writer writer' : Account) (line : List ℕ) : Type 0 where
   pub bytes : List ℕ
   pub more : List ℕ
   pub part : IsPartRead IsNone old new (bytes ++ more)
-  pub out : WentOut writer writer' (lines_of bytes ++ line)
+  pub out : WentOut writer writer' (lines bytes ++ line)
 
 -- ---- the lines behind a text that stops
 
@@ -67,42 +68,46 @@ abbrev pub Closes : List ℕ → List ℕ → Type 0
 Closes line bytes = (line ≡ closing_of bytes) ⊎ ((line ≡ not_read_line) ⊎ (line ≡ no_memory_line))
 
 -- The lines of a front of the bytes that the reads answered went out, and then such a line, as far as the writer took them.
-pub record IsCutOff (old new writer writer' : Account) : Type 0 where
+pub record IsCutOff (lines : List ℕ → List ℕ) (old new writer writer' : Account) : Type 0 where
   pub bytes : List ℕ
   pub more : List ℕ
   pub part : IsPartRead IsNone old new (bytes ++ more)
   pub line : List ℕ
   pub closes : Closes line bytes
   pub count : ℕ
-  pub out : WentOut writer writer' (take count (lines_of bytes ++ line))
+  pub out : WentOut writer writer' (take count (lines bytes ++ line))
 
 -- The whole text went out of all bytes that were to be read, which have this fault.
-pub record IsToldWhole (old new writer writer' : Account) (fault : Option CodecFault) : Type 0 where
+pub record IsToldWhole (lines : List ℕ → List ℕ) (old new writer writer' : Account) (fault : Option CodecFault) : Type 0 where
   pub bytes : List ℕ
   pub are_bytes : AreBytes bytes
   pub all : IsAllRead HasFault piece_len old new bytes
   pub is_fault : fault ≡ trace_fault bytes
-  pub out : WentOut writer writer' (text_of bytes)
+  pub out : WentOut writer writer' (lines bytes ++ closing_of bytes)
 
 -- What went out where a dump stopped, with its last line.
-abbrev pub IsStopped : Account → Account → Account → Account → List ℕ → DumpFault → Type 0
-IsStopped old new writer writer' line Read = IsToldSoFar old new writer writer' line
-IsStopped old new writer writer' line Turns = IsToldSoFar old new writer writer' line
-IsStopped old new writer writer' line Memory = IsToldInPart old new writer writer' line
-IsStopped old new writer writer' line Write = IsCutOff old new writer writer'
+abbrev pub IsStopped : (List ℕ → List ℕ) → Account → Account → Account → Account → List ℕ → DumpFault → Type 0
+IsStopped lines old new writer writer' line Read = IsToldSoFar lines old new writer writer' line
+IsStopped lines old new writer writer' line Turns = IsToldSoFar lines old new writer writer' line
+IsStopped lines old new writer writer' line Memory = IsToldInPart lines old new writer writer' line
+IsStopped lines old new writer writer' line Write = IsCutOff lines old new writer writer'
 
 -- ---- a dump
 
--- A dump within so many reads, whose last line where it stops is this one of the fault.
-pub record IsDumped (old new writer writer' : Account) (turns : ℕ) (last : DumpFault → List ℕ)
+-- A dump of these lines of the bytes within so many reads, whose last line where it stops is this one of the fault.
+pub record IsDumpedBy (lines : List ℕ → List ℕ) (old new writer writer' : Account) (turns : ℕ) (last : DumpFault → List ℕ)
     (answer : Result (Option CodecFault) DumpFault) : Type 0 where
   pub reads : new.calls ≤ turns
-  pub whole : IfOk answer (IsToldWhole old new writer writer')
-  pub stopped : IfErr answer (λ fault. IsStopped old new writer writer' (last fault) fault)
+  pub whole : IfOk answer (IsToldWhole lines old new writer writer')
+  pub stopped : IfErr answer (λ fault. IsStopped lines old new writer writer' (last fault) fault)
   -- When each fault comes.
   pub read : IsErrOf answer Read ↔ ((0 < new.failures) × (writer'.failures ≡ 0))
   pub turns_ran_out : IsErrOf answer Turns → new.calls ≡ turns
   pub write : IsErrOf answer Write ↔ (0 < writer'.failures)
+
+-- A dump of all lines.
+abbrev pub IsDumped : Account → Account → Account → Account → ℕ → (DumpFault → List ℕ) → Result (Option CodecFault) DumpFault → Type 0
+IsDumped = IsDumpedBy lines_of
 
 -- What one more piece does, after these bytes.
 abbrev pub Shows : Account → Account → Printer → List ℕ → List ℕ → Result Bool DumpFault → Type 0

@@ -54,7 +54,7 @@ fn print_lines<S: Source, W: Write>(
     ensures all { OnOk result ((bytes : List ℕ) × IsShown bytes printer.new
         × IsAllRead HasFault piece_len (S.account source.old) (S.account source.new) bytes
         × WentOut (account_of W.contents writer.old) (account_of W.contents writer.new) (lines_of bytes)) }
-    ensures stopped { IfErr result (IsStopped (S.account source.old) (S.account source.new)
+    ensures stopped { IfErr result (IsStopped lines_of (S.account source.old) (S.account source.new)
         (account_of W.contents writer.old) (account_of W.contents writer.new) []) }
     ensures read { IsErrOf result DumpFault.Read ↔ (0 < (S.account source.new).failures) }
     ensures turns { IsErrOf result DumpFault.Turns → (S.account source.new).calls ≡ turns }
@@ -122,7 +122,7 @@ fn print<S: Source, W: Write>(
 }
 
 /// The line that stands behind a text that stops here.
-fn stop_line(fault: DumpFault) -> &'static [u8]
+pub(crate) fn stop_line(fault: DumpFault) -> &'static [u8]
     ensures { result.now ≡ stop_line fault }
 {
     match fault {

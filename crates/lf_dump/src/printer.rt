@@ -6,11 +6,14 @@ ghost use Rattle.lf_rules.specs.declared.event.Record.{Record};
 ghost use Rattle.lf_codec.specs.Reading.{header_now, trace_fault};
 ghost use Rattle.lf_codec.specs.Reader.{HasRead};
 ghost use Rattle.lf_dump.specs.Lines.{end_line, end_before, closing, lines_of, closing_of, len_of};
-ghost use Rattle.lf_dump.specs.Printing.{header_due, parts_due, Puts, PrintsAll};
+ghost use Rattle.lf_dump.specs.Chosen.{candidates, taken_from};
+ghost use Rattle.lf_dump.specs.Choosing.{Holds, HasChosen};
+ghost use Rattle.lf_dump.specs.Printing.{header_due, marked_due, given_by, parts_due, Puts, PrintsAll};
 ghost use Rattle.lf_dump.specs.Dump.{HasFault, IsShown};
 
+use crate::chosen::Chosen;
 use crate::lines::{put_line, put_memory, put_records};
-use lf_codec::{CodecCause, CodecFault, Reader, fault_so_far};
+use lf_codec::{CodecCause, CodecFault, Header, Reader, fault_so_far};
 use lf_rules::NoMemory;
 use lf_text::TextLine;
 use std::alloc::{AllocError, Global};
@@ -111,6 +114,60 @@ impl Printer {
         let enough = feed(&mut self.reader, piece)?;
         self.text.clear();
         self.print()?;
+        Ok(enough)
+    }
+
+    /// Adds the line of the header to the chosen lines, where it was not added yet.
+    fn add_header(&mut self, chosen: &mut Chosen, header: &Header) -> Result<(), AllocError>
+        ensures holds { (out head : List ℕ) (lines : List (List ℕ)) → Holds chosen.old out head lines →
+            (self.old.offset ≡ 0 → lines ≡ []) →
+            OnOk result (Holds chosen.new out (head ++ marked_due self.old.offset header.now) lines) }
+        ensures choice { chosen.new.choice ≡ chosen.old.choice }
+        ensures offset { OnOk result
+            (self.new.offset ≡ self.old.offset + len_of (header_due self.old.offset (Some header.now))) }
+        ensures rest { self.new ≡ record self.old { offset = self.new.offset } }
+    {
+        if self.offset == 0 {
+            chosen.add_header(header)?;
+            self.offset = 16;
+        }
+        Ok(())
+    }
+
+    /// Takes all that the reader has to give, and adds the lines of what is chosen.
+    fn add_records(&mut self, chosen: &mut Chosen, header: &Header) -> Result<(), NoMemory>
+        requires room { self.old.offset + len_of (given_by self.old.reader) < 2 ^ 63 }
+        requires count { self.old.records + length self.old.reader.records < 2 ^ 63 }
+        ensures holds { (out head : List ℕ) (lines : List (List ℕ)) → Holds chosen.old out head lines →
+            OnOk result (Holds chosen.new out head (lines ++ taken_from chosen.old.choice self.old.offset
+            (candidates chosen.old.choice header.now self.old.reader.memory self.old.reader.records))) }
+        ensures choice { chosen.new.choice ≡ chosen.old.choice }
+        ensures reader { OnOk result (self.new.reader ≡ record self.old.reader { memory = []; records = [] }) }
+        ensures offset { OnOk result (self.new.offset ≡ self.old.offset + len_of (given_by self.old.reader)) }
+        ensures count { OnOk result (self.new.records ≡ self.old.records + length self.old.reader.records) }
+    {
+        self.offset = chosen.add_memory(&mut self.reader, self.offset)?;
+        self.offset = chosen.add_records(&mut self.reader, header, self.offset, &mut self.records)?;
+        Ok(())
+    }
+
+    /// Takes a piece and adds the lines of what is chosen of it, and tells whether a fault stands in what
+    /// came so far. `NoMemory` says that a growth was refused.
+    pub fn choose(&mut self, chosen: &mut Chosen, piece: &[u8]) -> Result<bool, NoMemory>
+        requires { (bytes : List ℕ) × IsShown bytes self.old × (length bytes + length piece.now < 2 ^ 63) }
+        ensures shown { (bytes : List ℕ) → IsShown bytes self.old → OnOk result (IsShown (bytes ++ piece.now) self.new) }
+        ensures lines { (bytes out : List ℕ) → IsShown bytes self.old → HasChosen chosen.old out bytes →
+            OnOk result (HasChosen chosen.new out (bytes ++ piece.now)) }
+        ensures choice { chosen.new.choice ≡ chosen.old.choice }
+        ensures enough { (bytes : List ℕ) → IsShown bytes self.old →
+            IfOk result (λ enough. IsTrue enough ↔ HasFault (bytes ++ piece.now)) }
+    {
+        let enough = feed(&mut self.reader, piece)?;
+        let Some(header) = self.reader.header() else {
+            return Ok(enough);
+        };
+        self.add_header(chosen, &header)?;
+        self.add_records(chosen, &header)?;
         Ok(enough)
     }
 
