@@ -16,7 +16,7 @@ use Rattle.lf_parse.specs.declared.word.EventWord.{EventWord}
 use Rattle.lf_parse.specs.declared.word.EventWord.TheVariants as words
 use Rattle.lf_parse.specs.Words.{without_blanks, is_over, event_word_text}
 use Rattle.lf_parse.specs.Words.{word_of as first_word}
-use Rattle.lf_parse.specs.Fields.{is_mask, masks_at}
+use Rattle.lf_parse.specs.Fields.{is_field, masks_at}
 use Rattle.lf_parse.specs.Events.{issue_at, reply_at, request_at, hit_at, stall_at, primary_at, merge_at, fill1_at, evict1_at}
 use Rattle.lf_parse.specs.Events.{second_hit_at, second_stall_at, second_primary_at, second_merge_at, fill2_at, evict2_at, event_at}
 use Rattle.lf_parse.specs.Lines.{is_behind, IsData, IsWide, EventInRange}
@@ -28,7 +28,7 @@ pub no_word : (text : List ℕ) → is_over text ≡ true → first_word text �
 no_word [] over = refl
 no_word (b ∷ text) over = let e : b ≡ 59 = eqb-true b 59 over in rw e refl
 
-no_mask : (bytes rest : List ℕ) → is_behind rest ≡ true → is_mask (data_text bytes ++ rest) ≡ false
+no_mask : (bytes rest : List ℕ) → is_behind rest ≡ true → is_field names.Mask (data_text bytes ++ rest) ≡ false
 no_mask [] rest behind = rw (no_word (without_blanks rest) (behind_is_over rest behind)) refl
 no_mask (b ∷ bytes) rest behind = refl
 
@@ -37,7 +37,7 @@ masks_end [] rest ends = ends
 masks_end (m ∷ masks) rest ends = refl
 
 masks_again : (most : ℕ) (masks : List Mask) (rest : List ℕ) → length masks ≤ most → AllByRecursion IsWide masks
-    → ends_word rest ≡ true → is_mask rest ≡ false → masks_at most (masks_text masks ++ rest) ≡ Ok (masks, rest)
+    → ends_word rest ≡ true → is_field names.Mask rest ≡ false → masks_at most (masks_text masks ++ rest) ≡ Ok (masks, rest)
 unfolding masks_at
 masks_again zero [] rest few wide ends none = refl
 masks_again zero (m ∷ masks) rest few wide ends none = absurd (omega arith)

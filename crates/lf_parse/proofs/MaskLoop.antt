@@ -5,7 +5,7 @@ use Rattle.lf_rules.specs.declared.mask.Mask.{Mask}
 use Rattle.lf_parse.specs.declared.fault.Lack.{Lack}
 use Rattle.lf_parse.specs.declared.fault.Name.TheVariants as names
 use Rattle.lf_parse.specs.Words.{◌>>=◌}
-use Rattle.lf_parse.specs.Fields.{hexadecimal_at, is_mask, masks_at}
+use Rattle.lf_parse.specs.Fields.{is_field, hexadecimal_at, masks_at}
 
 -- what was read before, and what is still read
 abbrev pub with_front : List Mask → Result (List Mask × List ℕ) Lack → Result (List Mask × List ℕ) Lack
@@ -17,7 +17,7 @@ regroup front m (Ok x) = ap (λ (ms : List Mask). Ok (ms, x.1)) (simp append_ass
 regroup front m (Err lack) = refl
 
 pub goes_on : (front : List Mask) (count i : ℕ) (text : List ℕ) (bits : ℕ) (after : List ℕ) (total : Result (List Mask × List ℕ) Lack)
-    → i < count → is_mask text ≡ true → hexadecimal_at names.Mask text ≡ Ok (bits, after)
+    → i < count → is_field names.Mask text ≡ true → hexadecimal_at names.Mask text ≡ Ok (bits, after)
     → with_front front (masks_at (count - i) text) ≡ total
     → with_front (front ++ (record { 0 = bits }) ∷ []) (masks_at (count - (i + 1)) after) ≡ total
 unfolding masks_at
@@ -28,7 +28,7 @@ goes_on front count i text bits after total lt here h so_far =
     sym one ∙ so_far
 
 pub fails : (lack : Lack) (front : List Mask) (count i : ℕ) (text : List ℕ) (total : Result (List Mask × List ℕ) Lack)
-    → i < count → is_mask text ≡ true → hexadecimal_at names.Mask text ≡ Err lack
+    → i < count → is_field names.Mask text ≡ true → hexadecimal_at names.Mask text ≡ Err lack
     → with_front front (masks_at (count - i) text) ≡ total → total ≡ Err lack
 unfolding masks_at
 fails lack front count i text total lt here h so_far =
@@ -37,7 +37,7 @@ fails lack front count i text total lt here h so_far =
     sym so_far ∙ one
 
 pub stops : (front : List Mask) (count i : ℕ) (text : List ℕ) (total : Result (List Mask × List ℕ) Lack)
-    → i < count → is_mask text ≡ false → with_front front (masks_at (count - i) text) ≡ total → total ≡ Ok (front, text)
+    → i < count → is_field names.Mask text ≡ false → with_front front (masks_at (count - i) text) ≡ total → total ≡ Ok (front, text)
 unfolding masks_at
 stops front count i text total lt here so_far =
     let k : count - i ≡ suc (count - (i + 1)) = omega arith in

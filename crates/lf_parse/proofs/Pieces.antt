@@ -13,7 +13,7 @@ use Rattle.lf_parse.specs.declared.fault.Name.{Name}
 use Rattle.lf_parse.specs.declared.fault.Name.TheVariants as names
 use Rattle.lf_parse.specs.Text.{name_text}
 use Rattle.lf_parse.specs.Words.{is_blank, is_of_word, without_blanks, word_of, after_word, is_over, without_front}
-use Rattle.lf_parse.specs.Fields.{field_at, number_after, number_of, decimal_at, hexadecimal_at, bytes_of, bytes_at, carried_at}
+use Rattle.lf_parse.specs.Fields.{field_at, number_after, number_of, decimal_at, number_at, version_at, hexadecimal_at, bytes_of, bytes_at, carried_at}
 use Rattle.lf_parse.specs.Lines.{is_behind}
 
 -- ---- words
@@ -172,6 +172,16 @@ decimal_again name most n rest le small ends =
     let number : number_of 10 most (decimal n) ≡ Some n =
     number_again 10 most (decimal n) (omega arith) numeral.0 (omega (arith, numeral.1)) ∙ ap (λ (m : ℕ). Some m) numeral.1 in
     rw (field_again name (decimal n) rest (digits_of_word 10 (decimal n) (omega arith) numeral.0.1) ends, number) refl
+
+pub number_or_again : (next n : ℕ) (rest : List ℕ) → n < 0x1_0000_0000 → ends_word rest ≡ true
+    → number_at next (field_text names.Number (decimal n) rest) ≡ Ok (n, rest)
+unfolding number_at
+number_or_again next n rest fits ends = decimal_again names.Number 0xffff_ffff n rest (omega arith) (omega arith) ends
+
+pub version_again : (n : ℕ) (rest : List ℕ) → n < 0x1_0000 → ends_word rest ≡ true
+    → version_at (field_text names.Version (decimal n) rest) ≡ Ok (Some n, rest)
+unfolding version_at
+version_again n rest fits ends = rw (decimal_again names.Version 0xffff n rest (omega arith) (omega arith) ends) refl
 
 pub hexadecimal_again : (name : Name) (n : ℕ) (rest : List ℕ) → n < 2 ^ 64 → ends_word rest ≡ true
     → hexadecimal_at name (field_text name (hexadecimal n) rest) ≡ Ok (n, rest)

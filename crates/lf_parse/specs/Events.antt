@@ -1,5 +1,5 @@
 -- How the event records are read.
-use Rattle.std.specs.Prelude.{ℕ, ◌+◌, ◌-◌, List, Result, Ok}
+use Rattle.std.specs.Prelude.{ℕ, ◌+◌, ◌-◌, List, slice_index, Result, Ok}
 use Rattle.lf_rules.specs.declared.event.Op.{Op}
 use Rattle.lf_rules.specs.declared.event.Op.TheVariants.{Load, Store}
 use Rattle.lf_rules.specs.declared.event.Event.{Event}
@@ -7,10 +7,11 @@ use Rattle.lf_rules.specs.declared.event.Event.TheVariants as events
 use Rattle.lf_rules.specs.declared.event.Record.{Record}
 use Rattle.lf_parse.specs.declared.fault.Lack.{Lack}
 use Rattle.lf_parse.specs.declared.fault.Name.TheVariants as names
+use Rattle.lf_parse.specs.declared.defaults.Defaults.{Defaults}
 use Rattle.lf_parse.specs.declared.word.EventWord.{EventWord}
 use Rattle.lf_parse.specs.declared.word.EventWord.TheVariants as words
 use Rattle.lf_parse.specs.Words.{◌>>=◌}
-use Rattle.lf_parse.specs.Fields.{decimal_at, hexadecimal_at, carried_at, masks_at}
+use Rattle.lf_parse.specs.Fields.{decimal_at, number_at, hexadecimal_at, carried_at, masks_at}
 
 -- ---- the fields of a kind of event, and the text behind them
 
@@ -124,14 +125,14 @@ event_at words.Evict2 text = evict2_at text
 event_at words.Fence text = Ok (events.Fence, text)
 event_at words.SecondMerge text = second_merge_at text
 
--- ---- where a record stands: its log, its bank and its number there, and the text behind them
+-- ---- where a record stands: its log, its bank and its number there, and the text behind them. The defaults have the next number of each bank.
 
 -- a port's record
-unfoldable pub port_head_at : List ℕ → Result (ℕ × ℕ × ℕ × List ℕ) Lack
-port_head_at text = do
+unfoldable pub port_head_at : Defaults → List ℕ → Result (ℕ × ℕ × ℕ × List ℕ) Lack
+port_head_at defaults text = do
   port ← decimal_at names.Port 0xff text
   bank ← decimal_at names.Bank 0xff port.1
-  number ← decimal_at names.Number 0xffff_ffff bank.1
+  number ← number_at (slice_index defaults.next bank.0) bank.1
   Ok (port.0, bank.0, number.0, number.1)
 
 -- a fence, which names no bank and has no number
@@ -141,21 +142,21 @@ fence_head_at text = do
   Ok (port.0, 255, 0, port.1)
 
 -- a bank's record, which stands in the log behind those of the ports and of the banks before
-unfoldable pub bank_head_at : ℕ → List ℕ → Result (ℕ × ℕ × ℕ × List ℕ) Lack
-bank_head_at ports text = do
+unfoldable pub bank_head_at : ℕ → Defaults → List ℕ → Result (ℕ × ℕ × ℕ × List ℕ) Lack
+bank_head_at ports defaults text = do
   bank ← decimal_at names.Bank (0xff - ports) text
-  number ← decimal_at names.Number 0xffff_ffff bank.1
+  number ← number_at (slice_index defaults.next bank.0) bank.1
   Ok (ports + bank.0, bank.0, number.0, number.1)
 
-abbrev pub head_at : ℕ → EventWord → List ℕ → Result (ℕ × ℕ × ℕ × List ℕ) Lack
-head_at ports words.Load text = port_head_at text
-head_at ports words.Store text = port_head_at text
-head_at ports words.Reply text = port_head_at text
-head_at ports words.Fence text = fence_head_at text
-head_at ports word text = bank_head_at ports text
+abbrev pub head_at : ℕ → Defaults → EventWord → List ℕ → Result (ℕ × ℕ × ℕ × List ℕ) Lack
+head_at ports defaults words.Load text = port_head_at defaults text
+head_at ports defaults words.Store text = port_head_at defaults text
+head_at ports defaults words.Reply text = port_head_at defaults text
+head_at ports defaults words.Fence text = fence_head_at text
+head_at ports defaults word text = bank_head_at ports defaults text
 
-unfoldable pub record_at : ℕ → EventWord → List ℕ → Result (Record × List ℕ) Lack
-record_at ports word text = do
-  head ← head_at ports word text
+unfoldable pub record_at : ℕ → Defaults → EventWord → List ℕ → Result (Record × List ℕ) Lack
+record_at ports defaults word text = do
+  head ← head_at ports defaults word text
   event ← event_at word head.3
   Ok (record { log = head.0; bank = head.1; number = head.2; event = event.0 }, event.1)

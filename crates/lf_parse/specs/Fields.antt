@@ -1,5 +1,5 @@
 -- How a field is read: its value, and the text behind it.
-use Rattle.std.specs.Prelude.{ℕ, zero, suc, ◌+◌, ◌*◌, ◌/◌, Bool, ◌&&◌, nat_lt, nat_le, List, [], ◌∷◌, length, codes, if◌then◌else◌, Option, Some, None, Result, Ok, Err}
+use Rattle.std.specs.Prelude.{ℕ, zero, suc, ◌+◌, ◌*◌, ◌/◌, Bool, ◌&&◌, ◌||◌, nat_lt, nat_le, List, [], ◌∷◌, length, codes, if◌then◌else◌, Option, Some, None, Result, Ok, Err}
 use Rattle.std.specs.Option.{is_some}
 use Rattle.std.specs.Char.{digit_value}
 use Rattle.std.specs.Result.{result_ok}
@@ -58,6 +58,21 @@ decimal_at name most text = do
   field ← field_at name text
   numbered (due.Number most) field.0 field.1 (number_of 10 most field.0)
 
+-- this field comes next
+abbrev pub is_field : Name → List ℕ → Bool
+is_field name text = is_some (without_front (name_text name) (word_of (without_blanks text)))
+
+-- the number of a record, which may be left out where its bank has a next one below 2^32: it is that one then
+unfoldable pub number_at : ℕ → List ℕ → Result (ℕ × List ℕ) Lack
+number_at next text =
+    if is_field names.Number text || nat_lt 0xffff_ffff next then decimal_at names.Number 0xffff_ffff text else Ok (next, text)
+
+-- the version, which may be left out
+unfoldable pub version_at : List ℕ → Result (Option ℕ × List ℕ) Lack
+version_at text =
+    if is_field names.Version text then (decimal_at names.Version 0xffff text >>= λ version. Ok (Some version.0, version.1))
+    else Ok (None, text)
+
 -- a number in hexadecimal digits behind 0x, below 2^64
 abbrev pub hexadecimal_of : Option (List ℕ) → Option ℕ
 hexadecimal_of (Some digits) = number_of 16 0xffff_ffff_ffff_ffff digits
@@ -90,15 +105,11 @@ carried_at most text = if is_over (without_blanks text) then Ok ([], text) else 
 
 -- ---- masks
 
--- a mask comes next
-abbrev pub is_mask : List ℕ → Bool
-is_mask text = is_some (without_front (name_text names.Mask) (word_of (without_blanks text)))
-
 -- the masks that come, up to so many
 unfoldable pub masks_at : ℕ → List ℕ → Result (List Mask × List ℕ) Lack
 masks_at zero text = Ok ([], text)
 masks_at (suc n) text =
-    if is_mask text then (do
+    if is_field names.Mask text then (do
       mask ← hexadecimal_at names.Mask text
       others ← masks_at n mask.1
       Ok (record { 0 = mask.0 } ∷ others.0, others.1))

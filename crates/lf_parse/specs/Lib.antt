@@ -3,4 +3,5 @@ pub mod Words
 pub mod Fields
 pub mod Events
 pub mod Lines
+pub mod Defaults
 pub mod Text

@@ -13,25 +13,32 @@ use Rattle.lf_parse.specs.declared.fault.Lack.{Lack}
 use Rattle.lf_parse.specs.declared.fault.Name.TheVariants as names
 use Rattle.lf_parse.specs.declared.fault.Expected.TheVariants as due
 use Rattle.lf_parse.specs.declared.fault.TextFault.{TextFault}
+use Rattle.lf_parse.specs.declared.word.EventWord.TheVariants as kinds
 use Rattle.lf_parse.specs.declared.word.Word.{Word}
 use Rattle.lf_parse.specs.declared.word.Word.TheVariants as words
+use Rattle.lf_parse.specs.declared.defaults.Defaults.{Defaults}
 use Rattle.lf_parse.specs.declared.line.Line.{Line}
 use Rattle.lf_parse.specs.declared.line.Line.TheVariants as lines
 use Rattle.lf_parse.specs.Words.{◌>>=◌, is_blank, without_blanks, word_of, after_word, is_over, word_named}
-use Rattle.lf_parse.specs.Fields.{lacks, decimal_at, bytes_at}
+use Rattle.lf_parse.specs.Defaults.{default_version}
+use Rattle.lf_parse.specs.Fields.{lacks, decimal_at, version_at, bytes_at}
 use Rattle.lf_parse.specs.Events.{record_at}
 
 -- ---- reading
 
-unfoldable pub header_at : List ℕ → Result (Line × List ℕ) Lack
-header_at text = do
-  version ← decimal_at names.Version 0xffff text
+abbrev pub version_or : ℕ → Option ℕ → ℕ
+version_or default (Some version) = version
+version_or default None = default
+
+unfoldable pub header_at : Defaults → List ℕ → Result (Line × List ℕ) Lack
+header_at defaults text = do
+  version ← version_at text
   ports ← decimal_at names.Ports 0xff version.1
   banks ← decimal_at names.Banks 0xff ports.1
   block ← decimal_at names.Block 0xffff banks.1
   factor ← decimal_at names.Factor 0xffff block.1
   memory ← decimal_at names.Memory 0xffff_ffff factor.1
-  Ok (lines.Header (record { version = version.0; ports = ports.0; banks = banks.0; block = block.0; factor = factor.0; memory_count = memory.0 }), memory.1)
+  Ok (lines.Header (record { version = version_or (default_version defaults factor.0) version.0; ports = ports.0; banks = banks.0; block = block.0; factor = factor.0; memory_count = memory.0 }), memory.1)
 
 unfoldable pub memory_at : List ℕ → Result (Line × List ℕ) Lack
 memory_at text = do
@@ -44,32 +51,43 @@ end_at text = do
   count ← decimal_at names.Count 0xffff_ffff text
   Ok (lines.End count.0, count.1)
 
-unfoldable pub event_line_at : ℕ → Word → List ℕ → Result (Line × List ℕ) Lack
-event_line_at ports words.Lfts text = header_at text
-event_line_at ports words.Memory text = memory_at text
-event_line_at ports words.End text = end_at text
-event_line_at ports (words.Event word) text = record_at ports word text >>= λ x. Ok (lines.Event x.0, x.1)
+unfoldable pub event_line_at : ℕ → Defaults → Word → List ℕ → Result (Line × List ℕ) Lack
+event_line_at ports defaults words.Lfts text = header_at defaults text
+event_line_at ports defaults words.Memory text = memory_at text
+event_line_at ports defaults words.End text = end_at text
+event_line_at ports defaults (words.Event word) text = record_at ports defaults word text >>= λ x. Ok (lines.Event x.0, x.1)
 
 -- the line of this word, whose text from the word on is this
-abbrev pub part_from : ℕ → List ℕ → Option Word → Result (Line × List ℕ) Lack
-part_from ports text (Some word) = event_line_at ports word (after_word text)
-part_from ports text None = lacks due.Word (length text)
+abbrev pub part_from : ℕ → Defaults → List ℕ → Option Word → Result (Line × List ℕ) Lack
+part_from ports defaults text (Some word) = event_line_at ports defaults word (after_word text)
+part_from ports defaults text None = lacks due.Word (length text)
 
 -- nothing but a comment stands behind a part
 abbrev pub closed : Line × List ℕ → Result Line Lack
 closed x = let rest = without_blanks x.1 in if is_over rest then Ok x.0 else lacks due.End (length rest)
 
 -- the line, from its first word on
-abbrev pub line_from : ℕ → List ℕ → Result Line Lack
-line_from ports text = if is_over text then Ok lines.Blank else part_from ports text (word_named (word_of text)) >>= closed
+abbrev pub line_from : ℕ → Defaults → List ℕ → Result Line Lack
+line_from ports defaults text = if is_over text then Ok lines.Blank else part_from ports defaults text (word_named (word_of text)) >>= closed
 
 abbrev pub placed : List ℕ → Result Line Lack → Result Line TextFault
 placed text (Ok line) = Ok line
 placed text (Err lack) = Err (record { column = length text - lack.left + 1; expected = lack.expected })
 
--- the line of this text, in a trace of so many ports
-unfoldable pub line_of : ℕ → List ℕ → Result Line TextFault
-line_of ports text = placed text (line_from ports (without_blanks text))
+-- the line of this text, in a trace of so many ports, where these stand for what is left out
+unfoldable pub line_of : ℕ → Defaults → List ℕ → Result Line TextFault
+line_of ports defaults text = placed text (line_from ports defaults (without_blanks text))
+
+-- ---- the version that a line asks for
+
+-- the least version that has the kind of this word
+abbrev pub version_of : Option Word → ℕ
+version_of (Some (words.Event kinds.Fence)) = 2
+version_of (Some (words.Event kinds.SecondMerge)) = 3
+version_of word = 1
+
+abbrev pub least_version : List ℕ → ℕ
+least_version text = version_of (word_named (word_of (without_blanks text)))
 
 -- ---- printing
 

@@ -6,8 +6,11 @@ ghost use Rattle.lf_parse.specs.Events.{issue_at, reply_at, request_at, hit_at, 
 ghost use Rattle.lf_parse.specs.Events.{second_hit_at, second_stall_at, second_primary_at, second_merge_at, fill2_at, evict2_at, event_at};
 ghost use Rattle.lf_parse.specs.Events.{port_head_at, fence_head_at, bank_head_at, head_at, record_at};
 
+use crate::defaults::Defaults;
 use crate::fault::{Lack, Name};
-use crate::field::{byte, byte_up_to, carried, hexadecimal, masks, short, wide_carried, word};
+use crate::field::{
+    byte, byte_up_to, carried, hexadecimal, masks, number_or, short, wide_carried, word,
+};
 use crate::word::EventWord;
 use lf_rules::{Event, Mask, NO_BANK, Op, Record};
 
@@ -197,12 +200,12 @@ fn event(word: EventWord, text: &[u8]) -> Result<(Event, &[u8]), Lack>
 
 /// Where a record of a port's log stands: its log, its bank and its number there.
 #[tactic(auto, unfolding(crate::specs::Events::port_head_at))]
-fn port_head(text: &[u8]) -> Result<(u8, u8, u32, &[u8]), Lack>
-    ensures { Gives (λ x. (x.0, x.1, x.2, x.3.now)) result (port_head_at text.now) }
+fn port_head<'a>(defaults: &Defaults, text: &'a [u8]) -> Result<(u8, u8, u32, &'a [u8]), Lack>
+    ensures { Gives (λ x. (x.0, x.1, x.2, x.3.now)) result (port_head_at defaults.now text.now) }
 {
     let (port, text) = byte(Name::Port, text)?;
     let (bank, text) = byte(Name::Bank, text)?;
-    let (number, text) = word(Name::Number, text)?;
+    let (number, text) = number_or(defaults.next(bank), text)?;
     Ok((port, bank, number, text))
 }
 
@@ -216,30 +219,44 @@ fn fence_head(text: &[u8]) -> Result<(u8, u8, u32, &[u8]), Lack>
 
 /// The same of a bank's record, whose log stands behind those of the ports and of the banks before.
 #[tactic(auto, unfolding(crate::specs::Events::bank_head_at))]
-fn bank_head(ports: u8, text: &[u8]) -> Result<(u8, u8, u32, &[u8]), Lack>
-    ensures { Gives (λ x. (x.0, x.1, x.2, x.3.now)) result (bank_head_at ports text.now) }
+fn bank_head<'a>(
+    ports: u8,
+    defaults: &Defaults,
+    text: &'a [u8],
+) -> Result<(u8, u8, u32, &'a [u8]), Lack>
+    ensures { Gives (λ x. (x.0, x.1, x.2, x.3.now)) result (bank_head_at ports defaults.now text.now) }
 {
     let (bank, text) = byte_up_to(Name::Bank, u8::MAX - ports, text)?;
-    let (number, text) = word(Name::Number, text)?;
+    let (number, text) = number_or(defaults.next(bank), text)?;
     Ok((ports + bank, bank, number, text))
 }
 
-fn head(ports: u8, word: EventWord, text: &[u8]) -> Result<(u8, u8, u32, &[u8]), Lack>
-    ensures { Gives (λ x. (x.0, x.1, x.2, x.3.now)) result (head_at ports word text.now) }
+fn head<'a>(
+    ports: u8,
+    defaults: &Defaults,
+    word: EventWord,
+    text: &'a [u8],
+) -> Result<(u8, u8, u32, &'a [u8]), Lack>
+    ensures { Gives (λ x. (x.0, x.1, x.2, x.3.now)) result (head_at ports defaults.now word text.now) }
 {
     match word {
-        EventWord::Load | EventWord::Store | EventWord::Reply => port_head(text),
+        EventWord::Load | EventWord::Store | EventWord::Reply => port_head(defaults, text),
         EventWord::Fence => fence_head(text),
-        _ => bank_head(ports, text),
+        _ => bank_head(ports, defaults, text),
     }
 }
 
 /// The event record of this word, and the text behind it.
 #[tactic(auto, unfolding(crate::specs::Events::record_at))]
-pub(crate) fn record(ports: u8, word: EventWord, text: &[u8]) -> Result<(Record, &[u8]), Lack>
-    ensures { Gives (λ x. (x.0, x.1.now)) result (record_at ports word text.now) }
+pub(crate) fn record<'a>(
+    ports: u8,
+    defaults: &Defaults,
+    word: EventWord,
+    text: &'a [u8],
+) -> Result<(Record, &'a [u8]), Lack>
+    ensures { Gives (λ x. (x.0, x.1.now)) result (record_at ports defaults.now word text.now) }
 {
-    let (log, bank, number, text) = head(ports, word, text)?;
+    let (log, bank, number, text) = head(ports, defaults, word, text)?;
     let (event, text) = event(word, text)?;
     let item = Record {
         log,

@@ -3,7 +3,7 @@
 ghost use Rattle.std.specs.Prelude.{◌≡◌, ◌≤◌, ◌^◌, Bool, length, IfOk, IfSome};
 ghost use Rattle.std.specs.Option.{option_map};
 ghost use Rattle.lf_parse.specs.Words.{Gives};
-ghost use Rattle.lf_parse.specs.Fields.{field_at, digit_added, number_of, decimal_at, hexadecimal_at, bytes_of, bytes_at, carried_at, is_mask, masks_at};
+ghost use Rattle.lf_parse.specs.Fields.{field_at, is_field, digit_added, number_of, decimal_at, number_at, version_at, hexadecimal_at, bytes_of, bytes_at, carried_at, masks_at};
 
 use crate::fault::{Expected, Lack, Name};
 use crate::scan::{is_over, split_word, without_blanks};
@@ -103,6 +103,36 @@ pub(crate) fn word(name: Name, text: &[u8]) -> Result<(u32, &[u8]), Lack>
 {
     let (number, rest) = decimal(name, u64::from(u32::MAX), text)?;
     Ok((number as u32, rest))
+}
+
+/// Whether the field of this name comes next.
+fn is_field(name: Name, text: &[u8]) -> bool
+    ensures { result ≡ is_field name text.now }
+{
+    field(name, text).is_ok()
+}
+
+/// The number of a record: the next one of its bank, where it is left out.
+#[tactic(auto, unfolding(crate::specs::Fields::number_at))]
+pub(crate) fn number_or(next: u64, text: &[u8]) -> Result<(u32, &[u8]), Lack>
+    ensures { Gives (λ x. (x.0, x.1.now)) result (number_at next text.now) }
+{
+    if is_field(Name::Number, text) || next > u64::from(u32::MAX) {
+        return word(Name::Number, text);
+    }
+    Ok((next as u32, text))
+}
+
+/// The version, where it is not left out.
+#[tactic(auto, unfolding(crate::specs::Fields::version_at))]
+pub(crate) fn version(text: &[u8]) -> Result<(Option<u16>, &[u8]), Lack>
+    ensures { Gives (λ x. (x.0, x.1.now)) result (version_at text.now) }
+{
+    if !is_field(Name::Version, text) {
+        return Ok((None, text));
+    }
+    let (version, text) = short(Name::Version, text)?;
+    Ok((Some(version), text))
 }
 
 /// A number in hexadecimal digits behind `0x`.
@@ -209,14 +239,6 @@ pub(crate) fn wide_carried(text: &[u8]) -> Result<(WideBlock, &[u8]), Lack>
     Ok((wide_block_of(bytes), rest))
 }
 
-/// Whether a mask comes next.
-fn is_mask(text: &[u8]) -> bool
-    ensures { result ≡ is_mask text.now }
-{
-    let (word, _) = split_word(without_blanks(text));
-    word.starts_with(Name::Mask.text().as_bytes())
-}
-
 /// The masks that come, up to four.
 #[tactic(auto, unfolding(crate::specs::Fields::masks_at))]
 pub(crate) fn masks(text: &[u8]) -> Result<(Masks, &[u8]), Lack>
@@ -225,7 +247,7 @@ pub(crate) fn masks(text: &[u8]) -> Result<(Masks, &[u8]), Lack>
     let mut masks = Masks::new();
     let mut rest = text;
     for _ in 0..4u8 {
-        if !is_mask(rest) {
+        if !is_field(Name::Mask, rest) {
             return Ok((masks, rest));
         }
         let (bits, behind) = hexadecimal(Name::Mask, rest)?;

@@ -2,16 +2,23 @@
 
 ghost use Rattle.std.specs.Prelude.{◌≡◌, ◌++◌, ℕ, List, true, Ok};
 ghost use Rattle.lf_parse.specs.Words.{Gives, word_of, word_named};
-ghost use Rattle.lf_parse.specs.Lines.{header_at, memory_at, end_at, event_line_at, part_from, closed, line_from, line_of, text_of, LineInRange, is_behind};
+ghost use Rattle.lf_parse.specs.Lines.{version_or, version_of, least_version, header_at, memory_at, end_at, event_line_at, part_from, closed, line_from, line_of, text_of, LineInRange, is_behind};
 ghost use Rattle.lf_parse.specs.declared.line.Line.{Line};
 
+use crate::defaults::Defaults;
 use crate::event::record;
 use crate::fault::{Expected, Lack, Name, TextFault};
-use crate::field::{block_bytes, byte, short, word};
+use crate::field::{block_bytes, byte, short, version, word};
 use crate::scan::{is_over, split_word, without_blanks};
-use crate::word::Word;
+use crate::word::{EventWord, Word};
 use lf_codec::Header;
 use lf_rules::{Block, Record};
+
+fn version_or(default: u16, version: Option<u16>) -> u16
+    ensures { result ≡ version_or default version }
+{
+    version.unwrap_or(default)
+}
 
 /// What a line of the text says.
 #[derive(Clone, Debug, Drop, PartialEq, Eq)]
@@ -29,17 +36,17 @@ pub enum Line {
 }
 
 #[tactic(auto, unfolding(crate::specs::Lines::header_at))]
-fn header(text: &[u8]) -> Result<(Line, &[u8]), Lack>
-    ensures { Gives (λ x. (x.0, x.1.now)) result (header_at text.now) }
+fn header<'a>(defaults: &Defaults, text: &'a [u8]) -> Result<(Line, &'a [u8]), Lack>
+    ensures { Gives (λ x. (x.0, x.1.now)) result (header_at defaults.now text.now) }
 {
-    let (version, text) = short(Name::Version, text)?;
+    let (version, text) = version(text)?;
     let (ports, text) = byte(Name::Ports, text)?;
     let (banks, text) = byte(Name::Banks, text)?;
     let (block, text) = short(Name::Block, text)?;
     let (factor, text) = short(Name::Factor, text)?;
     let (memory_count, text) = word(Name::Memory, text)?;
     let header = Header {
-        version,
+        version: version_or(defaults.version(factor), version),
         ports,
         banks,
         block,
@@ -68,27 +75,32 @@ fn end(text: &[u8]) -> Result<(Line, &[u8]), Lack>
 
 /// The line of this word, and the text behind its part.
 #[tactic(auto, unfolding(crate::specs::Lines::event_line_at))]
-fn part(ports: u8, word: Word, text: &[u8]) -> Result<(Line, &[u8]), Lack>
-    ensures { Gives (λ x. (x.0, x.1.now)) result (event_line_at ports word text.now) }
+fn part<'a>(
+    ports: u8,
+    defaults: &Defaults,
+    word: Word,
+    text: &'a [u8],
+) -> Result<(Line, &'a [u8]), Lack>
+    ensures { Gives (λ x. (x.0, x.1.now)) result (event_line_at ports defaults.now word text.now) }
 {
     match word {
-        Word::Lfts => header(text),
+        Word::Lfts => header(defaults, text),
         Word::Memory => memory(text),
         Word::End => end(text),
         Word::Event(word) => {
-            let (item, rest) = record(ports, word, text)?;
+            let (item, rest) = record(ports, defaults, word, text)?;
             Ok((Line::Event(item), rest))
         }
     }
 }
 
 /// The line whose first word begins the text.
-fn named(ports: u8, text: &[u8]) -> Result<(Line, &[u8]), Lack>
-    ensures { Gives (λ x. (x.0, x.1.now)) result (part_from ports text.now (word_named (word_of text.now))) }
+fn named<'a>(ports: u8, defaults: &Defaults, text: &'a [u8]) -> Result<(Line, &'a [u8]), Lack>
+    ensures { Gives (λ x. (x.0, x.1.now)) result (part_from ports defaults.now text.now (word_named (word_of text.now))) }
 {
     let (first, rest) = split_word(text);
     match Word::named(first) {
-        Some(word) => part(ports, word, rest),
+        Some(word) => part(ports, defaults, word, rest),
         None => Err(Lack {
             expected: Expected::Word,
             left: text.len(),
@@ -111,26 +123,46 @@ fn closed(line: Line, rest: &[u8]) -> Result<Line, Lack>
     }
 }
 
-fn line_from(ports: u8, text: &[u8]) -> Result<Line, Lack>
-    ensures { result ≡ line_from ports text.now }
+fn line_from(ports: u8, defaults: &Defaults, text: &[u8]) -> Result<Line, Lack>
+    ensures { result ≡ line_from ports defaults.now text.now }
 {
     if is_over(text) {
         return Ok(Line::Blank);
     }
-    let (line, rest) = named(ports, text)?;
+    let (line, rest) = named(ports, defaults, text)?;
     closed(line, rest)
 }
 
+/// The least version that has the kind of this word.
+fn version_of(word: Option<Word>) -> u16
+    ensures { result ≡ version_of word }
+{
+    match word {
+        Some(Word::Event(EventWord::Fence)) => 2,
+        Some(Word::Event(EventWord::SecondMerge)) => 3,
+        _ => 1,
+    }
+}
+
+/// The least version that has the kind of the line's record.
+pub fn least_version(text: &[u8]) -> u16
+    ensures { result ≡ least_version text.now }
+{
+    let (first, _) = split_word(without_blanks(text));
+    version_of(Word::named(first))
+}
+
 /// What the line says, in a trace of so many ports. A part, its fields and a comment may have any blanks
-/// before them, and the line may end with a carriage return.
+/// before them, and the line may end with a carriage return. The defaults stand
+/// for a version or a number that is left out.
 #[tactic(auto, unfolding(crate::specs::Lines::line_of))]
-pub fn read_line(ports: u8, text: &[u8]) -> Result<Line, TextFault>
-    ensures exact { result ≡ line_of ports text.now }
+pub fn read_line(ports: u8, defaults: &Defaults, text: &[u8]) -> Result<Line, TextFault>
+    ensures exact { result ≡ line_of ports defaults.now text.now }
     // A line that is printed is read as what it was printed of, whatever comment stands behind it.
     ensures again { (line : Line) (rest : List ℕ) → LineInRange ports line → is_behind rest ≡ true
         → text.now ≡ text_of line ++ rest → result ≡ Ok line }
 {
-    match line_from(ports, without_blanks(text)) {
+    match line_from(ports, defaults, without_blanks(text)) {
         Ok(line) => Ok(line),
         Err(lack) => Err(TextFault {
             column: text.len().saturating_sub(lack.left) + 1,

@@ -1,18 +1,18 @@
 //! Lines with what they say.
 
-use crate::{Expected, Line, Name, TextFault, read_line};
+use crate::{Defaults, Expected, Line, Name, TextFault, read_line};
 use lf_codec::Header;
 use lf_rules::{Block, Event, Mask, Masks, Op, Record, WideBlock};
 use std::process::Abort;
 use std::test::Fail;
 
 fn assert_line<T: Abort>(rt: &T, text: &str, due: Line) -> Result<(), Fail> {
-    assert_eq!(rt; read_line(2, text.as_bytes()), Ok(due));
+    assert_eq!(rt; read_line(2, &Defaults::new(1), text.as_bytes()), Ok(due));
     Ok(())
 }
 
 fn assert_fault<T: Abort + AllocGlobal>(rt: &T, text: &str, due: &str) -> Result<(), Fail> {
-    match read_line(2, text.as_bytes()) {
+    match read_line(2, &Defaults::new(1), text.as_bytes()) {
         Ok(_) => assert!(rt; false),
         Err(fault) => {
             let told = format!(in rt.alloc(); "{fault}")?;
@@ -96,6 +96,29 @@ fn lines_of_events(rt: HostRuntime) -> Result<(), Fail> {
 }
 
 #[test]
+fn numbers_left_out(rt: HostRuntime) -> Result<(), Fail> {
+    let mut defaults = Defaults::new(1);
+    let text = b"second_hit bank=1 block=5";
+    let event = Event::SecondHit { block: 5 };
+    let first = Line::Event(Record {
+        log: 3,
+        bank: 1,
+        number: 0,
+        event,
+    });
+    assert_eq!(rt; read_line(2, &defaults, text), Ok(first));
+    defaults.pass(&bank_record(Event::Fence));
+    let next = Line::Event(Record {
+        log: 3,
+        bank: 1,
+        number: 8,
+        event: Event::SecondHit { block: 5 },
+    });
+    assert_eq!(rt; read_line(2, &defaults, text), Ok(next));
+    Ok(())
+}
+
+#[test]
 fn faults(rt: HostRuntime) -> Result<(), Fail> {
     assert_fault(
         &rt,
@@ -132,6 +155,6 @@ fn faults(rt: HostRuntime) -> Result<(), Fail> {
         column: 6,
         expected: Expected::Field(Name::Port),
     };
-    assert_eq!(rt; read_line(2, b"fence"), Err(fault));
+    assert_eq!(rt; read_line(2, &Defaults::new(1), b"fence"), Err(fault));
     Ok(())
 }
