@@ -1,3 +1,4 @@
+pub mod Versions
 pub mod LineLoop
 pub mod Judging
 pub mod Cuts

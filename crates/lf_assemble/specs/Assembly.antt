@@ -1,5 +1,5 @@
 -- What the lines of a text give: the bytes of a trace, or the first fault and its line.
-use Rattle.std.specs.Prelude.{◌≡◌, ◌⊎◌, ℕ, zero, suc, ◌+◌, ◌-◌, ◌*◌, Bool, true, ◌==◌, ◌||◌, not, List, [], ◌∷◌, ◌++◌, length, if◌then◌else◌, Option, Some, None, Result, Ok, Err}
+use Rattle.std.specs.Prelude.{◌≡◌, ◌⊎◌, ℕ, zero, suc, ◌+◌, ◌-◌, ◌*◌, max, Bool, true, ◌==◌, ◌||◌, not, nat_lt, List, [], ◌∷◌, ◌++◌, length, if◌then◌else◌, Option, Some, None, Result, Ok, Err}
 use Rattle.std.specs.Global.{Vec}
 use Rattle.std.specs.List.{slice_split}
 use Rattle.std.specs.Int.RustNames.{count_ones}
@@ -7,13 +7,16 @@ use Rattle.lf_rules.specs.Fits.{issue_len, masks_len}
 use Rattle.lf_rules.specs.declared.event.Event.{Event}
 use Rattle.lf_rules.specs.declared.event.Event.TheVariants as events
 use Rattle.lf_codec.specs.declared.header.Header.{Header}
+use Rattle.lf_codec.specs.declared.fault.CodecCause.TheVariants.{Count}
 use Rattle.lf_codec.specs.declared.fault.CodecFault.{CodecFault}
 use Rattle.lf_codec.specs.Layout.{header_bytes, memory_bytes, record_bytes, end_bytes, data_of}
 use Rattle.lf_codec.specs.Reading.{fault_so_far, trace_fault}
 use Rattle.lf_parse.specs.declared.fault.TextFault.{TextFault}
+use Rattle.lf_parse.specs.declared.defaults.Defaults.{Defaults}
 use Rattle.lf_parse.specs.declared.line.Line.{Line}
 use Rattle.lf_parse.specs.declared.line.Line.TheVariants as lines
-use Rattle.lf_parse.specs.Lines.{line_of}
+use Rattle.lf_parse.specs.Lines.{line_of, least_version}
+use Rattle.lf_parse.specs.Defaults.{starting, defaults_after}
 use Rattle.lf_assemble.specs.declared.fault.Part.{Part}
 use Rattle.lf_assemble.specs.declared.fault.Part.TheVariants as parts
 use Rattle.lf_assemble.specs.declared.fault.AssembleCause.{AssembleCause}
@@ -26,19 +29,19 @@ use Rattle.lf_assemble.specs.declared.due.Due.TheVariants as due
 
 abbrev pub ports_of : Due → ℕ
 ports_of (due.Memory h left) = h.ports
-ports_of (due.Event h) = h.ports
+ports_of (due.Event h count) = h.ports
 ports_of due.Lfts = 0
 ports_of due.Nothing = 0
 
 abbrev pub part_of : Due → Part
 part_of due.Lfts = parts.Lfts
 part_of (due.Memory h left) = parts.Memory
-part_of (due.Event h) = parts.Event
+part_of (due.Event h count) = parts.Event
 part_of due.Nothing = parts.Nothing
 
 -- where so many memory records are left
 abbrev pub behind : Header → ℕ → Due
-behind h zero = due.Event h
+behind h zero = due.Event h 0
 behind h (suc n) = due.Memory h (suc n)
 
 -- how many bytes an event has to carry
@@ -61,9 +64,13 @@ checked h event =
     else if length (data_of event) == carried_len h event then Ok tt
     else Err (causes.Bytes (carried_len h event))
 
-abbrev pub event_due : Header → Result (Unit {0}) AssembleCause → Result Due AssembleCause
-event_due h (Ok _) = Ok (due.Event h)
-event_due h (Err cause) = Err cause
+-- behind an event record before which so many stand: the end record has four bytes for their count
+abbrev pub counted : Header → ℕ → Result Due AssembleCause
+counted h count = if nat_lt count 0xffff_ffff then Ok (due.Event h (count + 1)) else Err (causes.Format Count)
+
+abbrev pub event_due : Header → ℕ → Result (Unit {0}) AssembleCause → Result Due AssembleCause
+event_due h count (Ok _) = counted h count
+event_due h count (Err cause) = Err cause
 
 -- what is due behind this line
 abbrev pub due_after : Due → Line → Result Due AssembleCause
@@ -72,8 +79,8 @@ due_after due.Lfts (lines.Header h) =
     if h.version == 3 || h.factor == 1 then Ok (behind h h.memory_count) else Err causes.Factor
 due_after (due.Memory h left) (lines.Memory block bytes) =
     if length bytes.items == h.block then Ok (behind h (left - 1)) else Err (causes.Bytes h.block)
-due_after (due.Event h) (lines.Event r) = event_due h (checked h r.event)
-due_after (due.Event h) (lines.End count) = Ok due.Nothing
+due_after (due.Event h count) (lines.Event r) = event_due h count (checked h r.event)
+due_after (due.Event h count) (lines.End n) = Ok due.Nothing
 due_after now line = Err (causes.Part (part_of now))
 
 -- ---- the lines
@@ -85,22 +92,28 @@ line_bytes (lines.Memory block bytes) = memory_bytes (block, bytes)
 line_bytes (lines.Event r) = record_bytes r
 line_bytes (lines.End count) = end_bytes count
 
--- what was said so far: what is due, and the bytes
-abbrev pub judged : Due → List ℕ → Option CodecFault → Result (Due × List ℕ) AssembleCause
-judged next bytes None = Ok (next, bytes)
-judged next bytes (Some fault) = Err (causes.Format fault.cause)
+-- what was said so far: what is due, what stands for what is left out, and the bytes
+abbrev pub judged : Due → Defaults → List ℕ → Option CodecFault → Result (Due × Defaults × List ℕ) AssembleCause
+judged next defaults bytes None = Ok (next, defaults, bytes)
+judged next defaults bytes (Some fault) = Err (causes.Format fault.cause)
 
-abbrev pub put_behind : List ℕ → Line → Result Due AssembleCause → Result (Due × List ℕ) AssembleCause
-put_behind bytes line (Ok next) = judged next (bytes ++ line_bytes line) (fault_so_far (bytes ++ line_bytes line))
-put_behind bytes line (Err cause) = Err cause
+abbrev pub put_behind : Defaults → List ℕ → Line → Result Due AssembleCause → Result (Due × Defaults × List ℕ) AssembleCause
+put_behind defaults bytes line (Ok next) =
+    judged next (defaults_after defaults line) (bytes ++ line_bytes line) (fault_so_far (bytes ++ line_bytes line))
+put_behind defaults bytes line (Err cause) = Err cause
 
-abbrev pub said : Due → List ℕ → Result Line TextFault → Result (Due × List ℕ) AssembleCause
-said now bytes (Ok line) = put_behind bytes line (due_after now line)
-said now bytes (Err fault) = Err (causes.Text fault)
+abbrev pub said : Due → Defaults → List ℕ → Result Line TextFault → Result (Due × Defaults × List ℕ) AssembleCause
+said now defaults bytes (Ok line) = put_behind defaults bytes line (due_after now line)
+said now defaults bytes (Err fault) = Err (causes.Text fault)
 
 -- one line more
-unfoldable pub added : Due → List ℕ → List ℕ → Result (Due × List ℕ) AssembleCause
-added now bytes text = said now bytes (line_of (ports_of now) text)
+unfoldable pub added : Due → Defaults → List ℕ → List ℕ → Result (Due × Defaults × List ℕ) AssembleCause
+added now defaults bytes text = said now defaults bytes (line_of (ports_of now) defaults text)
+
+-- the bytes behind the last line: the end record stands there where no line said it
+abbrev pub finished : Due → List ℕ → List ℕ
+finished (due.Event h count) bytes = bytes ++ end_bytes count
+finished now bytes = bytes
 
 abbrev pub ended : ℕ → List ℕ → Option CodecFault → Result (List ℕ) AssembleFault
 ended number bytes None = Ok bytes
@@ -111,17 +124,22 @@ abbrev pub or_fault : {A : Type 0} → ℕ → Result A AssembleCause → (A →
 or_fault number (Ok x) f = f x
 or_fault number (Err cause) f = Err (record { line = number; cause = cause })
 
-unfoldable pub assembled : Due → List ℕ → ℕ → List (List ℕ) → Result (List ℕ) AssembleFault
-assembled now bytes number [] = ended number bytes (trace_fault bytes)
-assembled now bytes number (text ∷ texts) =
-    or_fault (number + 1) (added now bytes text) (λ next. assembled next.0 next.1 (number + 1) texts)
+unfoldable pub assembled : Due → Defaults → List ℕ → ℕ → List (List ℕ) → Result (List ℕ) AssembleFault
+assembled now defaults bytes number [] = ended number (finished now bytes) (trace_fault (finished now bytes))
+assembled now defaults bytes number (text ∷ texts) =
+    or_fault (number + 1) (added now defaults bytes text) (λ next. assembled next.0 next.1 next.2 (number + 1) texts)
 
 abbrev pub is_newline : ℕ → Bool
 is_newline b = b == 10
 
--- what a text gives
+-- the least version that has the kinds of these lines
+abbrev pub least_of : List (List ℕ) → ℕ
+least_of [] = 1
+least_of (text ∷ texts) = max (least_version text) (least_of texts)
+
+-- what a text gives, with that version where its header leaves the version out
 abbrev pub assembled_text : List ℕ → Result (List ℕ) AssembleFault
-assembled_text text = assembled due.Lfts [] 0 (slice_split is_newline text)
+assembled_text text = let lines = slice_split is_newline text in assembled due.Lfts (starting (least_of lines)) [] 0 lines
 
 -- the answer is that, or memory ran out
 abbrev pub Assembles : Result (Vec ℕ) AssembleFault → Result (List ℕ) AssembleFault → Type 0

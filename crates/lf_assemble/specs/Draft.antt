@@ -11,7 +11,7 @@ use Rattle.lf_assemble.specs.declared.draft.Draft.{Draft}
 use Rattle.lf_assemble.specs.declared.fault.AssembleFault.{AssembleFault}
 use Rattle.lf_assemble.specs.declared.fault.AssembleCause.{AssembleCause}
 use Rattle.lf_assemble.specs.declared.fault.AssembleCause.TheVariants as causes
-use Rattle.lf_assemble.specs.Assembly.{added, assembled, ended, is_newline}
+use Rattle.lf_assemble.specs.Assembly.{added, finished, assembled, ended, is_newline}
 
 -- The reader was fed these bytes, and no fault stands in them yet.
 pub record IsFine (bytes : List ℕ) (r : Reading) : Type 0 where
@@ -36,8 +36,17 @@ Judges new bytes (Err cause) = (cause ≡ causes.Memory) ⊎ IsForbidden bytes c
 
 -- What one more line does to a draft.
 abbrev pub Adds : Draft → Draft → List ℕ → Result (Unit {0}) AssembleCause → Type 0
-Adds old new text (Ok _) = (added old.due old.bytes.items text ≡ Ok (new.due, new.bytes.items)) × IsDraft new
-Adds old new text (Err cause) = (cause ≡ causes.Memory) ⊎ (added old.due old.bytes.items text ≡ Err cause)
+Adds old new text (Ok _) = (added old.due old.defaults old.bytes.items text ≡ Ok (new.due, new.defaults, new.bytes.items)) × IsDraft new
+Adds old new text (Err cause) = (cause ≡ causes.Memory) ⊎ (added old.due old.defaults old.bytes.items text ≡ Err cause)
+
+-- What the end record does to a draft, where no line said it.
+abbrev pub Closes : Draft → Draft → Result (Unit {0}) AssembleCause → Type 0
+Closes old new (Ok _) = (new.bytes.items ≡ finished old.due old.bytes.items) × IsDraft new
+Closes old new (Err cause) = (cause ≡ causes.Memory) ⊎ IsForbidden (finished old.due old.bytes.items) cause
+
+-- what a draft gives behind so many lines
+abbrev pub whole : ℕ → Draft → Result (List ℕ) AssembleFault
+whole number d = let bytes = finished d.due d.bytes.items in ended number bytes (trace_fault bytes)
 
 -- the lines of what is left of a text, and how much that is
 abbrev pub lines_in : Option (Bor (List ℕ)) → List (List ℕ)
@@ -51,5 +60,5 @@ left_in (Some text) = length text.now + 1
 -- What the lines of a text do to a draft.
 abbrev pub Reads : Draft → Draft → List (List ℕ) → Result ℕ AssembleFault → Type 0
 Reads old new texts (Ok number) =
-    (assembled old.due old.bytes.items 0 texts ≡ ended number new.bytes.items (trace_fault new.bytes.items)) × IsDraft new
-Reads old new texts (Err fault) = (fault.cause ≡ causes.Memory) ⊎ (assembled old.due old.bytes.items 0 texts ≡ Err fault)
+    (assembled old.due old.defaults old.bytes.items 0 texts ≡ whole number new) × IsDraft new
+Reads old new texts (Err fault) = (fault.cause ≡ causes.Memory) ⊎ (assembled old.due old.defaults old.bytes.items 0 texts ≡ Err fault)

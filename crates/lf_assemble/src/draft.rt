@@ -1,16 +1,18 @@
 //! A trace that is being written, line by line.
 
 ghost use Rattle.std.specs.Prelude.{◌≡◌, ◌++◌, ℕ, List, [], None, IfOk};
+ghost use Rattle.lf_codec.specs.Laws.{IsSomeTrace};
 ghost use Rattle.lf_codec.specs.Reading.{trace_fault};
+ghost use Rattle.lf_parse.specs.Defaults.{starting};
 ghost use Rattle.lf_assemble.specs.Assembly.{ended, Assembles};
 ghost use Rattle.lf_assemble.specs.declared.due.Due.TheVariants as due;
-ghost use Rattle.lf_assemble.specs.Draft.{IsFine, IsDraft, Judges, Adds};
+ghost use Rattle.lf_assemble.specs.Draft.{IsFine, IsDraft, Judges, Adds, Closes, whole};
 
 use crate::due::Due;
 use crate::fault::{AssembleCause, AssembleFault};
-use crate::spelling::put_line;
+use crate::spelling::{put_end, put_line};
 use lf_codec::{CodecCause, Reader, fault_so_far};
-use lf_parse::read_line;
+use lf_parse::{Defaults, read_line};
 use std::alloc::Global;
 
 /// The bytes of the lines so far.
@@ -18,6 +20,8 @@ use std::alloc::Global;
 pub(crate) struct Draft {
     /// What the next line has to say.
     due: Due,
+    /// What stands for fields that are left out.
+    defaults: Defaults,
     bytes: Vec<u8>,
     /// It was fed the bytes, and judges them.
     reader: Reader,
@@ -42,14 +46,16 @@ fn judge(reader: &mut Reader, piece: &[u8]) -> Result<(), AssembleCause>
 }
 
 impl Draft {
-    /// A draft of no lines. It takes no memory.
-    pub(crate) fn new(alloc: Global) -> Draft
+    /// A draft of no lines, of this version where the header leaves it out. It takes no memory.
+    pub(crate) fn new(alloc: Global, version: u16) -> Draft
         ensures draft { IsDraft result }
         ensures due { result.due ≡ due.Lfts }
+        ensures defaults { result.defaults ≡ starting version }
         ensures bytes { result.bytes.items ≡ [] }
     {
         Draft {
             due: Due::Lfts,
+            defaults: Defaults::new(version),
             bytes: Vec::new(alloc),
             reader: Reader::new(alloc),
         }
@@ -61,7 +67,7 @@ impl Draft {
         requires { IsDraft self.old }
         ensures { Adds self.old self.new text.now result }
     {
-        let line = match read_line(self.due.ports(), text) {
+        let line = match read_line(self.due.ports(), &self.defaults, text) {
             Ok(line) => line,
             Err(fault) => return Err(AssembleCause::Text(fault)),
         };
@@ -70,14 +76,41 @@ impl Draft {
         put_line(&mut self.bytes, &line)?;
         judge(&mut self.reader, &self.bytes[start..])?;
         self.due = due;
+        self.defaults.pass(&line);
         Ok(())
     }
 
-    /// The bytes, if they are a whole trace, where so many lines were read.
-    pub(crate) fn end(self, line: u64) -> Result<Vec<u8>, AssembleFault>
+    /// Puts the end record behind event records, where no line said it.
+    fn close(&mut self) -> Result<(), AssembleCause>
+        requires { IsDraft self.old }
+        ensures { Closes self.old self.new result }
+    {
+        let Due::Event { count, .. } = self.due else {
+            return Ok(());
+        };
+        let start = self.bytes.len();
+        put_end(&mut self.bytes, count)?;
+        judge(&mut self.reader, &self.bytes[start..])?;
+        Ok(())
+    }
+
+    /// The bytes with their end record, if they are a whole trace, where so many lines were read.
+    pub(crate) fn end(mut self, line: u64) -> Result<Vec<u8>, AssembleFault>
+        requires { IsDraft self }
+        ensures assembles { Assembles result (whole line self) }
+        ensures trace { IfOk result (λ v. IsSomeTrace v.items) }
+    {
+        match self.close() {
+            Ok(()) => self.finish(line),
+            Err(cause) => Err(AssembleFault { line, cause }),
+        }
+    }
+
+    /// The bytes, if they are a whole trace.
+    fn finish(self, line: u64) -> Result<Vec<u8>, AssembleFault>
         requires { IsDraft self }
         ensures assembles { Assembles result (ended line self.bytes.items (trace_fault self.bytes.items)) }
-        ensures whole { IfOk result (λ v. trace_fault v.items ≡ None) }
+        ensures trace { IfOk result (λ v. IsSomeTrace v.items) }
     {
         let Draft {
             bytes,

@@ -3,10 +3,10 @@
 ghost use Rattle.std.specs.Prelude.{◌≡◌, Bool, length};
 ghost use Rattle.lf_codec.specs.Layout.{data_of};
 ghost use Rattle.lf_rules.specs.Fits.{masks_len};
-ghost use Rattle.lf_assemble.specs.Assembly.{ports_of, behind, masks_fit, carried_len, checked, due_after, part_of};
+ghost use Rattle.lf_assemble.specs.Assembly.{ports_of, behind, masks_fit, carried_len, checked, counted, due_after, part_of};
 
 use crate::fault::{AssembleCause, Part};
-use lf_codec::Header;
+use lf_codec::{CodecCause, Header};
 use lf_parse::Line;
 use lf_rules::{Event, Masks, Op};
 
@@ -17,8 +17,8 @@ pub(crate) enum Due {
     Lfts,
     /// One of so many memory records.
     Memory { header: Header, left: u32 },
-    /// An event record, or the end.
-    Event { header: Header },
+    /// An event record, behind so many, or the end.
+    Event { header: Header, count: u32 },
     /// Nothing: the end was before.
     Nothing,
 }
@@ -99,9 +99,21 @@ impl Due {
         ensures { result ≡ behind header left }
     {
         if left == 0 {
-            Due::Event { header }
+            Due::Event { header, count: 0 }
         } else {
             Due::Memory { header, left }
+        }
+    }
+
+    /// What is due behind an event record, before which so many stand.
+    fn counted(header: Header, count: u32) -> Result<Due, AssembleCause>
+        ensures { result ≡ counted header count }
+    {
+        if count < u32::MAX {
+            let count = count + 1;
+            Ok(Due::Event { header, count })
+        } else {
+            Err(AssembleCause::Format(CodecCause::Count))
         }
     }
 
@@ -110,7 +122,7 @@ impl Due {
         ensures { result ≡ ports_of self.now }
     {
         match self {
-            Due::Memory { header, .. } | Due::Event { header } => header.ports,
+            Due::Memory { header, .. } | Due::Event { header, .. } => header.ports,
             Due::Lfts | Due::Nothing => 0,
         }
     }
@@ -145,9 +157,9 @@ impl Due {
                 }
                 Ok(Due::behind(*header, left.saturating_sub(1)))
             }
-            (Due::Event { header }, Line::Event(item)) => {
+            (Due::Event { header, count }, Line::Event(item)) => {
                 check(header, &item.event)?;
-                Ok(Due::Event { header: *header })
+                Due::counted(*header, *count)
             }
             (Due::Event { .. }, Line::End { .. }) => Ok(Due::Nothing),
             (due, _) => Err(AssembleCause::Part(due.part())),

@@ -191,7 +191,8 @@ fn put_record(out: &mut Vec<u8>, item: &Record) -> Result<(), AllocError>
     put_data(out, &item.event)
 }
 
-fn put_end(out: &mut Vec<u8>, count: u32) -> Result<(), AllocError>
+/// Puts the bytes of the end record behind those that are there.
+pub(crate) fn put_end(out: &mut Vec<u8>, count: u32) -> Result<(), AllocError>
     ensures { OnOk result (out.new.items ≡ out.old.items ++ end_bytes count) }
 {
     out.extend_from_slice(&[0, 0, 0, 0])?;

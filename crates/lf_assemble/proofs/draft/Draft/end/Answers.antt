@@ -1,12 +1,12 @@
-use Rattle.std.proofs.Common.{◌∙◌, Some, ap, sym, inr}
-use Rattle.lf_codec.specs.declared.fault.CodecFault.{CodecFault}
-use Rattle.lf_dump.proofs.Faults.{ends_badly}
-use Rattle.lf_assemble.specs.Assembly.{ended}
+use Rattle.std.proofs.Common.{inl, inr}
+use Rattle.lf_assemble.specs.Assembly.{finished}
+use Rattle.lf_assemble.proofs.Judging.{forbidden_ends}
 use Rattle.lf_assemble.proofs.draft.Draft.end.Goals as goal
 
 pub returns-in-Err-clause-assembles : goal.returns-in-Err-clause-assembles
 returns-in-Err-clause-assembles c =
-    let bytes = c.args.self.bytes.items in
-    let ends = c.in-Err.ensures.ends bytes c.requires.memory c.requires.records c.requires.read in
-    let fault = ends_badly bytes _ c.in-Err.told (sym ends) ∙ ap (λ (f : CodecFault). Some f) (sym c.fault.ensures) in
-    inr (ap (ended c.args.line bytes) fault)
+    let bytes = finished c.args.self.due c.args.self.bytes.items in
+    elim c.in-Err.ensures [
+      | inl out ↦ inl out
+      | inr forbidden ↦ inr (forbidden_ends c.args.line bytes c.in-Err.cause forbidden)
+    ]
