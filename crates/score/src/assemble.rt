@@ -3,7 +3,6 @@
 use crate::REFUSED;
 use crate::configuration::bytes_within;
 use crate::trace::{STANDARD_INPUT, Trace};
-use lf_assemble::AssembleFault;
 use std::io::{ErrorKind, Write};
 use std::process::ExitCode;
 use std::rt::Files;
@@ -16,15 +15,18 @@ pub const ABOUT: &str = "Writes the trace whose text this is, as dump prints it"
 pub const HELP: &str = "\
 Nothing is printed where the trace is written. Lines may be empty, and a
 semicolon begins a comment. Between words may stand any spaces and tabs.
-A text that is refused leaves OUT as it was. Where OUT is - the line of a
-refusal goes to standard error.
+A text may leave out version=, which is then the least that has its kinds of
+events and its factor; number=, which is then the next of its bank; and the
+line of the end. A text that is refused leaves OUT as it was. Below the line
+of a refusal stands the line of the text, with a mark under the place. Where
+OUT is - a refusal goes to standard error.
 
 Answers:
   refused text line=3 column=9 expected tag=  the line cannot be read
   refused text line=2 expected memory         another line is due there
   refused text line=4 expected 8 bytes        it carries too many or too few
   refused format WrongBank line=5             no trace may have this record
-  refused format Truncated line=9             there is no end
+  refused format Truncated line=9             the header or the memory lacks lines
   refused read text                           the file cannot be read
   refused write                               the file cannot be written
   refused usage                               the words are none of a command
@@ -40,23 +42,23 @@ Examples:
   score assemble run.text - | score check small.toml -";
 
 /// Why no trace was written.
-#[derive(Clone, Copy, Debug, PartialEq, Eq)]
-pub enum Refusal {
+#[derive(Clone, Copy)]
+pub enum Refusal<'a> {
     /// The text cannot be read, or has 4 GiB or more.
     Read,
     /// The text gives no trace.
-    Text(AssembleFault),
+    Text(lf_assemble::Refusal<'a>),
     /// The trace cannot be written.
     Write,
     /// A growth was refused.
     Memory,
 }
 
-impl fmt::Display for Refusal {
+impl fmt::Display for Refusal<'_> {
     fn fmt<W: fmt::Write>(&self, f: &mut fmt::Formatter<W>) -> fmt::Result {
         match self {
             Refusal::Read => f.write_str("refused read text"),
-            Refusal::Text(fault) => write!(f, "refused {fault}"),
+            Refusal::Text(refusal) => write!(f, "refused {refusal}"),
             Refusal::Write => f.write_str("refused write"),
             Refusal::Memory => f.write_str("refused memory"),
         }
@@ -64,7 +66,7 @@ impl fmt::Display for Refusal {
 }
 
 /// The bytes of the file at this path, or of standard input for `-`.
-fn text_at<T: Input + Files + AllocGlobal>(rt: &T, path: &str) -> Result<Vec<u8>, Refusal>
+fn text_at<T: Input + Files + AllocGlobal>(rt: &T, path: &str) -> Result<Vec<u8>, Refusal<'static>>
 where
     T::File: Drop,
 {
@@ -87,19 +89,28 @@ where
     }
 }
 
-fn assembled<T: Print + Input + Files + AllocGlobal>(
+fn assembled<'a, T: Print + Files + AllocGlobal>(
     rt: &T,
-    text: &str,
+    text: &'a [u8],
     out: &str,
-) -> Result<(), Refusal>
+) -> Result<(), Refusal<'a>>
 where
     T::File: Drop,
 {
-    let text = text_at(rt, text)?;
-    match lf_assemble::assemble(rt.alloc(), text.as_slice()) {
+    match lf_assemble::assemble(rt.alloc(), text) {
         Ok(bytes) => write_to(rt, out, bytes.as_slice()).map_err(|_| Refusal::Write),
-        Err(fault) => Err(Refusal::Text(fault)),
+        Err(fault) => Err(Refusal::Text(lf_assemble::Refusal { fault, text })),
     }
+}
+
+/// Prints why there is no trace.
+fn refuse<T: Print + Eprint>(rt: &T, out: &str, refusal: Refusal<'_>) -> io::Result<ExitCode> {
+    if out == STANDARD_INPUT {
+        eprintln!(rt; "{refusal}")?;
+    } else {
+        println!(rt; "{refusal}")?;
+    }
+    Ok(ExitCode::from(REFUSED))
 }
 
 /// Writes the trace of the text, or prints why there is none.
@@ -111,13 +122,12 @@ pub fn assemble<T: Print + Eprint + Input + Files + AllocGlobal>(
 where
     T::File: Drop,
 {
-    let Err(refusal) = assembled(rt, text, out) else {
-        return Ok(ExitCode::SUCCESS);
+    let text = match text_at(rt, text) {
+        Ok(text) => text,
+        Err(refusal) => return refuse(rt, out, refusal),
     };
-    if out == STANDARD_INPUT {
-        eprintln!(rt; "{refusal}")?;
-    } else {
-        println!(rt; "{refusal}")?;
+    match assembled(rt, text.as_slice(), out) {
+        Ok(()) => Ok(ExitCode::SUCCESS),
+        Err(refusal) => refuse(rt, out, refusal),
     }
-    Ok(ExitCode::from(REFUSED))
 }
