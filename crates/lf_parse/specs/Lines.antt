@@ -2,6 +2,7 @@
 use Rattle.std.specs.Prelude.{◌≡◌, ℕ, ◌+◌, ◌-◌, ◌^◌, ◌<◌, ◌≤◌, Bool, true, ◌==◌, List, [], ◌∷◌, ◌++◌, length, slice_index, codes, if◌then◌else◌, Option, Some, None, Result, Ok, Err}
 use Rattle.std.specs.List.{AllByRecursion}
 use Rattle.std.specs.Fmt.{decimal}
+use Rattle.std.specs.Str.{bytes_eq}
 use Rattle.lf_rules.specs.Fits.{Bytes}
 use Rattle.lf_rules.specs.declared.mask.Mask.{Mask}
 use Rattle.lf_rules.specs.declared.event.Event.{Event}
@@ -19,7 +20,7 @@ use Rattle.lf_parse.specs.declared.word.Word.TheVariants as words
 use Rattle.lf_parse.specs.declared.defaults.Defaults.{Defaults}
 use Rattle.lf_parse.specs.declared.line.Line.{Line}
 use Rattle.lf_parse.specs.declared.line.Line.TheVariants as lines
-use Rattle.lf_parse.specs.Words.{◌>>=◌, is_blank, without_blanks, word_of, after_word, is_over, word_named}
+use Rattle.lf_parse.specs.Words.{◌>>=◌, is_blank, without_blanks, word_of, after_word, is_over, event_word_text, word_named}
 use Rattle.lf_parse.specs.Defaults.{default_version}
 use Rattle.lf_parse.specs.Fields.{lacks, decimal_at, version_at, bytes_at}
 use Rattle.lf_parse.specs.Events.{record_at}
@@ -80,14 +81,13 @@ line_of ports defaults text = placed text (line_from ports defaults (without_bla
 
 -- ---- the version that a line asks for
 
--- the least version that has the kind of this word
-abbrev pub version_of : Option Word → ℕ
-version_of (Some (words.Event kinds.Fence)) = 2
-version_of (Some (words.Event kinds.SecondMerge)) = 3
-version_of word = 1
+-- the least version that has the kind of this word: the words of the others are in each version
+abbrev pub version_of : List ℕ → ℕ
+version_of word =
+    if bytes_eq (event_word_text kinds.Fence) word then 2 else if bytes_eq (event_word_text kinds.SecondMerge) word then 3 else 1
 
 abbrev pub least_version : List ℕ → ℕ
-least_version text = version_of (word_named (word_of (without_blanks text)))
+least_version text = version_of (word_of (without_blanks text))
 
 -- ---- printing
 

@@ -134,13 +134,15 @@ fn line_from(ports: u8, defaults: &Defaults, text: &[u8]) -> Result<Line, Lack>
 }
 
 /// The least version that has the kind of this word.
-fn version_of(word: Option<Word>) -> u16
-    ensures { result ≡ version_of word }
+fn version_of(word: &[u8]) -> u16
+    ensures { result ≡ version_of word.now }
 {
-    match word {
-        Some(Word::Event(EventWord::Fence)) => 2,
-        Some(Word::Event(EventWord::SecondMerge)) => 3,
-        _ => 1,
+    if EventWord::Fence.text().as_bytes() == word {
+        2
+    } else if EventWord::SecondMerge.text().as_bytes() == word {
+        3
+    } else {
+        1
     }
 }
 
@@ -148,8 +150,7 @@ fn version_of(word: Option<Word>) -> u16
 pub fn least_version(text: &[u8]) -> u16
     ensures { result ≡ least_version text.now }
 {
-    let (first, _) = split_word(without_blanks(text));
-    version_of(Word::named(first))
+    version_of(split_word(without_blanks(text)).0)
 }
 
 /// What the line says, in a trace of so many ports. A part, its fields and a comment may have any blanks

@@ -34,7 +34,7 @@ pub(crate) enum Word {
 }
 
 impl EventWord {
-    fn text(self) -> &'static str
+    pub(crate) fn text(self) -> &'static str
         ensures { result.now ≡ event_word_text self }
     {
         match self {
