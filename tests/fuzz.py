@@ -33,7 +33,8 @@ ANSWER = re.compile(
 COUNTS = re.compile(rb"(bank=\d+ hits=\d+ primary=\d+ merges=\d+ stalls=\d+ peak=\d+\n)+(port=\d+ unanswered=\d+\n)+")
 DUMPED = re.compile(rb"(?:[a-z].*\n)*(?:end count=\d+ ; at \d+|(refused (?:format \w+ at=\d+|memory|read trace)))\n")
 NOT_ASSEMBLED = re.compile(
-    rb"refused (text line=\d+ (column=\d+ )?expected [ -~]+|format \w+( line=\d+)?|read text|write|memory)\n"
+    rb"refused (text line=\d+ (column=\d+ )?expected [ -~]+|format \w+ line=\d+)\n\d+ \| [ -~]*\n +\| +\^ [ -~]+\n"
+    rb"|refused (read text|write|memory)\n"
 )
 COMMANDS = ("check", "check", "check", "check", "stats", "explain", "dump", "assemble", "assemble")
 STATUS = {b"yes": 0, b"no": 1, b"refused": 2, b"bank": 0}
