@@ -1,0 +1,10 @@
+use Rattle.std.proofs.Common.{◌∙◌, Some, ap, sym}
+use Rattle.lf_codec.specs.declared.fault.CodecFault.{CodecFault}
+use Rattle.lf_codec.specs.Reading.{reading_of}
+use Rattle.lf_dump.proofs.Faults.{ends_badly}
+use Rattle.lf_view.proofs.drawer.Drawer.close.Goals as goal
+
+pub returns-in-Err : goal.returns-in-Err
+returns-in-Err c view bytes drawn =
+    ap (λ (f : CodecFault). Some f) c.fault.ensures
+    ∙ sym (ends_badly bytes _ c.in-Err.told (sym (c.in-Err.ensures.ends bytes (reading_of bytes).memory (reading_of bytes).records drawn.read)))

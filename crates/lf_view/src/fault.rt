@@ -1,0 +1,44 @@
+//! Why a wave stopped.
+
+use lf_rules::NoMemory;
+use lf_stream::NotWritten;
+use thiserror::Error;
+
+/// Why a wave is not that of all bytes.
+#[derive(Clone, Copy, Debug, PartialEq, Eq, Error)]
+pub enum ViewFault {
+    /// A read failed.
+    #[error("the trace could not be read")]
+    Read,
+    /// More reads were needed than the caller allowed.
+    #[error("the trace took too many reads")]
+    Turns,
+    /// A growth was refused.
+    #[error("out of memory")]
+    Memory,
+    /// A write failed, or took nothing.
+    #[error("the wave could not be written")]
+    Write,
+}
+
+impl From<NotWritten> for ViewFault {
+    ghost use Rattle.std.specs.Prelude.{◌≡◌};
+    ghost use Rattle.lf_view.specs.declared.fault.ViewFault.{ViewFault};
+
+    ghost from_gives = { λ _ fault. fault ≡ ViewFault.Write };
+
+    fn from(_fault: NotWritten) -> Self {
+        ViewFault::Write
+    }
+}
+
+impl From<NoMemory> for ViewFault {
+    ghost use Rattle.std.specs.Prelude.{◌≡◌};
+    ghost use Rattle.lf_view.specs.declared.fault.ViewFault.{ViewFault};
+
+    ghost from_gives = { λ _ fault. fault ≡ ViewFault.Memory };
+
+    fn from(_fault: NoMemory) -> Self {
+        ViewFault::Memory
+    }
+}

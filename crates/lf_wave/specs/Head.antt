@@ -1,0 +1,89 @@
+-- The head of a wave: the scopes with their signals, and the values before the first record that is shown.
+use Rattle.std.specs.Prelude.{ℕ, false, List, ◌++◌, codes, flat_map}
+use Rattle.std.specs.List.{range_with_len}
+use Rattle.std.specs.Fmt.{decimal}
+use Rattle.lf_wave.specs.declared.signal.Signal.{Signal}
+use Rattle.lf_wave.specs.declared.signal.Signal.TheVariants as signals
+use Rattle.lf_wave.specs.declared.view.View.{View}
+use Rattle.lf_wave.specs.Signals.{line, identifier, bit_change, number_change}
+use Rattle.lf_wave.specs.Wave.{time}
+
+-- ---- signals
+
+-- the name of a signal, behind its identifier
+abbrev pub named : Signal → List ℕ → List ℕ
+named signal name = identifier signal ++ (codes " " ++ (name ++ line (codes " $end")))
+
+-- its values are texts
+abbrev pub text_variable : Signal → List ℕ → List ℕ
+text_variable signal name = codes "$var string 1 " ++ named signal name
+
+-- its values are numbers of so many bits
+abbrev pub number_variable : ℕ → Signal → List ℕ → List ℕ
+number_variable width signal name = codes "$var wire " ++ (decimal width ++ (codes " " ++ named signal name))
+
+-- whether a tag is busy
+abbrev pub tag_variable : ℕ → ℕ → List ℕ
+tag_variable port tag = codes "$var wire 1 " ++ named (signals.Busy port tag) (codes "tag" ++ decimal tag)
+
+-- ---- scopes
+
+abbrev pub scope_begin : List ℕ → ℕ → List ℕ
+scope_begin kind index = codes "$scope module " ++ (kind ++ (decimal index ++ line (codes " $end")))
+
+abbrev pub scope_end : List ℕ
+scope_end = line (codes "$upscope $end")
+
+abbrev pub port_values : ℕ → List ℕ
+port_values port =
+    text_variable (signals.PortEvent port) (codes "event") ++ (number_variable 8 (signals.PortTag port) (codes "tag [7:0]")
+    ++ (number_variable 64 (signals.Address port) (codes "address [63:0]") ++ number_variable 16 (signals.Outstanding port) (codes "outstanding [15:0]")))
+
+abbrev pub tag_variables : ℕ → ℕ → List ℕ
+tag_variables tags port = flat_map (tag_variable port) (range_with_len 0 tags)
+
+abbrev pub port_scope : ℕ → ℕ → List ℕ
+port_scope tags port = scope_begin (codes "port") port ++ (port_values port ++ (tag_variables tags port ++ scope_end))
+
+abbrev pub port_scopes : ℕ → ℕ → List ℕ
+port_scopes tags ports = flat_map (port_scope tags) (range_with_len 0 ports)
+
+abbrev pub bank_values : ℕ → List ℕ
+bank_values bank =
+    text_variable (signals.BankEvent bank) (codes "event") ++ (number_variable 32 (signals.Number bank) (codes "number [31:0]")
+    ++ (number_variable 8 (signals.Requester bank) (codes "port [7:0]") ++ (number_variable 8 (signals.BankTag bank) (codes "tag [7:0]")
+    ++ (number_variable 32 (signals.Block bank) (codes "block [31:0]") ++ number_variable 16 (signals.Register bank) (codes "register [15:0]")))))
+
+abbrev pub bank_scope : ℕ → List ℕ
+bank_scope bank = scope_begin (codes "bank") bank ++ (bank_values bank ++ scope_end)
+
+abbrev pub bank_scopes : ℕ → List ℕ
+bank_scopes banks = flat_map bank_scope (range_with_len 0 banks)
+
+abbrev pub scopes : ℕ → ℕ → ℕ → List ℕ
+scopes tags ports banks =
+    line (codes "$scope module score $end") ++ (number_variable 1 signals.Fault (codes "fault") ++ (text_variable signals.Rule (codes "rule")
+    ++ (port_scopes tags ports ++ (bank_scopes banks ++ scope_end))))
+
+-- ---- the first values: no fault, and no tag is busy
+
+abbrev pub tag_start : ℕ → ℕ → List ℕ
+tag_start port tag = bit_change false (signals.Busy port tag)
+
+abbrev pub tag_starts : ℕ → ℕ → List ℕ
+tag_starts tags port = flat_map (tag_start port) (range_with_len 0 tags)
+
+abbrev pub port_start : ℕ → ℕ → List ℕ
+port_start tags port = number_change 0 (signals.Outstanding port) ++ tag_starts tags port
+
+abbrev pub port_starts : ℕ → ℕ → List ℕ
+port_starts tags ports = flat_map (port_start tags) (range_with_len 0 ports)
+
+abbrev pub start : View → ℕ → List ℕ
+start view ports =
+    time view.from (codes "0") ++ (line (codes "$dumpvars") ++ (bit_change false signals.Fault ++ (port_starts view.tags ports ++ line (codes "$end"))))
+
+-- The head. A time is counted in tenths of a nanosecond.
+abbrev pub head_text : View → ℕ → ℕ → List ℕ
+head_text view ports banks =
+    line (codes "$timescale 100 ps $end") ++ (scopes view.tags ports banks ++ (line (codes "$enddefinitions $end") ++ start view ports))

@@ -1,0 +1,140 @@
+-- The wave of a trace: what each record changes. A record's place is the number of records that stand before it.
+use Rattle.std.specs.Prelude.{ℕ, ◌+◌, ◌==◌, ◌&&◌, ◌||◌, not, Bool, true, false, List, [], ◌∷◌, ◌++◌, codes, nat_le, if◌then◌else◌, Option, Some, None, filter, count_by, flat_map}
+use Rattle.std.specs.Fmt.{decimal}
+use Rattle.lf_rules.specs.Text.{rule_text}
+use Rattle.lf_rules.specs.declared.event.Event.{Event}
+use Rattle.lf_rules.specs.declared.event.Event.TheVariants as events
+use Rattle.lf_rules.specs.declared.event.Record.{Record}
+use Rattle.lf_text.specs.Text.{word_of}
+use Rattle.lf_wave.specs.declared.busy.BusyTag.{BusyTag}
+use Rattle.lf_wave.specs.declared.signal.Signal.{Signal}
+use Rattle.lf_wave.specs.declared.signal.Signal.TheVariants as signals
+use Rattle.lf_wave.specs.declared.view.Marker.{Marker}
+use Rattle.lf_wave.specs.declared.view.View.{View}
+use Rattle.lf_wave.specs.Signals.{line, bit_change, number_change, text_change, busy_change}
+
+-- ---- busy tags: an issue makes its tag busy, and a reply frees it
+
+abbrev pub is_other : ℕ → ℕ → BusyTag → Bool
+is_other port tag b = not (b.port == port) || not (b.tag == tag)
+
+abbrev pub busy_by : Event → ℕ → List BusyTag → List BusyTag
+busy_by (events.Issue op tag size address bytes) port busy = filter (is_other port tag) busy ++ (record { port = port; tag = tag }) ∷ []
+busy_by (events.Reply tag size bytes) port busy = filter (is_other port tag) busy
+busy_by _ port busy = busy
+
+-- the busy tags after a record
+abbrev pub busy_after : List BusyTag → Record → List BusyTag
+busy_after busy r = busy_by r.event r.log busy
+
+-- how many tags of the port are busy
+abbrev pub outstanding : List BusyTag → ℕ → ℕ
+outstanding busy port = count_by (λ b. b.port == port) busy
+
+-- ---- what a record changes
+
+-- the signal that has its word: its port's or its bank's
+abbrev pub event_signal : ℕ → ℕ → Event → Signal
+event_signal log bank (events.Issue op tag size address bytes) = signals.PortEvent log
+event_signal log bank (events.Reply tag size bytes) = signals.PortEvent log
+event_signal log bank events.Fence = signals.PortEvent log
+event_signal log bank event = signals.BankEvent bank
+
+-- what a port's record names, its tag, and how many of the port's tags are busy then
+abbrev pub port_changes : ℕ → ℕ → ℕ → Event → List ℕ
+port_changes tags busy port (events.Issue op tag size address bytes) =
+    number_change tag (signals.PortTag port) ++ (number_change address (signals.Address port)
+    ++ (busy_change tags true port tag ++ number_change busy (signals.Outstanding port)))
+port_changes tags busy port (events.Reply tag size bytes) =
+    number_change tag (signals.PortTag port) ++ (busy_change tags false port tag ++ number_change busy (signals.Outstanding port))
+port_changes tags busy port event = []
+
+-- the request that a bank's record names
+abbrev pub request_changes : ℕ → ℕ → ℕ → List ℕ
+request_changes bank port tag = number_change port (signals.Requester bank) ++ number_change tag (signals.BankTag bank)
+
+-- what a bank's record names
+abbrev pub bank_changes : ℕ → Event → List ℕ
+bank_changes bank (events.Hit port tag) = request_changes bank port tag
+bank_changes bank (events.Stall port tag) = request_changes bank port tag
+bank_changes bank (events.Primary port tag register) = request_changes bank port tag ++ number_change register (signals.Register bank)
+bank_changes bank (events.Merge port tag register) = request_changes bank port tag ++ number_change register (signals.Register bank)
+bank_changes bank (events.SecondPrimary block register) = number_change block (signals.Block bank) ++ number_change register (signals.Register bank)
+bank_changes bank (events.SecondMerge block register) = number_change block (signals.Block bank) ++ number_change register (signals.Register bank)
+bank_changes bank (events.Fill1 block bytes) = number_change block (signals.Block bank)
+bank_changes bank (events.Evict1 block mask bytes) = number_change block (signals.Block bank)
+bank_changes bank (events.SecondHit block) = number_change block (signals.Block bank)
+bank_changes bank (events.SecondStall block) = number_change block (signals.Block bank)
+bank_changes bank (events.Fill2 second bytes) = number_change second (signals.Block bank)
+bank_changes bank (events.Evict2 second masks bytes) = number_change second (signals.Block bank)
+bank_changes bank event = []
+
+abbrev pub named_by : ℕ → ℕ → ℕ → ℕ → ℕ → Event → List ℕ
+named_by tags busy log bank number (events.Issue op tag size address bytes) = port_changes tags busy log (events.Issue op tag size address bytes)
+named_by tags busy log bank number (events.Reply tag size bytes) = port_changes tags busy log (events.Reply tag size bytes)
+named_by tags busy log bank number events.Fence = []
+named_by tags busy log bank number event = number_change number (signals.Number bank) ++ bank_changes bank event
+
+-- all that a record changes, where so many tags of its port are busy then
+abbrev pub record_changes : ℕ → ℕ → Record → List ℕ
+record_changes tags busy r = text_change (word_of r.event) (event_signal r.log r.bank r.event) ++ named_by tags busy r.log r.bank r.number r.event
+
+-- ---- the wave
+
+-- a time, in tenths of a nanosecond
+abbrev pub time : ℕ → List ℕ → List ℕ
+time place tenth = codes "#" ++ (decimal place ++ line tenth)
+
+-- a tag that is busy where the wave begins, and how many of its port are
+abbrev pub standing_tag : ℕ → List BusyTag → BusyTag → List ℕ
+standing_tag tags busy b = busy_change tags true b.port b.tag ++ number_change (outstanding busy b.port) (signals.Outstanding b.port)
+
+abbrev pub standing_tags : ℕ → List BusyTag → List ℕ
+standing_tags tags busy = flat_map (standing_tag tags busy) busy
+
+abbrev pub standing : View → ℕ → List BusyTag → List ℕ
+standing view place busy = if place == view.from then standing_tags view.tags busy else []
+
+-- the mark of the record that is at fault
+abbrev pub mark : Option Marker → ℕ → List ℕ
+mark (Some m) place = if place == m.place then bit_change true signals.Fault ++ text_change (rule_text m.rule) signals.Rule else []
+mark None place = []
+
+-- A record at its place, where these tags are busy then. It has one nanosecond, and its word is taken away before the next one.
+abbrev pub moment : View → ℕ → List BusyTag → Record → List ℕ
+moment view place busy r =
+    time place (codes "0") ++ (standing view place busy ++ (mark view.marker place
+    ++ (record_changes view.tags (outstanding busy r.log) r
+    ++ (time place (codes "9") ++ text_change [] (event_signal r.log r.bank r.event)))))
+
+abbrev pub is_shown : View → ℕ → Bool
+is_shown view place = nat_le view.from place && nat_le place view.to
+
+abbrev pub shown : View → ℕ → List BusyTag → Record → List ℕ
+shown view place busy r = if is_shown view place then moment view place busy r else []
+
+-- how far a wave is drawn: what it shows, how many records there were, and the tags that are busy after them
+pub record Drawn : Type 0 where
+  pub view : View
+  pub place : ℕ
+  pub busy : List BusyTag
+
+abbrev pub undrawn : View → Drawn
+undrawn view = record { view = view; place = 0; busy = [] }
+
+-- one record more
+abbrev pub next : Drawn → Record → Drawn
+next wave r = record { view = wave.view; place = wave.place + 1; busy = busy_after wave.busy r }
+
+abbrev pub drawn_after : Drawn → List Record → Drawn
+drawn_after wave [] = wave
+drawn_after wave (r ∷ records) = drawn_after (next wave r) records
+
+-- the wave of the record that comes next
+abbrev pub next_shown : Drawn → Record → List ℕ
+next_shown wave r = shown wave.view wave.place (busy_after wave.busy r) r
+
+-- the wave of these records, from here on
+abbrev pub wave_from : Drawn → List Record → List ℕ
+wave_from wave [] = []
+wave_from wave (r ∷ records) = next_shown wave r ++ wave_from (next wave r) records

@@ -1,0 +1,102 @@
+//! The lines that give a signal a value.
+
+ghost use Rattle.std.specs.Prelude.{◌≡◌, Some};
+ghost use Rattle.lf_wave.specs.Signals.{bit_text, bit_change, number_change, text_change, busy_change};
+
+use crate::signal::Signal;
+use std::fmt;
+
+fn bit_text(up: bool) -> &'static str
+    ensures { result.now ≡ bit_text up }
+{
+    if up { "1" } else { "0" }
+}
+
+/// A signal of one bit is 1 or 0 from now on.
+#[derive(Clone, Copy)]
+pub struct BitChange {
+    pub up: bool,
+    pub signal: Signal,
+}
+
+impl fmt::Display for BitChange {
+    ghost output = { λ change. Some (bit_change change.up change.signal) };
+
+    fn fmt<W: fmt::Write>(&self, f: &mut fmt::Formatter<W>) -> fmt::Result {
+        let signal = self.signal;
+        let bit = bit_text(self.up);
+        write!(f, "{bit}{signal}\n")
+    }
+}
+
+/// A signal is this number from now on.
+#[derive(Clone, Copy)]
+pub struct NumberChange {
+    pub value: u64,
+    pub signal: Signal,
+}
+
+impl NumberChange {
+    pub fn new(value: u64, signal: Signal) -> NumberChange
+        ensures { result ≡ record { value = value; signal = signal } }
+    {
+        NumberChange { value, signal }
+    }
+}
+
+impl fmt::Display for NumberChange {
+    ghost output = { λ change. Some (number_change change.value change.signal) };
+
+    fn fmt<W: fmt::Write>(&self, f: &mut fmt::Formatter<W>) -> fmt::Result {
+        let NumberChange { value, signal } = *self;
+        write!(f, "b{value:b} {signal}\n")
+    }
+}
+
+/// A signal is this text from now on.
+#[derive(Clone, Copy)]
+pub struct TextChange<'a> {
+    pub text: &'a str,
+    pub signal: Signal,
+}
+
+impl fmt::Display for TextChange<'_> {
+    ghost output = { λ change. Some (text_change change.text.now change.signal) };
+
+    fn fmt<W: fmt::Write>(&self, f: &mut fmt::Formatter<W>) -> fmt::Result {
+        let TextChange { text, signal } = *self;
+        write!(f, "s{text} {signal}\n")
+    }
+}
+
+/// A tag is busy or free from now on, where it is one of those that have a signal.
+#[derive(Clone, Copy)]
+pub struct BusyChange {
+    pub tags: u16,
+    pub up: bool,
+    pub port: u8,
+    pub tag: u8,
+}
+
+impl fmt::Display for BusyChange {
+    ghost output = { λ change. Some (busy_change change.tags change.up change.port change.tag) };
+
+    fn fmt<W: fmt::Write>(&self, f: &mut fmt::Formatter<W>) -> fmt::Result {
+        let BusyChange {
+            tags,
+            up,
+            port,
+            tag,
+        } = *self;
+        let tag = u16::from(tag);
+        if tag < tags {
+            let change = BitChange {
+                up,
+                signal: Signal::Busy { port, tag },
+            };
+            write!(f, "{change}")
+        } else {
+            Ok(())
+        }
+    }
+}

@@ -1,0 +1,386 @@
+//! The head of a wave: its scopes, its signals, and their first values.
+
+ghost use Rattle.std.specs.Prelude.{Some};
+ghost use Rattle.lf_wave.specs.Head.{scope_begin, scope_end, port_scope, port_scopes, bank_scope, bank_scopes, scopes};
+ghost use Rattle.lf_wave.specs.Head.{tag_starts, port_start, port_starts, start, head_text, port_values, bank_values};
+ghost use Rattle.lf_wave.specs.Head.{tag_variable, tag_variables};
+
+use crate::change::{BitChange, NumberChange};
+use crate::moment::Time;
+use crate::signal::Signal;
+use crate::variable::{NumberVariable, TextVariable};
+use crate::view::View;
+use std::fmt;
+
+/// The line at which a scope begins.
+#[derive(Clone, Copy)]
+struct ScopeBegin {
+    kind: &'static str,
+    index: u8,
+}
+
+impl fmt::Display for ScopeBegin {
+    ghost output = { λ s. Some (scope_begin s.kind.now s.index) };
+
+    fn fmt<W: fmt::Write>(&self, f: &mut fmt::Formatter<W>) -> fmt::Result {
+        let ScopeBegin { kind, index } = *self;
+        write!(f, "$scope module {kind}{index} $end\n")
+    }
+}
+
+/// The line at which one ends.
+#[derive(Clone, Copy)]
+struct ScopeEnd;
+
+impl fmt::Display for ScopeEnd {
+    ghost output = { λ _. Some scope_end };
+
+    fn fmt<W: fmt::Write>(&self, f: &mut fmt::Formatter<W>) -> fmt::Result {
+        write!(f, "$upscope $end\n")
+    }
+}
+
+/// The line of a tag's signal.
+#[derive(Clone, Copy)]
+struct TagVariable {
+    port: u8,
+    tag: u16,
+}
+
+impl fmt::Display for TagVariable {
+    ghost output = { λ v. Some (tag_variable v.port v.tag) };
+
+    fn fmt<W: fmt::Write>(&self, f: &mut fmt::Formatter<W>) -> fmt::Result {
+        let TagVariable { port, tag } = *self;
+        let signal = Signal::Busy { port, tag };
+        write!(f, "$var wire 1 {signal} tag{tag} $end\n")
+    }
+}
+
+/// Those of the tags of a port.
+#[derive(Clone, Copy)]
+struct TagVariables {
+    port: u8,
+    tags: u16,
+}
+
+impl fmt::Display for TagVariables {
+    ghost output = { λ v. Some (tag_variables v.tags v.port) };
+
+    fn fmt<W: fmt::Write>(&self, f: &mut fmt::Formatter<W>) -> fmt::Result {
+        for tag in 0..self.tags {
+            let variable = TagVariable {
+                port: self.port,
+                tag,
+            };
+            write!(f, "{variable}")?;
+        }
+        Ok(())
+    }
+}
+
+/// The lines of the other signals of a port.
+#[derive(Clone, Copy)]
+struct PortValues {
+    port: u8,
+}
+
+impl fmt::Display for PortValues {
+    ghost output = { λ v. Some (port_values v.port) };
+
+    fn fmt<W: fmt::Write>(&self, f: &mut fmt::Formatter<W>) -> fmt::Result {
+        let port = self.port;
+        let event = TextVariable {
+            signal: Signal::PortEvent { port },
+            name: "event",
+        };
+        let tag = NumberVariable {
+            width: 8,
+            signal: Signal::PortTag { port },
+            name: "tag [7:0]",
+        };
+        let address = NumberVariable {
+            width: 64,
+            signal: Signal::Address { port },
+            name: "address [63:0]",
+        };
+        let outstanding = NumberVariable {
+            width: 16,
+            signal: Signal::Outstanding { port },
+            name: "outstanding [15:0]",
+        };
+        write!(f, "{event}{tag}{address}{outstanding}")
+    }
+}
+
+/// The scope of a port.
+#[derive(Clone, Copy)]
+struct PortScope {
+    tags: u16,
+    port: u8,
+}
+
+impl fmt::Display for PortScope {
+    ghost output = { λ s. Some (port_scope s.tags s.port) };
+
+    fn fmt<W: fmt::Write>(&self, f: &mut fmt::Formatter<W>) -> fmt::Result {
+        let PortScope { tags, port } = *self;
+        let begin = ScopeBegin {
+            kind: "port",
+            index: port,
+        };
+        let values = PortValues { port };
+        let busy = TagVariables { port, tags };
+        let end = ScopeEnd;
+        write!(f, "{begin}{values}{busy}{end}")
+    }
+}
+
+/// The scopes of all ports.
+#[derive(Clone, Copy)]
+struct PortScopes {
+    tags: u16,
+    ports: u8,
+}
+
+impl fmt::Display for PortScopes {
+    ghost output = { λ s. Some (port_scopes s.tags s.ports) };
+
+    fn fmt<W: fmt::Write>(&self, f: &mut fmt::Formatter<W>) -> fmt::Result {
+        for port in 0..self.ports {
+            let scope = PortScope {
+                tags: self.tags,
+                port,
+            };
+            write!(f, "{scope}")?;
+        }
+        Ok(())
+    }
+}
+
+/// The lines of a bank's signals.
+#[derive(Clone, Copy)]
+struct BankValues {
+    bank: u8,
+}
+
+impl fmt::Display for BankValues {
+    ghost output = { λ v. Some (bank_values v.bank) };
+
+    fn fmt<W: fmt::Write>(&self, f: &mut fmt::Formatter<W>) -> fmt::Result {
+        let bank = self.bank;
+        let event = TextVariable {
+            signal: Signal::BankEvent { bank },
+            name: "event",
+        };
+        let number = NumberVariable {
+            width: 32,
+            signal: Signal::Number { bank },
+            name: "number [31:0]",
+        };
+        let port = NumberVariable {
+            width: 8,
+            signal: Signal::Requester { bank },
+            name: "port [7:0]",
+        };
+        let tag = NumberVariable {
+            width: 8,
+            signal: Signal::BankTag { bank },
+            name: "tag [7:0]",
+        };
+        let block = NumberVariable {
+            width: 32,
+            signal: Signal::Block { bank },
+            name: "block [31:0]",
+        };
+        let register = NumberVariable {
+            width: 16,
+            signal: Signal::Register { bank },
+            name: "register [15:0]",
+        };
+        write!(f, "{event}{number}{port}{tag}{block}{register}")
+    }
+}
+
+/// The scope of a bank.
+#[derive(Clone, Copy)]
+struct BankScope {
+    bank: u8,
+}
+
+impl fmt::Display for BankScope {
+    ghost output = { λ s. Some (bank_scope s.bank) };
+
+    fn fmt<W: fmt::Write>(&self, f: &mut fmt::Formatter<W>) -> fmt::Result {
+        let bank = self.bank;
+        let begin = ScopeBegin {
+            kind: "bank",
+            index: bank,
+        };
+        let values = BankValues { bank };
+        let end = ScopeEnd;
+        write!(f, "{begin}{values}{end}")
+    }
+}
+
+/// The scopes of all banks.
+#[derive(Clone, Copy)]
+struct BankScopes {
+    banks: u8,
+}
+
+impl fmt::Display for BankScopes {
+    ghost output = { λ s. Some (bank_scopes s.banks) };
+
+    fn fmt<W: fmt::Write>(&self, f: &mut fmt::Formatter<W>) -> fmt::Result {
+        for bank in 0..self.banks {
+            let scope = BankScope { bank };
+            write!(f, "{scope}")?;
+        }
+        Ok(())
+    }
+}
+
+/// All scopes.
+#[derive(Clone, Copy)]
+struct Scopes {
+    tags: u16,
+    ports: u8,
+    banks: u8,
+}
+
+impl fmt::Display for Scopes {
+    ghost output = { λ s. Some (scopes s.tags s.ports s.banks) };
+
+    fn fmt<W: fmt::Write>(&self, f: &mut fmt::Formatter<W>) -> fmt::Result {
+        let Scopes { tags, ports, banks } = *self;
+        let fault = NumberVariable {
+            width: 1,
+            signal: Signal::Fault,
+            name: "fault",
+        };
+        let rule = TextVariable {
+            signal: Signal::Rule,
+            name: "rule",
+        };
+        let ports = PortScopes { tags, ports };
+        let banks = BankScopes { banks };
+        let end = ScopeEnd;
+        write!(f, "$scope module score $end\n{fault}{rule}{ports}{banks}{end}")
+    }
+}
+
+/// The tags of a port, all free.
+#[derive(Clone, Copy)]
+struct TagStarts {
+    port: u8,
+    tags: u16,
+}
+
+impl fmt::Display for TagStarts {
+    ghost output = { λ s. Some (tag_starts s.tags s.port) };
+
+    fn fmt<W: fmt::Write>(&self, f: &mut fmt::Formatter<W>) -> fmt::Result {
+        for tag in 0..self.tags {
+            let free = BitChange {
+                up: false,
+                signal: Signal::Busy {
+                    port: self.port,
+                    tag,
+                },
+            };
+            write!(f, "{free}")?;
+        }
+        Ok(())
+    }
+}
+
+/// A port with no busy tag.
+#[derive(Clone, Copy)]
+struct PortStart {
+    tags: u16,
+    port: u8,
+}
+
+impl fmt::Display for PortStart {
+    ghost output = { λ s. Some (port_start s.tags s.port) };
+
+    fn fmt<W: fmt::Write>(&self, f: &mut fmt::Formatter<W>) -> fmt::Result {
+        let PortStart { tags, port } = *self;
+        let none = NumberChange::new(0, Signal::Outstanding { port });
+        let free = TagStarts { port, tags };
+        write!(f, "{none}{free}")
+    }
+}
+
+/// All ports, with no busy tag.
+#[derive(Clone, Copy)]
+struct PortStarts {
+    tags: u16,
+    ports: u8,
+}
+
+impl fmt::Display for PortStarts {
+    ghost output = { λ s. Some (port_starts s.tags s.ports) };
+
+    fn fmt<W: fmt::Write>(&self, f: &mut fmt::Formatter<W>) -> fmt::Result {
+        for port in 0..self.ports {
+            let start = PortStart {
+                tags: self.tags,
+                port,
+            };
+            write!(f, "{start}")?;
+        }
+        Ok(())
+    }
+}
+
+/// The values before the first record that is shown.
+#[derive(Clone, Copy)]
+struct Start<'a> {
+    view: &'a View,
+    ports: u8,
+}
+
+impl fmt::Display for Start<'_> {
+    ghost output = { λ s. Some (start s.view.now s.ports) };
+
+    fn fmt<W: fmt::Write>(&self, f: &mut fmt::Formatter<W>) -> fmt::Result {
+        let time = Time {
+            place: self.view.from,
+            tenth: "0",
+        };
+        let fine = BitChange {
+            up: false,
+            signal: Signal::Fault,
+        };
+        let ports = PortStarts {
+            tags: self.view.tags,
+            ports: self.ports,
+        };
+        write!(f, "{time}$dumpvars\n{fine}{ports}$end\n")
+    }
+}
+
+/// The head of the wave of a trace with so many ports and banks.
+#[derive(Clone, Copy)]
+pub struct Head<'a> {
+    pub view: &'a View,
+    pub ports: u8,
+    pub banks: u8,
+}
+
+impl fmt::Display for Head<'_> {
+    ghost output = { λ head. Some (head_text head.view.now head.ports head.banks) };
+
+    fn fmt<W: fmt::Write>(&self, f: &mut fmt::Formatter<W>) -> fmt::Result {
+        let Head { view, ports, banks } = *self;
+        let scopes = Scopes {
+            tags: view.tags,
+            ports,
+            banks,
+        };
+        let start = Start { view, ports };
+        write!(f, "$timescale 100 ps $end\n{scopes}$enddefinitions $end\n{start}")
+    }
+}

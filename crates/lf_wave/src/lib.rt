@@ -1,0 +1,22 @@
+//! The waveform of a trace, in the text form VCD that GTKWave and other viewers read.
+//!
+//! The records of a trace stand at one nanosecond each, in the order of the file. A port and a bank each
+//! have a scope, with the word of their record, what it names, and for a port its busy tags. `specs/Wave`
+//! says the text exactly: what stands at the head, and what each record changes.
+#![tactic(auto)]
+
+mod busy;
+mod change;
+mod changes;
+mod event;
+mod head;
+mod moment;
+mod signal;
+mod variable;
+mod view;
+mod wave;
+
+pub use busy::BusyTag;
+pub use signal::Signal;
+pub use view::{Marker, View};
+pub use wave::Wave;

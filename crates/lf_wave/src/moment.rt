@@ -1,0 +1,173 @@
+//! A record at its place.
+
+ghost use Rattle.std.specs.Prelude.{Some};
+ghost use Rattle.lf_wave.specs.Wave.{time, standing_tag, standing_tags, standing, mark, moment};
+
+use crate::busy::{BusyTag, outstanding};
+use crate::change::{BitChange, BusyChange, NumberChange, TextChange};
+use crate::changes::RecordChanges;
+use crate::event::event_signal;
+use crate::signal::Signal;
+use crate::view::{Marker, View};
+use lf_rules::Record;
+use std::fmt;
+
+/// A time, in nanoseconds and a tenth of one.
+#[derive(Clone, Copy)]
+pub struct Time {
+    pub place: u64,
+    pub tenth: &'static str,
+}
+
+impl fmt::Display for Time {
+    ghost output = { λ t. Some (time t.place t.tenth.now) };
+
+    fn fmt<W: fmt::Write>(&self, f: &mut fmt::Formatter<W>) -> fmt::Result {
+        let Time { place, tenth } = *self;
+        write!(f, "#{place}{tenth}\n")
+    }
+}
+
+/// A tag that is busy where the wave begins.
+#[derive(Clone, Copy)]
+struct StandingTag<'a> {
+    tags: u16,
+    busy: &'a [BusyTag],
+    port: u8,
+    tag: u8,
+}
+
+impl fmt::Display for StandingTag<'_> {
+    ghost output = { λ s. Some (standing_tag s.tags s.busy.now (record { port = s.port; tag = s.tag })) };
+
+    fn fmt<W: fmt::Write>(&self, f: &mut fmt::Formatter<W>) -> fmt::Result {
+        let StandingTag {
+            tags,
+            busy,
+            port,
+            tag,
+        } = *self;
+        let up = BusyChange {
+            tags,
+            up: true,
+            port,
+            tag,
+        };
+        let count = NumberChange::new(outstanding(busy, port), Signal::Outstanding { port });
+        write!(f, "{up}{count}")
+    }
+}
+
+/// All tags that are busy where the wave begins.
+#[derive(Clone, Copy)]
+struct StandingTags<'a> {
+    tags: u16,
+    busy: &'a [BusyTag],
+}
+
+impl fmt::Display for StandingTags<'_> {
+    ghost output = { λ s. Some (standing_tags s.tags s.busy.now) };
+
+    fn fmt<W: fmt::Write>(&self, f: &mut fmt::Formatter<W>) -> fmt::Result {
+        for entry in self.busy {
+            let standing = StandingTag {
+                tags: self.tags,
+                busy: self.busy,
+                port: entry.port,
+                tag: entry.tag,
+            };
+            write!(f, "{standing}")?;
+        }
+        Ok(())
+    }
+}
+
+/// The same at the first record that is shown, and nothing at another one.
+#[derive(Clone, Copy)]
+struct Standing<'a> {
+    view: &'a View,
+    place: u64,
+    busy: &'a [BusyTag],
+}
+
+impl fmt::Display for Standing<'_> {
+    ghost output = { λ s. Some (standing s.view.now s.place s.busy.now) };
+
+    fn fmt<W: fmt::Write>(&self, f: &mut fmt::Formatter<W>) -> fmt::Result {
+        if self.place == self.view.from {
+            let tags = StandingTags {
+                tags: self.view.tags,
+                busy: self.busy,
+            };
+            write!(f, "{tags}")
+        } else {
+            Ok(())
+        }
+    }
+}
+
+/// The mark of the record at fault.
+#[derive(Clone, Copy)]
+struct Mark {
+    marker: Option<Marker>,
+    place: u64,
+}
+
+impl fmt::Display for Mark {
+    ghost output = { λ m. Some (mark m.marker m.place) };
+
+    fn fmt<W: fmt::Write>(&self, f: &mut fmt::Formatter<W>) -> fmt::Result {
+        let Some(Marker { place, rule }) = self.marker else {
+            return Ok(());
+        };
+        if self.place == place {
+            let fault = BitChange {
+                up: true,
+                signal: Signal::Fault,
+            };
+            let signal = Signal::Rule;
+            write!(f, "{fault}s{rule} {signal}\n")
+        } else {
+            Ok(())
+        }
+    }
+}
+
+/// A record at its place, where these tags are busy then.
+#[derive(Clone, Copy)]
+pub struct Moment<'a> {
+    pub view: &'a View,
+    pub place: u64,
+    pub busy: &'a [BusyTag],
+    pub item: &'a Record,
+}
+
+impl fmt::Display for Moment<'_> {
+    ghost output = { λ m. Some (moment m.view.now m.place m.busy.now m.item.now) };
+
+    fn fmt<W: fmt::Write>(&self, f: &mut fmt::Formatter<W>) -> fmt::Result {
+        let Moment {
+            view,
+            place,
+            busy,
+            item,
+        } = *self;
+        let begin = Time { place, tenth: "0" };
+        let standing = Standing { view, place, busy };
+        let mark = Mark {
+            marker: view.marker,
+            place,
+        };
+        let changes = RecordChanges {
+            tags: view.tags,
+            outstanding: outstanding(busy, item.log),
+            item,
+        };
+        let end = Time { place, tenth: "9" };
+        let cleared = TextChange {
+            text: "",
+            signal: event_signal(item),
+        };
+        write!(f, "{begin}{standing}{mark}{changes}{end}{cleared}")
+    }
+}

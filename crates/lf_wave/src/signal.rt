@@ -1,0 +1,59 @@
+//! The signals of a wave.
+
+ghost use Rattle.std.specs.Prelude.{Some};
+ghost use Rattle.lf_wave.specs.Signals.{identifier};
+
+use std::fmt;
+
+/// A signal of a wave. Its text is its identifier in the file.
+#[derive(Clone, Copy, Debug, PartialEq, Eq)]
+pub enum Signal {
+    /// The record that is at fault has come.
+    Fault,
+    /// The rule that it breaks.
+    Rule,
+    /// The word of the port's record.
+    PortEvent { port: u8 },
+    /// The tag of the port's record.
+    PortTag { port: u8 },
+    /// The address of the port's issue.
+    Address { port: u8 },
+    /// How many tags of the port are busy.
+    Outstanding { port: u8 },
+    /// The tag of the port is busy.
+    Busy { port: u8, tag: u16 },
+    /// The word of the bank's record.
+    BankEvent { bank: u8 },
+    /// The number of the bank's record.
+    Number { bank: u8 },
+    /// The port whose request the bank's record names.
+    Requester { bank: u8 },
+    /// The tag of that request.
+    BankTag { bank: u8 },
+    /// The block that the bank's record names.
+    Block { bank: u8 },
+    /// The register that it names.
+    Register { bank: u8 },
+}
+
+impl fmt::Display for Signal {
+    ghost output = { λ signal. Some (identifier signal) };
+
+    fn fmt<W: fmt::Write>(&self, f: &mut fmt::Formatter<W>) -> fmt::Result {
+        match self {
+            Signal::Fault => write!(f, "f"),
+            Signal::Rule => write!(f, "r"),
+            Signal::PortEvent { port } => write!(f, "p{port}e"),
+            Signal::PortTag { port } => write!(f, "p{port}i"),
+            Signal::Address { port } => write!(f, "p{port}a"),
+            Signal::Outstanding { port } => write!(f, "p{port}o"),
+            Signal::Busy { port, tag } => write!(f, "p{port}t{tag}"),
+            Signal::BankEvent { bank } => write!(f, "b{bank}e"),
+            Signal::Number { bank } => write!(f, "b{bank}n"),
+            Signal::Requester { bank } => write!(f, "b{bank}p"),
+            Signal::BankTag { bank } => write!(f, "b{bank}i"),
+            Signal::Block { bank } => write!(f, "b{bank}b"),
+            Signal::Register { bank } => write!(f, "b{bank}r"),
+        }
+    }
+}

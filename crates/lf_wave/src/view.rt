@@ -1,0 +1,35 @@
+//! What a wave shows.
+
+ghost use Rattle.std.specs.Prelude.{◌≡◌};
+ghost use Rattle.lf_wave.specs.Wave.{is_shown};
+
+use lf_rules::Rule;
+
+/// Where a rule is broken.
+#[derive(Clone, Copy, Debug, PartialEq, Eq)]
+pub struct Marker {
+    /// How many records of the trace stand before the one at fault.
+    pub place: u64,
+    pub rule: Rule,
+}
+
+/// What a wave shows. A record's place is the number of records that stand before it in the trace.
+#[derive(Clone, Copy, Debug, PartialEq, Eq)]
+pub struct View {
+    /// The place of the first record.
+    pub from: u64,
+    /// The place of the last one.
+    pub to: u64,
+    /// How many tags of each port have a signal of their own, from tag 0 on.
+    pub tags: u16,
+    pub marker: Option<Marker>,
+}
+
+impl View {
+    /// Whether the record at this place is shown.
+    pub(crate) fn shows(&self, place: u64) -> bool
+        ensures { result ≡ is_shown self.now place }
+    {
+        self.from <= place && place <= self.to
+    }
+}

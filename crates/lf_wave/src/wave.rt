@@ -1,0 +1,87 @@
+//! The wave while a trace is read.
+
+ghost use Rattle.std.specs.Prelude.{◌≡◌, ◌<◌, ◌^◌, ◌++◌, string_bytes, OnOk};
+ghost use Rattle.lf_wave.specs.Head.{head_text};
+ghost use Rattle.lf_wave.specs.Wave.{shown, undrawn, next, next_shown};
+
+use crate::busy::{BusyTag, apply};
+use crate::head::Head;
+use crate::moment::Moment;
+use crate::view::View;
+use lf_codec::Header;
+use lf_rules::Record;
+use std::alloc::{AllocError, Global};
+use std::marker::Model;
+
+/// What the wave of a record rests on: how many records stand before it, and which tags are busy after
+/// them.
+#[derive(Drop)]
+pub struct Wave {
+    view: View,
+    place: u64,
+    busy: Vec<BusyTag>,
+}
+
+impl Model for Wave {
+    ghost use Rattle.lf_wave.specs.Wave.{Drawn};
+
+    ghost Value = { Drawn };
+
+    ghost view = { λ w. record { view = w.view; place = w.place; busy = w.busy.items } };
+}
+
+impl Wave {
+    /// A wave before the first record.
+    pub fn new(alloc: Global, view: View) -> Wave
+        ensures { result ≡ undrawn view }
+    {
+        Wave {
+            view,
+            place: 0,
+            busy: Vec::new(alloc),
+        }
+    }
+
+    /// Puts the head of the wave of a trace with this header behind the text.
+    pub fn put_head(&self, header: &Header, text: &mut String) -> Result<(), AllocError>
+        ensures { OnOk result (string_bytes text.new ≡
+            string_bytes text.old ++ head_text self.now.view header.now.ports header.now.banks) }
+    {
+        let head = Head {
+            view: &self.view,
+            ports: header.ports,
+            banks: header.banks,
+        };
+        write!(text, "{head}")
+    }
+
+    /// Puts what is shown of a record that has changed the busy tags.
+    fn show(&self, item: &Record, text: &mut String) -> Result<(), AllocError>
+        ensures { OnOk result (string_bytes text.new ≡
+            string_bytes text.old ++ shown self.now.view self.now.place self.now.busy item.now) }
+    {
+        if self.view.shows(self.place) {
+            let moment = Moment {
+                view: &self.view,
+                place: self.place,
+                busy: &self.busy,
+                item,
+            };
+            write!(text, "{moment}")
+        } else {
+            Ok(())
+        }
+    }
+
+    /// Takes the next record of the trace, and puts what is shown of it behind the text.
+    pub fn put(&mut self, item: &Record, text: &mut String) -> Result<(), AllocError>
+        requires { self.old.place < 2 ^ 63 }
+        ensures shown { OnOk result (string_bytes text.new ≡ string_bytes text.old ++ next_shown self.old item.now) }
+        ensures taken { OnOk result (self.new ≡ next self.old item.now) }
+    {
+        apply(&mut self.busy, item)?;
+        self.show(item, text)?;
+        self.place += 1;
+        Ok(())
+    }
+}
