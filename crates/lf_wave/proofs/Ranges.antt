@@ -11,9 +11,9 @@ each_more f n =
     let same = λ (xs : List ℕ). flat_map-map (λ (x : List ℕ). x) f xs in
     let one : flat_map (λ (x : List ℕ). x) (f n ∷ []) ≡ f n = flat_map-cons (λ (x : List ℕ). x) (f n) [] ∙ append-nil (f n) in
     sym (
-      sym (same (range_with_len 0 (n + 1)))
-      ∙ ap (λ (xs : List (List ℕ)). flat_map (λ (x : List ℕ). x) xs) (map-range_with_len_more f 0 n n (omega arith))
-      ∙ flat_map-append (λ (x : List ℕ). x) (map f (range_with_len 0 n)) (f n ∷ [])
-      ∙ ap (λ (l : List ℕ). flat_map (λ (x : List ℕ). x) (map f (range_with_len 0 n)) ++ l) one
-      ∙ ap (λ (l : List ℕ). l ++ f n) (same (range_with_len 0 n))
+    sym (same (range_with_len 0 (n + 1)))
+    ∙ ap (λ (xs : List (List ℕ)). flat_map (λ (x : List ℕ). x) xs) (map-range_with_len_more f 0 n n (omega arith))
+    ∙ flat_map-append (λ (x : List ℕ). x) (map f (range_with_len 0 n)) (f n ∷ [])
+    ∙ ap (λ (l : List ℕ). flat_map (λ (x : List ℕ). x) (map f (range_with_len 0 n)) ++ l) one
+    ∙ ap (λ (l : List ℕ). l ++ f n) (same (range_with_len 0 n))
     )

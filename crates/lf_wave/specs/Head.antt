@@ -24,7 +24,7 @@ number_variable width signal name = codes "$var wire " ++ (decimal width ++ (cod
 
 -- whether a tag is busy
 abbrev pub tag_variable : ℕ → ℕ → List ℕ
-tag_variable port tag = codes "$var wire 1 " ++ named (signals.Busy port tag) (codes "tag" ++ decimal tag)
+tag_variable port tag = codes "$var wire 1 " ++ named (signals.Busy port tag) (codes "busy" ++ decimal tag)
 
 -- ---- scopes
 

@@ -5,6 +5,7 @@ use Rattle.lf_rules.specs.Text.{rule_text}
 use Rattle.lf_rules.specs.declared.event.Event.{Event}
 use Rattle.lf_rules.specs.declared.event.Event.TheVariants as events
 use Rattle.lf_rules.specs.declared.event.Record.{Record}
+use Rattle.lf_rules.specs.declared.rule.Rule.{Rule}
 use Rattle.lf_text.specs.Text.{word_of}
 use Rattle.lf_wave.specs.declared.busy.BusyTag.{BusyTag}
 use Rattle.lf_wave.specs.declared.signal.Signal.{Signal}
@@ -95,9 +96,13 @@ standing_tags tags busy = flat_map (standing_tag tags busy) busy
 abbrev pub standing : View → ℕ → List BusyTag → List ℕ
 standing view place busy = if place == view.from then standing_tags view.tags busy else []
 
--- the mark of the record that is at fault
+abbrev pub rule_named : Option Rule → List ℕ
+rule_named (Some rule) = text_change (rule_text rule) signals.Rule
+rule_named None = []
+
+-- the mark of the record at fault, with the rule that it breaks
 abbrev pub mark : Option Marker → ℕ → List ℕ
-mark (Some m) place = if place == m.place then bit_change true signals.Fault ++ text_change (rule_text m.rule) signals.Rule else []
+mark (Some m) place = if place == m.place then bit_change true signals.Fault ++ rule_named m.rule else []
 mark None place = []
 
 -- A record at its place, where these tags are busy then. It has one nanosecond, and its word is taken away before the next one.

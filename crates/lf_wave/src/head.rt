@@ -53,7 +53,7 @@ impl fmt::Display for TagVariable {
     fn fmt<W: fmt::Write>(&self, f: &mut fmt::Formatter<W>) -> fmt::Result {
         let TagVariable { port, tag } = *self;
         let signal = Signal::Busy { port, tag };
-        write!(f, "$var wire 1 {signal} tag{tag} $end\n")
+        write!(f, "$var wire 1 {signal} busy{tag} $end\n")
     }
 }
 
@@ -266,7 +266,10 @@ impl fmt::Display for Scopes {
         let ports = PortScopes { tags, ports };
         let banks = BankScopes { banks };
         let end = ScopeEnd;
-        write!(f, "$scope module score $end\n{fault}{rule}{ports}{banks}{end}")
+        write!(
+            f,
+            "$scope module score $end\n{fault}{rule}{ports}{banks}{end}"
+        )
     }
 }
 
@@ -381,6 +384,9 @@ impl fmt::Display for Head<'_> {
             banks,
         };
         let start = Start { view, ports };
-        write!(f, "$timescale 100 ps $end\n{scopes}$enddefinitions $end\n{start}")
+        write!(
+            f,
+            "$timescale 100 ps $end\n{scopes}$enddefinitions $end\n{start}"
+        )
     }
 }

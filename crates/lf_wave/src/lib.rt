@@ -11,12 +11,16 @@ mod changes;
 mod event;
 mod head;
 mod moment;
+mod save;
 mod signal;
+#[cfg(test)]
+mod tests;
 mod variable;
 mod view;
 mod wave;
 
 pub use busy::BusyTag;
+pub use save::SaveFile;
 pub use signal::Signal;
 pub use view::{Marker, View};
 pub use wave::Wave;

@@ -1,7 +1,7 @@
 //! A record at its place.
 
 ghost use Rattle.std.specs.Prelude.{Some};
-ghost use Rattle.lf_wave.specs.Wave.{time, standing_tag, standing_tags, standing, mark, moment};
+ghost use Rattle.lf_wave.specs.Wave.{time, standing_tag, standing_tags, standing, rule_named, mark, moment};
 
 use crate::busy::{BusyTag, outstanding};
 use crate::change::{BitChange, BusyChange, NumberChange, TextChange};
@@ -9,7 +9,7 @@ use crate::changes::RecordChanges;
 use crate::event::event_signal;
 use crate::signal::Signal;
 use crate::view::{Marker, View};
-use lf_rules::Record;
+use lf_rules::{Record, Rule};
 use std::fmt;
 
 /// A time, in nanoseconds and a tenth of one.
@@ -106,6 +106,24 @@ impl fmt::Display for Standing<'_> {
     }
 }
 
+/// The rule that the record at fault breaks.
+#[derive(Clone, Copy)]
+struct RuleNamed {
+    rule: Option<Rule>,
+}
+
+impl fmt::Display for RuleNamed {
+    ghost output = { λ n. Some (rule_named n.rule) };
+
+    fn fmt<W: fmt::Write>(&self, f: &mut fmt::Formatter<W>) -> fmt::Result {
+        let Some(rule) = self.rule else {
+            return Ok(());
+        };
+        let signal = Signal::Rule;
+        write!(f, "s{rule} {signal}\n")
+    }
+}
+
 /// The mark of the record at fault.
 #[derive(Clone, Copy)]
 struct Mark {
@@ -125,8 +143,8 @@ impl fmt::Display for Mark {
                 up: true,
                 signal: Signal::Fault,
             };
-            let signal = Signal::Rule;
-            write!(f, "{fault}s{rule} {signal}\n")
+            let named = RuleNamed { rule };
+            write!(f, "{fault}{named}")
         } else {
             Ok(())
         }

@@ -5,12 +5,13 @@ ghost use Rattle.lf_wave.specs.Wave.{is_shown};
 
 use lf_rules::Rule;
 
-/// Where a rule is broken.
+/// The record at fault.
 #[derive(Clone, Copy, Debug, PartialEq, Eq)]
 pub struct Marker {
-    /// How many records of the trace stand before the one at fault.
+    /// Its place.
     pub place: u64,
-    pub rule: Rule,
+    /// The rule, where the fault is one of a rule.
+    pub rule: Option<Rule>,
 }
 
 /// What a wave shows. A record's place is the number of records that stand before it in the trace.
@@ -22,6 +23,7 @@ pub struct View {
     pub to: u64,
     /// How many tags of each port have a signal of their own, from tag 0 on.
     pub tags: u16,
+    /// The record at fault, where there is one.
     pub marker: Option<Marker>,
 }
 

@@ -1,0 +1,73 @@
+-- The file of signals that GTKWave opens beside a wave: a line of flags before each signal says how its values are shown.
+use Rattle.std.specs.Prelude.{ℕ, List, [], ◌++◌, codes, flat_map, Option, Some, None}
+use Rattle.std.specs.List.{range_with_len}
+use Rattle.std.specs.Fmt.{decimal}
+use Rattle.lf_wave.specs.declared.view.Marker.{Marker}
+use Rattle.lf_wave.specs.declared.view.View.{View}
+use Rattle.lf_wave.specs.Signals.{line}
+
+-- ---- how values are shown
+
+abbrev pub as_bit : List ℕ
+as_bit = codes "28"
+
+abbrev pub as_decimal : List ℕ
+as_decimal = codes "24"
+
+abbrev pub as_hexadecimal : List ℕ
+as_hexadecimal = codes "22"
+
+abbrev pub as_text : List ℕ
+as_text = codes "820"
+
+-- ---- signals
+
+abbrev pub port_row : ℕ → List ℕ → List ℕ → List ℕ
+port_row port flags name = codes "@" ++ (flags ++ (codes "\nscore.port" ++ (decimal port ++ (codes "." ++ line name))))
+
+abbrev pub bank_row : ℕ → List ℕ → List ℕ → List ℕ
+bank_row bank flags name = codes "@" ++ (flags ++ (codes "\nscore.bank" ++ (decimal bank ++ (codes "." ++ line name))))
+
+-- a line of text above the signals of a port or a bank
+abbrev pub title : List ℕ → ℕ → List ℕ
+title scope index = codes "@200\n-" ++ (scope ++ (codes " " ++ (decimal index ++ line [])))
+
+abbrev pub tag_row : ℕ → ℕ → List ℕ
+tag_row port tag = codes "@28\nscore.port" ++ (decimal port ++ (codes ".busy" ++ (decimal tag ++ line [])))
+
+abbrev pub tag_rows : ℕ → ℕ → List ℕ
+tag_rows tags port = flat_map (tag_row port) (range_with_len 0 tags)
+
+abbrev pub port_rows : ℕ → ℕ → List ℕ
+port_rows tags port =
+    title (codes "port") port ++ (port_row port as_text (codes "event") ++ (port_row port as_decimal (codes "tag[7:0]")
+    ++ (port_row port as_hexadecimal (codes "address[63:0]") ++ (port_row port as_decimal (codes "outstanding[15:0]") ++ tag_rows tags port))))
+
+abbrev pub all_port_rows : ℕ → ℕ → List ℕ
+all_port_rows tags ports = flat_map (port_rows tags) (range_with_len 0 ports)
+
+abbrev pub bank_request_rows : ℕ → List ℕ
+bank_request_rows bank =
+    bank_row bank as_decimal (codes "port[7:0]") ++ (bank_row bank as_decimal (codes "tag[7:0]")
+    ++ bank_row bank as_decimal (codes "register[15:0]"))
+
+abbrev pub bank_rows : ℕ → List ℕ
+bank_rows bank =
+    title (codes "bank") bank ++ (bank_row bank as_text (codes "event") ++ (bank_row bank as_decimal (codes "number[31:0]")
+    ++ (bank_row bank as_decimal (codes "block[31:0]") ++ bank_request_rows bank)))
+
+abbrev pub all_bank_rows : ℕ → List ℕ
+all_bank_rows banks = flat_map bank_rows (range_with_len 0 banks)
+
+-- ---- the file
+
+-- the time of the record at fault, or -1 where there is none
+abbrev pub marked_at : Option Marker → List ℕ
+marked_at (Some m) = decimal m.place ++ codes "0"
+marked_at None = codes "-1"
+
+-- where GTKWave begins, how much it shows at once, its marker, and the signals
+abbrev pub save_text : View → ℕ → ℕ → List ℕ
+save_text view ports banks =
+    codes "[timestart] " ++ (decimal view.from ++ (codes "0\n*-6.0 " ++ (marked_at view.marker
+    ++ (codes "\n@28\nscore.fault\n@820\nscore.rule\n" ++ (all_port_rows view.tags ports ++ all_bank_rows banks)))))

@@ -1,0 +1,289 @@
+//! The file of signals that GTKWave opens beside a wave.
+
+ghost use Rattle.std.specs.Prelude.{Some};
+ghost use Rattle.lf_wave.specs.Save.{port_row, bank_row, title, tag_row, tag_rows, port_rows, all_port_rows};
+ghost use Rattle.lf_wave.specs.Save.{bank_rows, bank_request_rows, all_bank_rows, marked_at, save_text};
+
+use crate::view::{Marker, View};
+use std::fmt;
+
+/// A signal of a port, and how its values are shown.
+#[derive(Clone, Copy)]
+struct PortRow {
+    port: u8,
+    flags: &'static str,
+    name: &'static str,
+}
+
+impl fmt::Display for PortRow {
+    ghost output = { λ r. Some (port_row r.port r.flags.now r.name.now) };
+
+    fn fmt<W: fmt::Write>(&self, f: &mut fmt::Formatter<W>) -> fmt::Result {
+        let PortRow { port, flags, name } = *self;
+        write!(f, "@{flags}\nscore.port{port}.{name}\n")
+    }
+}
+
+/// A signal of a bank.
+#[derive(Clone, Copy)]
+struct BankRow {
+    bank: u8,
+    flags: &'static str,
+    name: &'static str,
+}
+
+impl fmt::Display for BankRow {
+    ghost output = { λ r. Some (bank_row r.bank r.flags.now r.name.now) };
+
+    fn fmt<W: fmt::Write>(&self, f: &mut fmt::Formatter<W>) -> fmt::Result {
+        let BankRow { bank, flags, name } = *self;
+        write!(f, "@{flags}\nscore.bank{bank}.{name}\n")
+    }
+}
+
+/// A line of text above the signals of a port or a bank.
+#[derive(Clone, Copy)]
+struct Title {
+    scope: &'static str,
+    index: u8,
+}
+
+impl fmt::Display for Title {
+    ghost output = { λ t. Some (title t.scope.now t.index) };
+
+    fn fmt<W: fmt::Write>(&self, f: &mut fmt::Formatter<W>) -> fmt::Result {
+        let Title { scope, index } = *self;
+        write!(f, "@200\n-{scope} {index}\n")
+    }
+}
+
+/// A tag of a port.
+#[derive(Clone, Copy)]
+struct TagRow {
+    port: u8,
+    tag: u16,
+}
+
+impl fmt::Display for TagRow {
+    ghost output = { λ r. Some (tag_row r.port r.tag) };
+
+    fn fmt<W: fmt::Write>(&self, f: &mut fmt::Formatter<W>) -> fmt::Result {
+        let TagRow { port, tag } = *self;
+        write!(f, "@28\nscore.port{port}.busy{tag}\n")
+    }
+}
+
+/// The tags of a port.
+#[derive(Clone, Copy)]
+struct TagRows {
+    tags: u16,
+    port: u8,
+}
+
+impl fmt::Display for TagRows {
+    ghost output = { λ r. Some (tag_rows r.tags r.port) };
+
+    fn fmt<W: fmt::Write>(&self, f: &mut fmt::Formatter<W>) -> fmt::Result {
+        for tag in 0..self.tags {
+            let row = TagRow {
+                port: self.port,
+                tag,
+            };
+            write!(f, "{row}")?;
+        }
+        Ok(())
+    }
+}
+
+/// The signals of a port.
+#[derive(Clone, Copy)]
+struct PortRows {
+    tags: u16,
+    port: u8,
+}
+
+impl fmt::Display for PortRows {
+    ghost output = { λ r. Some (port_rows r.tags r.port) };
+
+    fn fmt<W: fmt::Write>(&self, f: &mut fmt::Formatter<W>) -> fmt::Result {
+        let PortRows { tags, port } = *self;
+        let title = Title {
+            scope: "port",
+            index: port,
+        };
+        let event = PortRow {
+            port,
+            flags: "820",
+            name: "event",
+        };
+        let tag = PortRow {
+            port,
+            flags: "24",
+            name: "tag[7:0]",
+        };
+        let address = PortRow {
+            port,
+            flags: "22",
+            name: "address[63:0]",
+        };
+        let outstanding = PortRow {
+            port,
+            flags: "24",
+            name: "outstanding[15:0]",
+        };
+        let busy = TagRows { tags, port };
+        write!(f, "{title}{event}{tag}{address}{outstanding}{busy}")
+    }
+}
+
+/// The signals of all ports.
+#[derive(Clone, Copy)]
+struct AllPortRows {
+    tags: u16,
+    ports: u8,
+}
+
+impl fmt::Display for AllPortRows {
+    ghost output = { λ r. Some (all_port_rows r.tags r.ports) };
+
+    fn fmt<W: fmt::Write>(&self, f: &mut fmt::Formatter<W>) -> fmt::Result {
+        for port in 0..self.ports {
+            let rows = PortRows {
+                tags: self.tags,
+                port,
+            };
+            write!(f, "{rows}")?;
+        }
+        Ok(())
+    }
+}
+
+/// The signals of a bank.
+#[derive(Clone, Copy)]
+struct BankRows {
+    bank: u8,
+}
+
+impl fmt::Display for BankRows {
+    ghost output = { λ r. Some (bank_rows r.bank) };
+
+    fn fmt<W: fmt::Write>(&self, f: &mut fmt::Formatter<W>) -> fmt::Result {
+        let bank = self.bank;
+        let title = Title {
+            scope: "bank",
+            index: bank,
+        };
+        let event = BankRow {
+            bank,
+            flags: "820",
+            name: "event",
+        };
+        let number = BankRow {
+            bank,
+            flags: "24",
+            name: "number[31:0]",
+        };
+        let block = BankRow {
+            bank,
+            flags: "24",
+            name: "block[31:0]",
+        };
+        let request = BankRequestRows { bank };
+        write!(f, "{title}{event}{number}{block}{request}")
+    }
+}
+
+/// Those that name a request and its register.
+#[derive(Clone, Copy)]
+struct BankRequestRows {
+    bank: u8,
+}
+
+impl fmt::Display for BankRequestRows {
+    ghost output = { λ r. Some (bank_request_rows r.bank) };
+
+    fn fmt<W: fmt::Write>(&self, f: &mut fmt::Formatter<W>) -> fmt::Result {
+        let bank = self.bank;
+        let port = BankRow {
+            bank,
+            flags: "24",
+            name: "port[7:0]",
+        };
+        let tag = BankRow {
+            bank,
+            flags: "24",
+            name: "tag[7:0]",
+        };
+        let register = BankRow {
+            bank,
+            flags: "24",
+            name: "register[15:0]",
+        };
+        write!(f, "{port}{tag}{register}")
+    }
+}
+
+/// The signals of all banks.
+#[derive(Clone, Copy)]
+struct AllBankRows {
+    banks: u8,
+}
+
+impl fmt::Display for AllBankRows {
+    ghost output = { λ r. Some (all_bank_rows r.banks) };
+
+    fn fmt<W: fmt::Write>(&self, f: &mut fmt::Formatter<W>) -> fmt::Result {
+        for bank in 0..self.banks {
+            let rows = BankRows { bank };
+            write!(f, "{rows}")?;
+        }
+        Ok(())
+    }
+}
+
+/// The time of the marker, or that there is none.
+#[derive(Clone, Copy)]
+struct MarkedAt {
+    marker: Option<Marker>,
+}
+
+impl fmt::Display for MarkedAt {
+    ghost output = { λ m. Some (marked_at m.marker) };
+
+    fn fmt<W: fmt::Write>(&self, f: &mut fmt::Formatter<W>) -> fmt::Result {
+        match self.marker {
+            Some(Marker { place, .. }) => write!(f, "{place}0"),
+            None => write!(f, "-1"),
+        }
+    }
+}
+
+/// The file of signals for the wave of a trace with so many ports and banks: where GTKWave begins, its
+/// marker, and the signals that it shows.
+#[derive(Clone, Copy)]
+pub struct SaveFile<'a> {
+    pub view: &'a View,
+    pub ports: u8,
+    pub banks: u8,
+}
+
+impl fmt::Display for SaveFile<'_> {
+    ghost output = { λ s. Some (save_text s.view.now s.ports s.banks) };
+
+    fn fmt<W: fmt::Write>(&self, f: &mut fmt::Formatter<W>) -> fmt::Result {
+        let SaveFile { view, ports, banks } = *self;
+        let from = view.from;
+        let marked = MarkedAt {
+            marker: view.marker,
+        };
+        let ports = AllPortRows {
+            tags: view.tags,
+            ports,
+        };
+        let banks = AllBankRows { banks };
+        write!(
+            f,
+            "[timestart] {from}0\n*-6.0 {marked}\n@28\nscore.fault\n@820\nscore.rule\n{ports}{banks}"
+        )
+    }
+}

@@ -1,0 +1,165 @@
+//! Waves and files of signals, with their texts written out.
+
+use crate::{Marker, SaveFile, View, Wave};
+use lf_codec::Header;
+use lf_rules::{Block, Event, Op, Record, Rule};
+use std::test::Fail;
+
+const HEADER: Header = Header {
+    version: 1,
+    ports: 1,
+    banks: 1,
+    block: 8,
+    factor: 1,
+    memory_count: 0,
+};
+
+/// The second and the third record, the third of which is at fault.
+const VIEW: View = View {
+    from: 1,
+    to: 2,
+    tags: 2,
+    marker: Some(Marker {
+        place: 2,
+        rule: Some(Rule::NotReady),
+    }),
+};
+
+const WAVE: &str = "\
+$timescale 100 ps $end
+$scope module score $end
+$var wire 1 f fault $end
+$var string 1 r rule $end
+$scope module port0 $end
+$var string 1 p0e event $end
+$var wire 8 p0i tag [7:0] $end
+$var wire 64 p0a address [63:0] $end
+$var wire 16 p0o outstanding [15:0] $end
+$var wire 1 p0t0 busy0 $end
+$var wire 1 p0t1 busy1 $end
+$upscope $end
+$scope module bank0 $end
+$var string 1 b0e event $end
+$var wire 32 b0n number [31:0] $end
+$var wire 8 b0p port [7:0] $end
+$var wire 8 b0i tag [7:0] $end
+$var wire 32 b0b block [31:0] $end
+$var wire 16 b0r register [15:0] $end
+$upscope $end
+$upscope $end
+$enddefinitions $end
+#10
+$dumpvars
+0f
+b0 p0o
+0p0t0
+0p0t1
+$end
+#10
+1p0t1
+b1 p0o
+sprimary b0e
+b1 b0n
+b0 b0p
+b1 b0i
+b10 b0r
+#19
+s b0e
+#20
+1f
+sNotReady r
+sreply p0e
+b1 p0i
+0p0t1
+b0 p0o
+#29
+s p0e
+";
+
+const SAVE: &str = "\
+[timestart] 10
+*-6.0 20
+@28
+score.fault
+@820
+score.rule
+@200
+-port 0
+@820
+score.port0.event
+@24
+score.port0.tag[7:0]
+@22
+score.port0.address[63:0]
+@24
+score.port0.outstanding[15:0]
+@28
+score.port0.busy0
+@28
+score.port0.busy1
+@200
+-bank 0
+@820
+score.bank0.event
+@24
+score.bank0.number[31:0]
+@24
+score.bank0.block[31:0]
+@24
+score.bank0.port[7:0]
+@24
+score.bank0.tag[7:0]
+@24
+score.bank0.register[15:0]
+";
+
+fn record(log: u8, number: u32, event: Event) -> Record {
+    Record {
+        log,
+        bank: 0,
+        number,
+        event,
+    }
+}
+
+#[test]
+fn wave_of_a_miss(rt: HostRuntime) -> Result<(), Fail> {
+    let issue = Event::Issue {
+        op: Op::Load,
+        tag: 1,
+        size: 8,
+        address: 24,
+        bytes: Block::new(),
+    };
+    let primary = Event::Primary {
+        port: 0,
+        tag: 1,
+        register: 2,
+    };
+    let reply = Event::Reply {
+        tag: 1,
+        size: 8,
+        bytes: Block::new(),
+    };
+    let mut text = String::new(rt.alloc());
+    let mut wave = Wave::new(rt.alloc(), VIEW);
+    wave.put_head(&HEADER, &mut text)?;
+    wave.put(&record(0, 0, issue), &mut text)?;
+    wave.put(&record(1, 1, primary), &mut text)?;
+    wave.put(&record(0, 2, reply), &mut text)?;
+    wave.put(&record(0, 0, Event::Fence), &mut text)?;
+    assert_eq!(rt; text.as_str(), WAVE);
+    Ok(())
+}
+
+#[test]
+fn signals_beside_it(rt: HostRuntime) -> Result<(), Fail> {
+    let save = SaveFile {
+        view: &VIEW,
+        ports: 1,
+        banks: 1,
+    };
+    let text = format!(in rt.alloc(); "{save}")?;
+    assert_eq!(rt; text.as_str(), SAVE);
+    Ok(())
+}
