@@ -133,7 +133,7 @@ module _ (view : View) (bytes piece : List ℕ) (old mid : Drawer) (drawn : IsDr
       let text : string_bytes new.text ≡ head_due mid.begun mid.wave.view (header_now mid.reader) ++ wave_from mid.wave mid.reader.records =
       draws.text ∙ ap (λ (l : List ℕ). l ++ (head_due mid.begun mid.wave.view (header_now mid.reader) ++ wave_from mid.wave mid.reader.records)) empty in
       let due : head_due mid.begun mid.wave.view (header_now mid.reader) ++ wave_from mid.wave mid.reader.records
-          ≡ head_due (is_some (header_of bytes)) view (header_of (bytes ++ piece)) ++ wave_from (drawn_after (undrawn view) (reading_of bytes).records) mid.reader.records =
+      ≡ head_due (is_some (header_of bytes)) view (header_of (bytes ++ piece)) ++ wave_from (drawn_after (undrawn view) (reading_of bytes).records) mid.reader.records =
       ap (λ (b : Bool). head_due b mid.wave.view (header_now mid.reader) ++ wave_from mid.wave mid.reader.records) (begun ∙ drawn.begun)
       ∙ ap (λ (v : View). head_due (is_some (header_of bytes)) v (header_now mid.reader) ++ wave_from mid.wave mid.reader.records) shows
       ∙ ap (λ (h : Option Header). head_due (is_some (header_of bytes)) view h ++ wave_from mid.wave mid.reader.records) (sym header_same)

@@ -8,6 +8,8 @@
 mod drawer;
 mod fault;
 mod records;
+#[cfg(test)]
+mod tests;
 mod viewing;
 
 pub use fault::ViewFault;

@@ -1,11 +1,11 @@
 -- The head of a wave: the scopes with their signals, and the values before the first record that is shown.
-use Rattle.std.specs.Prelude.{ℕ, false, List, ◌++◌, codes, flat_map}
+use Rattle.std.specs.Prelude.{ℕ, false, List, [], ◌++◌, codes, flat_map}
 use Rattle.std.specs.List.{range_with_len}
 use Rattle.std.specs.Fmt.{decimal}
 use Rattle.lf_wave.specs.declared.signal.Signal.{Signal}
 use Rattle.lf_wave.specs.declared.signal.Signal.TheVariants as signals
 use Rattle.lf_wave.specs.declared.view.View.{View}
-use Rattle.lf_wave.specs.Signals.{line, identifier, bit_change, number_change}
+use Rattle.lf_wave.specs.Signals.{line, identifier, bit_change, number_change, text_change}
 use Rattle.lf_wave.specs.Wave.{time}
 
 -- ---- signals
@@ -65,7 +65,7 @@ scopes tags ports banks =
     line (codes "$scope module score $end") ++ (number_variable 1 signals.Fault (codes "fault") ++ (text_variable signals.Rule (codes "rule")
     ++ (port_scopes tags ports ++ (bank_scopes banks ++ scope_end))))
 
--- ---- the first values: no fault, and no tag is busy
+-- ---- the first values: no fault, no word, and no tag is busy
 
 abbrev pub tag_start : ℕ → ℕ → List ℕ
 tag_start port tag = bit_change false (signals.Busy port tag)
@@ -74,16 +74,23 @@ abbrev pub tag_starts : ℕ → ℕ → List ℕ
 tag_starts tags port = flat_map (tag_start port) (range_with_len 0 tags)
 
 abbrev pub port_start : ℕ → ℕ → List ℕ
-port_start tags port = number_change 0 (signals.Outstanding port) ++ tag_starts tags port
+port_start tags port = text_change [] (signals.PortEvent port) ++ (number_change 0 (signals.Outstanding port) ++ tag_starts tags port)
 
 abbrev pub port_starts : ℕ → ℕ → List ℕ
 port_starts tags ports = flat_map (port_start tags) (range_with_len 0 ports)
 
-abbrev pub start : View → ℕ → List ℕ
-start view ports =
-    time view.from (codes "0") ++ (line (codes "$dumpvars") ++ (bit_change false signals.Fault ++ (port_starts view.tags ports ++ line (codes "$end"))))
+abbrev pub bank_start : ℕ → List ℕ
+bank_start bank = text_change [] (signals.BankEvent bank)
+
+abbrev pub bank_starts : ℕ → List ℕ
+bank_starts banks = flat_map bank_start (range_with_len 0 banks)
+
+abbrev pub start : View → ℕ → ℕ → List ℕ
+start view ports banks =
+    time view.from (codes "0") ++ (line (codes "$dumpvars") ++ (bit_change false signals.Fault ++ (text_change [] signals.Rule
+    ++ (port_starts view.tags ports ++ (bank_starts banks ++ line (codes "$end"))))))
 
 -- The head. A time is counted in tenths of a nanosecond.
 abbrev pub head_text : View → ℕ → ℕ → List ℕ
 head_text view ports banks =
-    line (codes "$timescale 100 ps $end") ++ (scopes view.tags ports banks ++ (line (codes "$enddefinitions $end") ++ start view ports))
+    line (codes "$timescale 100 ps $end") ++ (scopes view.tags ports banks ++ (line (codes "$enddefinitions $end") ++ start view ports banks))

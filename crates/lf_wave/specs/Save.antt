@@ -1,5 +1,5 @@
 -- The file of signals that GTKWave opens beside a wave: a line of flags before each signal says how its values are shown.
-use Rattle.std.specs.Prelude.{ℕ, List, [], ◌++◌, codes, flat_map, Option, Some, None}
+use Rattle.std.specs.Prelude.{ℕ, ◌-◌, max, List, [], ◌++◌, codes, flat_map, Option, Some, None}
 use Rattle.std.specs.List.{range_with_len}
 use Rattle.std.specs.Fmt.{decimal}
 use Rattle.lf_wave.specs.declared.view.Marker.{Marker}
@@ -61,13 +61,21 @@ all_bank_rows banks = flat_map bank_rows (range_with_len 0 banks)
 
 -- ---- the file
 
--- the time of the record at fault, or -1 where there is none
+-- the place of the first record on the screen: a few before the one at fault
+abbrev pub opens : Option Marker → ℕ → ℕ
+opens (Some m) from = max (m.place - 6) from
+opens None from = from
+
+abbrev pub opens_at : View → ℕ
+opens_at view = opens view.marker view.from
+
+-- the time of the record at fault in picoseconds, or -1 where there is none
 abbrev pub marked_at : Option Marker → List ℕ
-marked_at (Some m) = decimal m.place ++ codes "0"
+marked_at (Some m) = decimal m.place ++ codes "000"
 marked_at None = codes "-1"
 
 -- where GTKWave begins, how much it shows at once, its marker, and the signals
 abbrev pub save_text : View → ℕ → ℕ → List ℕ
 save_text view ports banks =
-    codes "[timestart] " ++ (decimal view.from ++ (codes "0\n*-6.0 " ++ (marked_at view.marker
-    ++ (codes "\n@28\nscore.fault\n@820\nscore.rule\n" ++ (all_port_rows view.tags ports ++ all_bank_rows banks)))))
+    codes "[timestart] " ++ (decimal (opens_at view) ++ (codes "000\n[size] 1600 900\n*-10.5 " ++ (marked_at view.marker
+    ++ (codes "\n[signals_width] 210\n@28\nscore.fault\n@820\nscore.rule\n" ++ (all_port_rows view.tags ports ++ all_bank_rows banks)))))

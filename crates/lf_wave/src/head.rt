@@ -2,10 +2,10 @@
 
 ghost use Rattle.std.specs.Prelude.{Some};
 ghost use Rattle.lf_wave.specs.Head.{scope_begin, scope_end, port_scope, port_scopes, bank_scope, bank_scopes, scopes};
-ghost use Rattle.lf_wave.specs.Head.{tag_starts, port_start, port_starts, start, head_text, port_values, bank_values};
+ghost use Rattle.lf_wave.specs.Head.{tag_starts, port_start, port_starts, bank_starts, start, head_text, port_values, bank_values};
 ghost use Rattle.lf_wave.specs.Head.{tag_variable, tag_variables};
 
-use crate::change::{BitChange, NumberChange};
+use crate::change::{BitChange, NumberChange, TextChange};
 use crate::moment::Time;
 use crate::signal::Signal;
 use crate::variable::{NumberVariable, TextVariable};
@@ -298,7 +298,7 @@ impl fmt::Display for TagStarts {
     }
 }
 
-/// A port with no busy tag.
+/// A port with no record yet and no busy tag.
 #[derive(Clone, Copy)]
 struct PortStart {
     tags: u16,
@@ -310,13 +310,17 @@ impl fmt::Display for PortStart {
 
     fn fmt<W: fmt::Write>(&self, f: &mut fmt::Formatter<W>) -> fmt::Result {
         let PortStart { tags, port } = *self;
+        let word = TextChange {
+            text: "",
+            signal: Signal::PortEvent { port },
+        };
         let none = NumberChange::new(0, Signal::Outstanding { port });
         let free = TagStarts { port, tags };
-        write!(f, "{none}{free}")
+        write!(f, "{word}{none}{free}")
     }
 }
 
-/// All ports, with no busy tag.
+/// All ports at first.
 #[derive(Clone, Copy)]
 struct PortStarts {
     tags: u16,
@@ -338,15 +342,37 @@ impl fmt::Display for PortStarts {
     }
 }
 
+/// All banks, with no record yet.
+#[derive(Clone, Copy)]
+struct BankStarts {
+    banks: u8,
+}
+
+impl fmt::Display for BankStarts {
+    ghost output = { λ s. Some (bank_starts s.banks) };
+
+    fn fmt<W: fmt::Write>(&self, f: &mut fmt::Formatter<W>) -> fmt::Result {
+        for bank in 0..self.banks {
+            let word = TextChange {
+                text: "",
+                signal: Signal::BankEvent { bank },
+            };
+            write!(f, "{word}")?;
+        }
+        Ok(())
+    }
+}
+
 /// The values before the first record that is shown.
 #[derive(Clone, Copy)]
 struct Start<'a> {
     view: &'a View,
     ports: u8,
+    banks: u8,
 }
 
 impl fmt::Display for Start<'_> {
-    ghost output = { λ s. Some (start s.view.now s.ports) };
+    ghost output = { λ s. Some (start s.view.now s.ports s.banks) };
 
     fn fmt<W: fmt::Write>(&self, f: &mut fmt::Formatter<W>) -> fmt::Result {
         let time = Time {
@@ -357,11 +383,16 @@ impl fmt::Display for Start<'_> {
             up: false,
             signal: Signal::Fault,
         };
+        let rule = TextChange {
+            text: "",
+            signal: Signal::Rule,
+        };
         let ports = PortStarts {
             tags: self.view.tags,
             ports: self.ports,
         };
-        write!(f, "{time}$dumpvars\n{fine}{ports}$end\n")
+        let banks = BankStarts { banks: self.banks };
+        write!(f, "{time}$dumpvars\n{fine}{rule}{ports}{banks}$end\n")
     }
 }
 
@@ -383,7 +414,7 @@ impl fmt::Display for Head<'_> {
             ports,
             banks,
         };
-        let start = Start { view, ports };
+        let start = Start { view, ports, banks };
         write!(
             f,
             "$timescale 100 ps $end\n{scopes}$enddefinitions $end\n{start}"

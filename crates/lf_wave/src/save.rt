@@ -1,8 +1,8 @@
 //! The file of signals that GTKWave opens beside a wave.
 
-ghost use Rattle.std.specs.Prelude.{Some};
+ghost use Rattle.std.specs.Prelude.{◌≡◌, Some};
 ghost use Rattle.lf_wave.specs.Save.{port_row, bank_row, title, tag_row, tag_rows, port_rows, all_port_rows};
-ghost use Rattle.lf_wave.specs.Save.{bank_rows, bank_request_rows, all_bank_rows, marked_at, save_text};
+ghost use Rattle.lf_wave.specs.Save.{bank_rows, bank_request_rows, all_bank_rows, opens_at, marked_at, save_text};
 
 use crate::view::{Marker, View};
 use std::fmt;
@@ -241,7 +241,17 @@ impl fmt::Display for AllBankRows {
     }
 }
 
-/// The time of the marker, or that there is none.
+/// The place of the first record on the screen: a few before the one at fault.
+fn opens_at(view: &View) -> u64
+    ensures { result ≡ opens_at view.now }
+{
+    match view.marker {
+        Some(Marker { place, .. }) => place.saturating_sub(6).max(view.from),
+        None => view.from,
+    }
+}
+
+/// The time of the marker in picoseconds, or that there is none.
 #[derive(Clone, Copy)]
 struct MarkedAt {
     marker: Option<Marker>,
@@ -252,7 +262,7 @@ impl fmt::Display for MarkedAt {
 
     fn fmt<W: fmt::Write>(&self, f: &mut fmt::Formatter<W>) -> fmt::Result {
         match self.marker {
-            Some(Marker { place, .. }) => write!(f, "{place}0"),
+            Some(Marker { place, .. }) => write!(f, "{place}000"),
             None => write!(f, "-1"),
         }
     }
@@ -272,7 +282,7 @@ impl fmt::Display for SaveFile<'_> {
 
     fn fmt<W: fmt::Write>(&self, f: &mut fmt::Formatter<W>) -> fmt::Result {
         let SaveFile { view, ports, banks } = *self;
-        let from = view.from;
+        let opens = opens_at(view);
         let marked = MarkedAt {
             marker: view.marker,
         };
@@ -283,7 +293,7 @@ impl fmt::Display for SaveFile<'_> {
         let banks = AllBankRows { banks };
         write!(
             f,
-            "[timestart] {from}0\n*-6.0 {marked}\n@28\nscore.fault\n@820\nscore.rule\n{ports}{banks}"
+            "[timestart] {opens}000\n[size] 1600 900\n*-10.5 {marked}\n[signals_width] 210\n@28\nscore.fault\n@820\nscore.rule\n{ports}{banks}"
         )
     }
 }

@@ -51,9 +51,12 @@ $enddefinitions $end
 #10
 $dumpvars
 0f
+s r
+s p0e
 b0 p0o
 0p0t0
 0p0t1
+s b0e
 $end
 #10
 1p0t1
@@ -77,8 +80,10 @@ s p0e
 ";
 
 const SAVE: &str = "\
-[timestart] 10
-*-6.0 20
+[timestart] 1000
+[size] 1600 900
+*-10.5 2000
+[signals_width] 210
 @28
 score.fault
 @820

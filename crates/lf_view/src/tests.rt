@@ -1,0 +1,72 @@
+//! A trace with its wave written out.
+
+use crate::view;
+use lf_stream::Counted;
+use lf_wave::View;
+use std::test::Fail;
+
+/// A load that hits nothing yet: the header, one memory record, one event record and the end.
+const TRACE: [u8; 56] = [
+    0x4c, 0x46, 0x54, 0x53, 1, 0, 1, 1, 8, 0, 0, 0, 1, 0, 0, 0, 3, 0, 0, 0, 1, 2, 3, 4, 5, 6, 7, 8,
+    1, 0, 0, 0, 0, 0, 0, 0, 0, 0, 8, 0, 0, 0, 0, 0, 0, 0, 0, 0, 0, 0, 0, 0, 1, 0, 0, 0,
+];
+
+const VIEW: View = View {
+    from: 0,
+    to: u64::MAX,
+    tags: 1,
+    marker: None,
+};
+
+const WAVE: &str = "\
+$timescale 100 ps $end
+$scope module score $end
+$var wire 1 f fault $end
+$var string 1 r rule $end
+$scope module port0 $end
+$var string 1 p0e event $end
+$var wire 8 p0i tag [7:0] $end
+$var wire 64 p0a address [63:0] $end
+$var wire 16 p0o outstanding [15:0] $end
+$var wire 1 p0t0 busy0 $end
+$upscope $end
+$scope module bank0 $end
+$var string 1 b0e event $end
+$var wire 32 b0n number [31:0] $end
+$var wire 8 b0p port [7:0] $end
+$var wire 8 b0i tag [7:0] $end
+$var wire 32 b0b block [31:0] $end
+$var wire 16 b0r register [15:0] $end
+$upscope $end
+$upscope $end
+$enddefinitions $end
+#00
+$dumpvars
+0f
+s r
+s p0e
+b0 p0o
+0p0t0
+s b0e
+$end
+#00
+1p0t0
+b1 p0o
+sload p0e
+b0 p0i
+b0 p0a
+1p0t0
+b1 p0o
+#09
+s p0e
+";
+
+#[test]
+fn wave_of_a_trace(rt: HostRuntime) -> Result<(), Fail> {
+    let mut reader = Counted::new(&TRACE[..]);
+    let mut writer = Counted::new(Vec::new(rt.alloc()));
+    let answer = view(&rt, &mut reader, &mut writer, VIEW, 10);
+    assert_eq!(rt; answer, Ok(None));
+    assert_eq!(rt; std::str::from_utf8(writer.inner()), Ok(WAVE));
+    Ok(())
+}
