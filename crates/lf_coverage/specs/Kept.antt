@@ -1,16 +1,17 @@
 -- What is kept of a bank's records.
-use Rattle.std.specs.Prelude.{◌≡◌, ℕ, ◌+◌, ◌*◌, ◌^◌, ◌<◌, ◌≤◌, Bool, ◌==◌, List, length, All, IsSome, Option, None, slice_index_or}
+use Rattle.std.specs.Prelude.{◌≡◌, ℕ, ◌+◌, ◌*◌, ◌^◌, ◌<◌, ◌≤◌, Bool, ◌==◌}
+use Rattle.std.specs.Prelude.{List, length, All, IsSome, Option, None, slice_index_or}
 use Rattle.std.specs.HashSet.{HashSet, contains}
-use Rattle.lf_coverage.specs.declared.request.Request.{Request}
-use Rattle.lf_coverage.specs.declared.request.Requests.{Requests}
-use Rattle.lf_coverage.specs.declared.standing.Kept.{Kept}
-use Rattle.lf_coverage.specs.declared.counts.Order.{Order}
 use Rattle.lf_rules.specs.declared.shape.Shape.{Shape}
 use Rattle.lf_rules.specs.declared.event.Record.{Record}
 use Rattle.lf_logs.specs.Places.{record_at, records_at}
 use Rattle.lf_stats.specs.Statistics.{held_counts}
-use Rattle.lf_coverage.specs.Sights.{sights}
+use Rattle.lf_coverage.specs.declared.request.Request.{Request}
+use Rattle.lf_coverage.specs.declared.request.Requests.{Requests}
+use Rattle.lf_coverage.specs.declared.standing.Kept.{Kept}
+use Rattle.lf_coverage.specs.declared.counts.Order.{Order}
 use Rattle.lf_coverage.specs.Standing.{Standing}
+use Rattle.lf_coverage.specs.Sights.{sights}
 
 -- the latest request of the port with the tag
 abbrev pub latest_in : Requests → ℕ → ℕ → Option Request

@@ -1,5 +1,6 @@
--- What the records before an event say of it.
-use Rattle.std.specs.Prelude.{ℕ, ◌+◌, Bool, true, false, ◌==◌, List, map, length, slice_get, Option, Some, None}
+-- What the records of a bank before an event say of it.
+use Rattle.std.specs.Prelude.{ℕ, ◌+◌, Bool, true, false, ◌==◌}
+use Rattle.std.specs.Prelude.{List, map, length, slice_get, Option, Some, None}
 use Rattle.std.specs.List.{range_with_len}
 use Rattle.lf_rules.specs.declared.shape.Shape.{Shape}
 use Rattle.lf_rules.specs.declared.event.Op.{Op}
@@ -45,7 +46,7 @@ abbrev pub sight_if : Standing → Option Record → Sight
 sight_if s None = Plain
 sight_if s (Some r) = sight_by s r.event
 
--- of the record behind the first n of a bank, in the order of their numbers, and of each
+-- of the record behind the first n, in the order of their numbers, and of each
 abbrev pub sight : Shape → List Record → ℕ → Sight
 sight shape rs n = sight_if (standing shape rs n) (slice_get rs n)
 

@@ -25,7 +25,8 @@ abbrev pub request_of : Shape → Op → ℕ → Request
 request_of shape op address = record { op = op; block = block_of shape address }
 
 abbrev pub issued_with : Shape → Event → ℕ → Option Request → Option Request
-issued_with shape (Issue op t size address bytes) tag before = if t == tag then Some (request_of shape op address) else before
+issued_with shape (Issue op t size address bytes) tag before =
+    if t == tag then Some (request_of shape op address) else before
 issued_with shape _ tag before = before
 
 -- that of the record, where the port issues it with the tag, and otherwise the one before

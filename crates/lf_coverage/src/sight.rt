@@ -1,7 +1,8 @@
 //! What the records before an event say of it.
 
 ghost use Rattle.std.specs.Prelude.{◌≡◌};
-ghost use Rattle.lf_coverage.specs.Sights.{load_behind_load, load_behind_store, store_behind_load, store_behind_store, is_refetch, overtakes, is_over_stores, makes_targets};
+ghost use Rattle.lf_coverage.specs.Sights.{load_behind_load, load_behind_store, store_behind_load, store_behind_store};
+ghost use Rattle.lf_coverage.specs.Sights.{is_refetch, overtakes, is_over_stores, makes_targets};
 
 use lf_rules::Op;
 

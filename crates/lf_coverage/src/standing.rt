@@ -3,7 +3,8 @@
 ghost use Rattle.std.specs.Prelude.{◌≡◌, ℕ, ◌<◌, ◌≤◌, ◌^◌, not, ◌||◌, ◌==◌, length, filter, All, IsSome, IfOk, OnOk, vec_len};
 ghost use Rattle.lf_rules.specs.Lists.{lists_of};
 ghost use Rattle.lf_logs.specs.Places.{record_at, records_at};
-ghost use Rattle.lf_coverage.specs.Standing.{Standing, at_first, standing_after, waiting_after, last_kind, targets, is_behind_others, has_store, writes_back};
+ghost use Rattle.lf_coverage.specs.Standing.{Standing, at_first, standing_after, waiting_after, writes_back};
+ghost use Rattle.lf_coverage.specs.Standing.{last_kind, targets, is_behind_others, has_store};
 ghost use Rattle.lf_coverage.specs.Sights.{joined, filled, sight_by, sights};
 ghost use Rattle.lf_coverage.specs.Kept.{IsKept, is_in};
 
@@ -135,7 +136,8 @@ impl Kept {
         requires len { length self.old.requests.0.items ≡ 65536 }
         ensures requests { self.new.requests ≡ self.old.requests }
         ensures written { self.new.written ≡ self.old.written }
-        ensures waiting { OnOk result ((s : Standing) → IsKept self.old s → self.new.waiting.items ≡ waiting_after s.latest event.now s.waiting) }
+        ensures waiting { OnOk result ((s : Standing) → IsKept self.old s
+            → self.new.waiting.items ≡ waiting_after s.latest event.now s.waiting) }
     {
         match event {
             Event::Primary { port, tag, .. } | Event::Merge { port, tag, .. } => {
@@ -153,7 +155,8 @@ impl Kept {
     fn write_back(&mut self, event: &Event) -> Result<(), NoMemory>
         ensures requests { self.new.requests ≡ self.old.requests }
         ensures waiting { self.new.waiting ≡ self.old.waiting }
-        ensures written { OnOk result ((block : ℕ) → is_in self.new.written block ≡ (writes_back event.now block || is_in self.old.written block)) }
+        ensures written { OnOk result ((block : ℕ)
+            → is_in self.new.written block ≡ (writes_back event.now block || is_in self.old.written block)) }
     {
         if let Event::Evict1 { block, mask, .. } = event {
             if mask.0 != 0 {
@@ -167,7 +170,8 @@ impl Kept {
     pub fn take(&mut self, shape: &Shape, item: &Record) -> Result<(), NoMemory>
         requires block { 0 < shape.now.block }
         requires len { length self.old.requests.0.items ≡ 65536 }
-        ensures { OnOk result ((s : Standing) → IsKept self.old s → IsKept self.new (standing_after shape.now item.now s)) }
+        ensures { OnOk result ((s : Standing) → IsKept self.old s
+            → IsKept self.new (standing_after shape.now item.now s)) }
     {
         self.wait(&item.event)?;
         self.write_back(&item.event)?;
