@@ -18,8 +18,15 @@ bank=0 evict1_whole=0
 bank=0 hit_under_miss=0
 bank=0 second_hit=0
 bank=0 evict2=0
+bank=0 load_behind_load=0
+bank=0 load_behind_store=0
+bank=0 store_behind_load=0
+bank=0 store_behind_store=0
+bank=0 refetched=0
+bank=0 fill1_over_stores=0
 bank=0 evict2_dirty_0=0
 bank=0 evict2_dirty_1=0
+bank=0 targets_2=0
 port=0 load_1=0
 port=0 load_2=0
 port=0 load_4=0
@@ -35,7 +42,7 @@ bank=0 fill2=1
 bank=0 registers_1=1
 port=0 load_8=1
 port=0 reply=1
-covered 7 of 27
+covered 7 of 34
 ";
 
 /// Fails where another text is written of the trace of these events of port 0 and bank 0.

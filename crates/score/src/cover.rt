@@ -29,6 +29,12 @@ each level:
   evict2_dirty_N    evictions of level two with N dirty blocks
   hit_under_miss    hits while a register of level one is held
   registers_N       misses after which N registers of level one are held
+  targets_N         merges after which N requests wait for the block
+  load_behind_load store_behind_load      merges by the kind of their
+  load_behind_store store_behind_store    request and of the one before
+  refetched             misses of a block that was written back before
+  fill1_out_of_order    blocks that come before one asked for earlier
+  fill1_over_stores     blocks that come while a store waits for them
 
 and a port these:
 
