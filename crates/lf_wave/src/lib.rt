@@ -19,8 +19,6 @@ mod variable;
 mod view;
 mod wave;
 
-pub use busy::BusyTag;
 pub use save::SaveFile;
-pub use signal::Signal;
 pub use view::{Marker, View};
 pub use wave::Wave;
