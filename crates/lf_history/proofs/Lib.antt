@@ -1,3 +1,4 @@
 mod Touched
 mod Numbered
 mod FixedParts
+mod NamedRecords

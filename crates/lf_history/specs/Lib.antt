@@ -1,5 +1,6 @@
 -- Where records stand in a trace, and which of them touch a block.
 pub mod Asked
+pub mod BankOrder
 pub mod History
 pub mod Offsets
 pub mod Places

@@ -5,12 +5,14 @@
 //! numbers; those that touch the same second-level block are told.
 #![tactic(auto)]
 
+mod bank_order;
 mod history;
 mod offsets;
 mod places;
 mod requests;
 mod touching;
 
+pub use bank_order::places_in_order;
 pub use history::{History, history_in_bank, history_in_log};
 pub use lf_rules::NoMemory;
 pub use offsets::record_offsets;

@@ -1,0 +1,23 @@
+//! The records of a bank, in the order of their numbers.
+
+ghost use Rattle.std.specs.Prelude.{◌≡◌, IfOk};
+ghost use Rattle.std.specs.List.{AllByRecursion};
+ghost use Rattle.lf_history.specs.BankOrder.{records_at, in_order};
+
+use crate::places::places_of_numbers;
+use lf_rules::{NoMemory, Record};
+use std::alloc::Global;
+
+/// The places of the bank's records with the numbers 0 to `count - 1`, in the order of their numbers. None
+/// stands where a number has no record.
+pub fn places_in_order(
+    alloc: Global,
+    records: &[Record],
+    bank: u8,
+    count: usize,
+) -> Result<Vec<Option<usize>>, NoMemory>
+    ensures records { IfOk result (λ places. records_at records.now places.items ≡ in_order bank records.now count) }
+    ensures named { IfOk result (λ places. AllByRecursion (λ r. r.bank ≡ bank) (records_at records.now places.items)) }
+{
+    places_of_numbers(alloc, records, bank, count)
+}
