@@ -1,8 +1,15 @@
-use Rattle.std.proofs.Common.{take}
+use Rattle.std.proofs.Common.{◌≡◌, take, drop}
+use Rattle.std.specs.List.{AllByRecursion}
 use Rattle.lf_rules.specs.Address.{flat_memory}
-use Rattle.lf_replay.specs.Bytes.{bank_part}
+use Rattle.lf_rules.specs.Fits.{Fits}
+use Rattle.lf_state.specs.Bytes.{bank_part}
 use Rattle.lf_replay.specs.Step.{IsStepAfter}
+use Rattle.lf_history.specs.BankOrder.{records_at}
 use Rattle.lf_explain.proofs.broken.first_broken.Given as goal
 
-abbrev pub invariant-loop-item : goal.invariant-loop-item
-invariant-loop-item l = IsStepAfter l.step l.shape (bank_part l.shape l.bank (flat_memory l.memory.items)) l.bank (take l.item-index l.records)
+abbrev pub invariant-loop-place : goal.invariant-loop-place
+invariant-loop-place l = record {
+  stands : IsStepAfter l.step l.shape (bank_part l.shape l.bank (flat_memory l.memory.items)) l.bank (records_at l.records (take l.place-index l.places));
+  fit : AllByRecursion (Fits l.shape) (records_at l.records (drop l.place-index l.places));
+  named : AllByRecursion (λ r. r.bank ≡ l.bank) (records_at l.records (drop l.place-index l.places));
+}
