@@ -53,7 +53,7 @@ impl fmt::Display for Hex<'_> {
 
 /// The field of a record's bytes, which is left out where there are none.
 #[derive(Clone, Copy)]
-pub(crate) struct Data<'a>(pub &'a [u8]);
+pub struct Data<'a>(pub &'a [u8]);
 
 impl fmt::Display for Data<'_> {
     ghost output = { λ bytes. Some (data_text bytes.0.now) };

@@ -13,4 +13,6 @@ mod record;
 #[cfg(test)]
 mod tests;
 
+pub use data::Data;
 pub use line::{PlacedLine, TextLine};
+pub use record::{MaskFields, data_of};

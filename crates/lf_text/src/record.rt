@@ -33,7 +33,7 @@ fn word_of(event: &Event) -> &'static str
 }
 
 /// The bytes that the event carries.
-fn data_of(event: &Event) -> &[u8]
+pub fn data_of(event: &Event) -> &[u8]
     ensures { result.now ≡ data_of event.now }
 {
     match event {
@@ -72,7 +72,7 @@ impl fmt::Display for Head<'_> {
 
 /// A field for each mask.
 #[derive(Clone, Copy)]
-struct MaskFields<'a>(&'a [Mask]);
+pub struct MaskFields<'a>(pub &'a [Mask]);
 
 impl fmt::Display for MaskFields<'_> {
     ghost output = { λ masks. Some (masks_text masks.0.now) };
