@@ -7,6 +7,8 @@ use Rattle.lf_rules.specs.declared.rule.Rule.{Rule}
 use Rattle.lf_rules.specs.Text.{rule_text}
 use Rattle.lf_text.specs.Text as lf_text
 use Rattle.lf_explanation.specs.declared.explanation.Explanation.{Explanation}
+use Rattle.lf_history.specs.Touching.{record_at}
+use Rattle.lf_explanation.specs.Carried.{carried_text}
 use Rattle.lf_explanation.specs.Sentence.{sentence}
 
 -- the record, and in a comment the offset of its first byte
@@ -35,6 +37,8 @@ abbrev pub before_text : List Record → List ℕ → List ℕ → List ℕ
 before_text rs offsets [] = []
 before_text rs offsets (place ∷ places) = 10 ∷ codes "before it:" ++ 10 ∷ lines_text rs offsets (place ∷ places)
 
--- the record, what the rule asks, and the records before
+-- the record, what the rule asks, what the record has to carry and carries, and the records before
 abbrev pub explained_text : List Record → List ℕ → Explanation → List ℕ
-explained_text rs offsets why = record_text rs offsets why.history.place ++ asked_text why.rule ++ before_text rs offsets why.history.before.items
+explained_text rs offsets why =
+    record_text rs offsets why.history.place ++ asked_text why.rule ++ carried_text (record_at rs why.history.place) why.expected
+    ++ before_text rs offsets why.history.before.items

@@ -1,8 +1,11 @@
 //! The text of an explanation.
 
-ghost use Rattle.std.specs.Prelude.{◌≡◌, Some};
+ghost use Rattle.std.specs.Prelude.{◌≡◌, Some, None, MatchOption};
+ghost use Rattle.lf_history.specs.Touching.{record_at};
+ghost use Rattle.lf_explanation.specs.Carried.{carried_text};
 ghost use Rattle.lf_explanation.specs.Text.{asked_text, line_at, record_text, lines_text, before_text, explained_text};
 
+use crate::carried::Carried;
 use crate::explanation::Explanation;
 use crate::sentence::sentence;
 use lf_rules::{Record, Rule};
@@ -77,6 +80,37 @@ impl fmt::Display for Asked {
     }
 }
 
+/// The record at a place, where there is one.
+fn record_at(records: &[Record], place: Option<usize>) -> Option<&Record>
+    ensures { MatchOption result (record_at records.now place ≡ None)
+        (λ item. record_at records.now place ≡ Some item.now) }
+{
+    records.get(place?)
+}
+
+/// What the record that breaks the rule has to carry and carries.
+#[derive(Clone, Copy)]
+struct RecordCarries<'a> {
+    told: Told<'a>,
+    why: &'a Explanation,
+}
+
+impl fmt::Display for RecordCarries<'_> {
+    ghost output = { λ it. Some
+        (carried_text (record_at it.told.records.now it.why.now.history.place) it.why.now.expected) };
+
+    fn fmt<W: fmt::Write>(&self, f: &mut fmt::Formatter<W>) -> fmt::Result {
+        let Some(item) = record_at(self.told.records, self.why.history.place) else {
+            return Ok(());
+        };
+        let carried = Carried {
+            event: &item.event,
+            due: &self.why.expected,
+        };
+        write!(f, "{carried}")
+    }
+}
+
 /// A line for each place.
 #[derive(Clone, Copy)]
 struct Lines<'a> {
@@ -122,7 +156,7 @@ impl fmt::Display for Before<'_> {
 }
 
 /// An explanation over the records of its trace. Its text is lines, each with its newline: the record, what
-/// the rule asks, and the records before.
+/// the rule asks, what it asks that the record carries, and the records before.
 #[derive(Clone, Copy)]
 pub struct Explained<'a> {
     pub told: Told<'a>,
@@ -139,10 +173,14 @@ impl fmt::Display for Explained<'_> {
             place: self.why.history.place,
         };
         let asked = Asked(self.why.rule);
+        let carried = RecordCarries {
+            told,
+            why: self.why,
+        };
         let before = Before {
             told,
             places: &self.why.history.before,
         };
-        write!(f, "{record}{asked}{before}")
+        write!(f, "{record}{asked}{carried}{before}")
     }
 }

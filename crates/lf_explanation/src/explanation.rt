@@ -1,10 +1,14 @@
 //! Which records explain why a trace is not legal.
 
 ghost use Rattle.std.specs.Prelude.{◌≡◌, ◌<◌, IfOk};
-ghost use Rattle.lf_explanation.specs.Explanation.{rule_of, IsHistoryOf, IsExplanation};
+ghost use Rattle.std.specs.List.{AllByRecursion};
+ghost use Rattle.lf_rules.specs.Fits.{Fits};
+ghost use Rattle.lf_rules.specs.InRange.{IsShape};
+ghost use Rattle.lf_explanation.specs.Explanation.{rule_of, HasBank, IsHistoryOf, IsExpectedOf, IsExplanation};
 
-use lf_history::{History, history_in_bank, history_in_log};
-use lf_rules::{NoMemory, Record, Rule, Shape};
+use lf_explain::{Expected, first_broken};
+use lf_history::{History, history_in_bank, history_in_log, places_in_order};
+use lf_rules::{Memory, NoMemory, Record, Rule, Shape};
 use std::alloc::Global;
 
 /// Which record breaks a rule, and which rule.
@@ -34,6 +38,8 @@ pub struct Explanation {
     pub rule: Rule,
     /// The record, and the last before it that matter.
     pub history: History,
+    /// What the rule asks that the record carries, where it is a rule about that.
+    pub expected: Option<Expected>,
 }
 
 /// The record, and the last before it that matter, at most so many.
@@ -56,22 +62,49 @@ fn history_of(
     }
 }
 
-/// Why the trace with these records is not legal: the record that breaks the rule, and the last before it
-/// that matter, at most so many. Before a record of a port those of its log matter, and before one of a bank
-/// those with lower numbers that touch its second-level block.
+/// What the rule asks that the record carries. For that the bank's records up to it are judged once more.
+fn expected_of(
+    alloc: Global,
+    shape: &Shape,
+    memory: &Memory,
+    records: &[Record],
+    breach: &Breach,
+) -> Result<Option<Expected>, NoMemory>
+    requires in_range { IsShape shape.now }
+    requires bank { HasBank shape.now breach.now }
+    requires fit { AllByRecursion (Fits shape.now) records.now }
+    ensures { IfOk result (IsExpectedOf shape.now memory.now.items records.now breach.now) }
+{
+    let Breach::Bank { bank, number, .. } = breach else {
+        return Ok(None);
+    };
+    let places = places_in_order(alloc, records, *bank, *number as usize + 1)?;
+    match first_broken(alloc, shape, memory, u32::from(*bank), records, &places)? {
+        Some(broken) => Ok(broken.expected),
+        None => Ok(None),
+    }
+}
+
+/// Why the trace with this memory and these records is not legal: the record that breaks the rule, what the
+/// rule asks that it carries, and the last records before it that matter, at most so many. Before a record of a
+/// port those of its log matter, and before one of a bank those with lower numbers that touch its second-level
+/// block.
 pub fn explain(
     alloc: Global,
     shape: &Shape,
+    memory: &Memory,
     records: &[Record],
     breach: &Breach,
     most: usize,
 ) -> Result<Explanation, NoMemory>
-    requires block { 0 < shape.now.block }
-    requires factor { 0 < shape.now.factor }
-    ensures { IfOk result (IsExplanation shape.now records.now breach.now most) }
+    requires in_range { IsShape shape.now }
+    requires bank { HasBank shape.now breach.now }
+    requires fit { AllByRecursion (Fits shape.now) records.now }
+    ensures { IfOk result (IsExplanation shape.now memory.now.items records.now breach.now most) }
 {
     Ok(Explanation {
         rule: breach.rule(),
         history: history_of(alloc, shape, records, breach, most)?,
+        expected: expected_of(alloc, shape, memory, records, breach)?,
     })
 }

@@ -1,7 +1,12 @@
 //! Explanations, with their texts written out.
 
+ghost use Rattle.std.specs.Prelude.{◌≡◌, true};
+ghost use Rattle.std.specs.List.{AllByRecursion};
+ghost use Rattle.lf_rules.specs.Fits.{Fits};
+ghost use Rattle.lf_explanation.specs.Explanation.{HasBank};
+
 use crate::{Breach, Explained, Told, explain};
-use lf_rules::{Block, Event, Level, Op, OrgShape, Record, Rule, Shape};
+use lf_rules::{Block, Event, Level, Op, OrgShape, Record, Rule, Shape, fits};
 use std::process::Abort;
 use std::test::Fail;
 
@@ -21,6 +26,28 @@ const SHAPE: Shape = Shape {
     level2: LEVEL,
 };
 
+/// Whether the records fit the shape.
+fn all_fit(shape: &Shape, records: &[Record]) -> bool
+    ensures { result ≡ true → AllByRecursion (Fits shape.now) records.now }
+{
+    for item in records {
+        if !fits(shape.ports, shape.banks, shape.block, shape.factor, item) {
+            return false;
+        }
+    }
+    true
+}
+
+/// Whether the bank of the breach is one of the shape's.
+fn has_bank(shape: &Shape, breach: &Breach) -> bool
+    ensures { result ≡ true → HasBank shape.now breach.now }
+{
+    match breach {
+        Breach::Port { .. } => true,
+        Breach::Bank { bank, .. } => u32::from(*bank) < shape.banks,
+    }
+}
+
 /// Fails where these records, at the offsets 16, 24, and so on, have another explanation.
 fn assert_explained<T: Abort + AllocGlobal>(
     rt: &T,
@@ -29,7 +56,11 @@ fn assert_explained<T: Abort + AllocGlobal>(
     most: usize,
     due: &str,
 ) -> Result<(), Fail> {
-    let Ok(why) = explain(rt.alloc(), &SHAPE, records, &breach, most) else {
+    if !all_fit(&SHAPE, records) || !has_bank(&SHAPE, &breach) {
+        return Err(Fail::from("these are no records of a trace"));
+    }
+    let memory = Vec::new(rt.alloc());
+    let Ok(why) = explain(rt.alloc(), &SHAPE, &memory, records, &breach, most) else {
         return Err(Fail::from("out of memory"));
     };
     let explained = Explained {
