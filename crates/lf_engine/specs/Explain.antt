@@ -50,7 +50,7 @@ pub record TellsWhy (shape : Shape) (bytes : List ℕ) (breach : Breach) (most :
   pub logs : List (List Record)
   pub trace : IsTraceFor shape bytes memory logs
   pub why : Explanation
-  pub explains : IsExplanation shape trace.records breach most why
+  pub explains : IsExplanation shape memory trace.records breach most why
   pub lines : text ≡ verdict_text v ++ 10 ∷ 10 ∷ explained_text trace.records (offsets_from (first_offset trace.header memory) trace.records) why
 
 -- It tells of the bytes that the reader answered, for the shape that the configuration says.

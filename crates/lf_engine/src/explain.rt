@@ -3,6 +3,7 @@
 ghost use Rattle.std.specs.Prelude.{◌≡◌, ◌≢◌, ◌<◌, ◌∷◌, ◌++◌, ℕ, List, Ok, IfOk, string_bytes};
 ghost use Rattle.lf_rules.specs.InRange.{IsShape};
 ghost use Rattle.lf_config.specs.Configuration.{configuration_of};
+ghost use Rattle.lf_explanation.specs.Explanation.{HasBank};
 ghost use Rattle.lf_explanation.specs.Text.{explained_text};
 ghost use Rattle.lf_verdict.specs.Verdict.{IsWorkerCount, IsDecided, IsVerdictOf};
 ghost use Rattle.lf_verdict.specs.Legal.{IsLegal};
@@ -16,7 +17,8 @@ ghost use Rattle.lf_engine.specs.Run.{IsAsked, IsOutcome, Follows, IsRunWriting}
 use crate::engine::shape_for;
 use crate::fault::RunFault;
 use crate::line::Line;
-use crate::report::{Judged, Report, records_in};
+use crate::parts::parts_in;
+use crate::report::{Judged, Report};
 use crate::statistics::{judge_and_keep, tell_report};
 use lf_codec::{exact_reading, fault_so_far, faults_stand};
 use lf_explanation::{Breach, Explained, Explanation, Told, explain};
@@ -74,15 +76,23 @@ fn why_in(
     most: u16,
 ) -> Result<String, NoMemory>
     requires in_range { IsShape shape.now }
+    requires bank { HasBank shape.now breach.now }
     requires trace { IsExplicable shape.now bytes.now }
     ensures { IfOk result (λ text. TellsWhy shape.now bytes.now breach.now most verdict.now (string_bytes text)) }
 {
     exact_reading();
-    let records = records_in(alloc, bytes)?;
-    let offsets = record_offsets(alloc, bytes.len() as u64 - END, &records)?;
-    let why = explain(alloc, shape, &records, breach, most as usize)?;
+    let parts = parts_in(alloc, bytes)?;
+    let offsets = record_offsets(alloc, bytes.len() as u64 - END, &parts.records)?;
+    let why = explain(
+        alloc,
+        shape,
+        &parts.memory,
+        &parts.records,
+        breach,
+        most as usize,
+    )?;
     let told = Told {
-        records: &records,
+        records: &parts.records,
         offsets: &offsets,
     };
     match text_of(alloc, verdict, told, &why) {
@@ -164,8 +174,9 @@ fn why_configured<T: AllocGlobal, S: Source>(
 
 /// Reads the trace until the reader is at its end or a fault stands in what it gave, judges it with one
 /// worker for the shape that the configuration says, and writes the line of the verdict. Where a record of a
-/// port or of a bank breaks a rule, an empty line follows, and then that record, what the rule asks, and the
-/// last records before it that matter, at most so many. Each read is a turn, and there are at most so many
+/// port or of a bank breaks a rule, an empty line follows, and then that record, what the rule asks, what the
+/// record has to carry and carries where the rule is about that, and the last records before it that matter, at
+/// most so many. Each read is a turn, and there are at most so many
 /// turns. Where the text is no configuration, nothing is read.
 ///
 /// Where memory runs out after the verdict, the answer is `Refused(Memory)`. `RunFault` is as that of `run`.

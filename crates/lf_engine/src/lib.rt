@@ -17,6 +17,7 @@ mod fault;
 mod gathering;
 mod keeping;
 mod line;
+mod parts;
 mod report;
 mod statistics;
 mod watch;

@@ -8,7 +8,8 @@ ghost use Rattle.lf_stats.specs.Text.{stats_text};
 ghost use Rattle.lf_coverage.specs.Text.{coverage_text};
 ghost use Rattle.lf_engine.specs.Report.{IsCountable, AreStatisticsOf, AreStatisticsLines, IsCoverageOf, AreCoverageLines, ArePrintedFor};
 
-use lf_codec::{Reader, exact_reading};
+use crate::parts::{Parts, parts_in};
+use lf_codec::exact_reading;
 use lf_coverage::{Coverage, cover};
 use lf_logs::split;
 use lf_rules::{NoMemory, Record, Shape};
@@ -37,21 +38,12 @@ pub struct Report {
     pub lines: Option<String>,
 }
 
-/// The records that stand in the bytes. A trace has no fault, so a reader refuses it only where memory ran out.
+/// The records that stand in the bytes.
 pub fn records_in(alloc: Global, bytes: &[u8]) -> Result<Vec<Record>, NoMemory>
     ensures read { IfOk result (λ records. records.items ≡ (reading_of bytes.now).records) }
     ensures are_bytes { OnOk result (AreBytes bytes.now) }
 {
-    let mut reader = Reader::new(alloc);
-    let Ok(()) = reader.feed(bytes) else {
-        return Err(NoMemory);
-    };
-    let mut records = Vec::new(alloc);
-    while let Some(item) = reader.take() {
-        if records.push(item).is_err() {
-            return Err(NoMemory);
-        }
-    }
+    let Parts { records, .. } = parts_in(alloc, bytes)?;
     Ok(records)
 }
 

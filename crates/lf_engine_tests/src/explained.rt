@@ -2,7 +2,7 @@
 
 use crate::streams::Pieces;
 use lf_engine::{Counted, run_explain};
-use lf_samples::{C1, C1_TEXT, LOAD, LOADED, trace_of};
+use lf_samples::{C1, C1_TEXT, LOAD, LOADED, STORE, trace_of};
 use std::process::Abort;
 use std::test::Fail;
 
@@ -29,12 +29,32 @@ no bank=0 number=5 rule=ReplyData
 
 reply port=0 bank=0 number=5 tag=0 size=8 bytes=0100000000000000 ; at 104
   ReplyData asks that the reply has the bytes that its request found
+  expected bytes=0000000000000000
+  found    bytes=0100000000000000, first different at byte 0
 
 before it:
 fill2 bank=0 number=3 block=0 bytes=0000000000000000 ; at 64
 fill1 bank=0 number=4 block=0 bytes=0000000000000000 ; at 84
 ";
     assert_explained(&rt, &[LOAD, "R 0=0100000000000000"], 2, text)
+}
+
+#[test]
+fn eviction_with_a_wrong_mask(rt: HostRuntime) -> Result<(), Fail> {
+    let text = "\
+no bank=0 number=5 rule=EvictMask
+
+evict1 bank=0 number=5 block=0 mask=0x1 bytes=aa ; at 106
+  EvictMask asks that the mask is the dirty mask of the line
+  expected mask=0x3
+  found    mask=0x1
+  too many mask=0x0
+  too few  mask=0x2
+
+before it:
+fill1 bank=0 number=4 block=0 bytes=0000000000000000 ; at 86
+";
+    assert_explained(&rt, &[STORE, "E1 0 01=aa"], 1, text)
 }
 
 #[test]

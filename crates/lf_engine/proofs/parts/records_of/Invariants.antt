@@ -1,5 +1,5 @@
 use Rattle.std.proofs.Common.{◌≡◌, ◌++◌, length}
-use Rattle.lf_engine.proofs.report.records_in.Given as goal
+use Rattle.lf_engine.proofs.parts.records_of.Given as goal
 
 abbrev pub invariant-loop-item : goal.invariant-loop-item
 invariant-loop-item l = l.records.items ++ l.reader.records ≡ l.initial.reader.records
