@@ -5,8 +5,8 @@ ghost use Rattle.lf_rules.specs.InRange.{IsShape};
 use crate::judged::is_bank_order;
 use lf_explain::{Broken, Expected, first_broken};
 use lf_history::places_in_order;
-use lf_rules::{Mask, Rule, Shape};
-use lf_samples::{C1, LOAD, LOADED, STORE, records, memory_ran_out};
+use lf_rules::{Rule, Shape, mask_at};
+use lf_samples::{C1, LOAD, LOADED, STORE, memory_ran_out, records};
 use std::alloc::Global;
 use std::process::Abort;
 use std::test::Fail;
@@ -82,6 +82,6 @@ fn mask_of_an_eviction(rt: HostRuntime) -> Result<(), Fail> {
     let Some(Expected::Masks(masks)) = told.expected else {
         return Err(Fail::from("no masks are told"));
     };
-    assert_eq!(rt; masks.as_slice(), [Mask(3)].as_slice());
+    assert_eq!(rt; mask_at(&masks, 0), 3);
     Ok(())
 }

@@ -6,7 +6,7 @@ ghost use Rattle.lf_rules.specs.InRange.{IsShape};
 use crate::steps::applied;
 use lf_replay::{BlockState, Step};
 use lf_rules::{Mask, Shape};
-use lf_samples::{C1, records, memory_ran_out};
+use lf_samples::{C1, memory_ran_out, records};
 use std::alloc::Global;
 use std::test::Fail;
 

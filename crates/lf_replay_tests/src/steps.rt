@@ -5,7 +5,7 @@ ghost use Rattle.lf_rules.specs.InRange.{IsShape};
 
 use lf_replay::{BankFault, Step};
 use lf_rules::{Record, Shape, fits};
-use lf_samples::{C1, records, memory_ran_out};
+use lf_samples::{C1, memory_ran_out, records};
 use std::alloc::Global;
 use std::test::Fail;
 
