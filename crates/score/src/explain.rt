@@ -18,6 +18,8 @@ Answers:
 
   reply port=0 bank=0 number=5 tag=0 size=1 bytes=01 ; at 112
     ReplyData asks that the reply has the bytes that its request found
+    expected bytes=00
+    found    bytes=01, first different at byte 0
 
   before it:
   load port=0 bank=0 number=0 tag=0 size=1 address=0x0 ; at 16
@@ -27,6 +29,10 @@ a record of a port or of a bank breaks a rule, an empty line follows, and
 then that record, what the rule asks, and the last records before it that
 matter, the latest last. Each is told as dump tells it, with the offset of
 its first byte in the trace.
+
+Of ReplyData, FillData and EvictData it tells which bytes were expected and
+which were found. Bytes of a fill that waiting stores write are not judged,
+and are told as they were found. Of EvictMask it tells the masks.
 
 Before a record of a port, those of its log matter. Before a record of a
 bank, those of the bank that touch the same second-level block do, in the
