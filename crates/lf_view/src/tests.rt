@@ -1,6 +1,6 @@
 //! A trace with its wave written out.
 
-use crate::view;
+use crate::{Sought, place_of, view};
 use lf_stream::Counted;
 use lf_wave::View;
 use std::test::Fail;
@@ -68,5 +68,18 @@ fn wave_of_a_trace(rt: HostRuntime) -> Result<(), Fail> {
     let answer = view(&rt, &mut reader, &mut writer, VIEW, 10);
     assert_eq!(rt; answer, Ok(None));
     assert_eq!(rt; std::str::from_utf8(writer.inner()), Ok(WAVE));
+    Ok(())
+}
+
+#[test]
+fn places_in_a_trace(rt: HostRuntime) -> Result<(), Fail> {
+    for (sought, due) in [
+        (Sought::InBank { bank: 0, number: 0 }, Some(0)),
+        (Sought::InLog { log: 0, at: 0 }, Some(0)),
+        (Sought::InLog { log: 0, at: 1 }, None),
+    ] {
+        let mut reader = Counted::new(&TRACE[..]);
+        assert_eq!(rt; place_of(&rt, &mut reader, sought, 10), Ok(due));
+    }
     Ok(())
 }

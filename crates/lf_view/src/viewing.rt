@@ -18,7 +18,7 @@ use lf_wave::View;
 use std::io::{ErrorKind, Read, Write};
 
 /// The most bytes that one read asks for.
-const PIECE: usize = 65536;
+pub(crate) const PIECE: usize = 65536;
 
 /// Writes the wave of a piece, and tells whether a fault stands in what came so far.
 fn show<W: Write>(

@@ -1,0 +1,79 @@
+-- The place of a record in a trace: how many records stand before it in the file.
+use Rattle.std.specs.Prelude.{◌≡◌, ℕ, ◌+◌, ◌^◌, ◌-◌, ◌==◌, ◌&&◌, ◌≤◌, min, Bool, List, [], ◌∷◌, if◌then◌else◌, Option, Some, None, Result, Ok, Err, IfOk, IsErrOf, ◌↔◌, ◌<◌}
+use Rattle.lf_rules.specs.declared.event.Record.{Record}
+use Rattle.lf_codec.specs.Laws.{AreBytes}
+use Rattle.lf_codec.specs.Reader.{HasRead}
+use Rattle.lf_codec.specs.Reading.{reading_of}
+use Rattle.lf_stream.specs.Account.{Account}
+use Rattle.lf_stream.specs.Gathered.{IsAllRead}
+use Rattle.lf_dump.specs.Dump.{HasFault, piece_len}
+use Rattle.lf_view.specs.declared.fault.ViewFault.{ViewFault}
+use Rattle.lf_view.specs.declared.fault.ViewFault.TheVariants.{Read, Turns}
+use Rattle.lf_view.specs.declared.place.Sought.{Sought}
+use Rattle.lf_view.specs.declared.place.Sought.TheVariants.{InLog, InBank}
+use Rattle.lf_view.specs.declared.place.Search.{Search}
+use Rattle.lf_view.specs.declared.place.Finder.{Finder}
+
+-- ---- a search through records
+
+-- Is it of the log that is searched?
+abbrev pub is_counted : Sought → Record → Bool
+is_counted (InLog log at) r = r.log == log
+is_counted (InBank bank number) r = r.bank == bank
+
+-- Is it the record that is sought, where so many of its log stand before it?
+abbrev pub is_sought : Sought → ℕ → Record → Bool
+is_sought (InLog log at) before r = (r.log == log) && (before == at)
+is_sought (InBank bank number) before r = (r.bank == bank) && (r.number == number)
+
+-- Counts end at the greatest number of 64 bits.
+abbrev pub one_more : ℕ → ℕ
+one_more n = min (n + 1) (2 ^ 64 - 1)
+
+abbrev pub or_here : Option ℕ → Bool → ℕ → Option ℕ
+or_here (Some place) here now = Some place
+or_here None here now = if here then Some now else None
+
+-- after one more record
+abbrev pub searched_one : Search → Record → Search
+searched_one s r = record {
+  sought = s.sought;
+  place = one_more s.place;
+  before = if is_counted s.sought r then one_more s.before else s.before;
+  found = or_here s.found (is_sought s.sought s.before r) s.place;
+}
+
+-- after all of these
+abbrev pub searched : Search → List Record → Search
+searched s [] = s
+searched s (r ∷ records) = searched (searched_one s r) records
+
+abbrev pub begun : Sought → Search
+begun sought = record { sought = sought; place = 0; before = 0; found = None }
+
+-- the place of the record that is sought among those that the format reads from these bytes
+abbrev pub place_in : Sought → List ℕ → Option ℕ
+place_in sought bytes = (searched (begun sought) (reading_of bytes).records).found
+
+-- ---- while a trace is read
+
+-- All records that stand in the bytes were searched.
+pub record IsSearched (finder : Finder) (bytes : List ℕ) : Type 0 where
+  pub read : HasRead finder.reader bytes (reading_of bytes).memory (reading_of bytes).records
+  pub no_memory : finder.reader.memory ≡ []
+  pub no_records : finder.reader.records ≡ []
+  pub search : finder.search ≡ searched (begun finder.search.sought) (reading_of bytes).records
+
+-- The place was found in all bytes that were to be read, from readers at two moments.
+pub record IsFound (sought : Sought) (old new : Account) (found : Option ℕ) : Type 0 where
+  pub bytes : List ℕ
+  pub all : IsAllRead HasFault piece_len old new bytes
+  pub place : found ≡ place_in sought bytes
+
+-- A search within so many reads.
+pub record IsSearch (sought : Sought) (old new : Account) (turns : ℕ) (answer : Result (Option ℕ) ViewFault) : Type 0 where
+  pub reads : new.calls ≤ turns
+  pub found : IfOk answer (IsFound sought old new)
+  -- When each fault comes.
+  pub read : IsErrOf answer Read ↔ (0 < new.failures)
+  pub turns_ran_out : IsErrOf answer Turns → new.calls ≡ turns
