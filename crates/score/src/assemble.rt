@@ -2,8 +2,9 @@
 
 use crate::REFUSED;
 use crate::configuration::bytes_within;
-use crate::trace::{STANDARD_INPUT, Trace};
-use std::io::{ErrorKind, Write};
+use crate::output::{put, tell};
+use crate::trace::Trace;
+use std::io::ErrorKind;
 use std::process::ExitCode;
 use std::rt::Files;
 use std::{fmt, io};
@@ -17,9 +18,11 @@ Nothing is printed where the trace is written. Lines may be empty, and a
 semicolon begins a comment. Between words may stand any spaces and tabs.
 A text may leave out version=, which is then the least that has its kinds of
 events and its factor; number=, which is then the next of its bank; and the
-line of the end. A text that is refused leaves OUT as it was. Below the line
-of a refusal stands the line of the text, with a mark under the place. Where
-OUT is - a refusal goes to standard error.
+line of the end. Below the line of a refusal stands the line of the text, with
+a mark under the place. Where OUT is - a refusal goes to standard error.
+
+A text that is refused leaves OUT as it was: OUT is written beside its place
+and then renamed.
 
 Answers:
   refused text line=3 column=9 expected tag=  the line cannot be read
@@ -77,18 +80,6 @@ where
     }
 }
 
-/// Writes the bytes to standard output for `-`, and else to the file, which is created or emptied.
-fn write_to<T: Print + Files>(rt: &T, out: &str, bytes: &[u8]) -> io::Result<()>
-where
-    T::File: Drop,
-{
-    if out == STANDARD_INPUT {
-        io::writer(rt).write_all(bytes)
-    } else {
-        std::fs::write(rt, out, bytes)
-    }
-}
-
 fn assembled<'a, T: Print + Files + AllocGlobal>(
     rt: &T,
     text: &'a [u8],
@@ -98,18 +89,14 @@ where
     T::File: Drop,
 {
     match lf_assemble::assemble(rt.alloc(), text) {
-        Ok(bytes) => write_to(rt, out, bytes.as_slice()).map_err(|_| Refusal::Write),
+        Ok(bytes) => put(rt, out, bytes.as_slice()).map_err(|_| Refusal::Write),
         Err(fault) => Err(Refusal::Text(lf_assemble::Refusal { fault, text })),
     }
 }
 
 /// Prints why there is no trace.
 fn refuse<T: Print + Eprint>(rt: &T, out: &str, refusal: Refusal<'_>) -> io::Result<ExitCode> {
-    if out == STANDARD_INPUT {
-        eprintln!(rt; "{refusal}")?;
-    } else {
-        println!(rt; "{refusal}")?;
-    }
+    tell(rt, out, refusal)?;
     Ok(ExitCode::from(REFUSED))
 }
 

@@ -2,9 +2,13 @@
 
 use crate::check::CheckOptions;
 use crate::trace::STANDARD_INPUT;
-use crate::{assemble, check, cover, demonstration, dump, explain, help, shrink, stats, watch};
+use crate::view::Window;
+use crate::{
+    assemble, check, cover, demonstration, dump, explain, help, shrink, stats, view, watch,
+};
 use clap::error::ErrorKind;
 use clap::{Arg, ArgAction, ArgMatches, Command, Error, value_parser};
+use lf_dump::Choice;
 use std::alloc::{AllocError, Global};
 
 /// What `--version` prints after the program's name: the version, and on a line of its own what `rt version`
@@ -49,9 +53,10 @@ pub enum Request<'a> {
         config: &'a str,
         trace: &'a str,
     },
-    /// Print the text of the trace in a file or on standard input.
+    /// Print the text of the trace in a file or on standard input, or the lines that are chosen.
     Dump {
         trace: &'a str,
+        choice: Choice,
     },
     /// Write the trace of the text in a file or on standard input.
     Assemble {
@@ -64,6 +69,13 @@ pub enum Request<'a> {
         trace: &'a str,
         out: &'a str,
         checks: u32,
+    },
+    /// Judge the trace in a file for the configuration in a file, and write its waveform to another.
+    View {
+        config: &'a str,
+        trace: &'a str,
+        out: &'a str,
+        window: Window,
     },
 }
 
@@ -95,6 +107,11 @@ fn progress_arg<'a>(alloc: Global) -> Arg<'a> {
         .long("progress")
         .action(ArgAction::SetTrue)
         .help("Shows on standard error how far it is")
+}
+
+/// An option that takes a value.
+fn value_arg<'a>(alloc: Global, name: &'a str, value: &'a str) -> Arg<'a> {
+    Arg::new(alloc, name).long(name).value_name(value)
 }
 
 fn check_command<'a>(alloc: Global) -> Result<Command<'a>, AllocError> {
@@ -174,7 +191,37 @@ fn dump_command<'a>(alloc: Global) -> Result<Command<'a>, AllocError> {
     Command::new(alloc, "dump")
         .about(dump::ABOUT)
         .after_help(dump::HELP)
-        .arg(trace_arg(alloc))
+        .arg(trace_arg(alloc))?
+        .arg(
+            value_arg(alloc, "port", "P")
+                .value_parser(value_parser!(u8))
+                .help("Only records that name this port"),
+        )?
+        .arg(
+            value_arg(alloc, "bank", "B")
+                .value_parser(value_parser!(u8))
+                .help("Only records that name this bank"),
+        )?
+        .arg(
+            value_arg(alloc, "block", "X")
+                .value_parser(value_parser!(u32))
+                .help("Only records that name this block or an address in it"),
+        )?
+        .arg(
+            value_arg(alloc, "tag", "T")
+                .value_parser(value_parser!(u8))
+                .help("Only records that name this tag"),
+        )?
+        .arg(
+            value_arg(alloc, "from", "OFFSET")
+                .value_parser(value_parser!(u64))
+                .help("Only records from this offset on"),
+        )?
+        .arg(
+            value_arg(alloc, "last", "N")
+                .value_parser(value_parser!(u32))
+                .help("Only the last so many of the records"),
+        )
 }
 
 fn assemble_command<'a>(alloc: Global) -> Result<Command<'a>, AllocError> {
@@ -210,6 +257,26 @@ fn shrink_command<'a>(alloc: Global) -> Result<Command<'a>, AllocError> {
         .arg(checks)
 }
 
+fn view_command<'a>(alloc: Global) -> Result<Command<'a>, AllocError> {
+    let out = Arg::new(alloc, "OUT")
+        .required(true)
+        .help("The file to write, or -");
+    let from = value_arg(alloc, "from", "N")
+        .value_parser(value_parser!(u64))
+        .help("The place of the first record to show");
+    let to = value_arg(alloc, "to", "N")
+        .value_parser(value_parser!(u64))
+        .help("The place of the last record to show");
+    Command::new(alloc, "view")
+        .about(view::ABOUT)
+        .after_help(view::HELP)
+        .arg(config_arg(alloc))?
+        .arg(trace_arg(alloc))?
+        .arg(out)?
+        .arg(from)?
+        .arg(to)
+}
+
 fn program<'a>(alloc: Global) -> Result<Command<'a>, AllocError> {
     Command::new(alloc, "score")
         .bin_name("score")?
@@ -225,7 +292,8 @@ fn program<'a>(alloc: Global) -> Result<Command<'a>, AllocError> {
         .subcommand(watch_command(alloc)?)?
         .subcommand(dump_command(alloc)?)?
         .subcommand(assemble_command(alloc)?)?
-        .subcommand(shrink_command(alloc)?)
+        .subcommand(shrink_command(alloc)?)?
+        .subcommand(view_command(alloc)?)
 }
 
 fn fault_of(error: Error) -> CommandFault {
@@ -301,6 +369,14 @@ fn watch_request<'a>(matches: &ArgMatches<'a>) -> Option<Request<'a>> {
 fn dump_request<'a>(matches: &ArgMatches<'a>) -> Option<Request<'a>> {
     Some(Request::Dump {
         trace: matches.get_str("TRACE")?,
+        choice: Choice {
+            port: matches.get_one::<u8>("port"),
+            bank: matches.get_one::<u8>("bank"),
+            block: matches.get_one::<u32>("block"),
+            tag: matches.get_one::<u8>("tag"),
+            from: matches.get_one::<u64>("from"),
+            last: matches.get_one::<u32>("last"),
+        },
     })
 }
 
@@ -318,6 +394,19 @@ fn shrink_request<'a>(matches: &ArgMatches<'a>) -> Option<Request<'a>> {
         trace,
         out: matches.get_str("OUT")?,
         checks: matches.get_one::<u32>("checks")?,
+    })
+}
+
+fn view_request<'a>(matches: &ArgMatches<'a>) -> Option<Request<'a>> {
+    let (config, trace) = files_of(matches)?;
+    Some(Request::View {
+        config,
+        trace,
+        out: matches.get_str("OUT")?,
+        window: Window {
+            from: matches.get_one::<u64>("from"),
+            to: matches.get_one::<u64>("to"),
+        },
     })
 }
 
@@ -340,6 +429,7 @@ pub fn asked<'a>(alloc: Global, words: &'a [String]) -> Result<Request<'a>, Comm
         Some(("dump", inner)) => dump_request(inner),
         Some(("assemble", inner)) => assemble_request(inner),
         Some(("shrink", inner)) => shrink_request(inner),
+        Some(("view", inner)) => view_request(inner),
         _ => None,
     };
     found.ok_or(CommandFault::Usage)

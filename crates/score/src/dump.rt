@@ -2,6 +2,7 @@
 
 use crate::REFUSED;
 use crate::trace::Trace;
+use lf_dump::{Choice, dump_chosen};
 use lf_engine::Counted;
 use std::io;
 use std::process::ExitCode;
@@ -23,6 +24,11 @@ A line for the header, for each memory record, for each event record and
 for the end, with the offset of its first byte. Numbers are decimal,
 addresses and masks hexadecimal, and bytes stand in the order of the trace.
 
+With an option, only the lines of the records that agree with all options
+are printed, beside those of the header and of the end. The line of the
+header ends with the word part then, and assemble refuses such a text.
+With --last, nothing is printed before the trace ends.
+
 Where the bytes are no trace, the last line says so, behind what was read:
   refused format Truncated at=48
   refused read trace
@@ -34,17 +40,24 @@ Exit status:
 
 Examples:
   score dump run.lfts
-  score dump run.lfts | grep ' bank=0 number=5 '
+  score dump --bank 0 --block 7 run.lfts
+  score dump --from 4096 run.lfts | head -20
+  score dump --last 10 run.lfts
   simulate | score dump -";
 
-/// Prints the text of the trace.
-pub fn dump<T: Print + Input + Files + AllocGlobal>(rt: &T, trace: &str) -> ExitCode
+/// Prints the text of the trace, or a part of it where something is chosen.
+pub fn dump<T: Print + Input + Files + AllocGlobal>(rt: &T, trace: &str, choice: Choice) -> ExitCode
 where
     T::File: Drop,
 {
     let mut reader = Counted::new(Trace::open(rt, trace));
     let mut writer = Counted::new(io::writer(rt));
-    match lf_dump::dump(rt, &mut reader, &mut writer, u32::MAX) {
+    let told = if choice == Choice::default() {
+        lf_dump::dump(rt, &mut reader, &mut writer, u32::MAX)
+    } else {
+        dump_chosen(rt, &mut reader, &mut writer, u32::MAX, choice)
+    };
+    match told {
         Ok(None) => ExitCode::SUCCESS,
         _ => ExitCode::from(REFUSED),
     }

@@ -2,8 +2,8 @@
 //! that a configuration says, and prints one line: a yes with the number of events, a no with the fault
 //! and its place, or why the trace is not judged. `explain` also prints why a record breaks a rule, `watch`
 //! ends as soon as a trace broke for good, `stats` prints the statistics of a trace that is legal and `cover`
-//! what it reached, `shrink` writes a smaller trace with the same rule broken, `demo` records a small cache in
-//! threads, `dump` prints a trace as text, and `assemble` writes the trace of a text. `score help COMMAND` says
+//! what it reached, `shrink` writes a smaller trace with the same rule broken, `view` a waveform, `demo` records a
+//! small cache in threads, `dump` prints a trace as text, and `assemble` writes the trace of a text. `score help COMMAND` says
 //! more of each. The status is 0 for a yes, 1 for a no and 2 for a refusal.
 #![tactic(auto)]
 
@@ -16,12 +16,14 @@ mod demonstration;
 mod dump;
 mod explain;
 mod help;
+mod output;
 mod progress;
 mod shrink;
 mod stats;
 #[cfg(test)]
 mod tests;
 mod trace;
+mod view;
 mod watch;
 
 use assemble::assemble;
@@ -42,6 +44,7 @@ use std::process::ExitCode;
 use std::rt::{Env, Files};
 use std::sync::Wait;
 use std::thread::Threads;
+use view::view;
 use watch::watch;
 
 const NO: u8 = 1;
@@ -135,9 +138,15 @@ where
             out,
             checks,
         } => shrink(rt, config, trace, out, checks),
+        Request::View {
+            config,
+            trace,
+            out,
+            window,
+        } => view(rt, config, trace, out, window),
         Request::Demo { config, out } => demo(rt, config, out),
         Request::Watch { config, trace } => watch(rt, config, trace),
-        Request::Dump { trace } => Ok(dump(rt, trace)),
+        Request::Dump { trace, choice } => Ok(dump(rt, trace, choice)),
         Request::Assemble { text, out } => assemble(rt, text, out),
     }
 }

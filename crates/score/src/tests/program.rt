@@ -6,6 +6,8 @@ use crate::configuration::{MOST_BYTES, bytes_at, bytes_within, text_in};
 use crate::progress::{Progress, line_of};
 use crate::tests::demonstration::SMALL_TEXT;
 use crate::trace::Trace;
+use crate::view::Window;
+use lf_dump::Choice;
 use lf_engine::{Counted, InputFault, RunFault, run};
 use std::alloc::{AllocError, Global};
 use std::io;
@@ -152,7 +154,9 @@ fn help_is_asked_for(rt: HostRuntime) -> Result<(), Fail> {
     let assemble = ["column=9 expected tag=", "refused write", "Examples:"];
     has_help(&rt, "score help assemble", assemble.as_slice())?;
     let shrink = ["shrunk events=20000", "--checks <N>", "refused write"];
-    has_help(&rt, "score help shrink", shrink.as_slice())
+    has_help(&rt, "score help shrink", shrink.as_slice())?;
+    let view = ["gtkwave run.vcd run.gtkw", "--from <N>", "refused write"];
+    has_help(&rt, "score help view", view.as_slice())
 }
 
 #[test]
@@ -413,11 +417,58 @@ fn progress_gives_the_bytes(rt: HostRuntime) -> Result<(), Fail> {
 #[test]
 fn words_of_dump(rt: HostRuntime) -> Result<(), Fail> {
     let words = words_of(rt.alloc(), "score dump -")?;
-    let dump = Request::Dump { trace: "-" };
+    let dump = Request::Dump {
+        trace: "-",
+        choice: Choice::default(),
+    };
     assert_eq!(rt; asked(rt.alloc(), words.as_slice()).ok(), Some(dump));
     is_refused(&rt, "score dump")?;
     is_refused(&rt, "score dump a.lfts b.lfts")?;
     is_refused(&rt, "score dump a.lfts --progress")
+}
+
+#[test]
+fn choices_of_dump(rt: HostRuntime) -> Result<(), Fail> {
+    let line = "score dump --port 1 --bank 2 --block 3 --tag 4 --from 5 --last 6 a.lfts";
+    let words = words_of(rt.alloc(), line)?;
+    let dump = Request::Dump {
+        trace: "a.lfts",
+        choice: Choice {
+            port: Some(1),
+            bank: Some(2),
+            block: Some(3),
+            tag: Some(4),
+            from: Some(5),
+            last: Some(6),
+        },
+    };
+    assert_eq!(rt; asked(rt.alloc(), words.as_slice()).ok(), Some(dump));
+    is_refused(&rt, "score dump --port 256 a.lfts")?;
+    is_refused(&rt, "score dump --block")
+}
+
+#[test]
+fn words_of_view(rt: HostRuntime) -> Result<(), Fail> {
+    let (config, trace, out) = ("c.toml", "a.lfts", "a.vcd");
+    for (line, from, to) in [
+        ("score view c.toml a.lfts a.vcd", None, None),
+        (
+            "score view --from 3 --to 9 c.toml a.lfts a.vcd",
+            Some(3),
+            Some(9),
+        ),
+    ] {
+        let words = words_of(rt.alloc(), line)?;
+        let view = Request::View {
+            config,
+            trace,
+            out,
+            window: Window { from, to },
+        };
+        assert_eq!(rt; asked(rt.alloc(), words.as_slice()).ok(), Some(view));
+    }
+    is_refused(&rt, "score view c.toml a.lfts")?;
+    is_refused(&rt, "score view - - a.vcd")
 }
 
 #[test]

@@ -1,0 +1,280 @@
+//! `score view`: writes a waveform of a trace.
+
+use crate::configuration::{bytes_at, bytes_within, text_in};
+use crate::output::{Target, finish, part_of, put, target_of, tell};
+use crate::trace::{Trace, size_of_file};
+use crate::{REFUSED, refused, status_of};
+use lf_engine::{Counted, InputFault, Line, run, shape_for};
+use lf_rules::{Rule, Shape};
+use lf_verdict::{Fault, Verdict};
+use lf_view::{Sought, ViewFault, place_of, view as draw};
+use lf_wave::{Marker, SaveFile, View};
+use std::alloc::AllocError;
+use std::io;
+use std::io::{ErrorKind, Read, Write};
+use std::process::ExitCode;
+use std::rt::Files;
+use std::thread::Threads;
+
+/// What the help says of `view`.
+pub const ABOUT: &str = "Writes a waveform of a trace, which GTKWave shows";
+
+/// What the help says after the arguments.
+pub const HELP: &str = "\
+The line is that of check; see score help check. For a yes or a no, OUT is
+written, in the text form VCD. Beside it stands a file that has GTKWave show
+all signals: OUT with .gtkw in the place of .vcd.
+
+The record at place N of TRACE, from 0, stands at N nanoseconds. A port has
+its record (event), with tag and address, how many of its requests have no
+reply (outstanding), and whether each tag is busy. A bank has its record, its
+number, its block, the port and the tag of its request, and its register.
+Where a record of a port or of a bank breaks a rule, fault rises at that
+record, and rule is the name of the rule.
+
+Without --from, the waveform begins 200 records before the one that breaks a
+rule, and without --to it ends with that one. Otherwise it is that of the
+whole trace.
+
+A TRACE that is no regular file is kept in memory. OUT is written beside its
+place first and then renamed. An OUT of - is standard output: then the line
+goes to standard error, and there is no second file.
+
+Answers:
+  no bank=0 number=5 rule=ReplyData  what check says; OUT is written
+  refused write                      OUT cannot be written
+
+Exit status:
+  0  yes
+  1  no
+  2  refused
+
+Examples:
+  score view small.toml run.lfts run.vcd && gtkwave run.vcd run.gtkw
+  score view --from 0 --to 999 small.toml run.lfts run.vcd
+  score view small.toml run.lfts - | vcd2fst - run.fst";
+
+/// So many records before the one that breaks a rule are shown, where nothing else is asked for.
+const BEFORE: u64 = 200;
+
+/// The places of the first and the last record that are asked for.
+#[derive(Clone, Copy, Debug, PartialEq, Eq)]
+pub struct Window {
+    pub from: Option<u64>,
+    pub to: Option<u64>,
+}
+
+impl Window {
+    /// What the wave shows of a trace of this shape, in which this record breaks a rule.
+    fn view(self, shape: &Shape, marker: Option<Marker>) -> View {
+        let fault = marker.map(|marker| marker.place);
+        let begin = fault.map(|place| place.saturating_sub(BEFORE)).unwrap_or(0);
+        View {
+            from: self.from.unwrap_or(begin),
+            to: self.to.or(fault).unwrap_or(u64::MAX),
+            tags: shape.tags as u16,
+            marker,
+        }
+    }
+}
+
+/// Three readers of one trace.
+#[derive(Drop)]
+struct Readers<R> {
+    judged: R,
+    searched: R,
+    shown: R,
+}
+
+/// The record that the verdict names, and its rule.
+fn sought_in(verdict: &Verdict) -> Option<(Sought, Rule)> {
+    match verdict {
+        Verdict::No(Fault::Port { port, at, rule }) => Some((
+            Sought::InLog {
+                log: *port,
+                at: *at,
+            },
+            *rule,
+        )),
+        Verdict::No(Fault::Bank { bank, number, rule }) => Some((
+            Sought::InBank {
+                bank: *bank,
+                number: *number,
+            },
+            *rule,
+        )),
+        _ => None,
+    }
+}
+
+/// Finds the record that the verdict names, so that it can be marked.
+fn marker_of<T: AllocGlobal, R: Read + Drop>(
+    rt: &T,
+    verdict: &Verdict,
+    reader: R,
+) -> Result<Option<Marker>, ViewFault> {
+    let Some((sought, rule)) = sought_in(verdict) else {
+        return Ok(None);
+    };
+    let mut reader = Counted::new(reader);
+    let place = place_of(rt, &mut reader, sought, u32::MAX)?;
+    Ok(place.map(|place| Marker {
+        place,
+        rule: Some(rule),
+    }))
+}
+
+/// Writes the wave of the trace. A trace that is none any more was changed while it was read.
+fn write_wave<T: AllocGlobal, R: Read + Drop, W: Write + Drop>(
+    rt: &T,
+    view: View,
+    reader: R,
+    writer: W,
+) -> io::Result<()> {
+    let mut reader = Counted::new(reader);
+    let mut writer = Counted::new(writer);
+    match draw(rt, &mut reader, &mut writer, view, u32::MAX) {
+        Ok(None) => Ok(()),
+        _ => Err(io::Error::from(ErrorKind::Other)),
+    }
+}
+
+/// The name of the file of signals beside the wave.
+fn save_name<T: AllocGlobal>(rt: &T, out: &str) -> Result<String, AllocError> {
+    let name = out.strip_suffix(".vcd").unwrap_or(out);
+    format!(in rt.alloc(); "{name}.gtkw")
+}
+
+/// Writes the file of signals beside the wave.
+fn put_save<T: Print + Files + AllocGlobal>(
+    rt: &T,
+    out: &str,
+    view: &View,
+    shape: &Shape,
+) -> io::Result<()> {
+    let save = SaveFile {
+        view,
+        ports: shape.ports as u8,
+        banks: shape.banks as u8,
+    };
+    let text = format!(in rt.alloc(); "{save}")?;
+    let name = save_name(rt, out)?;
+    put(rt, name.as_str(), text.as_bytes())
+}
+
+/// Writes the wave to standard output or to a file, and to a regular file also that of the signals.
+fn put_wave<T: Print + Files + AllocGlobal, R: Read + Drop>(
+    rt: &T,
+    out: &str,
+    view: View,
+    shape: &Shape,
+    reader: R,
+) -> io::Result<()>
+where
+    T::File: Drop,
+{
+    match target_of(rt, out) {
+        Target::StandardOutput => write_wave(rt, view, reader, io::writer(rt)),
+        Target::Special => write_wave(rt, view, reader, std::fs::create(rt, out)?),
+        Target::File => {
+            let part = part_of(rt, out)?;
+            let file = std::fs::create(rt, part.as_str())?;
+            let written = write_wave(rt, view, reader, file);
+            finish(rt, part.as_str(), out, written)?;
+            put_save(rt, out, &view, shape)
+        }
+    }
+}
+
+/// Writes the wave of a trace with a yes or a no, and tells the line of the verdict.
+fn hand_out<T: Print + Eprint + Files + AllocGlobal, R: Read + Drop>(
+    rt: &T,
+    shape: &Shape,
+    out: &str,
+    window: Window,
+    verdict: Verdict,
+    searched: R,
+    shown: R,
+) -> io::Result<ExitCode>
+where
+    T::File: Drop,
+{
+    let Ok(marker) = marker_of(rt, &verdict, searched) else {
+        tell(rt, out, "refused read trace")?;
+        return Ok(ExitCode::from(REFUSED));
+    };
+    let view = window.view(shape, marker);
+    if put_wave(rt, out, view, shape, shown).is_err() {
+        tell(rt, out, "refused write")?;
+        return Ok(ExitCode::from(REFUSED));
+    }
+    tell(rt, out, Line::Judged(&verdict))?;
+    Ok(status_of(&Ok(verdict)))
+}
+
+/// Judges the trace, and shows one that has a yes or a no.
+fn view_of<
+    T: Print + Eprint + Files + AllocGlobal + Threads + Sync + Send + Copy + 'static,
+    R: Read + Drop,
+>(rt: &T, text: &str, out: &str, window: Window, readers: Readers<R>) -> io::Result<ExitCode>
+where
+    T::File: Drop,
+{
+    let Readers {
+        judged,
+        searched,
+        shown,
+    } = readers;
+    let mut reader = Counted::new(judged);
+    let mut line = Counted::new(Vec::new(rt.alloc()));
+    let Ok(verdict) = run(rt, &mut reader, &mut line, text, 1, u32::MAX) else {
+        tell(rt, out, "refused read trace")?;
+        return Ok(ExitCode::from(REFUSED));
+    };
+    match (shape_for(rt.alloc(), text, 1), verdict) {
+        (Ok(shape), verdict @ (Verdict::Yes { .. } | Verdict::No(_))) => {
+            hand_out(rt, &shape, out, window, verdict, searched, shown)
+        }
+        (_, verdict) => {
+            tell(rt, out, Line::Judged(&verdict))?;
+            Ok(status_of(&Ok(verdict)))
+        }
+    }
+}
+
+/// Judges the configuration before the trace is read. A trace that is no regular file is kept, since it can be read
+/// once alone.
+pub fn view<
+    T: Print + Eprint + Input + Files + AllocGlobal + Threads + Sync + Send + Copy + 'static,
+>(rt: &T, config: &str, trace: &str, out: &str, window: Window) -> io::Result<ExitCode>
+where
+    T::File: Drop,
+{
+    let read = bytes_at(rt, config);
+    let text = match text_in(&read) {
+        Ok(text) => text,
+        Err(why) => return refused(rt, why),
+    };
+    if size_of_file(rt, trace).is_some() {
+        let readers = Readers {
+            judged: Trace::open(rt, trace),
+            searched: Trace::open(rt, trace),
+            shown: Trace::open(rt, trace),
+        };
+        return view_of(rt, text, out, window, readers);
+    }
+    let kept = match bytes_within(rt.alloc(), Trace::open(rt, trace), u32::MAX) {
+        Ok(kept) => kept,
+        Err(e) if e.kind() == ErrorKind::OutOfMemory => return refused(rt, InputFault::Memory),
+        Err(_) => {
+            tell(rt, out, "refused read trace")?;
+            return Ok(ExitCode::from(REFUSED));
+        }
+    };
+    let readers = Readers {
+        judged: kept.as_slice(),
+        searched: kept.as_slice(),
+        shown: kept.as_slice(),
+    };
+    view_of(rt, text, out, window, readers)
+}
