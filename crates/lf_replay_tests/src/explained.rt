@@ -79,9 +79,9 @@ fn mask_of_an_eviction(rt: HostRuntime) -> Result<(), Fail> {
         return Err(Fail::from("nothing is told"));
     };
     assert_eq!(rt; (told.number, told.rule), (5, Rule::EvictMask));
-    let Some(Expected::Masks(masks)) = told.expected else {
+    let Some(Expected::Masks(masks)) = &told.expected else {
         return Err(Fail::from("no masks are told"));
     };
-    assert_eq!(rt; mask_at(&masks, 0), 3);
+    assert_eq!(rt; mask_at(masks, 0), 3);
     Ok(())
 }
