@@ -15,6 +15,8 @@ const VIEW: View = View {
     from: 0,
     to: u64::MAX,
     tags: 1,
+    block: 8,
+    factor: 1,
     marker: None,
 };
 
@@ -37,6 +39,8 @@ $var wire 8 b0p port [7:0] $end
 $var wire 8 b0i tag [7:0] $end
 $var wire 32 b0b block [31:0] $end
 $var wire 16 b0r register [15:0] $end
+$var wire 16 b0x level1_registers [15:0] $end
+$var wire 16 b0y level2_registers [15:0] $end
 $upscope $end
 $upscope $end
 $enddefinitions $end
@@ -48,6 +52,8 @@ s p0e
 b0 p0o
 0p0t0
 s b0e
+b0 b0x
+b0 b0y
 $end
 #00
 1p0t0

@@ -2,6 +2,7 @@
 use Rattle.std.specs.Prelude.{ℕ, false, List, [], ◌++◌, codes, flat_map}
 use Rattle.std.specs.List.{range_with_len}
 use Rattle.std.specs.Fmt.{decimal}
+use Rattle.lf_wave.specs.declared.registers.Level.TheVariants as levels
 use Rattle.lf_wave.specs.declared.signal.Signal.{Signal}
 use Rattle.lf_wave.specs.declared.signal.Signal.TheVariants as signals
 use Rattle.lf_wave.specs.declared.view.View.{View}
@@ -54,8 +55,14 @@ bank_values bank =
     ++ (number_variable 8 (signals.Requester bank) (codes "port [7:0]") ++ (number_variable 8 (signals.BankTag bank) (codes "tag [7:0]")
     ++ (number_variable 32 (signals.Block bank) (codes "block [31:0]") ++ number_variable 16 (signals.Register bank) (codes "register [15:0]")))))
 
+-- how many registers of each level are held
+abbrev pub register_values : ℕ → List ℕ
+register_values bank =
+    number_variable 16 (signals.InUse levels.One bank) (codes "level1_registers [15:0]")
+    ++ number_variable 16 (signals.InUse levels.Two bank) (codes "level2_registers [15:0]")
+
 abbrev pub bank_scope : ℕ → List ℕ
-bank_scope bank = scope_begin (codes "bank") bank ++ (bank_values bank ++ scope_end)
+bank_scope bank = scope_begin (codes "bank") bank ++ (bank_values bank ++ (register_values bank ++ scope_end))
 
 abbrev pub bank_scopes : ℕ → List ℕ
 bank_scopes banks = flat_map bank_scope (range_with_len 0 banks)
@@ -65,7 +72,7 @@ scopes tags ports banks =
     line (codes "$scope module score $end") ++ (number_variable 1 signals.Fault (codes "fault") ++ (text_variable signals.Rule (codes "rule")
     ++ (port_scopes tags ports ++ (bank_scopes banks ++ scope_end))))
 
--- ---- the first values: no fault, no word, and no tag is busy
+-- ---- the first values: no fault, no word, no tag is busy, and no register is held
 
 abbrev pub tag_start : ℕ → ℕ → List ℕ
 tag_start port tag = bit_change false (signals.Busy port tag)
@@ -80,7 +87,8 @@ abbrev pub port_starts : ℕ → ℕ → List ℕ
 port_starts tags ports = flat_map (port_start tags) (range_with_len 0 ports)
 
 abbrev pub bank_start : ℕ → List ℕ
-bank_start bank = text_change [] (signals.BankEvent bank)
+bank_start bank =
+    text_change [] (signals.BankEvent bank) ++ (number_change 0 (signals.InUse levels.One bank) ++ number_change 0 (signals.InUse levels.Two bank))
 
 abbrev pub bank_starts : ℕ → List ℕ
 bank_starts banks = flat_map bank_start (range_with_len 0 banks)

@@ -1,5 +1,7 @@
--- What callers read: the signals of a wave, what each record changes, the head, and the file of signals beside it.
+-- What callers read: the signals of a wave, the registers that are held, what each record changes, the head, and the file of
+-- signals beside it.
 pub mod Signals
+pub mod Registers
 pub mod Wave
 pub mod Head
 pub mod Save

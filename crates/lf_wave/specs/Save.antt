@@ -51,10 +51,13 @@ bank_request_rows bank =
     bank_row bank as_decimal (codes "port[7:0]") ++ (bank_row bank as_decimal (codes "tag[7:0]")
     ++ bank_row bank as_decimal (codes "register[15:0]"))
 
+abbrev pub bank_register_rows : ℕ → List ℕ
+bank_register_rows bank = bank_row bank as_decimal (codes "level1_registers[15:0]") ++ bank_row bank as_decimal (codes "level2_registers[15:0]")
+
 abbrev pub bank_rows : ℕ → List ℕ
 bank_rows bank =
     title (codes "bank") bank ++ (bank_row bank as_text (codes "event") ++ (bank_row bank as_decimal (codes "number[31:0]")
-    ++ (bank_row bank as_decimal (codes "block[31:0]") ++ bank_request_rows bank)))
+    ++ (bank_row bank as_decimal (codes "block[31:0]") ++ (bank_request_rows bank ++ bank_register_rows bank))))
 
 abbrev pub all_bank_rows : ℕ → List ℕ
 all_bank_rows banks = flat_map bank_rows (range_with_len 0 banks)

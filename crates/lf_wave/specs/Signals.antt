@@ -1,6 +1,7 @@
 -- The signals of a wave, and the lines of the file that give them a value.
 use Rattle.std.specs.Prelude.{ℕ, Bool, true, false, List, [], ◌∷◌, ◌++◌, codes, nat_lt, if◌then◌else◌}
 use Rattle.std.specs.Fmt.{decimal, digits}
+use Rattle.lf_wave.specs.declared.registers.Level.TheVariants as levels
 use Rattle.lf_wave.specs.declared.signal.Signal.{Signal}
 use Rattle.lf_wave.specs.declared.signal.Signal.TheVariants as signals
 
@@ -25,6 +26,8 @@ identifier (signals.Requester bank) = of_bank bank (codes "p")
 identifier (signals.BankTag bank) = of_bank bank (codes "i")
 identifier (signals.Block bank) = of_bank bank (codes "b")
 identifier (signals.Register bank) = of_bank bank (codes "r")
+identifier (signals.InUse levels.One bank) = of_bank bank (codes "x")
+identifier (signals.InUse levels.Two bank) = of_bank bank (codes "y")
 
 -- a line of the file
 abbrev pub line : List ℕ → List ℕ

@@ -8,10 +8,14 @@ use Rattle.lf_rules.specs.declared.event.Record.{Record}
 use Rattle.lf_rules.specs.declared.rule.Rule.{Rule}
 use Rattle.lf_text.specs.Text.{word_of}
 use Rattle.lf_wave.specs.declared.busy.BusyTag.{BusyTag}
+use Rattle.lf_wave.specs.declared.registers.HeldRegister.{HeldRegister}
+use Rattle.lf_wave.specs.declared.registers.Level.{Level}
+use Rattle.lf_wave.specs.declared.registers.Level.TheVariants as levels
 use Rattle.lf_wave.specs.declared.signal.Signal.{Signal}
 use Rattle.lf_wave.specs.declared.signal.Signal.TheVariants as signals
 use Rattle.lf_wave.specs.declared.view.Marker.{Marker}
 use Rattle.lf_wave.specs.declared.view.View.{View}
+use Rattle.lf_wave.specs.Registers.{in_use, level1_after, level2_after}
 use Rattle.lf_wave.specs.Signals.{line, bit_change, number_change, text_change, busy_change}
 
 -- ---- busy tags: an issue makes its tag busy, and a reply frees it
@@ -20,7 +24,7 @@ abbrev pub is_other : ℕ → ℕ → BusyTag → Bool
 is_other port tag b = not (b.port == port) || not (b.tag == tag)
 
 abbrev pub busy_by : Event → ℕ → List BusyTag → List BusyTag
-busy_by (events.Issue op tag size address bytes) port busy = filter (is_other port tag) busy ++ (record { port = port; tag = tag }) ∷ []
+busy_by (events.Issue op tag size address bytes) port busy = filter (is_other port tag) busy ++ (record { port = port; tag = tag; address = address }) ∷ []
 busy_by (events.Reply tag size bytes) port busy = filter (is_other port tag) busy
 busy_by _ port busy = busy
 
@@ -80,6 +84,16 @@ named_by tags busy log bank number event = number_change number (signals.Number 
 abbrev pub record_changes : ℕ → ℕ → Record → List ℕ
 record_changes tags busy r = text_change (word_of r.event) (event_signal r.log r.bank r.event) ++ named_by tags busy r.log r.bank r.number r.event
 
+-- how many registers of its bank are held where it may change them
+abbrev pub register_changes : ℕ → ℕ → ℕ → Event → List ℕ
+register_changes level1 level2 bank (events.Primary port tag register) = number_change level1 (signals.InUse levels.One bank)
+register_changes level1 level2 bank (events.Merge port tag register) = number_change level1 (signals.InUse levels.One bank)
+register_changes level1 level2 bank (events.Fill1 block bytes) = number_change level1 (signals.InUse levels.One bank)
+register_changes level1 level2 bank (events.SecondPrimary block register) = number_change level2 (signals.InUse levels.Two bank)
+register_changes level1 level2 bank (events.SecondMerge block register) = number_change level2 (signals.InUse levels.Two bank)
+register_changes level1 level2 bank (events.Fill2 second bytes) = number_change level2 (signals.InUse levels.Two bank)
+register_changes level1 level2 bank event = []
+
 -- ---- the wave
 
 -- a time, in tenths of a nanosecond
@@ -93,8 +107,18 @@ standing_tag tags busy b = busy_change tags true b.port b.tag ++ number_change (
 abbrev pub standing_tags : ℕ → List BusyTag → List ℕ
 standing_tags tags busy = flat_map (standing_tag tags busy) busy
 
-abbrev pub standing : View → ℕ → List BusyTag → List ℕ
-standing view place busy = if place == view.from then standing_tags view.tags busy else []
+-- a register that is held there gives the number of its bank
+abbrev pub standing_register : Level → List HeldRegister → HeldRegister → List ℕ
+standing_register level held h = number_change (in_use held h.bank) (signals.InUse level h.bank)
+
+abbrev pub standing_registers : Level → List HeldRegister → List ℕ
+standing_registers level held = flat_map (standing_register level held) held
+
+abbrev pub standing : View → ℕ → List BusyTag → List HeldRegister → List HeldRegister → List ℕ
+standing view place busy level1 level2 =
+    if place == view.from
+    then standing_tags view.tags busy ++ (standing_registers levels.One level1 ++ standing_registers levels.Two level2)
+    else []
 
 abbrev pub rule_named : Option Rule → List ℕ
 rule_named (Some rule) = text_change (rule_text rule) signals.Rule
@@ -105,31 +129,41 @@ abbrev pub mark : Option Marker → ℕ → List ℕ
 mark (Some m) place = if place == m.place then bit_change true signals.Fault ++ rule_named m.rule else []
 mark None place = []
 
--- A record at its place, where these tags are busy then. It has one nanosecond, and its word is taken away before the next one.
-abbrev pub moment : View → ℕ → List BusyTag → Record → List ℕ
-moment view place busy r =
-    time place (codes "0") ++ (standing view place busy ++ (mark view.marker place
+-- A record at its place, where these tags are busy and these registers of each level are held then. It has one nanosecond, and its word is taken away before the next one.
+abbrev pub moment : View → ℕ → List BusyTag → List HeldRegister → List HeldRegister → Record → List ℕ
+moment view place busy level1 level2 r =
+    time place (codes "0") ++ (standing view place busy level1 level2 ++ (mark view.marker place
     ++ (record_changes view.tags (outstanding busy r.log) r
-    ++ (time place (codes "9") ++ text_change [] (event_signal r.log r.bank r.event)))))
+    ++ (register_changes (in_use level1 r.bank) (in_use level2 r.bank) r.bank r.event
+    ++ (time place (codes "9") ++ text_change [] (event_signal r.log r.bank r.event))))))
 
 abbrev pub is_shown : View → ℕ → Bool
 is_shown view place = nat_le view.from place && nat_le place view.to
 
-abbrev pub shown : View → ℕ → List BusyTag → Record → List ℕ
-shown view place busy r = if is_shown view place then moment view place busy r else []
+abbrev pub shown : View → ℕ → List BusyTag → List HeldRegister → List HeldRegister → Record → List ℕ
+shown view place busy level1 level2 r = if is_shown view place then moment view place busy level1 level2 r else []
 
--- how far a wave is drawn: what it shows, how many records there were, and the tags that are busy after them
+-- how far a wave is drawn: what it shows, how many records there were, and after them the tags that are busy and the registers of
+-- each level that are held
 pub record Drawn : Type 0 where
   pub view : View
   pub place : ℕ
   pub busy : List BusyTag
+  pub level1 : List HeldRegister
+  pub level2 : List HeldRegister
 
 abbrev pub undrawn : View → Drawn
-undrawn view = record { view = view; place = 0; busy = [] }
+undrawn view = record { view = view; place = 0; busy = []; level1 = []; level2 = [] }
 
 -- one record more
 abbrev pub next : Drawn → Record → Drawn
-next wave r = record { view = wave.view; place = wave.place + 1; busy = busy_after wave.busy r }
+next wave r = record {
+    view = wave.view;
+    place = wave.place + 1;
+    busy = busy_after wave.busy r;
+    level1 = level1_after wave.view.block wave.busy r.bank r.event wave.level1;
+    level2 = level2_after wave.view.factor r.bank r.event wave.level2
+    }
 
 abbrev pub drawn_after : Drawn → List Record → Drawn
 drawn_after wave [] = wave
@@ -137,7 +171,7 @@ drawn_after wave (r ∷ records) = drawn_after (next wave r) records
 
 -- the wave of the record that comes next
 abbrev pub next_shown : Drawn → Record → List ℕ
-next_shown wave r = shown wave.view wave.place (busy_after wave.busy r) r
+next_shown wave r = shown wave.view wave.place (next wave r).busy (next wave r).level1 (next wave r).level2 r
 
 -- the wave of these records, from here on
 abbrev pub wave_from : Drawn → List Record → List ℕ

@@ -11,6 +11,8 @@ use std::alloc::AllocError;
 pub struct BusyTag {
     pub port: u8,
     pub tag: u8,
+    /// What its issue asks for.
+    pub address: u64,
 }
 
 fn free(busy: &mut Vec<BusyTag>, port: u8, tag: u8)
@@ -24,10 +26,11 @@ pub(crate) fn apply(busy: &mut Vec<BusyTag>, item: &Record) -> Result<(), AllocE
     ensures { OnOk result (busy.new.items ≡ busy_after busy.old.items item.now) }
 {
     match &item.event {
-        Event::Issue { tag, .. } => {
+        Event::Issue { tag, address, .. } => {
             let entry = BusyTag {
                 port: item.log,
                 tag: *tag,
+                address: *address,
             };
             free(busy, entry.port, entry.tag);
             busy.push(entry)?;

@@ -3,10 +3,12 @@
 ghost use Rattle.std.specs.Prelude.{Some};
 ghost use Rattle.lf_wave.specs.Head.{scope_begin, scope_end, port_scope, port_scopes, bank_scope, bank_scopes, scopes};
 ghost use Rattle.lf_wave.specs.Head.{tag_starts, port_start, port_starts, bank_starts, start, head_text, port_values, bank_values};
+ghost use Rattle.lf_wave.specs.Head.{register_values, bank_start};
 ghost use Rattle.lf_wave.specs.Head.{tag_variable, tag_variables};
 
 use crate::change::{BitChange, NumberChange, TextChange};
 use crate::moment::Time;
+use crate::registers::Level;
 use crate::signal::Signal;
 use crate::variable::{NumberVariable, TextVariable};
 use crate::view::View;
@@ -202,6 +204,37 @@ impl fmt::Display for BankValues {
     }
 }
 
+/// The lines of the signals that say how many registers are held.
+#[derive(Clone, Copy)]
+struct RegisterValues {
+    bank: u8,
+}
+
+impl fmt::Display for RegisterValues {
+    ghost output = { λ v. Some (register_values v.bank) };
+
+    fn fmt<W: fmt::Write>(&self, f: &mut fmt::Formatter<W>) -> fmt::Result {
+        let bank = self.bank;
+        let level1 = NumberVariable {
+            width: 16,
+            signal: Signal::InUse {
+                level: Level::One,
+                bank,
+            },
+            name: "level1_registers [15:0]",
+        };
+        let level2 = NumberVariable {
+            width: 16,
+            signal: Signal::InUse {
+                level: Level::Two,
+                bank,
+            },
+            name: "level2_registers [15:0]",
+        };
+        write!(f, "{level1}{level2}")
+    }
+}
+
 /// The scope of a bank.
 #[derive(Clone, Copy)]
 struct BankScope {
@@ -218,8 +251,9 @@ impl fmt::Display for BankScope {
             index: bank,
         };
         let values = BankValues { bank };
+        let registers = RegisterValues { bank };
         let end = ScopeEnd;
-        write!(f, "{begin}{values}{end}")
+        write!(f, "{begin}{values}{registers}{end}")
     }
 }
 
@@ -342,7 +376,30 @@ impl fmt::Display for PortStarts {
     }
 }
 
-/// All banks, with no record yet.
+/// A bank with no record yet and no register held.
+#[derive(Clone, Copy)]
+struct BankStart {
+    bank: u8,
+}
+
+impl fmt::Display for BankStart {
+    ghost output = { λ s. Some (bank_start s.bank) };
+
+    fn fmt<W: fmt::Write>(&self, f: &mut fmt::Formatter<W>) -> fmt::Result {
+        let bank = self.bank;
+        let word = TextChange {
+            text: "",
+            signal: Signal::BankEvent { bank },
+        };
+        let level = Level::One;
+        let level1 = NumberChange::new(0, Signal::InUse { level, bank });
+        let level = Level::Two;
+        let level2 = NumberChange::new(0, Signal::InUse { level, bank });
+        write!(f, "{word}{level1}{level2}")
+    }
+}
+
+/// All banks at first.
 #[derive(Clone, Copy)]
 struct BankStarts {
     banks: u8,
@@ -353,11 +410,8 @@ impl fmt::Display for BankStarts {
 
     fn fmt<W: fmt::Write>(&self, f: &mut fmt::Formatter<W>) -> fmt::Result {
         for bank in 0..self.banks {
-            let word = TextChange {
-                text: "",
-                signal: Signal::BankEvent { bank },
-            };
-            write!(f, "{word}")?;
+            let start = BankStart { bank };
+            write!(f, "{start}")?;
         }
         Ok(())
     }

@@ -1,12 +1,14 @@
 //! A record at its place.
 
 ghost use Rattle.std.specs.Prelude.{Some};
-ghost use Rattle.lf_wave.specs.Wave.{time, standing_tag, standing_tags, standing, rule_named, mark, moment};
+ghost use Rattle.lf_wave.specs.Wave.{time, standing_tag, standing_tags, standing_register, standing_registers, standing};
+ghost use Rattle.lf_wave.specs.Wave.{rule_named, mark, moment};
 
 use crate::busy::{BusyTag, outstanding};
 use crate::change::{BitChange, BusyChange, NumberChange, TextChange};
-use crate::changes::RecordChanges;
+use crate::changes::{RecordChanges, RegisterChanges};
 use crate::event::event_signal;
+use crate::registers::{HeldRegister, Level, in_use};
 use crate::signal::Signal;
 use crate::view::{Marker, View};
 use lf_rules::{Record, Rule};
@@ -33,20 +35,15 @@ impl fmt::Display for Time {
 struct StandingTag<'a> {
     tags: u16,
     busy: &'a [BusyTag],
-    port: u8,
-    tag: u8,
+    entry: BusyTag,
 }
 
 impl fmt::Display for StandingTag<'_> {
-    ghost output = { λ s. Some (standing_tag s.tags s.busy.now (record { port = s.port; tag = s.tag })) };
+    ghost output = { λ s. Some (standing_tag s.tags s.busy.now s.entry) };
 
     fn fmt<W: fmt::Write>(&self, f: &mut fmt::Formatter<W>) -> fmt::Result {
-        let StandingTag {
-            tags,
-            busy,
-            port,
-            tag,
-        } = *self;
+        let StandingTag { tags, busy, entry } = *self;
+        let BusyTag { port, tag, .. } = entry;
         let up = BusyChange {
             tags,
             up: true,
@@ -73,8 +70,7 @@ impl fmt::Display for StandingTags<'_> {
             let standing = StandingTag {
                 tags: self.tags,
                 busy: self.busy,
-                port: entry.port,
-                tag: entry.tag,
+                entry: *entry,
             };
             write!(f, "{standing}")?;
         }
@@ -82,16 +78,41 @@ impl fmt::Display for StandingTags<'_> {
     }
 }
 
-/// The same at the first record that is shown, and nothing at another one.
+/// The registers of a level that are held where the wave begins: each gives the number of its bank.
+#[derive(Clone, Copy)]
+struct StandingRegisters<'a> {
+    level: Level,
+    held: &'a [HeldRegister],
+}
+
+impl fmt::Display for StandingRegisters<'_> {
+    ghost output = { λ s. Some (standing_registers s.level s.held.now) };
+
+    fn fmt<W: fmt::Write>(&self, f: &mut fmt::Formatter<W>) -> fmt::Result {
+        for entry in self.held {
+            let signal = Signal::InUse {
+                level: self.level,
+                bank: entry.bank,
+            };
+            let count = NumberChange::new(in_use(self.held, entry.bank), signal);
+            write!(f, "{count}")?;
+        }
+        Ok(())
+    }
+}
+
+/// All these at the first record that is shown, and nothing at another one.
 #[derive(Clone, Copy)]
 struct Standing<'a> {
     view: &'a View,
     place: u64,
     busy: &'a [BusyTag],
+    level1: &'a [HeldRegister],
+    level2: &'a [HeldRegister],
 }
 
 impl fmt::Display for Standing<'_> {
-    ghost output = { λ s. Some (standing s.view.now s.place s.busy.now) };
+    ghost output = { λ s. Some (standing s.view.now s.place s.busy.now s.level1.now s.level2.now) };
 
     fn fmt<W: fmt::Write>(&self, f: &mut fmt::Formatter<W>) -> fmt::Result {
         if self.place == self.view.from {
@@ -99,7 +120,15 @@ impl fmt::Display for Standing<'_> {
                 tags: self.view.tags,
                 busy: self.busy,
             };
-            write!(f, "{tags}")
+            let level1 = StandingRegisters {
+                level: Level::One,
+                held: self.level1,
+            };
+            let level2 = StandingRegisters {
+                level: Level::Two,
+                held: self.level2,
+            };
+            write!(f, "{tags}{level1}{level2}")
         } else {
             Ok(())
         }
@@ -151,27 +180,37 @@ impl fmt::Display for Mark {
     }
 }
 
-/// A record at its place, where these tags are busy then.
+/// A record at its place, where these tags are busy and these registers of each level are held then.
 #[derive(Clone, Copy)]
 pub struct Moment<'a> {
     pub view: &'a View,
     pub place: u64,
     pub busy: &'a [BusyTag],
+    pub level1: &'a [HeldRegister],
+    pub level2: &'a [HeldRegister],
     pub item: &'a Record,
 }
 
 impl fmt::Display for Moment<'_> {
-    ghost output = { λ m. Some (moment m.view.now m.place m.busy.now m.item.now) };
+    ghost output = { λ m. Some (moment m.view.now m.place m.busy.now m.level1.now m.level2.now m.item.now) };
 
     fn fmt<W: fmt::Write>(&self, f: &mut fmt::Formatter<W>) -> fmt::Result {
         let Moment {
             view,
             place,
             busy,
+            level1,
+            level2,
             item,
         } = *self;
         let begin = Time { place, tenth: "0" };
-        let standing = Standing { view, place, busy };
+        let standing = Standing {
+            view,
+            place,
+            busy,
+            level1,
+            level2,
+        };
         let mark = Mark {
             marker: view.marker,
             place,
@@ -181,11 +220,16 @@ impl fmt::Display for Moment<'_> {
             outstanding: outstanding(busy, item.log),
             item,
         };
+        let registers = RegisterChanges {
+            level1: in_use(level1, item.bank),
+            level2: in_use(level2, item.bank),
+            item,
+        };
         let end = Time { place, tenth: "9" };
         let cleared = TextChange {
             text: "",
             signal: event_signal(item),
         };
-        write!(f, "{begin}{standing}{mark}{changes}{end}{cleared}")
+        write!(f, "{begin}{standing}{mark}{changes}{registers}{end}{cleared}")
     }
 }

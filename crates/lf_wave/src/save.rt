@@ -2,7 +2,7 @@
 
 ghost use Rattle.std.specs.Prelude.{◌≡◌, Some};
 ghost use Rattle.lf_wave.specs.Save.{port_row, bank_row, title, tag_row, tag_rows, port_rows, all_port_rows};
-ghost use Rattle.lf_wave.specs.Save.{bank_rows, bank_request_rows, all_bank_rows, opens_at, marked_at, save_text};
+ghost use Rattle.lf_wave.specs.Save.{bank_rows, bank_request_rows, bank_register_rows, all_bank_rows, opens_at, marked_at, save_text};
 
 use crate::view::{Marker, View};
 use std::fmt;
@@ -189,7 +189,8 @@ impl fmt::Display for BankRows {
             name: "block[31:0]",
         };
         let request = BankRequestRows { bank };
-        write!(f, "{title}{event}{number}{block}{request}")
+        let registers = BankRegisterRows { bank };
+        write!(f, "{title}{event}{number}{block}{request}{registers}")
     }
 }
 
@@ -220,6 +221,31 @@ impl fmt::Display for BankRequestRows {
             name: "register[15:0]",
         };
         write!(f, "{port}{tag}{register}")
+    }
+}
+
+/// Those that say how many registers are held.
+#[derive(Clone, Copy)]
+struct BankRegisterRows {
+    bank: u8,
+}
+
+impl fmt::Display for BankRegisterRows {
+    ghost output = { λ r. Some (bank_register_rows r.bank) };
+
+    fn fmt<W: fmt::Write>(&self, f: &mut fmt::Formatter<W>) -> fmt::Result {
+        let bank = self.bank;
+        let level1 = BankRow {
+            bank,
+            flags: "24",
+            name: "level1_registers[15:0]",
+        };
+        let level2 = BankRow {
+            bank,
+            flags: "24",
+            name: "level2_registers[15:0]",
+        };
+        write!(f, "{level1}{level2}")
     }
 }
 

@@ -3,6 +3,7 @@
 ghost use Rattle.std.specs.Prelude.{Some};
 ghost use Rattle.lf_wave.specs.Signals.{identifier};
 
+use crate::registers::Level;
 use std::fmt;
 
 /// A signal of a wave. Its text is its identifier in the file.
@@ -34,6 +35,8 @@ pub enum Signal {
     Block { bank: u8 },
     /// The register that it names.
     Register { bank: u8 },
+    /// How many registers of the bank's level are held.
+    InUse { level: Level, bank: u8 },
 }
 
 impl fmt::Display for Signal {
@@ -54,6 +57,14 @@ impl fmt::Display for Signal {
             Signal::BankTag { bank } => write!(f, "b{bank}i"),
             Signal::Block { bank } => write!(f, "b{bank}b"),
             Signal::Register { bank } => write!(f, "b{bank}r"),
+            Signal::InUse {
+                level: Level::One,
+                bank,
+            } => write!(f, "b{bank}x"),
+            Signal::InUse {
+                level: Level::Two,
+                bank,
+            } => write!(f, "b{bank}y"),
         }
     }
 }

@@ -2,7 +2,7 @@
 
 use crate::{Marker, SaveFile, View, Wave};
 use lf_codec::Header;
-use lf_rules::{Block, Event, Op, Record, Rule};
+use lf_rules::{Block, Event, Op, Record, Rule, WideBlock};
 use std::test::Fail;
 
 const HEADER: Header = Header {
@@ -19,6 +19,8 @@ const VIEW: View = View {
     from: 1,
     to: 2,
     tags: 2,
+    block: 8,
+    factor: 1,
     marker: Some(Marker {
         place: 2,
         rule: Some(Rule::NotReady),
@@ -45,6 +47,8 @@ $var wire 8 b0p port [7:0] $end
 $var wire 8 b0i tag [7:0] $end
 $var wire 32 b0b block [31:0] $end
 $var wire 16 b0r register [15:0] $end
+$var wire 16 b0x level1_registers [15:0] $end
+$var wire 16 b0y level2_registers [15:0] $end
 $upscope $end
 $upscope $end
 $enddefinitions $end
@@ -57,15 +61,19 @@ b0 p0o
 0p0t0
 0p0t1
 s b0e
+b0 b0x
+b0 b0y
 $end
 #10
 1p0t1
 b1 p0o
+b1 b0x
 sprimary b0e
 b1 b0n
 b0 b0p
 b1 b0i
 b10 b0r
+b1 b0x
 #19
 s b0e
 #20
@@ -116,6 +124,48 @@ score.bank0.port[7:0]
 score.bank0.tag[7:0]
 @24
 score.bank0.register[15:0]
+@24
+score.bank0.level1_registers[15:0]
+@24
+score.bank0.level2_registers[15:0]
+";
+
+/// The third record and those after it, where a second-level block is two blocks.
+const FILLS: View = View {
+    from: 2,
+    to: u64::MAX,
+    tags: 0,
+    block: 8,
+    factor: 2,
+    marker: None,
+};
+
+const FILLED: &str = "\
+#20
+b1 p0o
+b1 b0x
+b1 b0y
+ssecond_primary b0e
+b10 b0n
+b11 b0b
+b0 b0r
+b1 b0y
+#29
+s b0e
+#30
+sfill2 b0e
+b11 b0n
+b1 b0b
+b0 b0y
+#39
+s b0e
+#40
+sfill1 b0e
+b100 b0n
+b11 b0b
+b0 b0x
+#49
+s b0e
 ";
 
 fn record(log: u8, number: u32, event: Event) -> Record {
@@ -154,6 +204,43 @@ fn wave_of_a_miss(rt: HostRuntime) -> Result<(), Fail> {
     wave.put(&record(0, 2, reply), &mut text)?;
     wave.put(&record(0, 0, Event::Fence), &mut text)?;
     assert_eq!(rt; text.as_str(), WAVE);
+    Ok(())
+}
+
+#[test]
+fn registers_until_their_fills(rt: HostRuntime) -> Result<(), Fail> {
+    let issue = Event::Issue {
+        op: Op::Load,
+        tag: 1,
+        size: 8,
+        address: 24,
+        bytes: Block::new(),
+    };
+    let primary = Event::Primary {
+        port: 0,
+        tag: 1,
+        register: 2,
+    };
+    let asked = Event::SecondPrimary {
+        block: 3,
+        register: 0,
+    };
+    let wide_fill = Event::Fill2 {
+        block: 1,
+        bytes: WideBlock::new(),
+    };
+    let fill = Event::Fill1 {
+        block: 3,
+        bytes: Block::new(),
+    };
+    let mut text = String::new(rt.alloc());
+    let mut wave = Wave::new(rt.alloc(), FILLS);
+    wave.put(&record(0, 0, issue), &mut text)?;
+    wave.put(&record(1, 1, primary), &mut text)?;
+    wave.put(&record(1, 2, asked), &mut text)?;
+    wave.put(&record(1, 3, wide_fill), &mut text)?;
+    wave.put(&record(1, 4, fill), &mut text)?;
+    assert_eq!(rt; text.as_str(), FILLED);
     Ok(())
 }
 

@@ -23,6 +23,10 @@ pub struct View {
     pub to: u64,
     /// How many tags of each port have a signal of their own, from tag 0 on.
     pub tags: u16,
+    /// The bytes of a block of the trace.
+    pub block: u32,
+    /// The blocks of a second-level block.
+    pub factor: u32,
     /// The record at fault, where there is one.
     pub marker: Option<Marker>,
 }

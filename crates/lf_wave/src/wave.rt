@@ -7,19 +7,22 @@ ghost use Rattle.lf_wave.specs.Wave.{shown, undrawn, next, next_shown};
 use crate::busy::{BusyTag, apply};
 use crate::head::Head;
 use crate::moment::Moment;
+use crate::registers::{HeldRegister, apply_level1, apply_level2};
 use crate::view::View;
 use lf_codec::Header;
 use lf_rules::Record;
 use std::alloc::{AllocError, Global};
 use std::marker::Model;
 
-/// What the wave of a record rests on: how many records stand before it, and which tags are busy after
-/// them.
+/// What the wave of a record rests on: how many records stand before it, and which tags are busy and which
+/// registers are held after them.
 #[derive(Drop)]
 pub struct Wave {
     view: View,
     place: u64,
     busy: Vec<BusyTag>,
+    level1: Vec<HeldRegister>,
+    level2: Vec<HeldRegister>,
 }
 
 impl Model for Wave {
@@ -27,7 +30,13 @@ impl Model for Wave {
 
     ghost Value = { Drawn };
 
-    ghost view = { λ w. record { view = w.view; place = w.place; busy = w.busy.items } };
+    ghost view = { λ w. record {
+        view = w.view;
+        place = w.place;
+        busy = w.busy.items;
+        level1 = w.level1.items;
+        level2 = w.level2.items
+    } };
 }
 
 impl Wave {
@@ -39,6 +48,8 @@ impl Wave {
             view,
             place: 0,
             busy: Vec::new(alloc),
+            level1: Vec::new(alloc),
+            level2: Vec::new(alloc),
         }
     }
 
@@ -55,16 +66,19 @@ impl Wave {
         write!(text, "{head}")
     }
 
-    /// Puts what is shown of a record that has changed the busy tags.
+    /// Puts what is shown of a record that has changed the busy tags and the registers.
     fn show(&self, item: &Record, text: &mut String) -> Result<(), AllocError>
         ensures { OnOk result (string_bytes text.new ≡
-            string_bytes text.old ++ shown self.now.view self.now.place self.now.busy item.now) }
+            string_bytes text.old ++ shown self.now.view self.now.place self.now.busy
+            self.now.level1 self.now.level2 item.now) }
     {
         if self.view.shows(self.place) {
             let moment = Moment {
                 view: &self.view,
                 place: self.place,
                 busy: &self.busy,
+                level1: &self.level1,
+                level2: &self.level2,
                 item,
             };
             write!(text, "{moment}")
@@ -79,6 +93,8 @@ impl Wave {
         ensures shown { OnOk result (string_bytes text.new ≡ string_bytes text.old ++ next_shown self.old item.now) }
         ensures taken { OnOk result (self.new ≡ next self.old item.now) }
     {
+        apply_level1(&mut self.level1, self.view.block, &self.busy, item)?;
+        apply_level2(&mut self.level2, self.view.factor, item)?;
         apply(&mut self.busy, item)?;
         self.show(item, text)?;
         self.place += 1;

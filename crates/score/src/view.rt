@@ -28,7 +28,8 @@ all signals: OUT with .gtkw in the place of .vcd.
 The record at place N of TRACE, from 0, stands at N nanoseconds. A port has
 its record (event), with tag and address, how many of its requests have no
 reply (outstanding), and whether each tag is busy. A bank has its record, its
-number, its block, the port and the tag of its request, and its register.
+number, its block, the port and the tag of its request, its register, and how
+many registers of each level are held.
 Where a record of a port or of a bank breaks a rule, fault rises at that
 record, and rule is the name of the rule.
 
@@ -73,6 +74,8 @@ impl Window {
             from: self.from.unwrap_or(begin),
             to: self.to.or(fault).unwrap_or(u64::MAX),
             tags: shape.tags as u16,
+            block: shape.block,
+            factor: shape.factor,
             marker,
         }
     }
