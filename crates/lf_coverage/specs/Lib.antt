@@ -7,3 +7,4 @@ pub mod Points
 pub mod Reachable
 pub mod Coverage
 pub mod Text
+pub mod Data

@@ -2,11 +2,12 @@
 //!
 //! A point is a situation in a bank, as a merge at level one, or at a port, as a load of four bytes. `cover`
 //! counts each point that the hierarchy can reach; `specs/Points` says what reaches one. A `Coverage` is
-//! shown as lines, the points that were not reached first.
+//! shown as lines, the points that were not reached first, and `CoverageData` shows it as a file of Verilator.
 #![tactic(auto)]
 
 mod counts;
 mod coverage;
+mod data;
 mod point;
 mod reach;
 mod reachable;
@@ -19,6 +20,7 @@ mod tests;
 mod text;
 
 pub use coverage::{Coverage, cover};
+pub use data::CoverageData;
 pub use lf_rules::NoMemory;
 pub use point::{BankPoint, Point, PortPoint};
 pub use tally::Tally;

@@ -3,7 +3,7 @@
 ghost use Rattle.std.specs.Prelude.{◌≡◌};
 ghost use Rattle.lf_rules.specs.InRange.{IsShape};
 
-use crate::{Coverage, cover};
+use crate::{BankPoint, Coverage, CoverageData, Point, PortPoint, Tally, cover};
 use lf_logs::bank_order;
 use lf_rules::{Block, Event, Level, Logs, Mask, Op, OrgShape, Record, Shape};
 use std::alloc::Global;
@@ -163,5 +163,39 @@ fn coverage_of_a_trace(rt: HostRuntime) -> Result<(), Fail> {
     let coverage = covered(rt.alloc(), &logs)?.ok_or("no memory")?;
     let text = format!(in rt.alloc(); "{coverage}")?;
     assert_eq!(rt; text.as_str(), TEXT);
+    Ok(())
+}
+
+const DATA: &str = "\
+# SystemC::Coverage-3
+C '\u{1}page\u{2}v_user/lockup_free\u{1}f\u{2}coverage/points.txt\
+\u{1}l\u{2}16\u{1}n\u{2}0\u{1}o\u{2}targets_2\u{1}h\u{2}bank3' 7
+C '\u{1}page\u{2}v_user/lockup_free\u{1}f\u{2}coverage/points.txt\
+\u{1}l\u{2}30\u{1}n\u{2}0\u{1}o\u{2}fence\u{1}h\u{2}port0' 0
+";
+
+#[test]
+fn data_of_two_points(rt: HostRuntime) -> Result<(), Fail> {
+    let mut tallies = Vec::new(rt.alloc());
+    let targets = Point::Bank {
+        bank: 3,
+        point: BankPoint::Targets(2),
+    };
+    let fence = Point::Port {
+        port: 0,
+        point: PortPoint::Fence,
+    };
+    tallies.push(Tally {
+        point: targets,
+        count: 7,
+    })?;
+    tallies.push(Tally {
+        point: fence,
+        count: 0,
+    })?;
+    let coverage = Coverage { tallies };
+    let data = CoverageData(&coverage);
+    let text = format!(in rt.alloc(); "{data}")?;
+    assert_eq!(rt; text.as_str(), DATA);
     Ok(())
 }

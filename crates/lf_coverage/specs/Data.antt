@@ -1,0 +1,78 @@
+-- A coverage as Verilator's file coverage.dat has it.
+use Rattle.std.specs.Prelude.{ℕ, List, [], ◌∷◌, ◌++◌, codes}
+use Rattle.std.specs.List.{flat_map}
+use Rattle.std.specs.Fmt.{decimal}
+use Rattle.lf_coverage.specs.declared.point.BankPoint.{BankPoint}
+use Rattle.lf_coverage.specs.declared.point.BankPoint.TheVariants as points
+use Rattle.lf_coverage.specs.declared.point.PortPoint.{PortPoint}
+use Rattle.lf_coverage.specs.declared.point.PortPoint.TheVariants.{Load, Store, Reply, Fence}
+use Rattle.lf_coverage.specs.declared.point.Point.{Point}
+use Rattle.lf_coverage.specs.declared.point.Point.TheVariants.{Bank, Port}
+use Rattle.lf_coverage.specs.declared.tally.Tally.{Tally}
+use Rattle.lf_coverage.specs.declared.coverage.Coverage.{Coverage}
+use Rattle.lf_coverage.specs.Text.{bank_point_text, port_point_text}
+
+-- The line of a point in coverage/points.txt, which stands for the source.
+abbrev pub bank_point_line : BankPoint → ℕ
+bank_point_line points.Hit = 1
+bank_point_line points.Primary = 2
+bank_point_line points.Merge = 3
+bank_point_line points.Stall = 4
+bank_point_line points.Fill1 = 5
+bank_point_line points.Evict1 = 6
+bank_point_line points.CleanEviction = 7
+bank_point_line points.PartEviction = 8
+bank_point_line points.WholeEviction = 9
+bank_point_line points.HitUnderMiss = 10
+bank_point_line (points.Registers n) = 11
+bank_point_line points.LoadBehindLoad = 12
+bank_point_line points.LoadBehindStore = 13
+bank_point_line points.StoreBehindLoad = 14
+bank_point_line points.StoreBehindStore = 15
+bank_point_line (points.Targets n) = 16
+bank_point_line points.Refetch = 17
+bank_point_line points.FillOutOfOrder = 18
+bank_point_line points.FillOverStores = 19
+bank_point_line points.SecondHit = 20
+bank_point_line points.SecondPrimary = 21
+bank_point_line points.SecondMerge = 22
+bank_point_line points.SecondStall = 23
+bank_point_line points.Fill2 = 24
+bank_point_line points.Evict2 = 25
+bank_point_line (points.DirtyBlocks n) = 26
+
+abbrev pub port_point_line : PortPoint → ℕ
+port_point_line (Load size) = 27
+port_point_line (Store size) = 28
+port_point_line Reply = 29
+port_point_line Fence = 30
+
+-- A part of a key: its name behind the byte 1, and its value behind the byte 2.
+abbrev pub part : List ℕ → List ℕ → List ℕ
+part name value = 1 ∷ name ++ 2 ∷ value
+
+-- What the keys of all points begin with.
+abbrev pub source_parts : List ℕ
+source_parts = part (codes "page") (codes "v_user/lockup_free") ++ part (codes "f") (codes "coverage/points.txt")
+
+-- A line of the source, what stands there, and the place in the design.
+abbrev pub own_parts : ℕ → List ℕ → List ℕ → List ℕ
+own_parts line point place =
+    part (codes "l") (decimal line) ++ part (codes "n") (codes "0") ++ part (codes "o") point ++ part (codes "h") place
+
+abbrev pub key_text : Point → List ℕ
+key_text (Bank bank point) =
+    source_parts ++ own_parts (bank_point_line point) (bank_point_text point) (codes "bank" ++ decimal bank)
+key_text (Port port point) =
+    source_parts ++ own_parts (port_point_line point) (port_point_text point) (codes "port" ++ decimal port)
+
+-- The key between quotes, and the count. Each line ends with a newline.
+abbrev pub data_line : Tally → List ℕ
+data_line tally = codes "C '" ++ key_text tally.point ++ codes "' " ++ decimal tally.count ++ 10 ∷ []
+
+abbrev pub data_lines : List Tally → List ℕ
+data_lines tallies = flat_map data_line tallies
+
+-- The file: its first line, and a line for each point.
+abbrev pub data_text : Coverage → List ℕ
+data_text coverage = codes "# SystemC::Coverage-3" ++ 10 ∷ data_lines coverage.tallies.items
