@@ -12,6 +12,7 @@ use Rattle.lf_stats.specs.Text.{stats_text}
 use Rattle.lf_coverage.specs.declared.coverage.Coverage.{Coverage}
 use Rattle.lf_coverage.specs.Coverage.{IsCoverage}
 use Rattle.lf_coverage.specs.Text.{coverage_text}
+use Rattle.lf_coverage.specs.Data.{data_text}
 use Rattle.lf_verdict.specs.declared.answer.Verdict.{Verdict}
 use Rattle.lf_verdict.specs.declared.answer.Verdict.TheVariants.{Yes}
 use Rattle.lf_verdict.specs.Legal.{IsTraceFor}
@@ -44,7 +45,7 @@ pub record IsCoverageOf (shape : Shape) (bytes : List ℕ) (coverage : Coverage)
   pub trace : IsTraceFor shape bytes memory logs
   pub counts : IsCoverage shape logs coverage
 
--- The text has the lines of those statistics, or of that coverage.
+-- The text has the lines of those statistics, or of that coverage, or is Verilator's file of that coverage.
 pub record AreStatisticsLines (shape : Shape) (bytes text : List ℕ) : Type 0 where
   pub stats : Stats
   pub statistics : AreStatisticsOf shape bytes stats
@@ -55,9 +56,15 @@ pub record AreCoverageLines (shape : Shape) (bytes text : List ℕ) : Type 0 whe
   pub covered : IsCoverageOf shape bytes coverage
   pub lines : text ≡ coverage_text coverage
 
+pub record AreDataLines (shape : Shape) (bytes text : List ℕ) : Type 0 where
+  pub coverage : Coverage
+  pub covered : IsCoverageOf shape bytes coverage
+  pub lines : text ≡ data_text coverage
+
 abbrev pub ArePrintedFor : Wanted → Shape → List ℕ → List ℕ → Type 0
 ArePrintedFor wants.Statistics shape bytes text = AreStatisticsLines shape bytes text
 ArePrintedFor wants.Coverage shape bytes text = AreCoverageLines shape bytes text
+ArePrintedFor wants.Data shape bytes text = AreDataLines shape bytes text
 
 -- The text has the lines that are wanted of the bytes that the reader answered, for the shape that the
 -- configuration says.

@@ -2,7 +2,8 @@
 //! of its verdict goes to a writer.
 //!
 //! `run` judges for the text of a configuration, `run_shape` for a shape. `run_stats` also counts over
-//! a trace that is legal, and writes the lines of its statistics, and `run_cover` those of its coverage.
+//! a trace that is legal, and writes the lines of its statistics, `run_cover` those of its coverage, and
+//! `run_cover_data` the coverage as a file of Verilator.
 //! `run_complete` asks whether each request of a legal trace has a reply. `run_explain` also writes why a
 //! record breaks a rule. `run_watch` reads no further than to the piece with which a trace broke for good.
 //! Both streams are `Counted`, so that
@@ -30,5 +31,5 @@ pub use fault::RunFault;
 pub use lf_stream::Counted;
 pub use line::{InputFault, Line};
 pub use report::Judged;
-pub use statistics::{judge_and_keep, run_cover, run_stats};
+pub use statistics::{judge_and_keep, run_cover, run_cover_data, run_stats};
 pub use watch::{Watched, run_watch};

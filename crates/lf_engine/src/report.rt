@@ -6,11 +6,12 @@ ghost use Rattle.lf_codec.specs.Reading.{reading_of};
 ghost use Rattle.lf_rules.specs.InRange.{IsShape};
 ghost use Rattle.lf_stats.specs.Text.{stats_text};
 ghost use Rattle.lf_coverage.specs.Text.{coverage_text};
-ghost use Rattle.lf_engine.specs.Report.{IsCountable, AreStatisticsOf, AreStatisticsLines, IsCoverageOf, AreCoverageLines, ArePrintedFor};
+ghost use Rattle.lf_coverage.specs.Data.{data_text};
+ghost use Rattle.lf_engine.specs.Report.{IsCountable, AreStatisticsOf, AreStatisticsLines, IsCoverageOf, AreCoverageLines, AreDataLines, ArePrintedFor};
 
 use crate::parts::{Parts, parts_in};
 use lf_codec::exact_reading;
-use lf_coverage::{Coverage, cover};
+use lf_coverage::{Coverage, CoverageData, cover};
 use lf_logs::split;
 use lf_rules::{NoMemory, Record, Shape};
 use lf_stats::{Stats, stats};
@@ -22,6 +23,8 @@ use std::alloc::{AllocError, Global};
 pub enum Wanted {
     Statistics,
     Coverage,
+    /// The coverage as Verilator's file `coverage.dat` has it.
+    Data,
 }
 
 /// A verdict, and the bytes that it is of.
@@ -83,6 +86,13 @@ fn text_of_coverage(alloc: Global, coverage: &Coverage) -> Result<String, AllocE
     format!(in alloc; "{coverage}")
 }
 
+fn text_of_data(alloc: Global, coverage: &Coverage) -> Result<String, AllocError>
+    ensures { IfOk result (λ text. string_bytes text ≡ data_text coverage.now) }
+{
+    let shown = CoverageData(coverage);
+    format!(in alloc; "{shown}")
+}
+
 /// The lines of the statistics of the trace in these bytes.
 fn statistics_lines(alloc: Global, shape: &Shape, bytes: &[u8]) -> Result<String, NoMemory>
     requires in_range { IsShape shape.now }
@@ -109,6 +119,19 @@ fn coverage_lines(alloc: Global, shape: &Shape, bytes: &[u8]) -> Result<String, 
     }
 }
 
+/// The coverage of the trace in these bytes, as Verilator's file has it.
+fn data_lines(alloc: Global, shape: &Shape, bytes: &[u8]) -> Result<String, NoMemory>
+    requires in_range { IsShape shape.now }
+    requires countable { IsCountable shape.now bytes.now }
+    ensures { IfOk result (λ text. AreDataLines shape.now bytes.now (string_bytes text)) }
+{
+    let coverage = coverage_of(alloc, shape, bytes)?;
+    match text_of_data(alloc, &coverage) {
+        Ok(text) => Ok(text),
+        Err(_) => Err(NoMemory),
+    }
+}
+
 /// The lines that are wanted of the trace in these bytes.
 pub fn lines_of(
     alloc: Global,
@@ -123,5 +146,6 @@ pub fn lines_of(
     match wanted {
         Wanted::Statistics => statistics_lines(alloc, shape, bytes),
         Wanted::Coverage => coverage_lines(alloc, shape, bytes),
+        Wanted::Data => data_lines(alloc, shape, bytes),
     }
 }

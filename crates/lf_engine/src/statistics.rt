@@ -246,3 +246,24 @@ pub fn run_cover<T: AllocGlobal, R: Read, W: Write>(
 {
     run_report(rt, reader, writer, config, turns, Wanted::Coverage)
 }
+
+/// As `run_stats`, but writes the coverage of a trace that is legal as Verilator's file `coverage.dat` has it: its first
+/// line, and one for each point.
+pub fn run_cover_data<T: AllocGlobal, R: Read, W: Write>(
+    rt: &T,
+    reader: &mut Counted<R>,
+    writer: &mut Counted<W>,
+    config: &str,
+    turns: u32,
+) -> Result<Verdict, RunFault>
+    requires calls { calls_of reader.old ≡ 0 }
+    requires failures { failures_of reader.old ≡ 0 }
+    requires writes { failures_of writer.old ≡ 0 }
+    ensures unread { ¬ IsAsked config.now 1 → reader.new ≡ reader.old }
+    ensures run { IsRunWriting (account_of R.remaining reader.old) (account_of R.remaining reader.new)
+        (account_of W.contents writer.old) (account_of W.contents writer.new)
+        (IsAsked config.now 1) (IsLegalFor config.now) (IsRunlessNoFor config.now) (IsVerdictFor config.now 1)
+        (IsWritten Wanted.Data (account_of R.remaining reader.old) (account_of R.remaining reader.new) config.now) turns result }
+{
+    run_report(rt, reader, writer, config, turns, Wanted::Data)
+}
