@@ -3,6 +3,7 @@
 ghost use Rattle.std.specs.Prelude.{◌≡◌, true};
 ghost use Rattle.std.specs.List.{AllByRecursion};
 ghost use Rattle.lf_rules.specs.Fits.{Fits};
+ghost use Rattle.lf_rules.specs.InRange.{IsShape};
 ghost use Rattle.lf_explanation.specs.Explanation.{HasBank};
 
 use crate::{Breach, Explained, Told, explain};
@@ -28,6 +29,7 @@ const SHAPE: Shape = Shape {
 
 /// Whether the records fit the shape.
 fn all_fit(shape: &Shape, records: &[Record]) -> bool
+    requires { IsShape shape.now }
     ensures { result ≡ true → AllByRecursion (Fits shape.now) records.now }
 {
     for item in records {
