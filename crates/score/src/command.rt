@@ -37,10 +37,12 @@ pub enum Request<'a> {
         trace: &'a str,
         events: u16,
     },
-    /// Count what the trace in a file reached, judged for the configuration in a file.
+    /// Count what the trace in a file reached, judged for the configuration in a file, and write Verilator's file where
+    /// it is asked for.
     Cover {
         config: &'a str,
         trace: &'a str,
+        dat: Option<&'a str>,
         progress: bool,
     },
     /// Run the demonstration for the configuration in a file, and write its trace to another.
@@ -165,6 +167,7 @@ fn cover_command<'a>(alloc: Global) -> Result<Command<'a>, AllocError> {
         .after_help(cover::HELP)
         .arg(config_arg(alloc))?
         .arg(trace_arg(alloc))?
+        .arg(value_arg(alloc, "dat", "FILE").help("Also writes Verilator's coverage.dat"))?
         .arg(progress_arg(alloc))
 }
 
@@ -345,11 +348,17 @@ fn explain_request<'a>(matches: &ArgMatches<'a>) -> Option<Request<'a>> {
     })
 }
 
+/// The lines go to standard output, so the other file does not.
 fn cover_request<'a>(matches: &ArgMatches<'a>) -> Option<Request<'a>> {
     let (config, trace) = files_of(matches)?;
+    let dat = matches.get_str("dat");
+    if dat == Some(STANDARD_INPUT) {
+        return None;
+    }
     Some(Request::Cover {
         config,
         trace,
+        dat,
         progress: matches.get_flag("progress"),
     })
 }

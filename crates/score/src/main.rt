@@ -130,8 +130,9 @@ where
         Request::Cover {
             config,
             trace,
+            dat,
             progress,
-        } => cover(rt, config, trace, progress),
+        } => cover(rt, config, trace, dat, progress),
         Request::Shrink {
             config,
             trace,

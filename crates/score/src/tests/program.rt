@@ -324,14 +324,25 @@ fn help_of_stats(rt: HostRuntime) -> Result<(), Fail> {
 
 #[test]
 fn words_of_cover(rt: HostRuntime) -> Result<(), Fail> {
-    let words = words_of(rt.alloc(), "score cover c.toml - --progress")?;
-    let cover = Request::Cover {
-        config: "c.toml",
-        trace: "-",
-        progress: true,
-    };
-    assert_eq!(rt; asked(rt.alloc(), words.as_slice()).ok(), Some(cover));
-    for line in ["score cover", "score cover c.toml", "score cover - -"] {
+    for (line, dat, progress) in [
+        ("score cover c.toml - --progress", None, true),
+        ("score cover --dat a.dat c.toml -", Some("a.dat"), false),
+    ] {
+        let words = words_of(rt.alloc(), line)?;
+        let cover = Request::Cover {
+            config: "c.toml",
+            trace: "-",
+            dat,
+            progress,
+        };
+        assert_eq!(rt; asked(rt.alloc(), words.as_slice()).ok(), Some(cover));
+    }
+    for line in [
+        "score cover",
+        "score cover c.toml",
+        "score cover - -",
+        "score cover --dat - c.toml a.lfts",
+    ] {
         is_refused(&rt, line)?;
     }
     let points = ["  hit_under_miss    hits", "  registers_N       misses"];
