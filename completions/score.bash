@@ -3,21 +3,22 @@ _score() {
   local word=${COMP_WORDS[COMP_CWORD]} before=${COMP_WORDS[COMP_CWORD - 1]} options='' valued=''
   COMPREPLY=()
   if ((COMP_CWORD == 1)); then
-    mapfile -t COMPREPLY < <(compgen -W 'check stats explain cover demo watch dump assemble shrink help -h --help -V --version' -- "$word")
+    mapfile -t COMPREPLY < <(compgen -W 'check stats explain cover demo watch dump assemble shrink view help -h --help -V --version' -- "$word")
     return
   fi
   case ${COMP_WORDS[1]} in
     check) options='--workers --complete --progress -h --help' valued='--workers' ;;
     stats) options='--progress -h --help' valued='' ;;
     explain) options='--events -h --help' valued='--events' ;;
-    cover) options='--progress -h --help' valued='' ;;
+    cover) options='--dat --progress -h --help' valued='--dat' ;;
     demo) options='-h --help' valued='' ;;
     watch) options='-h --help' valued='' ;;
-    dump) options='-h --help' valued='' ;;
+    dump) options='--port --bank --block --tag --from --last -h --help' valued='--port --bank --block --tag --from --last' ;;
     assemble) options='-h --help' valued='' ;;
     shrink) options='--checks -h --help' valued='--checks' ;;
+    view) options='--from --to -h --help' valued='--from --to' ;;
     help)
-      mapfile -t COMPREPLY < <(compgen -W 'check stats explain cover demo watch dump assemble shrink' -- "$word")
+      mapfile -t COMPREPLY < <(compgen -W 'check stats explain cover demo watch dump assemble shrink view' -- "$word")
       return
       ;;
   esac
