@@ -1,7 +1,7 @@
 //! The coverage that is written, and what is written in its place.
 
 use crate::streams::Pieces;
-use lf_engine::{Counted, run_cover};
+use lf_engine::{Counted, run_cover, run_cover_data};
 use lf_samples::{C1, C1_TEXT, LOAD, LOADED, trace_of};
 use std::process::Abort;
 use std::test::Fail;
@@ -66,4 +66,29 @@ fn coverage_of_reply_with_a_wrong_byte(rt: HostRuntime) -> Result<(), Fail> {
     let wrong = "R 0=0100000000000000";
     let line = "no bank=0 number=5 rule=ReplyData\n";
     assert_covered(&rt, &[LOAD, wrong], line)
+}
+
+/// The first lines of the file for Verilator, and the last.
+const DATA_BEGINS: &str = "\
+# SystemC::Coverage-3
+C '\u{1}page\u{2}v_user/lockup_free\u{1}f\u{2}coverage/points.txt\
+\u{1}l\u{2}1\u{1}n\u{2}0\u{1}o\u{2}hit\u{1}h\u{2}bank0' 0
+";
+
+const DATA_ENDS: &str = "\u{1}l\u{2}29\u{1}n\u{2}0\u{1}o\u{2}reply\u{1}h\u{2}port0' 1
+C '\u{1}page\u{2}v_user/lockup_free\u{1}f\u{2}coverage/points.txt\
+\u{1}l\u{2}30\u{1}n\u{2}0\u{1}o\u{2}fence\u{1}h\u{2}port0' 0
+";
+
+#[test]
+fn data_of_load_misses_both_levels(rt: HostRuntime) -> Result<(), Fail> {
+    let bytes = trace_of(rt.alloc(), &C1, &[LOAD, LOADED])?;
+    let mut reader = Counted::new(Pieces::new(&bytes, 50));
+    let mut writer = Counted::new(Vec::new(rt.alloc()));
+    let answer = run_cover_data(&rt, &mut reader, &mut writer, C1_TEXT, 1000);
+    assert!(rt; answer.is_ok());
+    let text = std::str::from_utf8(writer.inner()).ok().ok_or("no text")?;
+    assert!(rt; text.starts_with(DATA_BEGINS));
+    assert!(rt; text.ends_with(DATA_ENDS));
+    Ok(())
 }
