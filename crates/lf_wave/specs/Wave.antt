@@ -158,12 +158,12 @@ undrawn view = record { view = view; place = 0; busy = []; level1 = []; level2 =
 -- one record more
 abbrev pub next : Drawn → Record → Drawn
 next wave r = record {
-    view = wave.view;
-    place = wave.place + 1;
-    busy = busy_after wave.busy r;
-    level1 = level1_after wave.view.block wave.busy r.bank r.event wave.level1;
-    level2 = level2_after wave.view.factor r.bank r.event wave.level2
-    }
+  view = wave.view;
+  place = wave.place + 1;
+  busy = busy_after wave.busy r;
+  level1 = level1_after wave.view.block wave.busy r.bank r.event wave.level1;
+  level2 = level2_after wave.view.factor r.bank r.event wave.level2;
+}
 
 abbrev pub drawn_after : Drawn → List Record → Drawn
 drawn_after wave [] = wave

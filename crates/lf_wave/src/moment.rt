@@ -230,6 +230,9 @@ impl fmt::Display for Moment<'_> {
             text: "",
             signal: event_signal(item),
         };
-        write!(f, "{begin}{standing}{mark}{changes}{registers}{end}{cleared}")
+        write!(
+            f,
+            "{begin}{standing}{mark}{changes}{registers}{end}{cleared}"
+        )
     }
 }

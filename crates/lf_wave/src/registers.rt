@@ -2,8 +2,8 @@
 
 ghost use Rattle.std.specs.Prelude.{◌≡◌, ◌==◌, ◌++◌, ◌∷◌, [], filter, OnOk};
 ghost use Rattle.std.specs.List.{find};
-ghost use Rattle.lf_wave.specs.Registers.{is_tag, block_within, block_missed, is_other_register, is_of_other_block, held_for, filled};
-ghost use Rattle.lf_wave.specs.Registers.{in_use, level1_after, level2_after};
+ghost use Rattle.lf_wave.specs.Registers.{block_within, is_tag, block_missed, is_other_register, is_of_other_block};
+ghost use Rattle.lf_wave.specs.Registers.{held_for, filled, in_use, level1_after, level2_after};
 
 use crate::busy::BusyTag;
 use lf_rules::{Event, Record};
@@ -32,6 +32,7 @@ fn block_within(size: u32, n: u64) -> Option<u64>
     n.checked_div(u64::from(size))
 }
 
+/// Whether it is this tag of this port.
 fn is_tag(entry: &BusyTag, port: u8, tag: u8) -> bool
     ensures { result ≡ is_tag port tag entry.now }
 {

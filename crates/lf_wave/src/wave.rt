@@ -31,11 +31,11 @@ impl Model for Wave {
     ghost Value = { Drawn };
 
     ghost view = { λ w. record {
-        view = w.view;
-        place = w.place;
-        busy = w.busy.items;
-        level1 = w.level1.items;
-        level2 = w.level2.items
+      view = w.view;
+      place = w.place;
+      busy = w.busy.items;
+      level1 = w.level1.items;
+      level2 = w.level2.items;
     } };
 }
 
