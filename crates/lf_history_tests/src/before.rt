@@ -2,7 +2,7 @@
 
 use lf_history::{NoMemory, history_in_bank, history_in_log, record_offsets};
 use lf_rules::Record;
-use lf_samples::{C1, LOAD, LOADED, records, memory_ran_out};
+use lf_samples::{C1, LOAD, LOADED, memory_ran_out, records};
 use std::alloc::Global;
 use std::process::Abort;
 use std::test::Fail;

@@ -9,7 +9,7 @@ use crate::statistics::{THREE, counted};
 use lf_config::{ConfigFault, read};
 use lf_model::{Logs, Recheck, Rule, recheck};
 use lf_recorder::{CloseFault, Desk, LogSeat, OpenFault, RecordFault};
-use lf_samples::{C1, C1_TEXT, LOAD, LOADED, logs, records, memory_ran_out};
+use lf_samples::{C1, C1_TEXT, LOAD, LOADED, logs, memory_ran_out, records};
 use lf_stats::BankStats;
 use std::process::Abort;
 use std::test::Fail;

@@ -15,7 +15,7 @@ pub use examples::{
     CYCLE_OF_TWO_LOGS, EMPTY_TRACE, FENCE_LAST, LOAD, LOAD_MERGES_BEHIND_STORE,
     LOAD_MISSES_BOTH_LEVELS, LOADED, LOWEST_BANK, STORE,
 };
-pub use growth::{thread_refused, memory_ran_out};
+pub use growth::{memory_ran_out, thread_refused};
 pub use hex::{block, bytes_of, masks, wide_block};
 pub use lists::{logs, memory, record, records, records_at};
 pub use shapes::{

@@ -3,7 +3,7 @@
 
 use crate::reading::{ONE_BANK, encoded};
 use lf_codec::{CodecCause, CodecFault, Packed, Reader, Told};
-use lf_samples::{C1, LOAD, LOAD_MISSES_BOTH_LEVELS, LOADED, records, memory_ran_out};
+use lf_samples::{C1, LOAD, LOAD_MISSES_BOTH_LEVELS, LOADED, memory_ran_out, records};
 use std::test::Fail;
 
 #[test]

@@ -9,8 +9,7 @@ use lf_engine::{Counted, run};
 use lf_rules::Rule;
 use lf_samples::{
     C1, C1_TEXT, CYCLE_OF_TWO_LOGS, EMPTY_TRACE, FOUR_BANKS_TEXT, LOAD_MERGES_BEHIND_STORE,
-    LOAD_MISSES_BOTH_LEVELS, LOWEST_BANK, TWO_PORTS_TWO_BANKS_TEXT, thread_refused,
-    memory_ran_out,
+    LOAD_MISSES_BOTH_LEVELS, LOWEST_BANK, TWO_PORTS_TWO_BANKS_TEXT, memory_ran_out, thread_refused,
 };
 use lf_verdict::{Fault, NoGate, ParallelSession, Refusal, Session, Verdict, check};
 use std::io::Cursor;
