@@ -6,9 +6,9 @@
 A row is a configuration, a trace and what is printed of them: one line for `check`, several for `stats`. Beside
 the text, the status must be that of the answer and standard error must be empty. `check` has the same answer for
 1, 2, 4 and 16 workers, and with `--complete` too, but for a yes where a reply is missing. `explain` prints the line of
-`check`, and behind it what stands in examples/NAME.explained where a record of NAME.lfts breaks a rule. Each trace and
-each configuration of examples/ must stand in a row. The status is 1 where anything differs. PROGRAM is
-crates/score/out/score where it is left out."""
+`check`, and behind it what stands in examples/NAME.explained where a record of NAME.lfts breaks a rule. What `dump`
+prints of a trace gives its bytes back by `assemble`. Each trace and each configuration of examples/ must stand in a
+row. The status is 1 where anything differs. PROGRAM is crates/score/out/score where it is left out."""
 
 from __future__ import annotations
 
@@ -91,6 +91,19 @@ def difference(program: str, words: list[str], text: str) -> Optional[str]:
     return None
 
 
+def other_bytes(program: str, trace: pathlib.Path) -> Optional[str]:
+    """How the text of a trace assembles to other bytes, or None. What is no trace has no text that is whole."""
+    dump = subprocess.run([program, "dump", trace], capture_output=True, timeout=SECONDS, check=False)
+    if dump.returncode != 0:
+        return None
+    made = subprocess.run(
+        [program, "assemble", "-", "-"], input=dump.stdout, capture_output=True, timeout=SECONDS, check=False
+    )
+    if made.returncode != 0 or made.stderr:
+        return f"its text is refused: {made.stderr.decode(errors='replace')!r}"
+    return None if made.stdout == trace.read_bytes() else "its text assembles to other bytes"
+
+
 def main() -> int:
     parser = argparse.ArgumentParser(description=__doc__, formatter_class=argparse.RawDescriptionHelpFormatter)
     parser.add_argument("program", nargs="?", default=str(TOP / "crates/score/out/score"))
@@ -105,6 +118,11 @@ def main() -> int:
             found = difference(program, words, due)
             if found:
                 differences.append(f"{config} {trace}: {words[0]} {' '.join(words[3:])}".rstrip() + f": {found}")
+    for path in sorted(EXAMPLES.glob("*.lfts")):
+        runs += 1
+        unlike = other_bytes(program, path)
+        if unlike:
+            differences.append(f"{path.name}: {unlike}")
     named = {name for row in all_rows for name in row[:2]}
     files = [file.name for file in EXAMPLES.iterdir() if file.suffix in (".lfts", ".toml")]
     differences += [f"{name}: no row has it" for name in sorted(files) if name not in named]
