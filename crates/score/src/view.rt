@@ -73,7 +73,7 @@ impl Window {
         View {
             from: self.from.unwrap_or(begin),
             to: self.to.or(fault).unwrap_or(u64::MAX),
-            tags: shape.tags as u16,
+            tags: u16::try_from(shape.tags).unwrap_or(u16::MAX),
             block: shape.block,
             factor: shape.factor,
             marker,
@@ -157,8 +157,8 @@ fn put_save<T: Print + Files + AllocGlobal>(
 ) -> io::Result<()> {
     let save = SaveFile {
         view,
-        ports: shape.ports as u8,
-        banks: shape.banks as u8,
+        ports: u8::try_from(shape.ports).unwrap_or(u8::MAX),
+        banks: u8::try_from(shape.banks).unwrap_or(u8::MAX),
     };
     let text = format!(in rt.alloc(); "{save}")?;
     let name = save_name(rt, out)?;
