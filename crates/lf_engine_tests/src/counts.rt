@@ -85,7 +85,7 @@ fn endless_after_a_fault(rt: HostRuntime) -> Result<(), Fail> {
 /// With ample memory the calls that a trace goes through answer for want of none: reading, judging in
 /// either way, counting and writing. Each other call is shown by its example.
 #[test]
-fn always_out_of_memory(rt: HostRuntime) -> Result<(), Fail> {
+fn always_want_of_memory(rt: HostRuntime) -> Result<(), Fail> {
     let bytes: &[u8] = &LOAD_MISSES_BOTH_LEVELS;
     let checked = check(&rt, C1_TEXT, &[bytes], 1);
     assert!(rt; matches!(checked, Verdict::Yes { events: 6, .. }));
