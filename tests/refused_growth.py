@@ -6,8 +6,8 @@ until a run meets no refusal, and tells each run in which a refused growth was n
 
 The programs are those that `rt run` in crates/score and `rt test` in each crate left in out/. It needs a C compiler
 (cc, or the one that CC names), for a library that refuses one call of malloc, of realloc or of pthread_create. Where a
-growth is refused, the program must print `refused memory`, or `refused thread` where it was the making of a thread. Runs
-of `demo` are tried at some growths alone, since their number changes from run to run.
+growth is refused, the program must print `refused memory`, or `refused thread` where it was the making of a thread.
+Runs of `demo` are tried at some growths alone, since their number changes from run to run.
 
 Each test whose name begins with `refused_growth_of_` must then end with `out of memory`, where the call told it
 and what it left was right, or with `a thread was refused` where the making of a thread was refused, which may have been
