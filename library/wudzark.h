@@ -80,8 +80,8 @@ wudzark_answer wudzark_open(wudzark_board *board, const void *config, size_t con
 uint32_t wudzark_feed(wudzark_board *board, const void *bytes, size_t length);
 
 // Whether something broke for good, so that whatever bytes follow there is no yes: then the line says what, as
-// `broken bank=0 number=5 rule=ReplyData upon log=0 event=1`. The status is WUDZARK_BROKEN, or WUDZARK_REFUSED where
-// the trace is one of another hierarchy. WUDZARK_FINE says that no record so far is at fault, unless a feed was
+// `broken bank=0 number=5 rule=ReplyData upon log=0 event=1 at=104`. The status is WUDZARK_BROKEN, or WUDZARK_REFUSED
+// where the trace is one of another hierarchy. WUDZARK_FINE says that no record so far is at fault, unless a feed was
 // refused. Numbers that are missing and logs that wait for one another are only known in the end.
 wudzark_answer wudzark_broken(wudzark_board *board, char *line, size_t room);
 

@@ -49,7 +49,7 @@ class Simulation:
         """Stopped with the line that `watch` has of the whole trace, and soon after the record that it names."""
         self.run(f"+bug={number}")
         due = run([self.program, "watch", self.config, self.trace], status=1).stdout.rstrip("\n")
-        place = re.search(r"upon log=(\d+) event=(\d+)$", due)
+        place = re.search(r"upon log=(\d+) event=(\d+) at=\d+$", due)
         if not place:
             raise Failure(due)
         times = {tuple(line[:2]): int(line[2]) for line in map(str.split, self.map.read_text().splitlines())}

@@ -9,7 +9,8 @@ use std::alloc::Global;
 
 /// How many bytes the fixed part of an event takes.
 fn fixed_len(event: &Event) -> usize
-    ensures { result ≡ fixed_len event.now }
+    ensures len { result ≡ fixed_len event.now }
+    ensures few { result ≤ 36 }
 {
     match event {
         Event::Fence => 0,
@@ -30,7 +31,8 @@ fn fixed_len(event: &Event) -> usize
 
 /// How many bytes an event carries.
 fn data_len(event: &Event) -> usize
-    ensures { result ≡ length (data_of event.now) }
+    ensures len { result ≡ length (data_of event.now) }
+    ensures few { result ≤ 256 }
 {
     match event {
         Event::Issue { bytes, .. }
@@ -42,10 +44,10 @@ fn data_len(event: &Event) -> usize
     }
 }
 
-/// How many bytes a record takes.
-fn record_len(item: &Record) -> u64
-    requires { length (record_bytes item.now) < 2 ^ 64 }
-    ensures { result ≡ length (record_bytes item.now) }
+/// How many bytes a record takes in a trace.
+pub fn record_len(item: &Record) -> u64
+    ensures len { result ≡ length (record_bytes item.now) }
+    ensures few { result ≤ 300 }
 {
     8 + fixed_len(&item.event) as u64 + data_len(&item.event) as u64
 }

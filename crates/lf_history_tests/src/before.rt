@@ -1,6 +1,6 @@
 //! What came before a record.
 
-use lf_history::{NoMemory, history_in_bank, history_in_log, record_offsets};
+use lf_history::{NoMemory, history_in_bank, history_in_log, record_len, record_offsets};
 use lf_rules::Record;
 use lf_samples::{C1, LOAD, LOADED, memory_ran_out, records};
 use std::alloc::Global;
@@ -72,5 +72,16 @@ fn offsets_of_no_record(rt: HostRuntime) -> Result<(), Fail> {
         return Err(memory_ran_out());
     };
     assert!(rt; offsets.is_empty());
+    Ok(())
+}
+
+#[test]
+fn lengths_of_records(rt: HostRuntime) -> Result<(), Fail> {
+    let records = records(rt.alloc(), &C1, &[LOAD, LOADED])?;
+    let mut lengths = Vec::new(rt.alloc());
+    for item in &records {
+        lengths.push(record_len(item))?;
+    }
+    assert_eq!(rt; lengths.as_slice(), [20, 12, 16, 20, 20, 20].as_slice());
     Ok(())
 }

@@ -19,7 +19,7 @@ use Rattle.lf_verdict.specs.Session.{HasTaken, HasFed, HasFedUntil}
 use Rattle.lf_verdict.specs.declared.batch.Lent.{Lent}
 use Rattle.lf_verdict.specs.declared.ahead.Ahead.{Ahead}
 use Rattle.lf_verdict.specs.declared.breaking.Watch.{Watch}
-use Rattle.lf_verdict.specs.Breaking.{IsWatch}
+use Rattle.lf_verdict.specs.Breaking.{first_offset, IsWatch}
 use Rattle.lf_verdict.specs.Ahead.{session_of, running_before, lent_records}
 use Rattle.lf_verdict.proofs.Sessions.{may_all_come, running_more, on_ok, judged_feed}
 
@@ -78,7 +78,7 @@ module _ (law : WhatIsReadFits) (s : Intake) (bytes : List ℕ) (b : Batch) (res
         read = taken_too s.reader bytes s.memory.items taken.0 b.records.records rest taken.1.read;
         fine = taken.1.fine;
         judging = running_more s.shape bytes s.memory.items taken.0 (taken.0 ++ b.records.records) b.standing after.standing taken.1.judging got.0
-            (subst (λ (w : Watch). IsWatch s.shape (flat_memory s.memory.items) (taken.0 ++ b.records.records) w) (sym got.1.1) tt);
+            (subst (λ (w : Watch). IsWatch (first_offset taken.1.judging.header s.memory.items) s.shape (flat_memory s.memory.items) (taken.0 ++ b.records.records) w) (sym got.1.1) tt);
       },
     ),
   ))

@@ -1,5 +1,5 @@
 -- Which parts are at fault, and that such a fault stands whatever records follow.
-use Rattle.std.proofs.Common.{◌≡◌, ◌⊎◌, ℕ, zero, suc, ◌+◌, ◌<◌, ◌≤◌, List, [], ◌∷◌, ◌++◌, length, get_or, Option, Some, None, refl, sym, ap, ◌∙◌, subst, append_assoc, ⊎_elim, arith}
+use Rattle.std.proofs.Common.{◌≡◌, ℕ, zero, suc, ◌+◌, ◌<◌, ◌≤◌, List, [], ◌∷◌, ◌++◌, length, get_or, Option, Some, None, refl, sym, ap, ◌∙◌, subst, append_assoc, ⊎_elim, arith}
 use Rattle.std.specs.Prelude.{slice_get, IfNone}
 use Rattle.std.specs.List.{AllByRecursion, All, range_with_len}
 use Rattle.std.proofs.lemmas.Bool.{cases_lt, cases_eq}
@@ -234,9 +234,9 @@ all_whole_parts shape memory records ports banks (parts.Bank bank number rule) i
 
 -- ---- the first break stays the first
 
-pub first_stays : (shape : Shape) (memory : FlatMemory) (records more : List Record) (fault : PartFault) (upon : Upon) → IsFirstBreak shape memory records fault upon
-    → IsFirstBreak shape memory (records ++ more) fault upon
-first_stays shape memory records more fault upon is = record {
+pub first_stays : (start : ℕ) (shape : Shape) (memory : FlatMemory) (records more : List Record) (fault : PartFault) (upon : Upon) → IsFirstBreak start shape memory records fault upon
+    → IsFirstBreak start shape memory (records ++ more) fault upon
+first_stays start shape memory records more fault upon is = record {
   before = is.before;
   item = is.item;
   after = is.after ++ more;
@@ -247,11 +247,11 @@ first_stays shape memory records more fault upon is = record {
 }
 
 -- what is watched while a record more comes, where it was known before that a part broke, or not known
-pub watch_goes_on : (shape : Shape) (memory : FlatMemory) (records : List Record) (item : Record) (watch : Watch) → ¬ (watch ≡ Whole) → IsWatch shape memory records watch
-    → IsWatch shape memory (records ++ item ∷ []) watch
-watch_goes_on shape memory records item Whole other is = absurd (other refl)
-watch_goes_on shape memory records item (First first) other is = first_stays shape memory records (item ∷ []) first.fault first.upon is
-watch_goes_on shape memory records item Unknown other is = tt
+pub watch_goes_on : (start : ℕ) (shape : Shape) (memory : FlatMemory) (records : List Record) (item : Record) (watch : Watch) → ((next : ℕ) → ¬ (watch ≡ Whole next))
+    → IsWatch start shape memory records watch → IsWatch start shape memory (records ++ item ∷ []) watch
+watch_goes_on start shape memory records item (Whole next) other is = absurd (other next refl)
+watch_goes_on start shape memory records item (First first) other is = first_stays start shape memory records (item ∷ []) first.fault first.upon is
+watch_goes_on start shape memory records item Unknown other is = tt
 
 -- what is watched says nothing of how the parts stand
 pub stands_watched : (shape : Shape) (memory : FlatMemory) (records : List Record) (s : Standing) (watch : Watch) → StandsAfterAll shape memory records s

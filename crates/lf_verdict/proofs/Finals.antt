@@ -44,7 +44,7 @@ use Rattle.lf_verdict.proofs.Settled.{bank_moved}
 use Rattle.lf_verdict.proofs.Traces.{log_of_logs, records_fit}
 use Rattle.lf_verdict.specs.declared.breaking.PartFault.{PartFault}
 use Rattle.lf_verdict.specs.declared.breaking.Upon.{Upon}
-use Rattle.lf_verdict.specs.Breaking.{AreFirst, BankBreaks, IsFaultOfPart, IsPartBroken}
+use Rattle.lf_verdict.specs.Breaking.{first_offset, AreFirst, BankBreaks, IsFaultOfPart, IsPartBroken, NamesRecord}
 use Rattle.lf_verdict.specs.Final.{IsNoLater, IsNoYesAfter, IsFinal, Begins, PartFaultsAreFinal, OtherHeadersAreFinal, IsEarliest}
 use Rattle.lf_verdict.proofs.Breaks.{breaks_more, no_break, one_break, get_below, begins_with, IsAt, all_at, all_left}
 use Rattle.lf_verdict.specs.declared.breaking.Broken.{Broken}
@@ -338,6 +338,11 @@ begins_fed fits s bytes records running judged run =
       records_are = ap (λ (q : Reading). q.records) judged.read.same;
     }
 
+pub begins_fed-header : (fits : WhatIsReadFits) (s : Intake) (bytes : List ℕ) (records : List Record) (running : Standing) (judged : HasJudged s bytes records)
+    (run : IsRunning s.shape bytes s.memory.items records running) → (begins_fed fits s bytes records running judged run).header ≡ run.header
+unfolding begins_fed
+begins_fed-header fits s bytes records running judged run = refl
+
 -- with fewer of the records
 begins_fewer : (shape : Shape) (bytes : List ℕ) (memory : List (ℕ × Bytes)) (before after : List Record) → Begins shape bytes memory (before ++ after) → Begins shape bytes memory before
 begins_fewer shape bytes memory before after begins = record {
@@ -351,20 +356,20 @@ begins_fewer shape bytes memory before after begins = record {
 }
 
 -- what a session found is final
-pub final_if : PartFaultsAreFinal → (shape : Shape) (bytes : List ℕ) (memory : List (ℕ × Bytes)) (records : List Record) (found : Option Broken) → AreBytes bytes
-    → Begins shape bytes memory records → IfSome found (IsPartBroken shape (flat_memory memory) records) → IfSome found (IsFinal shape bytes)
-final_if law shape bytes memory records None are begins is = tt
-final_if law shape bytes memory records (Some (broken.Header field)) are begins is = absurd is
-final_if law shape bytes memory records (Some (broken.Part fault None)) are begins is = law shape bytes memory records fault None are begins is
-final_if law shape bytes memory records (Some (broken.Part fault (Some upon))) are begins is =
+pub final_if : (offset : ℕ) → PartFaultsAreFinal → (shape : Shape) (bytes : List ℕ) (memory : List (ℕ × Bytes)) (records : List Record) (found : Option Broken) → AreBytes bytes
+    → Begins shape bytes memory records → IfSome found (IsPartBroken offset shape (flat_memory memory) records) → IfSome found (IsFinal shape bytes)
+final_if offset law shape bytes memory records None are begins is = tt
+final_if offset law shape bytes memory records (Some (broken.Header field)) are begins is = absurd is
+final_if offset law shape bytes memory records (Some (broken.Part fault None)) are begins is = law shape bytes memory records fault None are begins is
+final_if offset law shape bytes memory records (Some (broken.Part fault (Some upon))) are begins is =
     let upto = is.before ++ is.item ∷ [] in
     let same : records ≡ upto ++ is.after = is.are ∙ sym (append_assoc is.before (is.item ∷ []) is.after) in
     law shape bytes memory upto fault (Some upon) are (begins_fewer shape bytes memory upto is.after (subst (Begins shape bytes memory) same begins)) is.broke
 
 -- ... and the record that it names is the first
-pub earliest_if : (shape : Shape) (bytes : List ℕ) (memory : List (ℕ × Bytes)) (records : List Record) (found : Option Broken) → Begins shape bytes memory records
-    → IfSome found (IsPartBroken shape (flat_memory memory) records) → IfSome found (IsEarliest shape bytes)
-earliest_if shape bytes memory records None begins is = tt
-earliest_if shape bytes memory records (Some (broken.Header field)) begins is = absurd is
-earliest_if shape bytes memory records (Some (broken.Part fault None)) begins is = tt
-earliest_if shape bytes memory records (Some (broken.Part fault (Some upon))) begins is = (memory, (records, (begins, is)))
+pub earliest_if : (shape : Shape) (bytes : List ℕ) (memory : List (ℕ × Bytes)) (records : List Record) (found : Option Broken) (begins : Begins shape bytes memory records)
+    → IfSome found (IsPartBroken (first_offset begins.header memory) shape (flat_memory memory) records) → IfSome found NamesRecord → IfSome found (IsEarliest shape bytes)
+earliest_if shape bytes memory records None begins is named = tt
+earliest_if shape bytes memory records (Some (broken.Header field)) begins is named = absurd is
+earliest_if shape bytes memory records (Some (broken.Part fault None)) begins is named = named
+earliest_if shape bytes memory records (Some (broken.Part fault (Some upon))) begins is named = record { memory = memory; records = records; begins = begins; first = is }

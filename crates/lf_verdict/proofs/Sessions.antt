@@ -33,7 +33,7 @@ use Rattle.lf_verdict.specs.declared.standing.Standing.{Standing}
 use Rattle.lf_verdict.specs.Legal.{Agrees, IsTraceFor}
 use Rattle.lf_verdict.specs.Judging.{IsVerdictOrWant}
 use Rattle.lf_verdict.specs.Reading.{IsFaultOrWant}
-use Rattle.lf_verdict.specs.Breaking.{IsWatch}
+use Rattle.lf_verdict.specs.Breaking.{first_offset, IsWatch}
 use Rattle.lf_verdict.specs.Standing.{MayCome, MayAllCome, IsShort, StandsAfterAll, logs_so_far}
 use Rattle.lf_verdict.specs.Session.{IsRunning, IsOfAnotherHeader, IsJudging, HasJudged, HasFedUntil, HasTaken, IsLacking, HasFed, refusal_of, stop_told, IsRefusalSoFar, IsStopOf}
 use Rattle.lf_verdict.specs.declared.answer.Refusal.{Refusal}
@@ -66,8 +66,8 @@ may_come law shape bytes memory records r running item rest read run next =
       room = omega (arith, limit_is_small run.header.version, one_of_log records item rest, ap (λ (xs : List Record). length (of_log item.log xs)) all, fits.logs item.log);
     }
 
-pub running_more : (shape : Shape) (bytes : List ℕ) (memory : List (ℕ × Bytes)) (records more : List Record) (old new : Standing) → IsRunning shape bytes memory records old
-    → StandsAfterAll shape (flat_memory memory) more new → IsWatch shape (flat_memory memory) more new.watch → IsRunning shape bytes memory more new
+pub running_more : (shape : Shape) (bytes : List ℕ) (memory : List (ℕ × Bytes)) (records more : List Record) (old new : Standing) (running : IsRunning shape bytes memory records old)
+    → StandsAfterAll shape (flat_memory memory) more new → IsWatch (first_offset running.header memory) shape (flat_memory memory) more new.watch → IsRunning shape bytes memory more new
 running_more shape bytes memory records more old new running stands watched =
     record { header = running.header; read = running.read; agrees = running.agrees; whole = running.whole; stands = stands; watched = watched }
 

@@ -2,7 +2,7 @@
 use Rattle.std.specs.Prelude.{◌≡◌, ◌⊎◌, ℕ, ◌<◌, ◌≤◌, List, ◌++◌, length, Option, Some, None}
 use Rattle.lf_rules.specs.declared.shape.Shape.{Shape}
 use Rattle.lf_rules.specs.declared.event.Record.{Record}
-use Rattle.lf_rules.specs.Address.{FlatMemory, flat_memory}
+use Rattle.lf_rules.specs.Address.{flat_memory}
 use Rattle.lf_rules.specs.Fits.{Bytes}
 use Rattle.lf_codec.specs.declared.header.Header.{Header}
 use Rattle.lf_codec.specs.Laws.{AreBytes}
@@ -13,16 +13,16 @@ use Rattle.lf_verdict.specs.declared.breaking.Upon.{Upon}
 use Rattle.lf_verdict.specs.declared.breaking.Broken.{Broken}
 use Rattle.lf_verdict.specs.declared.breaking.Broken.TheVariants as broken
 use Rattle.lf_verdict.specs.declared.answer.HeaderField.{HeaderField}
-use Rattle.lf_verdict.specs.Breaking.{IsFaultOfPart, NoneBroke, IsFirstBreak}
+use Rattle.lf_verdict.specs.Breaking.{first_offset, IsFaultOfPart, NoneBroke, IsFirstBreak}
 use Rattle.lf_verdict.specs.Legal.{Agrees}
 use Rattle.lf_verdict.specs.declared.intake.Intake.{Intake}
 use Rattle.lf_verdict.specs.declared.intake.Judging.{Judging}
 use Rattle.lf_verdict.specs.declared.intake.Judging.TheVariants.{Waiting, Running, Another}
 use Rattle.lf_verdict.specs.Session.{HasJudged}
 use Rattle.lf_verdict.specs.declared.answer.Fault.{Fault}
-use Rattle.lf_verdict.specs.declared.answer.Fault.TheVariants.{Missing, Double, Port, Bank, Cycle}
+use Rattle.lf_verdict.specs.declared.answer.Fault.TheVariants.{Missing, Double, Port, Bank}
 use Rattle.lf_verdict.specs.declared.answer.Verdict.{Verdict}
-use Rattle.lf_verdict.specs.declared.answer.Verdict.TheVariants.{Yes, No, Refused}
+use Rattle.lf_verdict.specs.declared.answer.Verdict.TheVariants.{No, Refused}
 use Rattle.lf_verdict.specs.declared.answer.Refusal.TheVariants as refusals
 use Rattle.lf_verdict.specs.Verdict.{Differs, IsVerdictOf}
 
@@ -74,11 +74,18 @@ OtherHeadersAreFinal = (shape : Shape) (bytes : List ℕ) (header : Header) (fie
 
 -- ---- what a session says
 
--- The record that is named is the first of the records so far upon which a part broke, and the fault broke upon it.
+-- The record at this place is the first of the records so far upon which a part broke, and the fault broke upon it.
+pub record IsFirstOf (shape : Shape) (bytes : List ℕ) (fault : PartFault) (upon : Upon) : Type 0 where
+  pub memory : List (ℕ × Bytes)
+  pub records : List Record
+  pub begins : Begins shape bytes memory records
+  pub first : IsFirstBreak (first_offset begins.header memory) shape (flat_memory memory) records fault upon
+
+-- Where a part broke a record is named, and it is that one.
 abbrev pub IsEarliest : Shape → List ℕ → Broken → Type 0
-IsEarliest shape bytes (broken.Part fault (Some upon)) = (memory : List (ℕ × Bytes)) × ((records : List Record)
-    × (Begins shape bytes memory records × IsFirstBreak shape (flat_memory memory) records fault upon))
-IsEarliest shape bytes _ = Unit {0}
+IsEarliest shape bytes (broken.Header field) = Unit {0}
+IsEarliest shape bytes (broken.Part fault None) = ⊥
+IsEarliest shape bytes (broken.Part fault (Some upon)) = IsFirstOf shape bytes fault upon
 
 -- Unless it was stopped, the trace is of no other hierarchy so far, and no part of the records that the session took is at fault.
 abbrev pub IsUnbrokenSoFar : Intake → Judging → List Record → Type 0

@@ -24,7 +24,7 @@ use Rattle.lf_verdict.specs.declared.answer.Refusal.{Refusal}
 use Rattle.lf_verdict.specs.declared.answer.Refusal.TheVariants as refusals
 use Rattle.lf_verdict.specs.Configured.{IsConfigFault}
 use Rattle.lf_verdict.specs.Legal.{Agrees}
-use Rattle.lf_verdict.specs.Breaking.{IsWatch}
+use Rattle.lf_verdict.specs.Breaking.{first_offset, IsWatch, IsKnown}
 use Rattle.lf_verdict.specs.Standing.{StandsAfterAll}
 use Rattle.lf_verdict.specs.Verdict.{Differs}
 
@@ -35,7 +35,7 @@ pub record IsRunning (shape : Shape) (bytes : List ℕ) (memory : List (ℕ × B
   pub agrees : Agrees shape header
   pub whole : length memory ≡ header.memory_count
   pub stands : StandsAfterAll shape (flat_memory memory) records running
-  pub watched : IsWatch shape (flat_memory memory) records running.watch
+  pub watched : IsWatch (first_offset header memory) shape (flat_memory memory) records running.watch
 
 -- The header is of another hierarchy.
 pub record IsOfAnotherHeader (shape : Shape) (bytes : List ℕ) (field : HeaderField) : Type 0 where
@@ -64,6 +64,11 @@ HasTaken s bytes = (records : List Record) × HasJudged s bytes records
 abbrev pub IsRunningNow : Judging → Type 0
 IsRunningNow (Running running) = Unit {0}
 IsRunningNow _ = ⊥
+
+-- The records are judged one after another, so that it is known upon which a part broke first.
+abbrev pub IsInTurn : Judging → Type 0
+IsInTurn (Running running) = IsKnown running.watch
+IsInTurn _ = Unit {0}
 
 -- No memory record waits in the reader, and the header is not there or lacks memory records.
 pub record IsLacking (reader : Reading) (memory : List (ℕ × Bytes)) : Type 0 where

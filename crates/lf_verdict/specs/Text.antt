@@ -48,7 +48,7 @@ part_text (parts.Bank bank number rule) = codes "bank=" ++ decimal bank ++ codes
 -- the record upon which the first part broke
 abbrev pub upon_text : Option Upon → List ℕ
 upon_text None = []
-upon_text (Some upon) = codes " upon log=" ++ decimal upon.log ++ codes " event=" ++ decimal upon.at
+upon_text (Some upon) = codes " upon log=" ++ decimal upon.log ++ codes " event=" ++ decimal upon.at ++ codes " at=" ++ decimal upon.offset
 
 abbrev pub broken_text : Broken → List ℕ
 broken_text (broken.Header field) = codes "header " ++ field_text field

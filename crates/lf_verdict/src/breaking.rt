@@ -16,11 +16,13 @@ pub enum PartFault {
     Bank { bank: u8, number: u32, rule: Rule },
 }
 
-/// A record of a trace: its log, and how many records of that log stand before it.
+/// A record of a trace: its log, how many records of that log stand before it, and the offset in the trace of its
+/// first byte.
 #[derive(Clone, Copy, Debug, PartialEq, Eq)]
 pub struct Upon {
     pub log: u8,
     pub at: u32,
+    pub offset: u64,
 }
 
 /// Why no bytes that follow lead to a yes.
@@ -46,8 +48,8 @@ pub struct FirstBreak {
 /// Whether a part broke, while the records of a trace are judged one after another.
 #[derive(Clone, Copy)]
 pub enum Watch {
-    /// None did.
-    Whole,
+    /// None did. The next record begins at this offset.
+    Whole { next: u64 },
     First(FirstBreak),
     /// Records were judged together, so it is not known upon which of them.
     Unknown,

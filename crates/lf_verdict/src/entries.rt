@@ -4,10 +4,11 @@ ghost use Rattle.std.specs.Prelude.{◌≡◌, ◌<◌, List, [], ◌∷◌, ◌
 ghost use Rattle.lf_rules.specs.declared.shape.Shape.{Shape};
 ghost use Rattle.lf_rules.specs.declared.event.Record.{Record};
 ghost use Rattle.lf_rules.specs.Address.{FlatMemory};
-ghost use Rattle.lf_verdict.specs.Breaking.{IsFaultOfPart, IsPortWhole, IsPlaceOf};
+ghost use Rattle.lf_rules.specs.Run.{of_log};
+ghost use Rattle.lf_verdict.specs.Breaking.{IsFaultOfPart, IsPortWhole};
 ghost use Rattle.lf_verdict.specs.Standing.{MayCome, AreEntered, CanEnterAll, EntersAll};
 
-use crate::breaking::{PartFault, Upon};
+use crate::breaking::PartFault;
 use crate::place::no_record;
 use crate::port_judge::PortJudge;
 use lf_codec::Packed;
@@ -22,15 +23,13 @@ pub struct Entries {
 }
 
 impl Entries {
-    /// The place at which the next record will stand.
-    pub fn place_of(&self, item: &Record) -> Upon
+    /// The place in its log at which the next record will stand.
+    pub fn place_of(&self, item: &Record) -> u32
         requires { (shape : Shape) × ((records : List Record) × (MayCome shape records item.now × AreEntered shape records self.now)) }
         ensures { (shape : Shape) (records : List Record) → MayCome shape records item.now → AreEntered shape records self.now
-            → IsPlaceOf records item.now result }
+            → result ≡ length (of_log item.now.log records) }
     {
-        let log = usize::from(item.log);
-        let at = self.logs[log].len() as u32;
-        Upon { log: item.log, at }
+        self.logs[usize::from(item.log)].len() as u32
     }
 
     /// The fault of the port, where the log is a port's and the port broke a rule.

@@ -1,6 +1,9 @@
 //! The header of a trace against the shape that it is judged for.
 
-ghost use Rattle.std.specs.Prelude.{IfSome, IfNone};
+ghost use Rattle.std.specs.Prelude.{◌≡◌, ℕ, List, length, IfSome, IfNone};
+ghost use Rattle.lf_rules.specs.Fits.{Bytes};
+ghost use Rattle.lf_codec.specs.Trace.{FitsMemory};
+ghost use Rattle.lf_verdict.specs.Breaking.{first_offset};
 ghost use Rattle.lf_verdict.specs.Legal.{Agrees};
 ghost use Rattle.lf_verdict.specs.Verdict.{Differs};
 
@@ -26,4 +29,12 @@ pub fn differing(shape: &Shape, header: Header) -> Option<HeaderField>
         return Some(HeaderField::Factor);
     }
     None
+}
+
+/// The offset at which the first record begins, behind the header and all memory records.
+pub fn first_offset(header: &Header) -> u64
+    ensures { (memory : List (ℕ × Bytes)) → length memory ≡ header.now.memory_count → FitsMemory header.now.block 0 memory
+        → result ≡ first_offset header.now memory }
+{
+    16 + u64::from(header.memory_count) * (4 + u64::from(header.block))
 }

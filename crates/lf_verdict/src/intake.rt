@@ -3,9 +3,9 @@
 ghost use Rattle.std.specs.Prelude.{◌≡◌, ◌<◌, ◌++◌, ℕ, List, [], Some, None, IsSome, IfSome, IfNone, IfOk, Ok, OnOk, option_to_list};
 ghost use Rattle.lf_rules.specs.InRange.{IsShape};
 ghost use Rattle.lf_verdict.specs.Judging.{IsVerdictOrWant};
-ghost use Rattle.lf_verdict.specs.Breaking.{IsWatch};
+ghost use Rattle.lf_verdict.specs.Breaking.{IsWatch, IsKnown, EndsInRange};
 ghost use Rattle.lf_verdict.specs.Final.{IsFinal, IsEarliest, IsUnbroken};
-ghost use Rattle.lf_verdict.specs.Session.{refusal_of, stop_told, IsStopOf, IsRunning, HasTaken, IsLackingIf, IsDrained, IsRunningNow, HasFed};
+ghost use Rattle.lf_verdict.specs.Session.{refusal_of, stop_told, IsStopOf, IsRunning, HasTaken, IsLackingIf, IsDrained, IsRunningNow, IsInTurn, HasFed};
 ghost use Rattle.lf_codec.specs.Reader.{fault_in, answer_of, bytes_taken, with_record, TakesSome};
 ghost use Rattle.lf_verdict.specs.declared.intake.Judging.TheVariants.{Waiting};
 ghost use Rattle.lf_rules.specs.declared.shape.Shape.{Shape};
@@ -18,7 +18,7 @@ ghost use Rattle.lf_verdict.specs.Standing.{MayAllCome, StandsAfterAll};
 
 use crate::answer::{HeaderField, Refusal, Verdict};
 use crate::breaking::Broken;
-use crate::header::differing;
+use crate::header::{differing, first_offset};
 use crate::laws::{other_headers_are_final, part_faults_are_final};
 use crate::standing::Standing;
 use lf_codec::{
@@ -93,6 +93,7 @@ fn judge_records(reader: &mut Reader, standing: &mut Standing) -> Result<(), NoM
         → OnOk result ((more : List Record) × (HasRead reader.new bytes memory more × IsRunning shape bytes memory more standing.new)) }
     ensures fault { reader.new.fault ≡ reader.old.fault }
     ensures drained { OnOk result (reader.new.records ≡ []) }
+    ensures known { IsKnown standing.old.watch → IsKnown standing.new.watch }
 {
     read_so_far();
     while let Some(item) = reader.front() {
@@ -104,14 +105,16 @@ fn judge_records(reader: &mut Reader, standing: &mut Standing) -> Result<(), NoM
 
 /// Judges the record in the place, where there is one.
 fn judge_one(standing: &mut Standing, place: &Option<Record>) -> Result<(), NoMemory>
-    requires { (shape : Shape) × ((memory : FlatMemory) × ((records : List Record) ×
+    requires next { (shape : Shape) × ((memory : FlatMemory) × ((records : List Record) ×
         (StandsAfterAll shape memory records standing.old × MayAllCome shape records (option_to_list place.now)))) }
+    requires range { IfSome place.now (EndsInRange standing.old.watch) }
     ensures judged { (shape : Shape) (memory : FlatMemory) (records : List Record) → StandsAfterAll shape memory records standing.old
         → MayAllCome shape records (option_to_list place.now)
         → OnOk result (StandsAfterAll shape memory (records ++ option_to_list place.now) standing.new) }
-    ensures watched { (shape : Shape) (memory : FlatMemory) (records : List Record) → StandsAfterAll shape memory records standing.old
-        → MayAllCome shape records (option_to_list place.now) → IsWatch shape memory records standing.old.watch
-        → OnOk result (IsWatch shape memory (records ++ option_to_list place.now) standing.new.watch) }
+    ensures watched { (start : ℕ) (shape : Shape) (memory : FlatMemory) (records : List Record) → StandsAfterAll shape memory records standing.old
+        → MayAllCome shape records (option_to_list place.now) → IsWatch start shape memory records standing.old.watch
+        → OnOk result (IsWatch start shape memory (records ++ option_to_list place.now) standing.new.watch) }
+    ensures known { IsKnown standing.old.watch → IsKnown standing.new.watch }
 {
     match place {
         Some(item) => standing.take(item),
@@ -132,6 +135,7 @@ fn judge_placed(
         → OnOk result ((more : List Record) × (HasRead reader.new bytes memory more × IsRunning shape bytes memory more standing.new)) }
     ensures fault { reader.new.fault ≡ reader.old.fault }
     ensures drained { OnOk result (reader.new.records ≡ []) }
+    ensures known { IsKnown standing.old.watch → IsKnown standing.new.watch }
 {
     read_so_far();
     judge_one(standing, place)?;
@@ -147,6 +151,7 @@ impl Intake {
         requires { IsShape shape.now }
         ensures shape { result.shape ≡ shape.now }
         ensures fed { HasFed result [] }
+        ensures in_turn { IsInTurn result.judging }
     {
         Intake {
             alloc,
@@ -189,6 +194,7 @@ impl Intake {
         ensures stop { self.new.stop ≡ self.old.stop }
         ensures taken { (bytes : List ℕ) → HasTaken self.old bytes → OnOk result (HasTaken self.new bytes) }
         ensures drained { OnOk result (IsDrained self.new.judging self.new.reader self.new.memory.items) }
+        ensures in_turn { IsInTurn self.old.judging → IsInTurn self.new.judging }
     {
         self.prepare()?;
         self.judge()
@@ -201,6 +207,7 @@ impl Intake {
         ensures stop { self.new.stop ≡ self.old.stop }
         ensures taken { (bytes : List ℕ) → HasTaken self.old bytes → OnOk result (HasTaken self.new bytes) }
         ensures lacking { OnOk result (IsLackingIf self.new.judging self.new.reader self.new.memory.items) }
+        ensures in_turn { IsInTurn self.old.judging → IsInTurn self.new.judging }
     {
         let Judging::Waiting = self.judging else {
             return Ok(());
@@ -217,6 +224,7 @@ impl Intake {
         ensures stop { self.new.stop ≡ self.old.stop }
         ensures taken { (bytes : List ℕ) → HasTaken self.old bytes → OnOk result (HasTaken self.new bytes) }
         ensures drained { OnOk result (IsDrained self.new.judging self.new.reader self.new.memory.items) }
+        ensures in_turn { IsInTurn self.old.judging → IsInTurn self.new.judging }
     {
         match &mut self.judging {
             Judging::Waiting => Ok(()),
@@ -237,6 +245,7 @@ impl Intake {
         ensures taken { (bytes : List ℕ) → HasTaken (record self.old { reader = with_record place.now self.old.reader }) bytes
             → OnOk result (HasTaken self.new bytes) }
         ensures drained { OnOk result (IsDrained self.new.judging self.new.reader self.new.memory.items) }
+        ensures in_turn { IsInTurn self.old.judging → IsInTurn self.new.judging }
     {
         match &mut self.judging {
             Judging::Running(standing) => judge_placed(&mut self.reader, standing, place),
@@ -253,7 +262,9 @@ impl Intake {
         ensures stop { self.new.stop ≡ self.old.stop }
         ensures taken { (bytes : List ℕ) → HasTaken self.old bytes → OnOk result (HasTaken self.new bytes) }
         ensures lacking { OnOk result (IsLackingIf self.new.judging self.new.reader self.new.memory.items) }
+        ensures in_turn { IsInTurn self.new.judging }
     {
+        read_so_far();
         let Some(header) = self.reader.header() else {
             return Ok(());
         };
@@ -262,7 +273,8 @@ impl Intake {
             return Ok(());
         }
         if self.memory.len() as u64 == u64::from(header.memory_count) {
-            let standing = Standing::new(self.alloc, &self.shape, &self.memory)?;
+            let start = first_offset(&header);
+            let standing = Standing::new(self.alloc, &self.shape, &self.memory, start)?;
             self.judging = Judging::Running(standing);
         }
         Ok(())
@@ -275,6 +287,7 @@ impl Intake {
         ensures fed { (bytes : List ℕ) → HasFed self.old bytes → HasFed self.new (bytes ++ piece.now) }
         ensures told { result ≡ stop_told self.old.stop self.new.stop }
         ensures failed { IsSome self.old.stop → self.new ≡ self.old }
+        ensures in_turn { IsInTurn self.old.judging → IsInTurn self.new.judging }
     {
         faults_stand();
         if let Some(stop) = self.stop {
@@ -300,6 +313,7 @@ impl Intake {
         ensures some { IfOk result (TakesSome bytes.now) }
         ensures fed { (fed : List ℕ) → HasFed self.old fed → HasFed self.new (fed ++ bytes_taken result bytes.now) }
         ensures told { answer_of result ≡ stop_told self.old.stop self.new.stop }
+        ensures in_turn { IsInTurn self.old.judging → IsInTurn self.new.judging }
     {
         header_of_bytes();
         let n = match self.reader.feed_some(bytes) {
@@ -324,6 +338,7 @@ impl Intake {
         ensures some { IfOk result (TakesSome bytes.now) }
         ensures fed { (fed : List ℕ) → HasFed self.old fed → HasFed self.new (fed ++ bytes_taken result bytes.now) }
         ensures told { answer_of result ≡ stop_told self.old.stop self.new.stop }
+        ensures in_turn { IsInTurn self.old.judging → IsInTurn self.new.judging }
     {
         let Judging::Running(_) = self.judging else {
             return self.feed_some(bytes);
@@ -362,11 +377,13 @@ impl Intake {
         }
     }
 
-    /// What is final for the bytes that were fed, where something is.
+    /// What is final for the bytes that were fed, where something is. Where the records were judged one after another
+    /// the record is named.
     pub fn broken(&self) -> Option<Broken>
         requires { (bytes : List ℕ) × HasFed self.now bytes }
         ensures stands { (bytes : List ℕ) → HasFed self.now bytes → IfSome result (IsFinal self.now.shape bytes) }
-        ensures earliest { (bytes : List ℕ) → HasFed self.now bytes → IfSome result (IsEarliest self.now.shape bytes) }
+        ensures earliest { IsInTurn self.now.judging → (bytes : List ℕ) → HasFed self.now bytes
+            → IfSome result (IsEarliest self.now.shape bytes) }
         ensures none { (bytes : List ℕ) → IfNone result (IsUnbroken self.now bytes) }
     {
         read_so_far();

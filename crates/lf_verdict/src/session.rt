@@ -30,13 +30,13 @@ pub struct Session {
 
 impl Model for Session {
     ghost use Rattle.lf_verdict.specs.declared.intake.Intake.{Intake};
-    ghost use Rattle.lf_verdict.specs.Session.{WasFed};
+    ghost use Rattle.lf_verdict.specs.Session.{WasFed, IsInTurn};
 
     ghost Value = { Intake };
 
     ghost view = { λ s. s.intake };
 
-    ghost invariant = { λ s. WasFed s.intake };
+    ghost invariant = { λ s. WasFed s.intake × IsInTurn s.intake.judging };
 }
 
 impl Session {
@@ -79,8 +79,8 @@ impl Session {
     }
 
     /// What broke, where something did for which no bytes that follow lead to a yes: a header of another hierarchy, or
-    /// a part of the records so far, with the first record upon which one was at fault. The verdict is then that
-    /// fault, one that is named before it, or that the bytes are no trace. After a refused `feed` nothing is told.
+    /// a part of the records so far, always with the first record upon which one was at fault. The verdict is then
+    /// that fault, one that is named before it, or that the bytes are no trace. After a refused `feed` nothing is told.
     pub fn broken(&self) -> Option<Broken>
         ensures stands { (bytes : List ℕ) → HasFed self.now bytes → IfSome result (IsFinal self.now.shape bytes) }
         ensures earliest { (bytes : List ℕ) → HasFed self.now bytes → IfSome result (IsEarliest self.now.shape bytes) }

@@ -1,15 +1,17 @@
 //! The parts of a trace, judged while its records come.
 
-ghost use Rattle.std.specs.Prelude.{◌≡◌, List, [], ◌∷◌, ◌++◌, IfSome, IfNone, OnOk};
+ghost use Rattle.std.specs.Prelude.{◌≡◌, ℕ, List, [], ◌∷◌, ◌++◌, length, IfSome, IfNone, OnOk};
 ghost use Rattle.lf_rules.specs.declared.shape.Shape.{Shape};
 ghost use Rattle.lf_rules.specs.declared.event.Record.{Record};
 ghost use Rattle.lf_rules.specs.Address.{FlatMemory};
-ghost use Rattle.lf_verdict.specs.Breaking.{IsFaultOfPart, NoneBroke, IsBankWhole, IsPlaceOf, IsWatch};
+ghost use Rattle.lf_rules.specs.Run.{of_log};
+ghost use Rattle.lf_verdict.specs.Breaking.{IsFaultOfPart, NoneBroke, IsBankWhole, IsWatch, IsKnown, EndsInRange};
 ghost use Rattle.lf_verdict.specs.Standing.{MayCome, StandsAfterAll};
 
 use crate::bank_judge::BankJudge;
 use crate::breaking::{FirstBreak, PartFault, Upon, Watch};
 use crate::entries::Entries;
+use lf_history::record_len;
 use lf_rules::{NoMemory, Outcome, Record};
 
 /// The entries of the logs so far, with how each port stands, how each bank stands, and whether one of them broke.
@@ -24,18 +26,20 @@ impl Standing {
     /// Takes the next record of the trace: keeps its entry, judges it by its port and hands it to its
     /// bank, which judges it in its turn. Where it is the first upon which a part breaks, that is noted.
     pub fn take(&mut self, item: &Record) -> Result<(), NoMemory>
-        requires { (shape : Shape) × ((memory : FlatMemory) × ((records : List Record) ×
+        requires next { (shape : Shape) × ((memory : FlatMemory) × ((records : List Record) ×
             (MayCome shape records item.now × StandsAfterAll shape memory records self.old))) }
+        requires range { EndsInRange self.old.watch item.now }
         ensures judged { (shape : Shape) (memory : FlatMemory) (records : List Record) → MayCome shape records item.now
             → StandsAfterAll shape memory records self.old
             → OnOk result (StandsAfterAll shape memory (records ++ item.now ∷ []) self.new) }
-        ensures watched { (shape : Shape) (memory : FlatMemory) (records : List Record) → MayCome shape records item.now
-            → StandsAfterAll shape memory records self.old → IsWatch shape memory records self.old.watch
-            → OnOk result (IsWatch shape memory (records ++ item.now ∷ []) self.new.watch) }
+        ensures watched { (start : ℕ) (shape : Shape) (memory : FlatMemory) (records : List Record) → MayCome shape records item.now
+            → StandsAfterAll shape memory records self.old → IsWatch start shape memory records self.old.watch
+            → OnOk result (IsWatch start shape memory (records ++ item.now ∷ []) self.new.watch) }
+        ensures known { IsKnown self.old.watch → IsKnown self.new.watch }
     {
-        let upon = self.entries.place_of(item);
+        let at = self.entries.place_of(item);
         self.judge(item)?;
-        self.note(item, upon);
+        self.note(item, at);
         Ok(())
     }
 
@@ -91,18 +95,29 @@ impl Standing {
         }
     }
 
-    /// Notes what broke upon the record, which came last and stands at this place, unless a part broke before.
-    fn note(&mut self, item: &Record, upon: Upon)
+    /// Notes what broke upon the record, which came last and stands at this place of its log, unless a part broke
+    /// before.
+    fn note(&mut self, item: &Record, at: u32)
+        requires range { EndsInRange self.old.watch item.now }
         ensures rest { self.new ≡ record self.old { watch = self.new.watch } }
-        ensures watched { (shape : Shape) (memory : FlatMemory) (before : List Record) → IsPlaceOf before item.now upon
-            → StandsAfterAll shape memory (before ++ item.now ∷ []) self.old → IsWatch shape memory before self.old.watch
-            → IsWatch shape memory (before ++ item.now ∷ []) self.new.watch }
+        ensures watched { (start : ℕ) (shape : Shape) (memory : FlatMemory) (before : List Record) → at ≡ length (of_log item.now.log before)
+            → StandsAfterAll shape memory (before ++ item.now ∷ []) self.old → IsWatch start shape memory before self.old.watch
+            → IsWatch start shape memory (before ++ item.now ∷ []) self.new.watch }
+        ensures known { IsKnown self.old.watch → IsKnown self.new.watch }
     {
-        let Watch::Whole = self.watch else {
+        let Watch::Whole { next } = self.watch else {
             return;
         };
-        if let Some(fault) = self.broke_upon(item) {
-            self.watch = Watch::First(FirstBreak { fault, upon });
+        match self.broke_upon(item) {
+            Some(fault) => {
+                let (log, offset) = (item.log, next);
+                let upon = Upon { log, at, offset };
+                self.watch = Watch::First(FirstBreak { fault, upon });
+            }
+            None => {
+                let next = next + record_len(item);
+                self.watch = Watch::Whole { next };
+            }
         }
     }
 }

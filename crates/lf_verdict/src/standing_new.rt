@@ -7,7 +7,7 @@ ghost use Rattle.lf_join.specs.Join.{skeleton_lists};
 ghost use Rattle.lf_replay.specs.Bytes.{bank_part};
 ghost use Rattle.lf_verdict.specs.declared.port_judge.PortJudge.{PortJudge};
 ghost use Rattle.lf_verdict.specs.declared.bank_judge.BankJudge.{BankJudge};
-ghost use Rattle.lf_verdict.specs.Breaking.{IsWatch};
+ghost use Rattle.lf_verdict.specs.Breaking.{IsWatch, IsKnown};
 ghost use Rattle.lf_verdict.specs.Standing.{IsPortJudged, IsBankSettled, StandsAfterAll};
 
 use crate::bank_judge::BankJudge;
@@ -56,11 +56,17 @@ fn bank_judges(alloc: Global, shape: &Shape, memory: &Memory) -> Result<Vec<Bank
 }
 
 impl Standing {
-    /// No record has come. `memory` is the whole memory of the trace.
-    pub fn new(alloc: Global, shape: &Shape, memory: &Memory) -> Result<Standing, NoMemory>
+    /// No record has come. `memory` is the whole memory of the trace, and the first record begins at `start`.
+    pub fn new(
+        alloc: Global,
+        shape: &Shape,
+        memory: &Memory,
+        start: u64,
+    ) -> Result<Standing, NoMemory>
         requires { IsShape shape.now }
         ensures stands { IfOk result (StandsAfterAll shape.now (flat_memory memory.now.items) []) }
-        ensures watched { IfOk result (λ s. IsWatch shape.now (flat_memory memory.now.items) [] s.watch) }
+        ensures watched { IfOk result (λ s. IsWatch start shape.now (flat_memory memory.now.items) [] s.watch) }
+        ensures known { IfOk result (λ s. IsKnown s.watch) }
     {
         let logs = empty_logs(alloc, shape.ports + shape.banks)?;
         let ports = port_judges(alloc, shape)?;
@@ -69,7 +75,7 @@ impl Standing {
         Ok(Standing {
             entries,
             banks,
-            watch: Watch::Whole,
+            watch: Watch::Whole { next: start },
         })
     }
 }

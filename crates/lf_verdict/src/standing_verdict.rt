@@ -7,7 +7,7 @@ ghost use Rattle.lf_rules.specs.Address.{FlatMemory};
 ghost use Rattle.lf_verdict.specs.Parts.{PartsRun};
 ghost use Rattle.lf_verdict.specs.Judging.{IsEnding, number_ending, AreWholeBelow, IsOrderOf, IsLogsVerdict};
 ghost use Rattle.lf_verdict.specs.Standing.{logs_so_far, IsShort, StandsAfterAll};
-ghost use Rattle.lf_verdict.specs.Breaking.{IsFaultOfPart, NoneBroke, IsPortWhole, IsBankWhole, IsPartBroken, IsWatch};
+ghost use Rattle.lf_verdict.specs.Breaking.{IsFaultOfPart, NoneBroke, IsPortWhole, IsBankWhole, IsPartBroken, NamesRecord, IsWatch, IsKnown};
 
 use crate::answer::{Fault, Refusal, Verdict};
 use crate::breaking::{Broken, FirstBreak, PartFault, Watch};
@@ -149,13 +149,16 @@ impl Standing {
     pub fn broken(&self) -> Option<Broken>
         requires ports { length self.now.entries.ports.items ≤ 16 }
         requires banks { length self.now.banks.items ≤ 16 }
-        ensures some { (shape : Shape) (memory : FlatMemory) (records : List Record) → StandsAfterAll shape memory records self.now
-            → IsWatch shape memory records self.now.watch → IfSome result (IsPartBroken shape memory records) }
-        ensures none { (shape : Shape) (memory : FlatMemory) (records : List Record) → StandsAfterAll shape memory records self.now
-            → IsWatch shape memory records self.now.watch → IfNone result (NoneBroke shape memory records) }
+        ensures some { (start : ℕ) (shape : Shape) (memory : FlatMemory) (records : List Record)
+            → StandsAfterAll shape memory records self.now → IsWatch start shape memory records self.now.watch
+            → IfSome result (IsPartBroken start shape memory records) }
+        ensures none { (start : ℕ) (shape : Shape) (memory : FlatMemory) (records : List Record)
+            → StandsAfterAll shape memory records self.now → IsWatch start shape memory records self.now.watch
+            → IfNone result (NoneBroke shape memory records) }
+        ensures named { IsKnown self.now.watch → IfSome result NamesRecord }
     {
         match self.watch {
-            Watch::Whole => None,
+            Watch::Whole { .. } => None,
             Watch::First(FirstBreak { fault, upon }) => Some(Broken::Part {
                 fault,
                 upon: Some(upon),

@@ -97,8 +97,8 @@ impl fmt::Display for Broken {
             Broken::Part { fault, upon: None } => write!(f, "{fault}"),
             Broken::Part {
                 fault,
-                upon: Some(Upon { log, at }),
-            } => write!(f, "{fault} upon log={log} event={at}"),
+                upon: Some(Upon { log, at, offset }),
+            } => write!(f, "{fault} upon log={log} event={at} at={offset}"),
         }
     }
 }

@@ -31,8 +31,8 @@ fn told_after<T: AllocGlobal>(
     None
 }
 
-fn part(fault: PartFault, log: u8, at: u32) -> Broken {
-    let upon = Some(Upon { log, at });
+fn part(fault: PartFault, upon: Upon) -> Broken {
+    let upon = Some(upon);
     Broken::Part { fault, upon }
 }
 
@@ -68,7 +68,9 @@ fn a_wrong_byte_is_told_with_its_record(rt: HostRuntime) -> Result<(), Fail> {
         number: 5,
         rule: Rule::ReplyData,
     };
-    assert_broken(&rt, &C1, &bytes[..124], 124, part(fault, 0, 1))
+    let (log, at, offset) = (0, 1, 104);
+    let due = part(fault, Upon { log, at, offset });
+    assert_broken(&rt, &C1, &bytes[..124], 124, due)
 }
 
 #[test]
@@ -81,7 +83,11 @@ fn a_double_is_told_above_a_gap(rt: HostRuntime) -> Result<(), Fail> {
     ];
     let records = records_at(rt.alloc(), &C1, &rows)?;
     let bytes = trace(rt.alloc(), 1, &C1, &Vec::new(rt.alloc()), &records)?;
-    let double = part(PartFault::Double { bank: 0, k: 2 }, 0, 2);
+    let (log, at, offset) = (0, 2, 56);
+    let double = part(
+        PartFault::Double { bank: 0, k: 2 },
+        Upon { log, at, offset },
+    );
     assert_broken(&rt, &C1, bytes.get(..96).unwrap_or(&bytes), 76, double)
 }
 

@@ -13,10 +13,10 @@ returns-in-Some-clause-judged c shape memory records stands may =
     (λ after. subst (λ (p : Option Record). StandsAfterAll shape memory (records ++ option_to_list p) c.take.new.self) (sym c.in-Some.is) after)
 
 pub returns-in-Some-clause-watched : goal.returns-in-Some-clause-watched
-returns-in-Some-clause-watched c shape memory records stands may watched =
+returns-in-Some-clause-watched c start shape memory records stands may watched =
     let own = subst (λ (p : Option Record). MayAllCome shape records (option_to_list p)) c.in-Some.is may in
-    on_ok c.take.result (c.take.ensures.watched shape memory records own.0 stands watched)
-    (λ after. subst (λ (p : Option Record). IsWatch shape memory (records ++ option_to_list p) c.take.new.self.watch) (sym c.in-Some.is) after)
+    on_ok c.take.result (c.take.ensures.watched start shape memory records own.0 stands watched)
+    (λ after. subst (λ (p : Option Record). IsWatch start shape memory (records ++ option_to_list p) c.take.new.self.watch) (sym c.in-Some.is) after)
 
 pub returns-in-None-clause-judged : goal.returns-in-None-clause-judged
 returns-in-None-clause-judged c shape memory records stands may =
@@ -24,6 +24,6 @@ returns-in-None-clause-judged c shape memory records stands may =
     subst (λ (p : Option Record). StandsAfterAll shape memory (records ++ option_to_list p) c.args.standing.now) (sym c.in-None.is) all
 
 pub returns-in-None-clause-watched : goal.returns-in-None-clause-watched
-returns-in-None-clause-watched c shape memory records stands may watched =
-    let all = subst (λ (rs : List Record). IsWatch shape memory rs c.args.standing.now.watch) (sym (append-nil records)) watched in
-    subst (λ (p : Option Record). IsWatch shape memory (records ++ option_to_list p) c.args.standing.now.watch) (sym c.in-None.is) all
+returns-in-None-clause-watched c start shape memory records stands may watched =
+    let all = subst (λ (rs : List Record). IsWatch start shape memory rs c.args.standing.now.watch) (sym (append-nil records)) watched in
+    subst (λ (p : Option Record). IsWatch start shape memory (records ++ option_to_list p) c.args.standing.now.watch) (sym c.in-None.is) all

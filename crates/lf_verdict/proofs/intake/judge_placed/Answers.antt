@@ -1,14 +1,21 @@
 use Rattle.std.proofs.Common.{◌++◌}
 use Rattle.std.specs.Prelude.{option_to_list}
 use Rattle.lf_rules.specs.Address.{flat_memory}
+use Rattle.lf_verdict.specs.Breaking.{first_offset}
+use Rattle.lf_verdict.proofs.Lengths.{place_ends}
 use Rattle.lf_verdict.proofs.Sessions.{running_more, place_may_come, given_one}
 use Rattle.lf_verdict.proofs.intake.judge_placed.Goals as goal
 
-pub judge_one-requires : goal.judge_one-requires
-judge_one-requires c =
+pub judge_one-requires-clause-next : goal.judge_one-requires-clause-next
+judge_one-requires-clause-next c =
     let r = c.requires in
     let run = r.1.1.1.1.1 in
     (r.0, (flat_memory r.1.1.0, (r.1.1.1.0, (run.stands, place_may_come c.read_so_far.ensures r.0 r.1.0 r.1.1.0 r.1.1.1.0 c.args.reader.now c.args.standing.now c.args.place.now r.1.1.1.1.0 run))))
+
+pub judge_one-requires-clause-range : goal.judge_one-requires-clause-range
+judge_one-requires-clause-range c =
+    let r = c.requires in
+    place_ends c.read_so_far.ensures r.0 r.1.0 r.1.1.0 r.1.1.1.0 c.args.reader.now c.args.standing.now c.args.place.now r.1.1.1.1.0 r.1.1.1.1.1
 
 pub judge_records-requires : goal.judge_records-requires
 judge_records-requires c =
@@ -18,7 +25,7 @@ judge_records-requires c =
     let run = r.1.1.1.1.1 in
     let may = place_may_come c.read_so_far.ensures r.0 r.1.0 r.1.1.0 r.1.1.1.0 c.args.reader.now c.args.standing.now place read run in
     let judged = c.in_ok-judge_one.ensures.judged r.0 (flat_memory r.1.1.0) r.1.1.1.0 run.stands may in
-    let watched = c.in_ok-judge_one.ensures.watched r.0 (flat_memory r.1.1.0) r.1.1.1.0 run.stands may run.watched in
+    let watched = c.in_ok-judge_one.ensures.watched (first_offset run.header r.1.1.0) r.0 (flat_memory r.1.1.0) r.1.1.1.0 run.stands may run.watched in
     let more = r.1.1.1.0 ++ option_to_list place in (
       r.0,
       (
@@ -41,7 +48,7 @@ returns-clause-judged c shape bytes memory records read run =
     let place = c.args.place.now in
     let may = place_may_come c.read_so_far.ensures shape bytes memory records c.args.reader.now c.args.standing.now place read run in
     let judged = c.in_ok-judge_one.ensures.judged shape (flat_memory memory) records run.stands may in
-    let watched = c.in_ok-judge_one.ensures.watched shape (flat_memory memory) records run.stands may run.watched in
+    let watched = c.in_ok-judge_one.ensures.watched (first_offset run.header memory) shape (flat_memory memory) records run.stands may run.watched in
     let more = records ++ option_to_list place in
     c.judge_records.ensures.judged shape bytes memory more (given_one c.args.reader.now place bytes memory records read)
     (running_more shape bytes memory records more c.args.standing.now c.judge_one.new.standing run judged watched)
@@ -51,6 +58,6 @@ returns-then-is_none-clause-judged c shape bytes memory records read run =
     let place = c.args.place.now in
     let may = place_may_come c.read_so_far.ensures shape bytes memory records c.args.reader.now c.args.standing.now place read run in
     let judged = c.in_ok-judge_one.ensures.judged shape (flat_memory memory) records run.stands may in
-    let watched = c.in_ok-judge_one.ensures.watched shape (flat_memory memory) records run.stands may run.watched in
+    let watched = c.in_ok-judge_one.ensures.watched (first_offset run.header memory) shape (flat_memory memory) records run.stands may run.watched in
     let more = records ++ option_to_list place in
     (more, (given_one c.args.reader.now place bytes memory records read, running_more shape bytes memory records more c.args.standing.now c.judge_one.new.standing run judged watched))

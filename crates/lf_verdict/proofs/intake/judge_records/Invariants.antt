@@ -3,6 +3,7 @@ use Rattle.lf_rules.specs.declared.shape.Shape.{Shape}
 use Rattle.lf_rules.specs.declared.event.Record.{Record}
 use Rattle.lf_rules.specs.Fits.{Bytes}
 use Rattle.lf_codec.specs.Reader.{HasRead}
+use Rattle.lf_verdict.specs.Breaking.{IsKnown}
 use Rattle.lf_verdict.specs.Session.{IsRunning}
 use Rattle.lf_verdict.proofs.intake.judge_records.Given as goal
 
@@ -11,6 +12,7 @@ invariant-loop-item l = record {
   fault : l.reader.fault ≡ l.fn.reader.fault;
   read : (shape : Shape) (bytes : List ℕ) (memory : List (ℕ × Bytes)) (records : List Record) → HasRead l.fn.reader bytes memory records
       → IsRunning shape bytes memory records l.fn.standing → (more : List Record) × (HasRead l.reader bytes memory more × IsRunning shape bytes memory more l.standing);
+  known : IsKnown l.fn.standing.watch → IsKnown l.standing.watch;
 }
 
 abbrev pub decreases-loop-item : goal.decreases-loop-item

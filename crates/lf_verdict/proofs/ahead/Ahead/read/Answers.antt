@@ -1,4 +1,4 @@
-use Rattle.std.proofs.Common.{◌++◌, sym, ◌∙◌}
+use Rattle.std.proofs.Common.{◌++◌, sym}
 use Rattle.lf_codec.specs.Reader.{with_records}
 use Rattle.lf_verdict.specs.Ahead.{lent_records}
 use Rattle.lf_verdict.proofs.Pieces.{told_fine}

@@ -1,4 +1,4 @@
-use Rattle.std.proofs.Common.{◌≡◌, ◌<◌, ◌+◌, refl, ◌∙◌, arith}
+use Rattle.std.proofs.Common.{◌+◌, arith}
 use Rattle.lf_verdict.proofs.Standings.{entries_count, log_below_all, log_length}
 use Rattle.lf_verdict.proofs.entries.Entries.place_of.Goals as goal
 
@@ -8,19 +8,17 @@ index-requires c =
     let stands = r.1.1.1 in
     omega (
       arith,
-      c.from-log.ensures,
+      c.from.ensures,
       log_below_all r.0 r.1.0 c.args.self.now stands c.args.item.now r.1.1.0,
       entries_count (r.0.ports + r.0.banks) r.1.0 c.args.self.now.logs.items stands.logs,
     )
 
-pub overflow_cast-at : goal.overflow_cast-at
-overflow_cast-at c =
+pub overflow_cast-result : goal.overflow_cast-result
+overflow_cast-result c =
     let r = c.requires in
     let may = r.1.1.0 in
-    omega (arith, c.len-at.ensures, log_length r.0 r.1.0 c.args.self.now r.1.1.1 c.args.item.now may c.from-log.result c.index.result.now c.from-log.ensures c.index.ensures, may.room)
+    omega (arith, c.len.ensures, log_length r.0 r.1.0 c.args.self.now r.1.1.1 c.args.item.now may c.from.result c.index.result.now c.from.ensures c.index.ensures, may.room)
 
 pub returns : goal.returns
-returns c shape records may entered = record {
-  log = refl;
-  at = omega (arith, c.len-at.ensures, log_length shape records c.args.self.now entered c.args.item.now may c.from-log.result c.index.result.now c.from-log.ensures c.index.ensures);
-}
+returns c shape records may entered =
+    omega (arith, c.len.ensures, log_length shape records c.args.self.now entered c.args.item.now may c.from.result c.index.result.now c.from.ensures c.index.ensures)

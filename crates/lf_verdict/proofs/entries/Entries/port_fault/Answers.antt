@@ -1,4 +1,4 @@
-use Rattle.std.proofs.Common.{◌≡◌, ◌<◌, get_or, ap, ◌∙◌, arith}
+use Rattle.std.proofs.Common.{get_or, ap, ◌∙◌, arith}
 use Rattle.lf_verdict.proofs.Breaks.{port_whole}
 use Rattle.lf_verdict.proofs.entries.Entries.port_fault.Goals as goal
 

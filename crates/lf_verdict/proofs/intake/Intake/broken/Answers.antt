@@ -1,14 +1,15 @@
-use Rattle.std.proofs.Common.{◌≡◌, ℕ, List, ◌++◌, [], ◌∷◌, Option, Some, None, Bool, false, true, is_some, refl, sym, ap, ◌∙◌, subst}
+use Rattle.std.proofs.Common.{◌≡◌, ℕ, List, Option, Some, None, false, true, is_some, refl, sym, ◌∙◌, subst}
 use Rattle.std.specs.Prelude.{IfSome, IfNone}
 use Rattle.lf_verdict.specs.declared.intake.Intake.{Intake}
 use Rattle.lf_verdict.specs.declared.intake.Judging.{Judging}
 use Rattle.lf_verdict.specs.declared.intake.Stop.{Stop}
-use Rattle.lf_verdict.specs.Session.{IsJudging, HasJudged}
-use Rattle.lf_verdict.specs.Breaking.{NoneBroke}
+use Rattle.lf_verdict.specs.Session.{IsJudging, IsInTurn, HasJudged}
+use Rattle.lf_codec.specs.declared.header.Header.{Header}
+use Rattle.lf_verdict.specs.Breaking.{first_offset, IsPartBroken}
 use Rattle.lf_verdict.specs.declared.breaking.Broken.{Broken}
 use Rattle.lf_verdict.specs.Final.{IsUnbrokenSoFar, IsUnbroken}
 use Rattle.lf_verdict.proofs.Breaks.{if_none}
-use Rattle.lf_verdict.proofs.Finals.{begins_fed, final_if, earliest_if}
+use Rattle.lf_verdict.proofs.Finals.{begins_fed, begins_fed-header, final_if, earliest_if}
 use Rattle.lf_verdict.proofs.Sessions.{going}
 use Rattle.lf_rules.specs.Address.{flat_memory}
 use Rattle.lf_rules.specs.declared.event.Record.{Record}
@@ -46,21 +47,25 @@ returns-in-Running-clause-stands c bytes fed =
     let m = going s bytes (none_of s.stop (sym c.is_some.ensures ∙ c.if-is_some.false)) fed in
     let run = subst (λ (j : Judging). IsJudging s.shape bytes s.memory.items m.0 j) c.in-Running.is m.1.judging in
     let begins = begins_fed c.read_so_far.ensures s bytes m.0 c.in-Running.standing m.1 run in
-    final_if c.part_faults_are_final.ensures s.shape bytes s.memory.items m.0 c.broken.result m.1.read.are_bytes begins
-    (c.broken.ensures.some s.shape (flat_memory s.memory.items) m.0 run.stands run.watched)
+    final_if (first_offset run.header s.memory.items) c.part_faults_are_final.ensures s.shape bytes s.memory.items m.0 c.broken.result m.1.read.are_bytes begins
+    (c.broken.ensures.some (first_offset run.header s.memory.items) s.shape (flat_memory s.memory.items) m.0 run.stands run.watched)
 
 pub returns-in-Running-clause-earliest : goal.returns-in-Running-clause-earliest
-returns-in-Running-clause-earliest c bytes fed =
+returns-in-Running-clause-earliest c turn bytes fed =
     let s = c.args.self.now in
     let m = going s bytes (none_of s.stop (sym c.is_some.ensures ∙ c.if-is_some.false)) fed in
     let run = subst (λ (j : Judging). IsJudging s.shape bytes s.memory.items m.0 j) c.in-Running.is m.1.judging in
     let begins = begins_fed c.read_so_far.ensures s bytes m.0 c.in-Running.standing m.1 run in
-    earliest_if s.shape bytes s.memory.items m.0 c.broken.result begins (c.broken.ensures.some s.shape (flat_memory s.memory.items) m.0 run.stands run.watched)
+    let some = c.broken.ensures.some (first_offset run.header s.memory.items) s.shape (flat_memory s.memory.items) m.0 run.stands run.watched in
+    let same = begins_fed-header c.read_so_far.ensures s bytes m.0 c.in-Running.standing m.1 run in
+    earliest_if s.shape bytes s.memory.items m.0 c.broken.result begins
+    (subst (λ (h : Header). IfSome c.broken.result (IsPartBroken (first_offset h s.memory.items) s.shape (flat_memory s.memory.items) m.0)) (sym same) some)
+    (c.broken.ensures.named (subst IsInTurn c.in-Running.is turn))
 
 pub returns-in-Running-clause-none : goal.returns-in-Running-clause-none
 returns-in-Running-clause-none c bytes =
     let s = c.args.self.now in
     unbroken_if s bytes c.broken.result (λ on records judged.
     let run = subst (λ (j : Judging). IsJudging s.shape bytes s.memory.items records j) c.in-Running.is judged.judging in
-    if_none c.broken.result (c.broken.ensures.none s.shape (flat_memory s.memory.items) records run.stands run.watched)
+    if_none c.broken.result (c.broken.ensures.none (first_offset run.header s.memory.items) s.shape (flat_memory s.memory.items) records run.stands run.watched)
     (λ none. subst (λ (j : Judging). IsUnbrokenSoFar s j records) (sym c.in-Running.is) none))

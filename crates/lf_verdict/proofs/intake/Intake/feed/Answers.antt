@@ -17,6 +17,7 @@ loop-at-init c = record {
   within = omega arith;
   shape = refl;
   going = c.in_default.is;
+  in_turn = λ turn. turn;
   fed = λ bytes fed. fed_nothing c.args.self.now bytes fed;
 }
 
@@ -28,6 +29,7 @@ loop-at-preserved c = record {
   within = omega (arith, c.in-Ok.ensures.some.0, rest_len c.args.piece.now c.loop-at.at, c.loop-at.invariant.within);
   shape = c.in-Ok.ensures.shape ∙ c.loop-at.invariant.shape;
   going = told_going c.loop-at.self.stop c.feed_record.new.self.stop c.loop-at.invariant.going (sym c.in-Ok.ensures.told);
+  in_turn = λ turn. c.in-Ok.ensures.in_turn (c.loop-at.invariant.in_turn turn);
   fed = λ bytes fed. fed_more c.feed_record.new.self bytes c.args.piece.now c.loop-at.at c.in-Ok.n
       (c.in-Ok.ensures.fed (bytes ++ take c.loop-at.at c.args.piece.now) (c.loop-at.invariant.fed bytes fed));
 }

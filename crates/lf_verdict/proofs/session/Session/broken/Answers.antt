@@ -7,4 +7,4 @@ use Rattle.lf_verdict.proofs.session.Session.broken.Goals as goal
 
 pub returns-clause-earliest : goal.returns-clause-earliest
 returns-clause-earliest c =
-    subst (λ (s : Intake). (bytes : List ℕ) → HasFed s bytes → IfSome c.broken.result (IsEarliest s.shape bytes)) c.self.view_is c.broken.ensures.earliest
+    subst (λ (s : Intake). (bytes : List ℕ) → HasFed s bytes → IfSome c.broken.result (IsEarliest s.shape bytes)) c.self.view_is (c.broken.ensures.earliest c.self.invariant.1)

@@ -10,7 +10,9 @@ use Rattle.lf_verdict.proofs.Sessions.{fed_fine, fed_fault}
 use Rattle.lf_verdict.proofs.session.Session.feed.Goals as goal
 
 pub invariant_of-self : goal.invariant_of-self
-invariant_of-self c = (c.self.invariant.0 ++ c.args.piece.now, c.feed.ensures.fed c.self.invariant.0 c.self.invariant.1)
+invariant_of-self c =
+    let fed = c.self.invariant.0 in
+    ((fed.0 ++ c.args.piece.now, c.feed.ensures.fed fed.0 fed.1), c.feed.ensures.in_turn c.self.invariant.1)
 
 pub returns-clause-fed : goal.returns-clause-fed
 returns-clause-fed c bytes fed = c.feed.ensures.fed bytes (subst (λ (s : Intake). HasFed s bytes) (sym c.self.view_is) fed)

@@ -18,4 +18,4 @@ returns-clause-verdict c bytes fed judged = verdict_of c.args.self.shape 1 bytes
     (subst (λ (s : Intake). IsVerdictOrWant s.shape bytes c.answer.result) c.self.view_is (c.answer.ensures.answer bytes (subst (λ (s : Intake). HasFed s bytes) (sym c.self.view_is) fed))) judged
 
 pub returns-clause-thread : goal.returns-clause-thread
-returns-clause-thread c = never_thread c.self.inside.intake.shape c.self.invariant.0 c.answer.result (c.answer.ensures.answer c.self.invariant.0 c.self.invariant.1)
+returns-clause-thread c = never_thread c.self.inside.intake.shape c.self.invariant.0.0 c.answer.result (c.answer.ensures.answer c.self.invariant.0.0 c.self.invariant.0.1)

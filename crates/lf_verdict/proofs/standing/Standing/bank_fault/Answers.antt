@@ -1,4 +1,4 @@
-use Rattle.std.proofs.Common.{◌≡◌, ◌<◌, get_or, ap, ◌∙◌, arith}
+use Rattle.std.proofs.Common.{get_or, ap, ◌∙◌, arith}
 use Rattle.lf_verdict.proofs.Breaks.{bank_found, bank_whole_now}
 use Rattle.lf_verdict.proofs.standing.Standing.bank_fault.Goals as goal
 

@@ -1,4 +1,4 @@
-use Rattle.std.proofs.Common.{◌≡◌, ◌<◌, ℕ, sym, subst, ⊎_elim, arith}
+use Rattle.std.proofs.Common.{◌≡◌, sym, subst, ⊎_elim, arith}
 use Rattle.std.proofs.lemmas.Bool.{cases_eq}
 use Rattle.lf_verdict.specs.Breaking.{IsPortWhole}
 use Rattle.lf_verdict.proofs.standing.Standing.port_at_fault.Goals as goal

@@ -1,8 +1,12 @@
 use Rattle.std.proofs.Common.{[], ◌∷◌, ◌++◌, sym, subst}
-use Rattle.lf_verdict.specs.Breaking.{IsWatch}
+use Rattle.lf_verdict.specs.declared.breaking.Watch.{Watch}
+use Rattle.lf_verdict.specs.Breaking.{IsWatch, IsKnown, EndsInRange}
 use Rattle.lf_verdict.specs.Standing.{StandsAfterAll}
 use Rattle.lf_verdict.proofs.Breaks.{stands_watched}
 use Rattle.lf_verdict.proofs.standing.Standing.take.Goals as goal
+
+pub note-requires : goal.note-requires
+note-requires c = record { range = subst (λ (w : Watch). EndsInRange w c.args.item.now) (sym c.judge.ensures.watch) c.requires.range }
 
 pub returns-clause-judged : goal.returns-clause-judged
 returns-clause-judged c shape memory records may stands =
@@ -11,6 +15,12 @@ returns-clause-judged c shape memory records may stands =
     (stands_watched shape memory after c.judge.new.self c.note.new.self.watch (c.in_ok-judge.ensures.judged shape memory records may stands))
 
 pub returns-clause-watched : goal.returns-clause-watched
-returns-clause-watched c shape memory records may stands watched =
-    c.note.ensures.watched shape memory records (c.place_of-upon.ensures shape records may stands.entered) (c.in_ok-judge.ensures.judged shape memory records may stands)
-    (subst (IsWatch shape memory records) (sym c.judge.ensures.watch) watched)
+returns-clause-watched c start shape memory records may stands watched =
+    c.note.ensures.watched start shape memory records (c.place_of-at.ensures shape records may stands.entered) (c.in_ok-judge.ensures.judged shape memory records may stands)
+    (subst (IsWatch start shape memory records) (sym c.judge.ensures.watch) watched)
+
+pub returns-clause-known : goal.returns-clause-known
+returns-clause-known c known = c.note.ensures.known (subst IsKnown (sym c.judge.ensures.watch) known)
+
+pub returns-in_err-judge-clause-known : goal.returns-in_err-judge-clause-known
+returns-in_err-judge-clause-known c known = subst IsKnown (sym c.judge.ensures.watch) known
