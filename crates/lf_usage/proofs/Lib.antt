@@ -1,0 +1,4 @@
+mod Bounds
+mod Latest
+mod Lines
+mod Pushed

@@ -1,0 +1,62 @@
+//! What a trace uses at most.
+
+ghost use Rattle.std.specs.Prelude.{◌≡◌, ◌+◌, ◌<◌, ◌≤◌, ◌^◌, ℕ, length, All, IfOk};
+ghost use Rattle.lf_rules.specs.InRange.{IsShape};
+ghost use Rattle.lf_rules.specs.Numbers.{bank_numbers, IsWhole};
+ghost use Rattle.lf_rules.specs.Lists.{lists_of};
+ghost use Rattle.lf_usage.specs.Usage.{IsBankUse, IsUsage};
+
+use crate::bank::bank_use;
+use crate::level::LevelUse;
+use crate::port::highest_tag;
+use lf_logs::bank_order;
+use lf_rules::{Logs, NoMemory, Shape};
+use std::alloc::Global;
+
+/// What a bank uses at most of each level.
+#[derive(Clone, Copy, Debug, Default, PartialEq, Eq)]
+pub struct BankUse {
+    pub level1: LevelUse,
+    pub level2: LevelUse,
+}
+
+/// What a trace uses at most.
+#[derive(Debug, Drop, PartialEq, Eq)]
+pub struct Usage {
+    pub banks: Vec<BankUse>,
+    /// For each port the highest tag of its requests.
+    pub tags: Vec<Option<u8>>,
+}
+
+fn of_bank(alloc: Global, shape: &Shape, logs: &Logs, bank: u8) -> Result<BankUse, NoMemory>
+    requires in_range { IsShape shape.now }
+    requires few { length logs.now.items ≤ 32 }
+    requires short { All (λ log. length log.items ≤ 2 ^ 24) logs.now.items }
+    requires whole { IsWhole (bank_numbers (lists_of logs.now) bank) }
+    ensures { IfOk result (IsBankUse shape.now (lists_of logs.now) bank) }
+{
+    let Ok(places) = bank_order(alloc, logs, bank) else {
+        return Err(NoMemory);
+    };
+    bank_use(alloc, shape, logs, places.as_slice())
+}
+
+/// What the logs of a trace, whose banks' numbers are whole, use at most.
+pub fn usage_of(alloc: Global, shape: &Shape, logs: &Logs) -> Result<Usage, NoMemory>
+    requires in_range { IsShape shape.now }
+    requires logs { length logs.now.items ≡ shape.now.ports + shape.now.banks }
+    requires short { All (λ log. length log.items ≤ 2 ^ 24) logs.now.items }
+    requires whole { (bank : ℕ) → bank < shape.now.banks → IsWhole (bank_numbers (lists_of logs.now) bank) }
+    ensures { IfOk result (IsUsage shape.now (lists_of logs.now)) }
+{
+    let mut banks = Vec::new(alloc);
+    for bank in 0..shape.banks {
+        let used = of_bank(alloc, shape, logs, bank as u8)?;
+        banks.push(used)?;
+    }
+    let mut tags = Vec::new(alloc);
+    for port in 0..shape.ports as usize {
+        tags.push(highest_tag(logs[port].as_slice()))?;
+    }
+    Ok(Usage { banks, tags })
+}
