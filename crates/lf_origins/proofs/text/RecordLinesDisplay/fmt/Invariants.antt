@@ -1,0 +1,11 @@
+-- What has been written since the loop began is the lines so far.
+use Rattle.std.proofs.Common.{take}
+use Rattle.std.specs.Fmt.{HasWritten, IsPlainFormatter}
+use Rattle.lf_origins.specs.Text.{lines_text}
+use Rattle.lf_origins.proofs.text.RecordLinesDisplay.fmt.Given as goal
+
+abbrev pub invariant-loop-place : goal.invariant-loop-place
+invariant-loop-place g l =
+    IsPlainFormatter l.initial.f
+    → HasWritten g.W.Write.write_str_gives l.initial.f
+    (lines_text l.self.told.records.now l.self.told.offsets.now (take l.place-index l.self.places.now)) l.f

@@ -1,0 +1,23 @@
+//! Where the state that a rule is about comes from: which records of a bank or of a port, before the one that
+//! breaks the rule.
+//!
+//! A part of the state, as the lines of a set or the registers that are held, comes from the records that begin
+//! it and that no later record ends. `specs/Parts` says for each part which records begin and end it, and
+//! `specs/Origins` which part each rule is about. `origins_of` finds the places of these records, and
+//! `OriginsText` is their text, which `specs/Text` says exactly.
+#![tactic(auto)]
+
+mod events;
+mod origins;
+mod parts;
+mod requests;
+mod seen;
+mod standing;
+#[cfg(test)]
+mod tests;
+mod text;
+
+pub use lf_rules::NoMemory;
+pub use origins::{BrokenRule, Origins, origins_of};
+pub use parts::StatePart;
+pub use text::{OriginsText, RecordLines, Told};
