@@ -1,0 +1,3 @@
+pub mod Grouped
+pub mod Numbers
+pub mod Cuts
