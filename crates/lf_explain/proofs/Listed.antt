@@ -51,7 +51,7 @@ fit_at : (P : Record → Type 0) (rs : List Record) (place : Option ℕ) → All
 fit_at P rs None all = tt
 fit_at P rs (Some place) all = fit_if P rs (slice_get rs place) place all refl
 
-all_append : {X : Type 0} (P : X → Type 0) (xs ys : List X) → AllByRecursion P xs → AllByRecursion P ys → AllByRecursion P (xs ++ ys)
+pub all_append : {X : Type 0} (P : X → Type 0) (xs ys : List X) → AllByRecursion P xs → AllByRecursion P ys → AllByRecursion P (xs ++ ys)
 all_append P [] ys all more = more
 all_append P (x ∷ xs) ys all more = (all.0, all_append P xs ys all.1 more)
 
@@ -60,6 +60,17 @@ pub all_at_places : (P : Record → Type 0) (rs : List Record) (places : List (O
 all_at_places P rs [] all = tt
 all_at_places P rs (at ∷ places) all =
     all_append P (option_to_list (record_at rs at)) (records_at rs places) (fit_at P rs at all) (all_at_places P rs places all)
+
+all_front : {X : Type 0} (P : X → Type 0) (xs ys : List X) → AllByRecursion P (xs ++ ys) → AllByRecursion P xs
+all_front P [] ys all = tt
+all_front P (x ∷ xs) ys all = (all.0, all_front P xs ys all.1)
+
+-- what holds of the records at some places holds of those at the first of them
+pub all_taken : (P : Record → Type 0) (rs : List Record) (places : List (Option ℕ)) (i : ℕ) → AllByRecursion P (records_at rs places)
+    → AllByRecursion P (records_at rs (take i places))
+all_taken P rs places i all =
+    all_front P (records_at rs (take i places)) (records_at rs (drop i places))
+    (subst (AllByRecursion P) (sym (ap (records_at rs) (take-append-drop i places)) ∙ records_append rs (take i places) (drop i places)) all)
 
 -- what breaks goes on to break before more records
 pub breaks_longer : (shape : Shape) (now : Local) (xs : List Record) (r : Record) (rest : List Record) (rule : Rule)

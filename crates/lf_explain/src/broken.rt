@@ -1,16 +1,20 @@
 //! The first record of a bank that breaks a rule.
 
-ghost use Rattle.std.specs.Prelude.{◌≡◌, ◌<◌, Some, None, MatchOption, IfOk};
+ghost use Rattle.std.specs.Prelude.{◌≡◌, ◌<◌, IfOk};
+ghost use Rattle.std.specs.Option.{ForSome};
 ghost use Rattle.std.specs.List.{AllByRecursion};
-ghost use Rattle.lf_rules.specs.Address.{flat_memory};
+ghost use Rattle.lf_rules.specs.Address.{block_of, flat_memory};
 ghost use Rattle.lf_rules.specs.Fits.{Fits};
 ghost use Rattle.lf_rules.specs.InRange.{IsShape};
 ghost use Rattle.lf_state.specs.Bytes.{bank_part};
 ghost use Rattle.lf_history.specs.BankOrder.{records_at};
-ghost use Rattle.lf_history.specs.Touching.{record_at};
-ghost use Rattle.lf_explain.specs.Broken.{IsFirstBroken};
+ghost use Rattle.lf_replay.specs.Looks.{OfStep};
+ghost use Rattle.lf_explain.specs.Broken.{IsFirstBroken, IsTold};
 
+use crate::addresses::addresses_of;
 use crate::expected::{Expected, expected_of};
+use crate::named::{NamedBlock, blocks_of, named_blocks};
+use crate::request::{record_at, requested};
 use lf_replay::{BankFault, Step};
 use lf_rules::{Memory, NoMemory, Record, Rule, Shape};
 use std::alloc::Global;
@@ -24,19 +28,42 @@ pub struct Broken {
     pub rule: Rule,
     /// What the rule asks that it carries, where it is a rule about that.
     pub expected: Option<Expected>,
+    /// The address of each byte that it carries, where it is a reply, a fill or an eviction.
+    pub addresses: Vec<u64>,
+    /// The blocks that it names, as the bank has them before it: its own, those of its second-level block, or that
+    /// of the last request with its port and tag.
+    pub blocks: Vec<NamedBlock>,
 }
 
-/// The record at a place, where there is one.
-fn record_at(records: &[Record], place: Option<usize>) -> Option<&Record>
-    ensures { MatchOption result (record_at records.now place ≡ None)
-        (λ item. record_at records.now place ≡ Some item.now) }
+/// What is told of the record that breaks the rule, after the records that the step took, where its request is at
+/// this address.
+fn told(
+    alloc: Global,
+    step: &Step,
+    shape: &Shape,
+    rule: Rule,
+    request: Option<u64>,
+    item: &Record,
+) -> Result<Broken, NoMemory>
+    requires in_range { IsShape shape.now }
+    requires shape { step.now.state.shape ≡ shape.now }
+    requires fits { Fits shape.now item.now }
+    requires request { ForSome request (λ address. block_of shape.now address < 0x1_0000_0000) }
+    ensures { IfOk result (λ broken. OfStep step.now (IsTold broken rule request item.now)) }
 {
-    records.get(place?)
+    let blocks = blocks_of(alloc, shape, request, item)?;
+    Ok(Broken {
+        number: item.number,
+        rule,
+        expected: expected_of(alloc, step, shape, rule, item)?,
+        addresses: addresses_of(alloc, shape, request, item)?,
+        blocks: named_blocks(alloc, step, shape, &blocks)?,
+    })
 }
 
 /// Judges the records at these places, one after another, as `lf_replay::replay` judges those of the bank, and
-/// tells of the first that breaks a rule what the rule asks that it carries. None where they are a run of the
-/// bank. The memory is looked at on the bank's blocks alone.
+/// tells of the first that breaks a rule what the rule asks that it carries, and which blocks it names. None where
+/// they are a run of the bank. The memory is looked at on the bank's blocks alone.
 pub fn first_broken(
     alloc: Global,
     shape: &Shape,
@@ -53,19 +80,16 @@ pub fn first_broken(
         (records_at records.now places.now)) }
 {
     let mut step = Step::new(alloc, shape, memory, bank)?;
-    for place in places {
+    for (i, place) in places.iter().enumerate() {
         let Some(item) = record_at(records, *place) else {
             continue;
         };
         match step.apply(item) {
             Ok(()) => {}
             Err(BankFault::Rule(rule)) => {
-                let due = expected_of(alloc, &step, shape, rule, item)?;
-                return Ok(Some(Broken {
-                    number: item.number,
-                    rule,
-                    expected: due,
-                }));
+                let request = requested(records, &places[..i], item);
+                let broken = told(alloc, &step, shape, rule, request, item)?;
+                return Ok(Some(broken));
             }
             Err(BankFault::NoMemory) => return Err(NoMemory),
         }

@@ -11,7 +11,7 @@ use lf_rules::{Block, Mask, Masks, NoMemory, Shape, WideBlock, mask_at};
 use lf_state::{part_at, sub_block};
 use std::alloc::Global;
 
-fn is_under(mask: Mask, place: usize) -> bool
+pub(crate) fn is_under(mask: Mask, place: usize) -> bool
     requires { place < 64 }
     ensures { result ≡ is_under mask.0 place }
 {

@@ -1,5 +1,6 @@
 -- The text of what a record has to carry, and of what it carries.
-use Rattle.std.specs.Prelude.{ℕ, nat_eq, bit_and, bit_xor, List, [], ◌∷◌, ◌++◌, length, map, Option, Some, None, codes}
+use Rattle.std.specs.Prelude.{ℕ, nat_eq, bit_and, bit_xor, List, [], ◌∷◌, ◌++◌, length, map, slice_get, codes}
+use Rattle.std.specs.Prelude.{Option, Some, None}
 use Rattle.std.specs.Fmt.{decimal}
 use Rattle.std.specs.List.{range_with_len, common_prefix_len}
 use Rattle.lf_rules.specs.declared.mask.Mask.{Mask}
@@ -9,17 +10,28 @@ use Rattle.lf_rules.specs.declared.event.Record.{Record}
 use Rattle.lf_rules.specs.Address.{Masks, mask_at}
 use Rattle.lf_rules.specs.Lines.{no_masks}
 use Rattle.lf_codec.specs.Layout.{data_of}
-use Rattle.lf_text.specs.Text.{data_text, masks_text}
+use Rattle.lf_text.specs.Text.{hexadecimal, data_text, masks_text}
+use Rattle.lf_explain.specs.declared.broken.Broken.{Broken}
 use Rattle.lf_explain.specs.declared.expected.Expected.{Expected}
 use Rattle.lf_explain.specs.declared.expected.Expected.TheVariants as expected
 
 abbrev pub expected_line : List ℕ → List ℕ
 expected_line due = codes "  expected" ++ data_text due ++ 10 ∷ []
 
--- the bytes that were found, with the place of the first that differs
-abbrev pub found_line : List ℕ → List ℕ → List ℕ
-found_line due found =
-    codes "  found   " ++ data_text found ++ codes ", first different at byte " ++ decimal (common_prefix_len nat_eq due found) ++ 10 ∷ []
+-- the address of a byte, where there is one
+abbrev pub address_text : Option ℕ → List ℕ
+address_text None = []
+address_text (Some address) = codes ", address " ++ hexadecimal address
+
+-- the place of a byte, and its address among those of all
+abbrev pub place_text : List ℕ → ℕ → List ℕ
+place_text addresses place = decimal place ++ address_text (slice_get addresses place)
+
+-- the bytes that were found, with the place and the address of the first that differs
+abbrev pub found_line : List ℕ → List ℕ → List ℕ → List ℕ
+found_line due found addresses =
+    codes "  found   " ++ data_text found
+    ++ codes ", first different at byte " ++ place_text addresses (common_prefix_len nat_eq due found) ++ 10 ∷ []
 
 abbrev pub one_mask : Mask → Masks
 one_mask mask = record { items = mask ∷ [] }
@@ -47,12 +59,18 @@ masks_lines due found =
     mask_line (codes "expected") due.items ++ mask_line (codes "found   ") found.items
     ++ mask_line (codes "too many") (all_beyond found due) ++ mask_line (codes "too few ") (all_beyond due found)
 
-abbrev pub due_text : Option Expected → Event → List ℕ
-due_text None event = []
-due_text (Some (expected.Bytes due)) event = expected_line due.items ++ found_line due.items (data_of event)
-due_text (Some (expected.Masks due)) event = masks_lines due (masks_of event)
+-- what the rule asks that an event carries whose bytes have these addresses, and what it carries
+abbrev pub due_text : Option Expected → List ℕ → Event → List ℕ
+due_text None addresses event = []
+due_text (Some (expected.Bytes due)) addresses event =
+    expected_line due.items ++ found_line due.items (data_of event) addresses
+due_text (Some (expected.Masks due)) addresses event = masks_lines due (masks_of event)
+
+abbrev pub broken_text : Option Broken → Event → List ℕ
+broken_text None event = []
+broken_text (Some broken) event = due_text broken.expected broken.addresses.items event
 
 -- what the record has to carry and what it carries, where the rule is about that
-abbrev pub carried_text : Option Record → Option Expected → List ℕ
-carried_text None due = []
-carried_text (Some r) due = due_text due r.event
+abbrev pub carried_text : Option Record → Option Broken → List ℕ
+carried_text None broken = []
+carried_text (Some r) broken = broken_text broken r.event

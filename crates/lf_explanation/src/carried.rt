@@ -2,11 +2,11 @@
 
 ghost use Rattle.std.specs.Prelude.{◌≡◌, ◌<◌, length, nat_eq, slice_index, Some};
 ghost use Rattle.std.specs.List.{common_prefix_len};
-ghost use Rattle.lf_explanation.specs.Carried.{expected_line, found_line, due_text};
+ghost use Rattle.lf_explanation.specs.Carried.{expected_line, place_text, found_line, due_text, broken_text};
 ghost use Rattle.lf_explanation.specs.Carried.{one_mask, masks_of, beyond, all_beyond, mask_line, masks_lines};
 ghost use Rattle.lf_rules.specs.Lines.{no_masks};
 
-use lf_explain::Expected;
+use lf_explain::{Broken, Expected};
 use lf_rules::{Event, Mask, Masks, mask_at};
 use lf_text::{Data, MaskFields, data_of};
 use std::fmt;
@@ -21,7 +21,7 @@ fn same_at(due: &[u8], found: &[u8], place: usize) -> bool
 }
 
 /// The place of the first byte that differs, which is behind all where none does.
-fn first_difference(due: &[u8], found: &[u8]) -> usize
+pub(crate) fn first_difference(due: &[u8], found: &[u8]) -> usize
     ensures { result ≡ common_prefix_len nat_eq due.now found.now }
 {
     let most = due.len().min(found.len());
@@ -46,19 +46,42 @@ impl fmt::Display for ExpectedLine<'_> {
     }
 }
 
-/// The bytes that were found, with the place of the first that differs.
+/// The place of a byte, and its address among those of all, where it is one of them.
+#[derive(Clone, Copy)]
+struct Place<'a> {
+    addresses: &'a [u64],
+    place: usize,
+}
+
+impl fmt::Display for Place<'_> {
+    ghost output = { λ it. Some (place_text it.addresses.now it.place) };
+
+    fn fmt<W: fmt::Write>(&self, f: &mut fmt::Formatter<W>) -> fmt::Result {
+        let place = self.place;
+        match self.addresses.get(place) {
+            Some(address) => write!(f, "{place}, address 0x{address:x}"),
+            None => write!(f, "{place}"),
+        }
+    }
+}
+
+/// The bytes that were found, with the place and the address of the first that differs.
 #[derive(Clone, Copy)]
 struct FoundLine<'a> {
     due: &'a [u8],
     found: &'a [u8],
+    addresses: &'a [u64],
 }
 
 impl fmt::Display for FoundLine<'_> {
-    ghost output = { λ line. Some (found_line line.due.now line.found.now) };
+    ghost output = { λ line. Some (found_line line.due.now line.found.now line.addresses.now) };
 
     fn fmt<W: fmt::Write>(&self, f: &mut fmt::Formatter<W>) -> fmt::Result {
         let found = Data(self.found);
-        let place = first_difference(self.due, self.found);
+        let place = Place {
+            addresses: self.addresses,
+            place: first_difference(self.due, self.found),
+        };
         write!(f, "  found   {found}, first different at byte {place}\n")
     }
 }
@@ -189,15 +212,16 @@ impl fmt::Display for MasksLines<'_> {
     }
 }
 
-/// What an event has to carry and what it carries, where a rule is about that.
+/// What a rule asks that an event carries whose bytes have these addresses, and what it carries.
 #[derive(Clone, Copy)]
-pub(crate) struct Carried<'a> {
-    pub event: &'a Event,
-    pub due: &'a Option<Expected>,
+struct Due<'a> {
+    due: &'a Option<Expected>,
+    addresses: &'a [u64],
+    event: &'a Event,
 }
 
-impl fmt::Display for Carried<'_> {
-    ghost output = { λ carried. Some (due_text carried.due.now carried.event.now) };
+impl fmt::Display for Due<'_> {
+    ghost output = { λ it. Some (due_text it.due.now it.addresses.now it.event.now) };
 
     fn fmt<W: fmt::Write>(&self, f: &mut fmt::Formatter<W>) -> fmt::Result {
         match self.due {
@@ -206,6 +230,7 @@ impl fmt::Display for Carried<'_> {
                 let found = FoundLine {
                     due,
                     found: data_of(self.event),
+                    addresses: self.addresses,
                 };
                 write!(f, "{expected}{found}")
             }
@@ -213,6 +238,31 @@ impl fmt::Display for Carried<'_> {
                 let found = masks_of(self.event);
                 let lines = MasksLines { due, found: &found };
                 write!(f, "{lines}")
+            }
+            None => Ok(()),
+        }
+    }
+}
+
+/// What an event has to carry and what it carries, where a rule is about that.
+#[derive(Clone, Copy)]
+pub(crate) struct Carried<'a> {
+    pub event: &'a Event,
+    pub broken: &'a Option<Broken>,
+}
+
+impl fmt::Display for Carried<'_> {
+    ghost output = { λ carried. Some (broken_text carried.broken.now carried.event.now) };
+
+    fn fmt<W: fmt::Write>(&self, f: &mut fmt::Formatter<W>) -> fmt::Result {
+        match self.broken {
+            Some(broken) => {
+                let due = Due {
+                    due: &broken.expected,
+                    addresses: &broken.addresses,
+                    event: self.event,
+                };
+                write!(f, "{due}")
             }
             None => Ok(()),
         }

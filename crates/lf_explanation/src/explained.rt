@@ -1,13 +1,17 @@
 //! The text of an explanation.
 
-ghost use Rattle.std.specs.Prelude.{◌≡◌, Some, None, MatchOption};
+ghost use Rattle.std.specs.Prelude.{Some};
 ghost use Rattle.lf_history.specs.Touching.{record_at};
 ghost use Rattle.lf_explanation.specs.Carried.{carried_text};
-ghost use Rattle.lf_explanation.specs.Text.{asked_text, line_at, record_text, lines_text, before_text, explained_text};
+ghost use Rattle.lf_explanation.specs.Text.{asked_text, line_at, record_text, lines_text, before_text};
+ghost use Rattle.lf_explanation.specs.Text.{origins_text, explained_text};
 
 use crate::carried::Carried;
 use crate::explanation::Explanation;
+use crate::origins::record_at;
 use crate::sentence::sentence;
+use crate::state::State;
+use lf_origins::{Origins, OriginsText};
 use lf_rules::{Record, Rule};
 use lf_text::{PlacedLine, TextLine};
 use std::fmt;
@@ -80,14 +84,6 @@ impl fmt::Display for Asked {
     }
 }
 
-/// The record at a place, where there is one.
-fn record_at(records: &[Record], place: Option<usize>) -> Option<&Record>
-    ensures { MatchOption result (record_at records.now place ≡ None)
-        (λ item. record_at records.now place ≡ Some item.now) }
-{
-    records.get(place?)
-}
-
 /// What the record that breaks the rule has to carry and carries.
 #[derive(Clone, Copy)]
 struct RecordCarries<'a> {
@@ -97,7 +93,7 @@ struct RecordCarries<'a> {
 
 impl fmt::Display for RecordCarries<'_> {
     ghost output = { λ it. Some
-        (carried_text (record_at it.told.records.now it.why.now.history.place) it.why.now.expected) };
+        (carried_text (record_at it.told.records.now it.why.now.history.place) it.why.now.broken) };
 
     fn fmt<W: fmt::Write>(&self, f: &mut fmt::Formatter<W>) -> fmt::Result {
         let Some(item) = record_at(self.told.records, self.why.history.place) else {
@@ -105,7 +101,7 @@ impl fmt::Display for RecordCarries<'_> {
         };
         let carried = Carried {
             event: &item.event,
-            due: &self.why.expected,
+            broken: &self.why.broken,
         };
         write!(f, "{carried}")
     }
@@ -155,8 +151,32 @@ impl fmt::Display for Before<'_> {
     }
 }
 
+/// The records that the state of the rule comes from, where it is about such a state.
+#[derive(Clone, Copy)]
+struct OriginsLines<'a> {
+    told: Told<'a>,
+    origins: &'a Option<Origins>,
+}
+
+impl fmt::Display for OriginsLines<'_> {
+    ghost output = { λ it. Some (origins_text it.told.records.now it.told.offsets.now it.origins.now) };
+
+    fn fmt<W: fmt::Write>(&self, f: &mut fmt::Formatter<W>) -> fmt::Result {
+        let Some(origins) = self.origins else {
+            return Ok(());
+        };
+        let Told { records, offsets } = self.told;
+        let text = OriginsText {
+            told: lf_origins::Told { records, offsets },
+            origins,
+        };
+        write!(f, "{text}")
+    }
+}
+
 /// An explanation over the records of its trace. Its text is lines, each with its newline: the record, what
-/// the rule asks, what it asks that the record carries, and the records before.
+/// the rule asks, what it asks that the record carries, what the bank has of its blocks, the records that the
+/// state of the rule comes from, and the records before.
 #[derive(Clone, Copy)]
 pub struct Explained<'a> {
     pub told: Told<'a>,
@@ -177,10 +197,15 @@ impl fmt::Display for Explained<'_> {
             told,
             why: self.why,
         };
+        let state = State(&self.why.broken);
+        let origins = OriginsLines {
+            told,
+            origins: &self.why.origins,
+        };
         let before = Before {
             told,
             places: &self.why.history.before,
         };
-        write!(f, "{record}{asked}{carried}{before}")
+        write!(f, "{record}{asked}{carried}{state}{origins}{before}")
     }
 }

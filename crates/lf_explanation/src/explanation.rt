@@ -4,10 +4,13 @@ ghost use Rattle.std.specs.Prelude.{◌≡◌, ◌<◌, IfOk};
 ghost use Rattle.std.specs.List.{AllByRecursion};
 ghost use Rattle.lf_rules.specs.Fits.{Fits};
 ghost use Rattle.lf_rules.specs.InRange.{IsShape};
-ghost use Rattle.lf_explanation.specs.Explanation.{rule_of, HasBank, IsHistoryOf, IsExpectedOf, IsExplanation};
+ghost use Rattle.lf_explanation.specs.Breach.{rule_of};
+ghost use Rattle.lf_explanation.specs.Explanation.{HasBank, IsHistoryOf, IsBrokenBy, IsExplanation};
 
-use lf_explain::{Expected, first_broken};
+use crate::origins::origins_of_breach;
+use lf_explain::{Broken, first_broken};
 use lf_history::{History, history_in_bank, history_in_log, places_in_order};
+use lf_origins::Origins;
 use lf_rules::{Memory, NoMemory, Record, Rule, Shape};
 use std::alloc::Global;
 
@@ -38,8 +41,10 @@ pub struct Explanation {
     pub rule: Rule,
     /// The record, and the last before it that matter.
     pub history: History,
-    /// What the rule asks that the record carries, where it is a rule about that.
-    pub expected: Option<Expected>,
+    /// What the rule asks that the record carries, and what the bank has of its blocks, where it is a rule of a bank.
+    pub broken: Option<Broken>,
+    /// The records before it that the state comes from, where the rule is about a state that records leave.
+    pub origins: Option<Origins>,
 }
 
 /// The record, and the last before it that matter, at most so many.
@@ -62,33 +67,31 @@ fn history_of(
     }
 }
 
-/// What the rule asks that the record carries. For that the bank's records up to it are judged once more.
-fn expected_of(
+/// What is told of the record that breaks a rule of a bank. For that the bank's records up to it are judged once
+/// more.
+fn broken_by(
     alloc: Global,
     shape: &Shape,
     memory: &Memory,
     records: &[Record],
     breach: &Breach,
-) -> Result<Option<Expected>, NoMemory>
+) -> Result<Option<Broken>, NoMemory>
     requires in_range { IsShape shape.now }
     requires bank { HasBank shape.now breach.now }
     requires fit { AllByRecursion (Fits shape.now) records.now }
-    ensures { IfOk result (IsExpectedOf shape.now memory.now.items records.now breach.now) }
+    ensures { IfOk result (IsBrokenBy shape.now memory.now.items records.now breach.now) }
 {
     let Breach::Bank { bank, number, .. } = breach else {
         return Ok(None);
     };
     let places = places_in_order(alloc, records, *bank, *number as usize + 1)?;
-    match first_broken(alloc, shape, memory, u32::from(*bank), records, &places)? {
-        Some(broken) => Ok(broken.expected),
-        None => Ok(None),
-    }
+    first_broken(alloc, shape, memory, u32::from(*bank), records, &places)
 }
 
 /// Why the trace with this memory and these records is not legal: the record that breaks the rule, what the
-/// rule asks that it carries, and the last records before it that matter, at most so many. Before a record of a
-/// port those of its log matter, and before one of a bank those with lower numbers that touch its second-level
-/// block.
+/// rule asks that it carries, what the bank has of its blocks, the records that the state of the rule comes from,
+/// and the last records before it that matter, at most so many. Before a record of a port those of its log matter,
+/// and before one of a bank those with lower numbers that touch its second-level block.
 pub fn explain(
     alloc: Global,
     shape: &Shape,
@@ -102,9 +105,13 @@ pub fn explain(
     requires fit { AllByRecursion (Fits shape.now) records.now }
     ensures { IfOk result (IsExplanation shape.now memory.now.items records.now breach.now most) }
 {
+    let history = history_of(alloc, shape, records, breach, most)?;
+    let broken = broken_by(alloc, shape, memory, records, breach)?;
+    let origins = origins_of_breach(alloc, shape, records, breach, &broken, history.place)?;
     Ok(Explanation {
         rule: breach.rule(),
-        history: history_of(alloc, shape, records, breach, most)?,
-        expected: expected_of(alloc, shape, memory, records, breach)?,
+        history,
+        broken,
+        origins,
     })
 }

@@ -1,5 +1,6 @@
 //! Why a trace is not legal, for people: the record that breaks a rule, what the rule asks, what it asks that
-//! the record carries, and the records before it that matter.
+//! the record carries, what the bank has of the blocks that the record names, the records that the state of the rule
+//! comes from, and the records before it that matter.
 //!
 //! `explain` finds the records, and `Explained` is their text. A record is told as `lf_text` does, with the
 //! offset of its first byte. `specs/Explanation` says which records, and `specs/Text` each line exactly.
@@ -8,7 +9,9 @@
 mod carried;
 mod explained;
 mod explanation;
+mod origins;
 mod sentence;
+mod state;
 #[cfg(test)]
 mod tests;
 

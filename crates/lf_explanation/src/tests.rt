@@ -77,16 +77,16 @@ fn assert_explained<T: Abort + AllocGlobal>(
     Ok(())
 }
 
-fn load(number: u32) -> Record {
+fn load(number: u32, tag: u8, address: u64) -> Record {
     Record {
         log: 0,
         bank: 0,
         number,
         event: Event::Issue {
             op: Op::Load,
-            tag: 1,
+            tag,
             size: 8,
-            address: 0,
+            address,
             bytes: Block::new(),
         },
     }
@@ -101,9 +101,24 @@ fn second_hit(number: u32, block: u32) -> Record {
     }
 }
 
+/// A primary miss at register 0.
+fn primary(number: u32, tag: u8) -> Record {
+    let event = Event::Primary {
+        port: 0,
+        tag,
+        register: 0,
+    };
+    Record {
+        log: 1,
+        bank: 0,
+        number,
+        event,
+    }
+}
+
 #[test]
 fn record_of_a_port(rt: HostRuntime) -> Result<(), Fail> {
-    let records = [load(0), second_hit(1, 0), load(2)];
+    let records = [load(0, 1, 0), second_hit(1, 0), load(2, 1, 0)];
     let breach = Breach::Port {
         port: 0,
         at: 1,
@@ -112,6 +127,9 @@ fn record_of_a_port(rt: HostRuntime) -> Result<(), Fail> {
     let due = "\
 load port=0 bank=0 number=2 tag=1 size=8 address=0x0 ; at 32
   TagBusy asks that the tag is not in use
+
+the request with this tag and without a reply:
+load port=0 bank=0 number=0 tag=1 size=8 address=0x0 ; at 16
 
 before it:
 load port=0 bank=0 number=0 tag=1 size=8 address=0x0 ; at 16
@@ -137,10 +155,50 @@ fn record_of_a_bank(rt: HostRuntime) -> Result<(), Fail> {
 second_hit bank=0 number=3 block=3 ; at 40
   SecondAbsent asks that level two has the second-level block
 
+block=3 address=0x18 before it:
+  level-one line        none
+  level-two line        none
+  level-one register    none
+  level-two register    none
+  asked of level two    no
+  supplied by level two no
+  memory                bytes=0000000000000000
+
 before it:
 second_hit bank=0 number=1 block=3 ; at 24
 ";
     assert_explained(&rt, &records, breach, 1, due)
+}
+
+/// The register is held by the miss of another block.
+#[test]
+fn register_that_is_held(rt: HostRuntime) -> Result<(), Fail> {
+    let records = [load(0, 1, 0), load(1, 2, 8), primary(2, 1), primary(3, 2)];
+    let breach = Breach::Bank {
+        bank: 0,
+        number: 3,
+        rule: Rule::RegisterBusy,
+    };
+    let due = "\
+primary bank=0 number=3 port=0 tag=2 register=0 ; at 40
+  RegisterBusy asks that the register is free
+
+block=1 address=0x8 before it:
+  level-one line        none
+  level-two line        none
+  level-one register    none
+  level-two register    none
+  asked of level two    no
+  supplied by level two no
+  memory                bytes=0000000000000000
+
+the registers that are held:
+primary bank=0 number=2 port=0 tag=1 register=0 ; at 32
+
+before it:
+load port=0 bank=0 number=1 tag=2 size=8 address=0x8 ; at 24
+";
+    assert_explained(&rt, &records, breach, 15, due)
 }
 
 #[test]
@@ -154,5 +212,5 @@ fn nothing_before(rt: HostRuntime) -> Result<(), Fail> {
 load port=0 bank=0 number=0 tag=1 size=8 address=0x0 ; at 16
   TagRange asks that the tag is below the number of tags of a port
 ";
-    assert_explained(&rt, &[load(0)], breach, 15, due)
+    assert_explained(&rt, &[load(0, 1, 0)], breach, 15, due)
 }

@@ -5,8 +5,8 @@ ghost use Rattle.lf_rules.specs.InRange.{IsShape};
 use crate::judged::is_bank_order;
 use lf_explain::{Broken, Expected, first_broken};
 use lf_history::places_in_order;
-use lf_rules::{Rule, Shape, mask_at};
-use lf_samples::{C1, LOAD, LOADED, STORE, memory_ran_out, records};
+use lf_rules::{Mask, Rule, Shape, mask_at};
+use lf_samples::{C1, C2, LOAD, LOADED, STORE, memory_ran_out, records};
 use std::alloc::Global;
 use std::process::Abort;
 use std::test::Fail;
@@ -45,7 +45,7 @@ fn assert_bytes<T: Abort + AllocGlobal>(
         return Err(Fail::from("nothing is told"));
     };
     assert_eq!(rt; (told.number, told.rule), broken);
-    let Some(Expected::Bytes(bytes)) = told.expected else {
+    let Some(Expected::Bytes(bytes)) = &told.expected else {
         return Err(Fail::from("no bytes are told"));
     };
     assert_eq!(rt; bytes.as_slice(), due);
@@ -83,5 +83,55 @@ fn mask_of_an_eviction(rt: HostRuntime) -> Result<(), Fail> {
         return Err(Fail::from("no masks are told"));
     };
     assert_eq!(rt; mask_at(masks, 0), 3);
+    Ok(())
+}
+
+/// The bytes of a reply lie where its request asked for them, and its block is told as the fill left it.
+#[test]
+fn block_of_a_wrong_reply(rt: HostRuntime) -> Result<(), Fail> {
+    let events = "L 0 2@8, P 0 0, SP 1 0, F2 1, F1 1, R 0=0001";
+    let Some(told) = told(rt.alloc(), &C1, &[events])? else {
+        return Err(Fail::from("nothing is told"));
+    };
+    assert_eq!(rt; told.addresses.as_slice(), [8, 9].as_slice());
+    let [named] = told.blocks.as_slice() else {
+        return Err(Fail::from("other blocks are told"));
+    };
+    assert_eq!(rt; (named.block, named.address), (1, 8));
+    assert_eq!(rt; named.state.line1, Some(Mask(0)));
+    assert!(rt; named.state.line2.is_some() && !named.state.held);
+    Ok(())
+}
+
+/// Of an eviction of level two all blocks are told, and the addresses of the bytes under its masks.
+#[test]
+fn blocks_of_a_wrong_eviction(rt: HostRuntime) -> Result<(), Fail> {
+    let events = "S 0 1@9=aa, P 0 0, SP 1 0, F2 0, F1 1, E1 1 02=aa, E2 0 00,02=ab";
+    let Some(told) = told(rt.alloc(), &C2, &[events])? else {
+        return Err(Fail::from("nothing is told"));
+    };
+    assert_eq!(rt; (told.number, told.rule), (6, Rule::EvictData));
+    assert_eq!(rt; told.addresses.as_slice(), [9].as_slice());
+    let [first, second] = told.blocks.as_slice() else {
+        return Err(Fail::from("other blocks are told"));
+    };
+    assert_eq!(rt; (first.block, first.address), (0, 0));
+    assert_eq!(rt; (second.block, second.address), (1, 8));
+    assert_eq!(rt; second.state.bytes.get(1).copied(), Some(0xaa));
+    Ok(())
+}
+
+/// A merge names the block of the port's last request with its tag.
+#[test]
+fn block_of_a_request(rt: HostRuntime) -> Result<(), Fail> {
+    let Some(told) = told(rt.alloc(), &C1, &["L 0 8@8, M 0 0"])? else {
+        return Err(Fail::from("nothing is told"));
+    };
+    assert_eq!(rt; (told.number, told.rule), (1, Rule::NotInFlight));
+    let [named] = told.blocks.as_slice() else {
+        return Err(Fail::from("other blocks are told"));
+    };
+    assert_eq!(rt; (named.block, named.address), (1, 8));
+    assert!(rt; told.addresses.is_empty() && !named.state.held);
     Ok(())
 }

@@ -1,0 +1,32 @@
+-- The addresses of the bytes that a record carries.
+use Rattle.std.specs.Prelude.{ℕ, ◌+◌, ◌*◌, List, [], length, map, filter, Option, Some, None}
+use Rattle.std.specs.List.{range_with_len, flat_map}
+use Rattle.lf_rules.specs.declared.shape.Shape.{Shape}
+use Rattle.lf_rules.specs.declared.event.Event.{Event}
+use Rattle.lf_rules.specs.declared.event.Event.TheVariants.{Reply, Fill1, Evict1, Fill2, Evict2}
+use Rattle.lf_rules.specs.Address.{Masks, is_under, mask_at, places, sub_block}
+
+-- the addresses of a block's bytes under a mask
+abbrev pub masked_addresses : Shape → ℕ → ℕ → List ℕ
+masked_addresses shape block mask =
+    map (λ place. block * shape.block + place) (filter (is_under mask) (range_with_len 0 shape.block))
+
+-- the same of a second-level block
+abbrev pub wide_addresses : Shape → ℕ → Masks → List ℕ
+wide_addresses shape second masks =
+    flat_map (λ place. masked_addresses shape (sub_block shape second place) (mask_at masks place)) (places shape)
+
+-- so many addresses from this one on
+abbrev pub addresses_from : Option ℕ → ℕ → List ℕ
+addresses_from None count = []
+addresses_from (Some first) count = range_with_len first count
+
+-- the addresses of the bytes that a reply, a fill or an eviction carries
+abbrev pub addresses_of : Shape → Option ℕ → Event → List ℕ
+addresses_of shape request (Reply tag size bytes) = addresses_from request (length bytes.items)
+addresses_of shape request (Fill1 block bytes) = range_with_len (block * shape.block) (length bytes.items)
+addresses_of shape request (Fill2 second bytes) =
+    range_with_len (second * shape.factor * shape.block) (length bytes.items)
+addresses_of shape request (Evict1 block mask bytes) = masked_addresses shape block mask.0
+addresses_of shape request (Evict2 second masks bytes) = wide_addresses shape second masks
+addresses_of shape request _ = []

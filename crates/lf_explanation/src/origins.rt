@@ -1,0 +1,124 @@
+//! Which records the state comes from that the broken rule is about.
+
+ghost use Rattle.std.specs.Prelude.{◌≡◌, Some, None, List, map, take, IfOk, MatchOption};
+ghost use Rattle.lf_rules.specs.InRange.{IsShape};
+ghost use Rattle.lf_history.specs.Places.{places_of_log};
+ghost use Rattle.lf_history.specs.Touching.{record_at};
+ghost use Rattle.lf_explanation.specs.Origins.{wrong_byte, wrong_address, AreOriginsAt, AreBefore, ComeFrom};
+
+use crate::carried::first_difference;
+use crate::explanation::Breach;
+use lf_explain::{Broken, Expected};
+use lf_history::{history_in_log, places_in_order};
+use lf_origins::{BrokenRule, Origins, origins_of};
+use lf_rules::{Event, NoMemory, Record, Rule, Shape};
+use lf_text::data_of;
+use std::alloc::Global;
+
+/// The record at a place, where there is one.
+pub(crate) fn record_at(records: &[Record], place: Option<usize>) -> Option<&Record>
+    ensures { MatchOption result (record_at records.now place ≡ None)
+        (λ item. record_at records.now place ≡ Some item.now) }
+{
+    records.get(place?)
+}
+
+/// The address of the first byte that differs, where the rule is about the bytes that an event carries.
+fn wrong_byte(due: &Option<Expected>, addresses: &[u64], event: &Event) -> Option<u64>
+    ensures { result ≡ wrong_byte due.now addresses.now event.now }
+{
+    match due {
+        Some(Expected::Bytes(due)) => {
+            let place = first_difference(due, data_of(event));
+            addresses.get(place).copied()
+        }
+        Some(Expected::Masks(_)) | None => None,
+    }
+}
+
+/// The same for what is told of a record that breaks a rule of a bank.
+fn wrong_address(broken: &Option<Broken>, event: &Event) -> Option<u64>
+    ensures { result ≡ wrong_address broken.now event.now }
+{
+    match broken {
+        Some(broken) => wrong_byte(&broken.expected, &broken.addresses, event),
+        None => None,
+    }
+}
+
+/// The places of the first records of a port's log, so many.
+fn places_in_log(
+    alloc: Global,
+    records: &[Record],
+    port: u8,
+    count: usize,
+) -> Result<Vec<Option<usize>>, NoMemory>
+    ensures { IfOk result (λ places. places.items ≡ map Some (take count (places_of_log port records.now))) }
+{
+    let history = history_in_log(alloc, records, port, count, count)?;
+    let mut places = Vec::new(alloc);
+    for place in history.before.iter() {
+        places.push(Some(*place))?;
+    }
+    Ok(places)
+}
+
+/// The places of the records before the one that breaks the rule: those of the port's log, or those of the bank
+/// with lower numbers.
+fn places_before(
+    alloc: Global,
+    records: &[Record],
+    breach: &Breach,
+) -> Result<Vec<Option<usize>>, NoMemory>
+    ensures { IfOk result (λ places. AreBefore records.now breach.now places.items) }
+{
+    match breach {
+        Breach::Port { port, at, .. } => places_in_log(alloc, records, *port, *at as usize),
+        Breach::Bank { bank, number, .. } => {
+            places_in_order(alloc, records, *bank, *number as usize)
+        }
+    }
+}
+
+/// Which of the records at the places before the state comes from that the rule is about, where a record breaks it.
+fn origins_at(
+    alloc: Global,
+    shape: &Shape,
+    records: &[Record],
+    before: &[Option<usize>],
+    rule: Rule,
+    broken: &Option<Broken>,
+    place: Option<usize>,
+) -> Result<Option<Origins>, NoMemory>
+    requires { IsShape shape.now }
+    ensures { IfOk result
+        (AreOriginsAt shape.now records.now before.now rule broken.now (record_at records.now place)) }
+{
+    let Some(item) = record_at(records, place) else {
+        return Ok(None);
+    };
+    let address = wrong_address(broken, &item.event);
+    let told = BrokenRule {
+        rule,
+        item,
+        address,
+    };
+    origins_of(alloc, shape, records, before, told)
+}
+
+/// Which records the state comes from that the rule is about, where the record at the place breaks it.
+pub(crate) fn origins_of_breach(
+    alloc: Global,
+    shape: &Shape,
+    records: &[Record],
+    breach: &Breach,
+    broken: &Option<Broken>,
+    place: Option<usize>,
+) -> Result<Option<Origins>, NoMemory>
+    requires { IsShape shape.now }
+    ensures { IfOk result (ComeFrom shape.now records.now breach.now broken.now (record_at records.now place)) }
+{
+    let before = places_before(alloc, records, breach)?;
+    let origins = origins_at(alloc, shape, records, &before, breach.rule(), broken, place)?;
+    Ok(origins)
+}
