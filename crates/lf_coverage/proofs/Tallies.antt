@@ -2,8 +2,8 @@
 use Rattle.std.proofs.Common.{◌≡◌, ℕ, zero, suc, ◌+◌, ◌<◌, ◌≤◌, Bool, true, false, cond, List, [], ◌∷◌, ◌++◌, map, length, take, get_or, sym, ap, ◌∙◌, arith, add-one}
 use Rattle.std.proofs.Common.{Option, Some, Result, Ok, Err, append_assoc}
 use Rattle.std.specs.Prelude.{OnOk}
-use Rattle.std.specs.List.{slice_get, filter, range_with_len}
-use Rattle.std.proofs.lemmas.List.{take_more, map-append}
+use Rattle.std.specs.List.{slice_get, filter, flat_map, range_with_len}
+use Rattle.std.proofs.lemmas.List.{take_more, map-append, flat_map_more}
 use Rattle.std.proofs.lemmas.List.Elements.{filter-append}
 use Rattle.std.proofs.lemmas.List.FromFn.{map-range_with_len_more}
 use Rattle.lf_rules.specs.declared.shape.Shape.{Shape}
@@ -52,6 +52,15 @@ module _ {Y : Type 0} (before now after : List Y) where
       more_pushed (filter p (take n xs)) (filter p (get_or xs n d ∷ [])) e q
       ∙ ap (λ zs. before ++ zs) (sym (ap (filter p) (take_more xs n d inside) ∙ filter-append p (take n xs) (get_or xs n d ∷ [])))
 
+  -- the list of one more element
+  pub flattened_next : {X : Type 0} (f : X → List Y) (xs : List X) (n : ℕ) (d : X) → n < length xs
+      → now ≡ before ++ flat_map f (take n xs) → after ≡ now ++ f (get_or xs n d) → after ≡ before ++ flat_map f (take (n + 1) xs)
+  flattened_next f xs n d inside e q =
+      q
+      ∙ ap (λ zs. zs ++ f (get_or xs n d)) e
+      ∙ flat_map_more f before (take n xs) (get_or xs n d)
+      ∙ ap (λ zs. before ++ flat_map f zs) (sym (take_more xs n d inside))
+
   -- one more number
   pub filtered_more : (p : Y → Bool) (f : ℕ → Y) (a n j : ℕ) → a + n ≡ j
       → now ≡ before ++ filter p (map f (range_with_len a n)) → after ≡ now ++ filter p (f j ∷ []) → after ≡ before ++ filter p (map f (range_with_len a (n + 1)))
@@ -59,10 +68,8 @@ module _ {Y : Type 0} (before now after : List Y) where
       more_pushed (filter p (map f (range_with_len a n))) (filter p (f j ∷ [])) e q
       ∙ ap (λ zs. before ++ zs) (sym (ap (filter p) (map-range_with_len_more f a n j is) ∙ filter-append p (map f (range_with_len a n)) (f j ∷ [])))
 
-pub joined : {Y : Type 0} (none first second third fourth ws xs ys zs : List Y) → none ≡ []
-    → first ≡ none ++ ws → second ≡ first ++ xs → third ≡ second ++ ys → fourth ≡ third ++ zs → fourth ≡ ws ++ xs ++ ys ++ zs
-joined none first second third fourth ws xs ys zs e f g h i =
-    i ∙ ap (λ l. l ++ zs) (h ∙ ap (λ l. l ++ ys) (g ∙ ap (λ l. l ++ xs) (f ∙ ap (λ l. l ++ ws) e)))
+pub joined : {Y : Type 0} (none first second xs ys : List Y) → none ≡ [] → first ≡ none ++ xs → second ≡ first ++ ys → second ≡ xs ++ ys
+joined none first second xs ys e f g = g ∙ ap (λ l. l ++ ys) (f ∙ ap (λ l. l ++ xs) e)
 
 -- ---- a result
 

@@ -2,6 +2,8 @@
 use Rattle.std.specs.Prelude.{ℕ, List, [], ◌∷◌, ◌++◌, codes}
 use Rattle.std.specs.List.{flat_map}
 use Rattle.std.specs.Fmt.{decimal}
+use Rattle.lf_coverage.specs.declared.point.Measure.{Measure}
+use Rattle.lf_coverage.specs.declared.point.Measure.TheVariants as measures
 use Rattle.lf_coverage.specs.declared.point.BankPoint.{BankPoint}
 use Rattle.lf_coverage.specs.declared.point.BankPoint.TheVariants as points
 use Rattle.lf_coverage.specs.declared.point.PortPoint.{PortPoint}
@@ -12,40 +14,53 @@ use Rattle.lf_coverage.specs.declared.tally.Tally.{Tally}
 use Rattle.lf_coverage.specs.declared.coverage.Coverage.{Coverage}
 use Rattle.lf_coverage.specs.Text.{bank_point_text, port_point_text}
 
--- The line of a point in coverage/points.txt, which stands for the source.
+-- The line in coverage/points.txt, which stands for the source: of the numbers of a measure, and of a point.
+abbrev pub measure_line : Measure → ℕ
+measure_line measures.Registers = 14
+measure_line measures.MergePort = 19
+measure_line measures.Targets = 20
+measure_line measures.Field = 21
+measure_line measures.SecondTargets = 28
+measure_line measures.SecondField = 29
+measure_line measures.DirtyBlocks = 36
+
 abbrev pub bank_point_line : BankPoint → ℕ
 bank_point_line points.Hit = 1
 bank_point_line points.Primary = 2
 bank_point_line points.Merge = 3
 bank_point_line points.Stall = 4
-bank_point_line points.Fill1 = 5
-bank_point_line points.Evict1 = 6
-bank_point_line points.CleanEviction = 7
-bank_point_line points.PartEviction = 8
-bank_point_line points.WholeEviction = 9
-bank_point_line points.HitUnderMiss = 10
-bank_point_line (points.Registers n) = 11
-bank_point_line points.LoadBehindLoad = 12
-bank_point_line points.LoadBehindStore = 13
-bank_point_line points.StoreBehindLoad = 14
-bank_point_line points.StoreBehindStore = 15
-bank_point_line (points.Targets n) = 16
-bank_point_line points.Refetch = 17
-bank_point_line points.FillOutOfOrder = 18
-bank_point_line points.FillOverStores = 19
-bank_point_line points.SecondHit = 20
-bank_point_line points.SecondPrimary = 21
-bank_point_line points.SecondMerge = 22
-bank_point_line points.SecondStall = 23
-bank_point_line points.Fill2 = 24
-bank_point_line points.Evict2 = 25
-bank_point_line (points.DirtyBlocks n) = 26
+bank_point_line points.StallNoRegister = 5
+bank_point_line points.StallNoEntry = 6
+bank_point_line points.StallField = 7
+bank_point_line points.Fill1 = 8
+bank_point_line points.Evict1 = 9
+bank_point_line points.CleanEviction = 10
+bank_point_line points.PartEviction = 11
+bank_point_line points.WholeEviction = 12
+bank_point_line points.HitUnderMiss = 13
+bank_point_line points.LoadBehindLoad = 15
+bank_point_line points.LoadBehindStore = 16
+bank_point_line points.StoreBehindLoad = 17
+bank_point_line points.StoreBehindStore = 18
+bank_point_line points.Refetch = 22
+bank_point_line points.FillOutOfOrder = 23
+bank_point_line points.FillOverStores = 24
+bank_point_line points.SecondHit = 25
+bank_point_line points.SecondPrimary = 26
+bank_point_line points.SecondMerge = 27
+bank_point_line points.SecondStall = 30
+bank_point_line points.SecondStallNoRegister = 31
+bank_point_line points.SecondStallNoEntry = 32
+bank_point_line points.SecondRefetch = 33
+bank_point_line points.Fill2 = 34
+bank_point_line points.Evict2 = 35
+bank_point_line (points.Numbered measure n) = measure_line measure
 
 abbrev pub port_point_line : PortPoint → ℕ
-port_point_line (Load size) = 27
-port_point_line (Store size) = 28
-port_point_line Reply = 29
-port_point_line Fence = 30
+port_point_line (Load size) = 37
+port_point_line (Store size) = 38
+port_point_line Reply = 39
+port_point_line Fence = 40
 
 -- A part of a key: its name behind the byte 1, and its value behind the byte 2.
 abbrev pub part : List ℕ → List ℕ → List ℕ

@@ -27,6 +27,8 @@ pub record IsKept (kept : Kept) (s : Standing) : Type 0 where
   pub latest : (port tag : ℕ) → port < 256 → tag < 256 → latest_in kept.requests port tag ≡ s.latest port tag
   pub waiting : kept.waiting.items ≡ s.waiting
   pub written : (block : ℕ) → is_in kept.written block ≡ s.written block
+  pub waiting2 : kept.waiting2.items ≡ s.waiting2
+  pub written2 : (second : ℕ) → is_in kept.written2 second ≡ s.written2 second
 
 -- the order has the places of these records, and what is counted and seen of each
 pub record IsOrder (shape : Shape) (logs : List (List Record)) (order : Order) : Type 0 where

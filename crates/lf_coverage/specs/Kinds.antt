@@ -1,10 +1,13 @@
 -- Kinds of events.
-use Rattle.std.specs.Prelude.{ℕ, Bool, true, false, not, ◌&&◌, ◌==◌, List, count_by}
-use Rattle.lf_rules.specs.Address.{mask_of}
+use Rattle.std.specs.Prelude.{ℕ, Bool, true, false, not, ◌&&◌, ◌==◌, List, count_by, Option, Some, None}
+use Rattle.lf_rules.specs.Address.{mask_of, place_of}
 use Rattle.lf_rules.specs.declared.mask.Mask.{Mask}
+use Rattle.lf_rules.specs.declared.shape.Shape.{Shape}
 use Rattle.lf_rules.specs.declared.event.Op.TheVariants.{Load, Store}
 use Rattle.lf_rules.specs.declared.event.Event.{Event}
-use Rattle.lf_rules.specs.declared.event.Event.TheVariants.{Issue, Reply, Fence, Fill1, Evict1, SecondHit, SecondPrimary, SecondMerge, SecondStall, Fill2, Evict2}
+use Rattle.lf_rules.specs.declared.event.Event.TheVariants.{Issue, Reply, Fence, Merge, Fill1, Evict1}
+use Rattle.lf_rules.specs.declared.event.Event.TheVariants.{SecondHit, SecondPrimary, SecondMerge, SecondStall}
+use Rattle.lf_rules.specs.declared.event.Event.TheVariants.{Fill2, Evict2}
 
 -- ---- events of a bank, beside those that lf_stats names
 
@@ -65,9 +68,22 @@ is_dirty_in_part size _ = false
 abbrev pub dirty_blocks : List Mask → ℕ
 dirty_blocks masks = count_by (λ mask. not (mask.0 == 0)) masks
 
-abbrev pub is_dirty2 : ℕ → Event → Bool
-is_dirty2 n (Evict2 block masks bytes) = dirty_blocks masks.items == n
-is_dirty2 n _ = false
+abbrev pub dirty_blocks_of : Event → Option ℕ
+dirty_blocks_of (Evict2 block masks bytes) = Some (dirty_blocks masks.items)
+dirty_blocks_of _ = None
+
+-- ---- places of misses
+
+-- the port of a merge
+abbrev pub merge_port : Event → Option ℕ
+merge_port (Merge port tag register) = Some port
+merge_port _ = None
+
+-- the place of its block in its second-level block, where a miss of level two takes or joins a register
+abbrev pub field_taken2 : Shape → Event → Option ℕ
+field_taken2 shape (SecondPrimary block register) = Some (place_of shape block)
+field_taken2 shape (SecondMerge block register) = Some (place_of shape block)
+field_taken2 shape _ = None
 
 -- ---- events of a port
 

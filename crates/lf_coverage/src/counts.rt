@@ -1,6 +1,6 @@
 //! How often a point was reached.
 
-ghost use Rattle.std.specs.Prelude.{◌≡◌, ◌≤◌, ◌^◌, ◌++◌, OnOk, length, All, IsSome};
+ghost use Rattle.std.specs.Prelude.{◌≡◌, ◌<◌, ◌≤◌, ◌^◌, ◌++◌, OnOk, length, All, IsSome};
 ghost use Rattle.lf_rules.specs.Lists.{lists_of};
 ghost use Rattle.lf_logs.specs.Places.{record_at, records_at};
 ghost use Rattle.lf_stats.specs.Statistics.{held_counts};
@@ -49,6 +49,7 @@ fn reached(
     point: BankPoint,
 ) -> u32
     requires block { shape.now.block ≤ 64 }
+    requires factor { 0 < shape.now.factor }
     requires named { All (λ place. IsSome (record_at (lists_of logs.now) place)) places.now }
     requires few { length places.now ≤ 2 ^ 29 }
     requires held { held.now ≡ held_counts shape.now (records_at (lists_of logs.now) places.now) }
@@ -69,6 +70,7 @@ fn reached(
 /// How often the records of this order reached the point of the bank.
 fn bank_tally(shape: &Shape, logs: &Logs, bank: u8, order: Order, point: BankPoint) -> Tally
     requires block { shape.now.block ≤ 64 }
+    requires factor { 0 < shape.now.factor }
     requires order { IsOrder shape.now (lists_of logs.now) order }
     ensures { result ≡ bank_tally shape.now bank (records_at (lists_of logs.now) order.entry.places.now) point }
 {
@@ -88,6 +90,7 @@ pub(crate) fn add_bank(
     order: Order,
 ) -> Result<(), NoMemory>
     requires block { shape.now.block ≤ 64 }
+    requires factor { 0 < shape.now.factor }
     requires points { points.now ≡ bank_points shape.now }
     requires order { IsOrder shape.now (lists_of logs.now) order }
     ensures { OnOk result (tallies.new.items

@@ -1,11 +1,11 @@
 //! A coverage in the form of Verilator's file `coverage.dat`.
 
 ghost use Rattle.std.specs.Prelude.{◌≡◌, Some};
-ghost use Rattle.lf_coverage.specs.Data.{bank_point_line, port_point_line, source_parts, own_parts};
+ghost use Rattle.lf_coverage.specs.Data.{measure_line, bank_point_line, port_point_line, source_parts, own_parts};
 ghost use Rattle.lf_coverage.specs.Data.{key_text, data_line, data_lines, data_text};
 
 use crate::coverage::Coverage;
-use crate::point::{BankPoint, Point, PortPoint};
+use crate::point::{BankPoint, Measure, Point, PortPoint};
 use crate::tally::Tally;
 use std::fmt;
 
@@ -13,6 +13,21 @@ use std::fmt;
 /// `verilator_coverage` reads it, and adds it to that of a design.
 #[derive(Clone, Copy)]
 pub struct CoverageData<'a>(pub &'a Coverage);
+
+/// The line of the numbers of a measure in `coverage/points.txt`.
+fn measure_line(measure: Measure) -> u32
+    ensures { result ≡ measure_line measure }
+{
+    match measure {
+        Measure::Registers => 14,
+        Measure::MergePort => 19,
+        Measure::Targets => 20,
+        Measure::Field => 21,
+        Measure::SecondTargets => 28,
+        Measure::SecondField => 29,
+        Measure::DirtyBlocks => 36,
+    }
+}
 
 /// The line of a bank's point in `coverage/points.txt`.
 fn bank_point_line(point: BankPoint) -> u32
@@ -23,28 +38,32 @@ fn bank_point_line(point: BankPoint) -> u32
         BankPoint::Primary => 2,
         BankPoint::Merge => 3,
         BankPoint::Stall => 4,
-        BankPoint::Fill1 => 5,
-        BankPoint::Evict1 => 6,
-        BankPoint::CleanEviction => 7,
-        BankPoint::PartEviction => 8,
-        BankPoint::WholeEviction => 9,
-        BankPoint::HitUnderMiss => 10,
-        BankPoint::Registers(_) => 11,
-        BankPoint::LoadBehindLoad => 12,
-        BankPoint::LoadBehindStore => 13,
-        BankPoint::StoreBehindLoad => 14,
-        BankPoint::StoreBehindStore => 15,
-        BankPoint::Targets(_) => 16,
-        BankPoint::Refetch => 17,
-        BankPoint::FillOutOfOrder => 18,
-        BankPoint::FillOverStores => 19,
-        BankPoint::SecondHit => 20,
-        BankPoint::SecondPrimary => 21,
-        BankPoint::SecondMerge => 22,
-        BankPoint::SecondStall => 23,
-        BankPoint::Fill2 => 24,
-        BankPoint::Evict2 => 25,
-        BankPoint::DirtyBlocks(_) => 26,
+        BankPoint::StallNoRegister => 5,
+        BankPoint::StallNoEntry => 6,
+        BankPoint::StallField => 7,
+        BankPoint::Fill1 => 8,
+        BankPoint::Evict1 => 9,
+        BankPoint::CleanEviction => 10,
+        BankPoint::PartEviction => 11,
+        BankPoint::WholeEviction => 12,
+        BankPoint::HitUnderMiss => 13,
+        BankPoint::LoadBehindLoad => 15,
+        BankPoint::LoadBehindStore => 16,
+        BankPoint::StoreBehindLoad => 17,
+        BankPoint::StoreBehindStore => 18,
+        BankPoint::Refetch => 22,
+        BankPoint::FillOutOfOrder => 23,
+        BankPoint::FillOverStores => 24,
+        BankPoint::SecondHit => 25,
+        BankPoint::SecondPrimary => 26,
+        BankPoint::SecondMerge => 27,
+        BankPoint::SecondStall => 30,
+        BankPoint::SecondStallNoRegister => 31,
+        BankPoint::SecondStallNoEntry => 32,
+        BankPoint::SecondRefetch => 33,
+        BankPoint::Fill2 => 34,
+        BankPoint::Evict2 => 35,
+        BankPoint::Numbered(measure, _) => measure_line(measure),
     }
 }
 
@@ -53,10 +72,10 @@ fn port_point_line(point: PortPoint) -> u32
     ensures { result ≡ port_point_line point }
 {
     match point {
-        PortPoint::Load(_) => 27,
-        PortPoint::Store(_) => 28,
-        PortPoint::Reply => 29,
-        PortPoint::Fence => 30,
+        PortPoint::Load(_) => 37,
+        PortPoint::Store(_) => 38,
+        PortPoint::Reply => 39,
+        PortPoint::Fence => 40,
     }
 }
 

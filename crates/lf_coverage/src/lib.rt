@@ -22,5 +22,5 @@ mod text;
 pub use coverage::{Coverage, cover};
 pub use data::CoverageData;
 pub use lf_rules::NoMemory;
-pub use point::{BankPoint, Point, PortPoint};
+pub use point::{BankPoint, Measure, Point, PortPoint};
 pub use tally::Tally;

@@ -1,9 +1,28 @@
 //! What is covered.
 
 ghost use Rattle.std.specs.Prelude.{◌≡◌, Some};
-ghost use Rattle.lf_coverage.specs.Text.{bank_point_text, port_point_text, point_text};
+ghost use Rattle.lf_coverage.specs.Text.{measure_text, bank_point_text, port_point_text, point_text};
 
 use std::fmt;
+
+/// A number that an event can have.
+#[derive(Clone, Copy, Debug, PartialEq, Eq)]
+pub enum Measure {
+    /// How many blocks of a line that level two gives up have a dirty byte.
+    DirtyBlocks,
+    /// How many registers of level one are held, where a miss takes one.
+    Registers,
+    /// How many requests wait for a block, where a miss joins them.
+    Targets,
+    /// Which 8 bytes of its block the request of a miss asks for: the field of an implicit register of level one.
+    Field,
+    /// The port of a miss that joins others.
+    MergePort,
+    /// How many blocks of a second-level block level two was asked for, where a miss joins them.
+    SecondTargets,
+    /// Which block of its second-level block a miss of level two asks for: the field of an implicit register.
+    SecondField,
+}
 
 /// A situation in a bank.
 #[derive(Clone, Copy, Debug, PartialEq, Eq)]
@@ -16,6 +35,12 @@ pub enum BankPoint {
     Merge,
     /// A miss finds no room in the registers of level one.
     Stall,
+    /// No register holds its block, and none is free.
+    StallNoRegister,
+    /// Each entry of the explicit register that holds its block is in use.
+    StallNoEntry,
+    /// Its field of the implicit register that holds its block is in use.
+    StallField,
     /// Level one gets a block.
     Fill1,
     /// Level one gives up a line.
@@ -36,14 +61,16 @@ pub enum BankPoint {
     SecondMerge,
     /// A miss finds no room in the registers of level two.
     SecondStall,
+    /// No register holds its second-level block, and none is free.
+    SecondStallNoRegister,
+    /// Each entry of the explicit register that holds its second-level block is in use.
+    SecondStallNoEntry,
+    /// A miss takes a register of level two for a second-level block that was written back before.
+    SecondRefetch,
     /// Level two gets a second-level block.
     Fill2,
     /// Level two gives up a line.
     Evict2,
-    /// It gives up a line of which so many blocks have a dirty byte.
-    DirtyBlocks(u32),
-    /// A miss takes a register of level one, and then so many are held.
-    Registers(u32),
     /// A load joins others to its block, and the last one is a load.
     LoadBehindLoad,
     /// A load joins others to its block, and the last one is a store.
@@ -52,14 +79,14 @@ pub enum BankPoint {
     StoreBehindLoad,
     /// A store joins others to its block, and the last one is a store.
     StoreBehindStore,
-    /// A miss joins others to its block, and then so many wait for it.
-    Targets(u32),
     /// A miss takes a register of level one for a block that was written back before.
     Refetch,
     /// Level one gets a block before one that a miss asked for earlier.
     FillOutOfOrder,
     /// Level one gets a block that a store waits for.
     FillOverStores,
+    /// An event has this number.
+    Numbered(Measure, u32),
 }
 
 /// A situation at a port.
@@ -82,6 +109,22 @@ pub enum Point {
     Port { port: u8, point: PortPoint },
 }
 
+impl fmt::Display for Measure {
+    ghost output = { λ measure. Some (measure_text measure) };
+
+    fn fmt<W: fmt::Write>(&self, f: &mut fmt::Formatter<W>) -> fmt::Result {
+        match self {
+            Measure::DirtyBlocks => write!(f, "evict2_dirty"),
+            Measure::Registers => write!(f, "registers"),
+            Measure::Targets => write!(f, "targets"),
+            Measure::Field => write!(f, "field"),
+            Measure::MergePort => write!(f, "merge_port"),
+            Measure::SecondTargets => write!(f, "second_targets"),
+            Measure::SecondField => write!(f, "second_field"),
+        }
+    }
+}
+
 impl fmt::Display for BankPoint {
     ghost output = { λ point. Some (bank_point_text point) };
 
@@ -91,6 +134,9 @@ impl fmt::Display for BankPoint {
             BankPoint::Primary => write!(f, "primary"),
             BankPoint::Merge => write!(f, "merge"),
             BankPoint::Stall => write!(f, "stall"),
+            BankPoint::StallNoRegister => write!(f, "stall_no_register"),
+            BankPoint::StallNoEntry => write!(f, "stall_no_entry"),
+            BankPoint::StallField => write!(f, "stall_field"),
             BankPoint::Fill1 => write!(f, "fill1"),
             BankPoint::Evict1 => write!(f, "evict1"),
             BankPoint::CleanEviction => write!(f, "evict1_clean"),
@@ -101,18 +147,19 @@ impl fmt::Display for BankPoint {
             BankPoint::SecondPrimary => write!(f, "second_primary"),
             BankPoint::SecondMerge => write!(f, "second_merge"),
             BankPoint::SecondStall => write!(f, "second_stall"),
+            BankPoint::SecondStallNoRegister => write!(f, "second_stall_no_register"),
+            BankPoint::SecondStallNoEntry => write!(f, "second_stall_no_entry"),
+            BankPoint::SecondRefetch => write!(f, "second_refetched"),
             BankPoint::Fill2 => write!(f, "fill2"),
             BankPoint::Evict2 => write!(f, "evict2"),
-            BankPoint::DirtyBlocks(n) => write!(f, "evict2_dirty_{n}"),
-            BankPoint::Registers(n) => write!(f, "registers_{n}"),
             BankPoint::LoadBehindLoad => write!(f, "load_behind_load"),
             BankPoint::LoadBehindStore => write!(f, "load_behind_store"),
             BankPoint::StoreBehindLoad => write!(f, "store_behind_load"),
             BankPoint::StoreBehindStore => write!(f, "store_behind_store"),
-            BankPoint::Targets(n) => write!(f, "targets_{n}"),
             BankPoint::Refetch => write!(f, "refetched"),
             BankPoint::FillOutOfOrder => write!(f, "fill1_out_of_order"),
             BankPoint::FillOverStores => write!(f, "fill1_over_stores"),
+            BankPoint::Numbered(measure, number) => write!(f, "{measure}_{number}"),
         }
     }
 }

@@ -1,20 +1,27 @@
 //! The points that a hierarchy can reach.
 
-ghost use Rattle.std.specs.Prelude.{◌≡◌, ◌++◌, ◌∷◌, [], OnOk, IfOk, filter, map};
-ghost use Rattle.std.specs.List.{range_with_len};
+ghost use Rattle.std.specs.Prelude.{◌≡◌, ◌++◌, ◌∷◌, [], OnOk, IfOk, filter};
+ghost use Rattle.std.specs.List.{flat_map};
 ghost use Rattle.lf_rules.specs.InRange.{IsShape};
-ghost use Rattle.lf_coverage.specs.Reachable.{requests, most_held, joins, can_merge, most_targets, fills_up, joins2, can_merge2, fills_up2, can_reach, kinds, bank_points};
+ghost use Rattle.lf_coverage.specs.Reachable.{requests, most_held, joins, can_merge, most_targets, fields};
+ghost use Rattle.lf_coverage.specs.Reachable.{exceeds_registers, exceeds_entries, exceeds_field, can_stall};
+ghost use Rattle.lf_coverage.specs.Reachable.{joins2, can_merge2, most_asked, most_targets2, can_stall2};
+ghost use Rattle.lf_coverage.specs.Reachable.{can_have, can_reach, kinds, all_measures, points_of, bank_points};
 
-use crate::point::BankPoint;
+use crate::point::{BankPoint, Measure};
+use crate::reach::is_implicit;
 use lf_rules::{NoMemory, OrgShape, Shape};
 use std::alloc::Global;
 
 /// The points of a bank without a number.
-const KINDS: [BankPoint; 23] = [
+const KINDS: [BankPoint; 29] = [
     BankPoint::Hit,
     BankPoint::Primary,
     BankPoint::Merge,
     BankPoint::Stall,
+    BankPoint::StallNoRegister,
+    BankPoint::StallNoEntry,
+    BankPoint::StallField,
     BankPoint::Fill1,
     BankPoint::Evict1,
     BankPoint::CleanEviction,
@@ -25,6 +32,9 @@ const KINDS: [BankPoint; 23] = [
     BankPoint::SecondPrimary,
     BankPoint::SecondMerge,
     BankPoint::SecondStall,
+    BankPoint::SecondStallNoRegister,
+    BankPoint::SecondStallNoEntry,
+    BankPoint::SecondRefetch,
     BankPoint::Fill2,
     BankPoint::Evict2,
     BankPoint::LoadBehindLoad,
@@ -35,6 +45,19 @@ const KINDS: [BankPoint; 23] = [
     BankPoint::FillOutOfOrder,
     BankPoint::FillOverStores,
 ];
+
+const MEASURES: [Measure; 7] = [
+    Measure::DirtyBlocks,
+    Measure::Registers,
+    Measure::Targets,
+    Measure::Field,
+    Measure::MergePort,
+    Measure::SecondTargets,
+    Measure::SecondField,
+];
+
+/// The numbers of a measure that are told apart: those below.
+const NUMBERS: u32 = 65;
 
 /// How many requests can be outstanding at once.
 fn requests(shape: &Shape) -> u32
@@ -87,15 +110,53 @@ fn most_targets(organisation: &OrgShape, size: u32, requests: u32) -> u32
     }
 }
 
-/// Whether a miss of level one can find no room.
-fn fills_up(organisation: &OrgShape, most: u32) -> bool
-    ensures { result ≡ fills_up organisation.now most }
+/// How many fields a register of level one has.
+fn fields(organisation: &OrgShape, size: u32) -> u32
+    ensures { result ≡ fields organisation.now size }
+{
+    match *organisation {
+        OrgShape::Implicit { .. } => size / 8,
+        _ => 0,
+    }
+}
+
+/// Whether so many blocks can ask for more registers than there are.
+fn exceeds_registers(organisation: &OrgShape, most: u32) -> bool
+    ensures { result ≡ exceeds_registers organisation.now most }
+{
+    match *organisation {
+        OrgShape::Implicit { registers } | OrgShape::Explicit { registers, .. } => registers < most,
+        OrgShape::Inverted => false,
+    }
+}
+
+/// Whether so many requests for one block can ask for more entries than there are.
+fn exceeds_entries(organisation: &OrgShape, most: u32) -> bool
+    ensures { result ≡ exceeds_entries organisation.now most }
+{
+    match *organisation {
+        OrgShape::Explicit { entries, .. } => entries < most,
+        _ => false,
+    }
+}
+
+/// Whether so many requests for one block can ask for one field.
+fn exceeds_field(organisation: &OrgShape, most: u32) -> bool
+    ensures { result ≡ exceeds_field organisation.now most }
 {
     match *organisation {
         OrgShape::Implicit { .. } => 1 < most,
-        OrgShape::Explicit { registers, entries } => registers < most || entries < most,
-        OrgShape::Inverted => false,
+        _ => false,
     }
+}
+
+/// Whether a miss of level one can find no room.
+fn can_stall(organisation: &OrgShape, most: u32) -> bool
+    ensures { result ≡ can_stall organisation.now most }
+{
+    exceeds_registers(organisation, most)
+        || exceeds_entries(organisation, most)
+        || exceeds_field(organisation, most)
 }
 
 /// Whether a register of level two can take a second target.
@@ -115,16 +176,53 @@ fn can_merge2(shape: &Shape) -> bool
     1 < shape.factor && 1 < most_held(shape) && joins2(&shape.level2.organisation)
 }
 
-/// Whether a miss of level two can find no room.
-fn fills_up2(organisation: &OrgShape, most: u32, factor: u32) -> bool
-    ensures { result ≡ fills_up2 organisation.now most factor }
+/// How many blocks of a second-level block level two can be asked for at once.
+fn most_asked(shape: &Shape) -> u32
+    requires { IsShape shape.now }
+    ensures { result ≡ most_asked shape.now }
+{
+    shape.factor.min(most_held(shape))
+}
+
+/// How many targets a register of level two can take, of so many blocks.
+fn most_targets2(organisation: &OrgShape, asked: u32) -> u32
+    ensures { result ≡ most_targets2 organisation.now asked }
 {
     match *organisation {
-        OrgShape::Implicit { registers } => registers < most,
-        OrgShape::Explicit { registers, entries } => {
-            registers < most || entries < factor.min(most)
+        OrgShape::Explicit { entries, .. } => entries.min(asked),
+        _ => asked,
+    }
+}
+
+/// Whether a miss of level two can find no room.
+fn can_stall2(shape: &Shape) -> bool
+    requires { IsShape shape.now }
+    ensures { result ≡ can_stall2 shape.now }
+{
+    let organisation = &shape.level2.organisation;
+    exceeds_registers(organisation, most_held(shape))
+        || exceeds_entries(organisation, most_asked(shape))
+}
+
+/// Whether an event can have the number.
+fn can_have(shape: &Shape, measure: Measure, number: u32) -> bool
+    requires { IsShape shape.now }
+    ensures { result ≡ can_have shape.now measure number }
+{
+    match measure {
+        Measure::DirtyBlocks => number <= shape.factor,
+        Measure::Registers => 1 <= number && number <= most_held(shape),
+        Measure::Targets => {
+            let most = most_targets(&shape.level1.organisation, shape.block, requests(shape));
+            2 <= number && number <= 16 && number <= most
         }
-        OrgShape::Inverted => false,
+        Measure::Field => number < fields(&shape.level1.organisation, shape.block),
+        Measure::MergePort => can_merge(shape) && number < shape.ports,
+        Measure::SecondTargets => {
+            let most = most_targets2(&shape.level2.organisation, most_asked(shape));
+            2 <= number && number <= most
+        }
+        Measure::SecondField => is_implicit(&shape.level2.organisation) && number < shape.factor,
     }
 }
 
@@ -139,18 +237,23 @@ fn can_reach(shape: &Shape, point: BankPoint) -> bool
         | BankPoint::LoadBehindStore
         | BankPoint::StoreBehindLoad
         | BankPoint::StoreBehindStore => can_merge(shape),
-        BankPoint::Stall => fills_up(&shape.level1.organisation, requests(shape)),
+        BankPoint::Stall => can_stall(&shape.level1.organisation, requests(shape)),
+        BankPoint::StallNoRegister => {
+            exceeds_registers(&shape.level1.organisation, requests(shape))
+        }
+        BankPoint::StallNoEntry => exceeds_entries(&shape.level1.organisation, requests(shape)),
+        BankPoint::StallField => exceeds_field(&shape.level1.organisation, requests(shape)),
         BankPoint::HitUnderMiss => 1 < requests(shape),
         BankPoint::SecondMerge => can_merge2(shape),
-        BankPoint::SecondStall => {
-            fills_up2(&shape.level2.organisation, most_held(shape), shape.factor)
+        BankPoint::SecondStall => can_stall2(shape),
+        BankPoint::SecondStallNoRegister => {
+            exceeds_registers(&shape.level2.organisation, most_held(shape))
         }
-        BankPoint::DirtyBlocks(count) => count <= shape.factor,
-        BankPoint::Registers(count) => count <= most_held(shape),
-        BankPoint::Targets(count) => {
-            count <= most_targets(&shape.level1.organisation, shape.block, requests(shape))
+        BankPoint::SecondStallNoEntry => {
+            exceeds_entries(&shape.level2.organisation, most_asked(shape))
         }
         BankPoint::FillOutOfOrder => 1 < most_held(shape),
+        BankPoint::Numbered(measure, number) => can_have(shape, measure, number),
         _ => true,
     }
 }
@@ -177,38 +280,24 @@ fn add_kinds(points: &mut Vec<BankPoint>, shape: &Shape) -> Result<(), NoMemory>
     Ok(())
 }
 
-/// Those of a number of dirty blocks.
-fn add_dirty_blocks(points: &mut Vec<BankPoint>, shape: &Shape) -> Result<(), NoMemory>
+/// Those of a measure.
+fn add_numbers(points: &mut Vec<BankPoint>, shape: &Shape, measure: Measure) -> Result<(), NoMemory>
     requires { IsShape shape.now }
-    ensures { OnOk result (points.new.items
-        ≡ points.old.items ++ filter (can_reach shape.now) (map BankPoint.DirtyBlocks (range_with_len 0 5))) }
+    ensures { OnOk result (points.new.items ≡ points.old.items ++ points_of shape.now measure) }
 {
-    for count in 0..5 {
-        add(points, shape, BankPoint::DirtyBlocks(count))?;
+    for number in 0..NUMBERS {
+        add(points, shape, BankPoint::Numbered(measure, number))?;
     }
     Ok(())
 }
 
-/// Those of a number of registers.
-fn add_registers(points: &mut Vec<BankPoint>, shape: &Shape) -> Result<(), NoMemory>
+/// Those of each measure.
+fn add_measures(points: &mut Vec<BankPoint>, shape: &Shape) -> Result<(), NoMemory>
     requires { IsShape shape.now }
-    ensures { OnOk result (points.new.items
-        ≡ points.old.items ++ filter (can_reach shape.now) (map BankPoint.Registers (range_with_len 1 64))) }
+    ensures { OnOk result (points.new.items ≡ points.old.items ++ flat_map (points_of shape.now) all_measures) }
 {
-    for more in 0..64 {
-        add(points, shape, BankPoint::Registers(more + 1))?;
-    }
-    Ok(())
-}
-
-/// Those of a number of targets.
-fn add_targets(points: &mut Vec<BankPoint>, shape: &Shape) -> Result<(), NoMemory>
-    requires { IsShape shape.now }
-    ensures { OnOk result (points.new.items
-        ≡ points.old.items ++ filter (can_reach shape.now) (map BankPoint.Targets (range_with_len 2 15))) }
-{
-    for more in 0..15 {
-        add(points, shape, BankPoint::Targets(more + 2))?;
+    for measure in &MEASURES {
+        add_numbers(points, shape, *measure)?;
     }
     Ok(())
 }
@@ -220,8 +309,6 @@ pub(crate) fn bank_points(alloc: Global, shape: &Shape) -> Result<Vec<BankPoint>
 {
     let mut points = Vec::new(alloc);
     add_kinds(&mut points, shape)?;
-    add_dirty_blocks(&mut points, shape)?;
-    add_registers(&mut points, shape)?;
-    add_targets(&mut points, shape)?;
+    add_measures(&mut points, shape)?;
     Ok(points)
 }

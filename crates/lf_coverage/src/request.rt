@@ -4,7 +4,7 @@ ghost use Rattle.std.specs.Prelude.{◌≡◌, ◌+◌, ◌*◌, ◌<◌, ℕ, N
 ghost use Rattle.lf_coverage.specs.Standing.{latest_after};
 ghost use Rattle.lf_coverage.specs.Kept.{latest_in};
 
-use lf_rules::{Event, NoMemory, Op, Record, Shape};
+use lf_rules::{Event, NoMemory, Op, Record, Shape, wide_quotient, wide_remainder};
 use std::alloc::Global;
 
 /// As many as there are numbers of a port and a tag.
@@ -15,6 +15,8 @@ const PLACES: usize = 65_536;
 pub(crate) struct Request {
     pub op: Op,
     pub block: u64,
+    /// The place of its 8 bytes in the block, from 0.
+    pub field: u32,
 }
 
 fn place_of(port: u8, tag: u8) -> usize
@@ -71,8 +73,12 @@ impl Requests {
             ..
         } = &item.event
         {
-            let block = *address / u64::from(shape.block);
-            self.0[place_of(item.log, *tag)] = Some(Request { op: *op, block });
+            let size = u64::from(shape.block);
+            self.0[place_of(item.log, *tag)] = Some(Request {
+                op: *op,
+                block: wide_quotient(*address, size),
+                field: wide_remainder(*address, size) as u32 / 8,
+            });
         }
     }
 }

@@ -1,17 +1,20 @@
 //! What a bank's records so far say of the next one.
 
-ghost use Rattle.std.specs.Prelude.{◌≡◌, ℕ, ◌<◌, ◌≤◌, ◌^◌, not, ◌||◌, ◌==◌, length, filter, All, IsSome, IfOk, OnOk, vec_len};
+ghost use Rattle.std.specs.Prelude.{◌≡◌, ℕ, ◌+◌, ◌<◌, ◌≤◌, ◌^◌, not, ◌||◌, ◌==◌};
+ghost use Rattle.std.specs.Prelude.{length, filter, All, IsSome, IfOk, OnOk, vec_len};
 ghost use Rattle.lf_rules.specs.Lists.{lists_of};
 ghost use Rattle.lf_logs.specs.Places.{record_at, records_at};
 ghost use Rattle.lf_coverage.specs.Standing.{Standing, at_first, standing_after, waiting_after, writes_back};
-ghost use Rattle.lf_coverage.specs.Standing.{last_kind, targets, is_behind_others, has_store};
-ghost use Rattle.lf_coverage.specs.Sights.{joined, filled, sight_by, sights};
+ghost use Rattle.lf_coverage.specs.Standing.{last_kind, waits_for, targets, is_behind_others, has_store};
+ghost use Rattle.lf_coverage.specs.Standing.{waiting2_after, waits_for2, targets2, writes_back2};
+ghost use Rattle.lf_coverage.specs.Sights.{joined, joined_if, taken_if, stalled_if, filled, sight_by, sights};
 ghost use Rattle.lf_coverage.specs.Kept.{IsKept, is_in};
 
+use crate::reach::dirty_blocks;
 use crate::request::{Request, Requests};
 use crate::sight::Sight;
 use lf_logs::{Place, record_at};
-use lf_rules::{Event, Logs, NoMemory, Op, Record, Shape};
+use lf_rules::{Event, Logs, NoMemory, Op, Record, Shape, quotient};
 use std::alloc::Global;
 use std::collections::HashSet;
 
@@ -26,6 +29,13 @@ fn last_kind(waiting: &[Request], block: u64) -> Option<Op>
         }
     }
     last
+}
+
+/// Whether one of these asks for the block.
+fn waits_for(waiting: &[Request], block: u64) -> bool
+    ensures { result ≡ waits_for block waiting.now }
+{
+    waiting.iter().any(|request| request.block == block)
 }
 
 /// How many of these ask for the block.
@@ -65,6 +75,30 @@ fn joined(waiting: &[Request], request: Request) -> Sight
             op: request.op,
             behind,
             targets: targets(waiting, request.block) as u32 + 1,
+            field: request.field,
+        },
+        None => Sight::Plain,
+    }
+}
+
+/// The same, where the request is known.
+fn joined_if(waiting: &[Request], request: Option<Request>) -> Sight
+    requires few { length waiting.now < 2 ^ 29 }
+    ensures { result ≡ joined_if waiting.now request }
+{
+    match request {
+        Some(request) => joined(waiting, request),
+        None => Sight::Plain,
+    }
+}
+
+/// What is seen of a miss that finds no room.
+fn stalled_if(waiting: &[Request], request: Option<Request>) -> Sight
+    ensures { result ≡ stalled_if waiting.now request }
+{
+    match request {
+        Some(request) => Sight::Stalled {
+            held: waits_for(waiting, request.block),
         },
         None => Sight::Plain,
     }
@@ -87,6 +121,37 @@ fn leave(waiting: &mut Vec<Request>, block: u64)
     waiting.retain(|request| request.block != block);
 }
 
+/// Whether one of these is the second-level block.
+fn waits_for2(waiting: &[u32], second: u32) -> bool
+    ensures { result ≡ waits_for2 second waiting.now }
+{
+    waiting.iter().any(|other| *other == second)
+}
+
+/// How many of these are the second-level block.
+fn targets2(waiting: &[u32], second: u32) -> usize
+    ensures { result ≡ targets2 second waiting.now }
+{
+    waiting.iter().filter(|other| **other == second).count()
+}
+
+/// What is seen of a miss of level two that joins others.
+fn second_joined(waiting: &[u32], second: u32) -> Sight
+    requires few { length waiting.now < 2 ^ 29 }
+    ensures { result ≡ Sight.SecondJoined (targets2 second waiting.now + 1) }
+{
+    Sight::SecondJoined {
+        targets: targets2(waiting, second) as u32 + 1,
+    }
+}
+
+/// The others stay.
+fn leave2(waiting: &mut Vec<u32>, second: u32)
+    ensures { waiting.new.items ≡ filter (λ other. not (other == second)) waiting.old.items }
+{
+    waiting.retain(|other| *other != second);
+}
+
 /// What a bank's records so far say of the next one.
 #[derive(Drop)]
 pub(crate) struct Kept {
@@ -95,6 +160,10 @@ pub(crate) struct Kept {
     waiting: Vec<Request>,
     /// The blocks that were written back.
     written: HashSet<u64>,
+    /// The second-level blocks of the misses that wait for level two.
+    waiting2: Vec<u32>,
+    /// The second-level blocks that were written back.
+    written2: HashSet<u32>,
 }
 
 impl Kept {
@@ -106,27 +175,51 @@ impl Kept {
             requests: Requests::new(alloc)?,
             waiting: Vec::new(alloc),
             written: HashSet::new(alloc),
+            waiting2: Vec::new(alloc),
+            written2: HashSet::new(alloc),
         })
     }
 
+    /// What is seen of a miss that takes a register.
+    fn taken(&self, port: u8, tag: u8) -> Sight
+        requires len { length self.now.requests.0.items ≡ 65536 }
+        ensures { (s : Standing) → IsKept self.now s → result ≡ taken_if s.written (s.latest port tag) }
+    {
+        match self.requests.latest(port, tag) {
+            Some(request) => Sight::Taken {
+                again: self.written.contains(&request.block),
+                field: request.field,
+            },
+            None => Sight::Plain,
+        }
+    }
+
     /// What is seen of the next event.
-    pub fn sight(&self, event: &Event) -> Sight
+    pub fn sight(&self, shape: &Shape, event: &Event) -> Sight
+        requires factor { 0 < shape.now.factor }
         requires len { length self.now.requests.0.items ≡ 65536 }
         requires few { vec_len self.now.waiting < 2 ^ 29 }
-        ensures { (s : Standing) → IsKept self.now s → result ≡ sight_by s event.now }
+        requires few2 { vec_len self.now.waiting2 < 2 ^ 29 }
+        ensures { (s : Standing) → IsKept self.now s → result ≡ sight_by shape.now s event.now }
     {
+        let waiting = self.waiting.as_slice();
+        let waiting2 = self.waiting2.as_slice();
         match event {
-            Event::Primary { port, tag, .. } => match self.requests.latest(*port, *tag) {
-                Some(request) => Sight::Taken {
-                    again: self.written.contains(&request.block),
-                },
-                None => Sight::Plain,
+            Event::Primary { port, tag, .. } => self.taken(*port, *tag),
+            Event::Merge { port, tag, .. } => {
+                joined_if(waiting, self.requests.latest(*port, *tag))
+            }
+            Event::Stall { port, tag } => stalled_if(waiting, self.requests.latest(*port, *tag)),
+            Event::Fill1 { block, .. } => filled(waiting, u64::from(*block)),
+            Event::SecondPrimary { block, .. } => Sight::SecondTaken {
+                again: self.written2.contains(&quotient(*block, shape.factor)),
             },
-            Event::Merge { port, tag, .. } => match self.requests.latest(*port, *tag) {
-                Some(request) => joined(self.waiting.as_slice(), request),
-                None => Sight::Plain,
+            Event::SecondMerge { block, .. } => {
+                second_joined(waiting2, quotient(*block, shape.factor))
+            }
+            Event::SecondStall { block } => Sight::SecondStalled {
+                held: waits_for2(waiting2, quotient(*block, shape.factor)),
             },
-            Event::Fill1 { block, .. } => filled(self.waiting.as_slice(), u64::from(*block)),
             _ => Sight::Plain,
         }
     }
@@ -136,6 +229,8 @@ impl Kept {
         requires len { length self.old.requests.0.items ≡ 65536 }
         ensures requests { self.new.requests ≡ self.old.requests }
         ensures written { self.new.written ≡ self.old.written }
+        ensures waiting2 { self.new.waiting2 ≡ self.old.waiting2 }
+        ensures written2 { self.new.written2 ≡ self.old.written2 }
         ensures waiting { OnOk result ((s : Standing) → IsKept self.old s
             → self.new.waiting.items ≡ waiting_after s.latest event.now s.waiting) }
     {
@@ -151,10 +246,32 @@ impl Kept {
         Ok(())
     }
 
+    /// Keeps what waits for level two after the event.
+    fn wait2(&mut self, shape: &Shape, event: &Event) -> Result<(), NoMemory>
+        requires factor { 0 < shape.now.factor }
+        ensures requests { self.new.requests ≡ self.old.requests }
+        ensures waiting { self.new.waiting ≡ self.old.waiting }
+        ensures written { self.new.written ≡ self.old.written }
+        ensures written2 { self.new.written2 ≡ self.old.written2 }
+        ensures waiting2 { OnOk result (self.new.waiting2.items
+            ≡ waiting2_after shape.now event.now self.old.waiting2.items) }
+    {
+        match event {
+            Event::SecondPrimary { block, .. } | Event::SecondMerge { block, .. } => {
+                self.waiting2.push(quotient(*block, shape.factor))?;
+            }
+            Event::Fill2 { block, .. } => leave2(&mut self.waiting2, *block),
+            _ => {}
+        }
+        Ok(())
+    }
+
     /// Keeps a block that is written back.
     fn write_back(&mut self, event: &Event) -> Result<(), NoMemory>
         ensures requests { self.new.requests ≡ self.old.requests }
         ensures waiting { self.new.waiting ≡ self.old.waiting }
+        ensures waiting2 { self.new.waiting2 ≡ self.old.waiting2 }
+        ensures written2 { self.new.written2 ≡ self.old.written2 }
         ensures written { OnOk result ((block : ℕ)
             → is_in self.new.written block ≡ (writes_back event.now block || is_in self.old.written block)) }
     {
@@ -166,15 +283,35 @@ impl Kept {
         Ok(())
     }
 
+    /// Keeps a second-level block that is written back.
+    fn write_back2(&mut self, event: &Event) -> Result<(), NoMemory>
+        ensures requests { self.new.requests ≡ self.old.requests }
+        ensures waiting { self.new.waiting ≡ self.old.waiting }
+        ensures written { self.new.written ≡ self.old.written }
+        ensures waiting2 { self.new.waiting2 ≡ self.old.waiting2 }
+        ensures written2 { OnOk result ((second : ℕ)
+            → is_in self.new.written2 second ≡ (writes_back2 event.now second || is_in self.old.written2 second)) }
+    {
+        if let Event::Evict2 { block, masks, .. } = event {
+            if dirty_blocks(masks) != 0 {
+                let _ = self.written2.insert(*block)?;
+            }
+        }
+        Ok(())
+    }
+
     /// Takes one more record.
     pub fn take(&mut self, shape: &Shape, item: &Record) -> Result<(), NoMemory>
         requires block { 0 < shape.now.block }
+        requires factor { 0 < shape.now.factor }
         requires len { length self.old.requests.0.items ≡ 65536 }
         ensures { OnOk result ((s : Standing) → IsKept self.old s
             → IsKept self.new (standing_after shape.now item.now s)) }
     {
         self.wait(&item.event)?;
+        self.wait2(shape, &item.event)?;
         self.write_back(&item.event)?;
+        self.write_back2(&item.event)?;
         self.requests.keep(shape, item);
         Ok(())
     }
@@ -188,6 +325,7 @@ pub(crate) fn sights(
     places: &[Place],
 ) -> Result<Vec<Sight>, NoMemory>
     requires block { 0 < shape.now.block }
+    requires factor { 0 < shape.now.factor }
     requires named { All (λ place. IsSome (record_at (lists_of logs.now) place)) places.now }
     requires few { length places.now ≤ 2 ^ 29 }
     ensures { IfOk result (λ all. all.items ≡ sights shape.now (records_at (lists_of logs.now) places.now)) }
@@ -196,7 +334,7 @@ pub(crate) fn sights(
     let mut all = Vec::new(alloc);
     for place in places {
         let item = record_at(logs, *place);
-        all.push(kept.sight(&item.event))?;
+        all.push(kept.sight(shape, &item.event))?;
         kept.take(shape, item)?;
     }
     Ok(all)

@@ -3,7 +3,7 @@
 ghost use Rattle.std.specs.Prelude.{◌≡◌};
 ghost use Rattle.lf_rules.specs.InRange.{IsShape};
 
-use crate::{BankPoint, Coverage, CoverageData, Point, PortPoint, Tally, cover};
+use crate::{BankPoint, Coverage, CoverageData, Measure, Point, PortPoint, Tally, cover};
 use lf_logs::bank_order;
 use lf_rules::{Block, Event, Level, Logs, Mask, Op, OrgShape, Record, Shape};
 use std::alloc::Global;
@@ -118,11 +118,14 @@ fn covered(alloc: Global, logs: &Logs) -> Result<Option<Coverage>, Fail> {
 const TEXT: &str = "\
 bank=0 hit=0
 bank=0 stall=0
+bank=0 stall_no_register=0
+bank=0 stall_no_entry=0
 bank=0 evict1_clean=0
 bank=0 evict1_whole=0
 bank=0 hit_under_miss=0
 bank=0 second_hit=0
 bank=0 second_primary=0
+bank=0 second_refetched=0
 bank=0 fill2=0
 bank=0 evict2=0
 bank=0 load_behind_load=0
@@ -150,9 +153,10 @@ bank=0 fill1_over_stores=1
 bank=0 registers_1=2
 bank=0 registers_2=1
 bank=0 targets_2=1
+bank=0 merge_port_0=1
 port=0 load_4=2
 port=0 store_4=2
-covered 14 of 36
+covered 15 of 40
 ";
 
 #[test]
@@ -169,9 +173,9 @@ fn coverage_of_a_trace(rt: HostRuntime) -> Result<(), Fail> {
 const DATA: &str = "\
 # SystemC::Coverage-3
 C '\u{1}page\u{2}v_user/lockup_free\u{1}f\u{2}coverage/points.txt\
-\u{1}l\u{2}16\u{1}n\u{2}0\u{1}o\u{2}targets_2\u{1}h\u{2}bank3' 7
+\u{1}l\u{2}20\u{1}n\u{2}0\u{1}o\u{2}targets_2\u{1}h\u{2}bank3' 7
 C '\u{1}page\u{2}v_user/lockup_free\u{1}f\u{2}coverage/points.txt\
-\u{1}l\u{2}30\u{1}n\u{2}0\u{1}o\u{2}fence\u{1}h\u{2}port0' 0
+\u{1}l\u{2}40\u{1}n\u{2}0\u{1}o\u{2}fence\u{1}h\u{2}port0' 0
 ";
 
 #[test]
@@ -179,7 +183,7 @@ fn data_of_two_points(rt: HostRuntime) -> Result<(), Fail> {
     let mut tallies = Vec::new(rt.alloc());
     let targets = Point::Bank {
         bank: 3,
-        point: BankPoint::Targets(2),
+        point: BankPoint::Numbered(Measure::Targets, 2),
     };
     let fence = Point::Port {
         port: 0,

@@ -1,7 +1,7 @@
 use Rattle.std.proofs.Common.{◌≡◌, ℕ, ◌<◌, ◌≤◌, true, List, ◌++◌, length, IsSome, sym, ap, ◌∙◌, subst, add-one, arith}
 use Rattle.std.specs.List.{All}
 use Rattle.lf_rules.specs.declared.event.Record.{Record}
-use Rattle.lf_rules.specs.Fits.{is_block_size}
+use Rattle.lf_rules.specs.Fits.{is_block_size, is_factor}
 use Rattle.lf_rules.specs.Lists.{lists_of}
 use Rattle.lf_rules.specs.Numbers.{IsNumbered}
 use Rattle.lf_logs.specs.declared.order.Place.{Place}
@@ -18,6 +18,9 @@ block_at_most_64 n h = grind arith
 
 some_block : (n : ℕ) → is_block_size n ≡ true → 0 < n
 some_block n h = grind arith
+
+some_factor : (n : ℕ) → is_factor n ≡ true → 0 < n
+some_factor n h = grind arith
 
 named_same : (logs : List (List Record)) (ps qs : List Place) → ps ≡ qs
     → All (λ place. IsSome (record_at logs place)) qs → All (λ place. IsSome (record_at logs place)) ps
@@ -36,6 +39,9 @@ held_counts-requires-clause-few c =
 pub sights-requires-clause-block : goal.sights-requires-clause-block
 sights-requires-clause-block c = some_block c.args.shape.now.block c.requires.in_range.block_size
 
+pub sights-requires-clause-factor : goal.sights-requires-clause-factor
+sights-requires-clause-factor c = some_factor c.args.shape.now.factor c.requires.in_range.factor
+
 pub sights-requires-clause-named : goal.sights-requires-clause-named
 sights-requires-clause-named c = named_same (lists_of c.args.logs.now) _ _ c.as_slice-2.ensures.value c.in-Ok.ensures.order.named
 
@@ -45,6 +51,9 @@ sights-requires-clause-few c =
 
 pub add_bank-requires-clause-block : goal.add_bank-requires-clause-block
 add_bank-requires-clause-block c = block_at_most_64 c.args.shape.now.block c.requires.in_range.block_size
+
+pub add_bank-requires-clause-factor : goal.add_bank-requires-clause-factor
+add_bank-requires-clause-factor c = some_factor c.args.shape.now.factor c.requires.in_range.factor
 
 pub add_bank-requires-clause-order : goal.add_bank-requires-clause-order
 add_bank-requires-clause-order c =

@@ -2,6 +2,4 @@ use Rattle.lf_coverage.proofs.Tallies.{joined}
 use Rattle.lf_coverage.proofs.reachable.bank_points.Goals as goal
 
 pub returns : goal.returns
-returns c =
-    joined _ _ _ _ _ _ _ _ _ c.new-points.ensures.items c.in_ok-add_kinds.ensures c.in_ok-add_dirty_blocks.ensures c.in_ok-add_registers.ensures
-    c.in_ok-add_targets.ensures
+returns c = joined _ _ _ _ _ c.new-points.ensures.items c.in_ok-add_kinds.ensures c.in_ok-add_measures.ensures

@@ -8,7 +8,7 @@ use Rattle.lf_stats.proofs.Orders.{length_found, get_found}
 use Rattle.lf_coverage.specs.Standing.{standing}
 use Rattle.lf_coverage.specs.Sights.{sight}
 use Rattle.lf_coverage.specs.Kept.{IsKept}
-use Rattle.lf_coverage.proofs.Standings.{waiting_le, standing_at, sight_at, sights_more}
+use Rattle.lf_coverage.proofs.Standings.{waiting_le, waiting2_le, standing_at, sight_at, sights_more}
 use Rattle.lf_coverage.proofs.standing.sights.Goals as goal
 
 pub sight-requires-clause-few : goal.sight-requires-clause-few
@@ -18,6 +18,17 @@ sight-requires-clause-few c =
       arith,
       ap length c.loop-place.invariant.kept.waiting,
       waiting_le c.args.shape.now rs c.loop-place.place-index,
+      c.loop-place-test.true,
+      c.requires.few,
+    )
+
+pub sight-requires-clause-few2 : goal.sight-requires-clause-few2
+sight-requires-clause-few2 c =
+    let rs : List Record = records_at (lists_of c.args.logs.now) c.args.places.now in
+    omega (
+      arith,
+      ap length c.loop-place.invariant.kept.waiting2,
+      waiting2_le c.args.shape.now rs c.loop-place.place-index,
       c.loop-place-test.true,
       c.requires.few,
     )
