@@ -15,6 +15,8 @@ const VIEW: View = View {
     from: 0,
     to: u64::MAX,
     tags: 1,
+    level1_registers: 1,
+    level2_registers: 0,
     block: 8,
     factor: 1,
     marker: None,
@@ -41,6 +43,8 @@ $var wire 32 b0b block [31:0] $end
 $var wire 16 b0r register [15:0] $end
 $var wire 16 b0x level1_registers [15:0] $end
 $var wire 16 b0y level2_registers [15:0] $end
+$var wire 32 b0h0 level1_register0 [31:0] $end
+$var wire 16 b0t0 level1_targets0 [15:0] $end
 $upscope $end
 $upscope $end
 $enddefinitions $end
@@ -54,6 +58,8 @@ b0 p0o
 s b0e
 b0 b0x
 b0 b0y
+bz b0h0
+b0 b0t0
 $end
 #00
 1p0t0

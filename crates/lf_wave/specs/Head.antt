@@ -2,11 +2,12 @@
 use Rattle.std.specs.Prelude.{ℕ, false, List, [], ◌++◌, codes, flat_map}
 use Rattle.std.specs.List.{range_with_len}
 use Rattle.std.specs.Fmt.{decimal}
+use Rattle.lf_wave.specs.declared.registers.Level.{Level}
 use Rattle.lf_wave.specs.declared.registers.Level.TheVariants as levels
 use Rattle.lf_wave.specs.declared.signal.Signal.{Signal}
 use Rattle.lf_wave.specs.declared.signal.Signal.TheVariants as signals
 use Rattle.lf_wave.specs.declared.view.View.{View}
-use Rattle.lf_wave.specs.Signals.{line, identifier, bit_change, number_change, text_change}
+use Rattle.lf_wave.specs.Signals.{line, identifier, bit_change, number_change, text_change, level_text, free_change}
 use Rattle.lf_wave.specs.Wave.{time}
 
 -- ---- signals
@@ -61,16 +62,36 @@ register_values bank =
     number_variable 16 (signals.InUse levels.One bank) (codes "level1_registers [15:0]")
     ++ number_variable 16 (signals.InUse levels.Two bank) (codes "level2_registers [15:0]")
 
-abbrev pub bank_scope : ℕ → List ℕ
-bank_scope bank = scope_begin (codes "bank") bank ++ (bank_values bank ++ (register_values bank ++ scope_end))
+-- the block that a register holds
+abbrev pub held_variable : Level → ℕ → ℕ → List ℕ
+held_variable level bank register =
+    codes "$var wire 32 "
+    ++ named (signals.HeldBlock level bank register) (level_text level ++ (codes "_register" ++ (decimal register ++ codes " [31:0]")))
 
-abbrev pub bank_scopes : ℕ → List ℕ
-bank_scopes banks = flat_map bank_scope (range_with_len 0 banks)
+-- how many targets wait in it
+abbrev pub targets_variable : Level → ℕ → ℕ → List ℕ
+targets_variable level bank register =
+    codes "$var wire 16 "
+    ++ named (signals.Targets level bank register) (level_text level ++ (codes "_targets" ++ (decimal register ++ codes " [15:0]")))
 
-abbrev pub scopes : ℕ → ℕ → ℕ → List ℕ
-scopes tags ports banks =
+abbrev pub register_variable : Level → ℕ → ℕ → List ℕ
+register_variable level bank register = held_variable level bank register ++ targets_variable level bank register
+
+abbrev pub register_variables : ℕ → Level → ℕ → List ℕ
+register_variables registers level bank = flat_map (register_variable level bank) (range_with_len 0 registers)
+
+abbrev pub bank_scope : View → ℕ → List ℕ
+bank_scope view bank =
+    scope_begin (codes "bank") bank ++ (bank_values bank ++ (register_values bank
+    ++ (register_variables view.level1_registers levels.One bank ++ (register_variables view.level2_registers levels.Two bank ++ scope_end))))
+
+abbrev pub bank_scopes : View → ℕ → List ℕ
+bank_scopes view banks = flat_map (bank_scope view) (range_with_len 0 banks)
+
+abbrev pub scopes : View → ℕ → ℕ → List ℕ
+scopes view ports banks =
     line (codes "$scope module score $end") ++ (number_variable 1 signals.Fault (codes "fault") ++ (text_variable signals.Rule (codes "rule")
-    ++ (port_scopes tags ports ++ (bank_scopes banks ++ scope_end))))
+    ++ (port_scopes view.tags ports ++ (bank_scopes view banks ++ scope_end))))
 
 -- ---- the first values: no fault, no word, no tag is busy, and no register is held
 
@@ -86,19 +107,23 @@ port_start tags port = text_change [] (signals.PortEvent port) ++ (number_change
 abbrev pub port_starts : ℕ → ℕ → List ℕ
 port_starts tags ports = flat_map (port_start tags) (range_with_len 0 ports)
 
-abbrev pub bank_start : ℕ → List ℕ
-bank_start bank =
-    text_change [] (signals.BankEvent bank) ++ (number_change 0 (signals.InUse levels.One bank) ++ number_change 0 (signals.InUse levels.Two bank))
+abbrev pub register_starts : ℕ → Level → ℕ → List ℕ
+register_starts registers level bank = flat_map (free_change level bank) (range_with_len 0 registers)
 
-abbrev pub bank_starts : ℕ → List ℕ
-bank_starts banks = flat_map bank_start (range_with_len 0 banks)
+abbrev pub bank_start : View → ℕ → List ℕ
+bank_start view bank =
+    text_change [] (signals.BankEvent bank) ++ (number_change 0 (signals.InUse levels.One bank) ++ (number_change 0 (signals.InUse levels.Two bank)
+    ++ (register_starts view.level1_registers levels.One bank ++ register_starts view.level2_registers levels.Two bank)))
+
+abbrev pub bank_starts : View → ℕ → List ℕ
+bank_starts view banks = flat_map (bank_start view) (range_with_len 0 banks)
 
 abbrev pub start : View → ℕ → ℕ → List ℕ
 start view ports banks =
     time view.from (codes "0") ++ (line (codes "$dumpvars") ++ (bit_change false signals.Fault ++ (text_change [] signals.Rule
-    ++ (port_starts view.tags ports ++ (bank_starts banks ++ line (codes "$end"))))))
+    ++ (port_starts view.tags ports ++ (bank_starts view banks ++ line (codes "$end"))))))
 
 -- The head. A time is counted in tenths of a nanosecond.
 abbrev pub head_text : View → ℕ → ℕ → List ℕ
 head_text view ports banks =
-    line (codes "$timescale 100 ps $end") ++ (scopes view.tags ports banks ++ (line (codes "$enddefinitions $end") ++ start view ports banks))
+    line (codes "$timescale 100 ps $end") ++ (scopes view ports banks ++ (line (codes "$enddefinitions $end") ++ start view ports banks))

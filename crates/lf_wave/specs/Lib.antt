@@ -5,3 +5,4 @@ pub mod Registers
 pub mod Wave
 pub mod Head
 pub mod Save
+pub mod Shapes

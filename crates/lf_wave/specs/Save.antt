@@ -2,9 +2,11 @@
 use Rattle.std.specs.Prelude.{ℕ, ◌-◌, max, List, [], ◌++◌, codes, flat_map, Option, Some, None}
 use Rattle.std.specs.List.{range_with_len}
 use Rattle.std.specs.Fmt.{decimal}
+use Rattle.lf_wave.specs.declared.registers.Level.{Level}
+use Rattle.lf_wave.specs.declared.registers.Level.TheVariants as levels
 use Rattle.lf_wave.specs.declared.view.Marker.{Marker}
 use Rattle.lf_wave.specs.declared.view.View.{View}
-use Rattle.lf_wave.specs.Signals.{line}
+use Rattle.lf_wave.specs.Signals.{line, level_text}
 
 -- ---- how values are shown
 
@@ -54,13 +56,25 @@ bank_request_rows bank =
 abbrev pub bank_register_rows : ℕ → List ℕ
 bank_register_rows bank = bank_row bank as_decimal (codes "level1_registers[15:0]") ++ bank_row bank as_decimal (codes "level2_registers[15:0]")
 
-abbrev pub bank_rows : ℕ → List ℕ
-bank_rows bank =
-    title (codes "bank") bank ++ (bank_row bank as_text (codes "event") ++ (bank_row bank as_decimal (codes "number[31:0]")
-    ++ (bank_row bank as_decimal (codes "block[31:0]") ++ (bank_request_rows bank ++ bank_register_rows bank))))
+-- the block that a register holds, and how many targets wait in it
+abbrev pub register_row : Level → ℕ → ℕ → List ℕ
+register_row level bank register =
+    bank_row bank as_decimal (level_text level ++ (codes "_register" ++ (decimal register ++ codes "[31:0]")))
+    ++ bank_row bank as_decimal (level_text level ++ (codes "_targets" ++ (decimal register ++ codes "[15:0]")))
 
-abbrev pub all_bank_rows : ℕ → List ℕ
-all_bank_rows banks = flat_map bank_rows (range_with_len 0 banks)
+abbrev pub register_rows : ℕ → Level → ℕ → List ℕ
+register_rows registers level bank = flat_map (register_row level bank) (range_with_len 0 registers)
+
+abbrev pub level_rows : View → ℕ → List ℕ
+level_rows view bank = register_rows view.level1_registers levels.One bank ++ register_rows view.level2_registers levels.Two bank
+
+abbrev pub bank_rows : View → ℕ → List ℕ
+bank_rows view bank =
+    title (codes "bank") bank ++ (bank_row bank as_text (codes "event") ++ (bank_row bank as_decimal (codes "number[31:0]")
+    ++ (bank_row bank as_decimal (codes "block[31:0]") ++ (bank_request_rows bank ++ (bank_register_rows bank ++ level_rows view bank)))))
+
+abbrev pub all_bank_rows : View → ℕ → List ℕ
+all_bank_rows view banks = flat_map (bank_rows view) (range_with_len 0 banks)
 
 -- ---- the file
 
@@ -81,4 +95,4 @@ marked_at None = codes "-1"
 abbrev pub save_text : View → ℕ → ℕ → List ℕ
 save_text view ports banks =
     codes "[timestart] " ++ (decimal (opens_at view) ++ (codes "000\n[size] 1600 900\n*-10.5 " ++ (marked_at view.marker
-    ++ (codes "\n[signals_width] 210\n@28\nscore.fault\n@820\nscore.rule\n" ++ (all_port_rows view.tags ports ++ all_bank_rows banks)))))
+    ++ (codes "\n[signals_width] 210\n@28\nscore.fault\n@820\nscore.rule\n" ++ (all_port_rows view.tags ports ++ all_bank_rows view banks)))))

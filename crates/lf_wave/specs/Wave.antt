@@ -15,8 +15,8 @@ use Rattle.lf_wave.specs.declared.signal.Signal.{Signal}
 use Rattle.lf_wave.specs.declared.signal.Signal.TheVariants as signals
 use Rattle.lf_wave.specs.declared.view.Marker.{Marker}
 use Rattle.lf_wave.specs.declared.view.View.{View}
-use Rattle.lf_wave.specs.Registers.{in_use, level1_after, level2_after}
-use Rattle.lf_wave.specs.Signals.{line, bit_change, number_change, text_change, busy_change}
+use Rattle.lf_wave.specs.Registers.{is_of_block, register_of, in_use, level1_after, level2_after}
+use Rattle.lf_wave.specs.Signals.{line, bit_change, number_change, text_change, busy_change, held_change, freed_change}
 
 -- ---- busy tags: an issue makes its tag busy, and a reply frees it
 
@@ -84,15 +84,42 @@ named_by tags busy log bank number event = number_change number (signals.Number 
 abbrev pub record_changes : ℕ → ℕ → Record → List ℕ
 record_changes tags busy r = text_change (word_of r.event) (event_signal r.log r.bank r.event) ++ named_by tags busy r.log r.bank r.number r.event
 
--- how many registers of its bank are held where it may change them
-abbrev pub register_changes : ℕ → ℕ → ℕ → Event → List ℕ
-register_changes level1 level2 bank (events.Primary port tag register) = number_change level1 (signals.InUse levels.One bank)
-register_changes level1 level2 bank (events.Merge port tag register) = number_change level1 (signals.InUse levels.One bank)
-register_changes level1 level2 bank (events.Fill1 block bytes) = number_change level1 (signals.InUse levels.One bank)
-register_changes level1 level2 bank (events.SecondPrimary block register) = number_change level2 (signals.InUse levels.Two bank)
-register_changes level1 level2 bank (events.SecondMerge block register) = number_change level2 (signals.InUse levels.Two bank)
-register_changes level1 level2 bank (events.Fill2 second bytes) = number_change level2 (signals.InUse levels.Two bank)
-register_changes level1 level2 bank event = []
+-- ---- the registers that it changes, of which so many of each level have signals
+
+-- a register that is freed by the fill of this block
+abbrev pub freed_by : ℕ → Level → ℕ → ℕ → HeldRegister → List ℕ
+freed_by registers level bank block h = if is_of_block bank block h then freed_change registers level bank h.register else []
+
+abbrev pub freed_registers : ℕ → Level → ℕ → ℕ → List HeldRegister → List ℕ
+freed_registers registers level bank block held = flat_map (freed_by registers level bank block) held
+
+-- the registers that a fill frees, of those that are held before it
+abbrev pub fill_changes : View → List HeldRegister → List HeldRegister → ℕ → Event → List ℕ
+fill_changes view level1 level2 bank (events.Fill1 block bytes) = freed_registers view.level1_registers levels.One bank block level1
+fill_changes view level1 level2 bank (events.Fill2 second bytes) = freed_registers view.level2_registers levels.Two bank second level2
+fill_changes view level1 level2 bank event = []
+
+abbrev pub held_if : ℕ → Level → Option HeldRegister → List ℕ
+held_if registers level (Some h) = held_change registers level h
+held_if registers level None = []
+
+-- how many registers of the bank are held
+abbrev pub count_change : Level → List HeldRegister → ℕ → List ℕ
+count_change level held bank = number_change (in_use held bank) (signals.InUse level bank)
+
+-- the register that a miss names, and how many are held
+abbrev pub miss_changes : ℕ → Level → List HeldRegister → ℕ → ℕ → List ℕ
+miss_changes registers level held bank register = held_if registers level (register_of held bank register) ++ count_change level held bank
+
+-- what it changes, where these registers are held after it
+abbrev pub register_changes : View → List HeldRegister → List HeldRegister → ℕ → Event → List ℕ
+register_changes view level1 level2 bank (events.Primary port tag register) = miss_changes view.level1_registers levels.One level1 bank register
+register_changes view level1 level2 bank (events.Merge port tag register) = miss_changes view.level1_registers levels.One level1 bank register
+register_changes view level1 level2 bank (events.Fill1 block bytes) = count_change levels.One level1 bank
+register_changes view level1 level2 bank (events.SecondPrimary block register) = miss_changes view.level2_registers levels.Two level2 bank register
+register_changes view level1 level2 bank (events.SecondMerge block register) = miss_changes view.level2_registers levels.Two level2 bank register
+register_changes view level1 level2 bank (events.Fill2 second bytes) = count_change levels.Two level2 bank
+register_changes view level1 level2 bank event = []
 
 -- ---- the wave
 
@@ -107,17 +134,18 @@ standing_tag tags busy b = busy_change tags true b.port b.tag ++ number_change (
 abbrev pub standing_tags : ℕ → List BusyTag → List ℕ
 standing_tags tags busy = flat_map (standing_tag tags busy) busy
 
--- a register that is held there gives the number of its bank
-abbrev pub standing_register : Level → List HeldRegister → HeldRegister → List ℕ
-standing_register level held h = number_change (in_use held h.bank) (signals.InUse level h.bank)
+-- a register that is held there, and how many of its bank are
+abbrev pub standing_register : ℕ → Level → List HeldRegister → HeldRegister → List ℕ
+standing_register registers level held h = held_change registers level h ++ count_change level held h.bank
 
-abbrev pub standing_registers : Level → List HeldRegister → List ℕ
-standing_registers level held = flat_map (standing_register level held) held
+abbrev pub standing_registers : ℕ → Level → List HeldRegister → List ℕ
+standing_registers registers level held = flat_map (standing_register registers level held) held
 
 abbrev pub standing : View → ℕ → List BusyTag → List HeldRegister → List HeldRegister → List ℕ
 standing view place busy level1 level2 =
     if place == view.from
-    then standing_tags view.tags busy ++ (standing_registers levels.One level1 ++ standing_registers levels.Two level2)
+    then standing_tags view.tags busy
+    ++ (standing_registers view.level1_registers levels.One level1 ++ standing_registers view.level2_registers levels.Two level2)
     else []
 
 abbrev pub rule_named : Option Rule → List ℕ
@@ -129,16 +157,24 @@ abbrev pub mark : Option Marker → ℕ → List ℕ
 mark (Some m) place = if place == m.place then bit_change true signals.Fault ++ rule_named m.rule else []
 mark None place = []
 
--- A record at its place, where these tags are busy and these registers of each level are held then. It has one nanosecond, and its word is taken away before the next one.
+-- A record begins at its place, where these registers of each level are held before it.
+abbrev pub beginning : View → ℕ → List HeldRegister → List HeldRegister → Record → List ℕ
+beginning view place level1 level2 r = time place (codes "0") ++ fill_changes view level1 level2 r.bank r.event
+
+-- The rest of it, where these tags are busy and these registers are held after it. It has one nanosecond, and its word is taken
+-- away before the next one.
 abbrev pub moment : View → ℕ → List BusyTag → List HeldRegister → List HeldRegister → Record → List ℕ
 moment view place busy level1 level2 r =
-    time place (codes "0") ++ (standing view place busy level1 level2 ++ (mark view.marker place
+    standing view place busy level1 level2 ++ (mark view.marker place
     ++ (record_changes view.tags (outstanding busy r.log) r
-    ++ (register_changes (in_use level1 r.bank) (in_use level2 r.bank) r.bank r.event
-    ++ (time place (codes "9") ++ text_change [] (event_signal r.log r.bank r.event))))))
+    ++ (register_changes view level1 level2 r.bank r.event
+    ++ (time place (codes "9") ++ text_change [] (event_signal r.log r.bank r.event)))))
 
 abbrev pub is_shown : View → ℕ → Bool
 is_shown view place = nat_le view.from place && nat_le place view.to
+
+abbrev pub begun : View → ℕ → List HeldRegister → List HeldRegister → Record → List ℕ
+begun view place level1 level2 r = if is_shown view place then beginning view place level1 level2 r else []
 
 abbrev pub shown : View → ℕ → List BusyTag → List HeldRegister → List HeldRegister → Record → List ℕ
 shown view place busy level1 level2 r = if is_shown view place then moment view place busy level1 level2 r else []
@@ -171,7 +207,8 @@ drawn_after wave (r ∷ records) = drawn_after (next wave r) records
 
 -- the wave of the record that comes next
 abbrev pub next_shown : Drawn → Record → List ℕ
-next_shown wave r = shown wave.view wave.place (next wave r).busy (next wave r).level1 (next wave r).level2 r
+next_shown wave r =
+    begun wave.view wave.place wave.level1 wave.level2 r ++ shown wave.view wave.place (next wave r).busy (next wave r).level1 (next wave r).level2 r
 
 -- the wave of these records, from here on
 abbrev pub wave_from : Drawn → List Record → List ℕ

@@ -1,8 +1,10 @@
 //! The lines that give a signal a value.
 
 ghost use Rattle.std.specs.Prelude.{◌≡◌, Some};
-ghost use Rattle.lf_wave.specs.Signals.{bit_text, bit_change, number_change, text_change, busy_change};
+ghost use Rattle.lf_wave.specs.Signals.{bit_text, bit_change, number_change, absence_change, text_change, busy_change};
+ghost use Rattle.lf_wave.specs.Signals.{held_change, free_change, freed_change};
 
+use crate::registers::{HeldRegister, Level};
 use crate::signal::Signal;
 use std::fmt;
 
@@ -53,6 +55,21 @@ impl fmt::Display for NumberChange {
     }
 }
 
+/// A signal has no number from now on.
+#[derive(Clone, Copy)]
+struct AbsenceChange {
+    signal: Signal,
+}
+
+impl fmt::Display for AbsenceChange {
+    ghost output = { λ change. Some (absence_change change.signal) };
+
+    fn fmt<W: fmt::Write>(&self, f: &mut fmt::Formatter<W>) -> fmt::Result {
+        let signal = self.signal;
+        write!(f, "bz {signal}\n")
+    }
+}
+
 /// A signal is this text from now on.
 #[derive(Clone, Copy)]
 pub struct TextChange<'a> {
@@ -95,6 +112,115 @@ impl fmt::Display for BusyChange {
                 signal: Signal::Busy { port, tag },
             };
             write!(f, "{change}")
+        } else {
+            Ok(())
+        }
+    }
+}
+
+/// What a register holds from now on, where it is one of those that have signals.
+#[derive(Clone, Copy)]
+pub struct HeldChange {
+    pub registers: u16,
+    pub level: Level,
+    pub held: HeldRegister,
+}
+
+impl fmt::Display for HeldChange {
+    ghost output = { λ change. Some (held_change change.registers change.level change.held) };
+
+    fn fmt<W: fmt::Write>(&self, f: &mut fmt::Formatter<W>) -> fmt::Result {
+        let HeldChange {
+            registers,
+            level,
+            held,
+        } = *self;
+        let HeldRegister {
+            bank,
+            register,
+            block,
+            targets,
+        } = held;
+        if register < registers {
+            let signal = Signal::HeldBlock {
+                level,
+                bank,
+                register,
+            };
+            let block = NumberChange::new(block, signal);
+            let signal = Signal::Targets {
+                level,
+                bank,
+                register,
+            };
+            let targets = NumberChange::new(targets, signal);
+            write!(f, "{block}{targets}")
+        } else {
+            Ok(())
+        }
+    }
+}
+
+/// A register holds no block from now on.
+#[derive(Clone, Copy)]
+pub struct FreeChange {
+    pub level: Level,
+    pub bank: u8,
+    pub register: u16,
+}
+
+impl fmt::Display for FreeChange {
+    ghost output = { λ change. Some (free_change change.level change.bank change.register) };
+
+    fn fmt<W: fmt::Write>(&self, f: &mut fmt::Formatter<W>) -> fmt::Result {
+        let FreeChange {
+            level,
+            bank,
+            register,
+        } = *self;
+        let block = AbsenceChange {
+            signal: Signal::HeldBlock {
+                level,
+                bank,
+                register,
+            },
+        };
+        let signal = Signal::Targets {
+            level,
+            bank,
+            register,
+        };
+        let targets = NumberChange::new(0, signal);
+        write!(f, "{block}{targets}")
+    }
+}
+
+/// The same, where it is one of those that have signals.
+#[derive(Clone, Copy)]
+pub struct FreedChange {
+    pub registers: u16,
+    pub level: Level,
+    pub bank: u8,
+    pub register: u16,
+}
+
+impl fmt::Display for FreedChange {
+    ghost output = { λ change. Some (freed_change change.registers change.level change.bank change.register) };
+
+    fn fmt<W: fmt::Write>(&self, f: &mut fmt::Formatter<W>) -> fmt::Result {
+        let FreedChange {
+            registers,
+            level,
+            bank,
+            register,
+        } = *self;
+        if register < registers {
+            let free = FreeChange {
+                level,
+                bank,
+                register,
+            };
+            write!(f, "{free}")
         } else {
             Ok(())
         }

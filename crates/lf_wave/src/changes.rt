@@ -1,11 +1,10 @@
 //! What a record changes.
 
 ghost use Rattle.std.specs.Prelude.{◌≡◌, Some};
-ghost use Rattle.lf_wave.specs.Wave.{port_changes, request_changes, bank_changes, record_changes, register_changes};
+ghost use Rattle.lf_wave.specs.Wave.{port_changes, request_changes, bank_changes, record_changes};
 
 use crate::change::{BusyChange, NumberChange, TextChange};
 use crate::event::{event_signal, word_of};
-use crate::registers::Level;
 use crate::signal::Signal;
 use lf_rules::{Event, Record};
 use std::fmt;
@@ -175,37 +174,6 @@ impl fmt::Display for RecordChanges<'_> {
                 let named = BankChanges { bank, event };
                 write!(f, "{word}{number}{named}")
             }
-        }
-    }
-}
-
-/// How many registers of its bank are held, where a record may change it.
-#[derive(Clone, Copy)]
-pub struct RegisterChanges<'a> {
-    /// Those of level one that are held then.
-    pub level1: u64,
-    /// Those of level two.
-    pub level2: u64,
-    pub item: &'a Record,
-}
-
-impl fmt::Display for RegisterChanges<'_> {
-    ghost output = { λ c. Some (register_changes c.level1 c.level2 c.item.now.bank c.item.now.event) };
-
-    fn fmt<W: fmt::Write>(&self, f: &mut fmt::Formatter<W>) -> fmt::Result {
-        let bank = self.item.bank;
-        match &self.item.event {
-            Event::Primary { .. } | Event::Merge { .. } | Event::Fill1 { .. } => {
-                let level = Level::One;
-                let count = NumberChange::new(self.level1, Signal::InUse { level, bank });
-                write!(f, "{count}")
-            }
-            Event::SecondPrimary { .. } | Event::SecondMerge { .. } | Event::Fill2 { .. } => {
-                let level = Level::Two;
-                let count = NumberChange::new(self.level2, Signal::InUse { level, bank });
-                write!(f, "{count}")
-            }
-            _ => Ok(()),
         }
     }
 }

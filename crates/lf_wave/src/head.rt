@@ -2,11 +2,13 @@
 
 ghost use Rattle.std.specs.Prelude.{Some};
 ghost use Rattle.lf_wave.specs.Head.{scope_begin, scope_end, port_scope, port_scopes, bank_scope, bank_scopes, scopes};
-ghost use Rattle.lf_wave.specs.Head.{tag_starts, port_start, port_starts, bank_starts, start, head_text, port_values, bank_values};
-ghost use Rattle.lf_wave.specs.Head.{register_values, bank_start};
+ghost use Rattle.lf_wave.specs.Head.{tag_starts, port_start, port_starts, bank_starts, start, head_text};
+ghost use Rattle.lf_wave.specs.Head.{port_values, bank_values, register_values};
+ghost use Rattle.lf_wave.specs.Head.{held_variable, targets_variable, register_variable, register_variables};
+ghost use Rattle.lf_wave.specs.Head.{register_starts, bank_start};
 ghost use Rattle.lf_wave.specs.Head.{tag_variable, tag_variables};
 
-use crate::change::{BitChange, NumberChange, TextChange};
+use crate::change::{BitChange, FreeChange, NumberChange, TextChange};
 use crate::moment::Time;
 use crate::registers::Level;
 use crate::signal::Signal;
@@ -235,40 +237,168 @@ impl fmt::Display for RegisterValues {
     }
 }
 
-/// The scope of a bank.
+/// The line of the block that a register holds.
 #[derive(Clone, Copy)]
-struct BankScope {
+struct HeldVariable {
+    level: Level,
+    bank: u8,
+    register: u16,
+}
+
+impl fmt::Display for HeldVariable {
+    ghost output = { λ v. Some (held_variable v.level v.bank v.register) };
+
+    fn fmt<W: fmt::Write>(&self, f: &mut fmt::Formatter<W>) -> fmt::Result {
+        let HeldVariable {
+            level,
+            bank,
+            register,
+        } = *self;
+        let signal = Signal::HeldBlock {
+            level,
+            bank,
+            register,
+        };
+        write!(
+            f,
+            "$var wire 32 {signal} {level}_register{register} [31:0] $end\n"
+        )
+    }
+}
+
+/// The line of the targets that wait in it.
+#[derive(Clone, Copy)]
+struct TargetsVariable {
+    level: Level,
+    bank: u8,
+    register: u16,
+}
+
+impl fmt::Display for TargetsVariable {
+    ghost output = { λ v. Some (targets_variable v.level v.bank v.register) };
+
+    fn fmt<W: fmt::Write>(&self, f: &mut fmt::Formatter<W>) -> fmt::Result {
+        let TargetsVariable {
+            level,
+            bank,
+            register,
+        } = *self;
+        let signal = Signal::Targets {
+            level,
+            bank,
+            register,
+        };
+        write!(
+            f,
+            "$var wire 16 {signal} {level}_targets{register} [15:0] $end\n"
+        )
+    }
+}
+
+/// Both lines of a register.
+#[derive(Clone, Copy)]
+struct RegisterVariable {
+    level: Level,
+    bank: u8,
+    register: u16,
+}
+
+impl fmt::Display for RegisterVariable {
+    ghost output = { λ v. Some (register_variable v.level v.bank v.register) };
+
+    fn fmt<W: fmt::Write>(&self, f: &mut fmt::Formatter<W>) -> fmt::Result {
+        let RegisterVariable {
+            level,
+            bank,
+            register,
+        } = *self;
+        let held = HeldVariable {
+            level,
+            bank,
+            register,
+        };
+        let targets = TargetsVariable {
+            level,
+            bank,
+            register,
+        };
+        write!(f, "{held}{targets}")
+    }
+}
+
+/// Those of the registers of a level.
+#[derive(Clone, Copy)]
+struct RegisterVariables {
+    registers: u16,
+    level: Level,
     bank: u8,
 }
 
-impl fmt::Display for BankScope {
-    ghost output = { λ s. Some (bank_scope s.bank) };
+impl fmt::Display for RegisterVariables {
+    ghost output = { λ v. Some (register_variables v.registers v.level v.bank) };
 
     fn fmt<W: fmt::Write>(&self, f: &mut fmt::Formatter<W>) -> fmt::Result {
-        let bank = self.bank;
+        for register in 0..self.registers {
+            let variable = RegisterVariable {
+                level: self.level,
+                bank: self.bank,
+                register,
+            };
+            write!(f, "{variable}")?;
+        }
+        Ok(())
+    }
+}
+
+/// The scope of a bank.
+#[derive(Clone, Copy)]
+struct BankScope<'a> {
+    view: &'a View,
+    bank: u8,
+}
+
+impl fmt::Display for BankScope<'_> {
+    ghost output = { λ s. Some (bank_scope s.view.now s.bank) };
+
+    fn fmt<W: fmt::Write>(&self, f: &mut fmt::Formatter<W>) -> fmt::Result {
+        let BankScope { view, bank } = *self;
         let begin = ScopeBegin {
             kind: "bank",
             index: bank,
         };
         let values = BankValues { bank };
-        let registers = RegisterValues { bank };
+        let counts = RegisterValues { bank };
+        let level1 = RegisterVariables {
+            registers: view.level1_registers,
+            level: Level::One,
+            bank,
+        };
+        let level2 = RegisterVariables {
+            registers: view.level2_registers,
+            level: Level::Two,
+            bank,
+        };
         let end = ScopeEnd;
-        write!(f, "{begin}{values}{registers}{end}")
+        write!(f, "{begin}{values}{counts}{level1}{level2}{end}")
     }
 }
 
 /// The scopes of all banks.
 #[derive(Clone, Copy)]
-struct BankScopes {
+struct BankScopes<'a> {
+    view: &'a View,
     banks: u8,
 }
 
-impl fmt::Display for BankScopes {
-    ghost output = { λ s. Some (bank_scopes s.banks) };
+impl fmt::Display for BankScopes<'_> {
+    ghost output = { λ s. Some (bank_scopes s.view.now s.banks) };
 
     fn fmt<W: fmt::Write>(&self, f: &mut fmt::Formatter<W>) -> fmt::Result {
         for bank in 0..self.banks {
-            let scope = BankScope { bank };
+            let scope = BankScope {
+                view: self.view,
+                bank,
+            };
             write!(f, "{scope}")?;
         }
         Ok(())
@@ -277,17 +407,17 @@ impl fmt::Display for BankScopes {
 
 /// All scopes.
 #[derive(Clone, Copy)]
-struct Scopes {
-    tags: u16,
+struct Scopes<'a> {
+    view: &'a View,
     ports: u8,
     banks: u8,
 }
 
-impl fmt::Display for Scopes {
-    ghost output = { λ s. Some (scopes s.tags s.ports s.banks) };
+impl fmt::Display for Scopes<'_> {
+    ghost output = { λ s. Some (scopes s.view.now s.ports s.banks) };
 
     fn fmt<W: fmt::Write>(&self, f: &mut fmt::Formatter<W>) -> fmt::Result {
-        let Scopes { tags, ports, banks } = *self;
+        let Scopes { view, ports, banks } = *self;
         let fault = NumberVariable {
             width: 1,
             signal: Signal::Fault,
@@ -297,8 +427,11 @@ impl fmt::Display for Scopes {
             signal: Signal::Rule,
             name: "rule",
         };
-        let ports = PortScopes { tags, ports };
-        let banks = BankScopes { banks };
+        let ports = PortScopes {
+            tags: view.tags,
+            ports,
+        };
+        let banks = BankScopes { view, banks };
         let end = ScopeEnd;
         write!(
             f,
@@ -376,41 +509,80 @@ impl fmt::Display for PortStarts {
     }
 }
 
-/// A bank with no record yet and no register held.
+/// The registers of a level, all free.
 #[derive(Clone, Copy)]
-struct BankStart {
+struct RegisterStarts {
+    registers: u16,
+    level: Level,
     bank: u8,
 }
 
-impl fmt::Display for BankStart {
-    ghost output = { λ s. Some (bank_start s.bank) };
+impl fmt::Display for RegisterStarts {
+    ghost output = { λ s. Some (register_starts s.registers s.level s.bank) };
 
     fn fmt<W: fmt::Write>(&self, f: &mut fmt::Formatter<W>) -> fmt::Result {
-        let bank = self.bank;
+        for register in 0..self.registers {
+            let free = FreeChange {
+                level: self.level,
+                bank: self.bank,
+                register,
+            };
+            write!(f, "{free}")?;
+        }
+        Ok(())
+    }
+}
+
+/// A bank with no record yet and no register held.
+#[derive(Clone, Copy)]
+struct BankStart<'a> {
+    view: &'a View,
+    bank: u8,
+}
+
+impl fmt::Display for BankStart<'_> {
+    ghost output = { λ s. Some (bank_start s.view.now s.bank) };
+
+    fn fmt<W: fmt::Write>(&self, f: &mut fmt::Formatter<W>) -> fmt::Result {
+        let BankStart { view, bank } = *self;
         let word = TextChange {
             text: "",
             signal: Signal::BankEvent { bank },
         };
         let level = Level::One;
-        let level1 = NumberChange::new(0, Signal::InUse { level, bank });
+        let none1 = NumberChange::new(0, Signal::InUse { level, bank });
+        let free1 = RegisterStarts {
+            registers: view.level1_registers,
+            level,
+            bank,
+        };
         let level = Level::Two;
-        let level2 = NumberChange::new(0, Signal::InUse { level, bank });
-        write!(f, "{word}{level1}{level2}")
+        let none2 = NumberChange::new(0, Signal::InUse { level, bank });
+        let free2 = RegisterStarts {
+            registers: view.level2_registers,
+            level,
+            bank,
+        };
+        write!(f, "{word}{none1}{none2}{free1}{free2}")
     }
 }
 
 /// All banks at first.
 #[derive(Clone, Copy)]
-struct BankStarts {
+struct BankStarts<'a> {
+    view: &'a View,
     banks: u8,
 }
 
-impl fmt::Display for BankStarts {
-    ghost output = { λ s. Some (bank_starts s.banks) };
+impl fmt::Display for BankStarts<'_> {
+    ghost output = { λ s. Some (bank_starts s.view.now s.banks) };
 
     fn fmt<W: fmt::Write>(&self, f: &mut fmt::Formatter<W>) -> fmt::Result {
         for bank in 0..self.banks {
-            let start = BankStart { bank };
+            let start = BankStart {
+                view: self.view,
+                bank,
+            };
             write!(f, "{start}")?;
         }
         Ok(())
@@ -445,7 +617,10 @@ impl fmt::Display for Start<'_> {
             tags: self.view.tags,
             ports: self.ports,
         };
-        let banks = BankStarts { banks: self.banks };
+        let banks = BankStarts {
+            view: self.view,
+            banks: self.banks,
+        };
         write!(f, "{time}$dumpvars\n{fine}{rule}{ports}{banks}$end\n")
     }
 }
@@ -463,11 +638,7 @@ impl fmt::Display for Head<'_> {
 
     fn fmt<W: fmt::Write>(&self, f: &mut fmt::Formatter<W>) -> fmt::Result {
         let Head { view, ports, banks } = *self;
-        let scopes = Scopes {
-            tags: view.tags,
-            ports,
-            banks,
-        };
+        let scopes = Scopes { view, ports, banks };
         let start = Start { view, ports, banks };
         write!(
             f,

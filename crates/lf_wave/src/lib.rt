@@ -1,9 +1,9 @@
 //! The waveform of a trace, in the text form VCD that GTKWave and other viewers read.
 //!
 //! The records of a trace stand at one nanosecond each, in the order of the file. A port and a bank each
-//! have a scope, with the word of their record, what it names, and for a port its busy tags, for a bank how
-//! many of its registers are held. `specs/Wave` says the text exactly: what stands at the head, and what each
-//! record changes.
+//! have a scope, with the word of their record, what it names, and for a port its busy tags, for a bank the
+//! block that each register holds and how many targets wait in it. `specs/Wave` says the text exactly: what
+//! stands at the head, and what each record changes.
 #![tactic(auto)]
 
 mod busy;
@@ -12,6 +12,7 @@ mod changes;
 mod event;
 mod head;
 mod moment;
+mod register_changes;
 mod registers;
 mod save;
 mod signal;

@@ -1,14 +1,14 @@
 //! A record at its place.
 
 ghost use Rattle.std.specs.Prelude.{Some};
-ghost use Rattle.lf_wave.specs.Wave.{time, standing_tag, standing_tags, standing_register, standing_registers, standing};
-ghost use Rattle.lf_wave.specs.Wave.{rule_named, mark, moment};
+ghost use Rattle.lf_wave.specs.Wave.{time, standing_tag, standing_tags, standing, rule_named, mark, beginning, moment};
 
 use crate::busy::{BusyTag, outstanding};
 use crate::change::{BitChange, BusyChange, NumberChange, TextChange};
-use crate::changes::{RecordChanges, RegisterChanges};
+use crate::changes::RecordChanges;
 use crate::event::event_signal;
-use crate::registers::{HeldRegister, Level, in_use};
+use crate::register_changes::{FillChanges, RegisterChanges, StandingRegisters};
+use crate::registers::{HeldRegister, Level};
 use crate::signal::Signal;
 use crate::view::{Marker, View};
 use lf_rules::{Record, Rule};
@@ -78,29 +78,6 @@ impl fmt::Display for StandingTags<'_> {
     }
 }
 
-/// The registers of a level that are held where the wave begins: each gives the number of its bank.
-#[derive(Clone, Copy)]
-struct StandingRegisters<'a> {
-    level: Level,
-    held: &'a [HeldRegister],
-}
-
-impl fmt::Display for StandingRegisters<'_> {
-    ghost output = { λ s. Some (standing_registers s.level s.held.now) };
-
-    fn fmt<W: fmt::Write>(&self, f: &mut fmt::Formatter<W>) -> fmt::Result {
-        for entry in self.held {
-            let signal = Signal::InUse {
-                level: self.level,
-                bank: entry.bank,
-            };
-            let count = NumberChange::new(in_use(self.held, entry.bank), signal);
-            write!(f, "{count}")?;
-        }
-        Ok(())
-    }
-}
-
 /// All these at the first record that is shown, and nothing at another one.
 #[derive(Clone, Copy)]
 struct Standing<'a> {
@@ -121,10 +98,12 @@ impl fmt::Display for Standing<'_> {
                 busy: self.busy,
             };
             let level1 = StandingRegisters {
+                registers: self.view.level1_registers,
                 level: Level::One,
                 held: self.level1,
             };
             let level2 = StandingRegisters {
+                registers: self.view.level2_registers,
                 level: Level::Two,
                 held: self.level2,
             };
@@ -180,7 +159,39 @@ impl fmt::Display for Mark {
     }
 }
 
-/// A record at its place, where these tags are busy and these registers of each level are held then.
+/// A record begins at its place, where these registers of each level are held before it.
+#[derive(Clone, Copy)]
+pub struct Beginning<'a> {
+    pub view: &'a View,
+    pub place: u64,
+    pub level1: &'a [HeldRegister],
+    pub level2: &'a [HeldRegister],
+    pub item: &'a Record,
+}
+
+impl fmt::Display for Beginning<'_> {
+    ghost output = { λ b. Some (beginning b.view.now b.place b.level1.now b.level2.now b.item.now) };
+
+    fn fmt<W: fmt::Write>(&self, f: &mut fmt::Formatter<W>) -> fmt::Result {
+        let Beginning {
+            view,
+            place,
+            level1,
+            level2,
+            item,
+        } = *self;
+        let begin = Time { place, tenth: "0" };
+        let freed = FillChanges {
+            view,
+            level1,
+            level2,
+            item,
+        };
+        write!(f, "{begin}{freed}")
+    }
+}
+
+/// The rest of a record, where these tags are busy and these registers of each level are held after it.
 #[derive(Clone, Copy)]
 pub struct Moment<'a> {
     pub view: &'a View,
@@ -203,7 +214,6 @@ impl fmt::Display for Moment<'_> {
             level2,
             item,
         } = *self;
-        let begin = Time { place, tenth: "0" };
         let standing = Standing {
             view,
             place,
@@ -221,8 +231,9 @@ impl fmt::Display for Moment<'_> {
             item,
         };
         let registers = RegisterChanges {
-            level1: in_use(level1, item.bank),
-            level2: in_use(level2, item.bank),
+            view,
+            level1,
+            level2,
             item,
         };
         let end = Time { place, tenth: "9" };
@@ -230,9 +241,6 @@ impl fmt::Display for Moment<'_> {
             text: "",
             signal: event_signal(item),
         };
-        write!(
-            f,
-            "{begin}{standing}{mark}{changes}{registers}{end}{cleared}"
-        )
+        write!(f, "{standing}{mark}{changes}{registers}{end}{cleared}")
     }
 }

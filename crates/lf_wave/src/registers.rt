@@ -1,19 +1,35 @@
-//! The registers that are held.
+//! The registers that are held, and how many targets wait in each.
 
 ghost use Rattle.std.specs.Prelude.{◌≡◌, ◌==◌, ◌++◌, ◌∷◌, [], filter, OnOk};
 ghost use Rattle.std.specs.List.{find};
-ghost use Rattle.lf_wave.specs.Registers.{block_within, is_tag, block_missed, is_other_register, is_of_other_block};
-ghost use Rattle.lf_wave.specs.Registers.{held_for, filled, in_use, level1_after, level2_after};
+ghost use Rattle.lf_wave.specs.Registers.{block_within, is_tag, block_missed, is_register, is_other_register};
+ghost use Rattle.lf_wave.specs.Registers.{register_of, one_more, held_for, taken_for, joined_for};
+ghost use Rattle.lf_wave.specs.Registers.{is_of_block, is_of_other_block, filled, in_use, level1_after, level2_after};
 
 use crate::busy::BusyTag;
 use lf_rules::{Event, Record};
 use std::alloc::AllocError;
+use std::fmt;
 
 /// A level of the hierarchy.
 #[derive(Clone, Copy, Debug, PartialEq, Eq)]
 pub enum Level {
     One,
     Two,
+}
+
+impl fmt::Display for Level {
+    ghost use Rattle.std.specs.Prelude.{Some};
+    ghost use Rattle.lf_wave.specs.Signals.{level_text};
+
+    ghost output = { λ level. Some (level_text level) };
+
+    fn fmt<W: fmt::Write>(&self, f: &mut fmt::Formatter<W>) -> fmt::Result {
+        match self {
+            Level::One => write!(f, "level1"),
+            Level::Two => write!(f, "level2"),
+        }
+    }
 }
 
 /// A register, from its primary miss until its block is filled.
@@ -23,6 +39,41 @@ pub struct HeldRegister {
     pub register: u16,
     /// At level two a second-level block.
     pub block: u64,
+    /// How many targets wait in it.
+    pub targets: u64,
+}
+
+impl HeldRegister {
+    /// Whether it is this register of this bank.
+    fn is(&self, bank: u8, register: u16) -> bool
+        ensures { result ≡ is_register bank register self.now }
+    {
+        self.bank == bank && self.register == register
+    }
+
+    /// Whether it holds this block of this bank.
+    pub fn is_of_block(&self, bank: u8, block: u64) -> bool
+        ensures { result ≡ is_of_block bank block self.now }
+    {
+        self.bank == bank && self.block == block
+    }
+}
+
+/// What a register holds, where it is held.
+pub(crate) fn register_of(held: &[HeldRegister], bank: u8, register: u16) -> Option<HeldRegister>
+    ensures { result ≡ register_of held.now bank register }
+{
+    held.iter().copied().find(|h| h.is(bank, register))
+}
+
+/// The targets of a register with one more.
+fn one_more(h: Option<HeldRegister>) -> u64
+    ensures { result ≡ one_more h }
+{
+    match h {
+        Some(h) => h.targets.saturating_add(1),
+        None => 1,
+    }
 }
 
 /// The block of an address, or the second-level block of a block.
@@ -63,14 +114,15 @@ fn free(held: &mut Vec<HeldRegister>, bank: u8, register: u16)
     held.retain(|h| h.bank != bank || h.register != register);
 }
 
-/// A miss to a block holds the register that it names.
+/// A miss to a block holds the register that it names, in which so many targets wait then.
 fn hold(
     held: &mut Vec<HeldRegister>,
     block: Option<u64>,
     bank: u8,
     register: u16,
+    targets: u64,
 ) -> Result<(), AllocError>
-    ensures { OnOk result (held.new.items ≡ held_for block bank register held.old.items) }
+    ensures { OnOk result (held.new.items ≡ held_for block bank register targets held.old.items) }
 {
     let Some(block) = block else {
         return Ok(());
@@ -80,8 +132,34 @@ fn hold(
         bank,
         register,
         block,
+        targets,
     })?;
     Ok(())
+}
+
+/// A primary miss is the first target of its register.
+fn take(
+    held: &mut Vec<HeldRegister>,
+    block: Option<u64>,
+    bank: u8,
+    register: u16,
+) -> Result<(), AllocError>
+    ensures { OnOk result (held.new.items ≡ taken_for block bank register held.old.items) }
+{
+    hold(held, block, bank, register, 1)
+}
+
+/// A merge is one more.
+fn join(
+    held: &mut Vec<HeldRegister>,
+    block: Option<u64>,
+    bank: u8,
+    register: u16,
+) -> Result<(), AllocError>
+    ensures { OnOk result (held.new.items ≡ joined_for block bank register held.old.items) }
+{
+    let targets = one_more(register_of(held, bank, register));
+    hold(held, block, bank, register, targets)
 }
 
 /// A block's fill frees its registers.
@@ -105,14 +183,17 @@ pub(crate) fn apply_level1(
             port,
             tag,
             register,
+        } => {
+            let block = block_missed(size, busy, *port, *tag);
+            take(held, block, item.bank, *register)
         }
-        | Event::Merge {
+        Event::Merge {
             port,
             tag,
             register,
         } => {
             let block = block_missed(size, busy, *port, *tag);
-            hold(held, block, item.bank, *register)
+            join(held, block, item.bank, *register)
         }
         Event::Fill1 { block, .. } => {
             fill(held, item.bank, u64::from(*block));
@@ -131,9 +212,13 @@ pub(crate) fn apply_level2(
     ensures { OnOk result (held.new.items ≡ level2_after factor item.now.bank item.now.event held.old.items) }
 {
     match &item.event {
-        Event::SecondPrimary { block, register } | Event::SecondMerge { block, register } => {
+        Event::SecondPrimary { block, register } => {
             let second = block_within(factor, u64::from(*block));
-            hold(held, second, item.bank, *register)
+            take(held, second, item.bank, *register)
+        }
+        Event::SecondMerge { block, register } => {
+            let second = block_within(factor, u64::from(*block));
+            join(held, second, item.bank, *register)
         }
         Event::Fill2 { block, .. } => {
             fill(held, item.bank, u64::from(*block));

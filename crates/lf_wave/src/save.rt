@@ -2,8 +2,11 @@
 
 ghost use Rattle.std.specs.Prelude.{◌≡◌, Some};
 ghost use Rattle.lf_wave.specs.Save.{port_row, bank_row, title, tag_row, tag_rows, port_rows, all_port_rows};
-ghost use Rattle.lf_wave.specs.Save.{bank_rows, bank_request_rows, bank_register_rows, all_bank_rows, opens_at, marked_at, save_text};
+ghost use Rattle.lf_wave.specs.Save.{bank_rows, bank_request_rows, bank_register_rows};
+ghost use Rattle.lf_wave.specs.Save.{register_row, register_rows, level_rows};
+ghost use Rattle.lf_wave.specs.Save.{all_bank_rows, opens_at, marked_at, save_text};
 
+use crate::registers::Level;
 use crate::view::{Marker, View};
 use std::fmt;
 
@@ -160,15 +163,16 @@ impl fmt::Display for AllPortRows {
 
 /// The signals of a bank.
 #[derive(Clone, Copy)]
-struct BankRows {
+struct BankRows<'a> {
+    view: &'a View,
     bank: u8,
 }
 
-impl fmt::Display for BankRows {
-    ghost output = { λ r. Some (bank_rows r.bank) };
+impl fmt::Display for BankRows<'_> {
+    ghost output = { λ r. Some (bank_rows r.view.now r.bank) };
 
     fn fmt<W: fmt::Write>(&self, f: &mut fmt::Formatter<W>) -> fmt::Result {
-        let bank = self.bank;
+        let BankRows { view, bank } = *self;
         let title = Title {
             scope: "bank",
             index: bank,
@@ -189,8 +193,12 @@ impl fmt::Display for BankRows {
             name: "block[31:0]",
         };
         let request = BankRequestRows { bank };
-        let registers = BankRegisterRows { bank };
-        write!(f, "{title}{event}{number}{block}{request}{registers}")
+        let counts = BankRegisterRows { bank };
+        let registers = LevelRows { view, bank };
+        write!(
+            f,
+            "{title}{event}{number}{block}{request}{counts}{registers}"
+        )
     }
 }
 
@@ -249,18 +257,97 @@ impl fmt::Display for BankRegisterRows {
     }
 }
 
+/// The block that a register holds, and how many targets wait in it.
+#[derive(Clone, Copy)]
+struct RegisterRow {
+    level: Level,
+    bank: u8,
+    register: u16,
+}
+
+impl fmt::Display for RegisterRow {
+    ghost output = { λ r. Some (register_row r.level r.bank r.register) };
+
+    fn fmt<W: fmt::Write>(&self, f: &mut fmt::Formatter<W>) -> fmt::Result {
+        let RegisterRow {
+            level,
+            bank,
+            register,
+        } = *self;
+        write!(
+            f,
+            "@24\nscore.bank{bank}.{level}_register{register}[31:0]\n"
+        )?;
+        write!(f, "@24\nscore.bank{bank}.{level}_targets{register}[15:0]\n")
+    }
+}
+
+/// The registers of a level of a bank.
+#[derive(Clone, Copy)]
+struct RegisterRows {
+    registers: u16,
+    level: Level,
+    bank: u8,
+}
+
+impl fmt::Display for RegisterRows {
+    ghost output = { λ r. Some (register_rows r.registers r.level r.bank) };
+
+    fn fmt<W: fmt::Write>(&self, f: &mut fmt::Formatter<W>) -> fmt::Result {
+        for register in 0..self.registers {
+            let row = RegisterRow {
+                level: self.level,
+                bank: self.bank,
+                register,
+            };
+            write!(f, "{row}")?;
+        }
+        Ok(())
+    }
+}
+
+/// Those of both levels.
+#[derive(Clone, Copy)]
+struct LevelRows<'a> {
+    view: &'a View,
+    bank: u8,
+}
+
+impl fmt::Display for LevelRows<'_> {
+    ghost output = { λ r. Some (level_rows r.view.now r.bank) };
+
+    fn fmt<W: fmt::Write>(&self, f: &mut fmt::Formatter<W>) -> fmt::Result {
+        let LevelRows { view, bank } = *self;
+        let level1 = RegisterRows {
+            registers: view.level1_registers,
+            level: Level::One,
+            bank,
+        };
+        let level2 = RegisterRows {
+            registers: view.level2_registers,
+            level: Level::Two,
+            bank,
+        };
+        write!(f, "{level1}{level2}")
+    }
+}
+
 /// The signals of all banks.
 #[derive(Clone, Copy)]
-struct AllBankRows {
+struct AllBankRows<'a> {
+    view: &'a View,
     banks: u8,
 }
 
-impl fmt::Display for AllBankRows {
-    ghost output = { λ r. Some (all_bank_rows r.banks) };
+impl fmt::Display for AllBankRows<'_> {
+    ghost output = { λ r. Some (all_bank_rows r.view.now r.banks) };
 
     fn fmt<W: fmt::Write>(&self, f: &mut fmt::Formatter<W>) -> fmt::Result {
         for bank in 0..self.banks {
-            let rows = BankRows { bank };
+            let rows = BankRows {
+                view: self.view,
+                bank,
+            };
             write!(f, "{rows}")?;
         }
         Ok(())
@@ -316,7 +403,7 @@ impl fmt::Display for SaveFile<'_> {
             tags: view.tags,
             ports,
         };
-        let banks = AllBankRows { banks };
+        let banks = AllBankRows { view, banks };
         write!(
             f,
             "[timestart] {opens}000\n[size] 1600 900\n*-10.5 {marked}\n[signals_width] 210\n@28\nscore.fault\n@820\nscore.rule\n{ports}{banks}"

@@ -1,7 +1,7 @@
 //! The signals of a wave.
 
-ghost use Rattle.std.specs.Prelude.{Some};
-ghost use Rattle.lf_wave.specs.Signals.{identifier};
+ghost use Rattle.std.specs.Prelude.{◌≡◌, Some};
+ghost use Rattle.lf_wave.specs.Signals.{block_letter, target_letter, identifier};
 
 use crate::registers::Level;
 use std::fmt;
@@ -14,29 +14,87 @@ pub enum Signal {
     /// The rule that it breaks.
     Rule,
     /// The word of the port's record.
-    PortEvent { port: u8 },
+    PortEvent {
+        port: u8,
+    },
     /// The tag of the port's record.
-    PortTag { port: u8 },
+    PortTag {
+        port: u8,
+    },
     /// The address of the port's issue.
-    Address { port: u8 },
+    Address {
+        port: u8,
+    },
     /// How many tags of the port are busy.
-    Outstanding { port: u8 },
+    Outstanding {
+        port: u8,
+    },
     /// The tag of the port is busy.
-    Busy { port: u8, tag: u16 },
+    Busy {
+        port: u8,
+        tag: u16,
+    },
     /// The word of the bank's record.
-    BankEvent { bank: u8 },
+    BankEvent {
+        bank: u8,
+    },
     /// The number of the bank's record.
-    Number { bank: u8 },
+    Number {
+        bank: u8,
+    },
     /// The port whose request the bank's record names.
-    Requester { bank: u8 },
+    Requester {
+        bank: u8,
+    },
     /// The tag of that request.
-    BankTag { bank: u8 },
+    BankTag {
+        bank: u8,
+    },
     /// The block that the bank's record names.
-    Block { bank: u8 },
+    Block {
+        bank: u8,
+    },
     /// The register that it names.
-    Register { bank: u8 },
+    Register {
+        bank: u8,
+    },
     /// How many registers of the bank's level are held.
-    InUse { level: Level, bank: u8 },
+    InUse {
+        level: Level,
+        bank: u8,
+    },
+    /// The block that a register of the bank's level holds.
+    HeldBlock {
+        level: Level,
+        bank: u8,
+        register: u16,
+    },
+    /// How many targets wait in it.
+    Targets {
+        level: Level,
+        bank: u8,
+        register: u16,
+    },
+}
+
+/// The letter of the blocks that the registers of a level hold.
+fn block_letter(level: Level) -> &'static str
+    ensures { result.now ≡ block_letter level }
+{
+    match level {
+        Level::One => "h",
+        Level::Two => "k",
+    }
+}
+
+/// The letter of the targets that wait in them.
+fn target_letter(level: Level) -> &'static str
+    ensures { result.now ≡ target_letter level }
+{
+    match level {
+        Level::One => "t",
+        Level::Two => "u",
+    }
 }
 
 impl fmt::Display for Signal {
@@ -65,6 +123,16 @@ impl fmt::Display for Signal {
                 level: Level::Two,
                 bank,
             } => write!(f, "b{bank}y"),
+            Signal::HeldBlock {
+                level,
+                bank,
+                register,
+            } => write!(f, "b{bank}{}{register}", block_letter(*level)),
+            Signal::Targets {
+                level,
+                bank,
+                register,
+            } => write!(f, "b{bank}{}{register}", target_letter(*level)),
         }
     }
 }

@@ -2,7 +2,7 @@
 
 use crate::{Marker, SaveFile, View, Wave};
 use lf_codec::Header;
-use lf_rules::{Block, Event, Op, Record, Rule, WideBlock};
+use lf_rules::{Block, Event, Level, Op, OrgShape, Record, Rule, Shape, WideBlock};
 use std::test::Fail;
 
 const HEADER: Header = Header {
@@ -19,6 +19,8 @@ const VIEW: View = View {
     from: 1,
     to: 2,
     tags: 2,
+    level1_registers: 3,
+    level2_registers: 1,
     block: 8,
     factor: 1,
     marker: Some(Marker {
@@ -49,6 +51,14 @@ $var wire 32 b0b block [31:0] $end
 $var wire 16 b0r register [15:0] $end
 $var wire 16 b0x level1_registers [15:0] $end
 $var wire 16 b0y level2_registers [15:0] $end
+$var wire 32 b0h0 level1_register0 [31:0] $end
+$var wire 16 b0t0 level1_targets0 [15:0] $end
+$var wire 32 b0h1 level1_register1 [31:0] $end
+$var wire 16 b0t1 level1_targets1 [15:0] $end
+$var wire 32 b0h2 level1_register2 [31:0] $end
+$var wire 16 b0t2 level1_targets2 [15:0] $end
+$var wire 32 b0k0 level2_register0 [31:0] $end
+$var wire 16 b0u0 level2_targets0 [15:0] $end
 $upscope $end
 $upscope $end
 $enddefinitions $end
@@ -63,16 +73,28 @@ b0 p0o
 s b0e
 b0 b0x
 b0 b0y
+bz b0h0
+b0 b0t0
+bz b0h1
+b0 b0t1
+bz b0h2
+b0 b0t2
+bz b0k0
+b0 b0u0
 $end
 #10
 1p0t1
 b1 p0o
+b11 b0h2
+b1 b0t2
 b1 b0x
 sprimary b0e
 b1 b0n
 b0 b0p
 b1 b0i
 b10 b0r
+b11 b0h2
+b1 b0t2
 b1 b0x
 #19
 s b0e
@@ -128,43 +150,80 @@ score.bank0.register[15:0]
 score.bank0.level1_registers[15:0]
 @24
 score.bank0.level2_registers[15:0]
+@24
+score.bank0.level1_register0[31:0]
+@24
+score.bank0.level1_targets0[15:0]
+@24
+score.bank0.level1_register1[31:0]
+@24
+score.bank0.level1_targets1[15:0]
+@24
+score.bank0.level1_register2[31:0]
+@24
+score.bank0.level1_targets2[15:0]
+@24
+score.bank0.level2_register0[31:0]
+@24
+score.bank0.level2_targets0[15:0]
 ";
 
-/// The third record and those after it, where a second-level block is two blocks.
+/// The fourth record and those after it, where a second-level block is two blocks.
 const FILLS: View = View {
-    from: 2,
+    from: 3,
     to: u64::MAX,
     tags: 0,
+    level1_registers: 3,
+    level2_registers: 2,
     block: 8,
     factor: 2,
     marker: None,
 };
 
 const FILLED: &str = "\
-#20
-b1 p0o
-b1 b0x
-b1 b0y
-ssecond_primary b0e
-b10 b0n
-b11 b0b
-b0 b0r
-b1 b0y
-#29
-s b0e
 #30
-sfill2 b0e
+b10 p0o
+b10 p0o
+b11 b0h2
+b10 b0t2
+b1 b0x
+smerge b0e
 b11 b0n
-b1 b0b
-b0 b0y
+b0 b0p
+b10 b0i
+b10 b0r
+b11 b0h2
+b10 b0t2
+b1 b0x
 #39
 s b0e
 #40
-sfill1 b0e
+ssecond_primary b0e
 b100 b0n
 b11 b0b
-b0 b0x
+b0 b0r
+b1 b0k0
+b1 b0u0
+b1 b0y
 #49
+s b0e
+#50
+bz b0k0
+b0 b0u0
+sfill2 b0e
+b101 b0n
+b1 b0b
+b0 b0y
+#59
+s b0e
+#60
+bz b0h2
+b0 b0t2
+sfill1 b0e
+b110 b0n
+b11 b0b
+b0 b0x
+#69
 s b0e
 ";
 
@@ -207,18 +266,27 @@ fn wave_of_a_miss(rt: HostRuntime) -> Result<(), Fail> {
     Ok(())
 }
 
+/// A load of four bytes of block 3.
+fn load(tag: u8, address: u64) -> Event {
+    Event::Issue {
+        op: Op::Load,
+        tag,
+        size: 4,
+        address,
+        bytes: Block::new(),
+    }
+}
+
 #[test]
 fn registers_until_their_fills(rt: HostRuntime) -> Result<(), Fail> {
-    let issue = Event::Issue {
-        op: Op::Load,
-        tag: 1,
-        size: 8,
-        address: 24,
-        bytes: Block::new(),
-    };
     let primary = Event::Primary {
         port: 0,
         tag: 1,
+        register: 2,
+    };
+    let merge = Event::Merge {
+        port: 0,
+        tag: 2,
         register: 2,
     };
     let asked = Event::SecondPrimary {
@@ -235,12 +303,49 @@ fn registers_until_their_fills(rt: HostRuntime) -> Result<(), Fail> {
     };
     let mut text = String::new(rt.alloc());
     let mut wave = Wave::new(rt.alloc(), FILLS);
-    wave.put(&record(0, 0, issue), &mut text)?;
-    wave.put(&record(1, 1, primary), &mut text)?;
-    wave.put(&record(1, 2, asked), &mut text)?;
-    wave.put(&record(1, 3, wide_fill), &mut text)?;
-    wave.put(&record(1, 4, fill), &mut text)?;
+    wave.put(&record(0, 0, load(1, 24)), &mut text)?;
+    wave.put(&record(0, 1, load(2, 28)), &mut text)?;
+    wave.put(&record(1, 2, primary), &mut text)?;
+    wave.put(&record(1, 3, merge), &mut text)?;
+    wave.put(&record(1, 4, asked), &mut text)?;
+    wave.put(&record(1, 5, wide_fill), &mut text)?;
+    wave.put(&record(1, 6, fill), &mut text)?;
     assert_eq!(rt; text.as_str(), FILLED);
+    Ok(())
+}
+
+/// 2 ports with 3 tags each. An inverted level one has a register for each of them.
+const SHAPE: Shape = Shape {
+    ports: 2,
+    banks: 1,
+    block: 8,
+    tags: 3,
+    factor: 2,
+    level1: Level {
+        sets: 1,
+        ways: 1,
+        organisation: OrgShape::Inverted,
+    },
+    level2: Level {
+        sets: 1,
+        ways: 1,
+        organisation: OrgShape::Implicit { registers: 100 },
+    },
+};
+
+#[test]
+fn signals_of_a_shape(rt: HostRuntime) -> Result<(), Fail> {
+    let due = View {
+        from: 0,
+        to: u64::MAX,
+        tags: 3,
+        level1_registers: 6,
+        level2_registers: 64,
+        block: 8,
+        factor: 2,
+        marker: None,
+    };
+    assert_eq!(rt; View::whole(&SHAPE), due);
     Ok(())
 }
 

@@ -2,11 +2,11 @@
 
 ghost use Rattle.std.specs.Prelude.{◌≡◌, ◌<◌, ◌^◌, ◌++◌, string_bytes, OnOk};
 ghost use Rattle.lf_wave.specs.Head.{head_text};
-ghost use Rattle.lf_wave.specs.Wave.{shown, undrawn, next, next_shown};
+ghost use Rattle.lf_wave.specs.Wave.{begun, shown, undrawn, next, next_shown};
 
 use crate::busy::{BusyTag, apply};
 use crate::head::Head;
-use crate::moment::Moment;
+use crate::moment::{Beginning, Moment};
 use crate::registers::{HeldRegister, apply_level1, apply_level2};
 use crate::view::View;
 use lf_codec::Header;
@@ -66,7 +66,26 @@ impl Wave {
         write!(text, "{head}")
     }
 
-    /// Puts what is shown of a record that has changed the busy tags and the registers.
+    /// Puts the beginning of a record before it changes the registers.
+    fn begin(&self, item: &Record, text: &mut String) -> Result<(), AllocError>
+        ensures { OnOk result (string_bytes text.new ≡
+            string_bytes text.old ++ begun self.now.view self.now.place self.now.level1 self.now.level2 item.now) }
+    {
+        if self.view.shows(self.place) {
+            let beginning = Beginning {
+                view: &self.view,
+                place: self.place,
+                level1: &self.level1,
+                level2: &self.level2,
+                item,
+            };
+            write!(text, "{beginning}")
+        } else {
+            Ok(())
+        }
+    }
+
+    /// Puts the rest of a record that has changed the busy tags and the registers.
     fn show(&self, item: &Record, text: &mut String) -> Result<(), AllocError>
         ensures { OnOk result (string_bytes text.new ≡
             string_bytes text.old ++ shown self.now.view self.now.place self.now.busy
@@ -93,6 +112,7 @@ impl Wave {
         ensures shown { OnOk result (string_bytes text.new ≡ string_bytes text.old ++ next_shown self.old item.now) }
         ensures taken { OnOk result (self.new ≡ next self.old item.now) }
     {
+        self.begin(item, text)?;
         apply_level1(&mut self.level1, self.view.block, &self.busy, item)?;
         apply_level2(&mut self.level2, self.view.factor, item)?;
         apply(&mut self.busy, item)?;

@@ -3,8 +3,8 @@ use Rattle.std.proofs.Common.{take}
 use Rattle.std.specs.List.{flat_map}
 use Rattle.std.specs.Fmt.{HasWritten, IsPlainFormatter}
 use Rattle.lf_wave.specs.Wave.{standing_register}
-use Rattle.lf_wave.proofs.moment.StandingRegistersDisplay.fmt.Given as goal
+use Rattle.lf_wave.proofs.register_changes.StandingRegistersDisplay.fmt.Given as goal
 
 abbrev pub invariant-loop-entry : goal.invariant-loop-entry
 invariant-loop-entry g l =
-    IsPlainFormatter l.initial.f → HasWritten g.W.Write.write_str_gives l.initial.f (flat_map (standing_register l.self.level l.self.held.now) (take l.entry-index l.self.held.now)) l.f
+    IsPlainFormatter l.initial.f → HasWritten g.W.Write.write_str_gives l.initial.f (flat_map (standing_register l.self.registers l.self.level l.self.held.now) (take l.entry-index l.self.held.now)) l.f
