@@ -1,10 +1,11 @@
 -- Laws of what a run that explains comes to and tells.
-use Rattle.std.proofs.Common.{◌≡◌, ℕ, ◌+◌, ◌-◌, ◌≤◌, List, [], ◌∷◌, ◌++◌, length, length-append, Option, None, Some, Result, Ok, Err, IfOk, String, string_bytes, sym, ap, ◌∙◌, subst, refl, inl, inr, arith}
+use Rattle.std.proofs.Common.{◌≡◌, ℕ, ◌+◌, ◌-◌, ◌≤◌, Bool, true, false, List, [], ◌∷◌, ◌++◌, length, length-append, Option, None, Some, Result, Ok, Err, IfOk}
+use Rattle.std.proofs.Common.{String, string_bytes, sym, ap, ◌∙◌, subst, refl, inl, inr, arith}
 use Rattle.std.specs.Global.{Global}
 use Rattle.std.specs.List.{flat_map, AllByRecursion}
-use Rattle.std.proofs.lemmas.Option.{none-some, same_Some}
 use Rattle.lf_rules.specs.declared.shape.Shape.{Shape}
 use Rattle.lf_rules.specs.declared.event.Record.{Record}
+use Rattle.lf_rules.specs.declared.outcome.NoMemory.{NoMemory}
 use Rattle.lf_rules.specs.Address.{FlatMemory, flat_memory}
 use Rattle.lf_rules.specs.Fits.{Bytes, Fits}
 use Rattle.lf_codec.specs.Layout.{header_bytes, memory_bytes, record_bytes, end_bytes}
@@ -13,26 +14,36 @@ use Rattle.lf_codec.specs.Reading.{reading_of}
 use Rattle.lf_codec.proofs.Numbers.{length-u32_bytes}
 use Rattle.lf_config.specs.Configuration.{configuration_of}
 use Rattle.lf_history.specs.Offsets.{offsets_from, bytes_len}
-use Rattle.lf_explanation.specs.declared.explanation.Breach.{Breach}
-use Rattle.lf_explanation.specs.declared.explanation.Explanation.{Explanation}
-use Rattle.lf_explanation.specs.declared.explanation.Breach.TheVariants as breaches
-use Rattle.lf_explanation.specs.Explanation.{IsExplanation, HasBank}
-use Rattle.lf_explanation.specs.Text.{explained_text}
+use Rattle.lf_numbering.specs.declared.reason.Reason.{Reason}
+use Rattle.lf_numbering.specs.Text.{reason_text}
+use Rattle.lf_verdict.specs.declared.breaking.PartFault.{PartFault}
+use Rattle.lf_verdict.specs.declared.breaking.PartFault.TheVariants as parts
+use Rattle.lf_verdict.specs.declared.breaking.Broken.{Broken}
+use Rattle.lf_verdict.specs.declared.breaking.Broken.TheVariants as broken
+use Rattle.lf_verdict.specs.Breaking.{IsFaultOfPart}
 use Rattle.lf_verdict.specs.declared.answer.Fault.{Fault}
 use Rattle.lf_verdict.specs.declared.answer.Fault.TheVariants as faults
 use Rattle.lf_verdict.specs.declared.answer.Verdict.{Verdict}
 use Rattle.lf_verdict.specs.declared.answer.Verdict.TheVariants.{Yes, No, Refused}
-use Rattle.lf_verdict.specs.Verdict.{IsDecided, IsVerdictOf, IsFaultOfLogs}
+use Rattle.lf_verdict.specs.Verdict.{IsDecided, IsVerdictOf, IsFaultOfLogs, IsNo}
+use Rattle.lf_verdict.specs.Legal.{IsTraceFor}
 use Rattle.lf_verdict.proofs.Traces.{records_fit}
 use Rattle.lf_stream.specs.Account.{Account}
 use Rattle.lf_engine.specs.declared.fault.RunFault.{RunFault}
 use Rattle.lf_engine.specs.declared.report.Report.{Report}
-use Rattle.lf_engine.specs.Explain.{breach_of, breach_in, first_offset, IsExplicable, TellsWhy, IsToldOf, IsExplained, HasWhyFor, HasWhy}
+use Rattle.lf_engine.specs.Explain.{first_offset, HasBankOf, HasBankOfFirst, IsEarliestIf, as_fault, TellsReason, TellsNo, TellsNoIn, TellsWhy, TellsBehindLine, is_explained}
+use Rattle.lf_engine.specs.Explain.{IsToldOf, IsExplained, HasWhyFor, HasWhy}
 use Rattle.lf_engine.specs.Line.{verdict_text, line_of}
 use Rattle.lf_engine.specs.Report.{FollowsLines, FollowsReport, lines_or, report_text}
 use Rattle.lf_engine.specs.Run.{Reads, Follows, outcome_line}
 
 -- ---- where the records of a trace begin
+
+-- The bytes are a trace for the shape.
+pub record IsExplicable (shape : Shape) (bytes : List ℕ) : Type 0 where
+  pub memory : List (ℕ × Bytes)
+  pub logs : List (List Record)
+  pub trace : IsTraceFor shape bytes memory logs
 
 records_len : (rs : List Record) → length (flat_map record_bytes rs) ≡ bytes_len rs
 records_len [] = refl
@@ -85,72 +96,107 @@ first_is shape bytes x records same = omega (arith, trace_len shape bytes x, ap 
 
 -- ---- what is told
 
--- The text tells of the trace in the bytes.
-pub tells_why : (shape : Shape) (bytes : List ℕ) (x : IsExplicable shape bytes) (breach : Breach) (most : ℕ) (v : Verdict) (text : List ℕ)
-    (memory : List (ℕ × Bytes)) (records : List Record) (offsets : List ℕ) (why : Explanation) → memory ≡ x.memory → records ≡ x.trace.records
-    → offsets ≡ offsets_from (length bytes - 8 - bytes_len records) records → IsExplanation shape memory records breach most why
-    → text ≡ verdict_text v ++ 10 ∷ 10 ∷ explained_text records offsets why → TellsWhy shape bytes breach most v text
-tells_why shape bytes x breach most v text memory records offsets why same_memory same begin explains lines = record {
-  memory = x.memory;
-  logs = x.logs;
-  trace = x.trace;
-  why = why;
-  explains = subst (λ (rs : List Record). IsExplanation shape x.memory rs breach most why) same
-      (subst (λ (m : List (ℕ × Bytes)). IsExplanation shape m records breach most why) same_memory explains);
-  lines = lines ∙ ap (λ (os : List ℕ). verdict_text v ++ 10 ∷ 10 ∷ explained_text records os why) begin
-      ∙ ap (λ (n : ℕ). verdict_text v ++ 10 ∷ 10 ∷ explained_text records (offsets_from n records) why) (first_is shape bytes x records same)
-      ∙ ap (λ (rs : List Record). verdict_text v ++ 10 ∷ 10 ∷ explained_text rs (offsets_from (first_offset x.trace.header x.memory) rs) why) same;
-}
+-- A no is of a trace.
+pub explicable : (shape : Shape) (bytes : List ℕ) (fault : Fault) → IsNo shape bytes fault → IsExplicable shape bytes
+explicable shape bytes fault is = record { memory = is.memory; logs = is.logs; trace = is.trace }
 
--- A trace with a record that breaks a rule can be told of.
-pub explicable : (shape : Shape) (bytes : List ℕ) (v : Verdict) (breach : Breach) → breach_in v ≡ Some breach
-    → (IsDecided v → IsVerdictOf shape 1 bytes v) → IsExplicable shape bytes
-explicable shape bytes (Yes events order) breach named judged = absurd (none-some breach named)
-explicable shape bytes (No f) breach named judged =
-    let h = judged tt in
-    record { memory = h.1.memory; logs = h.1.logs; trace = h.1.trace }
-explicable shape bytes (Refused f) breach named judged = absurd (none-some breach named)
-
-fault_bank : (shape : Shape) (memory : FlatMemory) (logs : List (List Record)) (fault : Fault) (breach : Breach) → breach_of fault ≡ Some breach
-    → IsFaultOfLogs shape memory logs fault → HasBank shape breach
-fault_bank shape memory logs (faults.Port port at rule) breach named is = subst (HasBank shape) (same_Some (breaches.Port port at rule) breach named) tt
-fault_bank shape memory logs (faults.Bank bank number rule) breach named is =
-    subst (HasBank shape) (same_Some (breaches.Bank bank number rule) breach named) is.is_bank
-fault_bank shape memory logs fault breach named is = absurd (none-some breach named)
+fault_bank : (shape : Shape) (memory : FlatMemory) (logs : List (List Record)) (fault : Fault) → IsFaultOfLogs shape memory logs fault
+    → HasBankOf shape fault
+fault_bank shape memory logs (faults.Missing bank k) is = tt
+fault_bank shape memory logs (faults.Double bank k) is = tt
+fault_bank shape memory logs (faults.Port port at rule) is = tt
+fault_bank shape memory logs (faults.Bank bank number rule) is = is.is_bank
+fault_bank shape memory logs (faults.Cycle ring) is = tt
 
 -- A bank whose record breaks a rule is one of the shape's.
-pub bank_is : (shape : Shape) (bytes : List ℕ) (v : Verdict) (breach : Breach) → breach_in v ≡ Some breach
-    → (IsDecided v → IsVerdictOf shape 1 bytes v) → HasBank shape breach
-bank_is shape bytes (Yes events order) breach named judged = absurd (none-some breach named)
-bank_is shape bytes (No f) breach named judged =
-    let h = judged tt in
-    fault_bank shape (flat_memory h.1.memory) h.1.logs f breach named h.1.fault_of
-bank_is shape bytes (Refused f) breach named judged = absurd (none-some breach named)
+pub bank_is : (shape : Shape) (bytes : List ℕ) (fault : Fault) → IsNo shape bytes fault → HasBankOf shape fault
+bank_is shape bytes fault is = fault_bank shape (flat_memory is.memory) is.logs fault is.fault_of
 
-decided : (v : Verdict) (breach : Breach) → breach_in v ≡ Some breach → IsDecided v
-decided (Yes events order) breach named = tt
-decided (No f) breach named = tt
-decided (Refused f) breach named = absurd (none-some breach named)
+-- What broke first is of a bank of the shape's, where it is of one.
+part_bank : (shape : Shape) (memory : FlatMemory) (records : List Record) (part : PartFault) → IsFaultOfPart shape memory records part
+    → HasBankOf shape (as_fault part)
+part_bank shape memory records (parts.Double bank k) is = tt
+part_bank shape memory records (parts.Port port at rule) is = tt
+part_bank shape memory records (parts.Bank bank number rule) is = is.is_bank
+
+pub first_bank : (shape : Shape) (bytes : List ℕ) (earliest : Option Broken) → IsEarliestIf shape bytes earliest → HasBankOfFirst shape earliest
+first_bank shape bytes None is = tt
+first_bank shape bytes (Some (broken.Header field)) is = tt
+first_bank shape bytes (Some (broken.Part part None)) is = absurd is
+first_bank shape bytes (Some (broken.Part part (Some upon))) is = part_bank shape (flat_memory is.memory) _ part is.first.broke
+
+-- The text tells of the trace in the bytes.
+tells_no : (shape : Shape) (bytes : List ℕ) (x : IsExplicable shape bytes) (most : ℕ) (fault : Fault) (earliest : Option Broken) (text : List ℕ)
+    (memory : List (ℕ × Bytes)) (records : List Record) (offsets : List ℕ) → IsEarliestIf shape bytes earliest → memory ≡ x.memory
+    → records ≡ x.trace.records → offsets ≡ offsets_from (length bytes - 8 - bytes_len records) records
+    → TellsNo shape memory records offsets most fault earliest text → TellsNoIn shape bytes most fault text
+tells_no shape bytes x most fault earliest text memory records offsets is same_memory same begin tells =
+    let first = first_offset x.trace.header x.memory in
+    record {
+      memory = x.memory;
+      logs = x.logs;
+      trace = x.trace;
+      earliest = earliest;
+      is_earliest = is;
+      tells = subst (λ (m : List (ℕ × Bytes)). TellsNo shape m x.trace.records (offsets_from first x.trace.records) most fault earliest text) same_memory
+          (subst (λ (rs : List Record). TellsNo shape memory rs (offsets_from first rs) most fault earliest text) same
+          (subst (λ (os : List ℕ). TellsNo shape memory records os most fault earliest text)
+          (begin ∙ ap (λ (n : ℕ). offsets_from n records) (first_is shape bytes x records same)) tells));
+    }
+
+pub told_in : (shape : Shape) (bytes : List ℕ) (x : IsExplicable shape bytes) (most : ℕ) (fault : Fault) (earliest : Option Broken)
+    (memory : List (ℕ × Bytes)) (records : List Record) (offsets : List ℕ) (told : Result (String Global) NoMemory)
+    → IsEarliestIf shape bytes earliest → memory ≡ x.memory
+    → records ≡ x.trace.records → offsets ≡ offsets_from (length bytes - 8 - bytes_len records) records
+    → IfOk told (λ text. TellsNo shape memory records offsets most fault earliest (string_bytes text))
+    → IfOk told (λ text. TellsNoIn shape bytes most fault (string_bytes text))
+told_in shape bytes x most fault earliest memory records offsets (Ok text) is same_memory same begin tells =
+    tells_no shape bytes x most fault earliest (string_bytes text) memory records offsets is same_memory same begin tells
+told_in shape bytes x most fault earliest memory records offsets (Err e) is same_memory same begin tells = tt
+
+-- The text tells of this reason.
+pub reason_told : (rs : List Record) (offsets : List ℕ) (IsReason : Reason → Type 0) (reason : Reason) (told : Result (String Global) NoMemory)
+    → IsReason reason → IfOk told (λ text. string_bytes text ≡ reason_text rs offsets reason)
+    → IfOk told (λ text. TellsReason rs offsets IsReason (string_bytes text))
+reason_told rs offsets IsReason reason (Ok text) is lines = record { reason = reason; is_reason = is; lines = lines }
+reason_told rs offsets IsReason reason (Err e) is lines = tt
+
+-- What is told of a verdict is told of its fault.
+pub no_of : (shape : Shape) (bytes : List ℕ) (fault : Fault) → (IsDecided (No fault) → IsVerdictOf shape 1 bytes (No fault)) → IsNo shape bytes fault
+no_of shape bytes fault judged = (judged tt).1
+
+-- The lines have that of the verdict, and what is told behind it.
+pub behind : (shape : Shape) (bytes : List ℕ) (most : ℕ) (v : Verdict) (why text : List ℕ) → TellsWhy shape bytes most v why
+    → text ≡ verdict_text v ++ 10 ∷ 10 ∷ why → TellsBehindLine shape bytes most v text
+behind shape bytes most v why text tells lines = record { why = why; tells = tells; lines = lines }
+
+never : {T : Type 0} → false ≡ true → T
+never same = let bad : ⊥ = cc in absurd bad
+
+decided : (v : Verdict) → is_explained v ≡ true → IsDecided v
+decided (Yes events order) told = tt
+decided (No f) told = tt
+decided (Refused f) told = never told
 
 -- What is told of the bytes is told of those that the reader answered.
 pub why_read : (old new : Account) (config : List ℕ) (shape : Shape) (bytes : List ℕ) (most : ℕ) (judged v : Verdict) (lines : Option (String Global))
     → configuration_of config ≡ Ok shape → (IsDecided judged → Reads old new bytes) → Follows (Ok judged) (Ok v)
     → HasWhyFor shape bytes most v lines → HasWhy old new config most v lines
-why_read old new config shape bytes most judged v (Some text) e reads (inl same) (breach, named, tells) =
-    (breach, named, record { bytes = bytes; reads = reads (subst IsDecided same (decided v breach named)); shape = shape; configured = e; tells = tells })
-why_read old new config shape bytes most judged v (Some text) e reads (inr memory) (breach, named, tells) =
-    absurd (none-some breach (sym (ap breach_in memory) ∙ named))
+why_read old new config shape bytes most judged v (Some text) e reads (inl same) (told, tells) =
+    (told, record { bytes = bytes; reads = reads (subst IsDecided same (decided v told)); shape = shape; configured = e; tells = tells })
+why_read old new config shape bytes most judged v (Some text) e reads (inr memory) (told, tells) =
+    never (sym (ap is_explained memory) ∙ told)
 why_read old new config shape bytes most judged v None e reads follows h = h
 
 lines_written : (old new : Account) (config : List ℕ) (most : ℕ) (lines : Option (String Global)) (v : Verdict) (said : Result Verdict RunFault)
     → HasWhy old new config most v lines → FollowsLines lines v said → IsExplained old new config most said (lines_or lines said)
-lines_written old new config most (Some text) v said (breach, named, tells) e =
+lines_written old new config most (Some text) v said (told, tells) e =
     subst (λ (r : Result Verdict RunFault). IsExplained old new config most r (string_bytes text)) (sym e)
-    (subst (λ (o : Option Breach). IsToldOf old new config most v o (string_bytes text)) (sym named) tells)
+    (subst (λ (b : Bool). IsToldOf old new config most v b (string_bytes text)) (sym told) tells)
 lines_written old new config most None v (Ok w) h (inl same) =
-    subst (λ (o : Option Breach). IsToldOf old new config most w o (line_of w)) (sym (ap breach_in same ∙ h)) refl
+    subst (λ (b : Bool). IsToldOf old new config most w b (line_of w)) (sym (ap is_explained same ∙ h)) refl
 lines_written old new config most None v (Ok w) h (inr memory) =
-    subst (λ (o : Option Breach). IsToldOf old new config most w o (line_of w)) (sym (ap breach_in memory)) refl
+    subst (λ (b : Bool). IsToldOf old new config most w b (line_of w)) (sym (ap is_explained memory)) refl
 lines_written old new config most None v (Err fault) h e = absurd e
 
 -- What is written of a report is what is due for the answer.

@@ -18,9 +18,11 @@ use Rattle.lf_stats.specs.declared.counts.Stats.{Stats}
 use Rattle.lf_stats.specs.Answer.{AreStats}
 use Rattle.lf_coverage.specs.declared.coverage.Coverage.{Coverage}
 use Rattle.lf_coverage.specs.Coverage.{IsCoverage}
+use Rattle.lf_usage.specs.declared.usage.Usage.{Usage}
+use Rattle.lf_usage.specs.Usage.{IsUsage}
 use Rattle.lf_verdict.proofs.Answered.{log_below, limit_is_small}
 use Rattle.lf_verdict.proofs.Traces.{records_fit, log_of_logs}
-use Rattle.lf_engine.specs.Report.{IsCountable, AreStatisticsOf, IsCoverageOf}
+use Rattle.lf_engine.specs.Report.{IsCountable, AreStatisticsOf, IsCoverageOf, IsUsageOf}
 
 all_below : (shape : Shape) (rs : List Record) → AllByRecursion (Fits shape) rs → AllByRecursion (λ r. r.log < shape.ports + shape.banks) rs
 all_below shape [] fits = tt
@@ -88,3 +90,14 @@ pub covered_if : {E : Type 0} (shape : Shape) (bytes : List ℕ) (c : IsCountabl
     → IfOk r (IsCoverage shape (lists_of logs)) → IfOk r (IsCoverageOf shape bytes)
 covered_if shape bytes c logs (Ok coverage) e is = covered shape bytes c logs coverage e is
 covered_if shape bytes c logs (Err w) e is = tt
+
+used : (shape : Shape) (bytes : List ℕ) (c : IsCountable shape bytes) (logs : Vec (Vec Record)) (usage : Usage) → lists_of logs ≡ c.logs
+    → IsUsage shape (lists_of logs) usage → IsUsageOf shape bytes usage
+used shape bytes c logs usage e is =
+    record { memory = c.memory; logs = c.logs; trace = c.trace; is = subst (λ (ls : List (List Record)). IsUsage shape ls usage) e is }
+
+pub used_if : {E : Type 0} (shape : Shape) (bytes : List ℕ) (c : IsCountable shape bytes) (logs : Vec (Vec Record)) (r : Result Usage E)
+    → lists_of logs ≡ c.logs
+    → IfOk r (IsUsage shape (lists_of logs)) → IfOk r (IsUsageOf shape bytes)
+used_if shape bytes c logs (Ok usage) e is = used shape bytes c logs usage e is
+used_if shape bytes c logs (Err w) e is = tt

@@ -1,4 +1,4 @@
--- What a run for statistics or for the coverage answers and writes.
+-- What a run for statistics, for the coverage or for the usage answers and writes.
 use Rattle.std.specs.Prelude.{◌≡◌, ℕ, ◌<◌, List, Option, Some, None, Result, Ok, Err, String, string_bytes}
 use Rattle.std.specs.Global.{Global}
 use Rattle.lf_rules.specs.declared.shape.Shape.{Shape}
@@ -13,6 +13,9 @@ use Rattle.lf_coverage.specs.declared.coverage.Coverage.{Coverage}
 use Rattle.lf_coverage.specs.Coverage.{IsCoverage}
 use Rattle.lf_coverage.specs.Text.{coverage_text}
 use Rattle.lf_coverage.specs.Data.{data_text}
+use Rattle.lf_usage.specs.declared.usage.Usage.{Usage}
+use Rattle.lf_usage.specs.Usage.{IsUsage}
+use Rattle.lf_usage.specs.Text.{usage_text}
 use Rattle.lf_verdict.specs.declared.answer.Verdict.{Verdict}
 use Rattle.lf_verdict.specs.declared.answer.Verdict.TheVariants.{Yes}
 use Rattle.lf_verdict.specs.Legal.{IsTraceFor}
@@ -45,6 +48,13 @@ pub record IsCoverageOf (shape : Shape) (bytes : List ℕ) (coverage : Coverage)
   pub trace : IsTraceFor shape bytes memory logs
   pub counts : IsCoverage shape logs coverage
 
+-- This is what the logs of the trace in the bytes use at most.
+pub record IsUsageOf (shape : Shape) (bytes : List ℕ) (usage : Usage) : Type 0 where
+  pub memory : List (ℕ × Bytes)
+  pub logs : List (List Record)
+  pub trace : IsTraceFor shape bytes memory logs
+  pub is : IsUsage shape logs usage
+
 -- The text has the lines of those statistics, or of that coverage, or is Verilator's file of that coverage.
 pub record AreStatisticsLines (shape : Shape) (bytes text : List ℕ) : Type 0 where
   pub stats : Stats
@@ -65,6 +75,12 @@ abbrev pub ArePrintedFor : Wanted → Shape → List ℕ → List ℕ → Type 0
 ArePrintedFor wants.Statistics shape bytes text = AreStatisticsLines shape bytes text
 ArePrintedFor wants.Coverage shape bytes text = AreCoverageLines shape bytes text
 ArePrintedFor wants.Data shape bytes text = AreDataLines shape bytes text
+
+-- The text has the lines of that usage.
+pub record AreUsageLines (shape : Shape) (bytes text : List ℕ) : Type 0 where
+  pub usage : Usage
+  pub used : IsUsageOf shape bytes usage
+  pub lines : text ≡ usage_text shape usage
 
 -- The text has the lines that are wanted of the bytes that the reader answered, for the shape that the
 -- configuration says.

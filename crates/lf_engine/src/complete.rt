@@ -97,7 +97,7 @@ fn completion_for<T: AllocGlobal, S: Source>(
     ensures complete { (config : List ℕ) → configuration_of config ≡ Ok shape.now → IfOk result (λ c.
         IsCompletion (S.account source.old) (S.account source.new) config c.verdict c.incomplete) }
 {
-    let Judged { verdict, bytes } = judge_and_keep(rt, source, shape, turns)?;
+    let Judged { verdict, bytes, .. } = judge_and_keep(rt, source, shape, turns)?;
     Ok(completion_of(rt.alloc(), shape, bytes.as_slice(), verdict))
 }
 

@@ -5,7 +5,7 @@
 //! a trace that is legal, and writes the lines of its statistics, `run_cover` those of its coverage, and
 //! `run_cover_data` the coverage as a file of Verilator.
 //! `run_complete` asks whether each request of a legal trace has a reply. `run_explain` also writes why a
-//! record breaks a rule. `run_watch` reads no further than to the piece with which a trace broke for good.
+//! trace is not legal. `run_watch` reads no further than to the piece with which a trace broke for good.
 //! Both streams are `Counted`, so that
 //! the contracts can say how often they were called, when a call failed, and which bytes the reads
 //! answered and the writes took. `Line` is each line that a program over the engine prints.
@@ -23,6 +23,7 @@ mod report;
 mod statistics;
 mod watch;
 mod watching;
+mod why;
 
 pub use complete::{Completion, run_complete};
 pub use engine::{are_workers, run, run_shape, shape_for};

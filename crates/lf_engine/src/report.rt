@@ -1,4 +1,4 @@
-//! The statistics and the coverage of a trace that was kept.
+//! The statistics, the coverage and the usage of a trace that was kept.
 
 ghost use Rattle.std.specs.Prelude.{◌≡◌, IfOk, OnOk, string_bytes};
 ghost use Rattle.lf_codec.specs.Laws.{AreBytes};
@@ -7,7 +7,9 @@ ghost use Rattle.lf_rules.specs.InRange.{IsShape};
 ghost use Rattle.lf_stats.specs.Text.{stats_text};
 ghost use Rattle.lf_coverage.specs.Text.{coverage_text};
 ghost use Rattle.lf_coverage.specs.Data.{data_text};
-ghost use Rattle.lf_engine.specs.Report.{IsCountable, AreStatisticsOf, AreStatisticsLines, IsCoverageOf, AreCoverageLines, AreDataLines, ArePrintedFor};
+ghost use Rattle.lf_usage.specs.Text.{usage_text};
+ghost use Rattle.lf_engine.specs.Report.{IsCountable, AreStatisticsOf, AreStatisticsLines, IsCoverageOf, AreCoverageLines};
+ghost use Rattle.lf_engine.specs.Report.{AreDataLines, IsUsageOf, AreUsageLines, ArePrintedFor};
 
 use crate::parts::{Parts, parts_in};
 use lf_codec::exact_reading;
@@ -15,7 +17,8 @@ use lf_coverage::{Coverage, CoverageData, cover};
 use lf_logs::split;
 use lf_rules::{NoMemory, Record, Shape};
 use lf_stats::{Stats, stats};
-use lf_verdict::Verdict;
+use lf_usage::{Usage, UsageText, usage_of};
+use lf_verdict::{Broken, Verdict};
 use std::alloc::{AllocError, Global};
 
 /// Which lines are wanted of a trace that is legal.
@@ -27,11 +30,12 @@ pub enum Wanted {
     Data,
 }
 
-/// A verdict, and the bytes that it is of.
+/// A verdict, the bytes that it is of, and what broke first in them, where that is known.
 #[derive(Drop)]
 pub struct Judged {
     pub verdict: Verdict,
     pub bytes: Vec<u8>,
+    pub earliest: Option<Broken>,
 }
 
 /// What a run came to: a verdict, and after a yes the lines that are wanted.
@@ -74,6 +78,18 @@ fn coverage_of(alloc: Global, shape: &Shape, bytes: &[u8]) -> Result<Coverage, N
     cover(alloc, shape, &logs)
 }
 
+/// What the trace in these bytes uses at most.
+fn usage_in(alloc: Global, shape: &Shape, bytes: &[u8]) -> Result<Usage, NoMemory>
+    requires in_range { IsShape shape.now }
+    requires countable { IsCountable shape.now bytes.now }
+    ensures { IfOk result (IsUsageOf shape.now bytes.now) }
+{
+    exact_reading();
+    let records = records_in(alloc, bytes)?;
+    let logs = split(alloc, shape.ports, shape.banks, records)?;
+    usage_of(alloc, shape, &logs)
+}
+
 fn text_of(alloc: Global, counts: &Stats) -> Result<String, AllocError>
     ensures { IfOk result (λ text. string_bytes text ≡ stats_text counts.now) }
 {
@@ -90,6 +106,13 @@ fn text_of_data(alloc: Global, coverage: &Coverage) -> Result<String, AllocError
     ensures { IfOk result (λ text. string_bytes text ≡ data_text coverage.now) }
 {
     let shown = CoverageData(coverage);
+    format!(in alloc; "{shown}")
+}
+
+fn text_of_usage(alloc: Global, shape: &Shape, usage: &Usage) -> Result<String, AllocError>
+    ensures { IfOk result (λ text. string_bytes text ≡ usage_text shape.now usage.now) }
+{
+    let shown = UsageText { usage, shape };
     format!(in alloc; "{shown}")
 }
 
@@ -127,6 +150,19 @@ fn data_lines(alloc: Global, shape: &Shape, bytes: &[u8]) -> Result<String, NoMe
 {
     let coverage = coverage_of(alloc, shape, bytes)?;
     match text_of_data(alloc, &coverage) {
+        Ok(text) => Ok(text),
+        Err(_) => Err(NoMemory),
+    }
+}
+
+/// The lines of what the trace in these bytes uses at most of what its configuration has.
+pub fn usage_lines(alloc: Global, shape: &Shape, bytes: &[u8]) -> Result<String, NoMemory>
+    requires in_range { IsShape shape.now }
+    requires countable { IsCountable shape.now bytes.now }
+    ensures { IfOk result (λ text. AreUsageLines shape.now bytes.now (string_bytes text)) }
+{
+    let usage = usage_in(alloc, shape, bytes)?;
+    match text_of_usage(alloc, shape, &usage) {
         Ok(text) => Ok(text),
         Err(_) => Err(NoMemory),
     }

@@ -11,6 +11,7 @@ ghost use Rattle.lf_verdict.specs.Configured.{IsVerdictFor, IsLegalFor, IsRunles
 ghost use Rattle.lf_stream.specs.Account.{WentOut};
 ghost use Rattle.lf_stream.specs.Counted.{calls_of, failures_of, account_of};
 ghost use Rattle.lf_engine.specs.declared.fault.RunFault.{RunFault};
+ghost use Rattle.lf_engine.specs.Explain.{IsEarliestIf};
 ghost use Rattle.lf_engine.specs.Report.{HasLinesFor, HasLinesIfYes, IsWritten};
 ghost use Rattle.lf_engine.specs.Report.{judged_in, verdict_in, FollowsReport, report_text};
 ghost use Rattle.lf_engine.specs.Run.{IsAsked, IsOutcome, Reads, Follows, IsRunWriting};
@@ -27,11 +28,13 @@ use std::alloc::Global;
 use std::io::{Read, Write};
 
 fn out_of_memory(bytes: Vec<u8>) -> Judged
-    ensures { result.verdict ≡ Verdict.Refused Refusal.Memory }
+    ensures verdict { result.verdict ≡ Verdict.Refused Refusal.Memory }
+    ensures earliest { result.earliest ≡ None }
 {
     Judged {
         verdict: Verdict::Refused(Refusal::Memory),
         bytes,
+        earliest: None,
     }
 }
 
@@ -50,6 +53,7 @@ pub fn judge_and_keep<T: AllocGlobal, S: Source>(
     ensures kept { IfOk result (λ j. IsDecided j.verdict →
         Reads (S.account source.old) (S.account source.new) j.bytes.items) }
     ensures verdict { IfOk result (λ j. IsDecided j.verdict → IsVerdictOf shape.now 1 j.bytes.items j.verdict) }
+    ensures earliest { IfOk result (λ j. IsEarliestIf shape.now j.bytes.items j.earliest) }
 {
     fault_so_far();
     let mut keeping = Keeping {
@@ -62,9 +66,11 @@ pub fn judge_and_keep<T: AllocGlobal, S: Source>(
     match gather(source, buffer.as_mut_slice(), &mut keeping, turns) {
         Ok(()) => {
             let Keeping { session, bytes } = keeping;
+            let earliest = session.broken();
             Ok(Judged {
                 verdict: session.finish(),
                 bytes,
+                earliest,
             })
         }
         Err(Stop::Sink(NoMemory)) => Ok(out_of_memory(keeping.bytes)),
@@ -114,7 +120,7 @@ fn report_for<T: AllocGlobal, S: Source>(
     ensures lines { (config : List ℕ) → configuration_of config ≡ Ok shape.now → IfOk result (λ r.
         HasLinesIfYes wanted (S.account source.old) (S.account source.new) config r.verdict r.lines) }
 {
-    let Judged { verdict, bytes } = judge_and_keep(rt, source, shape, turns)?;
+    let Judged { verdict, bytes, .. } = judge_and_keep(rt, source, shape, turns)?;
     Ok(report_of(rt.alloc(), shape, bytes.as_slice(), verdict, wanted))
 }
 

@@ -11,12 +11,15 @@ const OF_LOAD: &str = "\
 bank=0 hit=0
 bank=0 merge=0
 bank=0 stall=0
+bank=0 stall_no_register=0
+bank=0 stall_no_entry=0
 bank=0 evict1=0
 bank=0 evict1_clean=0
 bank=0 evict1_part=0
 bank=0 evict1_whole=0
 bank=0 hit_under_miss=0
 bank=0 second_hit=0
+bank=0 second_refetched=0
 bank=0 evict2=0
 bank=0 load_behind_load=0
 bank=0 load_behind_store=0
@@ -27,6 +30,7 @@ bank=0 fill1_over_stores=0
 bank=0 evict2_dirty_0=0
 bank=0 evict2_dirty_1=0
 bank=0 targets_2=0
+bank=0 merge_port_0=0
 port=0 load_1=0
 port=0 load_2=0
 port=0 load_4=0
@@ -42,7 +46,7 @@ bank=0 fill2=1
 bank=0 registers_1=1
 port=0 load_8=1
 port=0 reply=1
-covered 7 of 34
+covered 7 of 38
 ";
 
 /// Fails where another text is written of the trace of these events of port 0 and bank 0.
@@ -75,9 +79,9 @@ C '\u{1}page\u{2}v_user/lockup_free\u{1}f\u{2}coverage/points.txt\
 \u{1}l\u{2}1\u{1}n\u{2}0\u{1}o\u{2}hit\u{1}h\u{2}bank0' 0
 ";
 
-const DATA_ENDS: &str = "\u{1}l\u{2}29\u{1}n\u{2}0\u{1}o\u{2}reply\u{1}h\u{2}port0' 1
+const DATA_ENDS: &str = "\u{1}l\u{2}39\u{1}n\u{2}0\u{1}o\u{2}reply\u{1}h\u{2}port0' 1
 C '\u{1}page\u{2}v_user/lockup_free\u{1}f\u{2}coverage/points.txt\
-\u{1}l\u{2}30\u{1}n\u{2}0\u{1}o\u{2}fence\u{1}h\u{2}port0' 0
+\u{1}l\u{2}40\u{1}n\u{2}0\u{1}o\u{2}fence\u{1}h\u{2}port0' 0
 ";
 
 #[test]

@@ -38,7 +38,7 @@ fn a_legal_trace_is_read_to_its_end(rt: HostRuntime) -> Result<(), Fail> {
 fn nothing_is_read_behind_a_broken_record(rt: HostRuntime) -> Result<(), Fail> {
     let mut bytes = LOAD_MISSES_BOTH_LEVELS;
     bytes[116] = 1;
-    let line = "broken bank=0 number=5 rule=ReplyData upon log=0 event=1\n";
+    let line = "broken bank=0 number=5 rule=ReplyData upon log=0 event=1 at=104\n";
     for (size, reads) in [(1usize, 124), (4, 31), (132, 1)] {
         let told = assert_watched(&rt, C1_TEXT, &bytes, size, line, reads)?;
         let fault = PartFault::Bank {
@@ -46,7 +46,8 @@ fn nothing_is_read_behind_a_broken_record(rt: HostRuntime) -> Result<(), Fail> {
             number: 5,
             rule: Rule::ReplyData,
         };
-        let upon = Some(Upon { log: 0, at: 1 });
+        let (log, at, offset) = (0, 1, 104);
+        let upon = Some(Upon { log, at, offset });
         assert_eq!(rt; told, Watched::Broken(Broken::Part { fault, upon }));
     }
     Ok(())

@@ -1,6 +1,7 @@
 use Rattle.std.proofs.Common.{[], ◌∙◌, refl, arith, subst, sym, rules, List, ℕ}
 use Rattle.lf_rules.specs.declared.shape.Shape.{Shape}
 use Rattle.lf_verdict.specs.Verdict.{IsVerdictOf}
+use Rattle.lf_engine.specs.Explain.{IsEarliestIf}
 use Rattle.lf_engine.proofs.GatheringLemmas.{none_stands}
 use Rattle.lf_engine.proofs.JudgingLemmas.{all_read, finished}
 use Rattle.lf_engine.proofs.statistics.judge_and_keep.Goals as goal
@@ -23,3 +24,10 @@ returns-in-Ok-gather-clause-verdict g c = λ judged.
     let (bytes, was, all) = got.all in
     subst (λ (s : Shape). IsVerdictOf s 1 c.gather.new.sink.bytes.items c.finish.result) (got.setting ∙ c.for_shape.ensures.shape)
     (subst (λ (l : List ℕ). IsVerdictOf c.gather.new.sink.session.shape 1 l c.finish.result) (sym {A = List ℕ} was.0) (c.finish.ensures.verdict bytes was.1 judged))
+
+pub returns-in-Ok-gather-clause-earliest : goal.returns-in-Ok-gather-clause-earliest
+returns-in-Ok-gather-clause-earliest g c =
+    let got = c.in-Ok-gather.ensures in
+    let (bytes, was, all) = got.all in
+    subst (λ (s : Shape). IsEarliestIf s c.gather.new.sink.bytes.items c.broken-earliest.result) (got.setting ∙ c.for_shape.ensures.shape)
+    (subst (λ (l : List ℕ). IsEarliestIf c.gather.new.sink.session.shape l c.broken-earliest.result) (sym {A = List ℕ} was.0) (c.broken-earliest.ensures.earliest bytes was.1))
