@@ -1,7 +1,7 @@
 # Completions of score for fish. Made by tools/make_man from what score help prints.
 complete -c score -f -n __fish_use_subcommand -a check -d 'Judges a trace for the hierarchy that a configuration says, and prints one line'
 complete -c score -f -n __fish_use_subcommand -a stats -d 'Judges a trace, and prints the statistics of one that is legal'
-complete -c score -f -n __fish_use_subcommand -a explain -d 'Judges a trace, and prints why a record breaks a rule'
+complete -c score -f -n __fish_use_subcommand -a explain -d 'Judges a trace, and prints why it is not legal'
 complete -c score -f -n __fish_use_subcommand -a cover -d 'Judges a trace, and prints the coverage of one that is legal'
 complete -c score -f -n __fish_use_subcommand -a demo -d 'Runs a small cache in threads for a configuration, and writes its trace'
 complete -c score -f -n __fish_use_subcommand -a watch -d 'Judges a trace while it comes, and ends at the first fault that no bytes behind it can undo'

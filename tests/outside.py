@@ -13,9 +13,11 @@ from __future__ import annotations
 import argparse
 import contextlib
 import os
+import pty
 import shutil
 import signal
 import subprocess
+import threading
 import traceback
 from pathlib import Path
 from typing import Callable, Mapping, Optional, Sequence, Union
@@ -125,6 +127,30 @@ def run(
         told = "\n".join((done.stdout + done.stderr).splitlines()[-20:])
         raise Failure(f"{' '.join(command)}: status {done.returncode} and not {status}\n{told}")
     return done
+
+
+def run_on_terminal(words: Sequence[Word]) -> subprocess.CompletedProcess[str]:
+    """Runs a program whose standard error is a terminal, and gives what it printed and what the terminal showed."""
+    master, slave = pty.openpty()
+    shown = bytearray()
+
+    def listen() -> None:
+        # a terminal that nothing writes to any more answers an error
+        with contextlib.suppress(OSError):
+            while data := os.read(master, 4096):
+                shown.extend(data)
+
+    try:
+        command = [str(word) for word in words]
+        process = subprocess.Popen(command, stdin=subprocess.DEVNULL, stdout=subprocess.PIPE, stderr=slave)
+        os.close(slave)
+        listener = threading.Thread(target=listen)
+        listener.start()
+        out, _ = process.communicate(timeout=SECONDS)
+        listener.join(SECONDS)
+    finally:
+        os.close(master)
+    return subprocess.CompletedProcess(command, process.returncode, text(out), text(bytes(shown)))
 
 
 def text(data: bytes) -> str:

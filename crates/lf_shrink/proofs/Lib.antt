@@ -1,1 +1,2 @@
 pub mod Larger
+mod FoundOfRead

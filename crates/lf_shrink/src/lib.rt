@@ -20,4 +20,5 @@ mod tests;
 mod text;
 
 pub use broken::RuleFault;
+pub use search::{Observer, Silent};
 pub use shrink::{Shrinking, Shrunk, run_shrink};

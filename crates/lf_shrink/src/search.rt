@@ -12,6 +12,28 @@ use lf_codec::Header;
 use lf_rules::{NoMemory, Shape};
 use std::alloc::Global;
 
+/// Is told how far a search is.
+pub trait Observer {
+    /// So many smaller traces were judged, and the smallest one so far has so many events.
+    fn judged(&self, checks: u32, left: usize);
+}
+
+/// Hears nothing.
+#[derive(Clone, Copy, Debug)]
+pub struct Silent;
+
+impl Observer for Silent {
+    fn judged(&self, _checks: u32, _left: usize) {}
+}
+
+/// How long to search, and who is told how far it is.
+#[derive(Drop)]
+pub(crate) struct Limits<'a, O> {
+    /// At most so many traces are judged.
+    pub most: u32,
+    pub observer: &'a O,
+}
+
 /// The smallest trace that was found, and how many were judged.
 #[derive(Drop)]
 pub(crate) struct Found {
@@ -58,20 +80,21 @@ fn judge(
 /// Judges at most so many traces, each smaller than the smallest one so far. Where memory runs out, the search
 /// ends with what it found.
 #[tactic(auto, using(crate::proofs::Larger::same_size))]
-pub(crate) fn smallest(
+pub(crate) fn smallest<O: Observer>(
     alloc: Global,
     shape: &Shape,
     header: &Header,
     wanted: Wanted,
     first: Kept,
-    most: u32,
+    limits: Limits<'_, O>,
 ) -> Found
     requires shape { IsShape shape.now }
     requires kept { IsKept shape.now wanted first }
     ensures kept { IsKept shape.now wanted result.best }
     ensures smaller { IsNoLargerThan first result.best }
-    ensures checks { result.checks ≤ most }
+    ensures checks { result.checks ≤ limits.entry.most }
 {
+    let Limits { most, observer } = limits;
     let mut best = first;
     let Ok(mut plan) = Plan::new(alloc, shape, &best) else {
         return Found { best, checks: 0 };
@@ -88,6 +111,7 @@ pub(crate) fn smallest(
                 },
             ) => {
                 best = next;
+                observer.judged(checks + 1, best.records.len());
                 if plan.note(&best, was_kept).is_err() {
                     let checks = checks + 1;
                     return Found { best, checks };

@@ -16,7 +16,7 @@ ghost use Rattle.lf_shrink.specs.Shrunk.{IsRuleNo, IsShrunk, IsShrinkingFor, IsS
 
 use crate::broken::{RuleFault, Wanted};
 use crate::candidate::Kept;
-use crate::search::{Found, smallest};
+use crate::search::{Found, Limits, Observer, smallest};
 use lf_codec::{Header, Reader};
 use lf_engine::{Counted, Judged, RunFault, judge_and_keep, shape_for};
 use lf_rules::{Memory, NoMemory, Record, Shape};
@@ -115,16 +115,16 @@ fn parts_of(alloc: Global, bytes: &[u8]) -> Result<Parts, NoMemory>
 }
 
 /// The smallest trace that is found for a trace whose verdict has this fault.
-fn shrunk_of(
+fn shrunk_of<O: Observer>(
     alloc: Global,
     shape: &Shape,
     bytes: Vec<u8>,
     fault: RuleFault,
-    most: u32,
+    limits: Limits<'_, O>,
 ) -> Result<Shrunk, NoMemory>
     requires shape { IsShape shape.now }
     requires verdict { IsVerdictOf shape.now 1 bytes.items (Verdict.No (fault_of fault)) }
-    ensures shrunk { IfOk result (IsShrunk shape.now bytes.items most) }
+    ensures shrunk { IfOk result (IsShrunk shape.now bytes.items limits.entry.most) }
     ensures first { IfOk result (λ s. s.first ≡ fault) }
 {
     let Parts {
@@ -143,7 +143,7 @@ fn shrunk_of(
         bytes,
         fault,
     };
-    let Found { best, checks } = smallest(alloc, shape, &header, wanted, whole, most);
+    let Found { best, checks } = smallest(alloc, shape, &header, wanted, whole, limits);
     let left = best.records.len();
     Ok(Shrunk {
         bytes: best.bytes,
@@ -156,28 +156,33 @@ fn shrunk_of(
 }
 
 /// Searches where the verdict names a rule. Where memory runs out before the search, that is the verdict.
-fn shrinking_of(alloc: Global, shape: &Shape, judged: Judged, most: u32) -> Shrinking
+fn shrinking_of<O: Observer>(
+    alloc: Global,
+    shape: &Shape,
+    judged: Judged,
+    limits: Limits<'_, O>,
+) -> Shrinking
     requires shape { IsShape shape.now }
     requires judged { IsDecided judged.verdict → IsVerdictOf shape.now 1 judged.bytes.items judged.verdict }
     ensures follows { Follows (Ok judged.verdict) (verdict_of (Ok result)) }
-    ensures shrunk { IsShrinkingFor shape.now judged.bytes.items most result }
+    ensures shrunk { IsShrinkingFor shape.now judged.bytes.items limits.entry.most result }
 {
-    let Judged { verdict, bytes } = judged;
+    let Judged { verdict, bytes, .. } = judged;
     let Some(fault) = rule_fault(&verdict) else {
         return Shrinking::Judged(verdict);
     };
-    match shrunk_of(alloc, shape, bytes, fault, most) {
+    match shrunk_of(alloc, shape, bytes, fault, limits) {
         Ok(shrunk) => Shrinking::Shrunk(shrunk),
         Err(NoMemory) => Shrinking::Judged(Verdict::Refused(Refusal::Memory)),
     }
 }
 
 /// Reads, judges and searches for the shape.
-fn shrink_for<T: AllocGlobal, S: Source>(
+fn shrink_for<T: AllocGlobal, S: Source, O: Observer>(
     rt: &T,
     source: &mut S,
     shape: &Shape,
-    most: u32,
+    limits: Limits<'_, O>,
     turns: u32,
 ) -> Result<Shrinking, RunFault>
     requires calls { (S.account source.old).calls ≡ 0 }
@@ -186,18 +191,18 @@ fn shrink_for<T: AllocGlobal, S: Source>(
     ensures outcome { IsOutcome (S.account source.old) (S.account source.new)
         (IsWorkerCount 1) (IsLegal shape.now) (IsVerdictOf shape.now 1) turns (verdict_of result) }
     ensures shrunk { (config : List ℕ) → configuration_of config ≡ Ok shape.now → IfOk result
-        (IsShrinking (S.account source.old) (S.account source.new) config most) }
+        (IsShrinking (S.account source.old) (S.account source.new) config limits.entry.most) }
 {
     let judged = judge_and_keep(rt, source, shape, turns)?;
-    Ok(shrinking_of(rt.alloc(), shape, judged, most))
+    Ok(shrinking_of(rt.alloc(), shape, judged, limits))
 }
 
 /// Judges the configuration, and only then reads.
-fn shrink_configured<T: AllocGlobal, S: Source>(
+fn shrink_configured<T: AllocGlobal, S: Source, O: Observer>(
     rt: &T,
     source: &mut S,
     config: &str,
-    most: u32,
+    limits: Limits<'_, O>,
     turns: u32,
 ) -> Result<Shrinking, RunFault>
     requires calls { (S.account source.old).calls ≡ 0 }
@@ -205,10 +210,10 @@ fn shrink_configured<T: AllocGlobal, S: Source>(
     ensures unread { ¬ IsAsked config.now 1 → source.new ≡ source.old }
     ensures outcome { IsOutcome (S.account source.old) (S.account source.new)
         (IsAsked config.now 1) (IsLegalFor config.now) (IsVerdictFor config.now 1) turns (verdict_of result) }
-    ensures shrunk { IfOk result (IsShrinking (S.account source.old) (S.account source.new) config.now most) }
+    ensures shrunk { IfOk result (IsShrinking (S.account source.old) (S.account source.new) config.now limits.entry.most) }
 {
     match shape_for(rt.alloc(), config, 1) {
-        Ok(shape) => shrink_for(rt, source, &shape, most, turns),
+        Ok(shape) => shrink_for(rt, source, &shape, limits, turns),
         Err(refusal) => Ok(Shrinking::Judged(Verdict::Refused(refusal))),
     }
 }
@@ -216,17 +221,18 @@ fn shrink_configured<T: AllocGlobal, S: Source>(
 /// Reads the trace until the reader is at its end or a fault of the format stands in what it gave, and judges it with
 /// one worker for the shape that the configuration says. Where the verdict is that a port or a bank breaks a rule, it
 /// searches for a smaller trace whose verdict is a no by the same rule, upon an event of the same kind: it judges at
-/// most so many, and answers the smallest one of these, or the trace itself. Each read is a turn, and there are at
-/// most so many turns. Where the text is no configuration, nothing is read.
+/// most so many, and answers the smallest one of these, or the trace itself. The observer is told after each. Each
+/// read is a turn, and there are at most so many turns. Where the text is no configuration, nothing is read.
 ///
 /// `RunFault::Read` says that a read failed, and `RunFault::Turns` that the turns were used up before the trace was
 /// read.
-pub fn run_shrink<T: AllocGlobal, R: Read>(
+pub fn run_shrink<T: AllocGlobal, R: Read, O: Observer>(
     rt: &T,
     reader: &mut Counted<R>,
     config: &str,
     most: u32,
     turns: u32,
+    observer: &O,
 ) -> Result<Shrinking, RunFault>
     requires calls { calls_of reader.old ≡ 0 }
     requires failures { failures_of reader.old ≡ 0 }
@@ -236,5 +242,6 @@ pub fn run_shrink<T: AllocGlobal, R: Read>(
     ensures shrunk { IfOk result (IsShrinking
         (account_of R.remaining reader.old) (account_of R.remaining reader.new) config.now most) }
 {
-    shrink_configured(rt, reader, config, most, turns)
+    let limits = Limits { most, observer };
+    shrink_configured(rt, reader, config, limits, turns)
 }

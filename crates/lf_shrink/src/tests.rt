@@ -1,6 +1,7 @@
 //! Traces that are made smaller.
 
 use crate::broken::RuleFault;
+use crate::search::Silent;
 use crate::shrink::{Shrinking, Shrunk, run_shrink};
 use lf_engine::Counted;
 use lf_rules::Rule;
@@ -12,7 +13,7 @@ use std::test::Fail;
 /// What a search of at most so many traces comes to.
 fn searched<T: AllocGlobal>(rt: &T, bytes: &[u8], most: u32) -> Result<Shrinking, Fail> {
     let mut reader = Counted::new(bytes);
-    run_shrink(rt, &mut reader, C1_TEXT, most, 1000).map_err(|_| Fail::new("no answer"))
+    run_shrink(rt, &mut reader, C1_TEXT, most, 1000, &Silent).map_err(|_| Fail::new("no answer"))
 }
 
 /// What was found, where the verdict names a rule.

@@ -33,12 +33,17 @@ each level:
   evict2_dirty_N    evictions of level two with N dirty blocks
   hit_under_miss    hits while a register of level one is held
   registers_N       misses after which N registers of level one are held
-  targets_N         merges after which N requests wait for the block
+  stall_no_register stall_no_entry stall_field    stalls by their cause
+  second_stall_no_register second_stall_no_entry  the same of level two
+  targets_N second_targets_N    merges after which N misses wait
+  field_N second_field_N        misses for field N of the block, a word or
+                                a block of level one
+  merge_port_N                  merges of port N
   load_behind_load store_behind_load      merges by the kind of their
   load_behind_store store_behind_store    request and of the one before
-  refetched             misses of a block that was written back before
-  fill1_out_of_order    blocks that come before one asked for earlier
-  fill1_over_stores     blocks that come while a store waits for them
+  refetched second_refetched    misses of a block that was written back
+  fill1_out_of_order            blocks before one asked for earlier
+  fill1_over_stores             blocks for which a store waits
 
 and a port these:
 

@@ -3,8 +3,8 @@
 //! and its place, or why the trace is not judged. `explain` also prints why a record breaks a rule, `watch`
 //! ends as soon as a trace broke for good, `stats` prints the statistics of a trace that is legal and `cover`
 //! what it reached, `shrink` writes a smaller trace with the same rule broken, `view` a waveform, `demo` records a
-//! small cache in threads, `dump` prints a trace as text, and `assemble` writes the trace of a text. `score help COMMAND` says
-//! more of each. The status is 0 for a yes, 1 for a no and 2 for a refusal.
+//! small cache in threads, `dump` prints a trace as text, and `assemble` writes the trace of a text. `score help
+//! COMMAND` says more of each. The status is 0 for a yes, 1 for a no and 2 for a refusal.
 #![tactic(auto)]
 
 mod assemble;
@@ -39,7 +39,7 @@ use lf_verdict::Verdict;
 use shrink::shrink;
 use stats::stats;
 use std::io;
-use std::io::ErrorKind;
+use std::io::{ErrorKind, IsTerminal};
 use std::process::ExitCode;
 use std::rt::{Env, Files};
 use std::sync::Wait;
@@ -104,10 +104,10 @@ fn words_of<T: Env + AllocGlobal>(rt: &T) -> Result<Vec<String>, InputFault> {
     }
 }
 
-/// Does what was asked for.
+/// Does what was asked for. `on_terminal` says whether standard error is a terminal.
 fn answer<
     T: Print + Eprint + Input + Files + AllocGlobal + Threads + Wait + Sync + Send + Copy + 'static,
->(rt: &T, request: Request<'_>) -> io::Result<ExitCode>
+>(rt: &T, request: Request<'_>, on_terminal: bool) -> io::Result<ExitCode>
 where
     T::File: Drop,
 {
@@ -138,13 +138,13 @@ where
             trace,
             out,
             checks,
-        } => shrink(rt, config, trace, out, checks),
+        } => shrink(rt, config, trace, out, checks, on_terminal),
         Request::View {
             config,
             trace,
             out,
             window,
-        } => view(rt, config, trace, out, window),
+        } => view(rt, config, trace, out, window, on_terminal),
         Request::Demo { config, out } => demo(rt, config, out),
         Request::Watch { config, trace } => watch(rt, config, trace),
         Request::Dump { trace, choice } => Ok(dump(rt, trace, choice)),
@@ -165,7 +165,7 @@ fn start<
         + Send
         + Copy
         + 'static,
->(rt: &T) -> io::Result<ExitCode>
+>(rt: &T, on_terminal: bool) -> io::Result<ExitCode>
 where
     T::File: Drop,
 {
@@ -174,7 +174,7 @@ where
         Err(why) => return refused(rt, why),
     };
     match asked(rt.alloc(), words.as_slice()) {
-        Ok(request) => answer(rt, request),
+        Ok(request) => answer(rt, request, on_terminal),
         Err(CommandFault::Help(help)) => {
             print!(rt; "{help}")?;
             Ok(ExitCode::SUCCESS)
@@ -185,7 +185,8 @@ where
 }
 
 fn main(rt: HostRuntime) -> ExitCode {
-    match start(&rt) {
+    let on_terminal = rt.stderr().is_terminal();
+    match start(&rt, on_terminal) {
         Ok(code) => code,
         Err(_) => ExitCode::from(REFUSED),
     }

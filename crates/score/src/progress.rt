@@ -14,11 +14,16 @@ const PARTS: u64 = 20;
 /// Where it is not, a line comes each time that so many bytes were read.
 const STRIDE: u64 = 64 << 20;
 
+/// A shorter trace is read within a moment. Nothing is told of it where that was not asked for.
+const LONG: u64 = 4 << 20;
+
 /// A reader that tells how many bytes it gave.
 #[derive(Drop)]
 pub struct Progress<'a, P, R> {
     rt: &'a P,
     reader: R,
+    /// What is done with the bytes.
+    done: &'static str,
     /// All bytes that there are, where that is known.
     size: Option<u64>,
     /// So many bytes are read between two lines. Without it there are no lines.
@@ -28,14 +33,19 @@ pub struct Progress<'a, P, R> {
     told: u64,
 }
 
-/// What a line says: so many bytes were read, of so many.
-pub fn line_of(alloc: Global, read: u64, size: Option<u64>) -> Result<String, AllocError> {
+/// What a line says: this was done with so many bytes, of so many.
+pub fn line_of(
+    alloc: Global,
+    done: &str,
+    read: u64,
+    size: Option<u64>,
+) -> Result<String, AllocError> {
     match size {
         Some(size) if size > 0 => {
             let percent = u128::from(read) * 100 / u128::from(size);
-            format!(in alloc; "read {read} of {size} bytes, {percent}%")
+            format!(in alloc; "{done} {read} of {size} bytes, {percent}%")
         }
-        _ => format!(in alloc; "read {read} bytes"),
+        _ => format!(in alloc; "{done} {read} bytes"),
     }
 }
 
@@ -45,6 +55,7 @@ impl<'a, P: Eprint + AllocGlobal, R> Progress<'a, P, R> {
         Progress {
             rt,
             reader,
+            done: "read",
             size: None,
             stride: None,
             read: 0,
@@ -52,8 +63,13 @@ impl<'a, P: Eprint + AllocGlobal, R> Progress<'a, P, R> {
         }
     }
 
-    /// A reader that tells how much of these bytes it gave.
-    pub fn telling(rt: &'a P, reader: R, size: Option<u64>) -> Progress<'a, P, R> {
+    /// A reader that tells how much of these bytes it gave, and what is done with them.
+    pub fn telling(
+        rt: &'a P,
+        reader: R,
+        done: &'static str,
+        size: Option<u64>,
+    ) -> Progress<'a, P, R> {
         let stride = match size {
             Some(size) => size / PARTS,
             None => STRIDE,
@@ -61,6 +77,7 @@ impl<'a, P: Eprint + AllocGlobal, R> Progress<'a, P, R> {
         Progress {
             rt,
             reader,
+            done,
             size,
             stride: Some(stride),
             read: 0,
@@ -79,7 +96,7 @@ impl<'a, P: Eprint + AllocGlobal, R> Progress<'a, P, R> {
         let untold = self.read.saturating_sub(self.told);
         if untold > 0 && (untold >= stride || count == 0) {
             self.told = self.read;
-            if let Ok(line) = line_of(self.rt.alloc(), self.read, self.size) {
+            if let Ok(line) = line_of(self.rt.alloc(), self.done, self.read, self.size) {
                 let _ = eprintln!(self.rt; "{line}");
             }
         }
@@ -105,8 +122,25 @@ pub fn reader_of<'a, T: Eprint + Input + Files + AllocGlobal>(
 ) -> Progress<'a, T, Trace<T::File, T::Reader>> {
     let reader = Trace::open(rt, trace);
     if progress {
-        Progress::telling(rt, reader, size_of_file(rt, trace))
+        Progress::telling(rt, reader, "read", size_of_file(rt, trace))
     } else {
         Progress::silent(rt, reader)
+    }
+}
+
+/// The reader of a regular file, which tells what is done with the bytes, and how far it is, where standard error is a
+/// terminal and the file is long.
+pub fn reader_by_itself<'a, T: Eprint + Input + Files + AllocGlobal>(
+    rt: &'a T,
+    trace: &str,
+    done: &'static str,
+    on_terminal: bool,
+) -> Progress<'a, T, Trace<T::File, T::Reader>> {
+    let reader = Trace::open(rt, trace);
+    match size_of_file(rt, trace) {
+        Some(size) if on_terminal && size >= LONG => {
+            Progress::telling(rt, reader, done, Some(size))
+        }
+        _ => Progress::silent(rt, reader),
     }
 }

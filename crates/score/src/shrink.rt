@@ -2,10 +2,10 @@
 
 use crate::configuration::{bytes_at, text_in};
 use crate::output::{put, tell};
-use crate::trace::Trace;
+use crate::progress::reader_by_itself;
 use crate::{NO, REFUSED, refused, status_of};
 use lf_engine::{Counted, Line};
-use lf_shrink::{Shrinking, Shrunk, run_shrink};
+use lf_shrink::{Observer, Shrinking, Shrunk, run_shrink};
 use std::io;
 use std::process::ExitCode;
 use std::rt::Files;
@@ -37,7 +37,8 @@ For all else the line is that of check, and nothing is written; see score
 help check.
 
 OUT is written beside its place first and then renamed. An OUT of - is
-standard output: then the lines go to standard error.
+standard output: then the lines go to standard error. Where standard error
+is a terminal, it shows how far the search is.
 
 Exit status:
   0  yes: there is nothing to search for
@@ -47,6 +48,30 @@ Exit status:
 Examples:
   score shrink small.toml run.lfts small.lfts
   score shrink small.toml run.lfts - | score dump -";
+
+/// Shows on standard error how far the search is, where that is a terminal: one line, written over and over.
+#[derive(Clone, Copy)]
+struct SearchLine<'a, P> {
+    rt: &'a P,
+    on_terminal: bool,
+}
+
+impl<P: Eprint> Observer for SearchLine<'_, P> {
+    fn judged(&self, checks: u32, left: usize) {
+        if self.on_terminal {
+            let _ = eprint!(self.rt; "\rtried {checks}, {left} events left \x1b[K");
+        }
+    }
+}
+
+impl<P: Eprint> SearchLine<'_, P> {
+    /// Ends the line.
+    fn end(&self) {
+        if self.on_terminal {
+            let _ = eprint!(self.rt; "\r\x1b[K");
+        }
+    }
+}
 
 /// Writes what was found, and only then tells it.
 fn hand_out<T: Print + Eprint + Files + AllocGlobal>(
@@ -69,6 +94,7 @@ pub fn shrink<T: Print + Eprint + Input + Files + AllocGlobal>(
     trace: &str,
     out: &str,
     checks: u32,
+    on_terminal: bool,
 ) -> io::Result<ExitCode>
 where
     T::File: Drop,
@@ -78,8 +104,11 @@ where
         Ok(text) => text,
         Err(why) => return refused(rt, why),
     };
-    let mut reader = Counted::new(Trace::open(rt, trace));
-    match run_shrink(rt, &mut reader, text, checks, u32::MAX) {
+    let mut reader = Counted::new(reader_by_itself(rt, trace, "read", on_terminal));
+    let line = SearchLine { rt, on_terminal };
+    let outcome = run_shrink(rt, &mut reader, text, checks, u32::MAX, &line);
+    line.end();
+    match outcome {
         Ok(Shrinking::Shrunk(shrunk)) => hand_out(rt, out, &shrunk),
         Ok(Shrinking::Judged(verdict)) => {
             tell(rt, out, Line::Judged(&verdict))?;

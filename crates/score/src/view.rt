@@ -2,6 +2,7 @@
 
 use crate::configuration::{bytes_at, bytes_within, text_in};
 use crate::output::{Target, finish, part_of, put, target_of, tell};
+use crate::progress::reader_by_itself;
 use crate::trace::{Trace, size_of_file};
 use crate::{REFUSED, refused, status_of};
 use lf_engine::{Counted, InputFault, Line, run, shape_for};
@@ -28,8 +29,9 @@ all signals: OUT with .gtkw in the place of .vcd.
 The record at place N of TRACE, from 0, stands at N nanoseconds. A port has
 its record (event), with tag and address, how many of its requests have no
 reply (outstanding), and whether each tag is busy. A bank has its record, its
-number, its block, the port and the tag of its request, its register, and how
-many registers of each level are held.
+number, its block, the port and the tag of its request, its register, how many
+registers of each level are held, and for each of the first 64 registers of a
+level the block that it holds (z: none) and how many targets wait in it.
 Where a record of a port or of a bank breaks a rule, fault rises at that
 record, and rule is the name of the rule.
 
@@ -39,7 +41,8 @@ whole trace.
 
 A TRACE that is no regular file is kept in memory. OUT is written beside its
 place first and then renamed. An OUT of - is standard output: then the line
-goes to standard error, and there is no second file.
+goes to standard error, and there is no second file. Where standard error is
+a terminal, it shows how far a long TRACE is read.
 
 Answers:
   no bank=0 number=5 rule=ReplyData  what check says; OUT is written
@@ -73,10 +76,8 @@ impl Window {
         View {
             from: self.from.unwrap_or(begin),
             to: self.to.or(fault).unwrap_or(u64::MAX),
-            tags: u16::try_from(shape.tags).unwrap_or(u16::MAX),
-            block: shape.block,
-            factor: shape.factor,
             marker,
+            ..View::whole(shape)
         }
     }
 }
@@ -249,7 +250,14 @@ where
 /// once alone.
 pub fn view<
     T: Print + Eprint + Input + Files + AllocGlobal + Threads + Sync + Send + Copy + 'static,
->(rt: &T, config: &str, trace: &str, out: &str, window: Window) -> io::Result<ExitCode>
+>(
+    rt: &T,
+    config: &str,
+    trace: &str,
+    out: &str,
+    window: Window,
+    on_terminal: bool,
+) -> io::Result<ExitCode>
 where
     T::File: Drop,
 {
@@ -260,9 +268,9 @@ where
     };
     if size_of_file(rt, trace).is_some() {
         let readers = Readers {
-            judged: Trace::open(rt, trace),
-            searched: Trace::open(rt, trace),
-            shown: Trace::open(rt, trace),
+            judged: reader_by_itself(rt, trace, "judged", on_terminal),
+            searched: reader_by_itself(rt, trace, "searched", on_terminal),
+            shown: reader_by_itself(rt, trace, "drawn", on_terminal),
         };
         return view_of(rt, text, out, window, readers);
     }

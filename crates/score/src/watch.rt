@@ -16,15 +16,16 @@ pub const ABOUT: &str =
 /// What the help says after the arguments.
 pub const HELP: &str = "\
 Answers:
-  broken bank=0 number=5 rule=ReplyData upon log=0 event=1
-  broken port=0 event=1 rule=TagBusy upon log=0 event=1
-  broken numbering bank=0 double=2 upon log=1 event=7
+  broken bank=0 number=5 rule=ReplyData upon log=0 event=1 at=104
+  broken port=0 event=1 rule=TagBusy upon log=0 event=1 at=36
+  broken numbering bank=0 double=2 upon log=1 event=7 at=128
   broken header Ports
 
 The first three name the fault as check does, and the event of the trace
-upon which a port or a bank broke first: here the one at place 1 of log 0.
-The line comes within the read that completes that record. The last one
-says that the trace is one of another hierarchy.
+upon which a port or a bank broke first: here the one at place 1 of log 0,
+which begins at byte 104 of the trace. The line comes within the read that
+completes that record. The last one says that the trace is one of another
+hierarchy.
 
 Where nothing broke before the end of the trace, the line is that of
 check; see score help check.

@@ -409,7 +409,7 @@ fn lines_of_progress(rt: HostRuntime) -> Result<(), Fail> {
             "read 18446744073709551615 of 18446744073709551615 bytes, 100%",
         ),
     ] {
-        let text = line_of(rt.alloc(), read, size)?;
+        let text = line_of(rt.alloc(), "read", read, size)?;
         assert_eq!(rt; text.as_str(), line);
     }
     Ok(())
@@ -420,7 +420,7 @@ fn lines_of_progress(rt: HostRuntime) -> Result<(), Fail> {
 fn progress_gives_the_bytes(rt: HostRuntime) -> Result<(), Fail> {
     let mut bytes = Vec::new(rt.alloc());
     Progress::silent(&rt, b"trace".as_slice()).read_to_end(&mut bytes)?;
-    Progress::telling(&rt, b" of bytes".as_slice(), Some(9)).read_to_end(&mut bytes)?;
+    Progress::telling(&rt, b" of bytes".as_slice(), "read", Some(9)).read_to_end(&mut bytes)?;
     assert_eq!(rt; bytes.as_slice(), b"trace of bytes".as_slice());
     Ok(())
 }

@@ -5,7 +5,7 @@ use Rattle.lf_shrink.proofs.Larger.{breaks}
 use Rattle.lf_shrink.proofs.shrink.shrunk_of.Goals as goal
 
 pub returns-clause-shrunk : goal.returns-clause-shrunk
-returns-clause-shrunk c =
+returns-clause-shrunk g c =
     let shape = c.args.shape.now in
     let best = c.smallest-best.result.best in
     let wanted : Wanted = record { rule = c.rule.result; kind = c.kind.result } in
