@@ -5,8 +5,9 @@
 
 A row is a configuration, a trace and what is printed of them: one line for `check`, several for `stats`. Beside
 the text, the status must be that of the answer and standard error must be empty. `check` has the same answer for
-1, 2, 4 and 16 workers, and with `--complete` too, but for a yes where a reply is missing. `explain` prints the line of
-`check`, and behind it what stands in examples/NAME.explained where a record of NAME.lfts breaks a rule. What `dump`
+1, 2, 4 and 16 workers, and with `--complete` too, but for a yes where a reply is missing. Where that is a
+yes or a no of NAME.lfts, or NAME.toml is refused, `explain` prints what stands in examples/NAME.explained, or in
+examples/NAME.CONFIG.explained where CONFIG.toml has another answer of the same trace. What `dump`
 prints of a trace gives its bytes back by `assemble`. Each trace and each configuration of examples/ must stand in a
 row. The status is 1 where anything differs. PROGRAM is crates/score/out/score where it is left out."""
 
@@ -56,11 +57,22 @@ def complete(trace: str, text: str) -> str:
     return "no incomplete port={} tag={}\n".format(*min(waiting)) if waiting else text
 
 
-def explained(trace: str, text: str) -> str:
+def explanation_of(config: str, trace: str, text: str) -> Optional[pathlib.Path]:
+    """The file of what `explain` prints where `check` prints this, where it is more: it stands beside the trace, or
+    beside the configuration where that is refused. A trace with two answers has two, named after the configuration
+    too."""
+    if text.startswith("refused config "):
+        return (EXAMPLES / config).with_suffix(".explained")
+    if not text.startswith(("yes ", "no ")):
+        return None
+    of_both = EXAMPLES / f"{pathlib.Path(trace).stem}.{pathlib.Path(config).stem}.explained"
+    return of_both if of_both.exists() else (EXAMPLES / trace).with_suffix(".explained")
+
+
+def explained(config: str, trace: str, text: str) -> str:
     """What `explain` prints where `check` prints this."""
-    if " rule=" not in text:
-        return text
-    return (EXAMPLES / trace).with_suffix(".explained").read_text(encoding="utf-8")
+    path = explanation_of(config, trace, text)
+    return text if path is None else path.read_text(encoding="utf-8")
 
 
 def runs_of(config: str, trace: str, text: str) -> list[Run]:
@@ -70,7 +82,7 @@ def runs_of(config: str, trace: str, text: str) -> list[Run]:
         return [(["stats", *files], text)]
     checks = [(["check", *files, "--workers", str(count)], text) for count in WORKERS]
     checks.append((["check", *files, "--complete"], complete(trace, text)))
-    checks.append((["explain", *files], explained(trace, text)))
+    checks.append((["explain", *files], explained(config, trace, text)))
     return checks if text.startswith("yes") else [*checks, (["stats", *files], text)]
 
 
