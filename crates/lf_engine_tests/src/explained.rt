@@ -62,6 +62,8 @@ block=0 address=0x0 before it:
   supplied by level two no
   memory                bytes=0000000000000000
 
+the last accepted store of the first byte that differs: none
+
 before it:
 fill2 bank=0 number=3 block=0 bytes=0000000000000000 ; at 64
 fill1 bank=0 number=4 block=0 bytes=0000000000000000 ; at 84
@@ -90,6 +92,10 @@ block=0 address=0x0 before it:
   supplied by level two no
   memory                bytes=aabb000000000000
 
+the fill of the line and the stores to it:
+primary bank=0 number=1 port=0 tag=0 register=0 ; at 38
+fill1 bank=0 number=4 block=0 bytes=0000000000000000 ; at 86
+
 before it:
 fill1 bank=0 number=4 block=0 bytes=0000000000000000 ; at 86
 ";
@@ -103,6 +109,9 @@ no port=0 event=1 rule=TagBusy
 
 load port=0 bank=0 number=1 tag=0 size=8 address=0x8 ; at 36
   TagBusy asks that the tag is not in use
+
+the request with this tag and without a reply:
+load port=0 bank=0 number=0 tag=0 size=8 address=0x0 ; at 16
 
 before it:
 load port=0 bank=0 number=0 tag=0 size=8 address=0x0 ; at 16
@@ -132,12 +141,24 @@ no port=0 event=1 rule=TagBusy
 load port=0 bank=0 number=2 tag=0 size=8 address=0x8 ; at 48
   TagBusy asks that the tag is not in use
 
+the request with this tag and without a reply:
+load port=0 bank=0 number=0 tag=0 size=8 address=0x0 ; at 16
+
 before it:
 load port=0 bank=0 number=0 tag=0 size=8 address=0x0 ; at 16
 
 the first record of the trace upon which something broke:
 hit bank=0 number=1 port=0 tag=0 ; at 36
   NotPresent asks that level one has the block
+
+block=0 address=0x0 before it:
+  level-one line        none
+  level-two line        none
+  level-one register    none
+  level-two register    none
+  asked of level two    no
+  supplied by level two no
+  memory                bytes=0000000000000000
 
 before it:
 load port=0 bank=0 number=0 tag=0 size=8 address=0x0 ; at 16
