@@ -1,5 +1,6 @@
 -- No line that is printed has a newline in it.
-use Rattle.std.proofs.Common.{◌≡◌, ℕ, zero, suc, ◌+◌, ◌/◌, ◌%◌, Bool, true, false, not, ◌&&◌, cond, eqb, ltb, List, [], ◌∷◌, ◌++◌, get_or, refl, arith, codes}
+use Rattle.std.proofs.Common.{◌≡◌, ℕ, zero, suc, ◌+◌, ◌/◌, ◌%◌, Bool, true, false, not, ◌&&◌, cond, eqb, ltb, List}
+use Rattle.std.proofs.Common.{[], ◌∷◌, ◌++◌, get_or, refl, arith, codes}
 use Rattle.std.specs.List.{slice_split, onto_first}
 use Rattle.std.specs.Fmt.{decimal, digits, digits_onto, digit_glyph}
 use Rattle.hex.specs.Hex.{encode_with, encode_lower, lower_digits}
@@ -10,7 +11,9 @@ use Rattle.lf_rules.specs.declared.event.Event.TheVariants as events
 use Rattle.lf_rules.specs.declared.event.Record.{Record}
 use Rattle.lf_codec.specs.Layout.{data_of}
 use Rattle.lf_codec.specs.declared.header.Header.{Header}
-use Rattle.lf_text.specs.Text.{hexadecimal, word_of, port_field, place_fields, head_of, head_text, tag_field, size_field, register_field, block_field, mask_field, masks_text, fields_text, data_text, record_text, header_text, memory_text}
+use Rattle.lf_text.specs.Text.{hexadecimal, word_of, port_field, place_fields, head_of, head_text, tag_field}
+use Rattle.lf_text.specs.Text.{size_field, register_field, block_field, mask_field, masks_text, fields_text}
+use Rattle.lf_text.specs.Text.{data_text, record_text, header_text, memory_text}
 use Rattle.lf_assemble.specs.Assembly.{is_newline}
 
 abbrev pub is_plain : List ℕ → Bool
@@ -65,7 +68,8 @@ onto_is_plain : (k base n : ℕ) (acc : List ℕ) → is_plain acc ≡ true → 
 onto_is_plain zero base n acc p = p
 onto_is_plain (suc k) base n acc p =
     let more : is_plain (digit_glyph false (n % base) ∷ acc) ≡ true = rw (glyph_is_plain (n % base)) p in
-    onto_step (eqb (n / base) 0) (digit_glyph false (n % base) ∷ acc) (digits_onto k base false (n / base) (digit_glyph false (n % base) ∷ acc))
+    onto_step (eqb (n / base) 0) (digit_glyph false (n % base) ∷ acc)
+    (digits_onto k base false (n / base) (digit_glyph false (n % base) ∷ acc))
     more (onto_is_plain k base (n / base) (digit_glyph false (n % base) ∷ acc) more)
 
 pub digits_are_plain : (base n : ℕ) → is_plain (digits base false n) ≡ true
@@ -113,7 +117,8 @@ word_is_plain (events.SecondMerge block register) = refl
 place_is_plain : (bank number : ℕ) → is_plain (place_fields bank number) ≡ true
 place_is_plain bank number =
     let first = numbered (codes " bank=") bank refl in
-    numbered (codes " bank=" ++ decimal bank ++ codes " number=") number (join (codes " bank=" ++ decimal bank) (codes " number=") first refl)
+    numbered (codes " bank=" ++ decimal bank ++ codes " number=") number
+    (join (codes " bank=" ++ decimal bank) (codes " number=") first refl)
 
 port_place_is_plain : (log bank number : ℕ) → is_plain (port_field log ++ place_fields bank number) ≡ true
 port_place_is_plain log bank number =
@@ -153,7 +158,8 @@ request_is_plain port tag = join (port_field port) (tag_field tag) (port_is_plai
 
 miss_is_plain : (port tag register : ℕ) → is_plain (port_field port ++ tag_field tag ++ register_field register) ≡ true
 miss_is_plain port tag register =
-    join (port_field port ++ tag_field tag) (register_field register) (request_is_plain port tag) (register_is_plain register)
+    join (port_field port ++ tag_field tag) (register_field register) (request_is_plain port tag)
+    (register_is_plain register)
 
 second_is_plain : (block register : ℕ) → is_plain (block_field block ++ register_field register) ≡ true
 second_is_plain block register =
@@ -171,7 +177,8 @@ fields_are_plain (events.Issue op tag size address bytes) =
     let tags = codes " tag=" ++ decimal tag in
     let sizes = tags ++ codes " size=" ++ decimal size in
     let first : is_plain tags ≡ true = numbered (codes " tag=") tag refl in
-    let second : is_plain sizes ≡ true = numbered (tags ++ codes " size=") size (join tags (codes " size=") first refl) in
+    let second : is_plain sizes ≡ true = numbered (tags ++ codes " size=") size
+    (join tags (codes " size=") first refl) in
     addressed (sizes ++ codes " address=") address (join sizes (codes " address=") second refl)
 fields_are_plain (events.Reply tag size bytes) =
     join (tag_field tag) (size_field size) (tag_is_plain tag) (numbered (codes " size=") size refl)
@@ -180,7 +187,8 @@ fields_are_plain (events.Primary port tag register) = miss_is_plain port tag reg
 fields_are_plain (events.Merge port tag register) = miss_is_plain port tag register
 fields_are_plain (events.Stall port tag) = request_is_plain port tag
 fields_are_plain (events.Fill1 block bytes) = block_is_plain block
-fields_are_plain (events.Evict1 block mask bytes) = join (block_field block) (mask_field mask) (block_is_plain block) (mask_is_plain mask)
+fields_are_plain (events.Evict1 block mask bytes) = join (block_field block) (mask_field mask) (block_is_plain block)
+    (mask_is_plain mask)
 fields_are_plain (events.SecondHit block) = block_is_plain block
 fields_are_plain (events.SecondPrimary block register) = second_is_plain block register
 fields_are_plain (events.SecondStall block) = block_is_plain block
@@ -200,17 +208,20 @@ record_is_plain r =
     let head = head_text r in
     let fields = fields_text r.event in
     join (word ++ head ++ fields) (data_text (data_of r.event))
-    (join (word ++ head) fields (join word head (word_is_plain r.event) (head_is_plain r.log r.bank r.number r.event)) (fields_are_plain r.event))
+    (join (word ++ head) fields (join word head (word_is_plain r.event) (head_is_plain r.log r.bank r.number r.event))
+    (fields_are_plain r.event))
     (data_is_plain (data_of r.event))
 
 pub memory_is_plain : (block : ℕ) (bytes : List ℕ) → is_plain (memory_text block bytes) ≡ true
 memory_is_plain block bytes =
     let front = codes "memory" ++ block_field block in
     let first : is_plain front ≡ true = join (codes "memory") (block_field block) refl (block_is_plain block) in
-    join (front ++ codes " bytes=") (encode_lower bytes) (join front (codes " bytes=") first refl) (encoded_is_plain bytes)
+    join (front ++ codes " bytes=") (encode_lower bytes) (join front (codes " bytes=") first refl)
+    (encoded_is_plain bytes)
 
 -- a name and a number more
-field_more : (text name : List ℕ) (n : ℕ) → is_plain text ≡ true → is_plain name ≡ true → is_plain (text ++ name ++ decimal n) ≡ true
+field_more : (text name : List ℕ) (n : ℕ) → is_plain text ≡ true → is_plain name ≡ true →
+    is_plain (text ++ name ++ decimal n) ≡ true
 field_more text name n p q = numbered (text ++ name) n (join text name p q)
 
 pub header_is_plain : (h : Header) → is_plain (header_text h) ≡ true
@@ -231,5 +242,6 @@ pub end_is_plain : (count : ℕ) → is_plain (codes "end count=" ++ decimal cou
 end_is_plain count = numbered (codes "end count=") count refl
 
 -- the line with its place
-pub placed_is_plain : (text : List ℕ) (offset : ℕ) → is_plain text ≡ true → is_plain (text ++ codes " ; at " ++ decimal offset) ≡ true
+pub placed_is_plain : (text : List ℕ) (offset : ℕ) → is_plain text ≡ true →
+    is_plain (text ++ codes " ; at " ++ decimal offset) ≡ true
 placed_is_plain text offset p = field_more text (codes " ; at ") offset p refl

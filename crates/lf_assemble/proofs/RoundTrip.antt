@@ -1,5 +1,7 @@
 -- The text that is printed of a trace gives that trace.
-use Rattle.std.proofs.Common.{◌≡◌, ℕ, suc, ◌+◌, ◌-◌, ◌<◌, true, eqb, ltb, List, [], ◌∷◌, ◌++◌, length, map, Option, Some, None, Result, Ok, Err, refl, sym, ap, subst, ◌∙◌, append_assoc, append-nil, arith, inl, inr, codes}
+use Rattle.std.proofs.Common.{◌≡◌, ℕ, suc, ◌+◌, ◌-◌, ◌<◌, true, eqb, ltb, List, [], ◌∷◌, ◌++◌, length, map, Option}
+use Rattle.std.proofs.Common.{Some, None, Result, Ok, Err, refl, sym, ap, subst, ◌∙◌, append_assoc, append-nil, arith}
+use Rattle.std.proofs.Common.{inl, inr, codes}
 use Rattle.std.specs.List.{slice_split, flat_map, AllByRecursion}
 use Rattle.std.specs.Fmt.{decimal}
 use Rattle.std.specs.Global.{Vec}
@@ -16,7 +18,8 @@ use Rattle.lf_codec.proofs.Backward.{fault_cases}
 use Rattle.lf_codec.proofs.Faults.{faults_stand}
 use Rattle.lf_codec.proofs.Forward.{few_of_trace}
 use Rattle.lf_codec.proofs.TraceLaws.{trace_is_read}
-use Rattle.lf_dump.specs.Lines.{placed_line, lines_from, len_of, memory_part, record_part, parts_in, closing_of, lines_of}
+use Rattle.lf_dump.specs.Lines.{placed_line, lines_from, len_of, memory_part, record_part, parts_in, closing_of}
+use Rattle.lf_dump.specs.Lines.{lines_of}
 use Rattle.lf_dump.specs.Lines.{text_of as trace_text}
 use Rattle.lf_dump.proofs.Lengths.{lines_from-append}
 use Rattle.lf_parse.specs.declared.line.Line.{Line}
@@ -29,9 +32,11 @@ use Rattle.lf_assemble.specs.declared.due.Due.{Due}
 use Rattle.lf_assemble.specs.declared.due.Due.TheVariants as due
 use Rattle.lf_assemble.specs.declared.fault.AssembleCause.TheVariants.{Memory}
 use Rattle.lf_assemble.specs.declared.fault.AssembleFault.{AssembleFault}
-use Rattle.lf_assemble.specs.Assembly.{ports_of, behind, due_after, line_bytes, judged, put_behind, said, added, ended, assembled, is_newline, least_of, assembled_text, Assembles}
+use Rattle.lf_assemble.specs.Assembly.{ports_of, behind, due_after, line_bytes, judged, put_behind, said, added}
+use Rattle.lf_assemble.specs.Assembly.{ended, assembled, is_newline, least_of, assembled_text, Assembles}
 use Rattle.lf_assemble.proofs.LineLoop.{text_added}
-use Rattle.lf_assemble.proofs.Plain.{is_plain, split_plain, placed_is_plain, record_is_plain, memory_is_plain, header_is_plain, end_is_plain}
+use Rattle.lf_assemble.proofs.Plain.{is_plain, split_plain, placed_is_plain, record_is_plain, memory_is_plain}
+use Rattle.lf_assemble.proofs.Plain.{header_is_plain, end_is_plain}
 use Rattle.lf_assemble.proofs.Ranges.{record_in_range, header_in_range, block_le, event_passes}
 
 -- ---- no fault stands in a beginning of a trace
@@ -66,24 +71,30 @@ unfolding line_of
 blank_read ports defaults = refl
 
 line_added : (now : Due) (defaults : Defaults) (bytes : List ℕ) (text : List ℕ) (line : Line) (next : Due)
-    → line_of (ports_of now) defaults text ≡ Ok line → due_after now line ≡ Ok next → fault_so_far (bytes ++ line_bytes line) ≡ None
+    → line_of (ports_of now) defaults text ≡ Ok line → due_after now line ≡ Ok next →
+    fault_so_far (bytes ++ line_bytes line) ≡ None
     → added now defaults bytes text ≡ Ok (next, defaults_after defaults line, bytes ++ line_bytes line)
 unfolding added
 line_added now defaults bytes text line next read then fine =
-    ap (said now defaults bytes) read ∙ ap (put_behind defaults bytes line) then ∙ ap (judged next (defaults_after defaults line) (bytes ++ line_bytes line)) fine
+    ap (said now defaults bytes) read ∙ ap (put_behind defaults bytes line) then ∙ ap
+    (judged next (defaults_after defaults line) (bytes ++ line_bytes line)) fine
 
-one_line : (now : Due) (defaults : Defaults) (bytes : List ℕ) (number offset : ℕ) (line : Line) (next : Due) (rest : List ℕ)
+one_line : (now : Due) (defaults : Defaults) (bytes : List ℕ) (number offset : ℕ) (line : Line) (next : Due)
+    (rest : List ℕ)
     → LineInRange (ports_of now) line → is_plain (text_of line) ≡ true → due_after now line ≡ Ok next
     → fault_so_far (bytes ++ line_bytes line) ≡ None
     → assembled now defaults bytes number (slice_split is_newline (placed_line (text_of line) offset ++ rest))
-    ≡ assembled next (defaults_after defaults line) (bytes ++ line_bytes line) (number + 1) (slice_split is_newline rest)
+    ≡ assembled next (defaults_after defaults line) (bytes ++ line_bytes line) (number + 1)
+    (slice_split is_newline rest)
 one_line now defaults bytes number offset line next rest fits plain then fine =
     let text = text_of line ++ codes " ; at " ++ decimal offset in
-    let texts : slice_split is_newline (placed_line (text_of line) offset ++ rest) ≡ text ∷ slice_split is_newline rest =
+    let texts : slice_split is_newline (placed_line (text_of line) offset ++ rest) ≡ text
+    ∷ slice_split is_newline rest =
     ap (slice_split is_newline) (append_assoc text (10 ∷ []) rest)
     ∙ split_plain text rest (placed_is_plain (text_of line) offset plain) in
     ap (assembled now defaults bytes number) texts
-    ∙ text_added now defaults bytes number text (slice_split is_newline rest) [] (Ok []) next (defaults_after defaults line) (bytes ++ line_bytes line)
+    ∙ text_added now defaults bytes number text (slice_split is_newline rest) [] (Ok []) next
+    (defaults_after defaults line) (bytes ++ line_bytes line)
     (line_added now defaults bytes text line next (line_read (ports_of now) defaults line offset fits) then fine)
 
 -- ---- the memory
@@ -99,10 +110,14 @@ memory_due : (h : Header) (n block : ℕ) (bytes : Bytes) → length bytes.items
 memory_due h n block bytes len =
     rw (eqb_same (length bytes.items) h.block len) (ap (λ (k : ℕ). Ok (behind h k)) (one_less n))
 
-memory_lines : (h : Header) (defaults : Defaults) (memory : List (ℕ × Bytes)) (least : ℕ) (bytes : List ℕ) (number offset : ℕ) (rest more : List ℕ)
-    → FitsHeader h → FitsMemory h.block least memory → trace_fault ((bytes ++ flat_map memory_bytes memory) ++ more) ≡ None
-    → assembled (behind h (length memory)) defaults bytes number (slice_split is_newline (lines_from offset (map memory_part memory) ++ rest))
-    ≡ assembled (due.Event h 0) defaults (bytes ++ flat_map memory_bytes memory) (number + length memory) (slice_split is_newline rest)
+memory_lines : (h : Header) (defaults : Defaults) (memory : List (ℕ × Bytes)) (least : ℕ) (bytes : List ℕ)
+    (number offset : ℕ) (rest more : List ℕ)
+    → FitsHeader h → FitsMemory h.block least memory → trace_fault ((bytes ++ flat_map memory_bytes memory) ++ more)
+    ≡ None
+    → assembled (behind h (length memory)) defaults bytes number
+    (slice_split is_newline (lines_from offset (map memory_part memory) ++ rest))
+    ≡ assembled (due.Event h 0) defaults (bytes ++ flat_map memory_bytes memory) (number + length memory)
+    (slice_split is_newline rest)
 memory_lines h defaults [] least bytes number offset rest more header fits whole =
     let same : bytes ≡ bytes ++ [] = sym (append-nil bytes) in
     let count : number ≡ number + 0 = omega arith in
@@ -113,21 +128,29 @@ memory_lines h defaults (m ∷ memory) least bytes number offset rest more heade
     let later = lines_from (offset + length (memory_bytes m)) (map memory_part memory) in
     let small = block_le h.block header.block_size in
     let carried = fits.2 in
-    let grouped : bytes ++ (memory_bytes m ++ flat_map memory_bytes memory) ≡ (bytes ++ memory_bytes m) ++ flat_map memory_bytes memory =
+    let grouped : bytes ++ (memory_bytes m ++ flat_map memory_bytes memory) ≡ (bytes ++ memory_bytes m)
+    ++ flat_map memory_bytes memory =
     sym (append_assoc bytes (memory_bytes m) (flat_map memory_bytes memory)) in
     let still : trace_fault (((bytes ++ memory_bytes m) ++ flat_map memory_bytes memory) ++ more) ≡ None =
     subst (λ (b : List ℕ). trace_fault (b ++ more) ≡ None) grouped whole in
     let here : trace_fault ((bytes ++ memory_bytes m) ++ (flat_map memory_bytes memory ++ more)) ≡ None =
-    subst (λ (b : List ℕ). trace_fault b ≡ None) (append_assoc (bytes ++ memory_bytes m) (flat_map memory_bytes memory) more) still in
+    subst (λ (b : List ℕ). trace_fault b ≡ None) (append_assoc (bytes ++ memory_bytes m)
+    (flat_map memory_bytes memory) more) still in
     let count : number + 1 + length memory ≡ number + suc (length memory) = omega arith in
     ap (λ (t : List ℕ). assembled (due.Memory h (suc (length memory))) defaults bytes number (slice_split is_newline t))
     (append_assoc (placed_line (text_of line) offset) later rest)
-    ∙ one_line (due.Memory h (suc (length memory))) defaults bytes number offset line (behind h (length memory)) (later ++ rest)
-    (fits.1, record { few = omega (arith, carried.size, small); bytes_fit = carried.bytes_fit }) (memory_is_plain m.0 m.1.items)
-    (memory_due h (length memory) m.0 m.1 carried.size) (fine_before (bytes ++ memory_bytes m) (flat_map memory_bytes memory ++ more) here)
-    ∙ memory_lines h defaults memory (m.0 + 1) (bytes ++ memory_bytes m) (number + 1) (offset + length (memory_bytes m)) rest more header fits.3 still
-    ∙ ap (λ (b : List ℕ). assembled (due.Event h 0) defaults b (number + 1 + length memory) (slice_split is_newline rest)) (sym grouped)
-    ∙ ap (λ (n : ℕ). assembled (due.Event h 0) defaults (bytes ++ (memory_bytes m ++ flat_map memory_bytes memory)) n (slice_split is_newline rest)) count
+    ∙ one_line (due.Memory h (suc (length memory))) defaults bytes number offset line (behind h (length memory))
+    (later ++ rest)
+    (fits.1, record { few = omega (arith, carried.size, small); bytes_fit = carried.bytes_fit })
+    (memory_is_plain m.0 m.1.items)
+    (memory_due h (length memory) m.0 m.1 carried.size) (fine_before (bytes ++ memory_bytes m)
+    (flat_map memory_bytes memory ++ more) here)
+    ∙ memory_lines h defaults memory (m.0 + 1) (bytes ++ memory_bytes m) (number + 1)
+    (offset + length (memory_bytes m)) rest more header fits.3 still
+    ∙ ap (λ (b : List ℕ). assembled (due.Event h 0) defaults b (number + 1 + length memory)
+    (slice_split is_newline rest)) (sym grouped)
+    ∙ ap (λ (n : ℕ). assembled (due.Event h 0) defaults (bytes ++ (memory_bytes m ++ flat_map memory_bytes memory)) n
+    (slice_split is_newline rest)) count
 
 -- ---- the event records
 
@@ -143,11 +166,14 @@ record_due h r stand fits few =
     let counts : ltb stand 0xffff_ffff ≡ true = grind arith in
     rw (event_passes h r.bank r.event fits.fits.event, counts) refl
 
-record_lines : (h : Header) (stand : ℕ) (defaults : Defaults) (records : List Record) (bytes : List ℕ) (number offset : ℕ) (rest more : List ℕ)
+record_lines : (h : Header) (stand : ℕ) (defaults : Defaults) (records : List Record) (bytes : List ℕ)
+    (number offset : ℕ) (rest more : List ℕ)
     → FitsHeader h → stand + length records < 0x1_0000_0000 → AllByRecursion (FitsIn h) records
     → trace_fault ((bytes ++ flat_map record_bytes records) ++ more) ≡ None
-    → assembled (due.Event h stand) defaults bytes number (slice_split is_newline (lines_from offset (map record_part records) ++ rest))
-    ≡ assembled (due.Event h (stand + length records)) (defaults_behind defaults records) (bytes ++ flat_map record_bytes records)
+    → assembled (due.Event h stand) defaults bytes number (slice_split is_newline
+    (lines_from offset (map record_part records) ++ rest))
+    ≡ assembled (due.Event h (stand + length records)) (defaults_behind defaults records)
+    (bytes ++ flat_map record_bytes records)
     (number + length records) (slice_split is_newline rest)
 record_lines h stand defaults [] bytes number offset rest more header few fits whole =
     let same : bytes ≡ bytes ++ [] = sym (append-nil bytes) in
@@ -162,44 +188,59 @@ record_lines h stand defaults (r ∷ records) bytes number offset rest more head
     let behind_all = defaults_behind after records in
     let later = lines_from (offset + length (record_bytes r)) (map record_part records) in
     let all = bytes ++ (record_bytes r ++ flat_map record_bytes records) in
-    let grouped : bytes ++ (record_bytes r ++ flat_map record_bytes records) ≡ (bytes ++ record_bytes r) ++ flat_map record_bytes records =
+    let grouped : bytes ++ (record_bytes r ++ flat_map record_bytes records) ≡ (bytes ++ record_bytes r)
+    ++ flat_map record_bytes records =
     sym (append_assoc bytes (record_bytes r) (flat_map record_bytes records)) in
     let still : trace_fault (((bytes ++ record_bytes r) ++ flat_map record_bytes records) ++ more) ≡ None =
     subst (λ (b : List ℕ). trace_fault (b ++ more) ≡ None) grouped whole in
     let here : trace_fault ((bytes ++ record_bytes r) ++ (flat_map record_bytes records ++ more)) ≡ None =
-    subst (λ (b : List ℕ). trace_fault b ≡ None) (append_assoc (bytes ++ record_bytes r) (flat_map record_bytes records) more) still in
+    subst (λ (b : List ℕ). trace_fault b ≡ None) (append_assoc (bytes ++ record_bytes r)
+    (flat_map record_bytes records) more) still in
     let count : number + 1 + length records ≡ number + suc (length records) = omega arith in
     let stands : stand + 1 + length records ≡ stand + suc (length records) = omega arith in
     ap (λ (t : List ℕ). assembled (due.Event h stand) defaults bytes number (slice_split is_newline t))
     (append_assoc (placed_line (text_of line) offset) later rest)
-    ∙ one_line (due.Event h stand) defaults bytes number offset line (due.Event h (stand + 1)) (later ++ rest) (record_in_range h r header fits.0)
-    (record_is_plain r) (record_due h r stand fits.0 (omega arith)) (fine_before (bytes ++ record_bytes r) (flat_map record_bytes records ++ more) here)
-    ∙ record_lines h (stand + 1) after records (bytes ++ record_bytes r) (number + 1) (offset + length (record_bytes r)) rest more header
+    ∙ one_line (due.Event h stand) defaults bytes number offset line (due.Event h (stand + 1)) (later ++ rest)
+    (record_in_range h r header fits.0)
+    (record_is_plain r) (record_due h r stand fits.0 (omega arith))
+    (fine_before (bytes ++ record_bytes r) (flat_map record_bytes records ++ more) here)
+    ∙ record_lines h (stand + 1) after records (bytes ++ record_bytes r) (number + 1)
+    (offset + length (record_bytes r)) rest more header
     (omega arith) fits.1 still
-    ∙ ap (λ (b : List ℕ). assembled (due.Event h (stand + 1 + length records)) behind_all b (number + 1 + length records) (slice_split is_newline rest)) (sym grouped)
-    ∙ ap (λ (n : ℕ). assembled (due.Event h (stand + 1 + length records)) behind_all all n (slice_split is_newline rest)) count
-    ∙ ap (λ (n : ℕ). assembled (due.Event h n) behind_all all (number + suc (length records)) (slice_split is_newline rest)) stands
+    ∙ ap (λ (b : List ℕ). assembled (due.Event h (stand + 1 + length records)) behind_all b
+    (number + 1 + length records) (slice_split is_newline rest)) (sym grouped)
+    ∙ ap (λ (n : ℕ). assembled (due.Event h (stand + 1 + length records)) behind_all all n
+    (slice_split is_newline rest)) count
+    ∙ ap (λ (n : ℕ). assembled (due.Event h n) behind_all all (number + suc (length records))
+    (slice_split is_newline rest)) stands
 
 -- ---- the end
 
 -- nothing stands behind the last newline
-last_line : (defaults : Defaults) (bytes : List ℕ) (number : ℕ) → trace_fault bytes ≡ None → assembled due.Nothing defaults bytes number ([] ∷ []) ≡ Ok bytes
+last_line : (defaults : Defaults) (bytes : List ℕ) (number : ℕ) → trace_fault bytes ≡ None →
+    assembled due.Nothing defaults bytes number ([] ∷ []) ≡ Ok bytes
 unfolding assembled
 last_line defaults bytes number whole =
     let same : bytes ++ [] ≡ bytes = append-nil bytes in
-    let fine : fault_so_far (bytes ++ []) ≡ None = fine_before (bytes ++ []) [] (subst (λ (b : List ℕ). trace_fault b ≡ None) (sym (append-nil (bytes ++ []) ∙ same)) whole) in
+    let fine : fault_so_far (bytes ++ []) ≡ None = fine_before (bytes ++ []) []
+    (subst (λ (b : List ℕ). trace_fault b ≡ None) (sym (append-nil (bytes ++ []) ∙ same)) whole) in
     text_added due.Nothing defaults bytes number [] [] [] (Ok []) due.Nothing defaults (bytes ++ [])
     (line_added due.Nothing defaults bytes [] lines.Blank due.Nothing (blank_read 0 defaults) refl fine)
     ∙ ap (λ (b : List ℕ). ended (number + 1) b (trace_fault b)) same
     ∙ ap (ended (number + 1) bytes) whole
 
-end_lines : (h : Header) (stand : ℕ) (defaults : Defaults) (bytes : List ℕ) (number offset count : ℕ) → count < 0x1_0000_0000 → trace_fault (bytes ++ end_bytes count) ≡ None
-    → assembled (due.Event h stand) defaults bytes number (slice_split is_newline (placed_line (codes "end count=" ++ decimal count) offset)) ≡ Ok (bytes ++ end_bytes count)
+end_lines : (h : Header) (stand : ℕ) (defaults : Defaults) (bytes : List ℕ) (number offset count : ℕ) →
+    count < 0x1_0000_0000 → trace_fault (bytes ++ end_bytes count) ≡ None
+    → assembled (due.Event h stand) defaults bytes number (slice_split is_newline
+    (placed_line (codes "end count=" ++ decimal count) offset)) ≡ Ok (bytes ++ end_bytes count)
 end_lines h stand defaults bytes number offset count fits whole =
     let text = placed_line (codes "end count=" ++ decimal count) offset in
-    ap (λ (t : List ℕ). assembled (due.Event h stand) defaults bytes number (slice_split is_newline t)) (sym (append-nil text))
-    ∙ one_line (due.Event h stand) defaults bytes number offset (lines.End count) due.Nothing [] fits (end_is_plain count) refl
-    (fine_before (bytes ++ end_bytes count) [] (subst (λ (b : List ℕ). trace_fault b ≡ None) (sym (append-nil (bytes ++ end_bytes count))) whole))
+    ap (λ (t : List ℕ). assembled (due.Event h stand) defaults bytes number (slice_split is_newline t))
+    (sym (append-nil text))
+    ∙ one_line (due.Event h stand) defaults bytes number offset (lines.End count) due.Nothing [] fits
+    (end_is_plain count) refl
+    (fine_before (bytes ++ end_bytes count) [] (subst (λ (b : List ℕ). trace_fault b ≡ None)
+    (sym (append-nil (bytes ++ end_bytes count))) whole))
     ∙ last_line defaults (bytes ++ end_bytes count) (number + 1) whole
 
 -- ---- the whole text
@@ -208,7 +249,8 @@ header_due : (h : Header) → FitsHeader h → due_after due.Lfts (lines.Header 
 header_due h header = rw header.one_block refl
 
 -- the text of this trace, part by part
-text_by_parts : (bytes : List ℕ) (h : Header) (memory : List (ℕ × Bytes)) (records : List Record) → IsTrace bytes h memory records
+text_by_parts : (bytes : List ℕ) (h : Header) (memory : List (ℕ × Bytes)) (records : List Record) →
+    IsTrace bytes h memory records
     → (memory_at : ℕ) × (records_at : ℕ) × (end_at : ℕ)
     × (trace_text bytes ≡ placed_line (text_of (lines.Header h)) 0
     ++ (lines_from memory_at (map memory_part memory)
@@ -224,13 +266,20 @@ text_by_parts bytes h memory records trace =
     let third = lines_from records_at (map record_part records) in
     let last = placed_line (text_of (lines.End (length records))) end_at in
     let front : lines_of bytes ≡ first ++ (second ++ third) =
-    rw (read.1, read.2, read.3) (ap (λ (l : List ℕ). first ++ l) (lines_from-append (map memory_part memory) (map record_part records) memory_at)) in
+    rw (read.1, read.2, read.3) (ap (λ (l : List ℕ). first ++ l)
+    (lines_from-append (map memory_part memory) (map record_part records) memory_at)) in
     let back : closing_of bytes ≡ last = rw (read.0, read.1, read.2, read.3) refl in
     let joined : trace_text bytes ≡ (first ++ (second ++ third)) ++ last =
-    ap (λ (l : List ℕ). l ++ closing_of bytes) front ∙ ap (λ (l : List ℕ). (first ++ (second ++ third)) ++ l) back in
-    (memory_at, records_at, end_at, joined ∙ append_assoc first (second ++ third) last ∙ ap (λ (l : List ℕ). first ++ l) (append_assoc second third last))
+    ap (λ (l : List ℕ). l ++ closing_of bytes) front ∙ ap (λ (l : List ℕ). (first ++ (second ++ third)) ++ l) back in (
+      memory_at,
+      records_at,
+      end_at,
+      joined ∙ append_assoc first (second ++ third) last
+          ∙ ap (λ (l : List ℕ). first ++ l) (append_assoc second third last),
+    )
 
-pub trace_again : (bytes : List ℕ) (h : Header) (memory : List (ℕ × Bytes)) (records : List Record) → IsTrace bytes h memory records
+pub trace_again : (bytes : List ℕ) (h : Header) (memory : List (ℕ × Bytes)) (records : List Record) →
+    IsTrace bytes h memory records
     → assembled_text (trace_text bytes) ≡ Ok bytes
 trace_again bytes h memory records trace =
     let header = trace.fits.header in
@@ -246,15 +295,20 @@ trace_again bytes h memory records trace =
     let few = few_of_trace h memory records trace.fits in
     let no_fault : trace_fault (((a ++ b) ++ c) ++ d) ≡ None =
     subst (λ (t : List ℕ). trace_fault t ≡ None) trace.spelled (trace_is_read bytes h memory records trace).0 in
-    let in_records : trace_fault ((a ++ b) ++ (c ++ d)) ≡ None = subst (λ (t : List ℕ). trace_fault t ≡ None) (append_assoc (a ++ b) c d) no_fault in
-    let in_memory : trace_fault (a ++ (b ++ (c ++ d))) ≡ None = subst (λ (t : List ℕ). trace_fault t ≡ None) (append_assoc a b (c ++ d)) in_records in
+    let in_records : trace_fault ((a ++ b) ++ (c ++ d)) ≡ None =
+    subst (λ (t : List ℕ). trace_fault t ≡ None) (append_assoc (a ++ b) c d) no_fault in
+    let in_memory : trace_fault (a ++ (b ++ (c ++ d))) ≡ None =
+    subst (λ (t : List ℕ). trace_fault t ≡ None) (append_assoc a b (c ++ d)) in_records in
     ap (λ (t : List ℕ). assembled due.Lfts first [] 0 (slice_split is_newline t)) parts.3
     ∙ one_line due.Lfts first [] 0 0 (lines.Header h) (behind h h.memory_count) (memory_text ++ (records_text ++ last))
     (header_in_range h header) (header_is_plain h) (header_due h header) (fine_before a (b ++ (c ++ d)) in_memory)
-    ∙ ap (λ (n : ℕ). assembled (behind h n) first a 1 (slice_split is_newline (memory_text ++ (records_text ++ last)))) trace.fits.memory_count
+    ∙ ap (λ (n : ℕ). assembled (behind h n) first a 1 (slice_split is_newline
+    (memory_text ++ (records_text ++ last)))) trace.fits.memory_count
     ∙ memory_lines h first memory 0 a 1 parts.0 (records_text ++ last) (c ++ d) header trace.fits.blocks in_records
-    ∙ record_lines h 0 first records (a ++ b) (1 + length memory) parts.1 last d header (omega (arith, few)) trace.fits.each no_fault
-    ∙ end_lines h (0 + length records) (defaults_behind first records) ((a ++ b) ++ c) (1 + length memory + length records) parts.2 (length records)
+    ∙ record_lines h 0 first records (a ++ b) (1 + length memory) parts.1 last d header (omega (arith, few))
+    trace.fits.each no_fault
+    ∙ end_lines h (0 + length records) (defaults_behind first records) ((a ++ b) ++ c)
+    (1 + length memory + length records) parts.2 (length records)
     few no_fault
     ∙ ap (λ (t : List ℕ). Ok t) (sym trace.spelled)
 

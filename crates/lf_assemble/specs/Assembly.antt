@@ -1,5 +1,6 @@
 -- What the lines of a text give: the bytes of a trace, or the first fault and its line.
-use Rattle.std.specs.Prelude.{◌≡◌, ◌⊎◌, ℕ, zero, suc, ◌+◌, ◌-◌, ◌*◌, max, Bool, true, ◌==◌, ◌||◌, not, nat_lt, List, [], ◌∷◌, ◌++◌, length, if◌then◌else◌, Option, Some, None, Result, Ok, Err}
+use Rattle.std.specs.Prelude.{◌≡◌, ◌⊎◌, ℕ, zero, suc, ◌+◌, ◌-◌, ◌*◌, max, Bool, true, ◌==◌, ◌||◌, not, nat_lt, List}
+use Rattle.std.specs.Prelude.{[], ◌∷◌, ◌++◌, length, if◌then◌else◌, Option, Some, None, Result, Ok, Err}
 use Rattle.std.specs.Global.{Vec}
 use Rattle.std.specs.List.{slice_split}
 use Rattle.std.specs.Int.RustNames.{count_ones}
@@ -97,7 +98,8 @@ abbrev pub judged : Due → Defaults → List ℕ → Option CodecFault → Resu
 judged next defaults bytes None = Ok (next, defaults, bytes)
 judged next defaults bytes (Some fault) = Err (causes.Format fault.cause)
 
-abbrev pub put_behind : Defaults → List ℕ → Line → Result Due AssembleCause → Result (Due × Defaults × List ℕ) AssembleCause
+abbrev pub put_behind : Defaults → List ℕ → Line → Result Due AssembleCause →
+    Result (Due × Defaults × List ℕ) AssembleCause
 put_behind defaults bytes line (Ok next) =
     judged next (defaults_after defaults line) (bytes ++ line_bytes line) (fault_so_far (bytes ++ line_bytes line))
 put_behind defaults bytes line (Err cause) = Err cause
@@ -120,7 +122,8 @@ ended number bytes None = Ok bytes
 ended number bytes (Some fault) = Err (record { line = number; cause = causes.Format fault.cause })
 
 -- the bytes with those of these lines behind them, before which so many lines stand
-abbrev pub or_fault : {A : Type 0} → ℕ → Result A AssembleCause → (A → Result (List ℕ) AssembleFault) → Result (List ℕ) AssembleFault
+abbrev pub or_fault : {A : Type 0} → ℕ → Result A AssembleCause → (A → Result (List ℕ) AssembleFault) →
+    Result (List ℕ) AssembleFault
 or_fault number (Ok x) f = f x
 or_fault number (Err cause) f = Err (record { line = number; cause = cause })
 
@@ -139,7 +142,8 @@ least_of (text ∷ texts) = max (least_version text) (least_of texts)
 
 -- what a text gives, with that version where its header leaves the version out
 abbrev pub assembled_text : List ℕ → Result (List ℕ) AssembleFault
-assembled_text text = let lines = slice_split is_newline text in assembled due.Lfts (starting (least_of lines)) [] 0 lines
+assembled_text text = let lines = slice_split is_newline text in
+    assembled due.Lfts (starting (least_of lines)) [] 0 lines
 
 -- the answer is that, or memory ran out
 abbrev pub Assembles : Result (Vec ℕ) AssembleFault → Result (List ℕ) AssembleFault → Type 0

@@ -36,7 +36,8 @@ Judges new bytes (Err cause) = (cause ≡ causes.Memory) ⊎ IsForbidden bytes c
 
 -- What one more line does to a draft.
 abbrev pub Adds : Draft → Draft → List ℕ → Result (Unit {0}) AssembleCause → Type 0
-Adds old new text (Ok _) = (added old.due old.defaults old.bytes.items text ≡ Ok (new.due, new.defaults, new.bytes.items)) × IsDraft new
+Adds old new text (Ok _) = (added old.due old.defaults old.bytes.items text
+    ≡ Ok (new.due, new.defaults, new.bytes.items)) × IsDraft new
 Adds old new text (Err cause) = (cause ≡ causes.Memory) ⊎ (added old.due old.defaults old.bytes.items text ≡ Err cause)
 
 -- What the end record does to a draft, where no line said it.
@@ -61,4 +62,5 @@ left_in (Some text) = length text.now + 1
 abbrev pub Reads : Draft → Draft → List (List ℕ) → Result ℕ AssembleFault → Type 0
 Reads old new texts (Ok number) =
     (assembled old.due old.defaults old.bytes.items 0 texts ≡ whole number new) × IsDraft new
-Reads old new texts (Err fault) = (fault.cause ≡ causes.Memory) ⊎ (assembled old.due old.defaults old.bytes.items 0 texts ≡ Err fault)
+Reads old new texts (Err fault) = (fault.cause ≡ causes.Memory)
+    ⊎ (assembled old.due old.defaults old.bytes.items 0 texts ≡ Err fault)

@@ -1,5 +1,6 @@
 -- What is told of a refused text: the fault, and below it the line and a mark under the place.
-use Rattle.std.specs.Prelude.{ℕ, ◌-◌, Bool, ◌==◌, ◌||◌, ◌&&◌, nat_le, List, [], ◌∷◌, ◌++◌, take, drop, min, codes, if◌then◌else◌}
+use Rattle.std.specs.Prelude.{ℕ, ◌-◌, Bool, ◌==◌, ◌||◌, ◌&&◌, nat_le, List, [], ◌∷◌, ◌++◌, take, drop, min, codes}
+use Rattle.std.specs.Prelude.{if◌then◌else◌}
 use Rattle.std.specs.Fmt.{decimal}
 use Rattle.std.specs.List.{flat_map, slice_split, prefix_len}
 use Rattle.lf_codec.specs.Text.{cause_text}
@@ -54,7 +55,8 @@ label_text causes.Memory = []
 -- the line with its number, and below it the mark
 abbrev pub marked_line : ℕ → AssembleCause → List ℕ → ℕ → List ℕ
 marked_line number cause line place =
-    decimal number ++ codes " | " ++ flat_map shown (window place line) ++ 10 ∷ [] ++ flat_map blank (decimal number) ++ codes " | "
+    decimal number ++ codes " | " ++ flat_map shown (window place line) ++ 10 ∷ [] ++ flat_map blank (decimal number)
+    ++ codes " | "
     ++ flat_map blank (before place line) ++ codes "^ " ++ label_text cause
 
 abbrev pub excerpt_text : ℕ → AssembleCause → List ℕ → List ℕ

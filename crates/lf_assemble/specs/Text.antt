@@ -18,8 +18,10 @@ part_text parts.Nothing = codes "no more lines"
 abbrev pub fault_at : ℕ → AssembleCause → List ℕ
 fault_at line (causes.Text fault) = codes "text line=" ++ decimal line ++ codes " " ++ line_fault_text fault
 fault_at line (causes.Part part) = codes "text line=" ++ decimal line ++ codes " expected " ++ part_text part
-fault_at line (causes.Bytes len) = codes "text line=" ++ decimal line ++ codes " expected " ++ decimal len ++ codes " bytes"
-fault_at line (causes.Masks count) = codes "text line=" ++ decimal line ++ codes " expected " ++ decimal count ++ codes " masks"
+fault_at line (causes.Bytes len) = codes "text line=" ++ decimal line ++ codes " expected " ++ decimal len
+    ++ codes " bytes"
+fault_at line (causes.Masks count) = codes "text line=" ++ decimal line ++ codes " expected " ++ decimal count
+    ++ codes " masks"
 fault_at line causes.Factor = codes "text line=" ++ decimal line ++ codes " expected factor=1 before version 3"
 fault_at line (causes.Format cause) = codes "format " ++ cause_text cause ++ codes " line=" ++ decimal line
 fault_at line causes.Memory = codes "memory"

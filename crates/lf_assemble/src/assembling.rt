@@ -77,8 +77,10 @@ pub fn assemble(alloc: Global, text: &[u8]) -> Result<Vec<u8>, AssembleFault>
     // What is written is a trace.
     ensures trace { IfOk result (λ v. IsSomeTrace v.items) }
     // What was printed of a trace is read as that trace again.
-    ensures again { (bytes : List ℕ) → IsSomeTrace bytes → text.now ≡ text_of bytes → IfOk result (λ v. v.items ≡ bytes) }
-    ensures only { (bytes : List ℕ) → IsSomeTrace bytes → text.now ≡ text_of bytes → IfErr result (λ fault. fault.cause ≡ Memory) }
+    ensures again { (bytes : List ℕ) → IsSomeTrace bytes → text.now ≡ text_of bytes →
+        IfOk result (λ v. v.items ≡ bytes) }
+    ensures only { (bytes : List ℕ) → IsSomeTrace bytes → text.now ≡ text_of bytes →
+        IfErr result (λ fault. fault.cause ≡ Memory) }
 {
     let mut draft = Draft::new(alloc, least_of(text));
     let lines = add_lines(&mut draft, text)?;

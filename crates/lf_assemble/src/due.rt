@@ -3,7 +3,8 @@
 ghost use Rattle.std.specs.Prelude.{◌≡◌, Bool, length};
 ghost use Rattle.lf_codec.specs.Layout.{data_of};
 ghost use Rattle.lf_rules.specs.Fits.{masks_len};
-ghost use Rattle.lf_assemble.specs.Assembly.{ports_of, behind, masks_fit, carried_len, checked, counted, due_after, part_of};
+ghost use Rattle.lf_assemble.specs.Assembly.{ports_of, behind, masks_fit, carried_len, checked, counted, due_after};
+ghost use Rattle.lf_assemble.specs.Assembly.{part_of};
 
 use crate::fault::{AssembleCause, Part};
 use lf_codec::{CodecCause, Header};

@@ -3,7 +3,8 @@
 ghost use Rattle.std.specs.Prelude.{◌≡◌, ◌-◌, Bool, Some, take, drop, min};
 ghost use Rattle.std.specs.List.{flat_map, prefix_len, slice_split};
 ghost use Rattle.lf_assemble.specs.Assembly.{is_newline};
-ghost use Rattle.lf_assemble.specs.Refusal.{is_margin, line_in, place_of, window, before, shown, blank, label_text, excerpt_text, refusal_text};
+ghost use Rattle.lf_assemble.specs.Refusal.{is_margin, line_in, place_of, window, before, shown, blank, label_text};
+ghost use Rattle.lf_assemble.specs.Refusal.{excerpt_text, refusal_text};
 
 use crate::assembling::split_line;
 use crate::fault::{AssembleCause, AssembleFault};

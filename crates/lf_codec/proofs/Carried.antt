@@ -12,7 +12,8 @@ use Rattle.lf_codec.specs.Sound.{IsInRange, most_data}
 use Rattle.lf_codec.specs.Carrying.{carrying, CanCarry}
 use Rattle.lf_codec.proofs.Soundness.{most_data-le, data_limit}
 
-pub carried_event : (h : Header) (kind : Kind) (fixed more : List ℕ) → carrying (event_at h kind fixed (record { items = [] })) more ≡ event_at h kind fixed (record { items = more })
+pub carried_event : (h : Header) (kind : Kind) (fixed more : List ℕ) →
+    carrying (event_at h kind fixed (record { items = [] })) more ≡ event_at h kind fixed (record { items = more })
 carried_event h kinds.Issue fixed more = refl
 carried_event h kinds.Reply fixed more = refl
 carried_event h kinds.Hit fixed more = refl
@@ -29,7 +30,8 @@ carried_event h kinds.Evict2 fixed more = refl
 carried_event h kinds.Fence fixed more = refl
 carried_event h kinds.SecondMerge fixed more = refl
 
-pub can_carry : (h : Header) (kind : Kind) (fixed more : List ℕ) → IsInRange h → length more ≤ most_data h kind → CanCarry (event_at h kind fixed (record { items = [] })) more
+pub can_carry : (h : Header) (kind : Kind) (fixed more : List ℕ) → IsInRange h → length more ≤ most_data h kind →
+    CanCarry (event_at h kind fixed (record { items = [] })) more
 can_carry h kinds.Issue fixed more range few = omega (arith, few)
 can_carry h kinds.Reply fixed more range few = omega (arith, few)
 can_carry h kinds.Fill1 fixed more range few = omega (arith, few)
@@ -47,19 +49,38 @@ can_carry h kinds.Fence fixed more range few = tt
 can_carry h kinds.SecondMerge fixed more range few = tt
 
 -- The parts of a record that stands whole, and the event that is built from them.
-module _ (p : Progress) (bytes rest fixed carried : List ℕ) (kind : Kind) (head : Head) (front : IsWholeHead p bytes head rest) (same : kind ≡ head.kind)
+module _ (p : Progress) (bytes rest fixed carried : List ℕ) (kind : Kind) (head : Head)
+    (front : IsWholeHead p bytes head rest) (same : kind ≡ head.kind)
     (parts : AreWholeParts p.header kind head.bank rest fixed carried) where
   own_parts : AreWholeParts p.header head.kind head.bank rest fixed carried
   own_parts = subst (λ (k : Kind). AreWholeParts p.header k head.bank rest fixed carried) same parts
 
   pub whole_record : IsWholeRecord p bytes (record_of p.header head fixed carried) (8 + length fixed + length carried)
-  whole_record = record { head = head; rest = rest; fixed = fixed; carried = carried; at_front = front; behind = own_parts; item_is = refl; len_is = refl }
+  whole_record = record {
+    head = head;
+    rest = rest;
+    fixed = fixed;
+    carried = carried;
+    at_front = front;
+    behind =
+        own_parts;
+    item_is = refl;
+    len_is = refl;
+  }
 
-  pub event_carries : (bare : Event) → bare ≡ event_at p.header kind fixed (record { items = [] }) → carrying bare carried ≡ event_at p.header head.kind fixed (record { items = carried })
-  event_carries bare is_bare = ap (λ (e : Event). carrying e carried) is_bare ∙ carried_event p.header kind fixed carried
+  pub event_carries : (bare : Event) → bare ≡ event_at p.header kind fixed (record { items = [] }) →
+      carrying bare carried ≡ event_at p.header head.kind fixed (record { items = carried })
+  event_carries bare is_bare = ap (λ (e : Event). carrying e carried) is_bare
+      ∙ carried_event p.header kind fixed carried
       ∙ ap (λ (k : Kind). event_at p.header k fixed (record { items = carried })) same
 
-  pub bare_can_carry : (bare : Event) → bare ≡ event_at p.header kind fixed (record { items = [] }) → IsInRange p.header → CanCarry bare carried
+  pub bare_can_carry : (bare : Event) → bare ≡ event_at p.header kind fixed (record { items = [] }) →
+      IsInRange p.header → CanCarry bare carried
   bare_can_carry bare is_bare range =
       subst (λ (e : Event). CanCarry e carried) (sym is_bare)
-      (can_carry p.header kind fixed carried range (omega (arith, parts.carried_whole, data_limit p.header head.bank kind fixed range parts.fixed_passes)))
+      (can_carry p.header kind fixed carried range (omega (
+        arith,
+        parts.carried_whole,
+        data_limit p.header head.bank
+            kind fixed range parts.fixed_passes,
+      )))

@@ -1,8 +1,10 @@
 -- Records that are kept by their parts: more bytes change none of them.
-use Rattle.std.proofs.Common.{◌≡◌, ℕ, ◌+◌, ◌≤◌, List, [], ◌∷◌, ◌++◌, length, take, drop, refl, sym, ap, subst, ◌∙◌, arith, append_assoc}
+use Rattle.std.proofs.Common.{◌≡◌, ℕ, ◌+◌, ◌≤◌, List, [], ◌∷◌, ◌++◌, length, take, drop, refl, sym, ap, subst, ◌∙◌}
+use Rattle.std.proofs.Common.{arith, append_assoc}
 use Rattle.std.proofs.Common.{Result, Ok, Err, Option, Some, None, inl, inr}
 use Rattle.std.specs.Prelude.{slice_index, IfOk, IfSome, OnOk}
-use Rattle.std.proofs.lemmas.List.{drop-append-le, take-append-le, take-append-drop, length-drop, length-append, append-nil}
+use Rattle.std.proofs.lemmas.List.{drop-append-le, take-append-le, take-append-drop, length-drop, length-append}
+use Rattle.std.proofs.lemmas.List.{append-nil}
 use Rattle.std.proofs.Math.Seq.{drop-append_seam, take-append_seam}
 use Rattle.lf_rules.specs.declared.event.Record.{Record}
 use Rattle.lf_codec.specs.declared.header.Header.{Header}
@@ -14,36 +16,50 @@ use Rattle.lf_codec.specs.Steps.{record_of, counted}
 use Rattle.lf_codec.specs.Sound.{IsInRange, IsSound, IsSoundReader}
 use Rattle.lf_codec.specs.declared.fault.CodecFault.{CodecFault}
 use Rattle.lf_codec.specs.Reading.{Reading, read_on, byte_read, with_front}
-use Rattle.lf_codec.specs.Takes.{AreWholeParts, IsRefused, WasRefused, TakesPart, PacksPart, PacksInto, MayPack, HasReadOn, cut_short}
+use Rattle.lf_codec.specs.Takes.{AreWholeParts, IsRefused, WasRefused, TakesPart, PacksPart, PacksInto, MayPack}
+use Rattle.lf_codec.specs.Takes.{HasReadOn, cut_short}
 use Rattle.lf_codec.proofs.Parts.{part_after, fault_after}
 use Rattle.lf_codec.proofs.Pieces.{read_on-with_front}
 use Rattle.lf_codec.proofs.Soundness.{data_limit, sound_reader}
 use Rattle.lf_codec.proofs.WholeRecord.{sound_behind, taken_at_once}
-use Rattle.lf_codec.specs.Packed.{AreParts, StandLast, parts_record, slice_of, form_record, IsWithin, records_in_forms, AreWithin}
+use Rattle.lf_codec.specs.Packed.{AreParts, StandLast, parts_record, slice_of, form_record, IsWithin}
+use Rattle.lf_codec.specs.Packed.{records_in_forms, AreWithin}
 
-slice_stays : (bytes more : List ℕ) (at len : ℕ) → at + len ≤ length bytes → slice_of (bytes ++ more) at len ≡ slice_of bytes at len
+slice_stays : (bytes more : List ℕ) (at len : ℕ) → at + len ≤ length bytes →
+    slice_of (bytes ++ more) at len ≡ slice_of bytes at len
 slice_stays bytes more at len fits =
     ap (take len) (drop-append-le at bytes more (omega (arith, fits)))
     ∙ take-append-le len (drop at bytes) more (omega (arith, fits, length-drop at bytes))
 
-form_stays : (h : Header) (bytes more : List ℕ) (form : Form) → IsWithin h bytes form → form_record h (bytes ++ more) form ≡ form_record h bytes form
+form_stays : (h : Header) (bytes more : List ℕ) (form : Form) → IsWithin h bytes form →
+    form_record h (bytes ++ more) form ≡ form_record h bytes form
 form_stays h bytes more (forms.Parts p) within = ap (parts_record h p.head) (slice_stays bytes more p.at p.len within.0)
 form_stays h bytes more (forms.Apart r) within = refl
 
-within_stays : (h : Header) (bytes more : List ℕ) (form : Form) → IsWithin h bytes form → IsWithin h (bytes ++ more) form
-within_stays h bytes more (forms.Parts p) within =
-    (omega (arith, within.0, length-append bytes more), subst (AreParts h p.head.kind) (sym (slice_stays bytes more p.at p.len within.0)) within.1)
+within_stays : (h : Header) (bytes more : List ℕ) (form : Form) → IsWithin h bytes form →
+    IsWithin h (bytes ++ more) form
+within_stays h bytes more (forms.Parts p) within = (
+  omega (arith, within.0, length-append bytes more),
+  subst (AreParts h p.head.kind)
+      (sym (slice_stays bytes more p.at p.len within.0)) within.1,
+)
 within_stays h bytes more (forms.Apart r) within = tt
 
-pub records_stay : (h : Header) (bytes more : List ℕ) (all : List Form) → AreWithin h bytes all → records_in_forms h (bytes ++ more) all ≡ records_in_forms h bytes all
+pub records_stay : (h : Header) (bytes more : List ℕ) (all : List Form) → AreWithin h bytes all →
+    records_in_forms h (bytes ++ more) all ≡ records_in_forms h bytes all
 records_stay h bytes more [] within = refl
 records_stay h bytes more (form ∷ all) within =
     ap (λ (r : Record). r ∷ records_in_forms h (bytes ++ more) all) (form_stays h bytes more form within.0)
     ∙ ap (λ (rs : List Record). form_record h bytes form ∷ rs) (records_stay h bytes more all within.1)
 
-pub within_stay : (h : Header) (bytes more : List ℕ) (all : List Form) → AreWithin h bytes all → AreWithin h (bytes ++ more) all
+pub within_stay : (h : Header) (bytes more : List ℕ) (all : List Form) → AreWithin h bytes all →
+    AreWithin h (bytes ++ more) all
 within_stay h bytes more [] within = tt
-within_stay h bytes more (first ∷ all) within = (within_stays h bytes more first within.0, within_stay h bytes more all within.1)
+within_stay h bytes more (first ∷ all) within = (
+  within_stays h bytes more first within.0,
+  within_stay h bytes more
+      all within.1,
+)
 
 -- ---- the last bytes
 
@@ -58,44 +74,64 @@ pub last_drop : (bytes last : List ℕ) (n : ℕ) → StandLast bytes last → S
 last_drop bytes last n stand = last_behind bytes last (take n last) (drop n last) stand (sym (take-append-drop n last))
 
 -- The parts of a record that stands whole, as they are found behind its head.
-module _ (h : Header) (head : Head) (bytes fixed carried : List ℕ) (parts : AreWholeParts h head.kind head.bank bytes fixed carried) where
+module _ (h : Header) (head : Head) (bytes fixed carried : List ℕ)
+    (parts : AreWholeParts h head.kind head.bank bytes fixed carried) where
   found_is : take (length fixed + length carried) bytes ≡ fixed ++ carried
   found_is =
-      let front : bytes ≡ (fixed ++ carried) ++ parts.more = parts.joined ∙ sym (append_assoc fixed carried parts.more) in
+      let front : bytes ≡ (fixed ++ carried) ++ parts.more =
+      parts.joined ∙ sym (append_assoc fixed carried parts.more) in
       let len : length (fixed ++ carried) ≡ length fixed + length carried = length-append fixed carried in
-      ap (take (length fixed + length carried)) front ∙ ap (λ (n : ℕ). take n ((fixed ++ carried) ++ parts.more)) (sym len) ∙ take-append_seam (fixed ++ carried) parts.more
+      ap (take (length fixed + length carried)) front ∙ ap (λ (n : ℕ). take n ((fixed ++ carried) ++ parts.more))
+      (sym len) ∙ take-append_seam (fixed ++ carried) parts.more
 
   pub found_fit : IsInRange h → AreParts h head.kind (take (length fixed + length carried) bytes)
   found_fit range = record {
     in_range = range;
     fixed = omega (arith, ap length found_is, length-append fixed carried, parts.fixed_whole);
-    few = omega (arith, ap length found_is, length-append fixed carried, parts.fixed_whole, parts.carried_whole, data_limit h head.bank head.kind fixed range parts.fixed_passes);
+    few = omega (
+      arith,
+      ap length found_is,
+      length-append fixed carried,
+      parts.fixed_whole,
+      parts.carried_whole,
+      data_limit h head.bank head.kind fixed range parts.fixed_passes,
+    );
   }
 
   pub found_record : parts_record h head (take (length fixed + length carried) bytes) ≡ record_of h head fixed carried
   found_record =
       ap (parts_record h head) found_is
       ∙ ap (λ (n : ℕ). record_of h head (take n (fixed ++ carried)) (drop n (fixed ++ carried))) (sym parts.fixed_whole)
-      ∙ ap (λ (xs : List ℕ). record_of h head xs (drop (length fixed) (fixed ++ carried))) (take-append_seam fixed carried)
+      ∙ ap (λ (xs : List ℕ). record_of h head xs (drop (length fixed) (fixed ++ carried)))
+      (take-append_seam fixed carried)
       ∙ ap (record_of h head fixed) (drop-append_seam fixed carried)
 
 -- ---- what stands in front changes nothing of what a step does
 
-front_refused : (rs : List Record) (old : Reading) (b : ℕ) (new : Reading) (fault : CodecFault) → IsRefused old b new fault → IsRefused (with_front [] rs old) b (with_front [] rs new) fault
+front_refused : (rs : List Record) (old : Reading) (b : ℕ) (new : Reading) (fault : CodecFault) →
+    IsRefused old b new fault → IsRefused (with_front [] rs old) b (with_front [] rs new) fault
 front_refused rs old b new fault refused =
-    let next : byte_read (with_front [] rs old) b ≡ with_front [] rs (byte_read old b) = read_on-with_front (b ∷ []) [] rs old in
+    let next : byte_read (with_front [] rs old) b ≡ with_front [] rs (byte_read old b) =
+    read_on-with_front (b ∷ []) [] rs old in
     record {
       cause = refused.cause;
       offset = refused.offset;
       in_hand = refused.in_hand;
       passes = ap (λ (r : Reading). r.fault) next ∙ refused.passes;
-      one_more = rw next (omega (arith, refused.one_more, length-append rs (byte_read old b).records, length-append rs old.records));
+      one_more = rw next (omega (
+        arith,
+        refused.one_more,
+        length-append rs (byte_read old b).records,
+        length-append rs
+            old.records,
+      ));
       memory = refused.memory;
       records = ap (λ (xs : List Record). rs ++ xs) refused.records;
       header = refused.header;
     }
 
-front_was_refused : (rs : List Record) (old : Reading) (bytes : List ℕ) (new : Reading) → WasRefused old bytes new → WasRefused (with_front [] rs old) bytes (with_front [] rs new)
+front_was_refused : (rs : List Record) (old : Reading) (bytes : List ℕ) (new : Reading) → WasRefused old bytes new →
+    WasRefused (with_front [] rs old) bytes (with_front [] rs new)
 front_was_refused rs old bytes new was =
     let before = read_on-with_front (take was.count bytes) [] rs old in
     record {
@@ -103,13 +139,21 @@ front_was_refused rs old bytes new was =
       fault = was.fault;
       within = was.within;
       failed = was.failed;
-      refused = rw before (front_refused rs (read_on old (take was.count bytes)) (slice_index bytes was.count) new was.fault was.refused);
+      refused = rw before (front_refused rs (read_on old (take was.count bytes)) (slice_index bytes was.count) new
+          was.fault was.refused);
       fine = ap (λ (r : Reading). r.fault) before ∙ was.fine;
     }
 
-pub front_takes : (rs : List Record) (old : Reading) (bytes : List ℕ) (answer : Result ℕ CodecFault) (new : Reading) → TakesPart old bytes answer new
+pub front_takes : (rs : List Record) (old : Reading) (bytes : List ℕ) (answer : Result ℕ CodecFault) (new : Reading) →
+    TakesPart old bytes answer new
     → TakesPart (with_front [] rs old) bytes answer (with_front [] rs new)
-front_takes rs old bytes (Ok n) new took = (took.0, took.1, ap (with_front [] rs) took.2 ∙ sym (read_on-with_front (take n bytes) [] rs old), took.3)
+front_takes rs old bytes (Ok n) new took = (
+  took.0,
+  took.1,
+  ap (with_front [] rs) took.2
+      ∙ sym (read_on-with_front (take n bytes) [] rs old),
+  took.3,
+)
 front_takes rs old bytes (Err fault) new took = (
   took.0,
   elim took.1 [
@@ -119,18 +163,22 @@ front_takes rs old bytes (Err fault) new took = (
 )
 
 -- those that wait with the reader go behind those in front
-pub front_moved : (rs : List Record) (r : Reading) → with_front [] rs r ≡ with_front [] (rs ++ r.records) (record r { records = [] })
+pub front_moved : (rs : List Record) (r : Reading) → with_front [] rs r
+    ≡ with_front [] (rs ++ r.records) (record r { records = [] })
 front_moved rs r = ap (λ (xs : List Record). record r { records = xs }) (sym (append-nil (rs ++ r.records)))
 
 -- ---- a record that is kept at once
 
 module _ (p q : Progress) (bytes : List ℕ) (before after : List Record) where
-  pub packed_sound : (found : Option ℕ) (pending : List ℕ) → MayPack p bytes found before after q → pending ≡ [] → IsSoundReader p pending → IsSoundReader q pending
+  pub packed_sound : (found : Option ℕ) (pending : List ℕ) → MayPack p bytes found before after q → pending ≡ [] →
+      IsSoundReader p pending → IsSoundReader q pending
   packed_sound (Some n) pending into empty sound =
-      rw (empty, into.is_counted) (sound_reader (counted p n into.item.log) (sound_behind p bytes into.item n into.whole into.stage sound.sound))
+      rw (empty, into.is_counted) (sound_reader (counted p n into.item.log)
+      (sound_behind p bytes into.item n into.whole into.stage sound.sound))
   packed_sound None pending none empty sound = subst (λ (x : Progress). IsSoundReader x pending) (sym none.0) sound
 
-  pub on_packed : (P : ℕ → Type 0) (found : Option ℕ) → MayPack p bytes found before after q → ((n : ℕ) → PacksInto p bytes n before after q → P n) → IfSome found P
+  pub on_packed : (P : ℕ → Type 0) (found : Option ℕ) → MayPack p bytes found before after q →
+      ((n : ℕ) → PacksInto p bytes n before after q → P n) → IfSome found P
   on_packed P (Some n) into each = each n into
   on_packed P None none each = tt
 
@@ -139,21 +187,26 @@ module _ (p q : Progress) (bytes : List ℕ) (before after : List Record) where
   packed_header None none = ap (λ (x : Progress). x.header) none.0
 
 -- the reading with the record behind those in front
-pub packed_takes : (r new : Reading) (bytes : List ℕ) (n : ℕ) (before after : List Record) → PacksInto r.progress bytes n before after new.progress
+pub packed_takes : (r new : Reading) (bytes : List ℕ) (n : ℕ) (before after : List Record) →
+    PacksInto r.progress bytes n before after new.progress
     → r.fault ≡ None → r.pending ≡ [] → r.records ≡ [] → IsSound r.progress → new ≡ record r { progress = new.progress }
     → TakesPart (with_front [] before r) bytes (Ok n) (with_front [] after new)
 packed_takes r new bytes n before after into fine empty none sound same =
     let behind : after ++ r.records ≡ (before ++ r.records) ++ into.item ∷ [] =
     ap (λ (rs : List Record). after ++ rs) none ∙ append-nil after ∙ into.is_kept
-    ∙ ap (λ (rs : List Record). rs ++ into.item ∷ []) (sym (ap (λ (rs : List Record). before ++ rs) none ∙ append-nil before)) in
-    let is : with_front [] after new ≡ record (with_front [] before r) { progress = counted r.progress n into.item.log; records = (before ++ r.records) ++ into.item ∷ [] } =
+    ∙ ap (λ (rs : List Record). rs ++ into.item ∷ []) (sym (ap (λ (rs : List Record). before ++ rs) none
+    ∙ append-nil before)) in
+    let is : with_front [] after new ≡ record (with_front [] before r)
+    { progress = counted r.progress n into.item.log; records = (before ++ r.records) ++ into.item ∷ [] } =
     ap (with_front [] after) same
     ∙ ap (λ (q : Progress). with_front [] after (record r { progress = q })) into.is_counted
     ∙ ap (λ (rs : List Record). record r { progress = counted r.progress n into.item.log; records = rs }) behind in
-    taken_at_once (with_front [] before r) (with_front [] after new) bytes into.item n fine empty into.stage into.whole sound is
+    taken_at_once (with_front [] before r) (with_front [] after new) bytes into.item n fine empty into.stage
+    into.whole sound is
 
 -- what the bytes behind some of a piece do
-pub on_after : (r mid new : Reading) (piece : List ℕ) (at : ℕ) → at ≤ length piece → mid ≡ read_on r (take at piece) → HasReadOn mid (drop at piece) new → HasReadOn r piece new
+pub on_after : (r mid new : Reading) (piece : List ℕ) (at : ℕ) → at ≤ length piece → mid ≡ read_on r (take at piece) →
+    HasReadOn mid (drop at piece) new → HasReadOn r piece new
 on_after r mid new piece at within so_far outcome =
     elim outcome [
       | inl read ↦ inl (fault_after r mid new piece at within so_far read)
@@ -173,24 +226,37 @@ pub cut_at_once : (r new : Reading) (bytes : List ℕ) → r.fault ≡ None → 
 cut_at_once r new bytes fine is = inr (record { count = 0; within = omega arith; fine = fine; is = is })
 
 -- a part that is taken from the bytes, with what the caller has in front
-pub part_fails_in_front : (rs : List Record) (old new : Reading) (bytes : List ℕ) (fault : CodecFault) → TakesPart old bytes (Err fault) new
+pub part_fails_in_front : (rs : List Record) (old new : Reading) (bytes : List ℕ) (fault : CodecFault) →
+    TakesPart old bytes (Err fault) new
     → PacksPart (with_front [] rs old) bytes (Err fault) (with_front [] rs new)
-part_fails_in_front rs old new bytes fault took = let front = front_takes rs old bytes (Err fault) new took in (front.0, inl front.1)
+part_fails_in_front rs old new bytes fault took = let front = front_takes rs old bytes (Err fault) new took in
+    (front.0, inl front.1)
 
 -- ... and whose record is moved
-pub part_moved : (rs : List Record) (old mid : Reading) (bytes : List ℕ) (n : ℕ) (whole new : Reading) → TakesPart old bytes (Ok n) mid → whole ≡ with_front [] rs mid → new ≡ whole
+pub part_moved : (rs : List Record) (old mid : Reading) (bytes : List ℕ) (n : ℕ) (whole new : Reading) →
+    TakesPart old bytes (Ok n) mid → whole ≡ with_front [] rs mid → new ≡ whole
     → TakesPart (with_front [] rs old) bytes (Ok n) new
 part_moved rs old mid bytes n whole new took is moved =
     subst (TakesPart (with_front [] rs old) bytes (Ok n)) (sym (moved ∙ is)) (front_takes rs old bytes (Ok n) mid took)
 
-pub part_cut : (rs : List Record) (old mid : Reading) (bytes : List ℕ) (n : ℕ) (fault : CodecFault) (whole new : Reading) → TakesPart old bytes (Ok n) mid → whole ≡ with_front [] rs mid
+pub part_cut : (rs : List Record) (old mid : Reading) (bytes : List ℕ) (n : ℕ) (fault : CodecFault)
+    (whole new : Reading) → TakesPart old bytes (Ok n) mid → whole ≡ with_front [] rs mid
     → new ≡ cut_short whole → new.fault ≡ Some fault → PacksPart (with_front [] rs old) bytes (Err fault) new
 part_cut rs old mid bytes n fault whole new took is cut told =
-    let front = front_takes rs old bytes (Ok n) mid took in
-    (told, inr (record { count = n; within = front.1; fine = ap (λ (r : Reading). r.fault) (sym front.2) ∙ front.3; is = cut ∙ ap cut_short (is ∙ front.2) }))
+    let front = front_takes rs old bytes (Ok n) mid took in (
+      told,
+      inr (record {
+        count = n;
+        within = front.1;
+        fine =
+            ap (λ (r : Reading). r.fault) (sym front.2) ∙ front.3;
+        is = cut ∙ ap cut_short (is ∙ front.2);
+      }),
+    )
 
 -- what follows of both answers, where there is one
-pub both : {A F : Type 0} {P S : A → Type 0} {Q : Type 0} (result : Result A F) → IfOk result P → OnOk result Q → ((a : A) → P a → Q → S a) → IfOk result S
+pub both : {A F : Type 0} {P S : A → Type 0} {Q : Type 0} (result : Result A F) → IfOk result P → OnOk result Q →
+    ((a : A) → P a → Q → S a) → IfOk result S
 both (Ok a) p q each = each a p q
 both (Err refused) p q each = tt
 

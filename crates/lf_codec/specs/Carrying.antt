@@ -5,7 +5,8 @@ use Rattle.lf_rules.specs.declared.event.Event.TheVariants as events
 
 -- the event with these bytes behind those that it carries, where its kind carries any
 abbrev pub carrying : Event → List ℕ → Event
-carrying (events.Issue op tag size address bytes) more = events.Issue op tag size address (record { items = bytes.items ++ more })
+carrying (events.Issue op tag size address bytes) more = events.Issue op tag size address
+    (record { items = bytes.items ++ more })
 carrying (events.Reply tag size bytes) more = events.Reply tag size (record { items = bytes.items ++ more })
 carrying (events.Fill1 block bytes) more = events.Fill1 block (record { items = bytes.items ++ more })
 carrying (events.Evict1 block mask bytes) more = events.Evict1 block mask (record { items = bytes.items ++ more })

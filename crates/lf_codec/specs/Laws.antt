@@ -1,5 +1,6 @@
 -- The laws between the bytes of a trace and what they are read as.
-use Rattle.std.specs.Prelude.{◌≡◌, ◌⊎◌, ℕ, ◌<◌, ◌≤◌, List, [], ◌++◌, length, take, slice_index, Option, Some, None, Result, Ok, Err, ◌↔◌, ◌∷◌}
+use Rattle.std.specs.Prelude.{◌≡◌, ◌⊎◌, ℕ, ◌<◌, ◌≤◌, List, [], ◌++◌, length, take, slice_index, Option, Some, None}
+use Rattle.std.specs.Prelude.{Result, Ok, Err, ◌↔◌, ◌∷◌}
 use Rattle.std.specs.List.{flat_map, AllByRecursion}
 use Rattle.lf_rules.specs.Fits.{Bytes}
 use Rattle.lf_rules.specs.declared.event.Record.{Record}
@@ -22,7 +23,8 @@ AreBytes bytes = (i : ℕ) → slice_index bytes i < 256
 -- what the reading makes of the bytes
 abbrev pub IsReadAs : List ℕ → Header → List (ℕ × Bytes) → List Record → Type 0
 IsReadAs bytes h memory records =
-    (trace_fault bytes ≡ None) × (header_of bytes ≡ Some h) × ((reading_of bytes).memory ≡ memory) × ((reading_of bytes).records ≡ records)
+    (trace_fault bytes ≡ None) × (header_of bytes ≡ Some h) × ((reading_of bytes).memory ≡ memory) ×
+    ((reading_of bytes).records ≡ records)
 
 -- the reading finds no fault exactly where the bytes are a trace, and then this trace
 abbrev pub ReadingIsExact : Type 0
@@ -42,8 +44,10 @@ FaultlessBytesAreTraces = (bytes : List ℕ) → AreBytes bytes → (trace_fault
 
 -- two traces never have the same bytes
 abbrev pub BytesAreOfOneTrace : Type 0
-BytesAreOfOneTrace = (bytes : List ℕ) (h h' : Header) (memory memory' : List (ℕ × Bytes)) (records records' : List Record)
-    → IsTrace bytes h memory records → IsTrace bytes h' memory' records' → (h ≡ h') × (memory ≡ memory') × (records ≡ records')
+BytesAreOfOneTrace = (bytes : List ℕ) (h h' : Header) (memory memory' : List (ℕ × Bytes))
+    (records records' : List Record)
+    → IsTrace bytes h memory records → IsTrace bytes h' memory' records' → (h ≡ h') × (memory ≡ memory') ×
+    (records ≡ records')
 
 -- a trace has one spelling
 abbrev pub TracesHaveOneSpelling : Type 0
@@ -52,14 +56,16 @@ TracesHaveOneSpelling = (bytes bytes' : List ℕ) (h : Header) (memory : List (�
 
 -- no trace begins another
 abbrev pub NoTraceBeginsAnother : Type 0
-NoTraceBeginsAnother = (bytes more : List ℕ) (h h' : Header) (memory memory' : List (ℕ × Bytes)) (records records' : List Record)
+NoTraceBeginsAnother = (bytes more : List ℕ) (h h' : Header) (memory memory' : List (ℕ × Bytes))
+    (records records' : List Record)
     → IsTrace bytes h memory records → IsTrace (bytes ++ more) h' memory' records' → more ≡ []
 
 -- ---- bytes with a fault
 
 -- the fault so far is the fault of the bytes where that is not Truncated
 abbrev pub FaultsSoFarAreNotTruncated : Type 0
-FaultsSoFarAreNotTruncated = (bytes : List ℕ) (f : CodecFault) → (fault_so_far bytes ≡ Some f) ↔ ((trace_fault bytes ≡ Some f) × (f.cause ≡ Truncated → ⊥))
+FaultsSoFarAreNotTruncated = (bytes : List ℕ) (f : CodecFault) → (fault_so_far bytes ≡ Some f) ↔
+    ((trace_fault bytes ≡ Some f) × (f.cause ≡ Truncated → ⊥))
 
 -- both give the same header, memory records and records
 pub record GivesSame (a b : List ℕ) : Type 0 where
@@ -84,7 +90,8 @@ pub record StandsBefore (bytes : List ℕ) (f : CodecFault) : Type 0 where
   pub same : GivesSame (take f.offset bytes) bytes
 
 abbrev pub WhatStandsBeforeIsGiven : Type 0
-WhatStandsBeforeIsGiven = (bytes : List ℕ) (f : CodecFault) → AreBytes bytes → fault_so_far bytes ≡ Some f → StandsBefore bytes f
+WhatStandsBeforeIsGiven = (bytes : List ℕ) (f : CodecFault) → AreBytes bytes → fault_so_far bytes ≡ Some f →
+    StandsBefore bytes f
 
 -- out of memory is no fault of bytes
 abbrev pub BytesNeverWantMemory : Type 0
@@ -94,7 +101,8 @@ BytesNeverWantMemory = (bytes : List ℕ) (f : CodecFault) → trace_fault bytes
 abbrev pub beginning : Header → List (ℕ × Bytes) → List Record → List ℕ
 beginning h memory records = header_bytes h ++ flat_map memory_bytes memory ++ flat_map record_bytes records
 
--- the bytes before the header or record in which a fault stands: none before the header, what has been read before a record, and a
+-- the bytes before the header or record in which a fault stands: none before the header, what has been read before a
+-- record, and a
 -- whole trace before trailing bytes
 abbrev pub IsSpelledBefore : Option Header → List (ℕ × Bytes) → List Record → List ℕ → Type 0
 IsSpelledBefore None memory records before = before ≡ []
@@ -131,7 +139,8 @@ header_if (Err cause) bytes = None
 -- the header is there exactly where its 16 bytes are, and pass their checks
 pub record HeaderIsOfItsBytes : Type 0 where
   pub fewer : (bytes : List ℕ) → length bytes < 16 → header_of bytes ≡ None
-  pub whole : (bytes : List ℕ) → 16 ≤ length bytes → header_of bytes ≡ header_if (judged (header_checks (take 16 bytes))) (take 16 bytes)
+  pub whole : (bytes : List ℕ) → 16 ≤ length bytes → header_of bytes
+      ≡ header_if (judged (header_checks (take 16 bytes))) (take 16 bytes)
 
 -- ---- what has been read
 
@@ -145,10 +154,12 @@ pub record FitsSoFar (h : Header) (memory : List (ℕ × Bytes)) (records : List
 
 -- what has been read fits, before the end of the trace and before a fault too
 abbrev pub WhatIsReadFits : Type 0
-WhatIsReadFits = (bytes : List ℕ) (h : Header) → AreBytes bytes → header_of bytes ≡ Some h → FitsSoFar h (reading_of bytes).memory (reading_of bytes).records
+WhatIsReadFits = (bytes : List ℕ) (h : Header) → AreBytes bytes → header_of bytes ≡ Some h →
+    FitsSoFar h (reading_of bytes).memory (reading_of bytes).records
 
 -- ---- readers
 
 -- what a reader has read is what it gives
 abbrev pub WhatIsReadIsGiven : Type 0
-WhatIsReadIsGiven = (r : Reading) (fed : List ℕ) (memory : List (ℕ × Bytes)) (records : List Record) → HasRead r fed memory records → Gives r fed memory records
+WhatIsReadIsGiven = (r : Reading) (fed : List ℕ) (memory : List (ℕ × Bytes)) (records : List Record) →
+    HasRead r fed memory records → Gives r fed memory records

@@ -1,5 +1,6 @@
 -- What the reader's own steps do with the bytes of a piece.
-use Rattle.std.specs.Prelude.{◌≡◌, ◌⊎◌, ◌==◌, ◌++◌, ◌∷◌, [], ℕ, ◌+◌, List, ◌<◌, ◌≤◌, false, Option, length, take, slice_index, Some, None, Result, Ok, Err}
+use Rattle.std.specs.Prelude.{◌≡◌, ◌⊎◌, ◌==◌, ◌++◌, ◌∷◌, [], ℕ, ◌+◌, List, ◌<◌, ◌≤◌, false, Option, length, take}
+use Rattle.std.specs.Prelude.{slice_index, Some, None, Result, Ok, Err}
 use Rattle.lf_rules.specs.declared.event.Record.{Record}
 use Rattle.lf_codec.specs.declared.fault.CodecCause.{CodecCause}
 use Rattle.lf_codec.specs.declared.fault.CodecCause.TheVariants.{NoMemory}
@@ -74,7 +75,8 @@ pub record IsWholeHead (p : Progress) (bytes : List ℕ) (head : Head) (rest : L
   pub first_passes : judged (head_checks p.header p.counts first) ≡ all_passed
   pub head_is : head ≡ head_at first
 
--- at the front of the bytes behind a head the fixed part of its event and the bytes that it carries stand whole, and its checks pass
+-- at the front of the bytes behind a head the fixed part of its event and the bytes that it carries stand whole, and
+-- its checks pass
 pub record AreWholeParts (h : Header) (kind : Kind) (bank : ℕ) (bytes fixed carried : List ℕ) : Type 0 where
   pub more : List ℕ
   pub joined : bytes ≡ fixed ++ (carried ++ more)
@@ -120,7 +122,8 @@ pub record IsUnkept (old : Reading) (bytes : List ℕ) (new : Reading) (fault : 
 -- what the bytes of a whole step do
 abbrev pub TakesStep : Reading → List ℕ → Result (Unit {0}) CodecFault → Reading → Type 0
 TakesStep old bytes (Ok _) new = (new ≡ stepped old bytes) × (new.fault ≡ None)
-TakesStep old bytes (Err fault) new = (new.fault ≡ Some fault) × ((new ≡ stepped old bytes) ⊎ IsUnkept old bytes new fault)
+TakesStep old bytes (Err fault) new = (new.fault ≡ Some fault) ×
+    ((new ≡ stepped old bytes) ⊎ IsUnkept old bytes new fault)
 
 -- the record at the front of these bytes, of so many of them, is put into the place and counted
 pub record ReadsInto (old : Progress) (bytes : List ℕ) (n : ℕ) (place : Option Record) (new : Progress) : Type 0 where
@@ -131,7 +134,8 @@ pub record ReadsInto (old : Progress) (bytes : List ℕ) (n : ℕ) (place : Opti
   pub is_counted : new ≡ counted old n item.log
 
 -- the record at the front of these bytes, of so many of them, is kept behind the others and counted
-pub record PacksInto (old : Progress) (bytes : List ℕ) (n : ℕ) (before after : List Record) (new : Progress) : Type 0 where
+pub record PacksInto (old : Progress) (bytes : List ℕ) (n : ℕ) (before after : List Record) (new : Progress) : Type
+    0 where
   pub item : Record
   pub is_kept : after ≡ before ++ item ∷ []
   pub stage : old.stage ≡ stages.Head

@@ -120,7 +120,8 @@ fn fill_at(fixed: &[u8], bytes: &[u8]) -> Event
 fn evict_at(fixed: &[u8], bytes: &[u8]) -> Event
     requires len { length fixed.now ≡ 12 }
     requires few { length bytes.now ≤ 64 }
-    ensures { result ≡ events.Evict1 (u32_at 0 fixed.now) (record { 0 = u64_at 4 fixed.now }) (record { items = bytes.now }) }
+    ensures { result ≡ events.Evict1 (u32_at 0 fixed.now) (record { 0 = u64_at 4 fixed.now })
+        (record { items = bytes.now }) }
 {
     Event::Evict1 {
         block: u32_at(fixed, 0),

@@ -1,6 +1,7 @@
 //! Event records in the form of their bytes.
 
-ghost use Rattle.std.specs.Prelude.{◌≡◌, ◌<◌, ◌≤◌, ◌+◌, ◌++◌, ◌∷◌, ◌↔◌, [], IsTrue, OnOk, OnErr, IfErr, length, take, drop, slice_index_or};
+ghost use Rattle.std.specs.Prelude.{◌≡◌, ◌<◌, ◌≤◌, ◌+◌, ◌++◌, ◌∷◌, ◌↔◌, [], IsTrue, OnOk, OnErr, IfErr, length, take};
+ghost use Rattle.std.specs.Prelude.{drop, slice_index_or};
 ghost use Rattle.lf_rules.specs.declared.event.Record.{Record};
 ghost use Rattle.lf_codec.specs.Steps.{fixed_len, record_of};
 ghost use Rattle.lf_codec.specs.Sound.{IsInRange, most_data};
@@ -46,7 +47,12 @@ impl Model for Packed {
 
     ghost Value = { PackedRecords };
 
-    ghost view = { λ p. record { header = p.header; bytes = p.bytes.items; records = records_in_forms p.header p.bytes.items p.forms.items } };
+    ghost view = { λ p. record {
+      header = p.header;
+      bytes = p.bytes.items;
+      records =
+          records_in_forms p.header p.bytes.items p.forms.items;
+    } };
 
     ghost invariant = { λ p. AreWithin p.header p.bytes.items p.forms.items };
 }
@@ -66,7 +72,7 @@ fn build(header: &Header, kind: Kind, head: Head, parts: &[u8], place: &mut Reco
     put_bytes(&mut place.event, carried);
 }
 
-/// The same of any kind. Each call of `build` names its kind, so that its code has its own lengths.
+/// The record of any kind from its parts. Each call of `build` names its kind, so that its code has its own lengths.
 fn unpack(header: &Header, head: Head, parts: &[u8], place: &mut Record)
     requires { AreParts header.now head.kind parts.now }
     ensures { place.new ≡ parts_record header.now head parts.now }
@@ -167,7 +173,8 @@ impl Packed {
         requires last { StandLast self.old.bytes last.now }
         requires len { len ≤ length last.now }
         requires parts { AreParts self.old.header head.kind (take len last.now) }
-        ensures kept { IsTrue result → self.new ≡ record self.old { records = self.old.records ++ parts_record self.old.header head (take len last.now) ∷ [] } }
+        ensures kept { IsTrue result → self.new ≡ record self.old
+            { records = self.old.records ++ parts_record self.old.header head (take len last.now) ∷ [] } }
         ensures none { ¬ IsTrue result → self.new ≡ self.old }
     {
         let at = self.bytes.as_slice().len() - last.len();
@@ -191,7 +198,7 @@ impl Packed {
         Ok(())
     }
 
-    /// The same, which changes nothing else, and gives a record back that it could not keep.
+    /// Keeps the record whole and changes nothing else. Where there is no memory it gives the record back.
     pub(crate) fn push_whole(&mut self, item: Record) -> Result<(), AllocFailed<Record>>
         ensures kept { OnOk result (self.new ≡ record self.old { records = self.old.records ++ item ∷ [] }) }
         ensures given_back { IfErr result (λ refused. refused.value ≡ item) }

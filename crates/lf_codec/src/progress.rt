@@ -3,7 +3,8 @@
 ghost use Rattle.std.specs.Prelude.{◌≡◌, ◌+◌, ◌<◌, ◌≤◌, ◌^◌, length, slice_index, OnOk};
 ghost use Rattle.lf_codec.specs.Reading.{at_start};
 ghost use Rattle.lf_codec.specs.declared.stage.Stage.TheVariants as stages;
-ghost use Rattle.lf_codec.specs.Steps.{fixed_len, stage_len, within, at_next, past_header, past_memory, counted, past_head, past_fixed, advanced};
+ghost use Rattle.lf_codec.specs.Steps.{fixed_len, stage_len, within, at_next, past_header, past_memory, counted};
+ghost use Rattle.lf_codec.specs.Steps.{past_head, past_fixed, advanced};
 
 use crate::checks::{check_end, check_fixed, check_head, check_header, check_memory};
 use crate::event::block_of;
@@ -106,7 +107,7 @@ impl Progress {
         self.count_on(n, log);
     }
 
-    /// The same where the stage is a head. It stays as it is, since it costs time to write one.
+    /// Counts a record where the stage is a head. The stage stays as it is, since it costs time to write one.
     #[inline(always)]
     pub(crate) fn count_on(&mut self, n: u64, log: u8)
         requires stage { self.old.stage ≡ stages.Head }

@@ -141,7 +141,7 @@ impl Progress {
         }
     }
 
-    /// The same of a record of this kind, but that its parts are kept with the others' and no event is built.
+    /// Reads a record of this kind. Its parts are kept with the others', and no event is built.
     /// The bytes are the last of those that are kept.
     #[inline(always)]
     fn pack_event(&mut self, kind: Kind, bytes: &[u8], records: &mut Packed) -> Option<usize>

@@ -3,7 +3,8 @@
 ghost use Rattle.std.specs.Prelude.{◌≡◌, ◌∷◌, ◌++◌, ◌<◌, ◌^◌, length, OnOk, IfOk};
 ghost use Rattle.std.specs.List.{flat_map};
 ghost use Rattle.lf_codec.specs.Trace.{FitsTrace, IsTrace};
-ghost use Rattle.lf_codec.specs.Layout.{u16_bytes, u32_bytes, u64_bytes, factor_word, mask_bytes, header_bytes, memory_bytes, fixed_bytes, data_of};
+ghost use Rattle.lf_codec.specs.Layout.{u16_bytes, u32_bytes, u64_bytes, factor_word, mask_bytes, header_bytes};
+ghost use Rattle.lf_codec.specs.Layout.{memory_bytes, fixed_bytes, data_of};
 ghost use Rattle.lf_codec.specs.Layout.{record_bytes, end_bytes, code_of, kind_of, op_code, spelling};
 
 use crate::header::Header;

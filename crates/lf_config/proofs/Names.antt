@@ -1,5 +1,6 @@
 -- The first unknown name of a table, by its keys in their order.
-use Rattle.std.proofs.Common.{◌≡◌, ℕ, nat_cmp, List, [], ◌∷◌, Option, Some, None, Bool, false, not, if◌then◌else◌, String, Global, string_bytes, map, refl, ap, sym, ◌∙◌, Less}
+use Rattle.std.proofs.Common.{◌≡◌, ℕ, nat_cmp, List, [], ◌∷◌, Option, Some, None, Bool, false, not, if◌then◌else◌}
+use Rattle.std.proofs.Common.{String, Global, string_bytes, map, refl, ap, sym, ◌∙◌, Less}
 use Rattle.std.specs.List.{filter, AllByRecursion}
 use Rattle.std.specs.List.Sorted.{IsStrictlySortedBy}
 use Rattle.std.specs.Map.{keys_of}
@@ -28,7 +29,8 @@ IsAfter name other = slice_cmp nat_cmp name other ≡ Less
 abbrev AllAfter : List ℕ → List (List ℕ) → Type 0
 AllAfter name others = AllByRecursion (IsAfter name) others
 
-earliest_after : (name : List ℕ) (others : List (List ℕ)) → AllAfter name others → IfSome (earliest others) (IsAfter name)
+earliest_after : (name : List ℕ) (others : List (List ℕ)) → AllAfter name others →
+    IfSome (earliest others) (IsAfter name)
 earliest_after name [] after = tt
 earliest_after name (x ∷ others) after = pick (earliest others) (earliest_after name others after.1)
   where
@@ -45,7 +47,8 @@ earliest_head name others after = ap Some (stays (earliest others) (earliest_aft
     stays : (o : Option (List ℕ)) → IfSome o (IsAfter name) → earlier name o ≡ name
     stays None h = refl
     stays (Some other) h =
-        let back : is_lt (slice_cmp nat_cmp other name) ≡ false = ap is_lt (nat_list_cmp_total.antisymm other name ∙ ap ordering_reverse h) in
+        let back : is_lt (slice_cmp nat_cmp other name) ≡ false =
+        ap is_lt (nat_list_cmp_total.antisymm other name ∙ ap ordering_reverse h) in
         rw back refl
 
 -- ---- the keys of a table
@@ -53,7 +56,8 @@ earliest_head name others after = ap Some (stays (earliest others) (earliest_aft
 abbrev bytes_of : List (String Global) → List (List ℕ)
 bytes_of keys = map string_bytes keys
 
-after_filtered : (known : List ℕ → Bool) (name : String Global) (keys : List (String Global)) → AllByRecursion (λ y. string_cmp name y ≡ Less) keys
+after_filtered : (known : List ℕ → Bool) (name : String Global) (keys : List (String Global)) →
+    AllByRecursion (λ y. string_cmp name y ≡ Less) keys
     → AllAfter (string_bytes name) (filter (λ n. not (known n)) (bytes_of keys))
 after_filtered known name [] after = tt
 after_filtered known name (key ∷ keys) after = ⊎_elim
@@ -68,7 +72,8 @@ first_name-earliest known (key ∷ keys) sorted =
     let after = after_filtered known key keys (sorted_head string_cmp key keys sorted) in
     ⊎_elim
     (λ yes_known. rw yes_known (first_name-earliest known keys (sorted_tail string_cmp key keys sorted)))
-    (λ not_known. rw not_known (sym (earliest_head (string_bytes key) (filter (λ n. not (known n)) (bytes_of keys)) after)))
+    (λ not_known. rw not_known (sym (earliest_head (string_bytes key) (filter (λ n. not (known n)) (bytes_of keys))
+    after)))
     (cases_Bool (known (string_bytes key)))
 
 names_of_view : (entries : List Entry) → names_of (members_view entries) ≡ bytes_of (keys_of entries)
@@ -78,4 +83,5 @@ names_of_view (e ∷ entries) = ap (λ names. string_bytes e.0 ∷ names) (names
 pub names_of_table : (known : List ℕ → Bool) (entries : List Entry) → IsStrictlySortedBy string_cmp (keys_of entries)
     → first_name known (keys_of entries) ≡ first_other known (members_view entries)
 names_of_table known entries sorted =
-    first_name-earliest known (keys_of entries) sorted ∙ ap (λ names. earliest (filter (λ n. not (known n)) names)) (sym (names_of_view entries))
+    first_name-earliest known (keys_of entries) sorted ∙ ap (λ names. earliest (filter (λ n. not (known n)) names))
+    (sym (names_of_view entries))

@@ -1,12 +1,15 @@
 -- A document that breaks no rule says a shape whose numbers are in their ranges.
-use Rattle.std.proofs.Common.{◌≡◌, ℕ, pos, negsuc, ◌^◌, ◌<◌, nat_le, List, [], ◌∷◌, Option, Some, None, Result, Ok, Err, IfOk, Bool, true, false}
-use Rattle.std.proofs.Common.{not, ◌&&◌, if◌then◌else◌, is_none, is_some, option_map, option_and_then, find, refl, subst, arith, codes}
+use Rattle.std.proofs.Common.{◌≡◌, ℕ, pos, negsuc, ◌^◌, ◌<◌, nat_le, List, [], ◌∷◌, Option, Some, None, Result, Ok}
+use Rattle.std.proofs.Common.{Err, IfOk, Bool, true, false}
+use Rattle.std.proofs.Common.{not, ◌&&◌, if◌then◌else◌, is_none, is_some, option_map, option_and_then, find, refl}
+use Rattle.std.proofs.Common.{subst, arith, codes}
 use Rattle.std.proofs.lemmas.Bool.Decides.{nat_tests}
 use Rattle.std.proofs.lemmas.Slice.Eq.{bytes_eq-Decides}
 use Rattle.std.specs.Option.{option_map_or}
 use Rattle.std.specs.List.{AllByRecursion}
 use Rattle.std.specs.Str.{bytes_eq}
-use Rattle.toml.specs.Data.{Data, string, integer, float, boolean, datetime, array, table, Members, as_integer, as_table, get_member}
+use Rattle.toml.specs.Data.{Data, string, integer, float, boolean, datetime, array, table, Members, as_integer}
+use Rattle.toml.specs.Data.{as_table, get_member}
 use Rattle.lf_config.specs.declared.key.LevelKey.{LevelKey}
 use Rattle.lf_config.specs.declared.key.LevelKey.TheVariants.{One, Two}
 use Rattle.lf_config.specs.declared.key.Part.{Part}
@@ -20,8 +23,10 @@ use Rattle.lf_config.specs.Key.{all_keys, level_keys, level_name, need_of}
 use Rattle.lf_config.specs.Unknown.{first_unknown}
 use Rattle.lf_rules.specs.Fits.{is_block_size, is_factor}
 use Rattle.lf_config.specs.Lookup.{level_at, value_at}
-use Rattle.lf_config.specs.Rules.{is_between, is_size_of_block, is_number_of_blocks, is_missing, is_misfit, is_out_of_range}
-use Rattle.lf_config.specs.Rules.{is_required, is_needed, organisation_at, first_missing, first_misfit, first_out_of_range}
+use Rattle.lf_config.specs.Rules.{is_between, is_size_of_block, is_number_of_blocks, is_missing, is_misfit}
+use Rattle.lf_config.specs.Rules.{is_out_of_range}
+use Rattle.lf_config.specs.Rules.{is_required, is_needed, organisation_at, first_missing, first_misfit}
+use Rattle.lf_config.specs.Rules.{first_out_of_range}
 use Rattle.lf_config.specs.Told.{number_of, number_at, organisation_named, level_of, shape_of}
 use Rattle.lf_config.specs.declared.fault.ConfigFault.{ConfigFault}
 use Rattle.lf_config.specs.Configuration.{unknown, missing, kind, range, ◌otherwise◌, said_by, Answers}
@@ -32,12 +37,14 @@ none_found : (p : Key → Bool) (ks : List Key) → find p ks ≡ None → AllBy
 none_found p [] e = tt
 none_found p (k ∷ ks) e = go (p k) refl e (λ h. none_found p ks h)
   where
-    go : (b : Bool) → p k ≡ b → find p (k ∷ ks) ≡ None → (find p ks ≡ None → AllByRecursion (λ k. p k ≡ false) ks) → AllByRecursion (λ k. p k ≡ false) (k ∷ ks)
+    go : (b : Bool) → p k ≡ b → find p (k ∷ ks) ≡ None → (find p ks ≡ None → AllByRecursion (λ k. p k ≡ false) ks) →
+        AllByRecursion (λ k. p k ≡ false) (k ∷ ks)
     go true h f others = let bad = rw h at f in cc
     go false h f others = (h, others (rw h at f))
 
 -- what holds of all keys holds of each
-of_level : (P : Key → Type 0) (w : LevelKey) (others : List Key) → AllByRecursion P (level_keys w others) → ((p : Part) → P (Of w p)) × P (Table w) × AllByRecursion P others
+of_level : (P : Key → Type 0) (w : LevelKey) (others : List Key) → AllByRecursion P (level_keys w others) →
+    ((p : Part) → P (Of w p)) × P (Table w) × AllByRecursion P others
 of_level P w others h = (part, h.0, h.1.1.1.1.1.1)
   where
     part : (p : Part) → P (Of w p)
@@ -74,7 +81,8 @@ clean_of ms a b c = record {
 
 -- ---- one number
 
-small_in : (n low high : ℕ) → high < 2 ^ 32 → not (nat_le low n && nat_le n high) ≡ false → IsFrom low high (number_of (pos n))
+small_in : (n low high : ℕ) → high < 2 ^ 32 → not (nat_le low n && nat_le n high) ≡ false →
+    IsFrom low high (number_of (pos n))
 small_in n low high fits within = (grind (arith, nat_tests), grind (arith, nat_tests))
 
 block_small : (n : ℕ) → not (is_block_size n) ≡ false → n < 2 ^ 32
@@ -149,9 +157,11 @@ there_if_required ms k clean required = go (is_none (value_at ms k)) (is_require
 
 -- the table of a level is there
 level_there : (ms : Members) (w : LevelKey) → IsClean ms → is_some (level_at ms w) ≡ true
-level_there ms w clean = go (get_member (level_name w) ms) (there_if_required ms (Table w) clean refl) (clean.misfit (Table w))
+level_there ms w clean = go (get_member (level_name w) ms) (there_if_required ms (Table w) clean refl)
+    (clean.misfit (Table w))
   where
-    go : (o : Option Data) → is_none o ≡ false → option_map_or (λ d. not (is_some (as_table d))) o false ≡ false → is_some (option_and_then as_table o) ≡ true
+    go : (o : Option Data) → is_none o ≡ false → option_map_or (λ d. not (is_some (as_table d))) o false ≡ false →
+        is_some (option_and_then as_table o) ≡ true
     go None there sort = let bad = there in cc
     go (Some d) there sort = turned (is_some (as_table d)) sort
       where
@@ -160,10 +170,12 @@ level_there ms w clean = go (get_member (level_name w) ms) (there_if_required ms
         turned false h = let bad = h in cc
 
 -- a number of a level
-part_there : (ms : Members) (w : LevelKey) (p : Part) → IsClean ms → is_needed (need_of (Of w p)) (organisation_at ms w) ≡ true → is_none (value_at ms (Of w p)) ≡ false
+part_there : (ms : Members) (w : LevelKey) (p : Part) → IsClean ms →
+    is_needed (need_of (Of w p)) (organisation_at ms w) ≡ true → is_none (value_at ms (Of w p)) ≡ false
 part_there ms w p clean needed = there_if_required ms (Of w p) clean (rw (level_there ms w clean) needed)
 
-organisation_in : (ms : Members) (w : LevelKey) → IsClean ms → IsOrganisation (organisation_named ms w (organisation_at ms w))
+organisation_in : (ms : Members) (w : LevelKey) → IsClean ms →
+    IsOrganisation (organisation_named ms w (organisation_at ms w))
 organisation_in ms w clean = go (organisation_at ms w) refl
   where
     go : (o : Option (List ℕ)) → organisation_at ms w ≡ o → IsOrganisation (organisation_named ms w o)
@@ -171,32 +183,43 @@ organisation_in ms w clean = go (organisation_at ms w) refl
     go (Some text) e = named (bytes_eq text (codes "implicit")) (bytes_eq text (codes "explicit")) refl refl
       where
         registers_in : is_needed UnlessInverted (Some text) ≡ true → IsFrom 1 64 (number_at ms (Of w Registers))
-        registers_in needed = number_in (value_at ms (Of w Registers)) 1 64 (omega arith) (part_there ms w Registers clean (rw e needed))
+        registers_in needed = number_in (value_at ms (Of w Registers)) 1 64 (omega arith)
+            (part_there ms w Registers clean (rw e needed))
             (clean.misfit (Of w Registers)) (clean.out_of_range (Of w Registers))
 
         entries_in : is_needed IfExplicit (Some text) ≡ true → IsFrom 1 8 (number_at ms (Of w Entries))
-        entries_in needed = number_in (value_at ms (Of w Entries)) 1 8 (omega arith) (part_there ms w Entries clean (rw e needed)) (clean.misfit (Of w Entries)) (clean.out_of_range (Of w Entries))
+        entries_in needed = number_in (value_at ms (Of w Entries)) 1 8 (omega arith)
+            (part_there ms w Entries clean (rw e needed)) (clean.misfit (Of w Entries))
+            (clean.out_of_range (Of w Entries))
 
         named : (a b : Bool) → bytes_eq text (codes "implicit") ≡ a → bytes_eq text (codes "explicit") ≡ b
-            → IsOrganisation (if a then Implicit (number_at ms (Of w Registers)) else if b then Explicit (number_at ms (Of w Registers)) (number_at ms (Of w Entries)) else Inverted)
+            → IsOrganisation (if a then Implicit (number_at ms (Of w Registers)) else if b then Explicit
+            (number_at ms (Of w Registers)) (number_at ms (Of w Entries)) else Inverted)
         named true b p q = registers_in (let t = (bytes_eq-Decides text (codes "implicit")).0 p in rw t refl)
-        named false true p q = let t = (bytes_eq-Decides text (codes "explicit")).0 q in (registers_in (rw t refl), entries_in (rw t refl))
+        named false true p q = let t = (bytes_eq-Decides text (codes "explicit")).0 q in
+            (registers_in (rw t refl), entries_in (rw t refl))
         named false false p q = tt
 
 level_in : (ms : Members) (w : LevelKey) → IsClean ms → IsLevel (level_of ms w)
 level_in ms w clean = record {
-  sets = number_in (value_at ms (Of w Sets)) 1 4096 (omega arith) (part_there ms w Sets clean refl) (clean.misfit (Of w Sets)) (clean.out_of_range (Of w Sets));
-  ways = number_in (value_at ms (Of w Ways)) 1 16 (omega arith) (part_there ms w Ways clean refl) (clean.misfit (Of w Ways)) (clean.out_of_range (Of w Ways));
+  sets = number_in (value_at ms (Of w Sets)) 1 4096 (omega arith) (part_there ms w Sets clean refl)
+      (clean.misfit (Of w Sets)) (clean.out_of_range (Of w Sets));
+  ways = number_in (value_at ms (Of w Ways)) 1 16 (omega arith) (part_there ms w Ways clean refl)
+      (clean.misfit (Of w Ways)) (clean.out_of_range (Of w Ways));
   organisation = organisation_in ms w clean;
 }
 
 shape_in : (ms : Members) → IsClean ms → IsShape (shape_of ms)
 unfolding shape_of
 shape_in ms clean = record {
-  ports = number_in (value_at ms Ports) 1 16 (omega arith) (there_if_required ms Ports clean refl) (clean.misfit Ports) (clean.out_of_range Ports);
-  banks = number_in (value_at ms Banks) 1 16 (omega arith) (there_if_required ms Banks clean refl) (clean.misfit Banks) (clean.out_of_range Banks);
-  block_size = block_in (value_at ms Block) (there_if_required ms Block clean refl) (clean.misfit Block) (clean.out_of_range Block);
-  tags = number_in (value_at ms Tags) 1 64 (omega arith) (there_if_required ms Tags clean refl) (clean.misfit Tags) (clean.out_of_range Tags);
+  ports = number_in (value_at ms Ports) 1 16 (omega arith) (there_if_required ms Ports clean refl)
+      (clean.misfit Ports) (clean.out_of_range Ports);
+  banks = number_in (value_at ms Banks) 1 16 (omega arith) (there_if_required ms Banks clean refl)
+      (clean.misfit Banks) (clean.out_of_range Banks);
+  block_size = block_in (value_at ms Block) (there_if_required ms Block clean refl) (clean.misfit Block)
+      (clean.out_of_range Block);
+  tags = number_in (value_at ms Tags) 1 64 (omega arith) (there_if_required ms Tags clean refl) (clean.misfit Tags)
+      (clean.out_of_range Tags);
   factor = factor_in (value_at ms Blocks) (clean.misfit Blocks) (clean.out_of_range Blocks);
   level1 = level_in ms One clean;
   level2 = level_in ms Two clean;
@@ -206,8 +229,10 @@ shape_in ms clean = record {
 said_in : (ms : Members) (s : Shape) → said_by ms ≡ Ok s → IsShape s
 said_in ms s e = go (first_unknown ms) (first_missing ms) (first_misfit ms) (first_out_of_range ms) refl refl refl e
   where
-    go : (a : Option (List ℕ)) (b c d : Option Key) → first_missing ms ≡ b → first_misfit ms ≡ c → first_out_of_range ms ≡ d
-        → (option_map unknown a otherwise option_map missing b otherwise option_map kind c otherwise option_map range d otherwise Ok (shape_of ms)) ≡ Ok s → IsShape s
+    go : (a : Option (List ℕ)) (b c d : Option Key) → first_missing ms ≡ b → first_misfit ms ≡ c →
+        first_out_of_range ms ≡ d
+        → (option_map unknown a otherwise option_map missing b otherwise option_map kind c otherwise option_map range
+        d otherwise Ok (shape_of ms)) ≡ Ok s → IsShape s
     go (Some name) b c d p q r h = let bad = h in cc
     go None (Some k) c d p q r h = let bad = h in cc
     go None None (Some k) d p q r h = let bad = h in cc

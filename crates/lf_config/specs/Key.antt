@@ -15,7 +15,8 @@ use Rattle.lf_config.specs.declared.key.Need.TheVariants.{Always, UnlessInverted
 
 -- the keys of a level, and others after them
 abbrev pub level_keys : LevelKey → List Key → List Key
-level_keys level others = Table level ∷ Of level Sets ∷ Of level Ways ∷ Of level Organisation ∷ Of level Registers ∷ Of level Entries ∷ others
+level_keys level others = Table level ∷ Of level Sets ∷ Of level Ways ∷ Of level Organisation ∷ Of level Registers
+    ∷ Of level Entries ∷ others
 
 -- all keys, in the order that decides between faults of one sort
 abbrev pub all_keys : List Key

@@ -1,5 +1,6 @@
 -- What a document has to say of the keys, and the first key of which it does not.
-use Rattle.std.specs.Prelude.{ℕ, ℤ, pos, negsuc, nat_le, List, codes, Bool, true, false, not, ◌&&◌, ◌||◌, Option, None, is_some, is_none, option_and_then, find}
+use Rattle.std.specs.Prelude.{ℕ, ℤ, pos, negsuc, nat_le, List, codes, Bool, true, false, not, ◌&&◌, ◌||◌, Option}
+use Rattle.std.specs.Prelude.{None, is_some, is_none, option_and_then, find}
 use Rattle.std.specs.Option.{option_map_or}
 use Rattle.std.specs.Str.{bytes_eq}
 use Rattle.toml.specs.Data.{Data, Members, as_integer, as_str, as_table}
@@ -32,7 +33,8 @@ is_number_of_blocks (pos n) = is_factor n
 is_number_of_blocks (negsuc n) = false
 
 abbrev pub is_organisation : List ℕ → Bool
-is_organisation text = bytes_eq text (codes "implicit") || bytes_eq text (codes "explicit") || bytes_eq text (codes "inverted")
+is_organisation text = bytes_eq text (codes "implicit") || bytes_eq text (codes "explicit")
+    || bytes_eq text (codes "inverted")
 
 abbrev pub has_sort : Sort → Data → Bool
 has_sort sorts.Integer value = is_some (as_integer value)
@@ -65,7 +67,8 @@ is_needed Never organisation = false
 
 -- A key of a level is required only where the level's table is there.
 abbrev pub is_required : Members → Key → Bool
-is_required document (Of level part) = is_some (level_at document level) && is_needed (need_of (Of level part)) (organisation_at document level)
+is_required document (Of level part) = is_some (level_at document level)
+    && is_needed (need_of (Of level part)) (organisation_at document level)
 is_required document key = is_needed (need_of key) None
 
 abbrev pub is_missing : Members → Key → Bool
@@ -75,7 +78,8 @@ abbrev pub is_misfit : Members → Key → Bool
 is_misfit document key = option_map_or (λ value. not (has_sort (sort_of key) value)) (value_at document key) false
 
 abbrev pub is_out_of_range : Members → Key → Bool
-is_out_of_range document key = option_map_or (λ value. not (is_within (limits_of key) value)) (value_at document key) false
+is_out_of_range document key = option_map_or (λ value. not (is_within (limits_of key) value)) (value_at document key)
+    false
 
 -- ---- the first key that breaks a rule
 

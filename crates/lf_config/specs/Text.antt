@@ -13,7 +13,8 @@ key_text (Of w p) = level_name w ++ codes "." ++ part_name p
 key_text Blocks = level_name Two ++ codes "." ++ blocks_name
 key_text key = name_of key
 
--- what stands for a byte of a UTF-8 text: itself from ! to ~, nothing inside a character of several bytes, and else a question mark
+-- what stands for a byte of a UTF-8 text: itself from ! to ~, nothing inside a character of several bytes, and else
+-- a question mark
 abbrev pub glyph : ℕ → List ℕ
 glyph b = if nat_le 33 b && nat_le b 126 then b ∷ [] else if nat_le 128 b && nat_le b 191 then [] else 63 ∷ []
 

@@ -1,5 +1,6 @@
 -- The shape that a document tells, where it breaks no rule.
-use Rattle.std.specs.Prelude.{ℕ, ℤ, pos, negsuc, ◌^◌, nat_lt, if◌then◌else◌, List, codes, Option, Some, None, option_and_then}
+use Rattle.std.specs.Prelude.{ℕ, ℤ, pos, negsuc, ◌^◌, nat_lt, if◌then◌else◌, List, codes, Option, Some, None}
+use Rattle.std.specs.Prelude.{option_and_then}
 use Rattle.std.specs.Option.{option_map_or}
 use Rattle.std.specs.Str.{bytes_eq}
 use Rattle.toml.specs.Data.{Members, as_integer}
@@ -27,7 +28,8 @@ abbrev pub organisation_named : Members → LevelKey → Option (List ℕ) → O
 organisation_named document level None = Inverted
 organisation_named document level (Some text) =
     if bytes_eq text (codes "implicit") then Implicit (number_at document (Of level Registers))
-    else if bytes_eq text (codes "explicit") then Explicit (number_at document (Of level Registers)) (number_at document (Of level Entries))
+    else if bytes_eq text (codes "explicit") then Explicit (number_at document (Of level Registers))
+    (number_at document (Of level Entries))
     else Inverted
 
 abbrev pub level_of : Members → LevelKey → Level

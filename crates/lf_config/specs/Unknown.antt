@@ -1,5 +1,6 @@
 -- The first key of a document that is none of a configuration's.
-use Rattle.std.specs.Prelude.{ℕ, List, [], ◌∷◌, ◌++◌, codes, Bool, not, ◌||◌, if◌then◌else◌, Option, Some, None, option_and_then}
+use Rattle.std.specs.Prelude.{ℕ, List, [], ◌∷◌, ◌++◌, codes, Bool, not, ◌||◌, if◌then◌else◌, Option, Some, None}
+use Rattle.std.specs.Prelude.{option_and_then}
 use Rattle.std.specs.List.{filter}
 use Rattle.std.specs.Option.{option_map, option_or}
 use Rattle.std.specs.Ordering.{is_lt, nat_cmp}
@@ -13,7 +14,8 @@ use Rattle.lf_config.specs.Lookup.{level_at}
 
 abbrev pub is_top_name : List ℕ → Bool
 is_top_name name =
-    bytes_eq name (codes "ports") || bytes_eq name (codes "banks") || bytes_eq name (codes "block") || bytes_eq name (codes "tags")
+    bytes_eq name (codes "ports") || bytes_eq name (codes "banks") || bytes_eq name (codes "block")
+    || bytes_eq name (codes "tags")
     || bytes_eq name (codes "level1") || bytes_eq name (codes "level2")
 
 abbrev pub is_part_name : List ℕ → Bool
@@ -47,8 +49,10 @@ first_other known members = earliest (filter (λ name. not (known name)) (names_
 
 abbrev pub unknown_part : Members → LevelKey → Option (List ℕ)
 unknown_part document level =
-    option_map (λ name. level_name level ++ codes "." ++ name) (option_and_then (first_other (is_known (Some level))) (level_at document level))
+    option_map (λ name. level_name level ++ codes "." ++ name)
+    (option_and_then (first_other (is_known (Some level))) (level_at document level))
 
 -- the whole name: first one of the document, then one of level one, then one of level two
 unfoldable pub first_unknown : Members → Option (List ℕ)
-first_unknown document = option_or (first_other (is_known None) document) (option_or (unknown_part document One) (unknown_part document Two))
+first_unknown document = option_or (first_other (is_known None) document)
+    (option_or (unknown_part document One) (unknown_part document Two))

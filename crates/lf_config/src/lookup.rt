@@ -26,7 +26,8 @@ pub(crate) fn level<'a>(table: &'a Table, which: LevelKey) -> Option<&'a Table>
 
 /// What the table of a level has at a name.
 fn entry_of<'a>(table: &'a Table, which: LevelKey, name: &str) -> Option<&'a Value>
-    ensures { option_map (λ v. view v.now) result ≡ option_and_then (get_member name.now) (level_at (table_view table.now) which) }
+    ensures { option_map (λ v. view v.now) result ≡ option_and_then (get_member name.now)
+        (level_at (table_view table.now) which) }
 {
     match level(table, which) {
         Some(inner) => entry(inner, name),

@@ -2,8 +2,10 @@
 
 ghost use Rattle.std.specs.Prelude.{◌≡◌, option_map};
 ghost use Rattle.toml.specs.View.{view, table_view};
-ghost use Rattle.lf_config.specs.Rules.{is_between, is_size_of_block, is_number_of_blocks, is_organisation, is_needed, has_sort, is_within};
-ghost use Rattle.lf_config.specs.Rules.{organisation_at, is_required, is_missing, is_misfit, is_out_of_range, first_missing, first_misfit};
+ghost use Rattle.lf_config.specs.Rules.{is_between, is_size_of_block, is_number_of_blocks, is_organisation};
+ghost use Rattle.lf_config.specs.Rules.{is_needed, has_sort, is_within};
+ghost use Rattle.lf_config.specs.Rules.{organisation_at, is_required, is_missing, is_misfit, is_out_of_range};
+ghost use Rattle.lf_config.specs.Rules.{first_missing, first_misfit};
 ghost use Rattle.lf_config.specs.Rules.{first_out_of_range};
 
 use crate::key::{KEYS, Key, LevelKey, Limits, Need, Part, Sort};

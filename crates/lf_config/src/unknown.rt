@@ -3,7 +3,8 @@
 ghost use Rattle.std.specs.Prelude.{◌≡◌, option_map, string_bytes, option_and_then, IfOk};
 ghost use Rattle.toml.specs.View.{table_view};
 ghost use Rattle.lf_config.specs.Lookup.{level_at};
-ghost use Rattle.lf_config.specs.Unknown.{is_top_name, is_part_name, is_known, first_other, unknown_part, first_unknown};
+ghost use Rattle.lf_config.specs.Unknown.{is_top_name, is_part_name, is_known, first_other, unknown_part};
+ghost use Rattle.lf_config.specs.Unknown.{first_unknown};
 
 use crate::key::LevelKey;
 use crate::lookup::level;
@@ -56,7 +57,8 @@ fn first_other(table: &Table, level: Option<LevelKey>) -> Option<&str>
 }
 
 fn unknown_in(table: &Table, which: LevelKey) -> Option<&str>
-    ensures { option_map (λ s. s.now) result ≡ option_and_then (first_other (is_known (Some which))) (level_at (table_view table.now) which) }
+    ensures { option_map (λ s. s.now) result ≡ option_and_then (first_other (is_known (Some which)))
+        (level_at (table_view table.now) which) }
 {
     match level(table, which) {
         Some(inner) => first_other(inner, Some(which)),

@@ -1,5 +1,6 @@
 -- What the trace of a demonstration is.
-use Rattle.std.specs.Prelude.{◌≡◌, ℕ, ◌+◌, ◌*◌, ◌%◌, ◌<◌, ◌==◌, Bool, true, false, if◌then◌else◌, List, [], ◌∷◌, ◌++◌, length, map, filter, replicate}
+use Rattle.std.specs.Prelude.{◌≡◌, ℕ, ◌+◌, ◌*◌, ◌%◌, ◌<◌, ◌==◌, Bool, true, false, if◌then◌else◌, List, [], ◌∷◌, ◌++◌}
+use Rattle.std.specs.Prelude.{length, map, filter, replicate}
 use Rattle.std.specs.Prelude.{slice_index_or}
 use Rattle.std.specs.List.{range_with_len, count_by}
 use Rattle.lf_rules.specs.declared.shape.Shape.{Shape}
@@ -70,7 +71,15 @@ pub record IsRecording (shape : Shape) (logs : List (List Record)) : Type 0 wher
   pub ports : (port : ℕ) → port < shape.ports → IsPortLog shape port (slice_index_or logs port [])
 
 abbrev pub header_of : Shape → Header
-header_of shape = record { version = 3; ports = shape.ports; banks = shape.banks; block = shape.block; factor = shape.factor; memory_count = 0 }
+header_of shape = record {
+  version = 3;
+  ports = shape.ports;
+  banks = shape.banks;
+  block = shape.block;
+  factor =
+      shape.factor;
+  memory_count = 0;
+}
 
 -- the bytes are the trace of these logs, log after log, with so many events
 pub record IsTraceOf (shape : Shape) (logs : List (List Record)) (count : ℕ) (bytes : List ℕ) : Type 0 where

@@ -57,7 +57,7 @@ fn run_in<'s, E, R: Threads + Wait + Sync>(
     }
 }
 
-/// The same in a scope of its own, which ends when each thread has.
+/// Runs the threads in a scope of its own, which ends when each thread has.
 fn in_threads<R: Threads + Wait + Sync>(
     rt: &R,
     alloc: Global,
@@ -72,7 +72,8 @@ fn in_threads<R: Threads + Wait + Sync>(
         rt,
         move |scope| -> Result<Vec<Recorded>, DemoFault>
             requires { All (IsNew recording.now.desk) seats.items }
-            ensures { IfOk result (λ v. All (IsGivenBack recording.entry.now.places.shape recording.entry.now.desk) v.items) }
+            ensures { IfOk result (λ v. All (IsGivenBack recording.entry.now.places.shape recording.entry.now.desk)
+                v.items) }
         { run_in(rt, scope, alloc, recording, seats) },
     )
 }

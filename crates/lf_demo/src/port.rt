@@ -122,7 +122,8 @@ fn issue<R: Wait>(
     requires counts { Counts recording.now.places.shape port.old seat.old }
     ensures own { seat.new.desk ≡ recording.now.desk.desk }
     ensures counts { OnOk result (Counts recording.now.places.shape port.new seat.new) }
-    ensures one { IfOk result (λ done. port.new.issued + port.new.replied ≡ port.old.issued + port.old.replied + (if done then 1 else 0)) }
+    ensures one { IfOk result (λ done. port.new.issued + port.new.replied ≡ port.old.issued + port.old.replied
+        + (if done then 1 else 0)) }
 {
     if port.issued == REQUESTS {
         return Ok(false);
@@ -155,7 +156,8 @@ fn take_reply<R: Wait>(
     requires counts { Counts recording.now.places.shape port.old seat.old }
     ensures own { seat.new.desk ≡ recording.now.desk.desk }
     ensures counts { OnOk result (Counts recording.now.places.shape port.new seat.new) }
-    ensures one { IfOk result (λ done. port.new.issued + port.new.replied ≡ port.old.issued + port.old.replied + (if done then 1 else 0)) }
+    ensures one { IfOk result (λ done. port.new.issued + port.new.replied ≡ port.old.issued + port.old.replied
+        + (if done then 1 else 0)) }
 {
     for bank in 0..recording.places.shape.banks {
         if take_reply_of(rt, recording, port, seat, bank as u8)? {
@@ -165,7 +167,7 @@ fn take_reply<R: Wait>(
     Ok(false)
 }
 
-/// The same of one bank.
+/// Takes a reply of one bank, where one is ready.
 fn take_reply_of<R: Wait>(
     rt: &R,
     recording: &Recording,
@@ -177,7 +179,8 @@ fn take_reply_of<R: Wait>(
     requires counts { Counts recording.now.places.shape port.old seat.old }
     ensures own { seat.new.desk ≡ recording.now.desk.desk }
     ensures counts { OnOk result (Counts recording.now.places.shape port.new seat.new) }
-    ensures one { IfOk result (λ done. port.new.issued + port.new.replied ≡ port.old.issued + port.old.replied + (if done then 1 else 0)) }
+    ensures one { IfOk result (λ done. port.new.issued + port.new.replied ≡ port.old.issued + port.old.replied
+        + (if done then 1 else 0)) }
 {
     if port.replied == port.issued {
         return Ok(false);

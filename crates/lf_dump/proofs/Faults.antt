@@ -13,13 +13,15 @@ use Rattle.lf_codec.specs.Reading.{Reading, reading_of, fault_of, fault_so_far, 
 use Rattle.lf_dump.specs.Dump.{HasFault}
 
 -- a fault that stands
-pub stands : FaultsSoFarAreNotTruncated → (bytes : List ℕ) (memory : List (ℕ × Bytes)) (records : List Record) (r : Reading) (f : CodecFault)
+pub stands : FaultsSoFarAreNotTruncated → (bytes : List ℕ) (memory : List (ℕ × Bytes)) (records : List Record)
+    (r : Reading) (f : CodecFault)
     → HasRead r bytes memory records → r.fault ≡ Some f → HasFault bytes
 stands so_far bytes memory records r f has failed =
     let (whole, other) = (so_far bytes f).0 (ap (λ (q : Reading). q.fault) has.same ∙ failed) in (f, whole, other)
 
 pub none_stands : FaultsSoFarAreNotTruncated → (bytes : List ℕ) → fault_so_far bytes ≡ None → ¬ HasFault bytes
-none_stands so_far bytes none (fault, is, other) = let bad : None ≡ Some fault = sym none ∙ (so_far bytes fault).1 (is, other) in cc
+none_stands so_far bytes none (fault, is, other) = let bad : None ≡ Some fault =
+    sym none ∙ (so_far bytes fault).1 (is, other) in cc
 
 -- another fault is not that memory ran out
 pub not_out : (r : Reading) (fed : List ℕ) (memory : List (ℕ × Bytes)) (records : List Record) (f : CodecFault)
@@ -30,7 +32,8 @@ not_out r fed memory records f ran failed other =
     other (ap (λ (g : CodecFault). g.cause) (sym same) ∙ ran.cause)
 
 pub unless_out : (r : Reading) (fed : List ℕ) (memory : List (ℕ × Bytes)) (records : List Record) (f : CodecFault)
-    → HasRead r fed memory records ⊎ RanOut r fed memory records → r.fault ≡ Some f → f.cause ≢ NoMemory → HasRead r fed memory records
+    → HasRead r fed memory records ⊎ RanOut r fed memory records → r.fault ≡ Some f → f.cause ≢ NoMemory →
+    HasRead r fed memory records
 unless_out r fed memory records f (inl read) failed other = read
 unless_out r fed memory records f (inr ran) failed other = absurd (not_out r fed memory records f ran failed other)
 
@@ -41,11 +44,15 @@ ends_well (Some f) now h header e = absurd cc
 ends_well None (Some f) h header e = absurd cc
 ends_well None None h header e = refl
 
-gives_fault : (own now : Option CodecFault) (h : Header) (t : Told CodecFault) → ((f : CodecFault) → own ≡ Some f → now ≡ Some f)
+gives_fault : (own now : Option CodecFault) (h : Header) (t : Told CodecFault) →
+    ((f : CodecFault) → own ≡ Some f → now ≡ Some f)
     → finish_gives own now h ≡ Err t → now ≡ Some (fault_in t)
-gives_fault (Some f) now h t same e = let is : Failed f ≡ t = cc in same f refl ∙ ap (λ (x : Told CodecFault). Some (fault_in x)) is
+gives_fault (Some f) now h t same e = let is : Failed f ≡ t = cc in
+    same f refl ∙ ap (λ (x : Told CodecFault). Some (fault_in x)) is
 gives_fault None (Some f) h t same e = let is : Fault f ≡ t = cc in ap (λ (x : Told CodecFault). Some (fault_in x)) is
 gives_fault None None h t same e = absurd cc
 
-pub ends_badly : (bytes : List ℕ) (h : Header) (t : Told CodecFault) → finish_gives (fault_so_far bytes) (trace_fault bytes) h ≡ Err t → trace_fault bytes ≡ Some (fault_in t)
-ends_badly bytes h t e = gives_fault (fault_so_far bytes) (trace_fault bytes) h t (λ f some. ap (fault_of (reading_of bytes)) some) e
+pub ends_badly : (bytes : List ℕ) (h : Header) (t : Told CodecFault) →
+    finish_gives (fault_so_far bytes) (trace_fault bytes) h ≡ Err t → trace_fault bytes ≡ Some (fault_in t)
+ends_badly bytes h t e = gives_fault (fault_so_far bytes) (trace_fault bytes) h t
+    (λ f some. ap (fault_of (reading_of bytes)) some) e

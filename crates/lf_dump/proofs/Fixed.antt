@@ -33,14 +33,40 @@ fixed_length (events.Primary port tag register) = omega (arith, length-u16_bytes
 fixed_length (events.Merge port tag register) = omega (arith, length-u16_bytes register)
 fixed_length (events.Stall port tag) = omega (arith, length-u16_bytes 0)
 fixed_length (events.Fill1 block bytes) = length-u32_bytes block
-fixed_length (events.Evict1 block mask bytes) = omega (arith, length-append (u32_bytes block) (u64_bytes mask.0), length-u32_bytes block, length-u64_bytes mask.0)
+fixed_length (events.Evict1 block mask bytes) = omega (
+  arith,
+  length-append (u32_bytes block) (u64_bytes mask.0),
+  length-u32_bytes block,
+  length-u64_bytes mask.0,
+)
 fixed_length (events.SecondHit block) = length-u32_bytes block
 fixed_length (events.SecondPrimary block register) =
-    omega (arith, length-append (u32_bytes block ++ u16_bytes register) (u16_bytes 0), length-append (u32_bytes block) (u16_bytes register), length-u32_bytes block, length-u16_bytes register, length-u16_bytes 0)
+    omega (
+      arith,
+      length-append (u32_bytes block ++ u16_bytes register) (u16_bytes 0),
+      length-append (u32_bytes block)
+          (u16_bytes register),
+      length-u32_bytes block,
+      length-u16_bytes register,
+      length-u16_bytes 0,
+    )
 fixed_length (events.SecondStall block) = length-u32_bytes block
 fixed_length (events.Fill2 second bytes) = length-u32_bytes second
 fixed_length (events.Evict2 second masks bytes) =
-    omega (arith, length-append (u32_bytes second) (flat_map mask_bytes masks.items), length-u32_bytes second, length-mask_bytes masks.items)
+    omega (
+      arith,
+      length-append (u32_bytes second) (flat_map mask_bytes masks.items),
+      length-u32_bytes second,
+      length-mask_bytes masks.items,
+    )
 fixed_length events.Fence = refl
 fixed_length (events.SecondMerge block register) =
-    omega (arith, length-append (u32_bytes block ++ u16_bytes register) (u16_bytes 0), length-append (u32_bytes block) (u16_bytes register), length-u32_bytes block, length-u16_bytes register, length-u16_bytes 0)
+    omega (
+      arith,
+      length-append (u32_bytes block ++ u16_bytes register) (u16_bytes 0),
+      length-append (u32_bytes block)
+          (u16_bytes register),
+      length-u32_bytes block,
+      length-u16_bytes register,
+      length-u16_bytes 0,
+    )

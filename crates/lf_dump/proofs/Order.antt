@@ -1,5 +1,6 @@
 -- What a trace gives comes in the order of its text, and what is read later comes behind.
-use Rattle.std.proofs.Common.{◌≡◌, ℕ, ◌-◌, Bool, true, false, List, [], ◌∷◌, ◌++◌, length, Some, None, refl, sym, ap, ◌∙◌, append-nil, inl, inr, ◌⊎◌}
+use Rattle.std.proofs.Common.{◌≡◌, ℕ, ◌-◌, Bool, true, false, List, [], ◌∷◌, ◌++◌, length, Some, None, refl, sym, ap}
+use Rattle.std.proofs.Common.{◌∙◌, append-nil, inl, inr, ◌⊎◌}
 use Rattle.std.specs.Prelude.{◌==◌}
 use Rattle.std.proofs.lemmas.Bool.{cond_both, cases_lt}
 use Rattle.lf_rules.specs.Fits.{Bytes}
@@ -12,8 +13,10 @@ use Rattle.lf_codec.specs.declared.stage.Stage.{Stage}
 use Rattle.lf_codec.specs.declared.stage.Stage.TheVariants as stages
 use Rattle.lf_codec.specs.declared.progress.Progress.{Progress}
 use Rattle.lf_codec.specs.Checks.{judged, stage_checks, byte_at}
-use Rattle.lf_codec.specs.Steps.{stage_len, advanced, between, at_next, within, past_record, past_head, past_fixed, head_at, header_at, record_of, fixed_len, data_len}
-use Rattle.lf_codec.specs.Reading.{Reading, reading_of, nothing_read, byte_read, read_on, past_step, failed, memory_in, records_in, header_unless, header_now}
+use Rattle.lf_codec.specs.Steps.{stage_len, advanced, between, at_next, within, past_record, past_head, past_fixed}
+use Rattle.lf_codec.specs.Steps.{head_at, header_at, record_of, fixed_len, data_len}
+use Rattle.lf_codec.specs.Reading.{Reading, reading_of, nothing_read, byte_read, read_on, past_step, failed}
+use Rattle.lf_codec.specs.Reading.{memory_in, records_in, header_unless, header_now}
 use Rattle.lf_codec.proofs.Bytes.{byte_waits, byte_steps, byte_fails, read_on-failed}
 use Rattle.lf_codec.proofs.Backward.{judged_cases, fault_cases}
 
@@ -30,7 +33,8 @@ is_early _ = false
 
 -- ---- one step
 
--- the stage after a step is not the first one, only a step before the events gives memory, and only one of them gives a record
+-- the stage after a step is not the first one, only a step before the events gives memory, and only one of them
+-- gives a record
 record StepShape (s : Stage) (p : Progress) (next : Progress × Found) : Type 0 where
   begun : (h : Header) × (header_unless next.0.stage next.0.header ≡ Some h)
   header : (header_unless s p.header ≡ None) ⊎ (header_unless next.0.stage next.0.header ≡ header_unless s p.header)
@@ -38,22 +42,34 @@ record StepShape (s : Stage) (p : Progress) (next : Progress × Found) : Type 0 
   early : is_early s ≡ true → records_in next.1 ≡ []
 
 begun_between : (left : ℕ) (h : Header) → header_unless (between left) h ≡ Some h
-begun_between left h = cond_both (left == 0) stages.Head stages.MemoryBlock (λ (s : Stage). header_unless s h ≡ Some h) (λ _. refl) (λ _. refl)
+begun_between left h = cond_both (left == 0) stages.Head stages.MemoryBlock
+    (λ (s : Stage). header_unless s h ≡ Some h) (λ _. refl) (λ _. refl)
 
-ended_shape : (q : Progress) → StepShape stages.Head (record q { stage = stages.Head }) (at_next q 8 stages.Ended, found.Nothing)
+ended_shape : (q : Progress) → StepShape stages.Head (record q { stage = stages.Head })
+    (at_next q 8 stages.Ended, found.Nothing)
 unfolding is_early
-ended_shape q = record { begun = (q.header, refl); header = inr refl; late = λ _. (refl, refl); early = λ bad. absurd cc }
+ended_shape q = record {
+  begun = (q.header, refl);
+  header = inr refl;
+  late = λ _. (refl, refl);
+  early =
+      λ bad. absurd cc;
+}
 
-head_shape : (q : Progress) (head : Head) → StepShape stages.Head (record q { stage = stages.Head }) (past_head (record q { stage = stages.Head }) head)
+head_shape : (q : Progress) (head : Head) → StepShape stages.Head (record q { stage = stages.Head })
+    (past_head (record q { stage = stages.Head }) head)
 unfolding is_early
 head_shape q head =
     let p : Progress = record q { stage = stages.Head } in
-    cond_both (fixed_len q.header head.kind == 0) (past_record p 8 (record_of q.header head [] [])) (within p 8 (stages.Fixed head), found.Nothing)
+    cond_both (fixed_len q.header head.kind == 0) (past_record p 8 (record_of q.header head [] []))
+    (within p 8 (stages.Fixed head), found.Nothing)
     (λ (next : Progress × Found). StepShape stages.Head p next)
     (λ _. record { begun = (q.header, refl); header = inr refl; late = λ _. (refl, refl); early = λ bad. absurd cc })
     (λ _. record { begun = (q.header, refl); header = inr refl; late = λ _. (refl, refl); early = λ bad. absurd cc })
 
-fixed_shape : (q : Progress) (head : Head) (bytes : List ℕ) → StepShape (stages.Fixed head) (record q { stage = stages.Fixed head }) (past_fixed (record q { stage = stages.Fixed head }) head bytes)
+fixed_shape : (q : Progress) (head : Head) (bytes : List ℕ) →
+    StepShape (stages.Fixed head) (record q { stage = stages.Fixed head })
+    (past_fixed (record q { stage = stages.Fixed head }) head bytes)
 unfolding is_early
 fixed_shape q head bytes =
     let p : Progress = record q { stage = stages.Fixed head } in
@@ -63,12 +79,25 @@ fixed_shape q head bytes =
     (λ _. record { begun = (q.header, refl); header = inr refl; late = λ _. (refl, refl); early = λ bad. absurd cc })
     (λ _. record { begun = (q.header, refl); header = inr refl; late = λ _. (refl, refl); early = λ bad. absurd cc })
 
-step_shape : (s : Stage) (q : Progress) (bytes : List ℕ) → StepShape s (record q { stage = s }) (advanced s (record q { stage = s }) bytes)
+step_shape : (s : Stage) (q : Progress) (bytes : List ℕ) → StepShape s (record q { stage = s })
+    (advanced s (record q { stage = s }) bytes)
 unfolding advanced is_early
 step_shape stages.Header q bytes =
     let h = header_at bytes in
-    record { begun = (h, begun_between h.memory_count h); header = inl refl; late = λ bad. absurd cc; early = λ _. refl }
-step_shape stages.MemoryBlock q bytes = record { begun = (q.header, refl); header = inr refl; late = λ bad. absurd cc; early = λ _. refl }
+    record {
+      begun = (h, begun_between h.memory_count h);
+      header = inl refl;
+      late = λ bad. absurd cc;
+      early =
+          λ _. refl;
+    }
+step_shape stages.MemoryBlock q bytes = record {
+  begun = (q.header, refl);
+  header = inr refl;
+  late =
+      λ bad. absurd cc;
+  early = λ _. refl;
+}
 step_shape (stages.MemoryData block) q bytes = record {
   begun = (q.header, begun_between (q.left - 1) q.header);
   header = inr (begun_between (q.left - 1) q.header);
@@ -80,8 +109,20 @@ step_shape stages.Head q bytes =
     cond_both (byte_at 0 bytes == 0) (at_next p 8 stages.Ended, found.Nothing) (past_head p (head_at bytes))
     (λ (next : Progress × Found). StepShape stages.Head p next) (λ _. ended_shape q) (λ _. head_shape q (head_at bytes))
 step_shape (stages.Fixed head) q bytes = fixed_shape q head bytes
-step_shape (stages.Data head fixed) q bytes = record { begun = (q.header, refl); header = inr refl; late = λ _. (refl, refl); early = λ bad. absurd cc }
-step_shape stages.Ended q bytes = record { begun = (q.header, refl); header = inr refl; late = λ _. (refl, refl); early = λ bad. absurd cc }
+step_shape (stages.Data head fixed) q bytes = record {
+  begun = (q.header, refl);
+  header = inr refl;
+  late =
+      λ _. (refl, refl);
+  early = λ bad. absurd cc;
+}
+step_shape stages.Ended q bytes = record {
+  begun = (q.header, refl);
+  header = inr refl;
+  late =
+      λ _. (refl, refl);
+  early = λ bad. absurd cc;
+}
 
 -- ---- more bytes
 
@@ -108,13 +149,18 @@ follows_same r q progress memory records = record {
   };
 }
 
-follows_step : (r : Reading) (bytes : List ℕ) → let next = advanced r.progress.stage r.progress bytes in Follows r (past_step r next.0 next.1)
+follows_step : (r : Reading) (bytes : List ℕ) → let next = advanced r.progress.stage r.progress bytes in
+    Follows r (past_step r next.0 next.1)
 follows_step r bytes =
     let next = advanced r.progress.stage r.progress bytes in
     let shape = step_shape r.progress.stage r.progress bytes in
     record {
       header = shape.header;
-      late = λ e. ((shape.late e).0, ap (λ (m : List (ℕ × Bytes)). r.memory ++ m) (shape.late e).1 ∙ append-nil r.memory);
+      late = λ e. (
+        (shape.late e).0,
+        ap (λ (m : List (ℕ × Bytes)). r.memory ++ m) (shape.late e).1
+            ∙ append-nil r.memory,
+      );
       orderly = λ o. record {
         unread = λ e. let both : Some shape.begun.0 ≡ None = sym shape.begun.1 ∙ e in absurd cc;
         early = λ e.
@@ -156,7 +202,8 @@ follows_on r q s first then = record {
 
 pub follows : (bytes : List ℕ) (r : Reading) → Follows r (read_on r bytes)
 follows [] r = follows_same r r refl refl refl
-follows (b ∷ bytes) r = follows_on r (byte_read r b) (read_on (byte_read r b) bytes) (follows_byte r b) (follows bytes (byte_read r b))
+follows (b ∷ bytes) r = follows_on r (byte_read r b) (read_on (byte_read r b) bytes) (follows_byte r b)
+    (follows bytes (byte_read r b))
 
 pub orderly : (bytes : List ℕ) → IsOrderly (reading_of bytes)
 orderly bytes = (follows bytes nothing_read).orderly (record { unread = λ _. (refl, refl); early = λ _. refl })

@@ -1,5 +1,6 @@
 -- One more line.
-use Rattle.std.proofs.Common.{◌≡◌, ℕ, ◌+◌, List, [], ◌∷◌, ◌++◌, length, map, Option, Some, refl, sym, ap, ◌∙◌, append_assoc, append-nil, arith, string_bytes}
+use Rattle.std.proofs.Common.{◌≡◌, ℕ, ◌+◌, List, [], ◌∷◌, ◌++◌, length, map, Option, Some, refl, sym, ap, ◌∙◌}
+use Rattle.std.proofs.Common.{append_assoc, append-nil, arith, string_bytes}
 use Rattle.std.proofs.lemmas.List.Sums.{sum_by-cons}
 use Rattle.lf_rules.specs.Fits.{Bytes}
 use Rattle.lf_codec.specs.declared.header.Header.{Header}
@@ -17,24 +18,37 @@ unfolding u16_bytes u32_bytes
 length_header h = refl
 
 -- the line of the header
-pub put_first : (old new : Printer) (h : Header) → old.offset ≡ 0 → header_now old.reader ≡ Some h → string_bytes new.text ≡ string_bytes old.text ++ placed_line (header_text h) 0
+pub put_first : (old new : Printer) (h : Header) → old.offset ≡ 0 → header_now old.reader ≡ Some h →
+    string_bytes new.text ≡ string_bytes old.text ++ placed_line (header_text h) 0
     → new.offset ≡ 16 → Puts old new (header_due old.offset (header_now old.reader))
 put_first old new h none there text offset =
     let lines : lines_from old.offset (header_due old.offset (header_now old.reader)) ≡ placed_line (header_text h) 0 =
     rw (none, there) (append-nil (placed_line (header_text h) 0)) in
-    let one : 0 + len_of (header_part h ∷ []) ≡ 16 = omega (arith, sum_by-cons (λ (p : Part). length p.bytes) (header_part h) [], length_header h) in
+    let one : 0 + len_of (header_part h ∷ []) ≡ 16 = omega (
+      arith,
+      sum_by-cons (λ (p : Part). length p.bytes)
+          (header_part h) [],
+      length_header h,
+    ) in
     let len : old.offset + len_of (header_due old.offset (header_now old.reader)) ≡ 16 = rw (none, there) one in
     record { text = text ∙ ap (λ (l : List ℕ). string_bytes old.text ++ l) (sym lines); offset = offset ∙ sym len }
 
 -- where the header ends
 pub header_end : (n : ℕ) (h : Header) → n ≡ 0 → 16 ≡ n + len_of (header_due n (Some h))
 header_end n h none =
-    let one : 0 + len_of (header_part h ∷ []) ≡ 16 = omega (arith, sum_by-cons (λ (p : Part). length p.bytes) (header_part h) [], length_header h) in
+    let one : 0 + len_of (header_part h ∷ []) ≡ 16 = omega (
+      arith,
+      sum_by-cons (λ (p : Part). length p.bytes)
+          (header_part h) [],
+      length_header h,
+    ) in
     rw none (sym one)
 
-module _ (at n : ℕ) (m : ℕ × Bytes) (rest memory : List (ℕ × Bytes)) (first : memory ≡ m ∷ rest) (size : n ≡ length (memory_bytes m)) where
+module _ (at n : ℕ) (m : ℕ × Bytes) (rest memory : List (ℕ × Bytes)) (first : memory ≡ m ∷ rest)
+    (size : n ≡ length (memory_bytes m)) where
   -- the line of a memory record
-  pub one_line : (text more all : List ℕ) → more ≡ text ++ placed_line (memory_text m.0 m.1.items) at → text ++ lines_from at (map memory_part memory) ≡ all
+  pub one_line : (text more all : List ℕ) → more ≡ text ++ placed_line (memory_text m.0 m.1.items) at →
+      text ++ lines_from at (map memory_part memory) ≡ all
       → more ++ lines_from (at + n) (map memory_part rest) ≡ all
   one_line text more all put so_far =
       let line = placed_line (memory_text m.0 m.1.items) at in
@@ -56,6 +70,7 @@ module _ (at n : ℕ) (m : ℕ × Bytes) (rest memory : List (ℕ × Bytes)) (fi
       )
 
 -- what closes the text
-pub closing_is : (bytes : List ℕ) (printer : Printer) (fault : Option CodecFault) → IsShown bytes printer → fault ≡ trace_fault bytes
+pub closing_is : (bytes : List ℕ) (printer : Printer) (fault : Option CodecFault) → IsShown bytes printer →
+    fault ≡ trace_fault bytes
     → closing fault printer.records printer.offset ≡ closing_of bytes
 closing_is bytes printer fault shown same = rw (same, shown.count, shown.offset) refl

@@ -1,5 +1,6 @@
 -- How a dump of chosen lines goes on and ends.
-use Rattle.std.proofs.Common.{◌≡◌, ℕ, ◌+◌, ◌*◌, ◌<◌, ◌≤◌, List, [], ◌∷◌, ◌++◌, length, take, Bool, Option, Some, None, Ok, Err, refl, sym, ap, subst, ◌∙◌, append_assoc, append-nil, arith, inl, inr}
+use Rattle.std.proofs.Common.{◌≡◌, ℕ, ◌+◌, ◌*◌, ◌<◌, ◌≤◌, List, [], ◌∷◌, ◌++◌, length, take, Bool, Option, Some, None}
+use Rattle.std.proofs.Common.{Ok, Err, refl, sym, ap, subst, ◌∙◌, append_assoc, append-nil, arith, inl, inr}
 use Rattle.std.specs.Prelude.{IsTrue, ◌↔◌}
 use Rattle.std.specs.List.{concat}
 use Rattle.std.proofs.lemmas.List.{length-append}
@@ -32,7 +33,8 @@ told_front : (last : Option ℕ) (choice : Choice) (out bytes : List ℕ) → Is
 told_front None choice out bytes told = (bytes, [], sym (append-nil bytes), told)
 told_front (Some most) choice out bytes told = ([], bytes, refl, told ∙ sym (none_chosen choice))
 
-pub stops_told : (last : Option ℕ) (choice : Choice) (a b w x : Account) (out bytes more : List ℕ) → IsToldOf last choice out bytes → IsPartRead IsNone a b (bytes ++ more)
+pub stops_told : (last : Option ℕ) (choice : Choice) (a b w x : Account) (out bytes more : List ℕ) →
+    IsToldOf last choice out bytes → IsPartRead IsNone a b (bytes ++ more)
     → WentOut w x out → IsStopped (chosen_lines choice) a b w x [] Memory
 stops_told last choice a b w x out bytes more told part went =
     let front = told_front last choice out bytes told in
@@ -42,7 +44,8 @@ stops_told last choice a b w x out bytes more told part went =
 
 -- ---- counts where a dump stopped
 
-pub memory_count : (c x : Account) (turns : ℕ) → c.calls ≤ turns → c.failures ≡ 0 → x.failures ≡ 0 → IsStopCount c x turns Memory
+pub memory_count : (c x : Account) (turns : ℕ) → c.calls ≤ turns → c.failures ≡ 0 → x.failures ≡ 0 →
+    IsStopCount c x turns Memory
 memory_count c x turns reads fine written = record {
   reads = reads;
   read = (λ bad. absurd cc, λ some. absurd (not_some c.failures fine some));
@@ -50,7 +53,8 @@ memory_count c x turns reads fine written = record {
   write = (λ bad. absurd cc, λ some. absurd (not_some x.failures written some));
 }
 
-pub write_count : (c x : Account) (turns : ℕ) → c.calls ≤ turns → c.failures ≡ 0 → 0 < x.failures → IsStopCount c x turns Write
+pub write_count : (c x : Account) (turns : ℕ) → c.calls ≤ turns → c.failures ≡ 0 → 0 < x.failures →
+    IsStopCount c x turns Write
 write_count c x turns reads fine failed = record {
   reads = reads;
   read = (λ bad. absurd cc, λ some. absurd (not_some c.failures fine some));
@@ -59,8 +63,10 @@ write_count c x turns reads fine failed = record {
 }
 
 -- Lines went out as far as the writer took them, whatever the reads came to.
-pub dumped_cut : (lines : List ℕ → List ℕ) (a c w x y : Account) (turns : ℕ) (bytes early late : List ℕ) (n : ℕ) → c.calls ≤ turns → IsPartRead IsNone a c bytes
-    → lines bytes ≡ early ++ late → WentOut w x early → WentOut x y (take n late) → 0 < y.failures → IsDumpedBy lines a c w y turns (λ _. []) (Err Write)
+pub dumped_cut : (lines : List ℕ → List ℕ) (a c w x y : Account) (turns : ℕ) (bytes early late : List ℕ) (n : ℕ) →
+    c.calls ≤ turns → IsPartRead IsNone a c bytes
+    → lines bytes ≡ early ++ late → WentOut w x early → WentOut x y (take n late) → 0 < y.failures →
+    IsDumpedBy lines a c w y turns (λ _. []) (Err Write)
 dumped_cut lines a c w x y turns bytes early late n reads part same before out failed = record {
   reads = reads;
   whole = tt;
@@ -73,7 +79,8 @@ dumped_cut lines a c w x y turns bytes early late n reads part same before out f
 -- ---- what was chosen so far
 
 -- The reads answered these bytes, and this went out of them.
-pub record IsChoosing (old new writer writer' : Account) (turn : ℕ) (choice : Choice) (printer : Printer) (chosen : Chosen) : Type 0 where
+pub record IsChoosing (old new writer writer' : Account) (turn : ℕ) (choice : Choice) (printer : Printer)
+    (chosen : Chosen) : Type 0 where
   pub bytes : List ℕ
   pub out : List ℕ
   pub chosen_so_far : IsChosen choice printer chosen out bytes
@@ -85,18 +92,26 @@ told_nothing : (last : Option ℕ) (choice : Choice) → IsToldOf last choice []
 told_nothing None choice = sym (none_chosen choice)
 told_nothing (Some most) choice = refl
 
-pub choosing_start : FaultsSoFarAreNotTruncated → (a w : Account) (printer : Printer) (chosen : Chosen) → IsShown [] printer → HasChosen chosen [] []
+pub choosing_start : FaultsSoFarAreNotTruncated → (a w : Account) (printer : Printer) (chosen : Chosen) →
+    IsShown [] printer → HasChosen chosen [] []
     → IsChoosing a a w w 0 chosen.choice printer chosen
 choosing_start so_far a w printer chosen shown holds = record {
   bytes = [];
   out = [];
-  chosen_so_far = record { shown = shown; holds = holds; told = told_nothing chosen.choice.last chosen.choice; same = refl };
+  chosen_so_far = record {
+    shown = shown;
+    holds = holds;
+    told = told_nothing chosen.choice.last chosen.choice;
+    same =
+        refl;
+  };
   part = begun HasFault a (none_stands so_far [] refl);
   went = nothing_out w;
   size = omega arith;
 }
 
-pub choosing_same : (a b c w x : Account) (turn : ℕ) (choice : Choice) (printer : Printer) (chosen : Chosen) → IsChoosing a b w x turn choice printer chosen
+pub choosing_same : (a b c w x : Account) (turn : ℕ) (choice : Choice) (printer : Printer) (chosen : Chosen) →
+    IsChoosing a b w x turn choice printer chosen
     → c.pieces ≡ b.pieces → Keeps b.known c.known → IsChoosing a c w x (turn + 1) choice printer chosen
 choosing_same a b c w x turn choice printer chosen t pieces known = record {
   bytes = t.bytes;
@@ -107,23 +122,27 @@ choosing_same a b c w x turn choice printer chosen t pieces known = record {
   size = omega (arith, t.size);
 }
 
-module _ (choice : Choice) (a b w x y : Account) (turn turns : ℕ) (printer : Printer) (chosen : Chosen) (t : IsChoosing a b w x turn choice printer chosen)
+module _ (choice : Choice) (a b w x y : Account) (turn turns : ℕ) (printer : Printer) (chosen : Chosen)
+    (t : IsChoosing a b w x turn choice printer chosen)
     (reads : b.calls ≤ turns) where
   rest_same : chosen_lines choice t.bytes ≡ t.out ++ rest_of chosen
-  rest_same = ap (λ (c : Choice). chosen_lines c t.bytes) (sym t.chosen_so_far.same) ∙ rest_is chosen t.out t.bytes t.chosen_so_far.holds
+  rest_same = ap (λ (c : Choice). chosen_lines c t.bytes) (sym t.chosen_so_far.same)
+      ∙ rest_is chosen t.out t.bytes t.chosen_so_far.holds
 
   rest_told : WentOut x y (rest_of chosen) → IsToldSoFar (chosen_lines choice) a b w y []
   rest_told went =
       record {
         bytes = t.bytes;
         part = t.part;
-        out = subst (WentOut w y) (sym rest_same ∙ sym (append-nil (chosen_lines choice t.bytes))) (out_on w x y t.out (rest_of chosen) t.went went);
+        out = subst (WentOut w y) (sym rest_same ∙ sym (append-nil (chosen_lines choice t.bytes)))
+            (out_on w x y t.out (rest_of chosen) t.went went);
       }
 
   rest_cut : (answer : DumpFault) → answer ≡ Write → 0 < y.failures → (n : ℕ) → WentOut x y (take n (rest_of chosen))
       → IsDumpedBy (chosen_lines choice) a b w y turns (λ _. []) (Err answer)
   rest_cut answer is failed n out =
-      rw is (dumped_cut (chosen_lines choice) a b w x y turns t.bytes t.out (rest_of chosen) n reads (any_part a b t.bytes t.part) rest_same t.went out failed)
+      rw is (dumped_cut (chosen_lines choice) a b w x y turns t.bytes t.out (rest_of chosen) n reads
+      (any_part a b t.bytes t.part) rest_same t.went out failed)
 
   read_stop : (answer : DumpFault) → answer ≡ Read → 0 < b.failures → y.failures ≡ 0 → WentOut x y (rest_of chosen)
       → IsDumpedBy (chosen_lines choice) a b w y turns (λ _. []) (Err answer)
@@ -136,7 +155,8 @@ module _ (choice : Choice) (a b w x y : Account) (turn turns : ℕ) (printer : P
         write = (λ bad. absurd cc, λ some. absurd (not_some y.failures written some));
       }) (rest_told went))
 
-  turns_stop : (answer : DumpFault) → answer ≡ Turns → b.failures ≡ 0 → b.calls ≡ turns → y.failures ≡ 0 → WentOut x y (rest_of chosen)
+  turns_stop : (answer : DumpFault) → answer ≡ Turns → b.failures ≡ 0 → b.calls ≡ turns → y.failures ≡ 0 →
+      WentOut x y (rest_of chosen)
       → IsDumpedBy (chosen_lines choice) a b w y turns (λ _. []) (Err answer)
   turns_stop answer is fine used written went =
       rw is (dumped_stopped (chosen_lines choice) a b w y turns (λ _. []) Turns
@@ -148,19 +168,23 @@ module _ (choice : Choice) (a b w x y : Account) (turn turns : ℕ) (printer : P
       }) (rest_told went))
 
   -- A read failed.
-  pub stopped_by_read : (answer : DumpFault) → Rests x y chosen Read answer → 0 < b.failures → IsDumpedBy (chosen_lines choice) a b w y turns (λ _. []) (Err answer)
+  pub stopped_by_read : (answer : DumpFault) → Rests x y chosen Read answer → 0 < b.failures →
+      IsDumpedBy (chosen_lines choice) a b w y turns (λ _. []) (Err answer)
   stopped_by_read answer (inl whole) failed = read_stop answer whole.0 failed whole.1 whole.2
   stopped_by_read answer (inr cut) failed = rest_cut answer cut.0 cut.1 cut.2.0 cut.2.1
 
   -- The turns were used up.
-  pub stopped_by_turns : (answer : DumpFault) → Rests x y chosen Turns answer → b.failures ≡ 0 → b.calls ≡ turns → IsDumpedBy (chosen_lines choice) a b w y turns (λ _. []) (Err answer)
+  pub stopped_by_turns : (answer : DumpFault) → Rests x y chosen Turns answer → b.failures ≡ 0 → b.calls ≡ turns →
+      IsDumpedBy (chosen_lines choice) a b w y turns (λ _. []) (Err answer)
   stopped_by_turns answer (inl whole) fine used = turns_stop answer whole.0 fine used whole.1 whole.2
   stopped_by_turns answer (inr cut) fine used = rest_cut answer cut.0 cut.1 cut.2.0 cut.2.1
 
 -- ---- one more read
 
-module _ (a b c w x : Account) (turn turns : ℕ) (choice : Choice) (old : Printer) (was : Chosen) (t : IsChoosing a b w x turn choice old was) (piece : List ℕ)
-    (pieces : c.pieces ≡ b.pieces ++ piece ∷ []) (known : Consumes b.known c.known piece) (one_read : length piece ≤ piece_len)
+module _ (a b c w x : Account) (turn turns : ℕ) (choice : Choice) (old : Printer) (was : Chosen)
+    (t : IsChoosing a b w x turn choice old was) (piece : List ℕ)
+    (pieces : c.pieces ≡ b.pieces ++ piece ∷ []) (known : Consumes b.known c.known piece)
+    (one_read : length piece ≤ piece_len)
     (reads : c.calls ≤ turns) (fine : c.failures ≡ 0) where
   more_read : IsPartRead IsNone a c (t.bytes ++ piece)
   more_read = more_part IsNone a b c t.bytes (any_part a b t.bytes t.part) piece pieces known (λ bad. bad)
@@ -182,7 +206,8 @@ module _ (a b c w x : Account) (turn turns : ℕ) (choice : Choice) (old : Print
       }
 
   module _ (y : Account) (new : Printer) (now : Chosen) where
-    pub chosen_last : y.failures ≡ 0 → (enough : Bool) → IsTrue enough → Chooses x y choice new now t.out t.bytes piece (Ok enough) → IsWhollyChosen a c w y turns new now
+    pub chosen_last : y.failures ≡ 0 → (enough : Bool) → IsTrue enough →
+        Chooses x y choice new now t.out t.bytes piece (Ok enough) → IsWhollyChosen a c w y turns new now
     chosen_last written enough is h =
         let fault = h.0.0 is in
         record {
@@ -192,12 +217,14 @@ module _ (a b c w x : Account) (turn turns : ℕ) (choice : Choice) (old : Print
           bytes = t.bytes ++ piece;
           out = t.out ++ h.1.0;
           shown = h.1.2.shown;
-          all = last_part HasFault a b c t.bytes t.part piece pieces known piece_len one_read (λ sound. absurd (sound fault)) (λ sound. absurd (sound fault));
+          all = last_part HasFault a b c t.bytes t.part piece pieces known piece_len one_read
+              (λ sound. absurd (sound fault)) (λ sound. absurd (sound fault));
           went = out_on w x y t.out h.1.0 t.went h.1.1;
           holds = h.1.2.holds;
         }
 
-    pub choosing_more : (enough : Bool) → ¬ IsTrue enough → Chooses x y choice new now t.out t.bytes piece (Ok enough) → IsChoosing a c w y (turn + 1) choice new now
+    pub choosing_more : (enough : Bool) → ¬ IsTrue enough →
+        Chooses x y choice new now t.out t.bytes piece (Ok enough) → IsChoosing a c w y (turn + 1) choice new now
     choosing_more enough not h = record {
       bytes = t.bytes ++ piece;
       out = t.out ++ h.1.0;
@@ -207,25 +234,31 @@ module _ (a b c w x : Account) (turn turns : ℕ) (choice : Choice) (old : Print
       size = omega (arith, t.size, one_read, length-append t.bytes piece);
     }
 
-    pub chosen_stop : (fault : DumpFault) → Chooses x y choice new now t.out t.bytes piece (Err fault) → x.failures ≡ 0 → ((fault ≡ Write) ↔ (0 < y.failures))
+    pub chosen_stop : (fault : DumpFault) → Chooses x y choice new now t.out t.bytes piece (Err fault) →
+        x.failures ≡ 0 → ((fault ≡ Write) ↔ (0 < y.failures))
         → IsDumpedBy (chosen_lines choice) a c w y turns (λ _. []) (Err fault)
     chosen_stop Read h written write = absurd h
     chosen_stop Turns h written write = absurd h
     chosen_stop Memory same written write =
         dumped_stopped (chosen_lines choice) a c w y turns (λ _. []) Memory
         (memory_count c y turns reads fine (ap (λ (z : Account). z.failures) same ∙ written))
-        (stops_told choice.last choice a c w y t.out t.bytes piece t.chosen_so_far.told more_read (subst (λ (z : Account). WentOut w z t.out) (sym same) t.went))
-    chosen_stop Write h written write = dumped_cut (chosen_lines choice) a c w x y turns (t.bytes ++ piece) t.out h.0 h.2.0 reads more_read h.1 t.went h.2.1 (write.0 refl)
+        (stops_told choice.last choice a c w y t.out t.bytes piece t.chosen_so_far.told more_read
+        (subst (λ (z : Account). WentOut w z t.out) (sym same) t.went))
+    chosen_stop Write h written write = dumped_cut (chosen_lines choice) a c w x y turns (t.bytes ++ piece) t.out h.0
+        h.2.0 reads more_read h.1 t.went h.2.1 (write.0 refl)
 
 -- ---- the end
 
-module _ (choice : Choice) (a c w x y : Account) (turns : ℕ) (printer : Printer) (chosen : Chosen) (t : IsWhollyChosen a c w x turns printer chosen) (same : chosen.choice ≡ choice) where
+module _ (choice : Choice) (a c w x y : Account) (turns : ℕ) (printer : Printer) (chosen : Chosen)
+    (t : IsWhollyChosen a c w x turns printer chosen) (same : chosen.choice ≡ choice) where
   whole_same : chosen_lines choice t.bytes ≡ t.out ++ rest_of chosen
   whole_same = ap (λ (k : Choice). chosen_lines k t.bytes) (sym same) ∙ rest_is chosen t.out t.bytes t.holds
 
-  pub whole_cut : (n : ℕ) → 0 < y.failures → WentOut x y (take n (rest_of chosen)) → IsDumpedBy (chosen_lines choice) a c w y turns (λ _. []) (Err Write)
+  pub whole_cut : (n : ℕ) → 0 < y.failures → WentOut x y (take n (rest_of chosen)) →
+      IsDumpedBy (chosen_lines choice) a c w y turns (λ _. []) (Err Write)
   whole_cut n failed out =
-      dumped_cut (chosen_lines choice) a c w x y turns t.bytes t.out (rest_of chosen) n t.reads (all_part a c t.bytes t.all) whole_same t.went out failed
+      dumped_cut (chosen_lines choice) a c w x y turns t.bytes t.out (rest_of chosen) n t.reads
+      (all_part a c t.bytes t.all) whole_same t.went out failed
 
   pub whole_told : WentOut x y (rest_of chosen) → WentOut w y (chosen_lines choice t.bytes)
   whole_told out = subst (WentOut w y) (sym whole_same) (out_on w x y t.out (rest_of chosen) t.went out)

@@ -1,5 +1,6 @@
 -- What a dump read and wrote so far.
-use Rattle.std.proofs.Common.{◌≡◌, ℕ, zero, suc, ◌+◌, ◌*◌, ◌≤◌, List, [], ◌∷◌, ◌++◌, length, take, Bool, Ok, Err, refl, sym, ap, subst, ◌∙◌, append_assoc, append-nil, arith, inl}
+use Rattle.std.proofs.Common.{◌≡◌, ℕ, zero, suc, ◌+◌, ◌*◌, ◌≤◌, List, [], ◌∷◌, ◌++◌, length, take, Bool, Ok, Err}
+use Rattle.std.proofs.Common.{refl, sym, ap, subst, ◌∙◌, append_assoc, append-nil, arith, inl}
 use Rattle.std.specs.List.{concat}
 use Rattle.std.specs.Prelude.{IsTrue}
 use Rattle.std.proofs.lemmas.List.{length-append}
@@ -16,7 +17,8 @@ use Rattle.lf_dump.specs.declared.fault.DumpFault.{DumpFault}
 use Rattle.lf_dump.specs.declared.fault.DumpFault.TheVariants.{Read, Turns, Memory, Write}
 use Rattle.lf_dump.specs.declared.printer.Printer.{Printer}
 use Rattle.lf_dump.specs.Lines.{lines_of, closing_of}
-use Rattle.lf_dump.specs.Dump.{HasFault, IsNone, IsShown, Closes, IsToldSoFar, IsToldInPart, IsCutOff, IsStopped, Shows, piece_len}
+use Rattle.lf_dump.specs.Dump.{HasFault, IsNone, IsShown, Closes, IsToldSoFar, IsToldInPart, IsCutOff, IsStopped}
+use Rattle.lf_dump.specs.Dump.{Shows, piece_len}
 
 -- ---- bytes that went out
 
@@ -41,13 +43,21 @@ front (x ∷ xs) ys n =
 
 pub any_part : (a b : Account) (bytes : List ℕ) → IsPartRead HasFault a b bytes → IsPartRead IsNone a b bytes
 any_part a b bytes part =
-    record { pieces = part.pieces; answered = part.answered; joined = part.joined; given = part.given; wanted = λ bad. bad }
+    record {
+      pieces = part.pieces;
+      answered = part.answered;
+      joined = part.joined;
+      given = part.given;
+      wanted =
+          λ bad. bad;
+    }
 
 pub all_part : (a b : Account) (bytes : List ℕ) → IsAllRead HasFault piece_len a b bytes → IsPartRead IsNone a b bytes
 all_part a b bytes all = record {
   pieces = all.before ++ all.last ∷ [];
   answered = all.answered;
-  joined = all.joined ∙ ap (λ (l : List ℕ). concat all.before ++ l) (sym (append-nil all.last)) ∙ sym (concat-append all.before (all.last ∷ []));
+  joined = all.joined ∙ ap (λ (l : List ℕ). concat all.before ++ l) (sym (append-nil all.last))
+      ∙ sym (concat-append all.before (all.last ∷ []));
   given = all.given;
   wanted = λ bad. bad;
 }
@@ -65,20 +75,30 @@ pub record IsTelling (old new writer writer' : Account) (turn : ℕ) (printer : 
   pub out : WentOut writer writer' (lines_of bytes)
   pub size : length bytes ≤ turn * piece_len
 
-pub stops_here : (a b w x : Account) (turn : ℕ) (printer : Printer) → IsTelling a b w x turn printer → IsToldSoFar lines_of a b w x []
-stops_here a b w x turn printer t = record { bytes = t.bytes; part = t.part; out = subst (WentOut w x) (sym (append-nil (lines_of t.bytes))) t.out }
+pub stops_here : (a b w x : Account) (turn : ℕ) (printer : Printer) → IsTelling a b w x turn printer →
+    IsToldSoFar lines_of a b w x []
+stops_here a b w x turn printer t = record {
+  bytes = t.bytes;
+  part = t.part;
+  out =
+      subst (WentOut w x) (sym (append-nil (lines_of t.bytes))) t.out;
+}
 
-pub stops_in_part : (lines : List ℕ → List ℕ) (a b w x : Account) (bytes more : List ℕ) → IsPartRead IsNone a b (bytes ++ more) → WentOut w x (lines bytes)
+pub stops_in_part : (lines : List ℕ → List ℕ) (a b w x : Account) (bytes more : List ℕ) →
+    IsPartRead IsNone a b (bytes ++ more) → WentOut w x (lines bytes)
     → IsToldInPart lines a b w x []
 stops_in_part lines a b w x bytes more part out =
     record { bytes = bytes; more = more; part = part; out = subst (WentOut w x) (sym (append-nil (lines bytes))) out }
 
-pub stops_at_end : (lines : List ℕ → List ℕ) (a b w x : Account) (bytes : List ℕ) → IsAllRead HasFault piece_len a b bytes → WentOut w x (lines bytes)
+pub stops_at_end : (lines : List ℕ → List ℕ) (a b w x : Account) (bytes : List ℕ) →
+    IsAllRead HasFault piece_len a b bytes → WentOut w x (lines bytes)
     → IsToldInPart lines a b w x []
-stops_at_end lines a b w x bytes all out = stops_in_part lines a b w x bytes [] (none_more a b bytes (all_part a b bytes all)) out
+stops_at_end lines a b w x bytes all out = stops_in_part lines a b w x bytes []
+    (none_more a b bytes (all_part a b bytes all)) out
 
 -- The last of the lines went out as far as the writer took them.
-pub cut_in_lines : (lines : List ℕ → List ℕ) (a b w x y : Account) (bytes early late : List ℕ) (n : ℕ) → IsPartRead IsNone a b bytes → lines bytes ≡ early ++ late
+pub cut_in_lines : (lines : List ℕ → List ℕ) (a b w x y : Account) (bytes early late : List ℕ) (n : ℕ) →
+    IsPartRead IsNone a b bytes → lines bytes ≡ early ++ late
     → WentOut w x early → WentOut x y (take n late) → IsCutOff lines a b w y
 cut_in_lines lines a b w x y bytes early late n part same before out =
     let line = closing_of bytes in
@@ -100,7 +120,8 @@ cut_in_lines lines a b w x y bytes early late n part same before out =
     }
 
 -- The line behind the lines went out as far as the writer took it.
-pub cut_in_closing : (lines : List ℕ → List ℕ) (a b w x y : Account) (bytes more line : List ℕ) (n : ℕ) → IsPartRead IsNone a b (bytes ++ more) → Closes line bytes
+pub cut_in_closing : (lines : List ℕ → List ℕ) (a b w x y : Account) (bytes more line : List ℕ) (n : ℕ) →
+    IsPartRead IsNone a b (bytes ++ more) → Closes line bytes
     → WentOut w x (lines bytes) → WentOut x y (take n line) → IsCutOff lines a b w y
 cut_in_closing lines a b w x y bytes more line n part closes before out = record {
   bytes = bytes;
@@ -112,41 +133,63 @@ cut_in_closing lines a b w x y bytes more line n part closes before out = record
   out = subst (WentOut w y) (sym (front (lines bytes) line n)) (out_on w x y (lines bytes) (take n line) before out);
 }
 
-pub cut_at_end : (lines : List ℕ → List ℕ) (a b w x y : Account) (bytes : List ℕ) (n : ℕ) → IsAllRead HasFault piece_len a b bytes
+pub cut_at_end : (lines : List ℕ → List ℕ) (a b w x y : Account) (bytes : List ℕ) (n : ℕ) →
+    IsAllRead HasFault piece_len a b bytes
     → WentOut w x (lines bytes) → WentOut x y (take n (closing_of bytes)) → IsCutOff lines a b w y
 cut_at_end lines a b w x y bytes n all before out =
-    cut_in_closing lines a b w x y bytes [] (closing_of bytes) n (none_more a b bytes (all_part a b bytes all)) (inl refl) before out
+    cut_in_closing lines a b w x y bytes [] (closing_of bytes) n (none_more a b bytes (all_part a b bytes all))
+    (inl refl) before out
 
 -- ---- the line of a refusal
 
 module _ (w x y : Account) (line : List ℕ) (out : WentOut x y line) where
   pub then_line : (lines : List ℕ) → WentOut w x (lines ++ []) → WentOut w y (lines ++ line)
-  then_line lines before = subst (λ (l : List ℕ). WentOut w y (l ++ line)) (append-nil lines) (out_on w x y (lines ++ []) line before out)
+  then_line lines before = subst (λ (l : List ℕ). WentOut w y (l ++ line)) (append-nil lines)
+      (out_on w x y (lines ++ []) line before out)
 
-  pub line_so_far : (lines : List ℕ → List ℕ) (a b : Account) → IsToldSoFar lines a b w x [] → IsToldSoFar lines a b w y line
+  pub line_so_far : (lines : List ℕ → List ℕ) (a b : Account) → IsToldSoFar lines a b w x [] →
+      IsToldSoFar lines a b w y line
   line_so_far lines a b t = record { bytes = t.bytes; part = t.part; out = then_line (lines t.bytes) t.out }
 
-  pub line_in_part : (lines : List ℕ → List ℕ) (a b : Account) → IsToldInPart lines a b w x [] → IsToldInPart lines a b w y line
-  line_in_part lines a b t = record { bytes = t.bytes; more = t.more; part = t.part; out = then_line (lines t.bytes) t.out }
+  pub line_in_part : (lines : List ℕ → List ℕ) (a b : Account) → IsToldInPart lines a b w x [] →
+      IsToldInPart lines a b w y line
+  line_in_part lines a b t = record {
+    bytes = t.bytes;
+    more = t.more;
+    part = t.part;
+    out =
+        then_line (lines t.bytes) t.out;
+  }
 
 module _ (lines : List ℕ → List ℕ) (a b w x y : Account) (line : List ℕ) (n : ℕ) (out : WentOut x y (take n line)) where
   pub cut_so_far : IsToldSoFar lines a b w x [] → ((bytes : List ℕ) → Closes line bytes) → IsCutOff lines a b w y
   cut_so_far t closes =
-      cut_in_closing lines a b w x y t.bytes [] line n (none_more a b t.bytes (any_part a b t.bytes t.part)) (closes t.bytes)
+      cut_in_closing lines a b w x y t.bytes [] line n (none_more a b t.bytes (any_part a b t.bytes t.part))
+      (closes t.bytes)
       (subst (WentOut w x) (append-nil (lines t.bytes)) t.out) out
 
   pub cut_in_part : IsToldInPart lines a b w x [] → ((bytes : List ℕ) → Closes line bytes) → IsCutOff lines a b w y
   cut_in_part t closes =
-      cut_in_closing lines a b w x y t.bytes t.more line n t.part (closes t.bytes) (subst (WentOut w x) (append-nil (lines t.bytes)) t.out) out
+      cut_in_closing lines a b w x y t.bytes t.more line n t.part (closes t.bytes)
+      (subst (WentOut w x) (append-nil (lines t.bytes)) t.out) out
 
 -- ---- one more read
 
-pub telling_start : FaultsSoFarAreNotTruncated → (a w : Account) (printer : Printer) → IsShown [] printer → IsTelling a a w w 0 printer
+pub telling_start : FaultsSoFarAreNotTruncated → (a w : Account) (printer : Printer) → IsShown [] printer →
+    IsTelling a a w w 0 printer
 telling_start so_far a w printer shown =
-    record { bytes = []; shown = shown; part = begun HasFault a (none_stands so_far [] refl); out = nothing_out w; size = omega arith }
+    record {
+      bytes = [];
+      shown = shown;
+      part = begun HasFault a (none_stands so_far [] refl);
+      out =
+          nothing_out w;
+      size = omega arith;
+    }
 
 -- A read that failed answered nothing.
-pub telling_same : (a b c w x : Account) (turn : ℕ) (printer : Printer) → IsTelling a b w x turn printer → c.pieces ≡ b.pieces → Keeps b.known c.known
+pub telling_same : (a b c w x : Account) (turn : ℕ) (printer : Printer) → IsTelling a b w x turn printer →
+    c.pieces ≡ b.pieces → Keeps b.known c.known
     → IsTelling a c w x (turn + 1) printer
 telling_same a b c w x turn printer t pieces known = record {
   bytes = t.bytes;
@@ -159,10 +202,12 @@ telling_same a b c w x turn printer t pieces known = record {
 -- All bytes that were to be read were, and their lines went out.
 abbrev pub IsWhollyTold : Account → Account → Account → Account → Printer → Type 0
 IsWhollyTold old new writer writer' printer =
-    (bytes : List ℕ) × IsShown bytes printer × IsAllRead HasFault piece_len old new bytes × WentOut writer writer' (lines_of bytes)
+    (bytes : List ℕ) × IsShown bytes printer × IsAllRead HasFault piece_len old new bytes ×
+    WentOut writer writer' (lines_of bytes)
 
 module _ (a b c w x : Account) (turn : ℕ) (old : Printer) (t : IsTelling a b w x turn old) (piece : List ℕ)
-    (pieces : c.pieces ≡ b.pieces ++ piece ∷ []) (known : Consumes b.known c.known piece) (one_read : length piece ≤ piece_len) where
+    (pieces : c.pieces ≡ b.pieces ++ piece ∷ []) (known : Consumes b.known c.known piece)
+    (one_read : length piece ≤ piece_len) where
   -- A read answered no bytes.
   pub told_at_end : piece ≡ [] → IsAtEnd c.known → IsWhollyTold a c w x old
   told_at_end none at_end =
@@ -174,7 +219,8 @@ module _ (a b c w x : Account) (turn : ℕ) (old : Printer) (t : IsTelling a b w
       )
 
   module _ (y : Account) (new : Printer) where
-    lines_out : (lines : List ℕ) → lines_of (t.bytes ++ piece) ≡ lines_of t.bytes ++ lines → WentOut x y lines → WentOut w y (lines_of (t.bytes ++ piece))
+    lines_out : (lines : List ℕ) → lines_of (t.bytes ++ piece) ≡ lines_of t.bytes ++ lines → WentOut x y lines →
+        WentOut w y (lines_of (t.bytes ++ piece))
     lines_out lines same out = subst (WentOut w y) (sym same) (out_on w x y (lines_of t.bytes) lines t.out out)
 
     pub told_last : (enough : Bool) → IsTrue enough → Shows x y new t.bytes piece (Ok enough) → IsWhollyTold a c w y new
@@ -182,11 +228,13 @@ module _ (a b c w x : Account) (turn : ℕ) (old : Printer) (t : IsTelling a b w
         let fault = h.1.0 is in (
           t.bytes ++ piece,
           h.0,
-          last_part HasFault a b c t.bytes t.part piece pieces known piece_len one_read (λ sound. absurd (sound fault)) (λ sound. absurd (sound fault)),
+          last_part HasFault a b c t.bytes t.part piece pieces known piece_len one_read
+              (λ sound. absurd (sound fault)) (λ sound. absurd (sound fault)),
           lines_out h.2.0 h.2.1 h.2.2,
         )
 
-    pub telling_more : (enough : Bool) → ¬ IsTrue enough → Shows x y new t.bytes piece (Ok enough) → IsTelling a c w y (turn + 1) new
+    pub telling_more : (enough : Bool) → ¬ IsTrue enough → Shows x y new t.bytes piece (Ok enough) →
+        IsTelling a c w y (turn + 1) new
     telling_more enough not h = record {
       bytes = t.bytes ++ piece;
       shown = h.0;
@@ -199,7 +247,8 @@ module _ (a b c w x : Account) (turn : ℕ) (old : Printer) (t : IsTelling a b w
     stopped_by Read h = absurd h
     stopped_by Turns h = absurd h
     stopped_by Memory same =
-        stops_in_part lines_of a c w y t.bytes piece (more_part IsNone a b c t.bytes (any_part a b t.bytes t.part) piece pieces known (λ bad. bad))
+        stops_in_part lines_of a c w y t.bytes piece (more_part IsNone a b c t.bytes (any_part a b t.bytes t.part)
+        piece pieces known (λ bad. bad))
         (subst (λ (z : Account). WentOut w z (lines_of t.bytes)) (sym same) t.out)
     stopped_by Write h =
         cut_in_lines lines_of a c w x y (t.bytes ++ piece) (lines_of t.bytes) h.0 h.2.0

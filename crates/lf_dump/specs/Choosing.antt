@@ -1,5 +1,6 @@
 -- What of the chosen lines is still to be told.
-use Rattle.std.specs.Prelude.{◌≡◌, ◌⊎◌, ℕ, ◌<◌, ◌≤◌, List, [], ◌++◌, map, take, Option, Some, None, Bool, Result, Ok, Err, ◌↔◌, IsTrue, string_bytes}
+use Rattle.std.specs.Prelude.{◌≡◌, ◌⊎◌, ℕ, ◌<◌, ◌≤◌, List, [], ◌++◌, map, take, Option, Some, None, Bool, Result, Ok}
+use Rattle.std.specs.Prelude.{Err, ◌↔◌, IsTrue, string_bytes}
 use Rattle.std.specs.List.{concat}
 use Rattle.lf_codec.specs.Reading.{header_of}
 use Rattle.lf_stream.specs.Account.{Account, WentOut}
@@ -54,7 +55,8 @@ pub record IsChosen (choice : Choice) (printer : Printer) (chosen : Chosen) (out
   pub same : chosen.choice ≡ choice
 
 -- What one more piece does, after these bytes, of which this went out.
-abbrev pub Chooses : Account → Account → Choice → Printer → Chosen → List ℕ → List ℕ → List ℕ → Result Bool DumpFault → Type 0
+abbrev pub Chooses : Account → Account → Choice → Printer → Chosen → List ℕ → List ℕ → List ℕ →
+    Result Bool DumpFault → Type 0
 Chooses old new choice printer chosen out bytes piece (Ok enough) = (IsTrue enough ↔ HasFault (bytes ++ piece))
     × ((lines : List ℕ) × WentOut old new lines × IsChosen choice printer chosen (out ++ lines) (bytes ++ piece))
 Chooses old new choice printer chosen out bytes piece (Err Write) = (lines : List ℕ)
@@ -69,7 +71,8 @@ Rests old new chosen fault answer =
     ⊎ ((answer ≡ Write) × (0 < new.failures) × ((n : ℕ) × WentOut old new (take n (rest_of chosen))))
 
 -- All bytes were read that were to be, with no failure, and their chosen lines went out or are held.
-pub record IsWhollyChosen (old new writer writer' : Account) (turns : ℕ) (printer : Printer) (chosen : Chosen) : Type 0 where
+pub record IsWhollyChosen (old new writer writer' : Account) (turns : ℕ) (printer : Printer) (chosen : Chosen) : Type
+    0 where
   pub reads : new.calls ≤ turns
   pub read : new.failures ≡ 0
   pub written : writer'.failures ≡ 0

@@ -1,5 +1,6 @@
 -- What a dump reads, answers and writes.
-use Rattle.std.specs.Prelude.{◌≡◌, ◌≢◌, ◌⊎◌, ◌↔◌, ℕ, ◌<◌, ◌≤◌, Bool, List, [], ◌∷◌, ◌++◌, length, take, codes, Option, Some, Result, Ok, Err}
+use Rattle.std.specs.Prelude.{◌≡◌, ◌≢◌, ◌⊎◌, ◌↔◌, ℕ, ◌<◌, ◌≤◌, Bool, List, [], ◌∷◌, ◌++◌, length, take, codes, Option}
+use Rattle.std.specs.Prelude.{Some, Result, Ok, Err}
 use Rattle.std.specs.Prelude.{IfOk, IfErr, IsErrOf, IsTrue}
 use Rattle.lf_codec.specs.declared.fault.CodecFault.{CodecFault}
 use Rattle.lf_codec.specs.declared.fault.CodecCause.TheVariants.{Truncated}
@@ -67,7 +68,8 @@ stop_line Write = []
 abbrev pub Closes : List ℕ → List ℕ → Type 0
 Closes line bytes = (line ≡ closing_of bytes) ⊎ ((line ≡ not_read_line) ⊎ (line ≡ no_memory_line))
 
--- The lines of a front of the bytes that the reads answered went out, and then such a line, as far as the writer took them.
+-- The lines of a front of the bytes that the reads answered went out, and then such a line, as far as the writer
+-- took them.
 pub record IsCutOff (lines : List ℕ → List ℕ) (old new writer writer' : Account) : Type 0 where
   pub bytes : List ℕ
   pub more : List ℕ
@@ -78,7 +80,8 @@ pub record IsCutOff (lines : List ℕ → List ℕ) (old new writer writer' : Ac
   pub out : WentOut writer writer' (take count (lines bytes ++ line))
 
 -- The whole text went out of all bytes that were to be read, which have this fault.
-pub record IsToldWhole (lines : List ℕ → List ℕ) (old new writer writer' : Account) (fault : Option CodecFault) : Type 0 where
+pub record IsToldWhole (lines : List ℕ → List ℕ) (old new writer writer' : Account) (fault : Option CodecFault) : Type
+    0 where
   pub bytes : List ℕ
   pub are_bytes : AreBytes bytes
   pub all : IsAllRead HasFault piece_len old new bytes
@@ -95,7 +98,8 @@ IsStopped lines old new writer writer' line Write = IsCutOff lines old new write
 -- ---- a dump
 
 -- A dump of these lines of the bytes within so many reads, whose last line where it stops is this one of the fault.
-pub record IsDumpedBy (lines : List ℕ → List ℕ) (old new writer writer' : Account) (turns : ℕ) (last : DumpFault → List ℕ)
+pub record IsDumpedBy (lines : List ℕ → List ℕ) (old new writer writer' : Account) (turns : ℕ)
+    (last : DumpFault → List ℕ)
     (answer : Result (Option CodecFault) DumpFault) : Type 0 where
   pub reads : new.calls ≤ turns
   pub whole : IfOk answer (IsToldWhole lines old new writer writer')
@@ -106,14 +110,17 @@ pub record IsDumpedBy (lines : List ℕ → List ℕ) (old new writer writer' : 
   pub write : IsErrOf answer Write ↔ (0 < writer'.failures)
 
 -- A dump of all lines.
-abbrev pub IsDumped : Account → Account → Account → Account → ℕ → (DumpFault → List ℕ) → Result (Option CodecFault) DumpFault → Type 0
+abbrev pub IsDumped : Account → Account → Account → Account → ℕ → (DumpFault → List ℕ) →
+    Result (Option CodecFault) DumpFault → Type 0
 IsDumped = IsDumpedBy lines_of
 
 -- What one more piece does, after these bytes.
 abbrev pub Shows : Account → Account → Printer → List ℕ → List ℕ → Result Bool DumpFault → Type 0
-Shows old new printer bytes piece (Ok enough) = IsShown (bytes ++ piece) printer × (IsTrue enough ↔ HasFault (bytes ++ piece))
+Shows old new printer bytes piece (Ok enough) = IsShown (bytes ++ piece) printer ×
+    (IsTrue enough ↔ HasFault (bytes ++ piece))
     × ((lines : List ℕ) × (lines_of (bytes ++ piece) ≡ lines_of bytes ++ lines) × WentOut old new lines)
 Shows old new printer bytes piece (Err Write) =
-    (lines : List ℕ) × (lines_of (bytes ++ piece) ≡ lines_of bytes ++ lines) × ((n : ℕ) × WentOut old new (take n lines))
+    (lines : List ℕ) × (lines_of (bytes ++ piece) ≡ lines_of bytes ++ lines) ×
+    ((n : ℕ) × WentOut old new (take n lines))
 Shows old new printer bytes piece (Err Memory) = new ≡ old
 Shows old new printer bytes piece (Err fault) = ⊥

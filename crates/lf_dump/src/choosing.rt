@@ -122,7 +122,7 @@ fn choose_text<S: Source, W: Write>(
     Ok(fault)
 }
 
-/// The same with a buffer and a printer of its own.
+/// Prints the chosen lines with a buffer and a printer of its own.
 fn choose_all<S: Source, W: Write>(
     alloc: Global,
     source: &mut S,

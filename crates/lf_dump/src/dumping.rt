@@ -101,7 +101,7 @@ fn print_text<S: Source, W: Write>(
     Ok(fault)
 }
 
-/// The same with a buffer and a printer of its own.
+/// Prints all lines with a buffer and a printer of its own.
 fn print<S: Source, W: Write>(
     alloc: Global,
     source: &mut S,

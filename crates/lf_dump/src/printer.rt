@@ -1,6 +1,7 @@
 //! Makes the lines of a trace from its bytes.
 
-ghost use Rattle.std.specs.Prelude.{◌≡◌, ◌<◌, ◌+◌, ◌^◌, ◌++◌, ◌↔◌, ℕ, List, [], length, string_bytes, OnOk, IfOk, IsTrue, Some};
+ghost use Rattle.std.specs.Prelude.{◌≡◌, ◌<◌, ◌+◌, ◌^◌, ◌++◌, ◌↔◌, ℕ, List, [], length, string_bytes, OnOk, IfOk};
+ghost use Rattle.std.specs.Prelude.{IsTrue, Some};
 ghost use Rattle.lf_rules.specs.Fits.{Bytes};
 ghost use Rattle.lf_rules.specs.declared.event.Record.{Record};
 ghost use Rattle.lf_codec.specs.Reading.{header_now, trace_fault};
@@ -105,7 +106,8 @@ impl Printer {
     /// says that a growth was refused.
     pub fn show(&mut self, piece: &[u8]) -> Result<bool, NoMemory>
         requires { (bytes : List ℕ) × IsShown bytes self.old × (length bytes + length piece.now < 2 ^ 63) }
-        ensures shown { (bytes : List ℕ) → IsShown bytes self.old → OnOk result (IsShown (bytes ++ piece.now) self.new) }
+        ensures shown { (bytes : List ℕ) → IsShown bytes self.old →
+            OnOk result (IsShown (bytes ++ piece.now) self.new) }
         ensures lines { (bytes : List ℕ) → IsShown bytes self.old →
             OnOk result (lines_of (bytes ++ piece.now) ≡ lines_of bytes ++ string_bytes self.new.text) }
         ensures enough { (bytes : List ℕ) → IsShown bytes self.old →
@@ -155,7 +157,8 @@ impl Printer {
     /// came so far. `NoMemory` says that a growth was refused.
     pub fn choose(&mut self, chosen: &mut Chosen, piece: &[u8]) -> Result<bool, NoMemory>
         requires { (bytes : List ℕ) × IsShown bytes self.old × (length bytes + length piece.now < 2 ^ 63) }
-        ensures shown { (bytes : List ℕ) → IsShown bytes self.old → OnOk result (IsShown (bytes ++ piece.now) self.new) }
+        ensures shown { (bytes : List ℕ) → IsShown bytes self.old →
+            OnOk result (IsShown (bytes ++ piece.now) self.new) }
         ensures lines { (bytes out : List ℕ) → IsShown bytes self.old → HasChosen chosen.old out bytes →
             OnOk result (HasChosen chosen.new out (bytes ++ piece.now)) }
         ensures choice { chosen.new.choice ≡ chosen.old.choice }

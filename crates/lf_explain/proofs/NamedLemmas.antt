@@ -10,8 +10,10 @@ use Rattle.lf_explain.specs.declared.named.NamedBlock.{NamedBlock}
 use Rattle.lf_explain.specs.Named.{IsNamed, AreNamed}
 use Rattle.lf_explain.proofs.Listed.{all_append}
 
-pub named_more : (shape : Shape) (now : Local) (all new : List NamedBlock) (blocks : List ℕ) (named : NamedBlock) (block : ℕ) → AreNamed all blocks shape now
-    → named.block ≡ block → named.address ≡ block * shape.block → IsBlockState named.state block shape now → new ≡ all ++ named ∷ []
+pub named_more : (shape : Shape) (now : Local) (all new : List NamedBlock) (blocks : List ℕ) (named : NamedBlock)
+    (block : ℕ) → AreNamed all blocks shape now
+    → named.block ≡ block → named.address ≡ block * shape.block → IsBlockState named.state block shape now →
+    new ≡ all ++ named ∷ []
     → AreNamed new (blocks ++ block ∷ []) shape now
 named_more shape now all new blocks named block are is address state pushed = record {
   numbers = ap (map (λ (n : NamedBlock). n.block)) pushed ∙ map-append (λ (n : NamedBlock). n.block) all (named ∷ [])

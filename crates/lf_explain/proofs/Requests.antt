@@ -1,5 +1,6 @@
 -- The request that a record names is one that a trace of the shape may have.
-use Rattle.std.proofs.Common.{◌≡◌, ℕ, ◌+◌, ◌*◌, ◌/◌, ◌<◌, ◌≤◌, ◌^◌, Bool, true, false, ◌&&◌, ◌==◌, if◌then◌else◌, List, [], ◌∷◌, Option, Some, None, subst, arith}
+use Rattle.std.proofs.Common.{◌≡◌, ℕ, ◌+◌, ◌*◌, ◌/◌, ◌<◌, ◌≤◌, ◌^◌, Bool, true, false, ◌&&◌, ◌==◌, if◌then◌else◌}
+use Rattle.std.proofs.Common.{List, [], ◌∷◌, Option, Some, None, subst, arith}
 use Rattle.std.specs.Prelude.{fold}
 use Rattle.std.specs.Option.{ForSome}
 use Rattle.std.specs.List.{AllByRecursion}
@@ -18,11 +19,13 @@ use Rattle.lf_explain.specs.Request.{asked_by, requested}
 abbrev pub HasBlock : Shape → Option ℕ → Type 0
 HasBlock shape request = ForSome request (λ address. block_of shape address < 0x1_0000_0000)
 
-chosen : (P : Option ℕ → Type 0) (b : Bool) (address : ℕ) (earlier : Option ℕ) → P (Some address) → P earlier → P (if b then Some address else earlier)
+chosen : (P : Option ℕ → Type 0) (b : Bool) (address : ℕ) (earlier : Option ℕ) → P (Some address) → P earlier →
+    P (if b then Some address else earlier)
 chosen P true address earlier now before = now
 chosen P false address earlier now before = before
 
-asked_fits : (shape : Shape) (bank port tag log : ℕ) (event : Event) (earlier : Option ℕ) → FitsEvent shape.banks shape.block shape.factor bank event
+asked_fits : (shape : Shape) (bank port tag log : ℕ) (event : Event) (earlier : Option ℕ) →
+    FitsEvent shape.banks shape.block shape.factor bank event
     → HasBlock shape earlier → HasBlock shape (asked_by port tag log event earlier)
 asked_fits shape bank port tag log (events.Issue op t size address bytes) earlier fits before =
     chosen (HasBlock shape) ((log == port) && (t == tag)) address earlier
@@ -42,7 +45,8 @@ asked_fits shape bank port tag log (events.Evict2 second masks bytes) earlier fi
 asked_fits shape bank port tag log events.Fence earlier fits before = before
 asked_fits shape bank port tag log (events.SecondMerge block register) earlier fits before = before
 
-last_fits : (shape : Shape) (port tag : ℕ) (rs : List Record) (earlier : Option ℕ) → AllByRecursion (Fits shape) rs → HasBlock shape earlier
+last_fits : (shape : Shape) (port tag : ℕ) (rs : List Record) (earlier : Option ℕ) → AllByRecursion (Fits shape) rs →
+    HasBlock shape earlier
     → HasBlock shape (fold (λ last r. asked_by port tag r.log r.event last) earlier rs)
 last_fits shape port tag [] earlier all before = before
 last_fits shape port tag (r ∷ rs) earlier all before =
@@ -52,15 +56,21 @@ last_fits shape port tag (r ∷ rs) earlier all before =
 nothing_fits : (shape : Shape) → HasBlock shape None
 nothing_fits shape x e = absurd (none-some x e)
 
-pub requested_fits : (shape : Shape) (bank log : ℕ) (before : List Record) (event : Event) → AllByRecursion (Fits shape) before
+pub requested_fits : (shape : Shape) (bank log : ℕ) (before : List Record) (event : Event) →
+    AllByRecursion (Fits shape) before
     → FitsEvent shape.banks shape.block shape.factor bank event → HasBlock shape (requested before log event)
 requested_fits shape bank log before (events.Issue op t size address bytes) all fits =
     λ x e. subst (λ y. block_of shape y < 0x1_0000_0000) (same_Some address x e) fits.block_fits
-requested_fits shape bank log before (events.Reply tag size bytes) all fits = last_fits shape log tag before None all (nothing_fits shape)
-requested_fits shape bank log before (events.Hit port tag) all fits = last_fits shape port tag before None all (nothing_fits shape)
-requested_fits shape bank log before (events.Primary port tag register) all fits = last_fits shape port tag before None all (nothing_fits shape)
-requested_fits shape bank log before (events.Merge port tag register) all fits = last_fits shape port tag before None all (nothing_fits shape)
-requested_fits shape bank log before (events.Stall port tag) all fits = last_fits shape port tag before None all (nothing_fits shape)
+requested_fits shape bank log before (events.Reply tag size bytes) all fits =
+    last_fits shape log tag before None all (nothing_fits shape)
+requested_fits shape bank log before (events.Hit port tag) all fits =
+    last_fits shape port tag before None all (nothing_fits shape)
+requested_fits shape bank log before (events.Primary port tag register) all fits =
+    last_fits shape port tag before None all (nothing_fits shape)
+requested_fits shape bank log before (events.Merge port tag register) all fits =
+    last_fits shape port tag before None all (nothing_fits shape)
+requested_fits shape bank log before (events.Stall port tag) all fits =
+    last_fits shape port tag before None all (nothing_fits shape)
 requested_fits shape bank log before (events.Fill1 block bytes) all fits = nothing_fits shape
 requested_fits shape bank log before (events.Evict1 block mask bytes) all fits = nothing_fits shape
 requested_fits shape bank log before (events.SecondHit block) all fits = nothing_fits shape

@@ -15,7 +15,8 @@ use Rattle.lf_explain.specs.Addresses.{addresses_of}
 use Rattle.lf_explain.specs.Named.{blocks_of, AreNamed}
 use Rattle.lf_explain.specs.Request.{requested}
 
--- This is told of a record that breaks a rule in this state, where its request is at this address: what the rule asks of
+-- This is told of a record that breaks a rule in this state, where its request is at this address: what the rule
+-- asks of
 -- it, the addresses of its bytes, and what the state has of its blocks.
 pub record IsTold (broken : Broken) (first : Rule) (request : Option ℕ) (r : Record) (shape : Shape) (now : Local)
     : Type 0 where
@@ -25,7 +26,8 @@ pub record IsTold (broken : Broken) (first : Rule) (request : Option ℕ) (r : R
   pub addresses : broken.addresses.items ≡ addresses_of shape request r.event
   pub blocks : AreNamed broken.blocks.items (blocks_of shape request r.event) shape now
 
--- The records before it are a run of the bank, it breaks the rule first, and what is told of it is told of the state where
+-- The records before it are a run of the bank, it breaks the rule first, and what is told of it is told of the state
+-- where
 -- that run ends.
 pub record IsBroken (shape : Shape) (memory : FlatMemory) (rs : List Record) (broken : Broken) : Type 0 where
   pub before : List Record

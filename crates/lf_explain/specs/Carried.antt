@@ -8,12 +8,14 @@ use Rattle.lf_rules.specs.Table.{store_bytes}
 
 -- the byte at a place, and under the mask the one that was found
 abbrev pub judged_or_found : ℕ → List ℕ → List ℕ → ℕ → ℕ
-judged_or_found mask bytes found place = if is_under mask place then slice_index found place else slice_index bytes place
+judged_or_found mask bytes found place = if is_under mask place then slice_index found place else slice_index bytes
+    place
 
 abbrev pub off_mask : ℕ → List ℕ → List ℕ → List ℕ
 off_mask mask bytes found = map (judged_or_found mask bytes found) (range_with_len 0 (length bytes))
 
--- A fill of a block has to carry the bytes of memory. Those of waiting stores are not judged: there stand those that were found.
+-- A fill of a block has to carry the bytes of memory. Those of waiting stores are not judged: there stand those that
+-- were found.
 abbrev pub filled : Shape → Local → ℕ → List ℕ → List ℕ
 filled shape now block found = off_mask (store_bytes now.slice.waiting block) (block_bytes shape now.memory block) found
 

@@ -51,7 +51,7 @@ fn masked_addresses(shape: &Shape, block: u32, mask: Mask) -> BlockAddresses
     addresses
 }
 
-/// The same of the block at a place of a second-level block.
+/// The addresses of the bytes that the mask of the block at a place of a second-level block has.
 fn part_addresses(shape: &Shape, second: u32, masks: &Masks, place: u32) -> BlockAddresses
     requires in_range { IsShape shape.now }
     requires fits { second < 0x1_0000_0000 / shape.now.factor }

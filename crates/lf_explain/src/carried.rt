@@ -81,7 +81,7 @@ pub(crate) fn evicted(step: &Step, block: u32, mask: Mask) -> Block
     masked(&state.bytes, mask)
 }
 
-/// The same of the sub-block at a place of a second-level block, whose fill carries the bytes found.
+/// What a fill of a second-level block has to carry at the place of a sub-block, where it carries the bytes found.
 fn filled_part(step: &Step, shape: &Shape, second: u32, found: &WideBlock, place: u32) -> Block
     requires in_range { IsShape shape.now }
     requires shape { step.now.state.shape ≡ shape.now }
@@ -96,7 +96,7 @@ fn filled_part(step: &Step, shape: &Shape, second: u32, found: &WideBlock, place
     filled(step, block, part)
 }
 
-/// The same of the sub-block at a place of a second-level block.
+/// What an eviction of a second-level block has to carry at the place of a sub-block.
 fn evicted_part(step: &Step, shape: &Shape, second: u32, masks: &Masks, place: u32) -> Block
     requires in_range { IsShape shape.now }
     requires shape { step.now.state.shape ≡ shape.now }

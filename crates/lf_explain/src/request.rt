@@ -1,19 +1,11 @@
 //! The request that a record is or names.
 
-ghost use Rattle.std.specs.Prelude.{◌≡◌, Some, None, MatchOption};
+ghost use Rattle.std.specs.Prelude.{◌≡◌};
 ghost use Rattle.lf_history.specs.BankOrder.{records_at};
-ghost use Rattle.lf_history.specs.Touching.{record_at};
 ghost use Rattle.lf_explain.specs.Request.{asked_by, last_asked, requested};
 
+use lf_history::record_at;
 use lf_rules::{Event, Record};
-
-/// The record at a place, where there is one.
-pub(crate) fn record_at(records: &[Record], place: Option<usize>) -> Option<&Record>
-    ensures { MatchOption result (record_at records.now place ≡ None)
-        (λ item. record_at records.now place ≡ Some item.now) }
-{
-    records.get(place?)
-}
 
 /// The address that the record asks for, where it is a request of the port with this tag, and otherwise the
 /// earlier one.

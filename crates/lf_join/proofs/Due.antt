@@ -1,5 +1,6 @@
 -- Which entries may go.
-use Rattle.std.proofs.Common.{◌≡◌, ℕ, ◌<◌, ◌≤◌, true, false, not, ◌==◌, ◌||◌, inl, inr, List, slice_index, sym, ap, ◌∙◌, eqb-true, eq-eqb}
+use Rattle.std.proofs.Common.{◌≡◌, ℕ, ◌<◌, ◌≤◌, true, false, not, ◌==◌, ◌||◌, inl, inr, List, slice_index, sym, ap}
+use Rattle.std.proofs.Common.{◌∙◌, eqb-true, eq-eqb}
 use Rattle.std.proofs.lemmas.Bool.{cases_lt, lt-ltb, le-ltb}
 use Rattle.lf_rules.specs.Address.{no_bank}
 use Rattle.lf_join.specs.Heads.{is_due}

@@ -11,18 +11,23 @@ use Rattle.lf_join.proofs.Stuck.{times_is, more_of_bank}
 use Rattle.lf_join.proofs.Confluence.{two_apart}
 use Rattle.lf_join.proofs.RosterLemmas.{going_carries}
 
-pub its_own : (skeletons : List (List (ℕ × ℕ))) (order places next : List ℕ) (log : ℕ) → IsAt skeletons order places next → BanksAreWhole skeletons
+pub its_own : (skeletons : List (List (ℕ × ℕ))) (order places next : List ℕ) (log : ℕ) →
+    IsAt skeletons order places next → BanksAreWhole skeletons
     → can_go skeletons places next log ≡ true → IsItsOwn skeletons places log
 its_own skeletons order places next log at whole goes other x apart lt is is' =
     let test = is_next x.0 x.1 in
-    let number : x.1 ≡ next_number at.gone x.0 = can_go_carries next (next_entry skeletons places log) x goes is lt ∙ at.counted x.0 lt in
+    let number : x.1 ≡ next_number at.gone x.0 = can_go_carries next (next_entry skeletons places log) x goes is lt
+    ∙ at.counted x.0 lt in
     let more = more_of_bank skeletons order places next at whole log x is in
-    let once : count test (joined skeletons) ≡ 1 = sym (times_is x.0 x.1 (joined skeletons)) ∙ whole x.0 lt x.1 (omega (arith, number, more)) in
+    let once : count test (joined skeletons) ≡ 1 = sym (times_is x.0 x.1 (joined skeletons))
+    ∙ whole x.0 lt x.1 (omega (arith, number, more)) in
     let passes : test x ≡ true = and_from (x.0 == x.0) (x.1 == x.1) (eq-eqb x.0 x.0 refl) (eq-eqb x.1 x.1 refl) in
-    let two = two_apart test skeletons log other (slice_index places log) (slice_index places other) x x (λ e. apart (sym e)) is is' passes passes in
+    let two = two_apart test skeletons log other (slice_index places log) (slice_index places other) x x
+    (λ e. apart (sym e)) is is' passes passes in
     omega (arith, once, two)
 
-module _ (skeletons : List (List (ℕ × ℕ))) (places next : List ℕ) (roster : Roster) (all : AllStand skeletons places next roster) where
+module _ (skeletons : List (List (ℕ × ℕ))) (places next : List ℕ) (roster : Roster)
+    (all : AllStand skeletons places next roster) where
   -- the roster's test is the heads'
   pub ready_goes : (log : ℕ) → log < 32 → has roster.ready log ≡ can_go skeletons places next log
   ready_goes log lt = (all log lt).going ∙ going_carries next (next_entry skeletons places log)

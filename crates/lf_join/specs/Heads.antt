@@ -1,4 +1,5 @@
--- How far the logs have gone, as the join keeps it: per log the place of its next entry, per bank the number that goes next.
+-- How far the logs have gone, as the join keeps it: per log the place of its next entry, per bank the number that
+-- goes next.
 use Rattle.std.specs.Prelude.{◌≡◌, ◌≢◌, ℕ, ◌+◌, ◌<◌, ◌≤◌, Bool, false, not, nat_lt, ◌==◌, ◌&&◌, ◌||◌}
 use Rattle.std.specs.Prelude.{List, [], ◌∷◌, length, map, drop, slice_index, slice_set, AllPairs, Option, Some, None}
 use Rattle.std.specs.List.{list_any}
@@ -30,17 +31,20 @@ is_next bank number entry = (entry.0 == bank) && (entry.1 == number)
 
 -- whether an entry of the log that has not gone carries the bank's next number
 abbrev pub holds_next : List (List (ℕ × ℕ)) → List ℕ → List ℕ → ℕ → ℕ → Bool
-holds_next skeletons places next bank log = list_any (is_next bank (slice_index next bank)) (drop (slice_index places log) (log_at skeletons log))
+holds_next skeletons places next bank log = list_any (is_next bank (slice_index next bank))
+    (drop (slice_index places log) (log_at skeletons log))
 
 -- The log's next entry goes: its log's place moves on by one, and the number behind its own is its bank's next.
-pub record Advances (skeletons : List (List (ℕ × ℕ))) (places next : List ℕ) (log : ℕ) (new_places new_next : List ℕ) : Type 0 where
+pub record Advances (skeletons : List (List (ℕ × ℕ))) (places next : List ℕ) (log : ℕ)
+    (new_places new_next : List ℕ) : Type 0 where
   pub entry : ℕ × ℕ
   pub there : next_entry skeletons places log ≡ Some entry
   pub is_bank : entry.0 < 256
   pub moved : new_places ≡ slice_set places log (slice_index places log + 1)
   pub counted : new_next ≡ slice_set next entry.0 (entry.1 + 1)
 
--- The order has taken these entries, which keep the numbers; each place is that of a log's next entry, and each number that which a bank's next entry carries.
+-- The order has taken these entries, which keep the numbers; each place is that of a log's next entry, and each
+-- number that which a bank's next entry carries.
 pub record IsAt (skeletons : List (List (ℕ × ℕ))) (order places next : List ℕ) : Type 0 where
   pub gone : List (ℕ × ℕ)
   pub left : List (List (ℕ × ℕ))
@@ -49,12 +53,14 @@ pub record IsAt (skeletons : List (List (ℕ × ℕ))) (order places next : List
   pub placed : (log : ℕ) → log_at left log ≡ drop (slice_index places log) (log_at skeletons log)
   pub counted : (bank : ℕ) → bank < no_bank → slice_index next bank ≡ next_number gone bank
 
--- The least entries have gone as far as any can: where none is left the order is the least, and otherwise there is none.
+-- The least entries have gone as far as any can: where none is left the order is the least, and otherwise there is
+-- none.
 pub record IsMerged (skeletons : List (List (ℕ × ℕ))) (order places next : List ℕ) : Type 0 where
   pub is_at : IsAt skeletons order places next
   pub nothing_goes : (log : ℕ) → can_go skeletons places next log ≡ false
   pub whole : ((log : ℕ) → next_entry skeletons places log ≡ None) → IsLeastOrder skeletons order
-  pub none : (log : ℕ) (entry : ℕ × ℕ) → next_entry skeletons places log ≡ Some entry → (other : List ℕ) → IsOrder skeletons other → ⊥
+  pub none : (log : ℕ) (entry : ℕ × ℕ) → next_entry skeletons places log ≡ Some entry → (other : List ℕ) →
+      IsOrder skeletons other → ⊥
 
 -- ---- the ring
 
@@ -98,4 +104,5 @@ abbrev pub knot_of : List ℕ → ℕ → Knot
 knot_of places log = record { log = log; at = slice_index places log }
 
 abbrev pub IsRingAt : List (List (ℕ × ℕ)) → List ℕ → List ℕ → ℕ → List Knot → Type 0
-IsRingAt skeletons places next start ring = (logs : List ℕ) × IsRound (HeadsWait skeletons places next) start logs × (ring ≡ map (knot_of places) logs)
+IsRingAt skeletons places next start ring = (logs : List ℕ) × IsRound (HeadsWait skeletons places next) start logs ×
+    (ring ≡ map (knot_of places) logs)

@@ -14,7 +14,8 @@ skeleton_lists skeletons = map (λ skeleton. skeleton.items) skeletons
 
 -- Over all skeletons each bank's numbers are 0 to n - 1, each once. Entries that name no bank have none.
 abbrev pub BanksAreWhole : List (List (ℕ × ℕ)) → Type 0
-BanksAreWhole skeletons = (bank : ℕ) → bank < no_bank → IsWhole (map (λ entry. entry.1) (entries_of bank (flat_map (λ entries. entries) skeletons)))
+BanksAreWhole skeletons = (bank : ℕ) → bank < no_bank → IsWhole
+    (map (λ entry. entry.1) (entries_of bank (flat_map (λ entries. entries) skeletons)))
 
 abbrev pub HasNoOrder : List (List (ℕ × ℕ)) → Type 0
 HasNoOrder skeletons = (order : List ℕ) → IsOrder skeletons order → ⊥
@@ -27,7 +28,8 @@ module _ {T : Type 0} where
   TakesUpTo logs [] [] left = logs ≡ left
   TakesUpTo logs [] (x ∷ xs) left = ⊥
   TakesUpTo logs (log ∷ order) [] left = ⊥
-  TakesUpTo logs (log ∷ order) (x ∷ xs) left = (log_at logs log ≡ x ∷ drop 1 (log_at logs log)) × TakesUpTo (after_next logs log) order xs left
+  TakesUpTo logs (log ∷ order) (x ∷ xs) left = (log_at logs log ≡ x ∷ drop 1 (log_at logs log)) ×
+      TakesUpTo (after_next logs log) order xs left
 
 -- the number that the bank's next entry carries, where these have gone
 abbrev pub next_number : List (ℕ × ℕ) → ℕ → ℕ
@@ -41,7 +43,8 @@ pub record HasGone (skeletons : List (List (ℕ × ℕ))) (gone : List (ℕ × �
 
 -- Each log's next entry names a bank, and none carries its bank's next number.
 abbrev pub NothingGoes : List (ℕ × ℕ) → List (List (ℕ × ℕ)) → Type 0
-NothingGoes gone left = (log : ℕ) (entry : ℕ × ℕ) → entry_at (log_at left log) 0 ≡ Some entry → (entry.0 < no_bank) × (entry.1 ≢ next_number gone entry.0)
+NothingGoes gone left = (log : ℕ) (entry : ℕ × ℕ) → entry_at (log_at left log) 0 ≡ Some entry → (entry.0 < no_bank) ×
+    (entry.1 ≢ next_number gone entry.0)
 
 -- ---- the ring
 
@@ -71,6 +74,8 @@ pub record IsStuckRing (skeletons : List (List (ℕ × ℕ))) (ring : List Knot)
   pub path : List ℕ
   pub led : Leads (WaitsFor gone left) start path (knot_at ring 0).log
   pub some_knot : 0 < length ring
-  pub waits : (j : ℕ) → j < length ring → WaitsFor gone left (knot_at ring j).log (knot_at ring ((j + 1) % length ring)).log
+  pub waits : (j : ℕ) → j < length ring → WaitsFor gone left (knot_at ring j).log
+      (knot_at ring ((j + 1) % length ring)).log
   pub lowest : (j : ℕ) → 0 < j → j < length ring → (knot_at ring 0).log < (knot_at ring j).log
-  pub places : (j : ℕ) → j < length ring → (knot_at ring j).at + length (log_at left (knot_at ring j).log) ≡ length (log_at skeletons (knot_at ring j).log)
+  pub places : (j : ℕ) → j < length ring → (knot_at ring j).at + length (log_at left (knot_at ring j).log)
+      ≡ length (log_at skeletons (knot_at ring j).log)

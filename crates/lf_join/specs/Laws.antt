@@ -6,11 +6,13 @@ use Rattle.lf_join.specs.Join.{BanksAreWhole, HasNoOrder, IsStuckRing}
 
 -- there is one least order at most
 abbrev pub LeastOrdersAreOne : Type 0
-LeastOrdersAreOne = (skeletons : List (List (ℕ × ℕ))) (order other : List ℕ) → IsLeastOrder skeletons order → IsLeastOrder skeletons other → order ≡ other
+LeastOrdersAreOne = (skeletons : List (List (ℕ × ℕ))) (order other : List ℕ) → IsLeastOrder skeletons order →
+    IsLeastOrder skeletons other → order ≡ other
 
 -- where a ring is met there is no order
 abbrev pub StuckRingsAdmitNone : Type 0
-StuckRingsAdmitNone = (skeletons : List (List (ℕ × ℕ))) (ring : List Knot) → IsStuckRing skeletons ring → HasNoOrder skeletons
+StuckRingsAdmitNone = (skeletons : List (List (ℕ × ℕ))) (ring : List Knot) → IsStuckRing skeletons ring →
+    HasNoOrder skeletons
 
 -- where the numbers are whole, however the logs went, the same ring is met
 abbrev pub StuckRingsAreOne : Type 0

@@ -48,12 +48,14 @@ pub record IsSized (roster : Roster) : Type 0 where
 pub record Stands (roster : Roster) (log : ℕ) (standing : Standing) : Type 0 where
   pub sized : IsSized roster
   pub going : has roster.ready log ≡ is_going standing
-  pub waiting : (bank set : ℕ) → bank < 256 → set < 32 → has (waiting_at roster bank set) log ≡ is_waiting standing bank set
+  pub waiting : (bank set : ℕ) → bank < 256 → set < 32 → has (waiting_at roster bank set) log
+      ≡ is_waiting standing bank set
   pub kept : IsKeptNumber standing (slice_index roster.numbers log)
 
 -- Each other log stands where it stood.
 abbrev pub OthersStay : Roster → Roster → ℕ → Type 0
-OthersStay old new log = (other : ℕ) (standing : Standing) → other < 32 → other ≢ log → Stands old other standing → Stands new other standing
+OthersStay old new log = (other : ℕ) (standing : Standing) → other < 32 → other ≢ log → Stands old other standing →
+    Stands new other standing
 
 -- A log that waits for the number that a bank calls goes from now on, and any other stands where it stood.
 abbrev pub once_called : Standing → ℕ → ℕ → Standing
@@ -62,11 +64,13 @@ once_called Goes at called = Goes
 once_called (Waits bank number) at called = if (bank == at) && (number == called) then Goes else Waits bank number
 
 abbrev pub IsCalled : Roster → Roster → ℕ → ℕ → Type 0
-IsCalled old new bank number = (log : ℕ) (standing : Standing) → log < 32 → Stands old log standing → Stands new log (once_called standing bank number)
+IsCalled old new bank number = (log : ℕ) (standing : Standing) → log < 32 → Stands old log standing →
+    Stands new log (once_called standing bank number)
 
 -- Each log stands where its next entry says.
 abbrev pub AllStand : List (List (ℕ × ℕ)) → List ℕ → List ℕ → Roster → Type 0
-AllStand skeletons places next roster = (log : ℕ) → log < 32 → Stands roster log (standing_of next (next_entry skeletons places log))
+AllStand skeletons places next roster = (log : ℕ) → log < 32 →
+    Stands roster log (standing_of next (next_entry skeletons places log))
 
 -- no other log's next entry is that of this log, where it names a bank
 abbrev pub IsItsOwn : List (List (ℕ × ℕ)) → List ℕ → ℕ → Type 0

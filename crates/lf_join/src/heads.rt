@@ -24,7 +24,8 @@ pub(crate) struct Heads {
 }
 
 impl Heads {
-    ghost use Rattle.lf_join.specs.Heads.{next_entry, can_go, holds_next, Advances, HeadsWait, AllWait, IsPath, IsRingAt, knot_of};
+    ghost use Rattle.lf_join.specs.Heads.{next_entry, can_go, holds_next, Advances, HeadsWait, AllWait, IsPath};
+    ghost use Rattle.lf_join.specs.Heads.{IsRingAt, knot_of};
 
     /// Before anything has gone.
     pub fn new() -> Self
@@ -52,7 +53,8 @@ impl Heads {
         requires log { log < 32 }
         requires goes { can_go (skeleton_lists skeletons.now) self.old.places self.old.next log ≡ true }
         ensures entry { next_entry (skeleton_lists skeletons.now) self.old.places log ≡ Some result }
-        ensures gone { Advances (skeleton_lists skeletons.now) self.old.places self.old.next log self.new.places self.new.next }
+        ensures gone { Advances (skeleton_lists skeletons.now) self.old.places self.old.next log self.new.places
+            self.new.next }
     {
         let Some((bank, number)) = self.next_entry(skeletons, log) else {
             unreachable!();
@@ -66,8 +68,10 @@ impl Heads {
     pub fn first_left(&self, skeletons: &[Skeleton]) -> Option<u8>
         requires { length skeletons.now ≤ 32 }
         ensures { MatchOption result
-            ((log : ℕ) → log < length skeletons.now → next_entry (skeleton_lists skeletons.now) self.now.places log ≡ None)
-            (λ first. (first < length skeletons.now) × IsSome (next_entry (skeleton_lists skeletons.now) self.now.places first)
+            ((log : ℕ) → log < length skeletons.now → next_entry (skeleton_lists skeletons.now) self.now.places log
+            ≡ None)
+            (λ first. (first < length skeletons.now) × IsSome
+            (next_entry (skeleton_lists skeletons.now) self.now.places first)
             × ((log : ℕ) → log < first → next_entry (skeleton_lists skeletons.now) self.now.places log ≡ None)) }
     {
         for first in 0..skeletons.len() {
@@ -117,7 +121,8 @@ impl Heads {
         requires start { start < length skeletons.now }
         requires left { IsSome (next_entry (skeleton_lists skeletons.now) self.now.places start) }
         requires waits { AllWait (skeleton_lists skeletons.now) self.now.places self.now.next }
-        ensures path { IsPath (HeadsWait (skeleton_lists skeletons.now) self.now.places self.now.next) start result.0.items
+        ensures path { IsPath (HeadsWait (skeleton_lists skeletons.now) self.now.places self.now.next) start
+            result.0.items
             (slice_index result.0.items result.1) }
         ensures again { result.1 < array_vec_len result.0 }
         ensures logs { All (λ log. log < length skeletons.now) result.0.items }

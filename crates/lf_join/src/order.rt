@@ -60,7 +60,8 @@ pub fn join(alloc: Global, skeletons: &[Skeleton]) -> Result<Vec<u8>, JoinFault>
 
     // Where the answer is a ring, it is the one to which the waits lead, it shows that there is no order, and
     // there is none.
-    ensures ring { IfErr result (λ fault. IfCycle fault (λ ring. IsStuckRing (skeleton_lists skeletons.now) ring.items)) }
+    ensures ring { IfErr result (λ fault. IfCycle fault (λ ring. IsStuckRing (skeleton_lists skeletons.now)
+        ring.items)) }
     ensures shown { IfErr result (λ fault. IfCycle fault (λ ring. IsRing (skeleton_lists skeletons.now) ring.items)) }
     ensures none { IfErr result (λ fault. IfCycle fault (λ _. HasNoOrder (skeleton_lists skeletons.now))) }
 {

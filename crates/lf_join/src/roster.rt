@@ -32,7 +32,8 @@ fn set_of(number: u64) -> usize
 }
 
 impl Roster {
-    ghost use Rattle.lf_join.specs.Standings.{Nowhere, Goes, Waits, Stands, OthersStay, AllStand, IsItsOwn, IsCalled, standing_of};
+    ghost use Rattle.lf_join.specs.Standings.{Nowhere, Goes, Waits, Stands, OthersStay, AllStand, IsItsOwn, IsCalled};
+    ghost use Rattle.lf_join.specs.Standings.{standing_of};
 
     /// No log stands anywhere.
     fn empty() -> Self
@@ -108,7 +109,8 @@ impl Roster {
     fn settle(&mut self, skeletons: &[Skeleton], heads: &Heads, log: u8)
         requires log { log < 32 }
         requires nowhere { Stands self.old log Nowhere }
-        ensures settled { Stands self.new log (standing_of heads.now.next (next_entry (skeleton_lists skeletons.now) heads.now.places log)) }
+        ensures settled { Stands self.new log (standing_of heads.now.next
+            (next_entry (skeleton_lists skeletons.now) heads.now.places log)) }
         ensures others { OthersStay self.old self.new log }
     {
         if let Some((bank, number)) = heads.next_entry(skeletons, log as usize) {
@@ -147,7 +149,8 @@ impl Roster {
         requires stand { AllStand (skeleton_lists skeletons.now) heads.old.places heads.old.next self.old }
         requires goes { can_go (skeleton_lists skeletons.now) heads.old.places heads.old.next log ≡ true }
         requires own { IsItsOwn (skeleton_lists skeletons.now) heads.old.places log }
-        ensures gone { Advances (skeleton_lists skeletons.now) heads.old.places heads.old.next log heads.new.places heads.new.next }
+        ensures gone { Advances (skeleton_lists skeletons.now) heads.old.places heads.old.next log heads.new.places
+            heads.new.next }
         ensures stand { AllStand (skeleton_lists skeletons.now) heads.new.places heads.new.next self.new }
     {
         let (bank, number) = heads.advance(skeletons, log as usize);

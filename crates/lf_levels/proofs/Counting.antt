@@ -1,12 +1,15 @@
 -- How many items of a list pass a test.
-use Rattle.std.proofs.Common.{ℕ, zero, suc, ◌≡◌, ◌<◌, ◌≤◌, ◌+◌, ◌-◌, Bool, true, false, cond, List, [], ◌∷◌, length, take, drop, get_or}
-use Rattle.std.proofs.Common.{refl, ap, sym, ◌∙◌, arith, length-drop, Some, None, get_or-take, get_or-drop, length-take-le}
+use Rattle.std.proofs.Common.{ℕ, zero, suc, ◌≡◌, ◌<◌, ◌≤◌, ◌+◌, ◌-◌, Bool, true, false, cond, List, [], ◌∷◌, length}
+use Rattle.std.proofs.Common.{take, drop, get_or}
+use Rattle.std.proofs.Common.{refl, ap, sym, ◌∙◌, arith, length-drop, Some, None, get_or-take, get_or-drop}
+use Rattle.std.proofs.Common.{length-take-le}
 use Rattle.std.specs.Prelude.{count_by, slice_set}
 use Rattle.std.specs.List.{position, position_or_len, slice_range}
 use Rattle.std.proofs.lemmas.Bool.{cases_Bool, cases_lt, lt-ltb}
 use Rattle.std.proofs.lemmas.List.Quantifiers.{position-Some}
 use Rattle.std.proofs.Math.Logic.{⊎_elim, ◌⊎◌, inl, inr}
-use Rattle.std.proofs.lemmas.List.Sums.{sum_by-cons, sum_by-set, sum_by-take-drop, get_or-le-sum_by, count_by-le-length, fails_before_first}
+use Rattle.std.proofs.lemmas.List.Sums.{sum_by-cons, sum_by-set, sum_by-take-drop, get_or-le-sum_by}
+use Rattle.std.proofs.lemmas.List.Sums.{count_by-le-length, fails_before_first}
 
 module _ {X : Type 0} (p : X → Bool) where
   -- what an item counts for
@@ -25,7 +28,8 @@ module _ {X : Type 0} (p : X → Bool) where
   pub count-cons : (x : X) (xs : List X) → count_by p (x ∷ xs) ≡ worth x + count_by p xs
   count-cons x xs = sum_by-cons worth x xs
 
-  pub count-set : (xs : List X) (i : ℕ) (y d : X) → i < length xs → count_by p (slice_set xs i y) + worth (get_or xs i d) ≡ count_by p xs + worth y
+  pub count-set : (xs : List X) (i : ℕ) (y d : X) → i < length xs →
+      count_by p (slice_set xs i y) + worth (get_or xs i d) ≡ count_by p xs + worth y
   count-set xs i y d lt = sum_by-set worth xs i y d lt
 
   -- an item that passes is counted
@@ -35,15 +39,29 @@ module _ {X : Type 0} (p : X → Bool) where
   pub count-none : (xs : List X) (d : X) → ((k : ℕ) → k < length xs → p (get_or xs k d) ≡ false) → count_by p xs ≡ 0
   count-none [] d fail = refl
   count-none (x ∷ xs) d fail =
-      omega (arith, count-cons x xs, worth-no x (fail zero (omega arith)), count-none xs d (λ k lt. fail (suc k) (omega arith)))
+      omega (
+        arith,
+        count-cons x xs,
+        worth-no x (fail zero (omega arith)),
+        count-none xs d
+            (λ k lt. fail (suc k) (omega arith)),
+      )
 
-  pub count-all : (xs : List X) (d : X) → ((k : ℕ) → k < length xs → p (get_or xs k d) ≡ true) → count_by p xs ≡ length xs
+  pub count-all : (xs : List X) (d : X) → ((k : ℕ) → k < length xs → p (get_or xs k d) ≡ true) →
+      count_by p xs ≡ length xs
   count-all [] d pass = refl
   count-all (x ∷ xs) d pass =
-      omega (arith, count-cons x xs, worth-yes x (pass zero (omega arith)), count-all xs d (λ k lt. pass (suc k) (omega arith)))
+      omega (
+        arith,
+        count-cons x xs,
+        worth-yes x (pass zero (omega arith)),
+        count-all xs d
+            (λ k lt. pass (suc k) (omega arith)),
+      )
 
   -- an item that does not pass is not counted
-  pub count-short : (xs : List X) (i : ℕ) (d : X) → i < length xs → p (get_or xs i d) ≡ false → count_by p xs < length xs
+  pub count-short : (xs : List X) (i : ℕ) (d : X) → i < length xs → p (get_or xs i d) ≡ false →
+      count_by p xs < length xs
   count-short [] i d lt e = absurd (omega arith)
   count-short (x ∷ xs) zero d lt e = omega (arith, count-cons x xs, worth-no x e, count_by-le-length p xs)
   count-short (x ∷ xs) (suc i) d lt e = omega (arith, count-cons x xs, worth-le x, count-short xs i d (omega arith) e)
@@ -59,22 +77,26 @@ module _ {X : Type 0} (p : X → Bool) where
     pub part_at : (k : ℕ) → k < many → get_or part k d ≡ get_or xs (from + k) d
     part_at k lt = get_or-take many (drop from xs) k d lt ∙ get_or-drop from xs k d
 
-    pub count-part : ((k : ℕ) → k < length xs → p (get_or xs k d) ≡ true → (from ≤ k) × (k < from + many)) → count_by p xs ≡ count_by p part
+    pub count-part : ((k : ℕ) → k < length xs → p (get_or xs k d) ≡ true → (from ≤ k) × (k < from + many)) →
+        count_by p xs ≡ count_by p part
     count-part only =
         let low = sum_by-take-drop worth xs from in
         let high = sum_by-take-drop worth (drop from xs) many in
         let below = count-none (take from xs) d (λ k lt.
         let few = length-take-le from xs (omega arith) in
-        ap p (get_or-take from xs k d (omega (arith, few))) ∙ fails k (omega (arith, few)) (inl (omega (arith, few)))) in
+        ap p (get_or-take from xs k d (omega (arith, few))) ∙ fails k (omega (arith, few)) (inl (omega (arith, few))))
+        in
         let above = count-none (drop many (drop from xs)) d (λ k lt.
         let left = length-drop many (drop from xs) in
         let right = length-drop from xs in
-        ap p (get_or-drop many (drop from xs) k d ∙ get_or-drop from xs (many + k) d) ∙ fails (from + (many + k)) (omega (arith, left, right)) (inr (omega arith))) in
+        ap p (get_or-drop many (drop from xs) k d ∙ get_or-drop from xs (many + k) d)
+        ∙ fails (from + (many + k)) (omega (arith, left, right)) (inr (omega arith))) in
         omega (arith, low, high, below, above)
       where
         fails : (k : ℕ) → k < length xs → (k < from) ⊎ (from + many ≤ k) → p (get_or xs k d) ≡ false
         fails k lt out = ⊎_elim
-            (λ e. let both = only k lt e in ⊎_elim (λ l. absurd (omega (arith, both.0))) (λ r. absurd (omega (arith, both.1))) out)
+            (λ e. let both = only k lt e in ⊎_elim (λ l. absurd (omega (arith, both.0)))
+            (λ r. absurd (omega (arith, both.1))) out)
             (λ e. e)
             (cases_Bool (p (get_or xs k d)))
 
@@ -82,7 +104,9 @@ module _ {X : Type 0} (p : X → Bool) where
 
   none-pass : (xs : List X) (d : X) → position p xs ≡ None → (k : ℕ) → k < length xs → p (get_or xs k d) ≡ false
   none-pass xs d e k lt = ⊎_elim
-      (λ (h : position_or_len p xs < length xs). absurd (cc (sym (ap (λ b. cond b (Some (position_or_len p xs)) None) (lt-ltb (position_or_len p xs) (length xs) h)) ∙ e)))
+      (λ (h : position_or_len p xs < length xs). absurd (cc
+      (sym (ap (λ b. cond b (Some (position_or_len p xs)) None) (lt-ltb (position_or_len p xs) (length xs) h))
+      ∙ e)))
       (λ (h : length xs ≤ position_or_len p xs). fails_before_first p xs k d (omega arith))
       (cases_lt (position_or_len p xs) (length xs))
 
@@ -90,15 +114,19 @@ module _ {X : Type 0} (p : X → Bool) where
     same_part : slice_range xs from (from + many) ≡ part xs from many d inside
     same_part = ap (λ n. take n (drop from xs)) (omega arith)
 
-    pub part-finds : (i : ℕ) → position p (slice_range xs from (from + many)) ≡ Some i → (i < many) × (p (get_or xs (from + i) d) ≡ true)
+    pub part-finds : (i : ℕ) → position p (slice_range xs from (from + many)) ≡ Some i → (i < many) ×
+        (p (get_or xs (from + i) d) ≡ true)
     part-finds i e =
         let found = position-Some p (part xs from many d inside) i d (ap (position p) (sym same_part) ∙ e) in
         let lt : i < many = omega (arith, found.0, length-part xs from many d inside) in
         (lt, ap p (sym (part_at xs from many d inside i lt)) ∙ found.1)
 
-    pub part-lacks : position p (slice_range xs from (from + many)) ≡ None → (k : ℕ) → from ≤ k → k < from + many → p (get_or xs k d) ≡ false
+    pub part-lacks : position p (slice_range xs from (from + many)) ≡ None → (k : ℕ) → from ≤ k → k < from + many →
+        p (get_or xs k d) ≡ false
     part-lacks e k low high =
         let i = k - from in
         let lt : i < many = omega arith in
-        let at : get_or (part xs from many d inside) i d ≡ get_or xs k d = part_at xs from many d inside i lt ∙ ap (λ n. get_or xs n d) (omega arith) in
-        ap p (sym at) ∙ none-pass (part xs from many d inside) d (ap (position p) (sym same_part) ∙ e) i (omega (arith, length-part xs from many d inside))
+        let at : get_or (part xs from many d inside) i d ≡ get_or xs k d =
+        part_at xs from many d inside i lt ∙ ap (λ n. get_or xs n d) (omega arith) in
+        ap p (sym at) ∙ none-pass (part xs from many d inside) d (ap (position p) (sym same_part) ∙ e) i
+        (omega (arith, length-part xs from many d inside))

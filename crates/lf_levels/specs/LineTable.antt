@@ -1,12 +1,14 @@
 -- What a table of lines is: a map from each block that is there to what is dirty of it, and the numbers of its sets.
-use Rattle.std.specs.Prelude.{◌≡◌, ℕ, ◌≤◌, ◌*◌, ◌+◌, Bool, true, not, ◌==◌, List, [], ◌∷◌, length, Option, IfSome, bit_or, if◌then◌else◌}
+use Rattle.std.specs.Prelude.{◌≡◌, ℕ, ◌≤◌, ◌*◌, ◌+◌, Bool, true, not, ◌==◌, List, [], ◌∷◌, length, Option, IfSome}
+use Rattle.std.specs.Prelude.{bit_or, if◌then◌else◌}
 use Rattle.std.specs.List.{range_with_len, list_all}
 use Rattle.std.specs.List.Sorted.{IsStrictlySortedBy}
 use Rattle.std.specs.Map.{keys_of}
 use Rattle.std.specs.Ordering.{nat_cmp}
 use Rattle.lf_rules.specs.declared.mask.Mask.{Mask}
 use Rattle.lf_rules.specs.Address.{Masks, set2_of}
-use Rattle.lf_rules.specs.Lines.{line_at, has_line, with_line, without_line, lines_of_set, has_way, dirty_mask, dirty_masks}
+use Rattle.lf_rules.specs.Lines.{line_at, has_line, with_line, without_line, lines_of_set, has_way, dirty_mask}
+use Rattle.lf_rules.specs.Lines.{dirty_masks}
 
 pub record LineTable (M : Type 0) : Type 0 where
   pub sets : ℕ
@@ -20,7 +22,8 @@ module _ {M : Type 0} where
   abbrev pub set_in : (ℕ → ℕ → ℕ → ℕ → ℕ) → LineTable M → ℕ → ℕ
   set_in set table = set table.banks table.factor table.sets
 
-  -- The lines stand by rising blocks, no set has more of them than it has ways, and each has the masks that a level says
+  -- The lines stand by rising blocks, no set has more of them than it has ways, and each has the masks that a level
+  -- says
   -- a line has, of so many first-level blocks in one of level two.
   pub record IsLineTable (set : ℕ → ℕ → ℕ → ℕ → ℕ) (is_line : ℕ → M → Bool) (table : LineTable M) : Type 0 where
     pub sorted : IsStrictlySortedBy nat_cmp (keys_of table.lines)
@@ -36,15 +39,30 @@ module _ {M : Type 0} where
   -- the table with a line on the block of which so much is dirty, and with none
   abbrev pub after_fill : LineTable M → ℕ → M → LineTable M
   after_fill table block dirty =
-      record { sets = table.sets; ways = table.ways; banks = table.banks; factor = table.factor; lines = with_line table.lines block dirty }
+      record {
+        sets = table.sets;
+        ways = table.ways;
+        banks = table.banks;
+        factor = table.factor;
+        lines =
+            with_line table.lines block dirty;
+      }
 
   abbrev pub after_evict : LineTable M → ℕ → LineTable M
   after_evict table block =
-      record { sets = table.sets; ways = table.ways; banks = table.banks; factor = table.factor; lines = without_line table.lines block }
+      record {
+        sets = table.sets;
+        ways = table.ways;
+        banks = table.banks;
+        factor = table.factor;
+        lines =
+            without_line table.lines block;
+      }
 
   -- The map has this at the block, or nothing, and at each other block what it had.
   abbrev pub ChangesOnly : LineTable M → LineTable M → ℕ → Option M → Type 0
-  ChangesOnly old new block dirty = (other : ℕ) → line_at new.lines other ≡ (if other == block then dirty else line_at old.lines other)
+  ChangesOnly old new block dirty = (other : ℕ) → line_at new.lines other
+      ≡ (if other == block then dirty else line_at old.lines other)
 
 -- ---- level one
 
@@ -77,4 +95,5 @@ joined2 table second masks = record { items = joined (dirty_masks table.lines se
 
 -- none of the blocks of a second-level block has a line in level one
 abbrev pub are_absent : ℕ → LineTable ℕ → ℕ → Bool
-are_absent factor inner second = list_all (λ place. not (has_line inner.lines (second * factor + place))) (range_with_len 0 factor)
+are_absent factor inner second = list_all (λ place. not (has_line inner.lines (second * factor + place)))
+    (range_with_len 0 factor)

@@ -21,5 +21,6 @@ EvictRefusal table block mask SetFull = ⊥
 -- the same of level two, where one of the masks is not the line's
 abbrev pub WideEvictRefusal : LineTable Masks → ℕ → Masks → LineFault → Type 0
 WideEvictRefusal table second masks EvictAbsent = has_line table.lines second ≡ false
-WideEvictRefusal table second masks EvictMask = (has_line table.lines second ≡ true) × (same_masks table.factor masks (dirty_masks table.lines second) ≡ false)
+WideEvictRefusal table second masks EvictMask = (has_line table.lines second ≡ true) ×
+    (same_masks table.factor masks (dirty_masks table.lines second) ≡ false)
 WideEvictRefusal table second masks SetFull = ⊥

@@ -1,5 +1,6 @@
 -- The rows of ways that a table keeps, and the lines that stand in them.
-use Rattle.std.specs.Prelude.{◌≡◌, ℕ, ◌<◌, ◌≤◌, ◌*◌, ◌+◌, ◌==◌, Bool, true, false, List, [], ◌∷◌, length, Option, None, Some, count_by, slice_index_or, ⊤}
+use Rattle.std.specs.Prelude.{◌≡◌, ℕ, ◌<◌, ◌≤◌, ◌*◌, ◌+◌, ◌==◌, Bool, true, false, List, [], ◌∷◌, length, Option}
+use Rattle.std.specs.Prelude.{None, Some, count_by, slice_index_or, ⊤}
 use Rattle.lf_levels.specs.declared.ways.Line.{Line}
 use Rattle.lf_rules.specs.Fits.{is_factor}
 use Rattle.lf_rules.specs.Lines.{with_line}
@@ -30,8 +31,10 @@ module _ {M : Type 0} where
   HasDirty test None = ⊤
   HasDirty test (Some line) = test line.dirty ≡ true
 
-  -- There is a row for each set, each line stands in the row of its set and has its level's masks, and no block has two.
-  pub record AreWholeRows (set : ℕ → ℕ → ℕ → ℕ → ℕ) (is_line : ℕ → M → Bool) (sets ways banks factor : ℕ) (rows : List (Option (Line M))) : Type 0 where
+  -- There is a row for each set, each line stands in the row of its set and has its level's masks, and no block has
+  -- two.
+  pub record AreWholeRows (set : ℕ → ℕ → ℕ → ℕ → ℕ) (is_line : ℕ → M → Bool) (sets ways banks factor : ℕ)
+      (rows : List (Option (Line M))) : Type 0 where
     pub some_sets : 0 < sets
     pub below : (block : ℕ) → set banks factor sets block < sets
     pub few_sets : sets ≤ 4096
@@ -39,11 +42,14 @@ module _ {M : Type 0} where
     pub some_banks : 0 < banks
     pub in_range : is_factor factor ≡ true
     pub each_set : length rows ≡ sets * ways
-    pub home : (place : ℕ) → place < length rows → IsInOwnRow (set banks factor sets) ways place (slice_index_or rows place None)
+    pub home : (place : ℕ) → place < length rows → IsInOwnRow (set banks factor sets) ways place
+        (slice_index_or rows place None)
     pub masks : (place : ℕ) → place < length rows → HasDirty (is_line factor) (slice_index_or rows place None)
     pub once : (block : ℕ) → count_by (is_on block) rows ≤ 1
 
   -- This is a place of so many ways from a place on that passes the test, or none of them does.
   abbrev pub FindsWay : (Option (Line M) → Bool) → List (Option (Line M)) → ℕ → ℕ → Option ℕ → Type 0
-  FindsWay test rows from count (Some place) = (from ≤ place) × (place < from + count) × (test (slice_index_or rows place None) ≡ true)
-  FindsWay test rows from count None = (place : ℕ) → from ≤ place → place < from + count → test (slice_index_or rows place None) ≡ false
+  FindsWay test rows from count (Some place) = (from ≤ place) × (place < from + count) ×
+      (test (slice_index_or rows place None) ≡ true)
+  FindsWay test rows from count None = (place : ℕ) → from ≤ place → place < from + count →
+      test (slice_index_or rows place None) ≡ false

@@ -1,10 +1,12 @@
 //! A table of lines.
 
-ghost use Rattle.std.specs.Prelude.{◌≡◌, ◌*◌, true, false, ◌↔◌, IsTrue, Option, Some, None, option_copied, unwrap_or, IfOk, IfErr, OnErr};
+ghost use Rattle.std.specs.Prelude.{◌≡◌, ◌*◌, true, false, ◌↔◌, IsTrue, Option, Some, None, option_copied, unwrap_or};
+ghost use Rattle.std.specs.Prelude.{IfOk, IfErr, OnErr};
 ghost use Rattle.lf_rules.specs.Fits.{is_factor};
 ghost use Rattle.lf_rules.specs.InRange.{IsFrom};
 ghost use Rattle.lf_rules.specs.Lines.{line_at, has_line, lines_of_set};
-ghost use Rattle.lf_levels.specs.LineTable.{IsLineTable, ChangesOnly, set_in, empty_table, is_full, after_fill, after_evict};
+ghost use Rattle.lf_levels.specs.LineTable.{IsLineTable, ChangesOnly, set_in, empty_table, is_full, after_fill};
+ghost use Rattle.lf_levels.specs.LineTable.{after_evict};
 ghost use Rattle.lf_levels.specs.Refusals.{FillRefusal};
 
 use crate::fault::LineFault;
@@ -31,7 +33,14 @@ impl<L: Level> Model for Lines<L> {
 
     ghost Value = { LineTable L.Dirty };
 
-    ghost view = { λ a. record { sets = a.sets; ways = a.ways; banks = a.banks; factor = a.factor; lines = lines_of a.rows.items } };
+    ghost view = { λ a. record {
+      sets = a.sets;
+      ways = a.ways;
+      banks = a.banks;
+      factor = a.factor;
+      lines =
+          lines_of a.rows.items;
+    } };
 
     ghost invariant = { λ a. AreWholeRows L.set L.is_line a.sets a.ways a.banks a.factor a.rows.items };
 }
@@ -128,8 +137,10 @@ impl<L: Level> Lines<L> {
     /// More of the block's line is dirty.
     pub(crate) fn gain(&mut self, block: u32, more: &L::Dirty)
         requires { has_line self.old.lines block ≡ true }
-        ensures gained { self.new ≡ after_fill self.old block (L.join (unwrap_or (line_at self.old.lines block) L.clean) more.now) }
-        ensures here { ChangesOnly self.old self.new block (Some (L.join (unwrap_or (line_at self.old.lines block) L.clean) more.now)) }
+        ensures gained { self.new ≡ after_fill self.old block
+            (L.join (unwrap_or (line_at self.old.lines block) L.clean) more.now) }
+        ensures here { ChangesOnly self.old self.new block (Some
+            (L.join (unwrap_or (line_at self.old.lines block) L.clean) more.now)) }
     {
         let row = self.row(block);
         let Some(way) = find_line(&self.rows, row, self.ways as usize, block) else {

@@ -3,7 +3,8 @@
 ghost use Rattle.std.specs.Prelude.{◌≡◌, true, false, Option, Some, None, option_map, IfOk, IfErr, OnErr};
 ghost use Rattle.lf_rules.specs.Address.{set1_of};
 ghost use Rattle.lf_rules.specs.Lines.{line_at, has_line, dirty_mask};
-ghost use Rattle.lf_levels.specs.LineTable.{IsLineTable, is_line1, ChangesOnly, is_full, after_fill, after_evict, joined1};
+ghost use Rattle.lf_levels.specs.LineTable.{IsLineTable, is_line1, ChangesOnly, is_full, after_fill, after_evict};
+ghost use Rattle.lf_levels.specs.LineTable.{joined1};
 ghost use Rattle.lf_levels.specs.Refusals.{FillRefusal, EvictRefusal};
 
 use crate::fault::LineFault;

@@ -1,9 +1,11 @@
 //! The lines of level two, each with a mask for every first-level block of its block.
 
-ghost use Rattle.std.specs.Prelude.{◌≡◌, ◌<◌, ◌/◌, ◌&&◌, true, false, not, length, Option, Some, None, option_copied, IfOk, IfErr, OnErr};
+ghost use Rattle.std.specs.Prelude.{◌≡◌, ◌<◌, ◌/◌, ◌&&◌, true, false, not, length, Option, Some, None, option_copied};
+ghost use Rattle.std.specs.Prelude.{IfOk, IfErr, OnErr};
 ghost use Rattle.lf_rules.specs.Fits.{is_factor};
 ghost use Rattle.lf_rules.specs.Lines.{line_at, has_line, dirty_masks, same_masks};
-ghost use Rattle.lf_levels.specs.LineTable.{IsLineTable, is_line2, ChangesOnly, is_full, wide_set, after_fill, after_evict, joined, joined2, are_absent};
+ghost use Rattle.lf_levels.specs.LineTable.{IsLineTable, is_line2, ChangesOnly, is_full, wide_set, after_fill};
+ghost use Rattle.lf_levels.specs.LineTable.{after_evict, joined, joined2, are_absent};
 ghost use Rattle.lf_levels.specs.Refusals.{FillRefusal, WideEvictRefusal};
 
 use crate::fault::LineFault;
@@ -62,7 +64,8 @@ impl Lines<Two> {
     pub fn evict(&mut self, second: u32, masks: &Masks) -> Result<(), LineFault>
         requires { length masks.now.items ≡ self.old.factor }
         ensures there { IfOk result (λ _. has_line self.old.lines second ≡ true) }
-        ensures same_mask { IfOk result (λ _. same_masks self.old.factor masks.now (dirty_masks self.old.lines second) ≡ true) }
+        ensures same_mask { IfOk result (λ _. same_masks self.old.factor masks.now (dirty_masks self.old.lines second)
+            ≡ true) }
         ensures evicted { IfOk result (λ _. self.new ≡ after_evict self.old second) }
         ensures here { IfOk result (λ _. ChangesOnly self.old self.new second None) }
         ensures refused { IfErr result (λ fault. WideEvictRefusal self.old second masks.now fault) }

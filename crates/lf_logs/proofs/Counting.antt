@@ -1,12 +1,15 @@
 -- The pigeonhole principle over the numbers of a bank: among n numbers, one below n is missing or double,
 -- or each below n occurs once and there are no others.
-use Rattle.std.proofs.Common.{◌≡◌, ℕ, ◌+◌, ◌<◌, ◌≤◌, zero, suc, Bool, true, false, cond, eqb, ltb, List, [], ◌∷◌, length, refl, sym, ap, ◌∙◌, ⊎_elim, arith, add-one}
+use Rattle.std.proofs.Common.{◌≡◌, ℕ, ◌+◌, ◌<◌, ◌≤◌, zero, suc, Bool, true, false, cond, eqb, ltb, List, [], ◌∷◌}
+use Rattle.std.proofs.Common.{length, refl, sym, ap, ◌∙◌, ⊎_elim, arith, add-one}
 use Rattle.std.specs.List.{filter, sum_by, count_by}
 use Rattle.std.proofs.lemmas.List.Sums.{sum_by-cons, count_by-le-length}
-use Rattle.std.proofs.lemmas.Bool.{cases_order, cases_Bool, lt-ltb, le-ltb, ltb-false, eq-eqb, ne_eqb, cond-true, cond-false}
+use Rattle.std.proofs.lemmas.Bool.{cases_order, cases_Bool, lt-ltb, le-ltb, ltb-false, eq-eqb, ne_eqb, cond-true}
+use Rattle.std.proofs.lemmas.Bool.{cond-false}
 use Rattle.lf_rules.specs.Numbers.{times, IsMissing, IsFineBelow}
 
-sum_by-plus : {X : Type 0} (f g h : X → ℕ) → ((x : X) → f x ≡ g x + h x) → (xs : List X) → sum_by f xs ≡ sum_by g xs + sum_by h xs
+sum_by-plus : {X : Type 0} (f g h : X → ℕ) → ((x : X) → f x ≡ g x + h x) → (xs : List X) →
+    sum_by f xs ≡ sum_by g xs + sum_by h xs
 sum_by-plus f g h each [] = refl
 sum_by-plus f g h each (x ∷ xs) =
     let all = sum_by-plus f g h each xs in
@@ -22,7 +25,8 @@ one_if b e = cond-true {A = ℕ} b 1 0 e
 pub none_if : (b : Bool) → b ≡ false → counts b ≡ 0
 none_if b e = cond-false {A = ℕ} b 1 0 e
 
-pub count_by-cons : {X : Type 0} (p : X → Bool) (x : X) (xs : List X) → count_by p (x ∷ xs) ≡ counts (p x) + count_by p xs
+pub count_by-cons : {X : Type 0} (p : X → Bool) (x : X) (xs : List X) →
+    count_by p (x ∷ xs) ≡ counts (p x) + count_by p xs
 count_by-cons p x xs = sum_by-cons (λ x. cond (p x) 1 0) x xs
 
 pub times-cons : (k n : ℕ) (ns : List ℕ) → times k (n ∷ ns) ≡ cond (eqb n k) 1 0 + times k ns
@@ -38,20 +42,29 @@ below-suc n m = ⊎_elim
     s)
     (cases_order m n)
 
-pub count_by-below-suc : (n : ℕ) (ns : List ℕ) → count_by (λ m. ltb m (n + 1)) ns ≡ count_by (λ m. ltb m n) ns + times n ns
-count_by-below-suc n ns = sum_by-plus (λ m. cond (ltb m (n + 1)) 1 0) (λ m. cond (ltb m n) 1 0) (λ m. cond (eqb m n) 1 0) (below-suc n) ns
+pub count_by-below-suc : (n : ℕ) (ns : List ℕ) → count_by (λ m. ltb m (n + 1)) ns ≡ count_by (λ m. ltb m n) ns
+    + times n ns
+count_by-below-suc n ns = sum_by-plus (λ m. cond (ltb m (n + 1)) 1 0) (λ m. cond (ltb m n) 1 0)
+    (λ m. cond (eqb m n) 1 0) (below-suc n) ns
 
 count_by-below-zero : (ns : List ℕ) → count_by (λ m. ltb m 0) ns ≡ 0
 count_by-below-zero [] = refl
 count_by-below-zero (n ∷ ns) =
-    omega (arith, count_by-cons (λ m. ltb m 0) n ns, count_by-below-zero ns, none_if (ltb n 0) (le-ltb n 0 (omega arith)))
+    omega (
+      arith,
+      count_by-cons (λ m. ltb m 0) n ns,
+      count_by-below-zero ns,
+      none_if (ltb n 0)
+          (le-ltb n 0 (omega arith)),
+    )
 
 -- where each number below n occurs once, there are n of them
 pub once_below : (n : ℕ) (ns : List ℕ) → ((k : ℕ) → k < n → times k ns ≡ 1) → count_by (λ m. ltb m n) ns ≡ n
 once_below zero ns once = count_by-below-zero ns
 once_below (suc n) ns once =
     let before = once_below n ns (λ k h. once k (omega arith)) in
-    let same : count_by (λ m. ltb m (suc n)) ns ≡ count_by (λ m. ltb m (n + 1)) ns = ap (λ l. count_by (λ m. ltb m l) ns) (sym (add-one n)) in
+    let same : count_by (λ m. ltb m (suc n)) ns ≡ count_by (λ m. ltb m (n + 1)) ns =
+    ap (λ l. count_by (λ m. ltb m l) ns) (sym (add-one n)) in
     omega (arith, count_by-below-suc n ns, once n (omega arith))
 
 -- where not all pass, some number of the list fails
@@ -82,9 +95,18 @@ pub fine_below : (ns : List ℕ) (k : ℕ) → ((j : ℕ) → j < k → times j 
 fine_below ns k once j h = (λ missing. omega (arith, once j h, missing.0), λ double. omega (arith, once j h, double))
 
 -- the first number below the count that does not occur is missing below a greater one
-pub missing_at : (ns : List ℕ) (k : ℕ) → k < length ns → ((j : ℕ) → j < k → times j ns ≡ 1) → times k ns ≡ 0 → IsMissing ns k
+pub missing_at : (ns : List ℕ) (k : ℕ) → k < length ns → ((j : ℕ) → j < k → times j ns ≡ 1) → times k ns ≡ 0 →
+    IsMissing ns k
 missing_at ns k inside once absent =
     let found = some_fails (λ m. ltb m k) ns (omega (arith, once_below k ns once)) in
     let from : k ≤ found.0 = ltb-false found.0 k found.1 in
-    let other : found.0 ≡ k → ⊥ = λ e. let same : times found.0 ns ≡ times k ns = ap (λ m. times m ns) e in omega (arith, found.2) in
-    (absent, (found.0, ⊎_elim (λ (e : k ≡ found.0). absurd (other (sym e))) (λ s. ⊎_elim (λ (l : k < found.0). l) (λ (g : found.0 < k). absurd (omega arith)) s) (cases_order k found.0), found.2))
+    let other : found.0 ≡ k → ⊥ = λ e. let same : times found.0 ns ≡ times k ns = ap (λ m. times m ns) e in
+    omega (arith, found.2) in (
+      absent,
+      (
+        found.0,
+        ⊎_elim (λ (e : k ≡ found.0). absurd (other (sym e)))
+            (λ s. ⊎_elim (λ (l : k < found.0). l) (λ (g : found.0 < k). absurd (omega arith)) s) (cases_order k found.0),
+        found.2,
+      ),
+    )

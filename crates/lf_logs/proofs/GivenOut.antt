@@ -1,5 +1,6 @@
 -- What a bank's records are that were given out in the order of their numbers.
-use Rattle.std.proofs.Common.{◌≡◌, ℕ, ◌+◌, ◌<◌, ◌≤◌, zero, suc, false, eqb, ltb, List, [], ◌∷◌, ◌++◌, length, Some, None, is_some, refl, sym, ap, ◌∙◌, subst, inl, inr, ⊎_elim, arith, option_to_list}
+use Rattle.std.proofs.Common.{◌≡◌, ℕ, ◌+◌, ◌<◌, ◌≤◌, zero, suc, false, eqb, ltb, List, [], ◌∷◌, ◌++◌, length, Some}
+use Rattle.std.proofs.Common.{None, is_some, refl, sym, ap, ◌∙◌, subst, inl, inr, ⊎_elim, arith, option_to_list}
 use Rattle.std.specs.List.{AllByRecursion, slice_get, flat_map, range_with_len}
 use Rattle.std.specs.List.Sorted.{IsPermutation}
 use Rattle.std.proofs.lemmas.Bool.{cases_eq, eq-eqb}
@@ -12,7 +13,8 @@ use Rattle.lf_logs.specs.Reordering.{Reordering, first_with, HasOrdered}
 use Rattle.lf_logs.proofs.Counting.{once_below, count_by-below-suc}
 use Rattle.lf_logs.proofs.Members.{IsIn, IsIn-filter, only_one}
 use Rattle.lf_logs.proofs.Ordered.{with_number, by_number, times_is, whole_by_number}
-use Rattle.lf_logs.proofs.Reordered.{below_or, none_or_some, first_with-here, first_with-there, first_with-number, times-none, times-is_some, given-there}
+use Rattle.lf_logs.proofs.Reordered.{below_or, none_or_some, first_with-here, first_with-there, first_with-number}
+use Rattle.lf_logs.proofs.Reordered.{times-none, times-is_some, given-there}
 
 -- the first record with a number is one of the records
 pub first_with-in : (k : ℕ) (rs : List Record) (r : Record) → first_with k rs ≡ Some r → IsIn r rs
@@ -28,27 +30,34 @@ all_in : (P : Record → Type 0) (rs : List Record) (r : Record) → AllByRecurs
 all_in P [] r all there = absurd there
 all_in P (x ∷ rs) r all there = ⊎_elim (λ (e : x ≡ r). subst P e all.0) (λ rest. all_in P rs r all.1 rest) there
 
-pub first_with-all : (P : Record → Type 0) (k : ℕ) (rs : List Record) (r : Record) → AllByRecursion P rs → first_with k rs ≡ Some r → P r
+pub first_with-all : (P : Record → Type 0) (k : ℕ) (rs : List Record) (r : Record) → AllByRecursion P rs →
+    first_with k rs ≡ Some r → P r
 first_with-all P k rs r all e = all_in P rs r all (first_with-in k rs r e)
 
 -- where a number occurs once, its records are that one
-pub first_with-only : (k : ℕ) (rs : List Record) (r : Record) → first_with k rs ≡ Some r → times k (numbers_of rs) ≡ 1 → with_number k rs ≡ r ∷ []
+pub first_with-only : (k : ℕ) (rs : List Record) (r : Record) → first_with k rs ≡ Some r →
+    times k (numbers_of rs) ≡ 1 → with_number k rs ≡ r ∷ []
 first_with-only k rs r e once =
     only_one r (with_number k rs) (sym (times_is k rs) ∙ once)
     (IsIn-filter (λ r. eqb r.number k) r rs (first_with-in k rs r e) (eq-eqb r.number k (first_with-number k rs r e)))
 
-one_by_one : (g : ℕ → List Record) (a : ℕ) (xs : List Record) → ((k : ℕ) → k < length xs → option_to_list (slice_get xs k) ≡ g (a + k)) → xs ≡ flat_map g (range_with_len a (length xs))
+one_by_one : (g : ℕ → List Record) (a : ℕ) (xs : List Record) →
+    ((k : ℕ) → k < length xs → option_to_list (slice_get xs k) ≡ g (a + k)) →
+    xs ≡ flat_map g (range_with_len a (length xs))
 one_by_one g a [] each = refl
 one_by_one g a (x ∷ xs) each =
     let at : a + 0 ≡ a = omega arith in
     ap (λ ys. ys ++ xs) (each 0 (omega arith) ∙ ap g at)
-    ∙ ap (λ ys. g a ++ ys) (one_by_one g (a + 1) xs (λ k h. let same : a + suc k ≡ a + 1 + k = omega arith in each (suc k) (omega arith) ∙ ap g same))
+    ∙ ap (λ ys. g a ++ ys) (one_by_one g (a + 1) xs (λ k h. let same : a + suc k ≡ a + 1 + k = omega arith in
+    each (suc k) (omega arith) ∙ ap g same))
 
-in_order : (a : ℕ) (xs : List Record) → ((k : ℕ) (r : Record) → slice_get xs k ≡ Some r → r.number ≡ a + k) → numbers_of xs ≡ range_with_len a (length xs)
+in_order : (a : ℕ) (xs : List Record) → ((k : ℕ) (r : Record) → slice_get xs k ≡ Some r → r.number ≡ a + k) →
+    numbers_of xs ≡ range_with_len a (length xs)
 in_order a [] each = refl
 in_order a (x ∷ xs) each =
     let at : a + 0 ≡ a = omega arith in
-    let rest = in_order (a + 1) xs (λ k r e. let same : a + suc k ≡ a + 1 + k = omega arith in each (suc k) r e ∙ same) in
+    let rest = in_order (a + 1) xs (λ k r e. let same : a + suc k ≡ a + 1 + k = omega arith in
+    each (suc k) r e ∙ same) in
     ap (λ n. n ∷ numbers_of xs) (each 0 x refl ∙ at) ∙ ap (λ ns. a ∷ ns) rest
 
 get-below : {X : Type 0} (xs : List X) (k : ℕ) (x : X) → slice_get xs k ≡ Some x → k < length xs
@@ -59,7 +68,8 @@ get-below (y ∷ xs) (suc k) x e = omega (arith, get-below xs k x e)
 module _ (o : Reordering) (put gave : List Record) (has : HasOrdered o put gave) where
   first_given : (k : ℕ) → k < length gave → (r : Record) × (first_with k put ≡ Some r)
   first_given k h = ⊎_elim
-      (λ (none : first_with k put ≡ None). let no : is_some (first_with k put) ≡ false = ap is_some none in let yes = given-there o put gave has k h in absurd (cc))
+      (λ (none : first_with k put ≡ None). let no : is_some (first_with k put) ≡ false = ap is_some none in let yes =
+      given-there o put gave has k h in absurd (cc))
       (λ (some : (r : Record) × (first_with k put ≡ Some r)). some)
       (none_or_some (first_with k put))
 
@@ -81,7 +91,12 @@ module _ (o : Reordering) (put gave : List Record) (has : HasOrdered o put gave)
   given_whole whole drained =
       let long = length-map put (λ (r : Record). r.number) in
       let many : length put ≤ length gave = ⊎_elim
-      (λ (h : length gave < length put). absurd (omega (arith, whole (length gave) (omega arith), times-none (length gave) put drained)))
+      (λ (h : length gave < length put). absurd (omega (
+        arith,
+        whole (length gave) (omega arith),
+        times-none
+            (length gave) put drained,
+      )))
       (λ (h : length put ≤ length gave). h)
       (below_or (length gave) (length put)) in
       let few : length gave ≤ length put = ⊎_elim
@@ -101,6 +116,8 @@ module _ (o : Reordering) (put gave : List Record) (has : HasOrdered o put gave)
       one_by_one (λ k. with_number k put) 0 gave (λ k h.
       let first = first_given k h in
       let at : 0 + k ≡ k = omega arith in
-      ap option_to_list (has.given k h ∙ first.1) ∙ sym (first_with-only k put first.0 first.1 (whole k (omega arith))) ∙ ap (λ n. with_number n put) (sym at))
+      ap option_to_list (has.given k h ∙ first.1) ∙ sym (first_with-only k put first.0 first.1
+      (whole k (omega arith))) ∙ ap (λ n. with_number n put) (sym at))
       ∙ ap (λ n. by_number n put) same in
-      subst (λ xs. IsPermutation xs put) (sym is) (IsPermutation-sym put (by_number (length put) put) (whole_by_number put (λ k h. whole k (omega arith))))
+      subst (λ xs. IsPermutation xs put) (sym is) (IsPermutation-sym put (by_number (length put) put)
+      (whole_by_number put (λ k h. whole k (omega arith))))

@@ -1,5 +1,6 @@
 -- The records of the first logs, and how many they are.
-use Rattle.std.proofs.Common.{◌≡◌, ℕ, ◌+◌, ◌*◌, ◌<◌, ◌≤◌, ◌^◌, zero, suc, List, [], ◌∷◌, ◌++◌, map, length, get_or, take, sym, ap, ◌∙◌, arith, add-one}
+use Rattle.std.proofs.Common.{◌≡◌, ℕ, ◌+◌, ◌*◌, ◌<◌, ◌≤◌, ◌^◌, zero, suc, List, [], ◌∷◌, ◌++◌, map, length, get_or}
+use Rattle.std.proofs.Common.{take, sym, ap, ◌∙◌, arith, add-one}
 use Rattle.std.specs.List.{All}
 use Rattle.std.specs.Global.{Vec}
 use Rattle.std.proofs.lemmas.List.{append-nil, length-append, map_more, take_all}
@@ -14,27 +15,33 @@ use Rattle.lf_rules.specs.Numbers.{all_records}
 abbrev pub of_first : ℕ → List (Vec Record) → List Record
 of_first n logs = all_records (map (λ v. v.items) (take n logs))
 
-pub of_first-step : (logs : List (Vec Record)) (i : ℕ) (d : Vec Record) → i < length logs → of_first (i + 1) logs ≡ of_first i logs ++ (get_or logs i d).items
+pub of_first-step : (logs : List (Vec Record)) (i : ℕ) (d : Vec Record) → i < length logs →
+    of_first (i + 1) logs ≡ of_first i logs ++ (get_or logs i d).items
 of_first-step logs i d inside =
     ap all_records (map_more (λ (v : Vec Record). v.items) logs i d inside)
     ∙ flat_map-append (λ rs. rs) (map (λ (v : Vec Record). v.items) (take i logs)) ((get_or logs i d).items ∷ [])
     ∙ ap (λ rs. of_first i logs ++ rs) (append-nil (get_or logs i d).items)
 
-pub of_first-more : (logs : List (Vec Record)) (i : ℕ) (log : Vec Record) → i < length logs → log ≡ get_or logs i log → of_first (i + 1) logs ≡ of_first i logs ++ log.items
+pub of_first-more : (logs : List (Vec Record)) (i : ℕ) (log : Vec Record) → i < length logs →
+    log ≡ get_or logs i log → of_first (i + 1) logs ≡ of_first i logs ++ log.items
 of_first-more logs i log inside read =
     of_first-step logs i log inside ∙ ap (λ (v : Vec Record). of_first i logs ++ v.items) (sym read)
 
-pub of_first-all : (logs : List (Vec Record)) (i : ℕ) → length logs ≤ i → of_first i logs ≡ all_records (map (λ v. v.items) logs)
+pub of_first-all : (logs : List (Vec Record)) (i : ℕ) → length logs ≤ i →
+    of_first i logs ≡ all_records (map (λ v. v.items) logs)
 of_first-all logs i all = ap (λ vs. all_records (map (λ (v : Vec Record). v.items) vs)) (take_all i logs all)
 
-pub of_bank-append : (bank : ℕ) (xs ys : List Record) → length (of_bank bank (xs ++ ys)) ≡ length (of_bank bank xs) + length (of_bank bank ys)
-of_bank-append bank xs ys = ap length (filter-append (names bank) xs ys) ∙ length-append (of_bank bank xs) (of_bank bank ys)
+pub of_bank-append : (bank : ℕ) (xs ys : List Record) → length (of_bank bank (xs ++ ys)) ≡ length (of_bank bank xs)
+    + length (of_bank bank ys)
+of_bank-append bank xs ys = ap length (filter-append (names bank) xs ys)
+    ∙ length-append (of_bank bank xs) (of_bank bank ys)
 
 pub of_bank-le : (bank : ℕ) (rs : List Record) → length (of_bank bank rs) ≤ length rs
 of_bank-le bank rs = omega (arith, length-filter (names bank) rs, count_by-le-length (names bank) rs)
 
 -- logs of a bounded length have a bounded number of records of a bank
-pub of_first-le : (bank : ℕ) (logs : List (Vec Record)) → All (λ log. length log.items ≤ 2 ^ 24) logs → (i : ℕ) → i ≤ length logs →
+pub of_first-le : (bank : ℕ) (logs : List (Vec Record)) → All (λ log. length log.items ≤ 2 ^ 24) logs → (i : ℕ) →
+    i ≤ length logs →
     length (of_bank bank (of_first i logs)) ≤ i * 2 ^ 24
 of_first-le bank logs short zero within = omega arith
 of_first-le bank [] short (suc i) within = absurd (omega arith)
@@ -47,7 +54,8 @@ of_first-le bank (log ∷ logs) short (suc i) within =
     let short_one = short i log (omega arith) in
     omega (arith, before, sum, few, short_one)
 
-pub all_records-le : (bank : ℕ) (logs : List (Vec Record)) → All (λ log. length log.items ≤ 2 ^ 24) logs → length logs ≤ 32 →
+pub all_records-le : (bank : ℕ) (logs : List (Vec Record)) → All (λ log. length log.items ≤ 2 ^ 24) logs →
+    length logs ≤ 32 →
     length (of_bank bank (all_records (map (λ v. v.items) logs))) ≤ 2 ^ 29
 all_records-le bank logs short few =
     let all = ap (λ rs. length (of_bank bank rs)) (of_first-all logs (length logs) (omega arith)) in

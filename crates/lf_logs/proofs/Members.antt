@@ -1,5 +1,6 @@
 -- What stands in a list, and stays through filters and joined lists.
-use Rattle.std.proofs.Common.{◌≡◌, ℕ, zero, suc, Bool, true, false, List, [], ◌∷◌, ◌++◌, length, get_or, Some, sym, ap, ◌∙◌, subst, ◌⊎◌, inl, inr, ⊎_elim, arith}
+use Rattle.std.proofs.Common.{◌≡◌, ℕ, zero, suc, Bool, true, false, List, [], ◌∷◌, ◌++◌, length, get_or, Some, sym}
+use Rattle.std.proofs.Common.{ap, ◌∙◌, subst, ◌⊎◌, inl, inr, ⊎_elim, arith}
 use Rattle.std.specs.List.{filter, flat_map, slice_get}
 use Rattle.std.proofs.lemmas.Bool.{cases_Bool, cond-true, cond-false}
 
@@ -21,7 +22,8 @@ IsIn-right x [] ys h = h
 IsIn-right x (z ∷ zs) ys h = inr (IsIn-right x zs ys h)
 
 -- what stands in one list stands in all of them joined
-pub IsIn-joined : {X : Type 0} (x : X) (xss : List (List X)) (i : ℕ) → IsIn x (get_or xss i []) → IsIn x (flat_map (λ xs. xs) xss)
+pub IsIn-joined : {X : Type 0} (x : X) (xss : List (List X)) (i : ℕ) → IsIn x (get_or xss i []) →
+    IsIn x (flat_map (λ xs. xs) xss)
 IsIn-joined x [] i h = absurd h
 IsIn-joined x (xs ∷ xss) zero h = IsIn-left x xs (flat_map (λ xs. xs) xss) h
 IsIn-joined x (xs ∷ xss) (suc i) h = IsIn-right x xs (flat_map (λ xs. xs) xss) (IsIn-joined x xss i h)

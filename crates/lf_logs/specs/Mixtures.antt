@@ -11,4 +11,5 @@ LogAfterLogIsAMixture = (logs : List (List Record)) → NameTheirLogs logs → I
 
 -- Each such mixture has the logs again.
 abbrev pub MixturesHaveTheirLogs : Type 0
-MixturesHaveTheirLogs = (logs : List (List Record)) (rs : List Record) → Interleaves logs rs → logs_of (length logs) rs ≡ logs
+MixturesHaveTheirLogs = (logs : List (List Record)) (rs : List Record) → Interleaves logs rs →
+    logs_of (length logs) rs ≡ logs

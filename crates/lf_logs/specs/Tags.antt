@@ -28,8 +28,10 @@ port_after shape now (r ∷ rs) = port_after shape (port_effect now r) rs
 pub record PortStandsAfter (step : PortView) (shape : Shape) (rs : List Record) : Type 0 where
   pub of_shape : step.shape ≡ shape
   pub is_run : (memory : FlatMemory) → IsRunOf OfPort shape (first_local memory) rs
-  pub state : (memory : FlatMemory) → port_after shape (first_local memory) rs ≡ with_tags (first_local memory) step.owed_by
+  pub state : (memory : FlatMemory) → port_after shape (first_local memory) rs
+      ≡ with_tags (first_local memory) step.owed_by
 
 -- After these records the next breaks the rule first.
 abbrev pub IsPortFaultAfter : Shape → List Record → Record → Rule → Type 0
-IsPortFaultAfter shape rs r rule = (memory : FlatMemory) → BreaksAt OfPort shape (first_local memory) (rs ++ r ∷ []) (length rs) rule
+IsPortFaultAfter shape rs r rule = (memory : FlatMemory) → BreaksAt OfPort shape (first_local memory) (rs ++ r ∷ [])
+    (length rs) rule

@@ -50,8 +50,10 @@ impl Model for Early {
 fn key_of(places: &[Option<u32>], kept: &Slab<Kept>, number: u32) -> Option<usize>
     requires { IsTable places.now kept.now.slots }
     ensures some { IfSome result (λ key. slice_index_or places.now (number % length places.now) None ≡ Some key) }
-    ensures number { IfSome result (λ key. (r : Record) × ((slice_index_or kept.now.slots key None ≡ Some r) × (r.number ≡ number))) }
-    ensures none { IfNone result ((key : ℕ) (r : Record) → slice_index_or kept.now.slots key None ≡ Some r → ¬ (r.number ≡ number)) }
+    ensures number { IfSome result (λ key. (r : Record) × ((slice_index_or kept.now.slots key None ≡ Some r) ×
+        (r.number ≡ number))) }
+    ensures none { IfNone result ((key : ℕ) (r : Record) → slice_index_or kept.now.slots key None ≡ Some r →
+        ¬ (r.number ≡ number)) }
 {
     if places.is_empty() {
         return None;
@@ -141,7 +143,8 @@ impl Early {
         requires { lookup (is_at (nat_cmp item.now.number)) self.old ≡ None }
         ensures unchanged { OnErr result (self.new ≡ self.old) }
         ensures own { OnOk result (lookup (is_at (nat_cmp item.now.number)) self.new ≡ Some item.now) }
-        ensures others { OnOk result ((k : ℕ) → ¬ (k ≡ item.now.number) → lookup (is_at (nat_cmp k)) self.new ≡ lookup (is_at (nat_cmp k)) self.old) }
+        ensures others { OnOk result ((k : ℕ) → ¬ (k ≡ item.now.number) →
+            lookup (is_at (nat_cmp k)) self.new ≡ lookup (is_at (nat_cmp k)) self.old) }
     {
         let number = item.number;
         make_room(self.alloc, &mut self.places, &self.kept, number)?;
@@ -160,7 +163,8 @@ impl Early {
     pub fn take_into(&mut self, number: u32, item: &mut Record) -> bool
         ensures value { if_given result item.new ≡ lookup (is_at (nat_cmp number)) self.old }
         ensures unchanged { ¬ IsTrue result → (self.new ≡ self.old) × (item.new ≡ item.old) }
-        ensures others { (k : ℕ) → ¬ (k ≡ number) → lookup (is_at (nat_cmp k)) self.new ≡ lookup (is_at (nat_cmp k)) self.old }
+        ensures others { (k : ℕ) → ¬ (k ≡ number) → lookup (is_at (nat_cmp k)) self.new
+            ≡ lookup (is_at (nat_cmp k)) self.old }
         ensures fewer { IsTrue result → length self.new < length self.old }
     {
         let Some(key) = key_of(&self.places, &self.kept, number) else {

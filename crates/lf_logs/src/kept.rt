@@ -88,7 +88,7 @@ fn put_issue(event: &mut Event, op: Op, tag: u8, size: u8, address: u64, few: &F
     }
 }
 
-/// The same of a reply.
+/// Writes a reply.
 fn put_reply(event: &mut Event, tag: u8, size: u8, few: &FewBytes)
     ensures { event.new ≡ events.Reply tag size few.now }
 {

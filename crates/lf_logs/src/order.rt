@@ -1,6 +1,7 @@
 //! The order of a bank's records, by their numbers.
 
-ghost use Rattle.std.specs.Prelude.{◌≡◌, ◌<◌, ◌≤◌, ◌^◌, length, List, map, ◌++◌, [], IfOk, IfErr, OnOk, IsSome, Some, slice_index_or};
+ghost use Rattle.std.specs.Prelude.{◌≡◌, ◌<◌, ◌≤◌, ◌^◌, length, List, map, ◌++◌, [], IfOk, IfErr, OnOk, IsSome, Some};
+ghost use Rattle.std.specs.Prelude.{slice_index_or};
 ghost use Rattle.std.specs.List.{All};
 ghost use Rattle.lf_rules.specs.declared.event.Record.{Record};
 ghost use Rattle.lf_rules.specs.Run.{of_bank};
@@ -87,8 +88,10 @@ fn count_log(tallies: &mut [Tally], bank: u8, log: u8, records: &[Record])
 fn tallies_of(alloc: Global, logs: &Logs, bank: u8) -> Result<Vec<Tally>, NoMemory>
     requires few { length logs.now.items ≤ 32 }
     requires short { All (λ log. length log.items ≤ 2 ^ 24) logs.now.items }
-    ensures len { IfOk result (λ tallies. length tallies.items ≡ length (of_bank bank (all_records (lists_of logs.now)))) }
-    ensures counted { IfOk result (λ tallies. AreTallies (lists_of logs.now) bank (all_records (lists_of logs.now)) tallies.items) }
+    ensures len { IfOk result (λ tallies. length tallies.items
+        ≡ length (of_bank bank (all_records (lists_of logs.now)))) }
+    ensures counted { IfOk result (λ tallies. AreTallies (lists_of logs.now) bank (all_records (lists_of logs.now))
+        tallies.items) }
 {
     let nowhere = Place { log: 0, at: 0 };
     let none = Tally {

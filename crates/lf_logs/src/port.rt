@@ -43,7 +43,8 @@ impl BusyTags {
 
     /// The first rule of the port that the record breaks.
     pub(crate) fn failing(&self, shape: &Shape, item: &Record) -> Option<Rule>
-        ensures { (now : Local) → result ≡ first_failing OfPort (clauses shape.now (with_tags now self.now.owed_by) item.now) }
+        ensures { (now : Local) → result ≡ first_failing OfPort
+            (clauses shape.now (with_tags now self.now.owed_by) item.now) }
     {
         match &item.event {
             Event::Issue { tag, .. } => {
@@ -77,7 +78,8 @@ impl BusyTags {
 
     /// An issue makes its tag busy, a reply frees it.
     pub(crate) fn update(&mut self, shape: &Shape, item: &Record)
-        ensures { (now : Local) → effect OfPort shape.now (with_tags now self.old.owed_by) item.now ≡ with_tags now self.new.owed_by }
+        ensures { (now : Local) → effect OfPort shape.now (with_tags now self.old.owed_by) item.now
+            ≡ with_tags now self.new.owed_by }
     {
         match &item.event {
             Event::Issue { tag, .. } => self.owed_by[usize::from(*tag)] = Some(item.bank),

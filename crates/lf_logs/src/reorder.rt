@@ -5,7 +5,8 @@ ghost use Rattle.std.specs.Prelude.{option_to_list, is_some, IsSome, None, Some,
 ghost use Rattle.lf_rules.specs.declared.event.Record.{Record};
 ghost use Rattle.lf_rules.specs.Numbers.{numbers_of, times, IsMissing, IsWhole};
 ghost use Rattle.lf_logs.specs.Places.{IsNumberFault};
-ghost use Rattle.lf_logs.specs.Reordering.{first_with, early_at, if_given, waiting_at, waiting_count, has_come, least_double, IsLeastDouble, HasOrdered};
+ghost use Rattle.lf_logs.specs.Reordering.{first_with, early_at, if_given, waiting_at, waiting_count, has_come};
+ghost use Rattle.lf_logs.specs.Reordering.{least_double, IsLeastDouble, HasOrdered};
 
 use crate::early::Early;
 use crate::order::NumberFault;
@@ -119,10 +120,12 @@ impl Reorder {
     /// kept of it. It takes no memory.
     pub fn pass(&mut self, item: &Record) -> bool
         ensures bank { self.new.bank ≡ self.old.bank }
-        ensures passed { IsTrue result → (put : List Record) (gave : List Record) → HasOrdered self.old put gave → first_with (length gave) put ≡ None
+        ensures passed { IsTrue result → (put : List Record) (gave : List Record) → HasOrdered self.old put gave →
+            first_with (length gave) put ≡ None
             → (item.now.number ≡ length gave) × HasOrdered self.new (put ++ item.now ∷ []) (gave ++ item.now ∷ []) }
         ensures unchanged { ¬ IsTrue result → self.new ≡ self.old }
-        ensures early { ¬ IsTrue result → (put : List Record) (gave : List Record) → HasOrdered self.old put gave → first_with (length gave) put ≡ None
+        ensures early { ¬ IsTrue result → (put : List Record) (gave : List Record) → HasOrdered self.old put gave →
+            first_with (length gave) put ≡ None
             → ¬ (item.now.number ≡ length gave) }
     {
         if u64::from(item.number) != self.next || self.ready.is_some() {
@@ -144,7 +147,7 @@ impl Reorder {
         self.put_lent(&item)
     }
 
-    /// The same of a record that stays with the caller: it is copied.
+    /// Puts a copy of a record in, which stays with the caller.
     pub fn put_lent(&mut self, item: &Record) -> Result<(), NoMemory>
         requires { item.now.bank ≡ self.old.bank }
         ensures bank { self.new.bank ≡ self.old.bank }
@@ -214,8 +217,8 @@ impl Reorder {
         }
     }
 
-    /// The same, where the record is put into `item`, so that it need not be moved. It says whether it is
-    /// there; otherwise nothing has changed.
+    /// Writes the next record into `item`, so that it need not be moved, and says whether there is one. Where
+    /// there is none nothing has changed.
     pub fn next_into(&mut self, item: &mut Record) -> bool
         ensures bank { self.new.bank ≡ self.old.bank }
         ensures gives { (put : List Record) (gave : List Record) → HasOrdered self.old put gave
@@ -259,7 +262,8 @@ impl Reorder {
     /// The least number that came more than once, of the records put in so far, whatever is missing below it. It
     /// takes no memory.
     pub fn double(&self) -> Option<u32>
-        ensures { (put : List Record) (gave : List Record) → HasOrdered self.now put gave → IsLeastDouble (numbers_of put) result }
+        ensures { (put : List Record) (gave : List Record) → HasOrdered self.now put gave →
+            IsLeastDouble (numbers_of put) result }
     {
         self.double
     }

@@ -26,7 +26,8 @@ abbrev pub TakesTo : List (List Record) → List ℕ → List Record → List (L
 TakesTo logs [] [] left = left ≡ logs
 TakesTo logs [] (r ∷ rs) left = ⊥
 TakesTo logs (log ∷ order) [] left = ⊥
-TakesTo logs (log ∷ order) (r ∷ rs) left = (log_at logs log ≡ r ∷ drop 1 (log_at logs log)) × TakesTo (after_next logs log) order rs left
+TakesTo logs (log ∷ order) (r ∷ rs) left = (log_at logs log ≡ r ∷ drop 1 (log_at logs log)) ×
+    TakesTo (after_next logs log) order rs left
 
 -- Before this place all is well: the order takes these records, they keep the numbers and are a run.
 pub record IsRunUpTo (shape : Shape) (memory : FlatMemory) (logs : List (List Record)) (order : List ℕ) (place : ℕ)
@@ -38,10 +39,12 @@ pub record IsRunUpTo (shape : Shape) (memory : FlatMemory) (logs : List (List Re
 
 -- the next record of the log, which carries its bank's next number, where it names a bank
 abbrev pub IsNext : List (List Record) → ℕ → List Record → Record → Type 0
-IsNext left log records r = (log_at left log ≡ r ∷ drop 1 (log_at left log)) × (r.bank < no_bank → r.number ≡ length (of_bank r.bank records))
+IsNext left log records r = (log_at left log ≡ r ∷ drop 1 (log_at left log)) ×
+    (r.bank < no_bank → r.number ≡ length (of_bank r.bank records))
 
 -- At the place the order ends and records are left, or the log that it names has no such record.
-pub record StopsAt (shape : Shape) (memory : FlatMemory) (logs : List (List Record)) (order : List ℕ) (place : ℕ) : Type 0 where
+pub record StopsAt (shape : Shape) (memory : FlatMemory) (logs : List (List Record)) (order : List ℕ) (place : ℕ) :
+    Type 0 where
   pub records : List Record
   pub left : List (List Record)
   pub so_far : IsRunUpTo shape memory logs order place records left
@@ -50,14 +53,16 @@ pub record StopsAt (shape : Shape) (memory : FlatMemory) (logs : List (List Reco
       ⊎ ((place < length order) × ((r : Record) → IsNext left (slice_index order place) records r → ⊥))
 
 -- At the place the next record of the named log breaks this rule first.
-pub record FailsAt (shape : Shape) (memory : FlatMemory) (logs : List (List Record)) (order : List ℕ) (place : ℕ) (rule : Rule) : Type 0 where
+pub record FailsAt (shape : Shape) (memory : FlatMemory) (logs : List (List Record)) (order : List ℕ) (place : ℕ)
+    (rule : Rule) : Type 0 where
   pub records : List Record
   pub left : List (List Record)
   pub so_far : IsRunUpTo shape memory logs order place records left
   pub inside : place < length order
   pub next : Record
   pub is_next : IsNext left (slice_index order place) records next
-  pub fails : first_failing OfBoth (clauses shape (seen_by next.log next.bank (state_after_all shape (opening memory) records)) next) ≡ Some rule
+  pub fails : first_failing OfBoth (clauses shape (seen_by next.log next.bank
+      (state_after_all shape (opening memory) records)) next) ≡ Some rule
 
 abbrev pub IsRecheck : Shape → FlatMemory → List (List Record) → List ℕ → Recheck → Type 0
 IsRecheck shape memory logs order Accepted = IsNamedRun shape memory logs order
@@ -66,5 +71,6 @@ IsRecheck shape memory logs order (Broken place rule) = FailsAt shape memory log
 
 -- to an order of the logs there is one answer
 abbrev pub RechecksAreOne : Type 0
-RechecksAreOne = (shape : Shape) (memory : FlatMemory) (logs : List (List Record)) (order : List ℕ) (a b : Recheck) → NameTheirLogs logs →
+RechecksAreOne = (shape : Shape) (memory : FlatMemory) (logs : List (List Record)) (order : List ℕ) (a b : Recheck) →
+    NameTheirLogs logs →
     IsRecheck shape memory logs order a → IsRecheck shape memory logs order b → a ≡ b

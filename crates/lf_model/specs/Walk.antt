@@ -51,8 +51,10 @@ recheck_from shape state left next place (log ∷ order) =
     elim (log_at left log) [
       | [] ↦ NotAnOrder place
       | r ∷ rest ↦
-          let later = recheck_from shape (state_after shape state r) (after_next left log) (next_after next r) (place + 1) order in
-          judged_at (is_numbered next r) (first_failing OfBoth (clauses shape (seen_by r.log r.bank state) r)) place later
+          let later = recheck_from shape (state_after shape state r) (after_next left log) (next_after next r)
+          (place + 1) order in
+          judged_at (is_numbered next r) (first_failing OfBoth (clauses shape (seen_by r.log r.bank state) r)) place
+          later
     ]
 
 abbrev pub recheck_of : Shape → FlatMemory → List (List Record) → List ℕ → Recheck
@@ -79,7 +81,8 @@ pub record IsWalk (walk : Walk) (logs : List (List Record)) : Type 0 where
 -- what the walk's answer is from here on
 abbrev pub walked : Walk → List (List Record) → ℕ → List ℕ → Recheck
 walked walk logs place order =
-    recheck_from walk.machine.shape (state_of walk.machine) (left_of walk.places.items logs) (slice_index walk.next.items) place order
+    recheck_from walk.machine.shape (state_of walk.machine) (left_of walk.places.items logs)
+    (slice_index walk.next.items) place order
 
 -- a place that was taken leaves the rest of the order to decide
 abbrev pub decided : Taken → ℕ → Recheck → Recheck

@@ -1,11 +1,13 @@
 //! A walk of the plain machine along an order of the logs, and what it makes of the order.
 
-ghost use Rattle.std.specs.Prelude.{◌≡◌, ℕ, ◌+◌, ◌<◌, ◌≤◌, ◌^◌, [], ◌∷◌, List, IfOk, OnOk, MatchOption, drop, replicate, length, slice_index};
+ghost use Rattle.std.specs.Prelude.{◌≡◌, ℕ, ◌+◌, ◌<◌, ◌≤◌, ◌^◌, [], ◌∷◌, List, IfOk, OnOk, MatchOption, drop};
+ghost use Rattle.std.specs.Prelude.{replicate, length, slice_index};
 ghost use Rattle.std.specs.List.{All, Contains, list_all};
 ghost use Rattle.lf_rules.specs.Fits.{Fits};
 ghost use Rattle.lf_rules.specs.Order.{log_at};
 ghost use Rattle.lf_model.specs.declared.walk.Taken.TheVariants.{Next};
-ghost use Rattle.lf_model.specs.Walk.{count_left, is_empty, is_numbered, next_after, left_of, IsWalk, NamesBankBelow, decided, recheck_of, walked};
+ghost use Rattle.lf_model.specs.Walk.{count_left, is_empty, is_numbered, next_after, left_of, IsWalk, NamesBankBelow};
+ghost use Rattle.lf_model.specs.Walk.{decided, recheck_of, walked};
 ghost use Rattle.lf_rules.specs.Address.{flat_memory};
 ghost use Rattle.lf_rules.specs.InRange.{IsShape};
 ghost use Rattle.lf_rules.specs.Run.{NameTheirLogs};
@@ -92,7 +94,8 @@ impl Walk {
         ensures walk { IfOk result (λ walk. IsWalk walk (lists_of logs.now)) }
         ensures shape { IfOk result (λ walk. walk.machine.shape ≡ shape.now) }
         ensures answer { IfOk result (λ walk. (order : List ℕ) →
-            walked walk (lists_of logs.now) 0 order ≡ recheck_of shape.now (flat_memory memory.now.items) (lists_of logs.now) order) }
+            walked walk (lists_of logs.now) 0 order ≡ recheck_of shape.now (flat_memory memory.now.items)
+            (lists_of logs.now) order) }
         ensures left { IfOk result (λ walk. left_of walk.places.items (lists_of logs.now) ≡ lists_of logs.now) }
         ensures next { IfOk result (λ walk. (bank : ℕ) → slice_index walk.next.items bank ≡ 0) }
     {
@@ -132,7 +135,8 @@ impl Walk {
         requires { length self.now.places.items ≡ length logs.now.items }
         ensures { let left = log_at (left_of self.now.places.items (lists_of logs.now)) log in
             MatchOption result (left ≡ []) (λ item. (left ≡ item.now ∷ drop 1 left) × (log < length logs.now.items)
-            × (slice_index self.now.places.items log < length (log_at (lists_of logs.now) log)) × Contains (log_at (lists_of logs.now) log) item.now) }
+            × (slice_index self.now.places.items log < length (log_at (lists_of logs.now) log)) ×
+            Contains (log_at (lists_of logs.now) log) item.now) }
     {
         if log >= logs.len() {
             return None;
@@ -160,10 +164,13 @@ impl Walk {
         requires short { (log : ℕ) → length (log_at (lists_of logs.now) log) < 2 ^ 32 }
         requires few { (bank : ℕ) → slice_index self.old.next.items bank + 1 < 2 ^ 32 }
         ensures answer { IfOk result (λ taken. (place : ℕ) (order : List ℕ) →
-            walked self.old (lists_of logs.now) place (log ∷ order) ≡ decided taken place (walked self.new (lists_of logs.now) (place + 1) order)) }
+            walked self.old (lists_of logs.now) place (log ∷ order)
+            ≡ decided taken place (walked self.new (lists_of logs.now) (place + 1) order)) }
         ensures count { IfOk result (λ taken. taken ≡ Next →
-            count_left (left_of self.new.places.items (lists_of logs.now)) + 1 ≡ count_left (left_of self.old.places.items (lists_of logs.now))) }
-        ensures next { OnOk result ((bank : ℕ) → slice_index self.new.next.items bank ≤ slice_index self.old.next.items bank + 1) }
+            count_left (left_of self.new.places.items (lists_of logs.now)) + 1
+            ≡ count_left (left_of self.old.places.items (lists_of logs.now))) }
+        ensures next { OnOk result ((bank : ℕ) → slice_index self.new.next.items bank ≤ slice_index
+            self.old.next.items bank + 1) }
         ensures walk { OnOk result (IsWalk self.new (lists_of logs.now)) }
         ensures shape { OnOk result (self.new.machine.shape ≡ self.old.machine.shape) }
     {
@@ -196,7 +203,8 @@ pub fn recheck(
     requires short { All (λ log. length log.items ≤ 2 ^ 24) logs.now.items }
     requires named { NameTheirLogs (lists_of logs.now) }
     requires fits { All (λ log. All (Fits shape.now) log.items) logs.now.items }
-    ensures { IfOk result (λ answer. IsRecheck shape.now (flat_memory memory.now.items) (lists_of logs.now) order.now answer) }
+    ensures { IfOk result (λ answer. IsRecheck shape.now (flat_memory memory.now.items) (lists_of logs.now) order.now
+        answer) }
 {
     let mut walk = Walk::new(alloc, shape, memory, logs)?;
     walk.follow(logs, order)

@@ -1,11 +1,14 @@
 -- Places linked in the order in which they were taken, as places are taken and left.
-use Rattle.std.proofs.Common.{◌≡◌, ℕ, zero, suc, ◌+◌, ◌-◌, ◌*◌, ◌/◌, ◌%◌, ◌<◌, ◌≤◌, Bool, true, false, cond, not, ◌&&◌, ◌||◌, ◌==◌, List, [], ◌∷◌, ◌++◌, length}
-use Rattle.std.proofs.Common.{map, get_or, inl, inr, refl, sym, ap, ◌∙◌, subst, arith, eq-eqb, ne_eqb, set, replicate, slice_index}
+use Rattle.std.proofs.Common.{◌≡◌, ℕ, zero, suc, ◌+◌, ◌-◌, ◌*◌, ◌/◌, ◌%◌, ◌<◌, ◌≤◌, Bool, true, false, cond, not}
+use Rattle.std.proofs.Common.{◌&&◌, ◌||◌, ◌==◌, List, [], ◌∷◌, ◌++◌, length}
+use Rattle.std.proofs.Common.{map, get_or, inl, inr, refl, sym, ap, ◌∙◌, subst, arith, eq-eqb, ne_eqb, set, replicate}
+use Rattle.std.proofs.Common.{slice_index}
 use Rattle.std.specs.Prelude.{count_by}
 use Rattle.std.specs.List.{list_any, fold}
 use Rattle.std.proofs.lemmas.Bool.{cases_eq, cases_lt}
 use Rattle.std.proofs.lemmas.List.{length-set, get_or-set_same, get_or-set_other}
-use Rattle.std.proofs.lemmas.List.{get_or-replicate, length-replicate, get_or_past, append-nil, append_assoc, length_push}
+use Rattle.std.proofs.lemmas.List.{get_or-replicate, length-replicate, get_or_past, append-nil, append_assoc}
+use Rattle.std.proofs.lemmas.List.{length_push}
 use Rattle.std.proofs.lemmas.List.Folds.{list_any-append}
 use Rattle.std.proofs.lemmas.List.Sums.{sum_by-append}
 use Rattle.std.proofs.lemmas.Nat.Bits.{bit_at-zero}
@@ -64,7 +67,8 @@ walk-step n a (suc len) some = ap (λ (k : ℕ). n a ∷ walk n (n a) k) (omega 
 
 -- The links n become m, which differ at one place.
 module _ (n m : ℕ → ℕ) (last place : ℕ) (linked : m last ≡ place) (same : (k : ℕ) → (k ≡ last → ⊥) → m k ≡ n k) where
-  walk-push : (a len : ℕ) → last_of a (walk n a len) ≡ last → ((k : ℕ) → at k (a ∷ walk n a len) ≤ 1) → walk m a (suc len) ≡ walk n a len ++ place ∷ []
+  walk-push : (a len : ℕ) → last_of a (walk n a len) ≡ last → ((k : ℕ) → at k (a ∷ walk n a len) ≤ 1) →
+      walk m a (suc len) ≡ walk n a len ++ place ∷ []
   walk-push a zero e once = ap (λ (k : ℕ). k ∷ []) (ap m e ∙ linked)
   walk-push a (suc len) e once =
       let found = last_in (n a) (walk n (n a) len) in
@@ -75,14 +79,16 @@ module _ (n m : ℕ → ℕ) (last place : ℕ) (linked : m last ≡ place) (sam
       absurd (omega (arith, found, h, o, f)) in
       let first : m a ≡ n a = same a apart in
       ap (λ k. k ∷ walk m k (suc len)) first
-      ∙ ap (λ (xs : List ℕ). n a ∷ xs) (walk-push (n a) len e (λ k. let t = at_more a k (n a ∷ walk n (n a) len) in let o = once k in omega (arith, t, o)))
+      ∙ ap (λ (xs : List ℕ). n a ∷ xs) (walk-push (n a) len e
+      (λ k. let t = at_more a k (n a ∷ walk n (n a) len) in let o = once k in omega (arith, t, o)))
 
   -- a walk that does not come by the place stays
   walk-off : (a len : ℕ) → (a ≡ last → ⊥) → at last (walk n a len) ≡ 0 → walk m a len ≡ walk n a len
   walk-off a zero ne off = refl
   walk-off a (suc len) ne off =
       ap (λ k. k ∷ walk m k len) (same a ne)
-      ∙ ap (λ (xs : List ℕ). n a ∷ xs) (walk-off (n a) len (not_head (n a) last (walk n (n a) len) off) (not_tail (n a) last (walk n (n a) len) off))
+      ∙ ap (λ (xs : List ℕ). n a ∷ xs) (walk-off (n a) len (not_head (n a) last (walk n (n a) len) off)
+      (not_tail (n a) last (walk n (n a) len) off))
 
 module _ {A : Type 0} where
   pub pick-is : (xs : List A) (place : ℕ) (d : A) → place < length xs → pick xs place ≡ get_or xs place d ∷ []
@@ -95,22 +101,29 @@ module _ {A : Type 0} where
   pick-set_same (x ∷ xs) zero y lt = refl
   pick-set_same (x ∷ xs) (suc place) y lt = pick-set_same xs place y (omega (arith, lt))
 
-  pub placed-cons : (items : List A) (place : ℕ) (d : A) (ps : List ℕ) → place < length items → placed items (place ∷ ps) ≡ (place, get_or items place d) ∷ placed items ps
-  placed-cons items place d ps lt = ap (λ (xs : List A). map (λ x. (place, x)) xs ++ placed items ps) (pick-is items place d lt)
+  pub placed-cons : (items : List A) (place : ℕ) (d : A) (ps : List ℕ) → place < length items →
+      placed items (place ∷ ps) ≡ (place, get_or items place d) ∷ placed items ps
+  placed-cons items place d ps lt = ap (λ (xs : List A). map (λ x. (place, x)) xs ++ placed items ps)
+      (pick-is items place d lt)
 
   -- a further place, which is not among them
   placed-push : (items : List A) (place : ℕ) (y : A) (ps : List ℕ) → place < length items → at place ps ≡ 0
-      → ((k : ℕ) → length items ≤ k → at k ps ≡ 0) → placed (set items place y) (ps ++ place ∷ []) ≡ placed items ps ++ (place, y) ∷ []
-  placed-push items place y [] lt off below = ap (λ (xs : List A). map (λ x. (place, x)) xs ++ []) (pick-set_same items place y lt)
+      → ((k : ℕ) → length items ≤ k → at k ps ≡ 0) → placed (set items place y) (ps ++ place ∷ []) ≡ placed items ps
+      ++ (place, y) ∷ []
+  placed-push items place y [] lt off below = ap (λ (xs : List A). map (λ x. (place, x)) xs ++ [])
+      (pick-set_same items place y lt)
   placed-push items place y (p ∷ ps) lt off below =
       let long = length-set items place y in
       let in_items : p < length items = head-below items p ps below in
       placed-cons (set items place y) p y (ps ++ place ∷ []) (omega (arith, long, in_items))
-      ∙ ap (λ (x : A). (p, x) ∷ placed (set items place y) (ps ++ place ∷ [])) (get_or-set_other items place p y y (not_head p place ps off))
-      ∙ ap (λ (qs : List (ℕ × A)). (p, get_or items p y) ∷ qs) (placed-push items place y ps lt (not_tail p place ps off) (λ k le. not_tail p k ps (below k le)))
+      ∙ ap (λ (x : A). (p, x) ∷ placed (set items place y) (ps ++ place ∷ []))
+      (get_or-set_other items place p y y (not_head p place ps off))
+      ∙ ap (λ (qs : List (ℕ × A)). (p, get_or items p y) ∷ qs)
+      (placed-push items place y ps lt (not_tail p place ps off) (λ k le. not_tail p k ps (below k le)))
       ∙ sym (ap (λ (qs : List (ℕ × A)). qs ++ (place, y) ∷ []) (placed-cons items p y ps in_items))
     where
-      head-below : (items : List A) (p : ℕ) (ps : List ℕ) → ((k : ℕ) → length items ≤ k → at k (p ∷ ps) ≡ 0) → p < length items
+      head-below : (items : List A) (p : ℕ) (ps : List ℕ) → ((k : ℕ) → length items ≤ k → at k (p ∷ ps) ≡ 0) →
+          p < length items
       head-below items p ps below = elim (cases_lt p (length items)) [
         | inl lt ↦ lt
         | inr le ↦ absurd (not_head p p ps (below p le) refl)
@@ -121,14 +134,16 @@ module _ {A : Type 0} where
   taken-is items place [] below = refl
   taken-is [] place (p ∷ ps) below = absurd (not_head p p ps (below p (omega arith)) refl)
   taken-is (x ∷ items) place (p ∷ ps) below =
-      ap (list_any (λ (q : ℕ × A). q.0 == place)) (placed-cons (x ∷ items) p x ps (elim (cases_lt p (length (x ∷ items))) [
+      ap (list_any (λ (q : ℕ × A). q.0 == place)) (placed-cons (x ∷ items) p x ps
+      (elim (cases_lt p (length (x ∷ items))) [
         | inl lt ↦ lt
         | inr le ↦ absurd (not_head p p ps (below p le) refl)
       ]))
       ∙ ap (λ b. p == place || b) (taken-is (x ∷ items) place ps (λ k le. not_tail p k ps (below k le)))
 
 -- What links say of their places.
-module _ {A : Type 0} (items : List A) (next used : List ℕ) (end last len : ℕ) (chain : IsChain items next used end last len) where
+module _ {A : Type 0} (items : List A) (next used : List ℕ) (end last len : ℕ)
+    (chain : IsChain items next used end last len) where
   abbrev order : List ℕ
   order = walk (slice_index next) end len
 
@@ -160,14 +175,18 @@ module _ {A : Type 0} (items : List A) (next used : List ℕ) (end last len : �
   pub taken-as : (place : ℕ) → is_marked used place ≡ list_any (λ q. q.0 == place) (placed items order)
   taken-as place =
       chain.marked place
-      ∙ sym (taken-is items place order (λ k le. let long = chain.long in chain.places.none k (omega (arith, le, long))))
+      ∙ sym (taken-is items place order (λ k le. let long = chain.long in
+      chain.places.none k (omega (arith, le, long))))
 
-  pub chain-push : (place : ℕ) (item : A) (more : List ℕ) → place < end → list_any (λ q. q.0 == place) (placed items order) ≡ false
+  pub chain-push : (place : ℕ) (item : A) (more : List ℕ) → place < end →
+      list_any (λ q. q.0 == place) (placed items order) ≡ false
       → length more ≡ length used → ((b : ℕ) → is_marked more b ≡ (b == place || is_marked used b))
       → IsChain (set items place item) (set next last place) more end place (len + 1)
-      × (placed (set items place item) (walk (slice_index (set next last place)) end (len + 1)) ≡ placed items order ++ (place, item) ∷ [])
+      × (placed (set items place item) (walk (slice_index (set next last place)) end (len + 1)) ≡ placed items order
+      ++ (place, item) ∷ [])
   chain-push place item more there free long bits =
-      let all_below : (k : ℕ) → length items ≤ k → at k order ≡ 0 = λ k le. (let n = chain.long in chain.places.none k (omega (arith, le, n))) in
+      let all_below : (k : ℕ) → length items ≤ k → at k order ≡ 0 =
+      λ k le. (let n = chain.long in chain.places.none k (omega (arith, le, n))) in
       let not_in = none_passes (λ x. x == place) order (sym (taken-is items place order all_below) ∙ free) in
       let low = last-le in
       let nx = chain.links in
@@ -176,7 +195,8 @@ module _ {A : Type 0} (items : List A) (next used : List ℕ) (end last len : �
       let more_by : len + 1 ≡ suc len = omega arith in
       let grown = ap (walk (slice_index (set next last place)) end) more_by in
       let walked : walk (slice_index (set next last place)) end (len + 1) ≡ order ++ place ∷ [] =
-      grown ∙ walk-push (slice_index next) (slice_index (set next last place)) last place (get_or-set_same next last place 0 (omega (arith, nx, low)))
+      grown ∙ walk-push (slice_index next) (slice_index (set next last place)) last place
+      (get_or-set_same next last place 0 (omega (arith, nx, low)))
       (λ k ne. get_or-set_other next last k place 0 ne) end len chain.ends all_once in (
         record {
           few = chain.few;
@@ -207,13 +227,16 @@ module _ {A : Type 0} (items : List A) (next used : List ℕ) (end last len : �
           marked = λ k. bits k ∙ ap (λ b. k == place || b) (chain.marked k) ∙ turned k (list_any (λ x. x == k) order)
               ∙ sym (list_any-append (λ x. x == k) order (place ∷ [])) ∙ ap (list_any (λ x. x == k)) (sym walked);
         },
-        ap (placed (set items place item)) walked ∙ placed-push items place item order (omega (arith, there, il)) not_in all_below,
+        ap (placed (set items place item)) walked ∙ placed-push items place item order (omega (arith, there, il))
+            not_in all_below,
       )
     where
       turned : (k : ℕ) (b : Bool) → (k == place || b) ≡ (b || (place == k || false))
       turned k b = elim (cases_eq k place) [
-        | inl e ↦ ap (λ t. t || b) (eq-eqb k place e) ∙ sym (ap (λ t. b || (t || false)) (eq-eqb place k (sym e)) ∙ one b)
-        | inr ne ↦ ap (λ t. t || b) (ne_eqb k place ne) ∙ sym (ap (λ t. b || (t || false)) (ne_eqb place k (λ e. ne (sym e))) ∙ none b)
+        | inl e ↦ ap (λ t. t || b) (eq-eqb k place e) ∙ sym
+            (ap (λ t. b || (t || false)) (eq-eqb place k (sym e)) ∙ one b)
+        | inr ne ↦ ap (λ t. t || b) (ne_eqb k place ne) ∙ sym
+            (ap (λ t. b || (t || false)) (ne_eqb place k (λ e. ne (sym e))) ∙ none b)
       ]
         where
           one : (b : Bool) → (b || true) ≡ true
@@ -225,7 +248,8 @@ module _ {A : Type 0} (items : List A) (next used : List ℕ) (end last len : �
           none false = refl
 
 -- no place is in use
-pub chain-empty : {A : Type 0} (items : List A) (next used : List ℕ) (end : ℕ) → end ≤ 1024 → length items ≡ end → length next ≡ end + 1 → end ≤ 64 * length used
+pub chain-empty : {A : Type 0} (items : List A) (next used : List ℕ) (end : ℕ) → end ≤ 1024 → length items ≡ end →
+    length next ≡ end + 1 → end ≤ 64 * length used
     → ((place : ℕ) → is_marked used place ≡ false) → IsChain items next used end end 0
 chain-empty items next used end few long links words clear = record {
   few = few;
@@ -243,7 +267,8 @@ clear_words n place = ap (λ w. is_under w (place % 64)) none ∙ ap (λ b. b ==
     none : slice_index (replicate n 0) (place / 64) ≡ 0
     none = elim (cases_lt (place / 64) n) [
       | inl lt ↦ get_or-replicate n (place / 64) 0 0 lt
-      | inr le ↦ (let long = length-replicate {A = ℕ} n 0 in get_or_past (replicate n 0) (place / 64) 0 (omega (arith, long, le)))
+      | inr le ↦ (let long = length-replicate {A = ℕ} n 0 in
+          get_or_past (replicate n 0) (place / 64) 0 (omega (arith, long, le)))
     ]
 
 -- a walk below an end
@@ -263,26 +288,38 @@ module _ (n : ℕ → ℕ) (a left end : ℕ) (some : 0 < left) (below : (k : �
 -- the first place of a walk and what it holds, before the rest
 pub placed-step : {A : Type 0} (items : List A) (n : ℕ → ℕ) (a left : ℕ) (d : A) → 0 < left → n a < length items
     → placed items (walk n a left) ≡ (n a, get_or items (n a) d) ∷ placed items (walk n (n a) (left - 1))
-placed-step items n a left d some fits = ap (placed items) (walk-step n a left some) ∙ placed-cons items (n a) d (walk n (n a) (left - 1)) fits
+placed-step items n a left d some fits = ap (placed items) (walk-step n a left some)
+    ∙ placed-cons items (n a) d (walk n (n a) (left - 1)) fits
 
 module _ {T : Type 0} where
-  pub holds-step : (items : List (Held T)) (n : ℕ → ℕ) (a left : ℕ) (d : Held T) (block : ℕ) → 0 < left → n a < length items
-      → holds (held_of (placed items (walk n a left))) block ≡ ((get_or items (n a) d).block == block || holds (held_of (placed items (walk n (n a) (left - 1)))) block)
-  holds-step items n a left d block some fits = ap (λ (q : List (ℕ × Held T)). holds (held_of q) block) (placed-step items n a left d some fits)
+  pub holds-step : (items : List (Held T)) (n : ℕ → ℕ) (a left : ℕ) (d : Held T) (block : ℕ) → 0 < left →
+      n a < length items
+      → holds (held_of (placed items (walk n a left))) block
+      ≡ ((get_or items (n a) d).block == block || holds (held_of (placed items (walk n (n a) (left - 1)))) block)
+  holds-step items n a left d block some fits = ap (λ (q : List (ℕ × Held T)). holds (held_of q) block)
+      (placed-step items n a left d some fits)
 
-  module _ (f : ℕ → Held T → ℕ) (items : List (Held T)) (n : ℕ → ℕ) (a left : ℕ) (d : Held T) (block : ℕ) (some : 0 < left) (fits : n a < length items) (x : ℕ) where
+  module _ (f : ℕ → Held T → ℕ) (items : List (Held T)) (n : ℕ → ℕ) (a left : ℕ) (d : Held T) (block : ℕ)
+      (some : 0 < left) (fits : n a < length items) (x : ℕ) where
     pub fold-step_own : (get_or items (n a) d).block ≡ block
-        → fold f x (targets_of (held_of (placed items (walk n a left))) block) ≡ fold f (f x (get_or items (n a) d)) (targets_of (held_of (placed items (walk n (n a) (left - 1)))) block)
+        → fold f x (targets_of (held_of (placed items (walk n a left))) block)
+        ≡ fold f (f x (get_or items (n a) d)) (targets_of (held_of (placed items (walk n (n a) (left - 1))))
+        block)
     fold-step_own own =
         ap (λ (q : List (ℕ × Held T)). fold f x (targets_of (held_of q) block)) (placed-step items n a left d some fits)
-        ∙ ap (λ b. fold f x (cond b (get_or items (n a) d ∷ targets_of (held_of (placed items (walk n (n a) (left - 1)))) block) (targets_of (held_of (placed items (walk n (n a) (left - 1)))) block)))
+        ∙ ap (λ b. fold f x (cond b (get_or items (n a) d ∷ targets_of
+        (held_of (placed items (walk n (n a) (left - 1)))) block)
+        (targets_of (held_of (placed items (walk n (n a) (left - 1)))) block)))
         (eq-eqb (get_or items (n a) d).block block own)
 
     pub fold-step_other : ((get_or items (n a) d).block ≡ block → ⊥)
-        → fold f x (targets_of (held_of (placed items (walk n a left))) block) ≡ fold f x (targets_of (held_of (placed items (walk n (n a) (left - 1)))) block)
+        → fold f x (targets_of (held_of (placed items (walk n a left))) block)
+        ≡ fold f x (targets_of (held_of (placed items (walk n (n a) (left - 1)))) block)
     fold-step_other other =
         ap (λ (q : List (ℕ × Held T)). fold f x (targets_of (held_of q) block)) (placed-step items n a left d some fits)
-        ∙ ap (λ b. fold f x (cond b (get_or items (n a) d ∷ targets_of (held_of (placed items (walk n (n a) (left - 1)))) block) (targets_of (held_of (placed items (walk n (n a) (left - 1)))) block)))
+        ∙ ap (λ b. fold f x (cond b (get_or items (n a) d ∷ targets_of
+        (held_of (placed items (walk n (n a) (left - 1)))) block)
+        (targets_of (held_of (placed items (walk n (n a) (left - 1)))) block)))
         (ne_eqb (get_or items (n a) d).block block other)
 
 at-append : (k : ℕ) (xs ys : List ℕ) → at k (xs ++ ys) ≡ at k xs + at k ys
@@ -294,9 +331,11 @@ pub record IsParted (long : ℕ) (next used : List ℕ) (end last kept a left : 
   pub words : length used ≡ long
   pub ends : last_of end (walk (slice_index next) end kept) ≡ last
   pub places : AreOnce end (walk (slice_index next) end kept ++ walk (slice_index next) a left)
-  pub marked : (place : ℕ) → is_marked used place ≡ list_any (λ x. x == place) (walk (slice_index next) end kept ++ walk (slice_index next) a left)
+  pub marked : (place : ℕ) → is_marked used place ≡ list_any (λ x. x == place)
+      (walk (slice_index next) end kept ++ walk (slice_index next) a left)
 
-module _ (long : ℕ) (next used : List ℕ) (end last kept a left : ℕ) (parted : IsParted long next used end last kept a left) where
+module _ (long : ℕ) (next used : List ℕ) (end last kept a left : ℕ)
+    (parted : IsParted long next used end last kept a left) where
   abbrev old_kept : List ℕ
   old_kept = walk (slice_index next) end kept
 
@@ -308,8 +347,10 @@ module _ (long : ℕ) (next used : List ℕ) (end last kept a left : ℕ) (parte
 
   kept_once : (k : ℕ) → at k (end ∷ old_kept) ≤ 1
   kept_once k = elim (cases_eq end k) [
-    | inl e ↦ let h = at_head end k old_kept e in let b = at-append k old_kept (walk (slice_index next) a left) in let o = parted.places.none k (omega (arith, e)) in omega (arith, h, b, o)
-    | inr ne ↦ let h = at_tail end k old_kept ne in let b = at-append k old_kept (walk (slice_index next) a left) in let o = parted.places.once k in omega (arith, h, b, o)
+    | inl e ↦ let h = at_head end k old_kept e in let b = at-append k old_kept (walk (slice_index next) a left) in
+        let o = parted.places.none k (omega (arith, e)) in omega (arith, h, b, o)
+    | inr ne ↦ let h = at_tail end k old_kept ne in let b = at-append k old_kept (walk (slice_index next) a left) in
+        let o = parted.places.once k in omega (arith, h, b, o)
   ]
 
   pub last-fits : last < end + 1
@@ -350,7 +391,8 @@ module _ (long : ℕ) (next used : List ℕ) (end last kept a left : ℕ) (parte
         omega (arith, o, b, s)
 
     -- the place is not kept
-    pub parted-drop : (less : List ℕ) → length less ≡ length used → ((b : ℕ) → is_marked less b ≡ (not (b == place) && is_marked used b))
+    pub parted-drop : (less : List ℕ) → length less ≡ length used →
+        ((b : ℕ) → is_marked less b ≡ (not (b == place) && is_marked used b))
         → IsParted long next less end last kept place (left - 1)
     parted-drop less same bits = record {
       links = parted.links;
@@ -368,22 +410,27 @@ module _ (long : ℕ) (next used : List ℕ) (end last kept a left : ℕ) (parte
             let t = at_more place k rest in
             omega (arith, o, b, t);
       };
-      marked = λ k. bits k ∙ ap (λ b. not (k == place) && b) (parted.marked k ∙ ap (λ (xs : List ℕ). list_any (λ x. x == k) (old_kept ++ xs)) stepped) ∙ without k;
+      marked = λ k. bits k ∙ ap (λ b. not (k == place) && b)
+          (parted.marked k ∙ ap (λ (xs : List ℕ). list_any (λ x. x == k) (old_kept ++ xs)) stepped) ∙ without k;
     }
       where
         none_in : (k : ℕ) (xs : List ℕ) → at k xs ≡ 0 → list_any (λ x. x == k) xs ≡ false
         none_in k [] none = refl
-        none_in k (x ∷ xs) none = ap (λ b. b || list_any (λ y. y == k) xs) (ne_eqb x k (not_head x k xs none)) ∙ none_in k xs (not_tail x k xs none)
+        none_in k (x ∷ xs) none = ap (λ b. b || list_any (λ y. y == k) xs) (ne_eqb x k (not_head x k xs none))
+            ∙ none_in k xs (not_tail x k xs none)
 
-        without : (k : ℕ) → (not (k == place) && list_any (λ x. x == k) (old_kept ++ place ∷ rest)) ≡ list_any (λ x. x == k) (old_kept ++ rest)
+        without : (k : ℕ) → (not (k == place) && list_any (λ x. x == k) (old_kept ++ place ∷ rest))
+            ≡ list_any (λ x. x == k) (old_kept ++ rest)
         without k = elim (cases_eq k place) [
           | inl e ↦
               ap (λ b. not b && list_any (λ x. x == k) (old_kept ++ place ∷ rest)) (eq-eqb k place e)
-              ∙ sym (none_in k (old_kept ++ rest) (let o = all-once k in let b = at-append k old_kept rest in let h = at_head place k rest (sym e) in omega (arith, o, b, h)))
+              ∙ sym (none_in k (old_kept ++ rest) (let o = all-once k in let b = at-append k old_kept rest in let h =
+              at_head place k rest (sym e) in omega (arith, o, b, h)))
           | inr ne ↦
               ap (λ b. not b && list_any (λ x. x == k) (old_kept ++ place ∷ rest)) (ne_eqb k place ne)
               ∙ list_any-append (λ x. x == k) old_kept (place ∷ rest)
-              ∙ ap (λ b. list_any (λ x. x == k) old_kept || (b || list_any (λ x. x == k) rest)) (ne_eqb place k (λ e. ne (sym e)))
+              ∙ ap (λ b. list_any (λ x. x == k) old_kept || (b || list_any (λ x. x == k) rest))
+              (ne_eqb place k (λ e. ne (sym e)))
               ∙ sym (list_any-append (λ x. x == k) old_kept rest)
         ]
 
@@ -393,7 +440,8 @@ module _ (long : ℕ) (next used : List ℕ) (end last kept a left : ℕ) (parte
         let in_kept = last_in end old_kept in
         elim (cases_eq end last) [
           | inl e ↦ let o = all-below last (omega (arith, e)) in omega (arith, o)
-          | inr ne ↦ let t = at_tail end last old_kept ne in let o = all-once last in omega (arith, found, in_kept, t, o)
+          | inr ne ↦ let t = at_tail end last old_kept ne in let o = all-once last in
+              omega (arith, found, in_kept, t, o)
         ]
 
     pub kept-is : walk (slice_index (set next last place)) end (kept + 1) ≡ old_kept ++ place ∷ []
@@ -402,20 +450,25 @@ module _ (long : ℕ) (next used : List ℕ) (end last kept a left : ℕ) (parte
         let nx = parted.links in
         let more_by : kept + 1 ≡ suc kept = omega arith in
         ap (walk (slice_index (set next last place)) end) more_by
-        ∙ walk-push (slice_index next) (slice_index (set next last place)) last place (get_or-set_same next last place 0 (omega (arith, nx, low)))
+        ∙ walk-push (slice_index next) (slice_index (set next last place)) last place
+        (get_or-set_same next last place 0 (omega (arith, nx, low)))
         (λ k ne. get_or-set_other next last k place 0 ne) end kept parted.ends kept_once
 
     pub rest-is : walk (slice_index (set next last place)) place (left - 1) ≡ rest
     rest-is =
         let low = last-fits in
         let nx = parted.links in
-        walk-off (slice_index next) (slice_index (set next last place)) last place (get_or-set_same next last place 0 (omega (arith, nx, low))) (λ k ne. get_or-set_other next last k place 0 ne)
+        walk-off (slice_index next) (slice_index (set next last place)) last place
+        (get_or-set_same next last place 0 (omega (arith, nx, low)))
+        (λ k ne. get_or-set_other next last k place 0 ne)
         place (left - 1) (not_head place last rest keep_last) (not_tail place last rest keep_last)
 
     -- the place is kept, as the last so far
     pub parted-keep : IsParted long (set next last place) used end place (kept + 1) place (left - 1)
     parted-keep =
-        let both : walk (slice_index (set next last place)) end (kept + 1) ++ walk (slice_index (set next last place)) place (left - 1) ≡ old_kept ++ walk (slice_index next) a left =
+        let both : walk (slice_index (set next last place)) end (kept + 1)
+        ++ walk (slice_index (set next last place)) place (left - 1) ≡ old_kept
+        ++ walk (slice_index next) a left =
         ap (λ (xs : List ℕ). xs ++ walk (slice_index (set next last place)) place (left - 1)) kept-is
         ∙ ap (λ (xs : List ℕ). old_kept ++ place ∷ [] ++ xs) rest-is
         ∙ append_snoc old_kept place rest
@@ -429,11 +482,13 @@ module _ (long : ℕ) (next used : List ℕ) (end last kept a left : ℕ) (parte
         }
 
 -- nothing is still to come
-pub chain-parted : {A : Type 0} (items : List A) (long : ℕ) (next used : List ℕ) (end last kept a left : ℕ) → left ≡ 0 → end ≤ 1024 → length items ≡ end → end ≤ 64 * long
+pub chain-parted : {A : Type 0} (items : List A) (long : ℕ) (next used : List ℕ) (end last kept a left : ℕ) →
+    left ≡ 0 → end ≤ 1024 → length items ≡ end → end ≤ 64 * long
     → IsParted long next used end last kept a left → IsChain items next used end last kept
 chain-parted items long next used end last kept a left none few fits wide parted =
     let all : walk (slice_index next) end kept ++ walk (slice_index next) a left ≡ walk (slice_index next) end kept =
-    ap (λ l. walk (slice_index next) end kept ++ walk (slice_index next) a l) none ∙ append-nil (walk (slice_index next) end kept) in
+    ap (λ l. walk (slice_index next) end kept ++ walk (slice_index next) a l) none
+    ∙ append-nil (walk (slice_index next) end kept) in
     let words = parted.words in
     record {
       few = few;
@@ -446,18 +501,28 @@ chain-parted items long next used end last kept a left none few fits wide parted
     }
 
 -- nothing was released yet
-pub parted-chain : {A : Type 0} (items : List A) (next used : List ℕ) (end last len : ℕ) → IsChain items next used end last len → IsParted (length used) next used end end 0 end len
-parted-chain items next used end last len chain = record { links = chain.links; words = refl; ends = refl; places = chain.places; marked = chain.marked }
+pub parted-chain : {A : Type 0} (items : List A) (next used : List ℕ) (end last len : ℕ) →
+    IsChain items next used end last len → IsParted (length used) next used end end 0 end len
+parted-chain items next used end last len chain = record {
+  links = chain.links;
+  words = refl;
+  ends = refl;
+  places =
+      chain.places;
+  marked = chain.marked;
+}
 
 module _ {A : Type 0} where
-  kept-placed : (items : List A) (place : ℕ) (d : A) (xs : List ℕ) → place < length items → placed items (xs ++ place ∷ []) ≡ placed items xs ++ (place, get_or items place d) ∷ []
+  kept-placed : (items : List A) (place : ℕ) (d : A) (xs : List ℕ) → place < length items →
+      placed items (xs ++ place ∷ []) ≡ placed items xs ++ (place, get_or items place d) ∷ []
   kept-placed items place d [] fits = placed-cons items place d [] fits
   kept-placed items place d (x ∷ xs) fits =
       ap (λ (qs : List (ℕ × A)). map (λ y. (x, y)) (pick items x) ++ qs) (kept-placed items place d xs fits)
       ∙ sym (append_assoc (map (λ y. (x, y)) (pick items x)) (placed items xs) ((place, get_or items place d) ∷ []))
 
 -- A release between two places: of the chain that was, what is kept, what was released, and what is still to come.
-pub record IsReleasing {T : Type 0} (items : List (Held T)) (was : List ℕ) (len long block : ℕ) (next used : List ℕ) (targets : List (ℕ × T)) (end last kept a left : ℕ) : Type 0 where
+pub record IsReleasing {T : Type 0} (items : List (Held T)) (was : List ℕ) (len long block : ℕ) (next used : List ℕ)
+    (targets : List (ℕ × T)) (end last kept a left : ℕ) : Type 0 where
   pub parted : IsParted long next used end last kept a left
   pub others : left_of (placed items (walk (slice_index was) end len)) block
       ≡ placed items (walk (slice_index next) end kept) ++ left_of (placed items (walk (slice_index next) a left)) block
@@ -467,10 +532,13 @@ pub record IsReleasing {T : Type 0} (items : List (Held T)) (was : List ℕ) (le
   pub few : length targets + left ≤ 1024
   pub many : kept + left ≤ 1024
 
-module _ {T : Type 0} (items : List (Held T)) (was : List ℕ) (len long block : ℕ) (next used : List ℕ) (targets : List (ℕ × T)) (end last kept a left : ℕ)
-    (half : IsReleasing items was len long block next used targets end last kept a left) (fits : length items ≡ end) where
+module _ {T : Type 0} (items : List (Held T)) (was : List ℕ) (len long block : ℕ) (next used : List ℕ)
+    (targets : List (ℕ × T)) (end last kept a left : ℕ)
+    (half : IsReleasing items was len long block next used targets end last kept a left)
+    (fits : length items ≡ end) where
   pub come-lt : 0 < left → slice_index next a < end
-  come-lt some = first-below (slice_index next) a left end some (come-below long next used end last kept a left half.parted)
+  come-lt some = first-below (slice_index next) a left end some
+      (come-below long next used end last kept a left half.parted)
 
   module _ (some : 0 < left) (d : Held T) where
     abbrev come : ℕ
@@ -485,23 +553,31 @@ module _ {T : Type 0} (items : List (Held T)) (was : List ℕ) (len long block :
     first : placed items (walk (slice_index next) a left) ≡ (come, taken) ∷ after
     first = placed-step items (slice_index next) a left d some (let lt = come-lt some in omega (arith, lt, fits))
 
-    pub releasing-drop : taken.block ≡ block → (less : List ℕ) → length less ≡ length used → ((b : ℕ) → is_marked less b ≡ (not (b == come) && is_marked used b))
-        → IsReleasing items was len long block next less (targets ++ released_pair taken ∷ []) end last kept come (left - 1)
+    pub releasing-drop : taken.block ≡ block → (less : List ℕ) → length less ≡ length used →
+        ((b : ℕ) → is_marked less b ≡ (not (b == come) && is_marked used b))
+        → IsReleasing items was len long block next less (targets ++ released_pair taken ∷ []) end last kept come
+        (left - 1)
     releasing-drop same less size bits =
         let here = eq-eqb taken.block block same in
         record {
           parted = parted-drop long next used end last kept a left half.parted some less size bits;
-          others = half.others ∙ ap (λ (q : List (ℕ × Held T)). placed items (walk (slice_index next) end kept) ++ left_of q block) first
-              ∙ ap (λ b. placed items (walk (slice_index next) end kept) ++ cond (not b) ((come, taken) ∷ left_of after block) (left_of after block)) here;
-          gone = half.gone ∙ ap (λ (q : List (ℕ × Held T)). targets ++ map released_pair (targets_of (held_of q) block)) first
-              ∙ ap (λ b. targets ++ map released_pair (cond b (taken ∷ targets_of (held_of after) block) (targets_of (held_of after) block))) here
+          others = half.others ∙ ap (λ (q : List (ℕ × Held T)). placed items (walk (slice_index next) end kept)
+              ++ left_of q block) first
+              ∙ ap (λ b. placed items (walk (slice_index next) end kept)
+              ++ cond (not b) ((come, taken) ∷ left_of after block) (left_of after block)) here;
+          gone = half.gone ∙ ap (λ (q : List (ℕ × Held T)). targets
+              ++ map released_pair (targets_of (held_of q) block)) first
+              ∙ ap (λ b. targets ++ map released_pair (cond b (taken ∷ targets_of (held_of after) block)
+              (targets_of (held_of after) block))) here
               ∙ sym (append_snoc targets (released_pair taken) (map released_pair (targets_of (held_of after) block)));
           low = (let lt = come-lt some in omega (arith, lt));
-          few = (let more = length_push targets (released_pair taken) in let f = half.few in omega (arith, more, f, some));
+          few = (let more = length_push targets (released_pair taken) in let f = half.few in
+              omega (arith, more, f, some));
           many = (let f = half.many in omega (arith, f, some));
         }
 
-    pub releasing-keep : (taken.block ≡ block → ⊥) → IsReleasing items was len long block (set next last come) used targets end come (kept + 1) come (left - 1)
+    pub releasing-keep : (taken.block ≡ block → ⊥) → IsReleasing items was len long block (set next last come) used
+        targets end come (kept + 1) come (left - 1)
     releasing-keep other =
         let here = ne_eqb taken.block block other in
         let kept_now = kept-is long next used end last kept a left half.parted some in
@@ -509,14 +585,22 @@ module _ {T : Type 0} (items : List (Held T)) (was : List ℕ) (len long block :
         let lt = come-lt some in
         record {
           parted = parted-keep long next used end last kept a left half.parted some;
-          others = half.others ∙ ap (λ (q : List (ℕ × Held T)). placed items (walk (slice_index next) end kept) ++ left_of q block) first
-              ∙ ap (λ b. placed items (walk (slice_index next) end kept) ++ cond (not b) ((come, taken) ∷ left_of after block) (left_of after block)) here
+          others = half.others ∙ ap (λ (q : List (ℕ × Held T)). placed items (walk (slice_index next) end kept)
+              ++ left_of q block) first
+              ∙ ap (λ b. placed items (walk (slice_index next) end kept)
+              ++ cond (not b) ((come, taken) ∷ left_of after block) (left_of after block)) here
               ∙ sym (append_snoc (placed items (walk (slice_index next) end kept)) (come, taken) (left_of after block))
-              ∙ ap (λ (q : List (ℕ × Held T)). q ++ left_of after block) (sym (ap (placed items) kept_now ∙ kept-placed items come d (walk (slice_index next) end kept) (omega (arith, lt, fits))))
-              ∙ ap (λ (xs : List ℕ). placed items (walk (slice_index (set next last come)) end (kept + 1)) ++ left_of (placed items xs) block) (sym rest_now);
-          gone = half.gone ∙ ap (λ (q : List (ℕ × Held T)). targets ++ map released_pair (targets_of (held_of q) block)) first
-              ∙ ap (λ b. targets ++ map released_pair (cond b (taken ∷ targets_of (held_of after) block) (targets_of (held_of after) block))) here
-              ∙ ap (λ (xs : List ℕ). targets ++ map released_pair (targets_of (held_of (placed items xs)) block)) (sym rest_now);
+              ∙ ap (λ (q : List (ℕ × Held T)). q ++ left_of after block)
+              (sym (ap (placed items) kept_now ∙ kept-placed items come d (walk (slice_index next) end kept)
+              (omega (arith, lt, fits))))
+              ∙ ap (λ (xs : List ℕ). placed items (walk (slice_index (set next last come)) end (kept + 1))
+              ++ left_of (placed items xs) block) (sym rest_now);
+          gone = half.gone ∙ ap (λ (q : List (ℕ × Held T)). targets
+              ++ map released_pair (targets_of (held_of q) block)) first
+              ∙ ap (λ b. targets ++ map released_pair (cond b (taken ∷ targets_of (held_of after) block)
+              (targets_of (held_of after) block))) here
+              ∙ ap (λ (xs : List ℕ). targets ++ map released_pair (targets_of (held_of (placed items xs)) block))
+              (sym rest_now);
           low = omega (arith, lt);
           few = (let f = half.few in omega (arith, f, some));
           many = (let f = half.many in omega (arith, f, some));
@@ -524,17 +608,22 @@ module _ {T : Type 0} (items : List (Held T)) (was : List ℕ) (len long block :
 
   -- nothing is still to come
   module _ (none : left ≡ 0) where
-    pub released-order : left_of (placed items (walk (slice_index was) end len)) block ≡ placed items (walk (slice_index next) end kept)
+    pub released-order : left_of (placed items (walk (slice_index was) end len)) block
+        ≡ placed items (walk (slice_index next) end kept)
     released-order =
-        half.others ∙ ap (λ l. placed items (walk (slice_index next) end kept) ++ left_of (placed items (walk (slice_index next) a l)) block) none
+        half.others ∙ ap (λ l. placed items (walk (slice_index next) end kept)
+        ++ left_of (placed items (walk (slice_index next) a l)) block) none
         ∙ append-nil (placed items (walk (slice_index next) end kept))
 
-    pub released-targets : map released_pair (targets_of (held_of (placed items (walk (slice_index was) end len))) block) ≡ targets
+    pub released-targets : map released_pair (targets_of (held_of (placed items (walk (slice_index was) end len)))
+        block) ≡ targets
     released-targets =
-        half.gone ∙ ap (λ l. targets ++ map released_pair (targets_of (held_of (placed items (walk (slice_index next) a l))) block)) none
+        half.gone ∙ ap (λ l. targets ++ map released_pair (targets_of
+        (held_of (placed items (walk (slice_index next) a l))) block)) none
         ∙ append-nil targets
 
-pub releasing-start : {T : Type 0} (items : List (Held T)) (next used : List ℕ) (end last len block : ℕ) → IsChain items next used end last len
+pub releasing-start : {T : Type 0} (items : List (Held T)) (next used : List ℕ) (end last len block : ℕ) →
+    IsChain items next used end last len
     → IsReleasing items next len (length used) block next used [] end end 0 end len
 releasing-start items next used end last len block chain =
     let few = len-le items next used end last len chain in

@@ -1,5 +1,6 @@
 -- How many elements of a list pass a test, as the list changes.
-use Rattle.std.proofs.Common.{◌≡◌, ℕ, ◌+◌, ◌≤◌, Bool, true, false, cond, ◌||◌, ◌&&◌, List, [], ◌∷◌, ◌++◌, refl, ap, ◌∙◌, arith}
+use Rattle.std.proofs.Common.{◌≡◌, ℕ, ◌+◌, ◌≤◌, Bool, true, false, cond, ◌||◌, ◌&&◌, List, [], ◌∷◌, ◌++◌, refl, ap}
+use Rattle.std.proofs.Common.{◌∙◌, arith}
 use Rattle.std.specs.Prelude.{count_by, filter}
 use Rattle.std.specs.List.{list_any}
 use Rattle.std.proofs.lemmas.Bool.{or_parts}
@@ -17,7 +18,8 @@ module _ {A : Type 0} (p : A → Bool) where
 
   pub count_push_no : (xs : List A) (x : A) → p x ≡ false → count_by p (xs ++ x ∷ []) ≡ count_by p xs
   count_push_no xs x e =
-      let h : count_by p (xs ++ x ∷ []) ≡ count_by p xs + 0 = count_push xs x ∙ ap (λ b. count_by p xs + cond {A = ℕ} b 1 0) e in omega (arith, h)
+      let h : count_by p (xs ++ x ∷ []) ≡ count_by p xs + 0 =
+      count_push xs x ∙ ap (λ b. count_by p xs + cond {A = ℕ} b 1 0) e in omega (arith, h)
 
   pub none_passes : (xs : List A) → list_any p xs ≡ false → count_by p xs ≡ 0
   none_passes [] e = refl

@@ -1,5 +1,6 @@
 -- A bit of words is set or cleared, and the others stay.
-use Rattle.std.proofs.Common.{◌≡◌, ◌≢◌, ℕ, ◌*◌, ◌/◌, ◌%◌, ◌^◌, ◌<◌, ◌||◌, ◌&&◌, ◌==◌, not, List, length, inl, inr, sym, ap, ◌∙◌, arith, eq-eqb, ne_eqb, set, slice_index, bit_and, bit_or}
+use Rattle.std.proofs.Common.{◌≡◌, ◌≢◌, ℕ, ◌*◌, ◌/◌, ◌%◌, ◌^◌, ◌<◌, ◌||◌, ◌&&◌, ◌==◌, not, List, length, inl, inr}
+use Rattle.std.proofs.Common.{sym, ap, ◌∙◌, arith, eq-eqb, ne_eqb, set, slice_index, bit_and, bit_or}
 use Rattle.std.specs.Int.{bit_not, w64}
 use Rattle.std.proofs.lemmas.Bool.{cases_eq}
 use Rattle.std.proofs.lemmas.Grind.{get_or-set_at}
@@ -13,7 +14,8 @@ module _ (words : List ℕ) (bit : ℕ) (there : bit < 64 * length words) where
   old = slice_index words (bit / 64)
 
   same_word : (new b : ℕ) → b / 64 ≡ bit / 64 → is_marked (set words (bit / 64) new) b ≡ is_under new (b % 64)
-  same_word new b e = ap (λ w. is_under w (b % 64)) (get_or-set_at words (bit / 64) (b / 64) new 0 e (omega (arith, there)))
+  same_word new b e = ap (λ w. is_under w (b % 64)) (get_or-set_at words (bit / 64) (b / 64) new 0 e
+      (omega (arith, there)))
 
   other_word : (new b : ℕ) → b / 64 ≢ bit / 64 → is_marked (set words (bit / 64) new) b ≡ is_marked words b
   other_word new b ne = ap (λ w. is_under w (b % 64)) (get_or-set_other words (bit / 64) (b / 64) new 0 ne)
@@ -21,32 +23,41 @@ module _ (words : List ℕ) (bit : ℕ) (there : bit < 64 * length words) where
   own_word : (b : ℕ) → b / 64 ≡ bit / 64 → is_under (slice_index words (bit / 64)) (b % 64) ≡ is_marked words b
   own_word b e = ap (λ k. is_under (slice_index words k) (b % 64)) (sym e)
 
-  pub marked-is : (b : ℕ) → is_marked (set words (bit / 64) (bit_or (slice_index words (bit / 64)) (1 * 2 ^ (bit % 64) % 2 ^ 64))) b ≡ (b == bit || is_marked words b)
+  pub marked-is : (b : ℕ) → is_marked (set words (bit / 64)
+      (bit_or (slice_index words (bit / 64)) (1 * 2 ^ (bit % 64) % 2 ^ 64))) b ≡ (b == bit || is_marked words b)
   marked-is b =
       let new = bit_or (slice_index words (bit / 64)) (1 * 2 ^ (bit % 64) % 2 ^ 64) in
       elim (cases_eq (b / 64) (bit / 64)) [
         | inl e ↦ elim (cases_eq (b % 64) (bit % 64)) [
           | inl f ↦
-              same_word new b e ∙ ap (is_under new) f ∙ ap (λ n. n == 1) (bit_at_set_same w64 (slice_index words (bit / 64)) (bit % 64) (omega arith))
+              same_word new b e ∙ ap (is_under new) f ∙ ap (λ n. n == 1)
+              (bit_at_set_same w64 (slice_index words (bit / 64)) (bit % 64) (omega arith))
               ∙ sym (ap (λ t. t || is_marked words b) (eq-eqb b bit (omega (arith, e, f))))
           | inr ne ↦
-              same_word new b e ∙ ap (λ n. n == 1) (bit_at_set_other w64 (slice_index words (bit / 64)) (bit % 64) (omega arith) (b % 64) ne) ∙ own_word b e
+              same_word new b e ∙ ap (λ n. n == 1) (bit_at_set_other w64 (slice_index words (bit / 64)) (bit % 64)
+              (omega arith) (b % 64) ne) ∙ own_word b e
               ∙ sym (ap (λ t. t || is_marked words b) (ne_eqb b bit (λ x. ne (ap (λ k. k % 64) x))))
         ]
-        | inr ne ↦ other_word new b ne ∙ sym (ap (λ t. t || is_marked words b) (ne_eqb b bit (λ x. ne (ap (λ k. k / 64) x))))
+        | inr ne ↦ other_word new b ne ∙ sym (ap (λ t. t || is_marked words b)
+            (ne_eqb b bit (λ x. ne (ap (λ k. k / 64) x))))
       ]
 
-  pub unmarked-is : (b : ℕ) → is_marked (set words (bit / 64) (bit_and (slice_index words (bit / 64)) (bit_not w64 (1 * 2 ^ (bit % 64) % 2 ^ 64)))) b ≡ (not (b == bit) && is_marked words b)
+  pub unmarked-is : (b : ℕ) → is_marked (set words (bit / 64)
+      (bit_and (slice_index words (bit / 64)) (bit_not w64 (1 * 2 ^ (bit % 64) % 2 ^ 64)))) b
+      ≡ (not (b == bit) && is_marked words b)
   unmarked-is b =
       let new = bit_and (slice_index words (bit / 64)) (bit_not w64 (1 * 2 ^ (bit % 64) % 2 ^ 64)) in
       elim (cases_eq (b / 64) (bit / 64)) [
         | inl e ↦ elim (cases_eq (b % 64) (bit % 64)) [
           | inl f ↦
-              same_word new b e ∙ ap (is_under new) f ∙ ap (λ n. n == 1) (bit_at_clear_same w64 (slice_index words (bit / 64)) (bit % 64) (omega arith))
+              same_word new b e ∙ ap (is_under new) f ∙ ap (λ n. n == 1)
+              (bit_at_clear_same w64 (slice_index words (bit / 64)) (bit % 64) (omega arith))
               ∙ sym (ap (λ t. not t && is_marked words b) (eq-eqb b bit (omega (arith, e, f))))
           | inr ne ↦
-              same_word new b e ∙ ap (λ n. n == 1) (bit_at_clear_other w64 (slice_index words (bit / 64)) (bit % 64) (omega arith) (b % 64) (omega arith) ne) ∙ own_word b e
+              same_word new b e ∙ ap (λ n. n == 1) (bit_at_clear_other w64 (slice_index words (bit / 64)) (bit % 64)
+              (omega arith) (b % 64) (omega arith) ne) ∙ own_word b e
               ∙ sym (ap (λ t. not t && is_marked words b) (ne_eqb b bit (λ x. ne (ap (λ k. k % 64) x))))
         ]
-        | inr ne ↦ other_word new b ne ∙ sym (ap (λ t. not t && is_marked words b) (ne_eqb b bit (λ x. ne (ap (λ k. k / 64) x))))
+        | inr ne ↦ other_word new b ne ∙ sym (ap (λ t. not t && is_marked words b)
+            (ne_eqb b bit (λ x. ne (ap (λ k. k / 64) x))))
       ]

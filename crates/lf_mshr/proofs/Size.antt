@@ -29,10 +29,14 @@ max-le a b n = λ p q. omega arith
 
 pub targets_fit : (a b s : ℕ) → a ≤ 2 ^ 32 → b ≤ 2 ^ 32 → s ≤ 2 ^ 32
     → up (max (max (max 2 (max a 1)) 1) 8)
-    (up 1 (up 8 (up (max (max 2 (max a 1)) 1) 0 + up (max (max 2 (max a 1)) 1) (up (max 2 (max a 1)) 0 + 1024 * (up (max 2 (max a 1)) (up b 2 + s)))) + 8) + 0) < 9223372036854775808
+    (up 1 (up 8 (up (max (max 2 (max a 1)) 1) 0 + up (max (max 2 (max a 1)) 1)
+    (up (max 2 (max a 1)) 0 + 1024 * (up (max 2 (max a 1)) (up b 2 + s)))) + 8) + 0) < 9223372036854775808
 targets_fit a b s ha hb hs =
-    let inner : max 2 (max a 1) ≤ 2 ^ 32 = max-le 2 (max a 1) (2 ^ 32) (omega arith) (max-le a 1 (2 ^ 32) ha (omega arith)) in
+    let inner : max 2 (max a 1) ≤ 2 ^ 32 = max-le 2 (max a 1) (2 ^ 32) (omega arith)
+    (max-le a 1 (2 ^ 32) ha (omega arith)) in
     let mid : max (max 2 (max a 1)) 1 ≤ 2 ^ 32 = max-le (max 2 (max a 1)) 1 (2 ^ 32) inner (omega arith) in
-    let big : max (max (max 2 (max a 1)) 1) 8 ≤ 2 ^ 32 = max-le (max (max 2 (max a 1)) 1) 8 (2 ^ 32) mid (omega arith) in
+    let big : max (max (max 2 (max a 1)) 1) 8 ≤ 2 ^ 32 = max-le (max (max 2 (max a 1)) 1) 8 (2 ^ 32) mid (omega arith)
+    in
     let place = place-le (max 2 (max a 1)) b s inner hb hs in
-    outer-le (max (max (max 2 (max a 1)) 1) 8) (max (max 2 (max a 1)) 1) (max 2 (max a 1)) (1024 * (up (max 2 (max a 1)) (up b 2 + s))) big mid inner (omega (arith, place))
+    outer-le (max (max (max 2 (max a 1)) 1) 8) (max (max 2 (max a 1)) 1) (max 2 (max a 1))
+    (1024 * (up (max 2 (max a 1)) (up b 2 + s))) big mid inner (omega (arith, place))

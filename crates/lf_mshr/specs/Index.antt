@@ -1,4 +1,5 @@
--- What a word and arrays say of what the registers of a file hold: which are in use, by which block and by how many targets.
+-- What a word and arrays say of what the registers of a file hold: which are in use, by which block and by how many
+-- targets.
 use Rattle.std.specs.Prelude.{◌≡◌, ℕ, ◌+◌, ◌*◌, ◌<◌, ◌≤◌, Bool, true, ◌==◌}
 use Rattle.std.specs.Prelude.{◌&&◌, nat_le, nat_lt, List, length, slice_index, count_by}
 use Rattle.std.specs.List.{list_all, list_any}

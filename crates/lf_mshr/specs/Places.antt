@@ -46,7 +46,8 @@ pub record IsChain {A : Type 0} (items : List A) (next used : List ℕ) (end las
   pub places : AreOnce end (walk (slice_index next) end len)
   pub marked : (place : ℕ) → is_marked used place ≡ list_any (λ x. x == place) (walk (slice_index next) end len)
 
--- what the places are seen as: how many there are, and those in use with their items, in the order in which they were taken
+-- what the places are seen as: how many there are, and those in use with their items, in the order in which they
+-- were taken
 pub record Places (T : Type 0) : Type 0 where
   pub places : ℕ
   pub order : List (ℕ × Held T)

@@ -1,4 +1,5 @@
--- A register file as its contract sees it: its organisation and its number of destinations, which never change, and what
+-- A register file as its contract sees it: its organisation and its number of destinations, which never change, and
+-- what
 -- it holds, in the order of acceptance.
 use Rattle.std.specs.Prelude.{◌≡◌, ℕ, Bool, List, [], ◌∷◌, ◌++◌, None, ◌⊎◌, bit_or, if◌then◌else◌}
 use Rattle.std.specs.List.{fold}
@@ -20,10 +21,20 @@ module _ {T : Type 0} where
   empty_file organisation destinations = record { organisation = organisation; destinations = destinations; held = [] }
 
   abbrev pub implicit_file : ℕ → ℕ → List (Held T) → RegisterFile T
-  implicit_file registers destinations held = record { organisation = Implicit registers; destinations = destinations; held = held }
+  implicit_file registers destinations held = record {
+    organisation = Implicit registers;
+    destinations =
+        destinations;
+    held = held;
+  }
 
   abbrev pub explicit_file : ℕ → ℕ → ℕ → List (Held T) → RegisterFile T
-  explicit_file registers entries destinations held = record { organisation = Explicit registers entries; destinations = destinations; held = held }
+  explicit_file registers entries destinations held = record {
+    organisation =
+        Explicit registers entries;
+    destinations = destinations;
+    held = held;
+  }
 
   abbrev pub inverted_file : ℕ → List (Held T) → RegisterFile T
   inverted_file destinations held = record { organisation = Inverted; destinations = destinations; held = held }
@@ -34,11 +45,21 @@ module _ {T : Type 0} where
   -- the file after a target was placed
   abbrev pub with_target : RegisterFile T → ℕ → ℕ → T → RegisterFile T
   with_target file register block target =
-      record { organisation = file.organisation; destinations = file.destinations; held = file.held ++ held_item register block target ∷ [] }
+      record {
+        organisation = file.organisation;
+        destinations = file.destinations;
+        held =
+            file.held ++ held_item register block target ∷ [];
+      }
 
   -- the file after the targets of a block have left
   abbrev pub without_block : RegisterFile T → ℕ → RegisterFile T
-  without_block file block = record { organisation = file.organisation; destinations = file.destinations; held = released file.held block }
+  without_block file block = record {
+    organisation = file.organisation;
+    destinations = file.destinations;
+    held =
+        released file.held block;
+  }
 
   -- a register and one target of it
   abbrev pub released_pair : Held T → ℕ × T
@@ -48,12 +69,14 @@ module _ {T : Type 0} where
 module _ {T : Type 0} (position destination : T → ℕ) where
   -- what a primary miss to the block must meet to take the register, in order
   abbrev pub primary_wants : RegisterFile T → ℕ → ℕ → T → List Clause
-  primary_wants file register block target = primary_clauses file.organisation file.destinations file.held block (destination target) register
+  primary_wants file register block target = primary_clauses file.organisation file.destinations file.held block
+      (destination target) register
 
   -- what a further miss to the block must meet to join the register, in order
   abbrev pub merge_wants : RegisterFile T → ℕ → ℕ → T → List Clause
   merge_wants file register block target =
-      merge_clauses file.organisation file.destinations position file.held block (destination target) (position target) register
+      merge_clauses file.organisation file.destinations position file.held block (destination target)
+      (position target) register
 
   abbrev pub has_room_for : RegisterFile T → ℕ → T → Bool
   has_room_for file block target =

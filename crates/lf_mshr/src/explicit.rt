@@ -42,14 +42,16 @@ impl<T: Target> ExplicitFile<T> {
     /// Whether the register has an entry left.
     fn has_entry(&self, register: u32) -> bool
         requires { register < self.now.registers.registers }
-        ensures { result ≡ nat_lt (count_by (λ h. h.register == register) (held_of self.now.registers.places.order)) self.now.entries }
+        ensures { result ≡ nat_lt (count_by (λ h. h.register == register) (held_of self.now.registers.places.order))
+            self.now.entries }
     {
         self.counts[register as usize] < self.entries
     }
 
     /// Whether a register takes a target of the block.
     fn has_room(&self, block: u32) -> bool
-        ensures { (destination at : ℕ) → result ≡ has_room (shape.Explicit self.now.registers.registers self.now.entries)
+        ensures { (destination at : ℕ) → result ≡ has_room (shape.Explicit self.now.registers.registers
+            self.now.entries)
             self.now.destinations T.position (held_of self.now.registers.places.order) block destination at }
     {
         match self.registers.find(block) {
@@ -61,12 +63,14 @@ impl<T: Target> ExplicitFile<T> {
     /// Appends a target of a register that is free or holds the block, and that has an entry left.
     fn append(&mut self, register: u16, block: u32, target: T)
         requires exists { register < self.old.registers.registers }
-        requires entry { count_by (λ h. h.register == register) (held_of self.old.registers.places.order) < self.old.entries }
+        requires entry { count_by (λ h. h.register == register) (held_of self.old.registers.places.order) <
+            self.old.entries }
         requires own { (is_free (held_of self.old.registers.places.order) register ≡ true)
             ⊎ (holds_in (held_of self.old.registers.places.order) register block ≡ true) }
         requires apart { (holds (held_of self.old.registers.places.order) block ≡ false)
             ⊎ (holds_in (held_of self.old.registers.places.order) register block ≡ true) }
-        ensures items { held_of self.new.registers.places.order ≡ held_of self.old.registers.places.order ++ held_item register block target ∷ [] }
+        ensures items { held_of self.new.registers.places.order ≡ held_of self.old.registers.places.order
+            ++ held_item register block target ∷ [] }
         ensures registers { self.new.registers.registers ≡ self.old.registers.registers }
         ensures entries { self.new.entries ≡ self.old.entries }
         ensures destinations { self.new.destinations ≡ self.old.destinations }
@@ -93,7 +97,8 @@ impl<T: Target> Organisation for Explicit<T> {
 
     ghost names = { is_explicit };
 
-    ghost seen = { λ file. explicit_file file.registers.registers file.entries file.destinations (held_of file.registers.places.order) };
+    ghost seen = { λ file. explicit_file file.registers.registers file.entries file.destinations
+        (held_of file.registers.places.order) };
 
     ghost shares_as_seen = { λ file. refl };
 

@@ -38,7 +38,8 @@ impl<T: Target> ImplicitFile<T> {
     fn has_field(&self, register: u32, at: u8) -> bool
         requires register { register < self.now.registers.registers }
         requires eight { at < 8 }
-        ensures { result ≡ takes (shape.Implicit self.now.registers.registers) T.position (held_of self.now.registers.places.order) register at }
+        ensures { result ≡ takes (shape.Implicit self.now.registers.registers) T.position
+            (held_of self.now.registers.places.order) register at }
     {
         let place = register as u16 * FIELDS + u16::from(at);
         !self.registers.places.is_taken(place)
@@ -65,7 +66,8 @@ impl<T: Target> ImplicitFile<T> {
             ⊎ (holds_in (held_of self.old.registers.places.order) register block ≡ true) }
         requires apart { (holds (held_of self.old.registers.places.order) block ≡ false)
             ⊎ (holds_in (held_of self.old.registers.places.order) register block ≡ true) }
-        ensures items { held_of self.new.registers.places.order ≡ held_of self.old.registers.places.order ++ held_item register block target ∷ [] }
+        ensures items { held_of self.new.registers.places.order ≡ held_of self.old.registers.places.order
+            ++ held_item register block target ∷ [] }
         ensures registers { self.new.registers.registers ≡ self.old.registers.registers }
         ensures destinations { self.new.destinations ≡ self.old.destinations }
     {
@@ -89,7 +91,8 @@ impl<T: Target> Organisation for Implicit<T> {
 
     ghost names = { is_implicit };
 
-    ghost seen = { λ file. implicit_file file.registers.registers file.destinations (held_of file.registers.places.order) };
+    ghost seen = { λ file. implicit_file file.registers.registers file.destinations
+        (held_of file.registers.places.order) };
 
     ghost shares_as_seen = { λ file. refl };
 

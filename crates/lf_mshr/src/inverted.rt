@@ -39,7 +39,8 @@ impl<T: Target> InvertedFile<T> {
     fn append(&mut self, register: u16, block: u32, target: T)
         requires exists { register < self.old.destinations }
         requires free { is_free (held_of self.old.places.order) register ≡ true }
-        ensures items { held_of self.new.places.order ≡ held_of self.old.places.order ++ held_item register block target ∷ [] }
+        ensures items { held_of self.new.places.order ≡ held_of self.old.places.order
+            ++ held_item register block target ∷ [] }
         ensures destinations { self.new.destinations ≡ self.old.destinations }
     {
         let item = Held {

@@ -8,7 +8,8 @@ ghost use Rattle.lf_rules.specs.Run.{first_failing};
 ghost use Rattle.lf_rules.specs.Sharing.{HoldsOnce};
 ghost use Rattle.lf_rules.specs.declared.shape.OrgShape.{OrgShape};
 ghost use Rattle.lf_mshr.specs.Faults.{refusal_of, broken_rule};
-ghost use Rattle.lf_mshr.specs.RegisterFile.{RegisterFile, empty_file, with_target, without_block, released_pair, store_bytes};
+ghost use Rattle.lf_mshr.specs.RegisterFile.{RegisterFile, empty_file, with_target, without_block, released_pair};
+ghost use Rattle.lf_mshr.specs.RegisterFile.{store_bytes};
 ghost use Rattle.lf_mshr.specs.RegisterFile.{primary_wants, merge_wants, has_room_for, TakesTarget, SomeTakes};
 
 use crate::fault::RegisterFault;
@@ -55,8 +56,10 @@ pub trait Organisation {
 
     /// Whether some register takes the target, as a primary miss or as a further one.
     fn room(file: &Self::File, block: u32, target: &Self::Target) -> bool
-        ensures value { result ≡ has_room_for Self.Target.position Self.Target.destination (seen file.now) block target.now }
-        ensures exact { IsTrue result ↔ SomeTakes Self.Target.position Self.Target.destination (seen file.now) block target.now };
+        ensures value { result ≡ has_room_for Self.Target.position Self.Target.destination (seen file.now) block
+            target.now }
+        ensures exact { IsTrue result ↔ SomeTakes Self.Target.position Self.Target.destination (seen file.now) block
+            target.now };
 
     /// Why the register does not take the target of a primary miss to the block, if it does not: the
     /// first cause of `InFlight`, `Range`, `Wrong` and `Busy`.
@@ -67,7 +70,8 @@ pub trait Organisation {
         target: &Self::Target,
     ) -> Option<RegisterFault>
         ensures { broken_rule result
-            ≡ first_failing OfBank (primary_wants Self.Target.position Self.Target.destination (seen file.now) register block target.now) };
+            ≡ first_failing OfBank (primary_wants Self.Target.position Self.Target.destination (seen file.now)
+            register block target.now) };
 
     /// Why the register does not take the target of a further miss to the block, if it does not: the
     /// first cause of `NotInFlight`, `Range`, `Wrong` and `Full`.
@@ -78,7 +82,8 @@ pub trait Organisation {
         target: &Self::Target,
     ) -> Option<RegisterFault>
         ensures { broken_rule result
-            ≡ first_failing OfBank (merge_wants Self.Target.position Self.Target.destination (seen file.now) register block target.now) };
+            ≡ first_failing OfBank (merge_wants Self.Target.position Self.Target.destination (seen file.now) register
+            block target.now) };
 
     /// Places the target in the register, which takes it as a primary miss or as a further one. Nothing
     /// is judged here.
@@ -96,7 +101,8 @@ pub trait Organisation {
         target: Self::Target,
     ) -> Result<(), RegisterFault>
         ensures answer { refusal_of result
-            ≡ first_failing OfBank (primary_wants Self.Target.position Self.Target.destination (seen file.old) register block target) }
+            ≡ first_failing OfBank (primary_wants Self.Target.position Self.Target.destination (seen file.old)
+            register block target) }
         ensures placed { OnOk result (seen file.new ≡ with_target (seen file.old) register block target) }
         ensures unchanged { OnErr result (seen file.new ≡ seen file.old) }
     {
@@ -117,7 +123,8 @@ pub trait Organisation {
         target: Self::Target,
     ) -> Result<(), RegisterFault>
         ensures answer { refusal_of result
-            ≡ first_failing OfBank (merge_wants Self.Target.position Self.Target.destination (seen file.old) register block target) }
+            ≡ first_failing OfBank (merge_wants Self.Target.position Self.Target.destination (seen file.old) register
+            block target) }
         ensures placed { OnOk result (seen file.new ≡ with_target (seen file.old) register block target) }
         ensures unchanged { OnErr result (seen file.new ≡ seen file.old) }
     {

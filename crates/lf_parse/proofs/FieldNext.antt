@@ -8,7 +8,8 @@ use Rattle.lf_parse.specs.Words.{Gives, without_blanks, word_of, without_front}
 use Rattle.lf_parse.specs.Text.{name_text}
 use Rattle.lf_parse.specs.Fields.{valued, field_at, is_field}
 
-found : {X : Type 0} (view : X → List ℕ × List ℕ) (name : Name) (text : List ℕ) (value : Option (List ℕ)) (read : Result X Lack)
+found : {X : Type 0} (view : X → List ℕ × List ℕ) (name : Name) (text : List ℕ) (value : Option (List ℕ))
+    (read : Result X Lack)
     → Gives view read (valued name text value) → is_ok read ≡ is_some value
 found view name text (Some value) (Ok x) gives = refl
 found view name text (Some value) (Err lack) gives = absurd cc

@@ -1,5 +1,6 @@
 -- Masks that are read one after another, as a loop does.
-use Rattle.std.proofs.Common.{◌≡◌, ℕ, suc, ◌-◌, ◌+◌, ◌≤◌, ◌<◌, true, false, List, [], ◌∷◌, ◌++◌, Result, Ok, Err, refl, sym, ap, ◌∙◌, append_assoc, arith}
+use Rattle.std.proofs.Common.{◌≡◌, ℕ, suc, ◌-◌, ◌+◌, ◌≤◌, ◌<◌, true, false, List, [], ◌∷◌, ◌++◌, Result, Ok, Err}
+use Rattle.std.proofs.Common.{refl, sym, ap, ◌∙◌, append_assoc, arith}
 use Rattle.std.proofs.lemmas.List.{append-nil}
 use Rattle.lf_rules.specs.declared.mask.Mask.{Mask}
 use Rattle.lf_parse.specs.declared.fault.Lack.{Lack}
@@ -16,14 +17,16 @@ regroup : (front : List Mask) (m : Mask) (read : Result (List Mask × List ℕ) 
 regroup front m (Ok x) = ap (λ (ms : List Mask). Ok (ms, x.1)) (simp append_assoc)
 regroup front m (Err lack) = refl
 
-pub goes_on : (front : List Mask) (count i : ℕ) (text : List ℕ) (bits : ℕ) (after : List ℕ) (total : Result (List Mask × List ℕ) Lack)
+pub goes_on : (front : List Mask) (count i : ℕ) (text : List ℕ) (bits : ℕ) (after : List ℕ)
+    (total : Result (List Mask × List ℕ) Lack)
     → i < count → is_field names.Mask text ≡ true → hexadecimal_at names.Mask text ≡ Ok (bits, after)
     → with_front front (masks_at (count - i) text) ≡ total
     → with_front (front ++ (record { 0 = bits }) ∷ []) (masks_at (count - (i + 1)) after) ≡ total
 unfolding masks_at
 goes_on front count i text bits after total lt here h so_far =
     let k : count - i ≡ suc (count - (i + 1)) = omega arith in
-    let one : with_front front (masks_at (count - i) text) ≡ with_front (front ++ (record { 0 = bits }) ∷ []) (masks_at (count - (i + 1)) after) =
+    let one : with_front front (masks_at (count - i) text) ≡ with_front (front ++ (record { 0 = bits }) ∷ [])
+    (masks_at (count - (i + 1)) after) =
     rw (k, here, h) (regroup front (record { 0 = bits }) (masks_at (count - (i + 1)) after)) in
     sym one ∙ so_far
 
@@ -37,7 +40,8 @@ fails lack front count i text total lt here h so_far =
     sym so_far ∙ one
 
 pub stops : (front : List Mask) (count i : ℕ) (text : List ℕ) (total : Result (List Mask × List ℕ) Lack)
-    → i < count → is_field names.Mask text ≡ false → with_front front (masks_at (count - i) text) ≡ total → total ≡ Ok (front, text)
+    → i < count → is_field names.Mask text ≡ false → with_front front (masks_at (count - i) text) ≡ total →
+    total ≡ Ok (front, text)
 unfolding masks_at
 stops front count i text total lt here so_far =
     let k : count - i ≡ suc (count - (i + 1)) = omega arith in

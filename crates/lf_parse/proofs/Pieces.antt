@@ -1,5 +1,7 @@
 -- A field that is printed is read again, whatever stands behind it.
-use Rattle.std.proofs.Common.{◌≡◌, ℕ, zero, suc, ◌+◌, ◌*◌, ◌/◌, ◌%◌, ◌^◌, ◌<◌, ◌≤◌, Bool, true, false, not, ◌&&◌, cond, eqb, ltb, leb, List, [], ◌∷◌, ◌++◌, length, get_or, Some, None, Ok, refl, ap, ◌∙◌, arith}
+use Rattle.std.proofs.Common.{◌≡◌, ℕ, zero, suc, ◌+◌, ◌*◌, ◌/◌, ◌%◌, ◌^◌, ◌<◌, ◌≤◌, Bool, true, false, not, ◌&&◌}
+use Rattle.std.proofs.Common.{cond, eqb, ltb, leb, List, [], ◌∷◌, ◌++◌, length, get_or, Some, None, Ok, refl, ap, ◌∙◌}
+use Rattle.std.proofs.Common.{arith}
 use Rattle.std.specs.Fmt.{decimal, digits}
 use Rattle.std.specs.Char.{digit_value}
 use Rattle.std.specs.Str.Parse.{AllDigits, IsNumeral, digits_value, digits_value_after}
@@ -13,7 +15,8 @@ use Rattle.lf_parse.specs.declared.fault.Name.{Name}
 use Rattle.lf_parse.specs.declared.fault.Name.TheVariants as names
 use Rattle.lf_parse.specs.Text.{name_text}
 use Rattle.lf_parse.specs.Words.{is_blank, is_of_word, without_blanks, word_of, after_word, is_over, without_front}
-use Rattle.lf_parse.specs.Fields.{field_at, number_after, number_of, decimal_at, number_at, version_at, hexadecimal_at, bytes_of, bytes_at, carried_at}
+use Rattle.lf_parse.specs.Fields.{field_at, number_after, number_of, decimal_at, number_at, version_at}
+use Rattle.lf_parse.specs.Fields.{hexadecimal_at, bytes_of, bytes_at, carried_at}
 use Rattle.lf_parse.specs.Lines.{is_behind}
 
 -- ---- words
@@ -42,7 +45,8 @@ word_again (b ∷ word) rest all ends =
     let both = and_both (is_of_word b) (all_of_word word) all in
     rw both.0 (ap (λ (w : List ℕ). b ∷ w) (word_again word rest both.1 ends))
 
-pub after_again : (word rest : List ℕ) → all_of_word word ≡ true → ends_word rest ≡ true → after_word (word ++ rest) ≡ rest
+pub after_again : (word rest : List ℕ) → all_of_word word ≡ true → ends_word rest ≡ true →
+    after_word (word ++ rest) ≡ rest
 after_again [] [] all ends = refl
 after_again [] (b ∷ rest) all ends = rw (not_true (is_of_word b) ends) refl
 after_again (b ∷ word) rest all ends =
@@ -133,7 +137,13 @@ no_digit : (c k : ℕ) → digit_value c < 36 → digit_value k ≡ 36 → eqb c
 no_digit c k below is = not_equal c k (λ e. let same : digit_value c ≡ 36 = ap digit_value e ∙ is in omega arith)
 
 digit_of_word : (c : ℕ) → digit_value c < 36 → is_of_word c ≡ true
-digit_of_word c below = rw (no_digit c 32 below refl, no_digit c 9 below refl, no_digit c 13 below refl, no_digit c 59 below refl) refl
+digit_of_word c below = rw (
+  no_digit c 32 below refl,
+  no_digit c 9 below refl,
+  no_digit c 13 below refl,
+  no_digit c 59
+      below refl,
+) refl
 
 pub digits_of_word : (radix : ℕ) (ds : List ℕ) → radix ≤ 36 → AllDigits radix ds → all_of_word ds ≡ true
 digits_of_word radix [] le all = refl
@@ -170,7 +180,8 @@ unfolding decimal_at
 decimal_again name most n rest le small ends =
     let numeral = decimal_is_IsNumeral n small in
     let number : number_of 10 most (decimal n) ≡ Some n =
-    number_again 10 most (decimal n) (omega arith) numeral.0 (omega (arith, numeral.1)) ∙ ap (λ (m : ℕ). Some m) numeral.1 in
+    number_again 10 most (decimal n) (omega arith) numeral.0 (omega (arith, numeral.1))
+    ∙ ap (λ (m : ℕ). Some m) numeral.1 in
     rw (field_again name (decimal n) rest (digits_of_word 10 (decimal n) (omega arith) numeral.0.1) ends, number) refl
 
 pub number_or_again : (next n : ℕ) (rest : List ℕ) → n < 0x1_0000_0000 → ends_word rest ≡ true
@@ -190,7 +201,8 @@ hexadecimal_again name n rest small ends =
     let ds = digits 16 false n in
     let numeral = digits_is_IsNumeral 16 false (omega arith) (omega arith) n (omega arith) in
     let number : number_of 16 0xffff_ffff_ffff_ffff ds ≡ Some n =
-    number_again 16 0xffff_ffff_ffff_ffff ds (omega arith) numeral.0 (omega (arith, numeral.1)) ∙ ap (λ (m : ℕ). Some m) numeral.1 in
+    number_again 16 0xffff_ffff_ffff_ffff ds (omega arith) numeral.0 (omega (arith, numeral.1))
+    ∙ ap (λ (m : ℕ). Some m) numeral.1 in
     let word : all_of_word (hexadecimal n) ≡ true = digits_of_word 16 ds (omega arith) numeral.0.1 in
     rw (field_again name (hexadecimal n) rest word ends, number) refl
 
@@ -219,15 +231,21 @@ spelled_again most bytes few fit =
     ∙ ap (λ (b : Bool). cond b None (result_ok (decode_sized digits (length bytes)))) room
     ∙ ap result_ok (decode_sized-encode_lower bytes (length bytes) refl fit)
 
-pub bytes_again : (most : ℕ) (bytes rest : List ℕ) → length bytes ≤ most → ((i : ℕ) → get_or bytes i 0 < 256) → ends_word rest ≡ true
+pub bytes_again : (most : ℕ) (bytes rest : List ℕ) → length bytes ≤ most → ((i : ℕ) → get_or bytes i 0 < 256) →
+    ends_word rest ≡ true
     → bytes_at most (field_text names.Bytes (encode_lower bytes) rest) ≡ Ok (bytes, rest)
 unfolding bytes_at
 bytes_again most bytes rest few fit ends =
-    rw (field_again names.Bytes (encode_lower bytes) rest (encoded_of_word bytes) ends, spelled_again most bytes few fit) refl
+    rw (
+      field_again names.Bytes (encode_lower bytes) rest (encoded_of_word bytes) ends,
+      spelled_again most bytes few
+          fit,
+    ) refl
 
 -- ---- the end of a line
 
-behind_step : (t : Bool) (b : ℕ) (text : List ℕ) → is_blank b ≡ t → cond t (is_behind text) (eqb b 59) ≡ true → not (is_of_word b) ≡ true
+behind_step : (t : Bool) (b : ℕ) (text : List ℕ) → is_blank b ≡ t → cond t (is_behind text) (eqb b 59) ≡ true →
+    not (is_of_word b) ≡ true
 behind_step true b text blank h = rw blank refl
 behind_step false b text blank h = rw (blank, h) refl
 
@@ -250,7 +268,8 @@ pub data_ends : (bytes rest : List ℕ) → is_behind rest ≡ true → ends_wor
 data_ends [] rest behind = behind_ends rest behind
 data_ends (b ∷ bytes) rest behind = refl
 
-pub carried_again : (most : ℕ) (bytes rest : List ℕ) → length bytes ≤ most → ((i : ℕ) → get_or bytes i 0 < 256) → is_behind rest ≡ true
+pub carried_again : (most : ℕ) (bytes rest : List ℕ) → length bytes ≤ most → ((i : ℕ) → get_or bytes i 0 < 256) →
+    is_behind rest ≡ true
     → carried_at most (data_text bytes ++ rest) ≡ Ok (bytes, rest)
 unfolding carried_at
 carried_again most [] rest few fit behind = rw (behind_is_over rest behind) refl

@@ -125,7 +125,8 @@ event_at words.Evict2 text = evict2_at text
 event_at words.Fence text = Ok (events.Fence, text)
 event_at words.SecondMerge text = second_merge_at text
 
--- ---- where a record stands: its log, its bank and its number there, and the text behind them. The defaults have the next number of each bank.
+-- ---- where a record stands: its log, its bank and its number there, and the text behind them. The defaults have
+-- the next number of each bank.
 
 -- a port's record
 unfoldable pub port_head_at : Defaults → List ℕ → Result (ℕ × ℕ × ℕ × List ℕ) Lack

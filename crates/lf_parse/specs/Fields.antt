@@ -1,5 +1,6 @@
 -- How a field is read: its value, and the text behind it.
-use Rattle.std.specs.Prelude.{ℕ, zero, suc, ◌+◌, ◌*◌, ◌/◌, Bool, ◌&&◌, ◌||◌, nat_lt, nat_le, List, [], ◌∷◌, length, codes, if◌then◌else◌, Option, Some, None, Result, Ok, Err}
+use Rattle.std.specs.Prelude.{ℕ, zero, suc, ◌+◌, ◌*◌, ◌/◌, Bool, ◌&&◌, ◌||◌, nat_lt, nat_le, List, [], ◌∷◌, length}
+use Rattle.std.specs.Prelude.{codes, if◌then◌else◌, Option, Some, None, Result, Ok, Err}
 use Rattle.std.specs.Option.{is_some}
 use Rattle.std.specs.Char.{digit_value}
 use Rattle.std.specs.Result.{result_ok}
@@ -35,7 +36,8 @@ field_at name text = field_from name (without_blanks text)
 -- a digit behind a number, where both together are not above the most
 abbrev pub digit_added : ℕ → ℕ → ℕ → ℕ → Option ℕ
 digit_added radix most n c =
-    if nat_lt (digit_value c) radix && nat_le (n * radix + digit_value c) most then Some (n * radix + digit_value c) else None
+    if nat_lt (digit_value c) radix && nat_le (n * radix + digit_value c) most then Some (n * radix + digit_value c)
+    else None
 
 abbrev pub number_after : ℕ → ℕ → ℕ → List ℕ → Option ℕ
 number_after radix most n [] = Some n
@@ -65,12 +67,14 @@ is_field name text = is_some (without_front (name_text name) (word_of (without_b
 -- the number of a record, which may be left out where its bank has a next one below 2^32: it is that one then
 unfoldable pub number_at : ℕ → List ℕ → Result (ℕ × List ℕ) Lack
 number_at next text =
-    if is_field names.Number text || nat_lt 0xffff_ffff next then decimal_at names.Number 0xffff_ffff text else Ok (next, text)
+    if is_field names.Number text || nat_lt 0xffff_ffff next then decimal_at names.Number 0xffff_ffff text else Ok
+    (next, text)
 
 -- the version, which may be left out
 unfoldable pub version_at : List ℕ → Result (Option ℕ × List ℕ) Lack
 version_at text =
-    if is_field names.Version text then (decimal_at names.Version 0xffff text >>= λ version. Ok (Some version.0, version.1))
+    if is_field names.Version text then (decimal_at names.Version 0xffff text >>= λ version. Ok
+    (Some version.0, version.1))
     else Ok (None, text)
 
 -- a number in hexadecimal digits behind 0x, below 2^64
@@ -87,7 +91,8 @@ hexadecimal_at name text = do
 
 -- the bytes of these digits, where there are no more than the most
 unfoldable pub bytes_of : ℕ → List ℕ → Option (List ℕ)
-bytes_of most digits = if nat_lt most (length digits / 2) then None else result_ok (decode_sized digits (length digits / 2))
+bytes_of most digits = if nat_lt most (length digits / 2) then None else result_ok
+    (decode_sized digits (length digits / 2))
 
 abbrev pub spelled : ℕ → List ℕ → List ℕ → Option (List ℕ) → Result (List ℕ × List ℕ) Lack
 spelled most value rest (Some bytes) = Ok (bytes, rest)

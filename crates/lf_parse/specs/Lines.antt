@@ -1,5 +1,6 @@
 -- How a line is read, and which lines are read again as they were printed.
-use Rattle.std.specs.Prelude.{◌≡◌, ℕ, ◌+◌, ◌-◌, ◌^◌, ◌<◌, ◌≤◌, Bool, true, ◌==◌, List, [], ◌∷◌, ◌++◌, length, slice_index, codes, if◌then◌else◌, Option, Some, None, Result, Ok, Err}
+use Rattle.std.specs.Prelude.{◌≡◌, ℕ, ◌+◌, ◌-◌, ◌^◌, ◌<◌, ◌≤◌, Bool, true, ◌==◌, List, [], ◌∷◌, ◌++◌, length}
+use Rattle.std.specs.Prelude.{slice_index, codes, if◌then◌else◌, Option, Some, None, Result, Ok, Err}
 use Rattle.std.specs.List.{AllByRecursion}
 use Rattle.std.specs.Fmt.{decimal}
 use Rattle.std.specs.Str.{bytes_eq}
@@ -20,7 +21,8 @@ use Rattle.lf_parse.specs.declared.word.Word.TheVariants as words
 use Rattle.lf_parse.specs.declared.defaults.Defaults.{Defaults}
 use Rattle.lf_parse.specs.declared.line.Line.{Line}
 use Rattle.lf_parse.specs.declared.line.Line.TheVariants as lines
-use Rattle.lf_parse.specs.Words.{◌>>=◌, is_blank, without_blanks, word_of, after_word, is_over, event_word_text, word_named}
+use Rattle.lf_parse.specs.Words.{◌>>=◌, is_blank, without_blanks, word_of, after_word, is_over, event_word_text}
+use Rattle.lf_parse.specs.Words.{word_named}
 use Rattle.lf_parse.specs.Defaults.{default_version}
 use Rattle.lf_parse.specs.Fields.{lacks, decimal_at, version_at, bytes_at}
 use Rattle.lf_parse.specs.Events.{record_at}
@@ -39,7 +41,18 @@ header_at defaults text = do
   block ← decimal_at names.Block 0xffff banks.1
   factor ← decimal_at names.Factor 0xffff block.1
   memory ← decimal_at names.Memory 0xffff_ffff factor.1
-  Ok (lines.Header (record { version = version_or (default_version defaults factor.0) version.0; ports = ports.0; banks = banks.0; block = block.0; factor = factor.0; memory_count = memory.0 }), memory.1)
+  Ok (
+    lines.Header (record {
+      version = version_or (default_version defaults factor.0) version.0;
+      ports =
+          ports.0;
+      banks = banks.0;
+      block = block.0;
+      factor = factor.0;
+      memory_count = memory.0;
+    }),
+    memory.1,
+  )
 
 unfoldable pub memory_at : List ℕ → Result (Line × List ℕ) Lack
 memory_at text = do
@@ -56,7 +69,8 @@ unfoldable pub event_line_at : ℕ → Defaults → Word → List ℕ → Result
 event_line_at ports defaults words.Lfts text = header_at defaults text
 event_line_at ports defaults words.Memory text = memory_at text
 event_line_at ports defaults words.End text = end_at text
-event_line_at ports defaults (words.Event word) text = record_at ports defaults word text >>= λ x. Ok (lines.Event x.0, x.1)
+event_line_at ports defaults (words.Event word) text = record_at ports defaults word text >>= λ x. Ok
+    (lines.Event x.0, x.1)
 
 -- the line of this word, whose text from the word on is this
 abbrev pub part_from : ℕ → Defaults → List ℕ → Option Word → Result (Line × List ℕ) Lack
@@ -69,7 +83,8 @@ closed x = let rest = without_blanks x.1 in if is_over rest then Ok x.0 else lac
 
 -- the line, from its first word on
 abbrev pub line_from : ℕ → Defaults → List ℕ → Result Line Lack
-line_from ports defaults text = if is_over text then Ok lines.Blank else part_from ports defaults text (word_named (word_of text)) >>= closed
+line_from ports defaults text = if is_over text then Ok lines.Blank else part_from ports defaults text
+    (word_named (word_of text)) >>= closed
 
 abbrev pub placed : List ℕ → Result Line Lack → Result Line TextFault
 placed text (Ok line) = Ok line
@@ -84,7 +99,8 @@ line_of ports defaults text = placed text (line_from ports defaults (without_bla
 -- the least version that has the kind of this word: the words of the others are in each version
 abbrev pub version_of : List ℕ → ℕ
 version_of word =
-    if bytes_eq (event_word_text kinds.Fence) word then 2 else if bytes_eq (event_word_text kinds.SecondMerge) word then 3 else 1
+    if bytes_eq (event_word_text kinds.Fence) word then 2 else if bytes_eq (event_word_text kinds.SecondMerge) word
+    then 3 else 1
 
 abbrev pub least_version : List ℕ → ℕ
 least_version text = version_of (word_of (without_blanks text))
@@ -116,7 +132,8 @@ abbrev pub IsWide : Mask → Type 0
 IsWide mask = mask.0 < 2 ^ 64
 
 abbrev pub EventInRange : Event → Type 0
-EventInRange (events.Issue op tag size address bytes) = (tag < 256) × (size < 256) × (address < 2 ^ 64) × IsData 64 bytes
+EventInRange (events.Issue op tag size address bytes) = (tag < 256) × (size < 256) × (address < 2 ^ 64) ×
+    IsData 64 bytes
 EventInRange (events.Reply tag size bytes) = (tag < 256) × (size < 256) × IsData 64 bytes
 EventInRange (events.Hit port tag) = (port < 256) × (tag < 256)
 EventInRange (events.Primary port tag register) = (port < 256) × (tag < 256) × (register < 0x1_0000)

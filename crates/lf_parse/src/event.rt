@@ -2,8 +2,10 @@
 
 ghost use Rattle.std.specs.Prelude.{◌≡◌, ◌-◌};
 ghost use Rattle.lf_parse.specs.Words.{Gives};
-ghost use Rattle.lf_parse.specs.Events.{issue_at, reply_at, request_at, hit_at, stall_at, primary_at, merge_at, fill1_at, evict1_at};
-ghost use Rattle.lf_parse.specs.Events.{second_hit_at, second_stall_at, second_primary_at, second_merge_at, fill2_at, evict2_at, event_at};
+ghost use Rattle.lf_parse.specs.Events.{issue_at, reply_at, request_at, hit_at, stall_at, primary_at, merge_at};
+ghost use Rattle.lf_parse.specs.Events.{fill1_at, evict1_at};
+ghost use Rattle.lf_parse.specs.Events.{second_hit_at, second_stall_at, second_primary_at, second_merge_at, fill2_at};
+ghost use Rattle.lf_parse.specs.Events.{evict2_at, event_at};
 ghost use Rattle.lf_parse.specs.Events.{port_head_at, fence_head_at, bank_head_at, head_at, record_at};
 
 use crate::defaults::Defaults;
@@ -217,7 +219,7 @@ fn fence_head(text: &[u8]) -> Result<(u8, u8, u32, &[u8]), Lack>
     Ok((port, NO_BANK, 0, text))
 }
 
-/// The same of a bank's record, whose log stands behind those of the ports and of the banks before.
+/// The head of a bank's record, whose log stands behind those of the ports and of the banks before.
 #[tactic(auto, unfolding(crate::specs::Events::bank_head_at))]
 fn bank_head<'a>(
     ports: u8,

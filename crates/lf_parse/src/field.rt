@@ -3,7 +3,8 @@
 ghost use Rattle.std.specs.Prelude.{◌≡◌, ◌≤◌, ◌^◌, Bool, length, IfOk, IfSome};
 ghost use Rattle.std.specs.Option.{option_map};
 ghost use Rattle.lf_parse.specs.Words.{Gives};
-ghost use Rattle.lf_parse.specs.Fields.{field_at, is_field, digit_added, number_of, decimal_at, number_at, version_at, hexadecimal_at, bytes_of, bytes_at, carried_at, masks_at};
+ghost use Rattle.lf_parse.specs.Fields.{field_at, is_field, digit_added, number_of, decimal_at, number_at};
+ghost use Rattle.lf_parse.specs.Fields.{version_at, hexadecimal_at, bytes_of, bytes_at, carried_at, masks_at};
 
 use crate::fault::{Expected, Lack, Name};
 use crate::scan::{is_over, split_word, without_blanks};

@@ -2,7 +2,9 @@
 
 ghost use Rattle.std.specs.Prelude.{◌≡◌, ◌++◌, ℕ, List, true, Ok};
 ghost use Rattle.lf_parse.specs.Words.{Gives, word_of, word_named};
-ghost use Rattle.lf_parse.specs.Lines.{version_or, version_of, least_version, header_at, memory_at, end_at, event_line_at, part_from, closed, line_from, line_of, text_of, LineInRange, is_behind};
+ghost use Rattle.lf_parse.specs.Lines.{version_or, version_of, least_version, header_at, memory_at, end_at};
+ghost use Rattle.lf_parse.specs.Lines.{event_line_at, part_from, closed, line_from, line_of, text_of, LineInRange};
+ghost use Rattle.lf_parse.specs.Lines.{is_behind};
 ghost use Rattle.lf_parse.specs.declared.line.Line.{Line};
 
 use crate::defaults::Defaults;
@@ -96,7 +98,8 @@ fn part<'a>(
 
 /// The line whose first word begins the text.
 fn named<'a>(ports: u8, defaults: &Defaults, text: &'a [u8]) -> Result<(Line, &'a [u8]), Lack>
-    ensures { Gives (λ x. (x.0, x.1.now)) result (part_from ports defaults.now text.now (word_named (word_of text.now))) }
+    ensures { Gives (λ x. (x.0, x.1.now)) result (part_from ports defaults.now text.now
+        (word_named (word_of text.now))) }
 {
     let (first, rest) = split_word(text);
     match Word::named(first) {

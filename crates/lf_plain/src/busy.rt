@@ -96,7 +96,8 @@ fn add_busy(busy: &mut Vec<BusyTag>, item: BusyTag) -> Result<(), NoMemory>
 }
 
 fn drop_busy(busy: &mut Vec<BusyTag>, port: u8, tag: u8)
-    ensures { busy_of busy.new.items ≡ update (busy_of busy.old.items) port (update (busy_of busy.old.items port) tag None) }
+    ensures { busy_of busy.new.items ≡ update (busy_of busy.old.items) port
+        (update (busy_of busy.old.items port) tag None) }
 {
     busy.retain(|b| b.port != port || b.tag != tag);
 }

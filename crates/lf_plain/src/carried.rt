@@ -38,7 +38,8 @@ pub fn evict1_agrees(
     bytes: &Block,
 ) -> bool
     requires { shape.now.block ≤ 64 }
-    ensures { (slice : Slice) → result ≡ carries shape.now (flat_of memory.now) slice (event.Evict1 block mask bytes.now) }
+    ensures { (slice : Slice) → result ≡ carries shape.now (flat_of memory.now) slice
+        (event.Evict1 block mask bytes.now) }
 {
     memory.carries(shape, block, mask, bytes)
 }
@@ -57,7 +58,8 @@ fn part_agrees(
     requires inside { place < shape.now.factor }
     requires len { length bytes.now.items ≡ shape.now.factor * shape.now.block }
     ensures { let block = sub_block shape.now second place in
-        result ≡ agree_off shape.now.block (part_at shape.now.block bytes.now.items place) (block_bytes shape.now (flat_of memory.now) block)
+        result ≡ agree_off shape.now.block (part_at shape.now.block bytes.now.items place)
+        (block_bytes shape.now (flat_of memory.now) block)
         (store_bytes (slice_of slice.now).waiting block) }
 {
     let block = sub_block(shape, second, place);
@@ -98,7 +100,8 @@ pub fn evict2_agrees(
     requires in_range { IsShape shape.now }
     requires fits { second < 0x1_0000_0000 / shape.now.factor }
     requires count { length masks.now.items ≡ shape.now.factor }
-    ensures { (slice : Slice) → result ≡ carries shape.now (flat_of memory.now) slice (event.Evict2 second masks.now bytes.now) }
+    ensures { (slice : Slice) → result ≡ carries shape.now (flat_of memory.now) slice
+        (event.Evict2 second masks.now bytes.now) }
 {
     memory.wide_carries(shape, second, masks, bytes)
 }

@@ -52,7 +52,8 @@ impl PlainSlice {
         requires { log < length self.old.queues.items }
         ensures slice { (shape : Shape) (memory : Contents) (op : Op) (tag size address : ℕ) (bytes : ArrayVec ℕ) →
             request ≡ request_of shape tag op size address bytes.items →
-            OnOk result (slice_of self.new ≡ slice_next shape memory (slice_of self.old) log (event.Issue op tag size address bytes)) }
+            OnOk result (slice_of self.new ≡ slice_next shape memory (slice_of self.old) log
+            (event.Issue op tag size address bytes)) }
         ensures ports { OnOk result (length self.new.queues.items ≡ length self.old.queues.items) }
     {
         enqueue(&mut self.queues, log, request)
@@ -70,8 +71,10 @@ impl PlainSlice {
         requires inside { port < length self.old.queues.items }
         requires next { is_head (queue_at self.old.queues.items port) tag ≡ true }
         ensures slice { (shape : Shape) (log : ℕ) →
-            OnOk result (slice_of self.new ≡ slice_next shape (flat_of memory.old) (slice_of self.old) log (event.Hit port tag)) }
-        ensures memory { OnOk result (flat_of memory.new ≡ memory_after (flat_of memory.old) (slice_of self.old) (event.Hit port tag)) }
+            OnOk result (slice_of self.new ≡ slice_next shape (flat_of memory.old) (slice_of self.old) log
+            (event.Hit port tag)) }
+        ensures memory { OnOk result (flat_of memory.new ≡ memory_after (flat_of memory.old) (slice_of self.old)
+            (event.Hit port tag)) }
         ensures ports { OnOk result (length self.new.queues.items ≡ length self.old.queues.items) }
     {
         let Some(request) = head(&self.queues, port, tag) else {
@@ -95,8 +98,10 @@ impl PlainSlice {
         requires inside { port < length self.old.queues.items }
         requires next { is_head (queue_at self.old.queues.items port) tag ≡ true }
         ensures slice { (shape : Shape) (log : ℕ) →
-            OnOk result (slice_of self.new ≡ slice_next shape (flat_of memory.old) (slice_of self.old) log (event.Merge port tag register)) }
-        ensures memory { OnOk result (flat_of memory.new ≡ memory_after (flat_of memory.old) (slice_of self.old) (event.Merge port tag register)) }
+            OnOk result (slice_of self.new ≡ slice_next shape (flat_of memory.old) (slice_of self.old) log
+            (event.Merge port tag register)) }
+        ensures memory { OnOk result (flat_of memory.new ≡ memory_after (flat_of memory.old) (slice_of self.old)
+            (event.Merge port tag register)) }
         ensures ports { OnOk result (length self.new.queues.items ≡ length self.old.queues.items) }
     {
         let Some(request) = head(&self.queues, port, tag) else {
@@ -121,8 +126,10 @@ impl PlainSlice {
         requires inside { port < length self.old.queues.items }
         requires next { is_head (queue_at self.old.queues.items port) tag ≡ true }
         ensures slice { (shape : Shape) (log : ℕ) →
-            OnOk result (slice_of self.new ≡ slice_next shape (flat_of memory.old) (slice_of self.old) log (event.Primary port tag register)) }
-        ensures memory { OnOk result (flat_of memory.new ≡ memory_after (flat_of memory.old) (slice_of self.old) (event.Primary port tag register)) }
+            OnOk result (slice_of self.new ≡ slice_next shape (flat_of memory.old) (slice_of self.old) log
+            (event.Primary port tag register)) }
+        ensures memory { OnOk result (flat_of memory.new ≡ memory_after (flat_of memory.old) (slice_of self.old)
+            (event.Primary port tag register)) }
         ensures ports { OnOk result (length self.new.queues.items ≡ length self.old.queues.items) }
     {
         let Some(request) = head(&self.queues, port, tag) else {
@@ -140,7 +147,8 @@ impl PlainSlice {
 
     pub fn fill1(&mut self, block: u32) -> Result<(), NoMemory>
         ensures slice { (shape : Shape) (memory : Contents) (log : ℕ) (bytes : ArrayVec ℕ) →
-            OnOk result (slice_of self.new ≡ slice_next shape memory (slice_of self.old) log (event.Fill1 block bytes)) }
+            OnOk result (slice_of self.new ≡ slice_next shape memory (slice_of self.old) log
+            (event.Fill1 block bytes)) }
         ensures ports { OnOk result (self.new.queues ≡ self.old.queues) }
     {
         add_replies(&mut self.ready, &self.waiting, block)?;
@@ -153,7 +161,8 @@ impl PlainSlice {
     pub fn evict1(&mut self, shape: &Shape, block: u32, mask: Mask) -> Result<(), NoMemory>
         requires { IsShape shape.now }
         ensures slice { (memory : Contents) (log : ℕ) (bytes : ArrayVec ℕ) →
-            OnOk result (slice_of self.new ≡ slice_next shape.now memory (slice_of self.old) log (event.Evict1 block mask bytes)) }
+            OnOk result (slice_of self.new ≡ slice_next shape.now memory (slice_of self.old) log
+            (event.Evict1 block mask bytes)) }
         ensures ports { OnOk result (self.new.queues ≡ self.old.queues) }
     {
         drop_line(&mut self.lines1, block);
@@ -176,9 +185,11 @@ impl PlainSlice {
     pub fn second_miss(&mut self, shape: &Shape, block: u32, register: u16) -> Result<(), NoMemory>
         requires { IsShape shape.now }
         ensures primary { (memory : Contents) (log : ℕ) →
-            OnOk result (slice_of self.new ≡ slice_next shape.now memory (slice_of self.old) log (event.SecondPrimary block register)) }
+            OnOk result (slice_of self.new ≡ slice_next shape.now memory (slice_of self.old) log
+            (event.SecondPrimary block register)) }
         ensures merge { (memory : Contents) (log : ℕ) →
-            OnOk result (slice_of self.new ≡ slice_next shape.now memory (slice_of self.old) log (event.SecondMerge block register)) }
+            OnOk result (slice_of self.new ≡ slice_next shape.now memory (slice_of self.old) log
+            (event.SecondMerge block register)) }
         ensures ports { OnOk result (self.new.queues ≡ self.old.queues) }
     {
         let target = (block, self.asked_register(block));
@@ -195,7 +206,8 @@ impl PlainSlice {
     pub fn fill2(&mut self, shape: &Shape, second: u32) -> Result<(), NoMemory>
         requires { IsShape shape.now }
         ensures slice { (memory : Contents) (log : ℕ) (bytes : ArrayVec ℕ) →
-            OnOk result (slice_of self.new ≡ slice_next shape.now memory (slice_of self.old) log (event.Fill2 second bytes)) }
+            OnOk result (slice_of self.new ≡ slice_next shape.now memory (slice_of self.old) log
+            (event.Fill2 second bytes)) }
         ensures ports { OnOk result (self.new.queues ≡ self.old.queues) }
     {
         add_supplied(&mut self.supplied, &self.regs2, second)?;

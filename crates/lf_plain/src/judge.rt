@@ -10,7 +10,8 @@ ghost use Rattle.lf_rules.specs.Registers.{has_room as model_room, merge_clauses
 ghost use Rattle.lf_rules.specs.InRange.{IsShape};
 ghost use Rattle.lf_plain.specs.Plain.{slice_of, IsSliceFramed};
 ghost use Rattle.lf_rules.specs.State.{Slice};
-ghost use Rattle.lf_rules.specs.Table.{OfBoth, is_apart, asked_register, position2, rules_of, destination, destinations, destinations2, is_at};
+ghost use Rattle.lf_rules.specs.Table.{OfBoth, is_apart, asked_register, position2, rules_of, destination};
+ghost use Rattle.lf_rules.specs.Table.{destinations, destinations2, is_at};
 ghost use Rattle.lf_rules.specs.Run.{first_failing};
 
 use crate::lines::{are_dirty, dirty_mask, has_line, has_way1, has_way2};
@@ -45,8 +46,10 @@ fn destinations2(shape: &Shape) -> u32
 impl PlainSlice {
     /// `is_free` says whether the tag is not busy.
     pub fn judge_issue(shape: &Shape, is_free: bool, tag: u8) -> Option<Rule>
-        ensures { (slice : Slice) (busy : ℕ → Option ℕ) (log bank size address : ℕ) (op : Op) (bytes : ArrayVec ℕ) → is_free ≡ is_none (busy tag) →
-            result ≡ first_failing OfBoth (rules_of shape.now true busy slice log bank (event.Issue op tag size address bytes)) }
+        ensures { (slice : Slice) (busy : ℕ → Option ℕ) (log bank size address : ℕ) (op : Op) (bytes : ArrayVec ℕ) →
+            is_free ≡ is_none (busy tag) →
+            result ≡ first_failing OfBoth (rules_of shape.now true busy slice log bank
+            (event.Issue op tag size address bytes)) }
     {
         if u32::from(tag) >= shape.tags {
             return Some(Rule::TagRange);
@@ -65,7 +68,8 @@ impl PlainSlice {
         bytes: &Block,
     ) -> Option<Rule>
         ensures { (busy : ℕ → Option ℕ) (bank : ℕ) → is_owed ≡ is_at (busy tag) bank →
-            result ≡ first_failing OfBoth (rules_of shape.now true busy (slice_of self.now) log bank (event.Reply tag size bytes.now)) }
+            result ≡ first_failing OfBoth (rules_of shape.now true busy (slice_of self.now) log bank
+            (event.Reply tag size bytes.now)) }
     {
         if u32::from(tag) >= shape.tags {
             return Some(Rule::TagRange);
@@ -88,7 +92,8 @@ impl PlainSlice {
     pub fn judge_hit(&self, shape: &Shape, port: u8, tag: u8) -> Option<Rule>
         requires { IsSliceFramed shape.now self.now }
         ensures { (busy : ℕ → Option ℕ) (log bank : ℕ) →
-            result ≡ first_failing OfBoth (rules_of shape.now true busy (slice_of self.now) log bank (event.Hit port tag)) }
+            result ≡ first_failing OfBoth (rules_of shape.now true busy (slice_of self.now) log bank
+            (event.Hit port tag)) }
     {
         let Some(request) = self.head(port, tag) else {
             return Some(Rule::NotHead);
@@ -102,7 +107,8 @@ impl PlainSlice {
     pub fn judge_primary(&self, shape: &Shape, port: u8, tag: u8, register: u16) -> Option<Rule>
         requires { IsSliceFramed shape.now self.now }
         ensures { (busy : ℕ → Option ℕ) (log bank : ℕ) →
-            result ≡ first_failing OfBoth (rules_of shape.now true busy (slice_of self.now) log bank (event.Primary port tag register)) }
+            result ≡ first_failing OfBoth (rules_of shape.now true busy (slice_of self.now) log bank
+            (event.Primary port tag register)) }
     {
         let Some(request) = self.head(port, tag) else {
             return Some(Rule::NotHead);
@@ -130,7 +136,8 @@ impl PlainSlice {
     pub fn judge_merge(&self, shape: &Shape, port: u8, tag: u8, register: u16) -> Option<Rule>
         requires { IsSliceFramed shape.now self.now }
         ensures { (busy : ℕ → Option ℕ) (log bank : ℕ) →
-            result ≡ first_failing OfBoth (rules_of shape.now true busy (slice_of self.now) log bank (event.Merge port tag register)) }
+            result ≡ first_failing OfBoth (rules_of shape.now true busy (slice_of self.now) log bank
+            (event.Merge port tag register)) }
     {
         let Some(request) = self.head(port, tag) else {
             return Some(Rule::NotHead);
@@ -150,7 +157,8 @@ impl PlainSlice {
     pub fn judge_stall(&self, shape: &Shape, port: u8, tag: u8) -> Option<Rule>
         requires { IsSliceFramed shape.now self.now }
         ensures { (busy : ℕ → Option ℕ) (log bank : ℕ) →
-            result ≡ first_failing OfBoth (rules_of shape.now true busy (slice_of self.now) log bank (event.Stall port tag)) }
+            result ≡ first_failing OfBoth (rules_of shape.now true busy (slice_of self.now) log bank
+            (event.Stall port tag)) }
     {
         let Some(request) = self.head(port, tag) else {
             return Some(Rule::NotHead);
@@ -176,7 +184,8 @@ impl PlainSlice {
     pub fn judge_fill1(&self, shape: &Shape, agrees: bool, block: u32) -> Option<Rule>
         requires { IsSliceFramed shape.now self.now }
         ensures { (busy : ℕ → Option ℕ) (log bank : ℕ) (bytes : ArrayVec ℕ) →
-            result ≡ first_failing OfBoth (rules_of shape.now agrees busy (slice_of self.now) log bank (event.Fill1 block bytes)) }
+            result ≡ first_failing OfBoth (rules_of shape.now agrees busy (slice_of self.now) log bank
+            (event.Fill1 block bytes)) }
     {
         if !self.has_supplied(block) {
             return Some(Rule::NotSupplied);
@@ -191,7 +200,8 @@ impl PlainSlice {
     pub fn judge_evict1(&self, shape: &Shape, agrees: bool, block: u32, mask: Mask) -> Option<Rule>
         requires { IsSliceFramed shape.now self.now }
         ensures { (busy : ℕ → Option ℕ) (log bank : ℕ) (bytes : ArrayVec ℕ) →
-            result ≡ first_failing OfBoth (rules_of shape.now agrees busy (slice_of self.now) log bank (event.Evict1 block mask bytes)) }
+            result ≡ first_failing OfBoth (rules_of shape.now agrees busy (slice_of self.now) log bank
+            (event.Evict1 block mask bytes)) }
     {
         if !has_line(&self.lines1, block) {
             return Some(Rule::EvictAbsent);
@@ -205,7 +215,8 @@ impl PlainSlice {
     pub fn judge_second_hit(&self, shape: &Shape, block: u32) -> Option<Rule>
         requires { IsSliceFramed shape.now self.now }
         ensures { (busy : ℕ → Option ℕ) (log bank : ℕ) →
-            result ≡ first_failing OfBoth (rules_of shape.now true busy (slice_of self.now) log bank (event.SecondHit block)) }
+            result ≡ first_failing OfBoth (rules_of shape.now true busy (slice_of self.now) log bank
+            (event.SecondHit block)) }
     {
         if !self.has_asked(block) {
             return Some(Rule::NotAsked);
@@ -219,7 +230,8 @@ impl PlainSlice {
     pub fn judge_second_primary(&self, shape: &Shape, block: u32, register: u16) -> Option<Rule>
         requires { IsSliceFramed shape.now self.now }
         ensures { (busy : ℕ → Option ℕ) (log bank : ℕ) →
-            result ≡ first_failing OfBoth (rules_of shape.now true busy (slice_of self.now) log bank (event.SecondPrimary block register)) }
+            result ≡ first_failing OfBoth (rules_of shape.now true busy (slice_of self.now) log bank
+            (event.SecondPrimary block register)) }
     {
         let organisation = shape.level2.organisation;
         let register = u32::from(register);
@@ -253,7 +265,8 @@ impl PlainSlice {
     fn merge_fault2(&self, shape: &Shape, block: u32, register: u16) -> Option<Rule>
         requires { IsShape shape.now }
         ensures { let slice = slice_of self.now in
-            result ≡ first_failing OfBoth (merge_clauses shape.now.level2.organisation (destinations2 shape.now) (position2 shape.now) slice.regs2
+            result ≡ first_failing OfBoth (merge_clauses shape.now.level2.organisation (destinations2 shape.now)
+            (position2 shape.now) slice.regs2
             (second_of shape.now block) (asked_register slice.asked block) (place_of shape.now block) register) }
     {
         merge_fault(
@@ -271,7 +284,8 @@ impl PlainSlice {
     pub fn judge_second_merge(&self, shape: &Shape, block: u32, register: u16) -> Option<Rule>
         requires { IsSliceFramed shape.now self.now }
         ensures { (busy : ℕ → Option ℕ) (log bank : ℕ) →
-            result ≡ first_failing OfBoth (rules_of shape.now true busy (slice_of self.now) log bank (event.SecondMerge block register)) }
+            result ≡ first_failing OfBoth (rules_of shape.now true busy (slice_of self.now) log bank
+            (event.SecondMerge block register)) }
     {
         let second = second_of(shape, block);
         if !self.has_asked(block) {
@@ -287,7 +301,8 @@ impl PlainSlice {
     fn has_room2(&self, shape: &Shape, block: u32) -> bool
         requires { IsShape shape.now }
         ensures { let slice = slice_of self.now in
-            result ≡ model_room shape.now.level2.organisation (destinations2 shape.now) (position2 shape.now) slice.regs2 (second_of shape.now block)
+            result ≡ model_room shape.now.level2.organisation (destinations2 shape.now) (position2 shape.now)
+            slice.regs2 (second_of shape.now block)
             (asked_register slice.asked block) (place_of shape.now block) }
     {
         has_room(
@@ -304,7 +319,8 @@ impl PlainSlice {
     pub fn judge_second_stall(&self, shape: &Shape, block: u32) -> Option<Rule>
         requires { IsSliceFramed shape.now self.now }
         ensures { (busy : ℕ → Option ℕ) (log bank : ℕ) →
-            result ≡ first_failing OfBoth (rules_of shape.now true busy (slice_of self.now) log bank (event.SecondStall block)) }
+            result ≡ first_failing OfBoth (rules_of shape.now true busy (slice_of self.now) log bank
+            (event.SecondStall block)) }
     {
         let second = second_of(shape, block);
         if !self.has_asked(block) {
@@ -323,7 +339,8 @@ impl PlainSlice {
     pub fn judge_fill2(&self, shape: &Shape, agrees: bool, second: u32) -> Option<Rule>
         requires { IsSliceFramed shape.now self.now }
         ensures { (busy : ℕ → Option ℕ) (log bank : ℕ) (bytes : ArrayVec ℕ) →
-            result ≡ first_failing OfBoth (rules_of shape.now agrees busy (slice_of self.now) log bank (event.Fill2 second bytes)) }
+            result ≡ first_failing OfBoth (rules_of shape.now agrees busy (slice_of self.now) log bank
+            (event.Fill2 second bytes)) }
     {
         if !holds(&self.regs2, second) {
             return Some(Rule::NotFetched);
@@ -360,7 +377,8 @@ impl PlainSlice {
         requires framed { IsSliceFramed shape.now self.now }
         requires fits { second < 0x1_0000_0000 / shape.now.factor }
         ensures { (busy : ℕ → Option ℕ) (log bank : ℕ) (bytes : ArrayVec ℕ) →
-            result ≡ first_failing OfBoth (rules_of shape.now agrees busy (slice_of self.now) log bank (event.Evict2 second masks.now bytes)) }
+            result ≡ first_failing OfBoth (rules_of shape.now agrees busy (slice_of self.now) log bank
+            (event.Evict2 second masks.now bytes)) }
     {
         if !has_line(&self.lines2, second) {
             return Some(Rule::EvictAbsent);

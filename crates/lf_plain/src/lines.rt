@@ -37,7 +37,8 @@ pub fn has_line<M>(lines: &BTreeMap<u32, M>, block: u32) -> bool
 /// Whether the block's set has a free way.
 pub fn has_way1(shape: &Shape, lines: &LineMap, block: u32) -> bool
     requires { IsShape shape.now }
-    ensures { result ≡ has_way (set1_of shape.now.banks shape.now.factor shape.now.level1.sets) shape.now.level1.ways lines.now.entries block }
+    ensures { result ≡ has_way (set1_of shape.now.banks shape.now.factor shape.now.level1.sets) shape.now.level1.ways
+        lines.now.entries block }
 {
     let set = set1_of(shape, block);
     let count = lines
@@ -50,7 +51,8 @@ pub fn has_way1(shape: &Shape, lines: &LineMap, block: u32) -> bool
 /// Whether the second-level block's set has a free way.
 pub fn has_way2(shape: &Shape, lines: &WideLineMap, second: u32) -> bool
     requires { IsShape shape.now }
-    ensures { result ≡ has_way (set2_of shape.now.banks shape.now.level2.sets) shape.now.level2.ways lines.now.entries second }
+    ensures { result ≡ has_way (set2_of shape.now.banks shape.now.level2.sets) shape.now.level2.ways lines.now.entries
+        second }
 {
     let set = set2_of(shape, second);
     let count = lines

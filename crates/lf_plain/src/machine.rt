@@ -10,7 +10,8 @@ ghost use Rattle.lf_rules.specs.Table.{OfBoth, rules_of, carries, clauses, memor
 ghost use Rattle.lf_rules.specs.declared.event.Event.TheVariants as event;
 ghost use Rattle.lf_rules.specs.Run.{first_failing, state_after};
 ghost use Rattle.lf_state.specs.Bytes.{flat_of};
-ghost use Rattle.lf_plain.specs.Plain.{busy_of, slice_of, slice_next, slices_of, state_of, FindsRequest, IsSliceFramed, IsMachine};
+ghost use Rattle.lf_plain.specs.Plain.{busy_of, slice_of, slice_next, slices_of, state_of, FindsRequest};
+ghost use Rattle.lf_plain.specs.Plain.{IsSliceFramed, IsMachine};
 
 use crate::busy::{BusyTag, apply_busy, is_free, is_owed, none_busy};
 use crate::carried::{evict1_agrees, evict2_agrees, fill1_agrees, fill2_agrees};
@@ -54,7 +55,8 @@ fn judge_level_two(
     requires second { is_of_level_two item.now.event ≡ true }
     ensures { (tags : ℕ → Option ℕ) →
         let right = carries shape.now (flat_of memory.now) (slice_of slice.now) item.now.event in
-        result ≡ first_failing OfBoth (rules_of shape.now right tags (slice_of slice.now) item.now.log item.now.bank item.now.event) }
+        result ≡ first_failing OfBoth (rules_of shape.now right tags (slice_of slice.now) item.now.log item.now.bank
+        item.now.event) }
 {
     match &item.event {
         Event::SecondHit { block } => slice.judge_second_hit(shape, *block),
@@ -92,7 +94,8 @@ fn judge_event(
     requires fits { Fits shape.now item.now }
     ensures { let right = carries shape.now (flat_of memory.now) (slice_of slice.now) item.now.event in
         let tags = busy_of busy.now item.now.log in
-        result ≡ first_failing OfBoth (rules_of shape.now right tags (slice_of slice.now) item.now.log item.now.bank item.now.event) }
+        result ≡ first_failing OfBoth (rules_of shape.now right tags (slice_of slice.now) item.now.log item.now.bank
+        item.now.event) }
 {
     let log = item.log;
     match &item.event {
@@ -130,7 +133,8 @@ fn apply_level_two(shape: &Shape, slice: &mut PlainSlice, item: &Record) -> Resu
     requires framed { IsSliceFramed shape.now slice.old }
     requires second { is_of_level_two item.now.event ≡ true }
     ensures slice { (memory : Contents) →
-        OnOk result (slice_of slice.new ≡ slice_next shape.now memory (slice_of slice.old) item.now.log item.now.event) }
+        OnOk result (slice_of slice.new ≡ slice_next shape.now memory (slice_of slice.old) item.now.log
+        item.now.event) }
     ensures memory { (memory : Contents) → memory_after memory (slice_of slice.old) item.now.event ≡ memory }
     ensures framed { OnOk result (IsSliceFramed shape.now slice.new) }
 {
@@ -157,8 +161,10 @@ fn apply_event(
     requires framed { IsSliceFramed shape.now slice.old }
     requires fits { Fits shape.now item.now }
     requires finds { FindsRequest slice.old.queues.items item.now.log item.now.event }
-    ensures slice { OnOk result (slice_of slice.new ≡ slice_next shape.now (flat_of memory.old) (slice_of slice.old) item.now.log item.now.event) }
-    ensures memory { OnOk result (flat_of memory.new ≡ memory_after (flat_of memory.old) (slice_of slice.old) item.now.event) }
+    ensures slice { OnOk result (slice_of slice.new ≡ slice_next shape.now (flat_of memory.old) (slice_of slice.old)
+        item.now.log item.now.event) }
+    ensures memory { OnOk result (flat_of memory.new ≡ memory_after (flat_of memory.old) (slice_of slice.old)
+        item.now.event) }
     ensures framed { OnOk result (IsSliceFramed shape.now slice.new) }
 {
     match &item.event {
@@ -230,7 +236,8 @@ impl Machine {
     fn judge(&self, item: &Record) -> Option<Rule>
         requires machine { IsMachine self.now }
         requires fits { Fits self.now.shape item.now }
-        ensures { result ≡ first_failing OfBoth (clauses self.now.shape (seen_by item.now.log item.now.bank (state_of self.now)) item.now) }
+        ensures { result ≡ first_failing OfBoth (clauses self.now.shape
+            (seen_by item.now.log item.now.bank (state_of self.now)) item.now) }
     {
         let bank = usize::from(item.bank);
         if bank >= self.slices.len() {
@@ -249,7 +256,8 @@ impl Machine {
     fn apply(&mut self, item: &Record) -> Result<(), NoMemory>
         requires machine { IsMachine self.old }
         requires fits { Fits self.old.shape item.now }
-        requires holds { first_failing OfBoth (clauses self.old.shape (seen_by item.now.log item.now.bank (state_of self.old)) item.now) ≡ None }
+        requires holds { first_failing OfBoth (clauses self.old.shape
+            (seen_by item.now.log item.now.bank (state_of self.old)) item.now) ≡ None }
         ensures state { OnOk result (state_of self.new ≡ state_after self.old.shape (state_of self.old) item.now) }
         ensures machine { OnOk result (IsMachine self.new) }
         ensures shape { self.new.shape ≡ self.old.shape }
@@ -270,8 +278,10 @@ impl Machine {
         requires machine { self.old.failed ≡ false → IsMachine self.old }
         requires fits { Fits self.old.shape item.now }
         ensures rule { IfOk result (λ rule.
-            rule ≡ first_failing OfBoth (clauses self.old.shape (seen_by item.now.log item.now.bank (state_of self.old)) item.now)) }
-        ensures state { IfOk result (λ rule. rule ≡ None → state_of self.new ≡ state_after self.old.shape (state_of self.old) item.now) }
+            rule ≡ first_failing OfBoth (clauses self.old.shape
+            (seen_by item.now.log item.now.bank (state_of self.old)) item.now)) }
+        ensures state { IfOk result (λ rule. rule ≡ None → state_of self.new
+            ≡ state_after self.old.shape (state_of self.old) item.now) }
         ensures machine { OnOk result (IsMachine self.new) }
         ensures shape { self.new.shape ≡ self.old.shape }
         ensures unchanged { IfOk result (λ rule. IsSome rule → self.new ≡ self.old) }

@@ -36,7 +36,12 @@ impl Missed {
 
     /// What the port gets once the block is there.
     pub fn reply(&self) -> Ready
-        ensures { let reply : model.Ready = record { port = self.now.port; tag = self.now.request.tag; value = self.now.value } in result ≡ reply }
+        ensures { let reply : model.Ready = record {
+          port = self.now.port;
+          tag = self.now.request.tag;
+          value =
+              self.now.value;
+        } in result ≡ reply }
     {
         Ready::new(self.port, self.request.tag(), data_of(&self.value))
     }
@@ -53,7 +58,12 @@ impl Missed {
 pub fn held_miss(memory: &FlatMemory, port: u8, register: u16, request: &Request) -> Held<Missed>
     ensures { let value = value_of (flat_of memory.now) request.now in
         let target : model.Missed = record { port = port; request = request.now; value = value } in
-        let held : registers.Held model.Missed = record { register = register; block = request.now.block; target = target } in
+        let held : registers.Held model.Missed = record {
+          register = register;
+          block = request.now.block;
+          target =
+              target;
+        } in
         result ≡ held }
 {
     let target = Missed {

@@ -185,7 +185,8 @@ fn takes_block<T: Target>(
     at: u32,
 ) -> bool
     requires { 0 < factor }
-    ensures { result ≡ (holds_in held.now register block && takes organisation (T.position factor) held.now register at) }
+    ensures { result ≡ (holds_in held.now register block && takes organisation (T.position factor) held.now register
+        at) }
 {
     holds_in(held, register, block) && takes(organisation, factor, held, register, at)
 }
@@ -199,7 +200,8 @@ fn some_takes<T: Target>(
     at: u32,
 ) -> bool
     requires { 0 < factor }
-    ensures { result ≡ list_any (λ r. holds_in held.now r block && takes organisation (T.position factor) held.now r at) (range_with_len 0 registers) }
+    ensures { result ≡ list_any (λ r. holds_in held.now r block
+        && takes organisation (T.position factor) held.now r at) (range_with_len 0 registers) }
 {
     for r in 0..registers {
         if takes_block(organisation, factor, held, block, r, at) {
@@ -252,7 +254,8 @@ pub fn merge_fault<T: Target>(
     register: u32,
 ) -> Option<Rule>
     requires { 0 < factor }
-    ensures { result ≡ first_failing OfBoth (merge_clauses organisation destinations (T.position factor) held.now block destination at register) }
+    ensures { result ≡ first_failing OfBoth (merge_clauses organisation destinations (T.position factor) held.now
+        block destination at register) }
 {
     if !holds(held, block) {
         return Some(Rule::NotInFlight);

@@ -51,7 +51,8 @@ impl PlainSlice {
 
     /// The oldest request of the port, where the port exists and that request has the tag.
     pub fn head(&self, port: u8, tag: u8) -> Option<&Request>
-        ensures { let queue = queue_at self.now.queues.items port in let is = nat_lt port (length self.now.queues.items) && is_head queue tag in
+        ensures { let queue = queue_at self.now.queues.items port in let is =
+            nat_lt port (length self.now.queues.items) && is_head queue tag in
             MatchOption result (is ≡ false) (λ request. (is ≡ true) × (request.now ≡ oldest queue)) }
     {
         let queue = self.queues.get(port as usize)?;

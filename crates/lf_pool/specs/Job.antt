@@ -34,12 +34,14 @@ pub record AreJobs (jobs : Jobs) : Type 0 where
   pub orders : length jobs.orders.items ≡ jobs.shape.banks
   pub ordered : (bank : ℕ) → bank < jobs.shape.banks → ArePlacesOfBank (lists_of jobs.logs) bank (places_of jobs bank)
 
--- The job's outcome is that of its port's log, whose replay takes no memory, or of its bank's records, whose replay may run
+-- The job's outcome is that of its port's log, whose replay takes no memory, or of its bank's records, whose replay
+-- may run
 -- out of memory.
 pub record IsJobOutcome (jobs : Jobs) (job : ℕ) (outcome : Outcome) : Type 0 where
   pub port : job < jobs.shape.ports → IsPortOutcome jobs.shape (log_at (lists_of jobs.logs) job) outcome
   pub port_memory : job < jobs.shape.ports → outcome ≢ NoMemory
-  pub bank : (bank : ℕ) → job ≡ jobs.shape.ports + bank → IsBankOutcome jobs.shape (flat_memory jobs.memory.items) (records_of jobs bank) outcome
+  pub bank : (bank : ℕ) → job ≡ jobs.shape.ports + bank → IsBankOutcome jobs.shape (flat_memory jobs.memory.items)
+      (records_of jobs bank) outcome
 
 -- an outcome for each job, each one that the replay of its own job may give
 pub record AreOutcomesBy (MayGive : Jobs → ℕ → Outcome → Type 0) (jobs : Jobs) (outcomes : List Outcome) : Type 0 where

@@ -1,5 +1,6 @@
 -- What holds of the claim word and of the seats' views between any two steps.
-use Rattle.std.specs.Prelude.{◌≡◌, ◌≢◌, ◌==◌, ℕ, ◌+◌, ◌<◌, ◌≤◌, List, [], ◌∷◌, ◌++◌, length, slice_index, cond, nat_lt, nat_le, sum_by, count_by, All, AllPairs}
+use Rattle.std.specs.Prelude.{◌≡◌, ◌≢◌, ◌==◌, ℕ, ◌+◌, ◌<◌, ◌≤◌, List, [], ◌∷◌, ◌++◌, length, slice_index, cond}
+use Rattle.std.specs.Prelude.{nat_lt, nat_le, sum_by, count_by, All, AllPairs}
 use mathlib.Core.Option.{some}
 use lib.ListN.{get_elem?}
 use Rattle.atomic_table.specs.Table.{State, Me, Step}
@@ -40,7 +41,8 @@ workers_in (Keeper made joined) = length joined
 workers_in (Worker number claims) = 1
 workers_in Spent = 0
 
--- these workers were taken in: the seat of each is spent, no two have one number, and of the claims of each at most one is past
+-- these workers were taken in: the seat of each is spent, no two have one number, and of the claims of each at most
+-- one is past
 -- the jobs
 pub record AreTakenIn (jobs : ℕ) (views : List View) (joined : List (ℕ × List ℕ)) : Type 0 where
   pub spent : All (λ w. get_elem? views (w.0 + 1) ≡ some Spent) joined
@@ -74,7 +76,8 @@ claims_of Spent = []
 
 -- the number found is claimed, and is above all that the worker claimed before
 abbrev pub Claims : Step (Unit {0}) → Mine → ℕ → Mine → Type 0
-Claims st me found me' = (found < 18446744073709551615) × All (λ c. c < found) (claims_of me.0) × (me' ≡ (claimed me.0 found, me.1))
+Claims st me found me' = (found < 18446744073709551615) × All (λ c. c < found) (claims_of me.0) ×
+    (me' ≡ (claimed me.0 found, me.1))
 
 abbrev pub one_more : View → View
 one_more (Keeper made joined) = Keeper (made + 1) joined

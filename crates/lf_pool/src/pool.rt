@@ -118,7 +118,8 @@ fn run_in<'s, E, P: Replays + Sync, R: Threads + Sync>(
     requires table { (0 < shared.now.table_id.words) × (shared.now.key ≡ count_of jobs.now) }
     requires ready { AreJobs jobs.now }
     requires claimers { (0 < length claimers.items) × All (IsClaimer shared.now.table_id) claimers.items }
-    ensures worked { IfOk result (λ v. (length v.items ≡ length claimers.items) × All (IsWorked P.may_give jobs.entry.now shared.entry.now.table_id) v.items) }
+    ensures worked { IfOk result (λ v. (length v.items ≡ length claimers.items) ×
+        All (IsWorked P.may_give jobs.entry.now shared.entry.now.table_id) v.items) }
     ensures fault { IfErr result (IsPoolFault (length claimers.items)) }
 {
     let mut claimers = claimers;
@@ -141,7 +142,7 @@ fn run_in<'s, E, P: Replays + Sync, R: Threads + Sync>(
     Ok(all)
 }
 
-/// The same in a scope of its own, which ends when each of its threads has.
+/// Judges in a scope of its own, which ends when each of its threads has.
 fn in_threads<P: Replays + Sync, R: Threads + Wait + Sync>(
     rt: &R,
     shared: &PoolShared,
@@ -153,7 +154,8 @@ fn in_threads<P: Replays + Sync, R: Threads + Wait + Sync>(
     requires table { (0 < shared.now.table_id.words) × (shared.now.key ≡ count_of jobs.now) }
     requires ready { AreJobs jobs.now }
     requires claimers { (0 < length claimers.items) × All (IsClaimer shared.now.table_id) claimers.items }
-    ensures worked { IfOk result (λ v. (length v.items ≡ length claimers.items) × All (IsWorked P.may_give jobs.now shared.now.table_id) v.items) }
+    ensures worked { IfOk result (λ v. (length v.items ≡ length claimers.items) ×
+        All (IsWorked P.may_give jobs.now shared.now.table_id) v.items) }
     ensures fault { IfErr result (IsPoolFault (length claimers.items)) }
 {
     thread::scope(
@@ -163,7 +165,8 @@ fn in_threads<P: Replays + Sync, R: Threads + Wait + Sync>(
             requires table { (0 < shared.now.table_id.words) × (shared.now.key ≡ count_of jobs.now) }
             requires ready { AreJobs jobs.now }
             requires claimers { (0 < length claimers.items) × All (IsClaimer shared.now.table_id) claimers.items }
-            ensures worked { IfOk result (λ v. (length v.items ≡ length claimers.items) × All (IsWorked P.may_give jobs.entry.now shared.entry.now.table_id) v.items) }
+            ensures worked { IfOk result (λ v. (length v.items ≡ length claimers.items) ×
+                All (IsWorked P.may_give jobs.entry.now shared.entry.now.table_id) v.items) }
             ensures fault { IfErr result (IsPoolFault (length claimers.items)) }
         { run_in(rt, scope, shared, jobs, replays, alloc, claimers) },
     )

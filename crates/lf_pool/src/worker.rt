@@ -45,7 +45,8 @@ fn claim(
     done: &Vec<(u64, Outcome)>,
     low: u64,
 ) -> u64
-    requires table { (seat.old.table_id ≡ shared.now.table_id) × (0 < shared.now.table_id.words) × (shared.now.key ≤ 32) }
+    requires table { (seat.old.table_id ≡ shared.now.table_id) × (0 < shared.now.table_id.words) ×
+        (shared.now.key ≤ 32) }
     requires seat { seat.old.me ≡ (Worker number (map number_of done.now.items), []) }
     requires done { All (λ p. p.0 < shared.now.key) done.now.items }
     requires low { 0 < low → Any (λ p. p.0 + 1 ≡ low) done.now.items }

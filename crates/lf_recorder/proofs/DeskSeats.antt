@@ -26,7 +26,8 @@ abbrev pub aside_val : Val
 aside_val = vstruct (vcons token_val vnil)
 
 pub aside_told : (d : desk_seat.the_row.Denot) (vs : List Val) → Is desk_seat.the_row d vs → vs ≡ aside_val ∷ []
-aside_told d vs so = let is = so.0 in is.1.0 ∙ ap (λ (ws : List Val). vstruct (of_list (ws ++ [])) ∷ []) (token_told unit view.the_row is.0.0 is.1.1.0.0)
+aside_told d vs so = let is = so.0 in is.1.0 ∙ ap (λ (ws : List Val). vstruct (of_list (ws ++ [])) ∷ [])
+    (token_told unit view.the_row is.0.0 is.1.1.0.0)
 
 pub aside_send : IsSend desk_seat.the_row
 aside_send =
@@ -34,7 +35,14 @@ aside_send =
       owned = λ d vs. (
         (λ vss. (
           tt,
-          (((λ uss. (tt, ((λ wss. (tt, tt)), tt))), seat_keyless unit (search sendable) view.the_row.coded.code d.seat.table_id d.seat.id d.seat.me), tt),
+          (
+            (
+              (λ uss. (tt, ((λ wss. (tt, tt)), tt))),
+              seat_keyless unit (search sendable) view.the_row.coded.code
+                  d.seat.table_id d.seat.id d.seat.me,
+            ),
+            tt,
+          ),
         )),
         tt,
       );
@@ -43,5 +51,7 @@ aside_send =
 
 -- a struct that is used up leaves nothing
 pub blank_goes : {M : Type 1} {𝓤 : Ura M} (𝓛 : Logic 𝓤) (n : ℕ) (s : Slot n) (k : Kept)
-    → ((κs : Lfts n) (x : (s.row κs).Denot) (f : Last ((s.row κs).exit k) x) → T (blank (left ((s.row κs).exit k) x f))) → Goes 𝓛 n s k (stay_dropped s k)
-blank_goes {𝓤 = 𝓤} 𝓛 n s k is κs x f vs ok = via 𝓤 _ (had 𝓛 (left ((s.row κs).exit k) x f) (is κs x f)) (𝓛.laws.⇛_intro _)
+    → ((κs : Lfts n) (x : (s.row κs).Denot) (f : Last ((s.row κs).exit k) x) →
+    T (blank (left ((s.row κs).exit k) x f))) → Goes 𝓛 n s k (stay_dropped s k)
+blank_goes {𝓤 = 𝓤} 𝓛 n s k is κs x f vs ok = via 𝓤 _ (had 𝓛 (left ((s.row κs).exit k) x f) (is κs x f))
+    (𝓛.laws.⇛_intro _)

@@ -7,4 +7,5 @@ use Rattle.lf_recorder.specs.Desk.{DeskView, SeatView, HasSeat, IsLowestWithout,
 -- the desk and the seats come back, with the lowest log without a seat, or where each log has one
 abbrev pub HandsBack : DeskView → List SeatView → CloseFault → Type 0
 HandsBack d seats (Missing log desk back) = IsLowestWithout seats (logs_of d) log × (desk ≡ d) × (back.items ≡ seats)
-HandsBack d seats (NoMemory desk back) = ((log : ℕ) → log < logs_of d → HasSeat seats log) × (desk ≡ d) × (back.items ≡ seats)
+HandsBack d seats (NoMemory desk back) = ((log : ℕ) → log < logs_of d → HasSeat seats log) × (desk ≡ d) ×
+    (back.items ≡ seats)

@@ -1,5 +1,6 @@
 -- What contracts see of a desk and of a seat, and what they say.
-use Rattle.std.specs.Prelude.{◌≡◌, ◌==◌, ◌+◌, ◌^◌, ℕ, Bool, true, false, cond, not, ◌||◌, ◌&&◌, nat_lt, nat_le, List, [], ◌∷◌, ◌++◌, length}
+use Rattle.std.specs.Prelude.{◌≡◌, ◌==◌, ◌+◌, ◌^◌, ℕ, Bool, true, false, cond, not, ◌||◌, ◌&&◌, nat_lt, nat_le, List}
+use Rattle.std.specs.Prelude.{[], ◌∷◌, ◌++◌, length}
 use Rattle.std.specs.Prelude.{slice_get, slice_set, ◌≢◌, Any, All, ◌<◌, Option, None, Some}
 use Rattle.atomic_table.specs.Seated.{TableId}
 use Rattle.lf_rules.specs.Address.{no_bank}
@@ -50,7 +51,8 @@ is_port_log d v = nat_lt v.log d.ports
 
 -- whether the seat's log holds this kind
 abbrev pub is_own_kind : DeskView → SeatView → Event → Bool
-is_own_kind d v event = nat_le (first_version event) d.version && cond (is_port_log d v) (is_port_event event) (not (is_port_event event))
+is_own_kind d v event = nat_le (first_version event) d.version
+    && cond (is_port_log d v) (is_port_event event) (not (is_port_event event))
 
 -- whether the seat's log may name this bank, or none in the record of a fence
 abbrev pub is_own_bank : DeskView → SeatView → ℕ → Event → Bool
@@ -61,7 +63,8 @@ is_own_bank d v bank event = nat_lt bank d.banks && (is_port_log d v || (v.log =
 abbrev pub refusal_of : DeskView → SeatView → ℕ → Event → Option RecordFault
 refusal_of d v bank event =
     cond (is_own_kind d v event)
-    (cond (is_own_bank d v bank event) (cond (nat_lt (length v.records) (most_records d.version)) None (Some LogFull)) (Some BankRange))
+    (cond (is_own_bank d v bank event) (cond (nat_lt (length v.records) (most_records d.version)) None (Some LogFull))
+    (Some BankRange))
     (Some LogKind)
 
 -- the seat of a log with no record
@@ -98,4 +101,5 @@ placed logs (s ∷ ss) = placed (slice_set logs s.log s.records) ss
 
 -- the log is the lowest one without a seat
 abbrev pub IsLowestWithout : List SeatView → ℕ → ℕ → Type 0
-IsLowestWithout seats logs log = (log < logs) × All (λ (s : SeatView). s.log ≢ log) seats × ((lower : ℕ) → lower < log → HasSeat seats lower)
+IsLowestWithout seats logs log = (log < logs) × All (λ (s : SeatView). s.log ≢ log) seats ×
+    ((lower : ℕ) → lower < log → HasSeat seats lower)

@@ -1,5 +1,6 @@
 -- What holds of the banks' words and of the seats' views between any two steps.
-use Rattle.std.specs.Prelude.{◌≡◌, ℕ, ◌+◌, ◌^◌, ◌<◌, ◌≤◌, List, [], ◌∷◌, ◌++◌, length, slice_get, slice_index, Some, All}
+use Rattle.std.specs.Prelude.{◌≡◌, ℕ, ◌+◌, ◌^◌, ◌<◌, ◌≤◌, List, [], ◌∷◌, ◌++◌, length, slice_get, slice_index, Some}
+use Rattle.std.specs.Prelude.{All}
 use mathlib.Core.Option.{some}
 use lib.ListN.{get_elem?}
 use Rattle.atomic_table.specs.Table.{State, Me, Step}
@@ -25,11 +26,13 @@ Mine = Me (Unit {0}) View
 abbrev pub new_collector : View
 new_collector = Collector 0 []
 
--- the view fits the list: a log's seat has the log's records; the desk has those of each log that it took in, whose seat is spent
+-- the view fits the list: a log's seat has the log's records; the desk has those of each log that it took in, whose
+-- seat is spent
 abbrev pub FitsSeat : List Record → List View → ℕ → View → Type 0
 FitsSeat all views seat (Collector made joined) =
     (seat ≡ 0) × (length views ≡ made + 1)
-    × ((k : ℕ) (x : ℕ × List Record) → slice_get joined k ≡ Some x → (of_log x.0 all ≡ x.1) × (get_elem? views (x.0 + 1) ≡ some Spent))
+    × ((k : ℕ) (x : ℕ × List Record) → slice_get joined k ≡ Some x → (of_log x.0 all ≡ x.1) ×
+    (get_elem? views (x.0 + 1) ≡ some Spent))
 FitsSeat all views seat (Log log records) = (seat ≡ log + 1) × (of_log log all ≡ records)
 FitsSeat all views seat Spent = Unit {0}
 
@@ -55,7 +58,8 @@ records_of Spent = []
 -- the view after a record with this number
 abbrev pub drew : View → ℕ → ℕ → Event → View
 drew (Collector made joined) bank number event = Collector made joined
-drew (Log log records) bank number event = Log log (records ++ record { log = log; bank = bank; number = number; event = event } ∷ [])
+drew (Log log records) bank number event = Log log (records
+    ++ record { log = log; bank = bank; number = number; event = event } ∷ [])
 drew Spent bank number event = Spent
 
 -- what a log's records are followed by at a fence
@@ -74,7 +78,8 @@ IsAbove number bank records = All (λ (r : Record). r.bank ≡ bank → r.number
 
 -- a draw appends a record with the number found
 abbrev pub Draws : Event → Step (Unit {0}) → Mine → ℕ → Mine → Type 0
-Draws event st me found me' = (found < 2 ^ 29) × IsAbove found st.word (records_of me.0) × (me' ≡ (drew me.0 st.word found event, me.1))
+Draws event st me found me' = (found < 2 ^ 29) × IsAbove found st.word (records_of me.0) ×
+    (me' ≡ (drew me.0 st.word found event, me.1))
 
 -- a fence appends its record, whatever was found
 abbrev pub Passes : Step (Unit {0}) → Mine → ℕ → Mine → Type 0

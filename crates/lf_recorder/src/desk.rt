@@ -1,11 +1,14 @@
 //! A desk with a word per bank, and a seat per log.
-ghost use Rattle.std.specs.Prelude.{◌≡◌, ◌+◌, ◌^◌, ◌<◌, ◌≤◌, ℕ, [], ◌∷◌, ◌++◌, length, None, IfOk, IfErr, IfSome, IfNone, OnOk, OnErr, IsOkUnless};
+ghost use Rattle.std.specs.Prelude.{◌≡◌, ◌+◌, ◌^◌, ◌<◌, ◌≤◌, ℕ, [], ◌∷◌, ◌++◌, length, None, IfOk, IfErr, IfSome};
+ghost use Rattle.std.specs.Prelude.{IfNone, OnOk, OnErr, IsOkUnless};
 ghost use Rattle.std.specs.Prelude.{◌↔◌, true, false, ◌≢◌, All, map, replicate, vec_len, vec_capacity};
 ghost use Rattle.std.specs.Bool.{OnTrue, OnFalse};
 ghost use Rattle.lf_recorder.specs.declared.rule.View.TheVariants.{Collector, Log};
 ghost use Rattle.lf_recorder.specs.Rule.{IsAbove, fence_of};
-ghost use Rattle.lf_recorder.specs.Desk.{after_record, refusal_of, is_port_event, first_version, most_records, is_own_bank, new_seat as new_seat_of};
-ghost use Rattle.lf_recorder.specs.Desk.{logs_of, opened, entry_of, placed, AreNewSeats, HasSeat, HoldSeats, IsLowestWithout};
+ghost use Rattle.lf_recorder.specs.Desk.{after_record, refusal_of, is_port_event, first_version, most_records};
+ghost use Rattle.lf_recorder.specs.Desk.{is_own_bank, new_seat as new_seat_of};
+ghost use Rattle.lf_recorder.specs.Desk.{logs_of, opened, entry_of, placed, AreNewSeats, HasSeat, HoldSeats};
+ghost use Rattle.lf_recorder.specs.Desk.{IsLowestWithout};
 ghost use Rattle.lf_recorder.specs.Closing.{HandsBack};
 ghost use Rattle.lf_rules.specs.Address.{no_bank};
 ghost use Rattle.lf_rules.specs.declared.event.Event.TheVariants as Event;
@@ -66,9 +69,17 @@ impl Model for Desk {
 
     ghost Value = { DeskView };
 
-    ghost view = { λ d. record { desk = d.table.shared.table_id; version = d.version; ports = d.ports; banks = d.banks; is_open = d.is_open } };
+    ghost view = { λ d. record {
+      desk = d.table.shared.table_id;
+      version = d.version;
+      ports = d.ports;
+      banks =
+          d.banks;
+      is_open = d.is_open;
+    } };
 
-    ghost invariant = { λ d. (d.table.shared.table_id.words ≡ d.banks) × (d.table.shared.table_id.slots ≡ 0) × (d.table.shared.key ≡ d.banks)
+    ghost invariant = { λ d. (d.table.shared.table_id.words ≡ d.banks) × (d.table.shared.table_id.slots ≡ 0) ×
+        (d.table.shared.key ≡ d.banks)
         × IsSomeAnd d.collector (λ k. (k.seat.table_id ≡ d.table.shared.table_id)
         × (k.seat.me ≡ (Collector (cond d.is_open (d.ports + d.banks) 0) [], [])))
         × (d.ports ≤ 16) × (d.banks ≤ 16) × (0 < d.banks) };
@@ -83,13 +94,18 @@ fn draw<N: Noted>(
     bank: u8,
     event: &Event,
 ) -> u64
-    requires table { (seat.old.table_id ≡ shared.now.table_id) × (bank < shared.now.table_id.words) × (shared.now.key ≡ shared.now.table_id.words) }
+    requires table { (seat.old.table_id ≡ shared.now.table_id) × (bank < shared.now.table_id.words) ×
+        (shared.now.key ≡ shared.now.table_id.words) }
     requires seat { seat.old.me ≡ (Log log records.now.items, []) }
     requires bank { bank < no_bank }
     requires room { length records.now.items < 2 ^ 24 }
     requires event { event.now ≡ N.event }
     ensures table { seat.new.table_id ≡ seat.old.table_id }
-    ensures seat { seat.new.me ≡ (Log log (records.now.items ++ record { log = log; bank = bank; number = result; event = event.now } ∷ []), []) }
+    ensures seat { seat.new.me ≡ (
+      Log log (records.now.items
+          ++ record { log = log; bank = bank; number = result; event = event.now } ∷ []),
+      [],
+    ) }
     ensures fits { result < 2 ^ 29 }
     ensures above { IsAbove result bank records.now.items }
 {
@@ -101,7 +117,8 @@ fn draw<N: Noted>(
 
 // Gives the seat the record of a fence, for which no number is drawn.
 fn pass(shared: &DeskShared, seat: &mut Seat<(), View>, log: u8, records: &Vec<Record>)
-    requires table { (seat.old.table_id ≡ shared.now.table_id) × (0 < shared.now.table_id.words) × (shared.now.key ≡ shared.now.table_id.words) }
+    requires table { (seat.old.table_id ≡ shared.now.table_id) × (0 < shared.now.table_id.words) ×
+        (shared.now.key ≡ shared.now.table_id.words) }
     requires seat { seat.old.me ≡ (Log log records.now.items, []) }
     requires room { length records.now.items < 2 ^ 24 }
     ensures table { seat.new.table_id ≡ seat.old.table_id }
@@ -260,7 +277,8 @@ impl Desk {
         requires version { (0 < version) × (version ≤ 3) }
         requires ports { (0 < ports) × (ports ≤ 16) }
         requires banks { (0 < banks) × (banks ≤ 16) }
-        ensures { IfOk result (λ d. (d.version ≡ version) × (d.ports ≡ ports) × (d.banks ≡ banks) × (d.is_open ≡ false)) }
+        ensures { IfOk result (λ d. (d.version ≡ version) × (d.ports ≡ ports) × (d.banks ≡ banks) ×
+            (d.is_open ≡ false)) }
     {
         let zeros = [0u64; 16];
         let words = &zeros[..banks as usize];

@@ -1,9 +1,12 @@
 -- Each event keeps where the blocks of a bank stand.
-use Rattle.std.proofs.Common.{◌≡◌, ℕ, Bool, true, false, cond, not, ◌&&◌, ◌||◌, ◌==◌, List, [], ◌∷◌, ◌++◌, map, ◌<◌, subst, Some, None, refl, sym, ap, ◌∙◌, eqb-true}
+use Rattle.std.proofs.Common.{◌≡◌, ℕ, Bool, true, false, cond, not, ◌&&◌, ◌||◌, ◌==◌, List, [], ◌∷◌, ◌++◌, map, ◌<◌}
+use Rattle.std.proofs.Common.{subst, Some, None, refl, sym, ap, ◌∙◌, eqb-true}
 use Rattle.std.proofs.lemmas.Bool.{both_ways}
 use Rattle.lf_rules.specs.declared.shape.Shape.{Shape}
 use Rattle.lf_rules.specs.declared.event.Event.{Event}
-use Rattle.lf_rules.specs.declared.event.Event.TheVariants.{Issue, Reply, Hit, Primary, Merge, Stall, Fill1, Evict1, SecondHit, SecondPrimary, SecondStall, Fill2, Evict2, SecondMerge, Fence}
+use Rattle.lf_rules.specs.declared.event.Event.TheVariants.{Issue, Reply, Hit, Primary, Merge, Stall, Fill1, Evict1}
+use Rattle.lf_rules.specs.declared.event.Event.TheVariants.{SecondHit, SecondPrimary, SecondStall, Fill2, Evict2}
+use Rattle.lf_rules.specs.declared.event.Event.TheVariants.{SecondMerge, Fence}
 use Rattle.lf_rules.specs.Registers.{Held, holds, targets_of}
 use Rattle.lf_rules.specs.Address.{second_of}
 use Rattle.lf_rules.specs.Lines.{has_line}
@@ -30,9 +33,14 @@ pub bank_holds : (cs : List Clause) → first_failing OfBank cs ≡ None → Ban
 bank_holds [] e = tt
 bank_holds (c ∷ cs) e = go (judges OfBank c.side) (bank_holds cs) e
   where
-    go : (j : Bool) → (first_failing OfBank cs ≡ None → BankHolds cs) → cond j (cond c.holds (first_failing OfBank cs) (Some c.rule)) (first_failing OfBank cs) ≡ None
+    go : (j : Bool) → (first_failing OfBank cs ≡ None → BankHolds cs) →
+        cond j (cond c.holds (first_failing OfBank cs) (Some c.rule)) (first_failing OfBank cs) ≡ None
         → HoldsIf j c.holds × BankHolds cs
-    go true rest e = (this_holds c.holds c.rule (first_failing OfBank cs) e, rest (others_hold c.holds c.rule (first_failing OfBank cs) e))
+    go true rest e = (
+      this_holds c.holds c.rule (first_failing OfBank cs) e,
+      rest
+          (others_hold c.holds c.rule (first_failing OfBank cs) e),
+    )
     go false rest e = (tt, rest e)
 
 -- ---- one block
@@ -61,25 +69,31 @@ every : (p : Bool → Bool) → (p true && p false) ≡ true → (b : Bool) → 
 every p e true = left_true (p true) (p false) e
 every p e false = right_true (p true) (p false) e
 
-every2 : (p : Bool → Bool → Bool) → ((p true true && p true false) && (p false true && p false false)) ≡ true → (a b : Bool) → p a b ≡ true
+every2 : (p : Bool → Bool → Bool) → ((p true true && p true false) && (p false true && p false false)) ≡ true →
+    (a b : Bool) → p a b ≡ true
 every2 p e a b = every (p a) (every (λ a. p a true && p a false) e a) b
 
 abbrev pub all2 : (Bool → Bool → Bool) → Bool
 all2 p = (p true true && p true false) && (p false true && p false false)
 
-pub every4 : (p : Bool → Bool → Bool → Bool → Bool) → all2 (λ a b. all2 (p a b)) ≡ true → (a b c d : Bool) → p a b c d ≡ true
+pub every4 : (p : Bool → Bool → Bool → Bool → Bool) → all2 (λ a b. all2 (p a b)) ≡ true → (a b c d : Bool) →
+    p a b c d ≡ true
 every4 p e a b c d = every2 (p a b) (every2 (λ a b. all2 (p a b)) e a b) c d
 
-pub every5 : (p : Bool → Bool → Bool → Bool → Bool → Bool) → (all2 (λ a b. all2 (p true a b)) && all2 (λ a b. all2 (p false a b))) ≡ true → (a b c d f : Bool) → p a b c d f ≡ true
+pub every5 : (p : Bool → Bool → Bool → Bool → Bool → Bool) →
+    (all2 (λ a b. all2 (p true a b)) && all2 (λ a b. all2 (p false a b))) ≡ true → (a b c d f : Bool) →
+    p a b c d f ≡ true
 every5 p e a b c d f = every4 (p a) (every (λ a. all2 (λ b c. all2 (p a b c))) e a) b c d f
 
 primary_here : (a f s l2 : Bool) → stands a f s false false l2 ≡ true → stands true f s true false l2 ≡ true
 primary_here a f s l2 e =
-    implied _ _ (every4 (λ a f s l2. not (stands a f s false false l2) || stands true f s true false l2) refl a f s l2) e
+    implied _ _ (every4 (λ a f s l2. not (stands a f s false false l2) || stands true f s true false l2) refl a f s
+    l2) e
 
 fill1_here : (a f w l1 l2 : Bool) → stands a f true w l1 l2 ≡ true → stands a f false false true l2 ≡ true
 fill1_here a f w l1 l2 e =
-    implied _ _ (every5 (λ a f w l1 l2. not (stands a f true w l1 l2) || stands a f false false true l2) refl a f w l1 l2) e
+    implied _ _ (every5 (λ a f w l1 l2. not (stands a f true w l1 l2) || stands a f false false true l2) refl a f w l1
+    l2) e
 
 evict1_here : (a f s w l2 : Bool) → stands a f s w true l2 ≡ true → stands a f s w false l2 ≡ true
 evict1_here a f s w l2 e =
@@ -91,19 +105,23 @@ second_hit_here f s w l1 e =
 
 second_primary_here : (f s w l1 : Bool) → stands true f s w l1 false ≡ true → stands false true s w l1 false ≡ true
 second_primary_here f s w l1 e =
-    implied _ _ (every4 (λ f s w l1. not (stands true f s w l1 false) || stands false true s w l1 false) refl f s w l1) e
+    implied _ _ (every4 (λ f s w l1. not (stands true f s w l1 false) || stands false true s w l1 false) refl f s w
+    l1) e
 
 fill2_here : (a f s w l1 : Bool) → stands a f s w l1 false ≡ true → stands a false (s || f) w l1 true ≡ true
 fill2_here a f s w l1 e =
-    implied _ _ (every5 (λ a f s w l1. not (stands a f s w l1 false) || stands a false (s || f) w l1 true) refl a f s w l1) e
+    implied _ _ (every5 (λ a f s w l1. not (stands a f s w l1 false) || stands a false (s || f) w l1 true) refl a f s
+    w l1) e
 
 evict2_here : (a f s l2 : Bool) → stands a f s false false l2 ≡ true → stands a f s false false false ≡ true
 evict2_here a f s l2 e =
-    implied _ _ (every4 (λ a f s l2. not (stands a f s false false l2) || stands a f s false false false) refl a f s l2) e
+    implied _ _ (every4 (λ a f s l2. not (stands a f s false false l2) || stands a f s false false false) refl a f s
+    l2) e
 
 -- ---- a block, where the event's own is it or another
 
-primary_step : (b a f s w l1 l2 : Bool) → (b ≡ true → w ≡ false) → (b ≡ true → l1 ≡ false) → stands a f s w l1 l2 ≡ true → stands (cond b true a) f s (cond b true w) l1 l2 ≡ true
+primary_step : (b a f s w l1 l2 : Bool) → (b ≡ true → w ≡ false) → (b ≡ true → l1 ≡ false) →
+    stands a f s w l1 l2 ≡ true → stands (cond b true a) f s (cond b true w) l1 l2 ≡ true
 primary_step false a f s w l1 l2 p q e = e
 primary_step true a f s false false l2 p q e = primary_here a f s l2 e
 primary_step true a f s true l1 l2 p q e = no_way (sym (p refl))
@@ -113,35 +131,41 @@ still : (b w : Bool) → (b ≡ true → w ≡ true) → cond b true w ≡ w
 still false w p = refl
 still true w p = sym (p refl)
 
-fill1_step : (b a f s w l1 l2 : Bool) → (b ≡ true → s ≡ true) → stands a f s w l1 l2 ≡ true → stands a f (cond b false s) (cond b false w) (cond b true l1) l2 ≡ true
+fill1_step : (b a f s w l1 l2 : Bool) → (b ≡ true → s ≡ true) → stands a f s w l1 l2 ≡ true →
+    stands a f (cond b false s) (cond b false w) (cond b true l1) l2 ≡ true
 fill1_step false a f s w l1 l2 p e = e
 fill1_step true a f true w l1 l2 p e = fill1_here a f w l1 l2 e
 fill1_step true a f false w l1 l2 p e = no_way (p refl)
 
-evict1_step : (b a f s w l1 l2 : Bool) → (b ≡ true → l1 ≡ true) → stands a f s w l1 l2 ≡ true → stands a f s w (cond b false l1) l2 ≡ true
+evict1_step : (b a f s w l1 l2 : Bool) → (b ≡ true → l1 ≡ true) → stands a f s w l1 l2 ≡ true →
+    stands a f s w (cond b false l1) l2 ≡ true
 evict1_step false a f s w l1 l2 p e = e
 evict1_step true a f s w true l2 p e = evict1_here a f s w l2 e
 evict1_step true a f s w false l2 p e = no_way (p refl)
 
-second_hit_step : (b a f s w l1 l2 : Bool) → (b ≡ true → a ≡ true) → (b ≡ true → l2 ≡ true) → stands a f s w l1 l2 ≡ true → stands (cond b false a) f (cond b true s) w l1 l2 ≡ true
+second_hit_step : (b a f s w l1 l2 : Bool) → (b ≡ true → a ≡ true) → (b ≡ true → l2 ≡ true) →
+    stands a f s w l1 l2 ≡ true → stands (cond b false a) f (cond b true s) w l1 l2 ≡ true
 second_hit_step false a f s w l1 l2 p q e = e
 second_hit_step true true f s w l1 true p q e = second_hit_here f s w l1 e
 second_hit_step true false f s w l1 l2 p q e = no_way (p refl)
 second_hit_step true true f s w l1 false p q e = no_way (q refl)
 
-second_primary_step : (b a f s w l1 l2 : Bool) → (b ≡ true → a ≡ true) → (b ≡ true → l2 ≡ false) → stands a f s w l1 l2 ≡ true → stands (cond b false a) (cond b true f) s w l1 l2 ≡ true
+second_primary_step : (b a f s w l1 l2 : Bool) → (b ≡ true → a ≡ true) → (b ≡ true → l2 ≡ false) →
+    stands a f s w l1 l2 ≡ true → stands (cond b false a) (cond b true f) s w l1 l2 ≡ true
 second_primary_step false a f s w l1 l2 p q e = e
 second_primary_step true true f s w l1 false p q e = second_primary_here f s w l1 e
 second_primary_step true false f s w l1 l2 p q e = no_way (p refl)
 second_primary_step true true f s w l1 true p q e = no_way (sym (q refl))
 
-fill2_step : (b a f s w l1 l2 : Bool) → (b ≡ true → l2 ≡ false) → stands a f s w l1 l2 ≡ true → stands a (cond b false f) (s || cond b f false) w l1 (cond b true l2) ≡ true
+fill2_step : (b a f s w l1 l2 : Bool) → (b ≡ true → l2 ≡ false) → stands a f s w l1 l2 ≡ true →
+    stands a (cond b false f) (s || cond b f false) w l1 (cond b true l2) ≡ true
 fill2_step false a f true w l1 l2 p e = e
 fill2_step false a f false w l1 l2 p e = e
 fill2_step true a f s w l1 false p e = fill2_here a f s w l1 e
 fill2_step true a f s w l1 true p e = no_way (sym (p refl))
 
-evict2_step : (b a f s w l1 l2 : Bool) → (b ≡ true → w ≡ false) → (b ≡ true → l1 ≡ false) → stands a f s w l1 l2 ≡ true → stands a f s w l1 (cond b false l2) ≡ true
+evict2_step : (b a f s w l1 l2 : Bool) → (b ≡ true → w ≡ false) → (b ≡ true → l1 ≡ false) →
+    stands a f s w l1 l2 ≡ true → stands a f s w l1 (cond b false l2) ≡ true
 evict2_step false a f s w l1 l2 p q e = e
 evict2_step true a f s false false l2 p q e = evict2_here a f s l2 e
 evict2_step true a f s true l1 l2 p q e = no_way (sym (p refl))
@@ -180,9 +204,11 @@ any_append (x ∷ xs) ys y = ap (λ b. (x == y) || b) (any_append xs ys y) ∙ s
 
 -- ---- the events
 
-stands_by : (a a' f f' s s' w w' l1 l1' l2 l2' : Bool) → a' ≡ a → f' ≡ f → s' ≡ s → w' ≡ w → l1' ≡ l1 → l2' ≡ l2 → stands a f s w l1 l2 ≡ true → stands a' f' s' w' l1' l2' ≡ true
+stands_by : (a a' f f' s s' w w' l1 l1' l2 l2' : Bool) → a' ≡ a → f' ≡ f → s' ≡ s → w' ≡ w → l1' ≡ l1 → l2' ≡ l2 →
+    stands a f s w l1 l2 ≡ true → stands a' f' s' w' l1' l2' ≡ true
 stands_by a a' f f' s s' w w' l1 l1' l2 l2' pa pf ps pw p1 p2 e =
-    let same : stands a' f' s' w' l1' l2' ≡ stands a f s w l1 l2 = λ i. stands (pa i) (pf i) (ps i) (pw i) (p1 i) (p2 i) in same ∙ e
+    let same : stands a' f' s' w' l1' l2' ≡ stands a f s w l1 l2 =
+    λ i. stands (pa i) (pf i) (ps i) (pw i) (p1 i) (p2 i) in same ∙ e
 
 here : (P : ℕ → Bool) (v : Bool) (x y : ℕ) → P x ≡ v → (x == y) ≡ true → P y ≡ v
 here P v x y h e = ap P (sym (eqb-true x y e)) ∙ h
@@ -190,25 +216,31 @@ here P v x y h e = ap P (sym (eqb-true x y e)) ∙ h
 inner_line : (a f s w l2 : Bool) → stands a f s w true l2 ≡ true → l2 ≡ true
 inner_line a f s w l2 e = implied _ _ (every5 (λ a f s w l2. not (stands a f s w true l2) || l2) refl a f s w l2) e
 
-pub facts : (shape : Shape) (right : Bool) (slice : Slice) (log bank : ℕ) (e : Event) → first_failing OfBank (rules_of shape right idle slice log bank e) ≡ None
+pub facts : (shape : Shape) (right : Bool) (slice : Slice) (log bank : ℕ) (e : Event) →
+    first_failing OfBank (rules_of shape right idle slice log bank e) ≡ None
     → BankHolds (rules_of shape right idle slice log bank e)
 facts shape right slice log bank e none = bank_holds (rules_of shape right idle slice log bank e) none
 
-module _ (shape : Shape) (right : Bool) (value : List ℕ) (replies : List Ready) (slice : Slice) (log bank : ℕ) (some : 0 < shape.factor)
+module _ (shape : Shape) (right : Bool) (value : List ℕ) (replies : List Ready) (slice : Slice) (log bank : ℕ)
+    (some : 0 < shape.factor)
     (home : AreHome shape slice.regs2) (each : EachStands shape slice) where
   -- a level-two miss
   missed_after : (x register : ℕ) → is_asked slice.asked x ≡ true → has_line slice.lines2 (second_of shape x) ≡ false
       → EachStands shape (slice_after shape value replies slice log (SecondPrimary x register))
   missed_after x register asked absent = record {
     blocks = λ y.
-        stands_by _ _ _ _ _ _ _ _ _ _ _ _ (any_gone (λ (a : Asked). a.0) slice.asked x y) (any_push (λ (h : Held Asked). block_asked h) slice.regs2 _ y) refl refl refl refl
-        (second_primary_step (x == y) _ _ _ _ _ _ (here (is_asked slice.asked) true x y asked) (here (λ k. has_line slice.lines2 (second_of shape k)) false x y absent) (each.blocks y));
+        stands_by _ _ _ _ _ _ _ _ _ _ _ _ (any_gone (λ (a : Asked). a.0) slice.asked x y)
+        (any_push (λ (h : Held Asked). block_asked h) slice.regs2 _ y) refl refl refl refl
+        (second_primary_step (x == y) _ _ _ _ _ _ (here (is_asked slice.asked) true x y asked)
+        (here (λ k. has_line slice.lines2 (second_of shape k)) false x y absent) (each.blocks y));
     fetched = λ k.
         fetched_by _ _ _ _ (any_push (λ (h : Held Asked). h.block) slice.regs2 _ k) refl
-        (fetched_placed (second_of shape x == k) _ _ (here (has_line slice.lines2) false (second_of shape x) k absent) (each.fetched k));
+        (fetched_placed (second_of shape x == k) _ _ (here (has_line slice.lines2) false (second_of shape x) k absent)
+        (each.fetched k));
   }
 
-  pub stands_after : (e : Event) → first_failing OfBank (rules_of shape right idle slice log bank e) ≡ None → EachStands shape (slice_after shape value replies slice log e)
+  pub stands_after : (e : Event) → first_failing OfBank (rules_of shape right idle slice log bank e) ≡ None →
+      EachStands shape (slice_after shape value replies slice log e)
   stands_after (Issue op tag size address bytes) none = record { blocks = each.blocks; fetched = each.fetched }
   stands_after (Reply tag size bytes) none = record { blocks = each.blocks; fetched = each.fetched }
   stands_after (Stall port tag) none = each
@@ -219,7 +251,8 @@ module _ (shape : Shape) (right : Bool) (value : List ℕ) (replies : List Ready
         let h = facts shape right slice log bank (Hit port tag) none in
         let x : ℕ = (oldest (slice.queue port)).block in
         stands_by _ _ _ _ _ _ _ _ _ _ _ _ refl refl refl refl
-        (has_put slice.lines1 x _ y ∙ still (x == y) _ (here (has_line slice.lines1) true x y h.1.0)) refl (each.blocks y);
+        (has_put slice.lines1 x _ y ∙ still (x == y) _ (here (has_line slice.lines1) true x y h.1.0)) refl
+        (each.blocks y);
     fetched = each.fetched;
   }
   stands_after (Primary port tag register) none = record {
@@ -228,7 +261,8 @@ module _ (shape : Shape) (right : Bool) (value : List ℕ) (replies : List Ready
         let x : ℕ = (oldest (slice.queue port)).block in
         stands_by _ _ _ _ _ _ _ _ _ _ _ _ (any_push (λ (a : Asked). a.0) slice.asked (x, register) y) refl refl
         (any_push (λ (h : Held Missed). h.block) slice.waiting (miss slice port register value) y) refl refl
-        (primary_step (x == y) _ _ _ _ _ _ (here (holds slice.waiting) false x y (is_not _ h.1.1.0)) (here (has_line slice.lines1) false x y (is_not _ h.1.0)) (each.blocks y));
+        (primary_step (x == y) _ _ _ _ _ _ (here (holds slice.waiting) false x y (is_not _ h.1.1.0))
+        (here (has_line slice.lines1) false x y (is_not _ h.1.0)) (each.blocks y));
     fetched = each.fetched;
   }
   stands_after (Merge port tag register) none = record {
@@ -236,58 +270,74 @@ module _ (shape : Shape) (right : Bool) (value : List ℕ) (replies : List Ready
         let h = facts shape right slice log bank (Merge port tag register) none in
         let x : ℕ = (oldest (slice.queue port)).block in
         stands_by _ _ _ _ _ _ _ _ _ _ _ _ refl refl refl
-        (any_push (λ (h : Held Missed). h.block) slice.waiting (miss slice port register value) y ∙ still (x == y) _ (here (holds slice.waiting) true x y h.1.0)) refl refl (each.blocks y);
+        (any_push (λ (h : Held Missed). h.block) slice.waiting (miss slice port register value) y
+        ∙ still (x == y) _ (here (holds slice.waiting) true x y h.1.0)) refl refl (each.blocks y);
     fetched = each.fetched;
   }
   stands_after (Fill1 x bytes) none = record {
     blocks = λ y.
         let h = facts shape right slice log bank (Fill1 x bytes) none in
-        stands_by _ _ _ _ _ _ _ _ _ _ _ _ refl refl (any_gone (λ (b : ℕ). b) slice.supplied x y) (any_gone (λ (h : Held Missed). h.block) slice.waiting x y) (has_put slice.lines1 x _ y) refl
+        stands_by _ _ _ _ _ _ _ _ _ _ _ _ refl refl (any_gone (λ (b : ℕ). b) slice.supplied x y)
+        (any_gone (λ (h : Held Missed). h.block) slice.waiting x y) (has_put slice.lines1 x _ y) refl
         (fill1_step (x == y) _ _ _ _ _ _ (here (is_among slice.supplied) true x y h.0) (each.blocks y));
     fetched = each.fetched;
   }
   stands_after (Evict1 x mask bytes) none =
       let h = facts shape right slice log bank (Evict1 x mask bytes) none in
       let below : has_line slice.lines2 (second_of shape x) ≡ true =
-      inner_line _ _ _ _ _ (subst (λ b. stands (is_asked slice.asked x) (asks_for slice.regs2 x) (is_among slice.supplied x) (holds slice.waiting x) b
+      inner_line _ _ _ _ _ (subst (λ b. stands (is_asked slice.asked x) (asks_for slice.regs2 x)
+      (is_among slice.supplied x) (holds slice.waiting x) b
       (has_line slice.lines2 (second_of shape x)) ≡ true) h.0 (each.blocks x)) in
       record {
         blocks = λ y.
             stands_by _ _ _ _ _ _ _ _ _ _ _ _ refl refl refl refl (has_gone slice.lines1 x y)
             (has_put slice.lines2 (second_of shape x) _ (second_of shape y)
-            ∙ still (second_of shape x == second_of shape y) _ (here (has_line slice.lines2) true (second_of shape x) (second_of shape y) below))
+            ∙ still (second_of shape x == second_of shape y) _
+            (here (has_line slice.lines2) true (second_of shape x) (second_of shape y) below))
             (evict1_step (x == y) _ _ _ _ _ _ (here (has_line slice.lines1) true x y h.0) (each.blocks y));
         fetched = λ k.
-            fetched_by _ _ _ _ refl (has_put slice.lines2 (second_of shape x) _ k ∙ still (second_of shape x == k) _ (here (has_line slice.lines2) true (second_of shape x) k below)) (each.fetched k);
+            fetched_by _ _ _ _ refl (has_put slice.lines2 (second_of shape x) _ k
+            ∙ still (second_of shape x == k) _ (here (has_line slice.lines2) true (second_of shape x) k below))
+            (each.fetched k);
       }
   stands_after (SecondHit x) none = record {
     blocks = λ y.
         let h = facts shape right slice log bank (SecondHit x) none in
-        stands_by _ _ _ _ _ _ _ _ _ _ _ _ (any_gone (λ (a : Asked). a.0) slice.asked x y) refl (any_push (λ (b : ℕ). b) slice.supplied x y) refl refl refl
-        (second_hit_step (x == y) _ _ _ _ _ _ (here (is_asked slice.asked) true x y h.0) (here (λ k. has_line slice.lines2 (second_of shape k)) true x y h.1.0) (each.blocks y));
+        stands_by _ _ _ _ _ _ _ _ _ _ _ _ (any_gone (λ (a : Asked). a.0) slice.asked x y) refl
+        (any_push (λ (b : ℕ). b) slice.supplied x y) refl refl refl
+        (second_hit_step (x == y) _ _ _ _ _ _ (here (is_asked slice.asked) true x y h.0)
+        (here (λ k. has_line slice.lines2 (second_of shape k)) true x y h.1.0) (each.blocks y));
     fetched = each.fetched;
   }
-  stands_after (SecondPrimary x register) none = let h = facts shape right slice log bank (SecondPrimary x register) none in missed_after x register h.0 (is_not _ h.1.0)
-  stands_after (SecondMerge x register) none = let h = facts shape right slice log bank (SecondMerge x register) none in missed_after x register h.0 (is_not _ h.1.0)
+  stands_after (SecondPrimary x register) none = let h = facts shape right slice log bank (SecondPrimary x register)
+      none in missed_after x register h.0 (is_not _ h.1.0)
+  stands_after (SecondMerge x register) none = let h = facts shape right slice log bank (SecondMerge x register) none
+      in missed_after x register h.0 (is_not _ h.1.0)
   stands_after (Fill2 second bytes) none =
       let h = facts shape right slice log bank (Fill2 second bytes) none in
       let absent : has_line slice.lines2 second ≡ false = absent_if _ _ (each.fetched second) h.0 in
       record {
         blocks = λ y.
             stands_by _ _ _ _ _ _ _ _ _ _ _ _ refl (asks_gone shape slice.regs2 second y home)
-            (any_append slice.supplied (map block_asked (targets_of slice.regs2 second)) y ∙ ap (λ b. is_among slice.supplied y || b) (asked_among shape slice.regs2 second y home))
+            (any_append slice.supplied (map block_asked (targets_of slice.regs2 second)) y
+            ∙ ap (λ b. is_among slice.supplied y || b) (asked_among shape slice.regs2 second y home))
             refl refl (has_put slice.lines2 second _ (second_of shape y))
-            (fill2_step (second == second_of shape y) _ _ _ _ _ _ (here (has_line slice.lines2) false second (second_of shape y) absent) (each.blocks y));
+            (fill2_step (second == second_of shape y) _ _ _ _ _ _
+            (here (has_line slice.lines2) false second (second_of shape y) absent) (each.blocks y));
         fetched = λ k.
-            fetched_by _ _ _ _ (any_gone (λ (h : Held Asked). h.block) slice.regs2 second k) (has_put slice.lines2 second _ k) (fetched_filled (second == k) _ _ (each.fetched k));
+            fetched_by _ _ _ _ (any_gone (λ (h : Held Asked). h.block) slice.regs2 second k)
+            (has_put slice.lines2 second _ k) (fetched_filled (second == k) _ _ (each.fetched k));
       }
   stands_after (Evict2 second masks bytes) none =
       let h = facts shape right slice log bank (Evict2 second masks bytes) none in
       record {
         blocks = λ y.
-            stands_by _ _ _ _ _ _ _ _ _ _ _ _ refl refl refl refl refl (has_gone slice.lines2 second (second_of shape y))
+            stands_by _ _ _ _ _ _ _ _ _ _ _ _ refl refl refl refl refl
+            (has_gone slice.lines2 second (second_of shape y))
             (evict2_step (second == second_of shape y) _ _ _ _ _ _
             (λ e. (is_apart_at shape slice second y some h.1.0 (eqb-true second (second_of shape y) e)).1)
-            (λ e. (is_apart_at shape slice second y some h.1.0 (eqb-true second (second_of shape y) e)).0) (each.blocks y));
-        fetched = λ k. fetched_by _ _ _ _ refl (has_gone slice.lines2 second k) (fetched_evicted (second == k) _ _ (each.fetched k));
+            (λ e. (is_apart_at shape slice second y some h.1.0 (eqb-true second (second_of shape y) e)).0)
+            (each.blocks y));
+        fetched = λ k. fetched_by _ _ _ _ refl (has_gone slice.lines2 second k)
+            (fetched_evicted (second == k) _ _ (each.fetched k));
       }

@@ -1,5 +1,6 @@
 -- What a bank says of a miss of level one.
-use Rattle.std.proofs.Common.{◌≡◌, ℕ, zero, suc, ◌/◌, ◌<◌, Bool, true, false, not, ◌&&◌, nat_lt, List, [], ◌∷◌, length, Option, Some, None, IfNone, refl, sym, ap, ◌∙◌, eqb-true, arith}
+use Rattle.std.proofs.Common.{◌≡◌, ℕ, zero, suc, ◌/◌, ◌<◌, Bool, true, false, not, ◌&&◌, nat_lt, List, [], ◌∷◌}
+use Rattle.std.proofs.Common.{length, Option, Some, None, IfNone, refl, sym, ap, ◌∙◌, eqb-true, arith}
 use Rattle.std.proofs.lemmas.Bool.{lt-ltb}
 use mathlib.Core.Path.{ap₂}
 use Rattle.lf_rules.specs.declared.rule.Rule.{Rule}
@@ -13,7 +14,8 @@ use Rattle.lf_rules.specs.State.{Request, Missed}
 use Rattle.lf_rules.specs.Table.{is_head, oldest, destination, destinations, position}
 use Rattle.lf_replay.specs.BankView.{queue_at}
 
-one_holds : (rule : Rule) (a : Bool) (rest : List Clause) → a ≡ true → first_failing OfBank (bank_wants rule a ∷ rest) ≡ first_failing OfBank rest
+one_holds : (rule : Rule) (a : Bool) (rest : List Clause) → a ≡ true →
+    first_failing OfBank (bank_wants rule a ∷ rest) ≡ first_failing OfBank rest
 one_holds rule true rest e = refl
 one_holds rule false rest e = absurd (cc e)
 
@@ -26,13 +28,15 @@ head_tag : (queue : List Request) (tag : ℕ) → is_head queue tag ≡ true →
 head_tag [] tag e = absurd (cc e)
 head_tag (request ∷ queue) tag e = eqb-true request.tag tag e
 
-queue_there : (queues : List (List Request)) (port tag : ℕ) → is_head (queue_at queues port) tag ≡ true → port < length queues
+queue_there : (queues : List (List Request)) (port tag : ℕ) → is_head (queue_at queues port) tag ≡ true →
+    port < length queues
 queue_there [] zero tag e = absurd (cc e)
 queue_there [] (suc port) tag e = absurd (cc e)
 queue_there (queue ∷ queues) zero tag e = omega arith
 queue_there (queue ∷ queues) (suc port) tag e = let rest = queue_there queues port tag e in omega (arith, rest)
 
-module _ (shape : Shape) (queues : List (List Request)) (port tag : ℕ) (request : Request) (long : length queues ≡ shape.ports)
+module _ (shape : Shape) (queues : List (List Request)) (port tag : ℕ) (request : Request)
+    (long : length queues ≡ shape.ports)
     (head : is_head (queue_at queues port) tag ≡ true) (same : request ≡ oldest (queue_at queues port)) where
   pub is_next : (nat_lt port shape.ports && is_head (queue_at queues port) tag) ≡ true
   is_next =
@@ -40,39 +44,52 @@ module _ (shape : Shape) (queues : List (List Request)) (port tag : ℕ) (reques
       ap₂ (λ a b. a && b) (lt-ltb port shape.ports lt) head
 
   named : (d : ℕ) → d ≡ destination shape port request.tag → destination shape port tag ≡ d
-  named d is = sym (is ∙ ap (λ (r : Request). destination shape port r.tag) same ∙ ap (destination shape port) (head_tag (queue_at queues port) tag head))
+  named d is = sym (is ∙ ap (λ (r : Request). destination shape port r.tag) same
+      ∙ ap (destination shape port) (head_tag (queue_at queues port) tag head))
 
   here : (block : ℕ) → block ≡ request.block → (oldest (queue_at queues port)).block ≡ block
   here block is = sym (is ∙ ap (λ (r : Request). r.block) same)
 
-  pub primary_judged : (lines : Lines) (waiting : List (Held Missed)) (register block d : ℕ) (told : Option Rule) → has_line lines block ≡ false → block ≡ request.block
+  pub primary_judged : (lines : Lines) (waiting : List (Held Missed)) (register block d : ℕ) (told : Option Rule) →
+      has_line lines block ≡ false → block ≡ request.block
       → d ≡ destination shape port request.tag
-      → told ≡ first_failing OfBank (primary_clauses shape.level1.organisation (destinations shape) waiting block d register)
+      → told ≡ first_failing OfBank (primary_clauses shape.level1.organisation (destinations shape) waiting block d
+      register)
       → first_failing OfBank (
       bank_wants NotHead (nat_lt port shape.ports && is_head (queue_at queues port) tag)
       ∷ bank_wants Present (not (has_line lines (oldest (queue_at queues port)).block))
-      ∷ primary_clauses shape.level1.organisation (destinations shape) waiting (oldest (queue_at queues port)).block (destination shape port tag) register
+      ∷ primary_clauses shape.level1.organisation (destinations shape) waiting (oldest (queue_at queues port)).block
+      (destination shape port tag) register
       ) ≡ told
   primary_judged lines waiting register block d told absent at dest is =
       let last : List Clause =
-      primary_clauses shape.level1.organisation (destinations shape) waiting (oldest (queue_at queues port)).block (destination shape port tag) register in
-      one_holds NotHead _ (bank_wants Present (not (has_line lines (oldest (queue_at queues port)).block)) ∷ last) is_next
+      primary_clauses shape.level1.organisation (destinations shape) waiting (oldest (queue_at queues port)).block
+      (destination shape port tag) register in
+      one_holds NotHead _ (bank_wants Present (not (has_line lines (oldest (queue_at queues port)).block)) ∷ last)
+      is_next
       ∙ one_holds Present _ last (ap (λ b. not (has_line lines b)) (here block at) ∙ ap not absent)
-      ∙ (λ i. first_failing OfBank (primary_clauses shape.level1.organisation (destinations shape) waiting (here block at i) (named d dest i) register)) ∙ sym is
+      ∙ (λ i. first_failing OfBank (primary_clauses shape.level1.organisation (destinations shape) waiting
+      (here block at i) (named d dest i) register)) ∙ sym is
 
-  pub merge_judged : (waiting : List (Held Missed)) (register block d word : ℕ) (told : Option Rule) → block ≡ request.block → d ≡ destination shape port request.tag
+  pub merge_judged : (waiting : List (Held Missed)) (register block d word : ℕ) (told : Option Rule) →
+      block ≡ request.block → d ≡ destination shape port request.tag
       → word ≡ request.offset / 8
-      → told ≡ first_failing OfBank (merge_clauses shape.level1.organisation (destinations shape) position waiting block d word register)
+      → told ≡ first_failing OfBank (merge_clauses shape.level1.organisation (destinations shape) position waiting
+      block d word register)
       → first_failing OfBank (
       bank_wants NotHead (nat_lt port shape.ports && is_head (queue_at queues port) tag)
-      ∷ merge_clauses shape.level1.organisation (destinations shape) position waiting (oldest (queue_at queues port)).block (destination shape port tag)
+      ∷ merge_clauses shape.level1.organisation (destinations shape) position waiting
+      (oldest (queue_at queues port)).block (destination shape port tag)
       ((oldest (queue_at queues port)).offset / 8) register
       ) ≡ told
   merge_judged waiting register block d word told at dest is same_rule =
-      let word_is : (oldest (queue_at queues port)).offset / 8 ≡ word = sym (is ∙ ap (λ (r : Request). r.offset / 8) same) in
+      let word_is : (oldest (queue_at queues port)).offset / 8 ≡ word =
+      sym (is ∙ ap (λ (r : Request). r.offset / 8) same) in
       let last : List Clause =
-      merge_clauses shape.level1.organisation (destinations shape) position waiting (oldest (queue_at queues port)).block (destination shape port tag)
+      merge_clauses shape.level1.organisation (destinations shape) position waiting
+      (oldest (queue_at queues port)).block (destination shape port tag)
       ((oldest (queue_at queues port)).offset / 8) register in
       one_holds NotHead _ last is_next
-      ∙ (λ i. first_failing OfBank (merge_clauses shape.level1.organisation (destinations shape) position waiting (here block at i) (named d dest i) (word_is i) register))
+      ∙ (λ i. first_failing OfBank (merge_clauses shape.level1.organisation (destinations shape) position waiting
+      (here block at i) (named d dest i) (word_is i) register))
       ∙ sym same_rule

@@ -1,12 +1,14 @@
 -- What a level-one target tells of its request is enough for its reply, and for the bytes that a block's stores write.
-use Rattle.std.proofs.Common.{◌≡◌, ℕ, zero, suc, ◌+◌, ◌-◌, ◌*◌, ◌/◌, ◌%◌, ◌^◌, ◌<◌, ◌≤◌, Bool, true, false, cond, List, [], ◌∷◌, ◌++◌, get_or, take, drop, map}
+use Rattle.std.proofs.Common.{◌≡◌, ℕ, zero, suc, ◌+◌, ◌-◌, ◌*◌, ◌/◌, ◌%◌, ◌^◌, ◌<◌, ◌≤◌, Bool, true, false, cond}
+use Rattle.std.proofs.Common.{List, [], ◌∷◌, ◌++◌, get_or, take, drop, map}
 use Rattle.std.proofs.Common.{length, replicate, ⊎_elim, bit_or, refl, ap, sym, ◌∙◌, subst, arith, append_assoc}
 use mathlib.Core.Path.{ap₂}
 use Rattle.std.specs.List.{fold, range_with_len}
 use Rattle.std.specs.Int.{from_le_bytes, to_le_bytes, w64}
 use Rattle.std.specs.Int.RustNames.{count_ones}
 use lib.Count.{ones_cat}
-use Rattle.std.proofs.lemmas.List.{take_all, take_more, map-append, length-append, length-drop, get_or-drop, get_or_append_left, get_or-append_right}
+use Rattle.std.proofs.lemmas.List.{take_all, take_more, map-append, length-append, length-drop, get_or-drop}
+use Rattle.std.proofs.lemmas.List.{get_or_append_left, get_or-append_right}
 use Rattle.std.proofs.lemmas.List.FromFn.{length-map-range_with_len}
 use Rattle.std.proofs.lemmas.Bool.{cases_lt}
 use Rattle.std.proofs.lemmas.Nat.{pow_pos, le_bytes_8, div-mul-add, mod-mul-add}
@@ -34,7 +36,12 @@ abbrev pub padding : List ℕ → List ℕ
 padding bytes = drop (length bytes) (replicate 8 0)
 
 padded_long : (bytes : List ℕ) → length bytes ≤ 8 → length (bytes ++ padding bytes) ≡ 8
-padded_long bytes short = omega (arith, length-append bytes (padding bytes), length-drop (length bytes) (replicate {A = ℕ} 8 0))
+padded_long bytes short = omega (
+  arith,
+  length-append bytes (padding bytes),
+  length-drop (length bytes)
+      (replicate {A = ℕ} 8 0),
+)
 
 padded_low : (bytes : List ℕ) → ((i : ℕ) → get_or bytes i 0 < 256) → (i : ℕ) → get_or (bytes ++ padding bytes) i 0 < 256
 padded_low bytes low i = ⊎_elim
@@ -42,21 +49,26 @@ padded_low bytes low i = ⊎_elim
     (λ le. omega (
       arith,
       get_or-append_right bytes (padding bytes) (length bytes) i 0 refl le
-          ∙ get_or-drop (length bytes) (replicate {A = ℕ} 8 0) (i - length bytes) 0 ∙ zeros 8 (length bytes + (i - length bytes)),
+          ∙ get_or-drop (length bytes) (replicate {A = ℕ} 8 0) (i - length bytes) 0
+          ∙ zeros 8 (length bytes + (i - length bytes)),
     ))
     (cases_lt i (length bytes))
 
 -- the bytes, and zeros behind them, are those of the number
-pub number_told : (bytes : List ℕ) (n : ℕ) → length bytes ≤ 8 → ((i : ℕ) → get_or bytes i 0 < 256) → n ≡ from_le_bytes w64 (bytes ++ padding bytes) → IsNumberOf bytes n
+pub number_told : (bytes : List ℕ) (n : ℕ) → length bytes ≤ 8 → ((i : ℕ) → get_or bytes i 0 < 256) →
+    n ≡ from_le_bytes w64 (bytes ++ padding bytes) → IsNumberOf bytes n
 number_told bytes n short low number =
-    ap (take (length bytes)) (le_bytes_8 (bytes ++ padding bytes) n (padded_long bytes short) (padded_low bytes low) number)
+    ap (take (length bytes)) (le_bytes_8 (bytes ++ padding bytes) n (padded_long bytes short) (padded_low bytes low)
+    number)
     ∙ take-append_seam bytes (padding bytes)
 
 -- a value has as many bytes as its load asks for, and none for a store
-pub value_long : (memory : FlatMemory) (request : Request) → length (value_of memory request) ≡ cond (is_store request) 0 request.size
+pub value_long : (memory : FlatMemory) (request : Request) →
+    length (value_of memory request) ≡ cond (is_store request) 0 request.size
 value_long memory request = go (is_store request)
   where
-    go : (b : Bool) → length (cond b [] (map (λ i. memory request.block (request.offset + i)) (range_with_len 0 request.size))) ≡ cond b 0 request.size
+    go : (b : Bool) → length (cond b [] (map (λ i. memory request.block (request.offset + i))
+        (range_with_len 0 request.size))) ≡ cond b 0 request.size
     go true = refl
     go false = length-map-range_with_len (λ i. memory request.block (request.offset + i)) 0 request.size
 
@@ -78,57 +90,82 @@ ones_of_mask offset size =
 
 -- ---- a reply
 
-told_value : (b : Bool) (ones size : ℕ) (all value : List ℕ) → ones ≡ size → length value ≡ cond b 0 size → take (length value) all ≡ value → cond b [] (take ones all) ≡ value
+told_value : (b : Bool) (ones size : ℕ) (all value : List ℕ) → ones ≡ size → length value ≡ cond b 0 size →
+    take (length value) all ≡ value → cond b [] (take ones all) ≡ value
 told_value true ones size all value mask long told = ap (λ n. take n all) (sym long) ∙ told
 told_value false ones size all value mask long told = ap (λ n. take n all) (mask ∙ sym long) ∙ told
 
 -- what stands past the end of a list
 nobody : Held Missed
-nobody = record { register = 0; block = 0; target = record { port = 0; request = record { tag = 0; op = Load; block = 0; offset = 0; size = 0; bytes = [] }; value = [] } }
+nobody = record {
+  register = 0;
+  block = 0;
+  target = record {
+    port = 0;
+    request =
+        record { tag = 0; op = Load; block = 0; offset = 0; size = 0; bytes = [] };
+    value = [];
+  };
+}
 
 module _ (shape : Shape) where
   -- the parts of a reply, read from the target
-  pub reply_told : (target : Request1) (missed : Missed) (reply : Ready) → IsTarget1 shape target missed → reply.port ≡ target.destination / shape.tags → reply.tag ≡ target.destination % shape.tags
-      → reply.value ≡ cond target.is_store [] (take (count_ones target.bytes.0) (to_le_bytes w64 target.value)) → reply ≡ reply_to missed
+  pub reply_told : (target : Request1) (missed : Missed) (reply : Ready) → IsTarget1 shape target missed →
+      reply.port ≡ target.destination / shape.tags → reply.tag ≡ target.destination % shape.tags
+      → reply.value ≡ cond target.is_store [] (take (count_ones target.bytes.0) (to_le_bytes w64 target.value)) →
+      reply ≡ reply_to missed
   reply_told target missed reply tells port tag value =
-      let here : reply.port ≡ missed.port = port ∙ ap (λ n. n / shape.tags) tells.destination ∙ div-mul-add missed.port shape.tags missed.request.tag tells.tag in
-      let named : reply.tag ≡ missed.request.tag = tag ∙ ap (λ n. n % shape.tags) tells.destination ∙ mod-mul-add missed.port shape.tags missed.request.tag tells.tag in
-      let ones : count_ones target.bytes.0 ≡ missed.request.size = ap count_ones tells.bytes ∙ ones_of_mask missed.request.offset missed.request.size in
+      let here : reply.port ≡ missed.port = port ∙ ap (λ n. n / shape.tags) tells.destination
+      ∙ div-mul-add missed.port shape.tags missed.request.tag tells.tag in
+      let named : reply.tag ≡ missed.request.tag = tag ∙ ap (λ n. n % shape.tags) tells.destination
+      ∙ mod-mul-add missed.port shape.tags missed.request.tag tells.tag in
+      let ones : count_ones target.bytes.0 ≡ missed.request.size =
+      ap count_ones tells.bytes ∙ ones_of_mask missed.request.offset missed.request.size in
       let read : reply.value ≡ missed.value =
       value ∙ ap (λ b. cond b [] (take (count_ones target.bytes.0) (to_le_bytes w64 target.value))) tells.store
-      ∙ told_value (is_store missed.request) (count_ones target.bytes.0) missed.request.size (to_le_bytes w64 target.value) missed.value ones tells.size tells.value in
+      ∙ told_value (is_store missed.request) (count_ones target.bytes.0) missed.request.size
+      (to_le_bytes w64 target.value) missed.value ones tells.size tells.value in
       λ i. record { port = here i; tag = named i; value = read i }
 
   -- ---- the bytes that a block's stores write
 
   fold_alike : (xs : List (Held Request1)) (ys : List (Held Missed)) → AreAlike (IsTarget1 shape) xs ys → (mask : ℕ)
-      → fold (λ m h. bit_or m (file.store_mask (λ (r : Request1). r.is_store) (λ (r : Request1). r.bytes) h.target)) mask xs ≡ fold (λ m h. bit_or m (table.store_mask h.target.request)) mask ys
+      → fold (λ m h. bit_or m (file.store_mask (λ (r : Request1). r.is_store) (λ (r : Request1). r.bytes) h.target))
+      mask xs ≡ fold (λ m h. bit_or m (table.store_mask h.target.request)) mask ys
   fold_alike [] [] alike mask = refl
   fold_alike (x ∷ xs) (y ∷ ys) alike mask =
       let tells : IsTarget1 shape x.target y.target = alike.0.target in
-      let same : file.store_mask (λ (r : Request1). r.is_store) (λ (r : Request1). r.bytes) x.target ≡ table.store_mask y.target.request = ap₂ (λ b m. cond b m 0) tells.store tells.bytes in
-      ap (λ n. fold (λ m h. bit_or m (file.store_mask (λ (r : Request1). r.is_store) (λ (r : Request1). r.bytes) h.target)) (bit_or mask n) xs) same
+      let same : file.store_mask (λ (r : Request1). r.is_store) (λ (r : Request1). r.bytes) x.target
+      ≡ table.store_mask y.target.request = ap₂ (λ b m. cond b m 0) tells.store tells.bytes in
+      ap (λ n. fold (λ m h. bit_or m (file.store_mask (λ (r : Request1). r.is_store) (λ (r : Request1). r.bytes)
+      h.target)) (bit_or mask n) xs) same
       ∙ fold_alike xs ys alike.1 (bit_or mask (table.store_mask y.target.request))
   fold_alike [] (y ∷ ys) alike mask = absurd alike
   fold_alike (x ∷ xs) [] alike mask = absurd alike
 
-  pub store_bytes_alike : (registers : RegisterFile Request1) (waiting : List (Held Missed)) → AreAlike (IsTarget1 shape) registers.held waiting → (block : ℕ)
-      → file.store_bytes (λ (r : Request1). r.is_store) (λ (r : Request1). r.bytes) registers block ≡ table.store_bytes waiting block
+  pub store_bytes_alike : (registers : RegisterFile Request1) (waiting : List (Held Missed)) →
+      AreAlike (IsTarget1 shape) registers.held waiting → (block : ℕ)
+      → file.store_bytes (λ (r : Request1). r.is_store) (λ (r : Request1). r.bytes) registers block
+      ≡ table.store_bytes waiting block
   store_bytes_alike registers waiting alike block =
-      fold_alike (targets_of registers.held block) (targets_of waiting block) (targets_of-alike (IsTarget1 shape) registers.held waiting alike block) 0
+      fold_alike (targets_of registers.held block) (targets_of waiting block)
+      (targets_of-alike (IsTarget1 shape) registers.held waiting alike block) 0
 
   -- ---- the replies of a block's targets
 
-  module _ (held : List (Held Request1)) (waiting : List (Held Missed)) (alike : AreAlike (IsTarget1 shape) held waiting) (block : ℕ) (pairs : List (ℕ × Request1))
+  module _ (held : List (Held Request1)) (waiting : List (Held Missed))
+      (alike : AreAlike (IsTarget1 shape) held waiting) (block : ℕ) (pairs : List (ℕ × Request1))
       (are : pairs ≡ map released_pair (targets_of held block)) where
-    told_in : (xs : List (Held Request1)) (ys : List (Held Missed)) → AreAlike (IsTarget1 shape) xs ys → (i : ℕ) (pair : ℕ × Request1) → i < length (map released_pair xs)
+    told_in : (xs : List (Held Request1)) (ys : List (Held Missed)) → AreAlike (IsTarget1 shape) xs ys →
+        (i : ℕ) (pair : ℕ × Request1) → i < length (map released_pair xs)
         → IsTarget1 shape (get_or (map released_pair xs) i pair).1 (get_or ys i nobody).target
     told_in (x ∷ xs) (y ∷ ys) all zero pair lt = all.0.target
     told_in (x ∷ xs) (y ∷ ys) all (suc i) pair lt = told_in xs ys all.1 i pair (omega arith)
     told_in [] ys all i pair lt = absurd (omega arith)
     told_in (x ∷ xs) [] all i pair lt = absurd all
 
-    same_count : (xs : List (Held Request1)) (ys : List (Held Missed)) → AreAlike (IsTarget1 shape) xs ys → length (map released_pair xs) ≡ length ys
+    same_count : (xs : List (Held Request1)) (ys : List (Held Missed)) → AreAlike (IsTarget1 shape) xs ys →
+        length (map released_pair xs) ≡ length ys
     same_count [] [] all = refl
     same_count (x ∷ xs) (y ∷ ys) all = ap suc (same_count xs ys all.1)
     same_count [] (y ∷ ys) all = absurd all
@@ -141,27 +178,38 @@ module _ (shape : Shape) where
     pairs_count = ap length are ∙ same_count (targets_of held block) (targets_of waiting block) released_alike
 
     -- a released target tells of the request at its place
-    tells_at : (i : ℕ) (pair : ℕ × Request1) → i < length pairs → pair ≡ get_or pairs i pair → IsTarget1 shape pair.1 (get_or (targets_of waiting block) i nobody).target
+    tells_at : (i : ℕ) (pair : ℕ × Request1) → i < length pairs → pair ≡ get_or pairs i pair →
+        IsTarget1 shape pair.1 (get_or (targets_of waiting block) i nobody).target
     tells_at i pair lt is =
-        let here : get_or (map released_pair (targets_of held block)) i pair ≡ pair = ap (λ (ps : List (ℕ × Request1)). get_or ps i pair) (sym are) ∙ sym is in
+        let here : get_or (map released_pair (targets_of held block)) i pair ≡ pair =
+        ap (λ (ps : List (ℕ × Request1)). get_or ps i pair) (sym are) ∙ sym is in
         subst (λ (p : ℕ × Request1). IsTarget1 shape p.1 (get_or (targets_of waiting block) i nobody).target) here
-        (told_in (targets_of held block) (targets_of waiting block) released_alike i pair (omega (arith, ap length are)))
+        (told_in (targets_of held block) (targets_of waiting block) released_alike i pair
+        (omega (arith, ap length are)))
 
     -- so it tells of some request
-    pub told_at : (i : ℕ) (pair : ℕ × Request1) → i < length pairs → pair ≡ get_or pairs i pair → IsSomeTarget shape pair.1
+    pub told_at : (i : ℕ) (pair : ℕ × Request1) → i < length pairs → pair ≡ get_or pairs i pair →
+        IsSomeTarget shape pair.1
     told_at i pair lt is = ((get_or (targets_of waiting block) i nobody).target, tells_at i pair lt is)
 
     -- one more target has its reply
-    pub replies_more : (i : ℕ) (pair : ℕ × Request1) (reply : Ready) (before old new : List Ready) → i < length pairs → pair ≡ get_or pairs i pair
+    pub replies_more : (i : ℕ) (pair : ℕ × Request1) (reply : Ready) (before old new : List Ready) →
+        i < length pairs → pair ≡ get_or pairs i pair
         → ((missed : Missed) → IsTarget1 shape pair.1 missed → reply ≡ reply_to missed)
-        → old ≡ before ++ map reply_of (take i (targets_of waiting block)) → new ≡ old ++ reply ∷ [] → new ≡ before ++ map reply_of (take (i + 1) (targets_of waiting block))
+        → old ≡ before ++ map reply_of (take i (targets_of waiting block)) → new ≡ old ++ reply ∷ [] →
+        new ≡ before ++ map reply_of (take (i + 1) (targets_of waiting block))
     replies_more i pair reply before old new lt is told so_far pushed =
         let ys : List (Held Missed) = targets_of waiting block in
         let one : map reply_of (take i ys) ++ reply ∷ [] ≡ map reply_of (take (i + 1) ys) =
         ap (λ r. map reply_of (take i ys) ++ r ∷ []) (told (get_or ys i nobody).target (tells_at i pair lt is))
-        ∙ sym (ap (map reply_of) (take_more ys i nobody (omega (arith, pairs_count))) ∙ map-append reply_of (take i ys) (get_or ys i nobody ∷ [])) in
-        pushed ∙ ap (λ (rs : List Ready). rs ++ reply ∷ []) so_far ∙ append_assoc before (map reply_of (take i ys)) (reply ∷ []) ∙ ap (λ (rs : List Ready). before ++ rs) one
+        ∙ sym (ap (map reply_of) (take_more ys i nobody (omega (arith, pairs_count)))
+        ∙ map-append reply_of (take i ys) (get_or ys i nobody ∷ [])) in
+        pushed ∙ ap (λ (rs : List Ready). rs ++ reply ∷ []) so_far
+        ∙ append_assoc before (map reply_of (take i ys)) (reply ∷ []) ∙ ap (λ (rs : List Ready). before ++ rs) one
 
     -- all have theirs
-    pub replies_all : (i : ℕ) (before now : List Ready) → length pairs ≤ i → now ≡ before ++ map reply_of (take i (targets_of waiting block)) → now ≡ before ++ map reply_of (targets_of waiting block)
-    replies_all i before now past so_far = so_far ∙ ap (λ (hs : List (Held Missed)). before ++ map reply_of hs) (take_all i (targets_of waiting block) (omega (arith, pairs_count)))
+    pub replies_all : (i : ℕ) (before now : List Ready) → length pairs ≤ i →
+        now ≡ before ++ map reply_of (take i (targets_of waiting block)) →
+        now ≡ before ++ map reply_of (targets_of waiting block)
+    replies_all i before now past so_far = so_far ∙ ap (λ (hs : List (Held Missed)). before ++ map reply_of hs)
+        (take_all i (targets_of waiting block) (omega (arith, pairs_count)))

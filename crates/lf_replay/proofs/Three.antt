@@ -31,10 +31,12 @@ turned true full e = ap not (sym e)
 turned false full e = ap not (sym e)
 
 -- a set has a way where its table is not full
-pub free_way : {M : Type 0} (set : ℕ → ℕ → ℕ → ℕ → ℕ) (table : LineTable M) (banks factor sets ways block : ℕ) (full : Bool) → table.banks ≡ banks
+pub free_way : {M : Type 0} (set : ℕ → ℕ → ℕ → ℕ → ℕ) (table : LineTable M) (banks factor sets ways block : ℕ)
+    (full : Bool) → table.banks ≡ banks
     → table.factor ≡ factor → table.sets ≡ sets → table.ways ≡ ways
     → full ≡ is_full set table block → has_way (set banks factor sets) ways table.lines block ≡ not full
 free_way set table banks factor sets ways block full b f s w e =
-    let same : has_way (set table.banks table.factor table.sets) table.ways table.lines block ≡ has_way (set banks factor sets) ways table.lines block =
+    let same : has_way (set table.banks table.factor table.sets) table.ways table.lines block
+    ≡ has_way (set banks factor sets) ways table.lines block =
     λ i. has_way (set (b i) (f i) (s i)) (w i) table.lines block in
     sym same ∙ turned (has_way (set table.banks table.factor table.sets) table.ways table.lines block) full e

@@ -18,5 +18,6 @@ break_alike shape memory bank rs are n rule =
     let part = first_local (bank_part shape bank memory) in
     let whole = first_local memory in (
       breaks_same shape bank part whole rs n rule are.fit are.named (λ port. tt) (part_does shape bank memory),
-      breaks_same shape bank whole part rs n rule are.fit are.named (λ port. tt) (SameBank-sym (part_does shape bank memory)),
+      breaks_same shape bank whole part rs n rule are.fit are.named (λ port. tt)
+          (SameBank-sym (part_does shape bank memory)),
     )

@@ -28,7 +28,8 @@ stands _ _ _ _ _ _ = false
 
 abbrev pub stands_at : Shape → Slice → ℕ → Bool
 stands_at shape slice block =
-    stands (is_asked slice.asked block) (asks_for slice.regs2 block) (is_among slice.supplied block) (holds slice.waiting block)
+    stands (is_asked slice.asked block) (asks_for slice.regs2 block) (is_among slice.supplied block)
+    (holds slice.waiting block)
     (has_line slice.lines1 block) (has_line slice.lines2 (second_of shape block))
 
 -- level two has no line of a second-level block that it fetches

@@ -74,5 +74,6 @@ abbrev pub after_event : Shape → Local → ℕ → Event → Local
 after_event shape now log event = record {
   busy = now.busy;
   memory = memory_after now.memory now.slice event;
-  slice = slice_after shape (value_at now.memory (accepts now.slice event)) (replies_at now.slice event) now.slice log event;
+  slice = slice_after shape (value_at now.memory (accepts now.slice event)) (replies_at now.slice event) now.slice log
+      event;
 }

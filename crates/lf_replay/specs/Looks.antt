@@ -19,7 +19,8 @@ OfShown view Holds = (now : Local) → Shows view now → Holds view.shape now
 
 -- so it is of the state where the run of the records ends that the step took
 abbrev pub OfStep : StepView → (Shape → Local → Type 0) → Type 0
-OfStep step Holds = (shape : Shape) (memory : FlatMemory) (bank : ℕ) (rs : List Record) → IsStepAfter step shape memory bank rs
+OfStep step Holds = (shape : Shape) (memory : FlatMemory) (bank : ℕ) (rs : List Record) →
+    IsStepAfter step shape memory bank rs
     → Holds shape (bank_after shape (first_local memory) rs)
 
 -- This is what the state has of a block, and of its second-level block.

@@ -30,14 +30,16 @@ abbrev pub bank_after : Shape → Local → List Record → Local
 bank_after shape now [] = now
 bank_after shape now (r ∷ rs) = bank_after shape (bank_effect shape now r) rs
 
--- The records are a run of the bank from the opening state with this memory, and the bank shows the state where it ends.
+-- The records are a run of the bank from the opening state with this memory, and the bank shows the state where it
+-- ends.
 pub record IsBankAfter (view : BankView) (shape : Shape) (memory : FlatMemory) (rs : List Record) : Type 0 where
   pub of_shape : view.shape ≡ shape
   pub is_run : IsRunOf OfBank shape (first_local memory) rs
   pub shows : Shows view (bank_after shape (first_local memory) rs)
 
 -- the same of a step of the bank
-pub record IsStepAfter (step : StepView) (shape : Shape) (memory : FlatMemory) (bank : ℕ) (rs : List Record) : Type 0 where
+pub record IsStepAfter (step : StepView) (shape : Shape) (memory : FlatMemory) (bank : ℕ) (rs : List Record) : Type
+    0 where
   pub of_bank : step.bank ≡ bank
   pub state : IsBankAfter step.state shape memory rs
 

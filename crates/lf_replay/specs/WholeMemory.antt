@@ -23,5 +23,7 @@ BankPartsRunAlike = (shape : Shape) (memory : FlatMemory) (bank : ℕ) (rs : Lis
 
 -- and otherwise break the same rule first at the same place.
 abbrev pub BankPartsBreakAlike : Type 0
-BankPartsBreakAlike = (shape : Shape) (memory : FlatMemory) (bank : ℕ) (rs : List Record) → AreOfBank shape bank rs → (n : ℕ) (rule : Rule)
-    → BreaksAt OfBank shape (first_local (bank_part shape bank memory)) rs n rule ↔ BreaksAt OfBank shape (first_local memory) rs n rule
+BankPartsBreakAlike = (shape : Shape) (memory : FlatMemory) (bank : ℕ) (rs : List Record) → AreOfBank shape bank rs →
+    (n : ℕ) (rule : Rule)
+    → BreaksAt OfBank shape (first_local (bank_part shape bank memory)) rs n rule ↔
+    BreaksAt OfBank shape (first_local memory) rs n rule

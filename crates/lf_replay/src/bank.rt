@@ -32,7 +32,7 @@ pub struct Bank<O1: Organisation<Target = Request1>, O2: Organisation<Target = R
     pub ready: Vec<Ready>,
     /// What the last fill of level one released. No state is kept in it.
     pub replied: Targets<Request1>,
-    /// The same of level two.
+    /// What the last fill of level two released. No state is kept in it.
     pub fetched: Targets<Request2>,
 }
 

@@ -32,7 +32,8 @@ pub trait BankState {
     ) -> Result<Self, NoMemory>
         requires in_range { IsShape shape.now }
         requires suits { suits shape.now }
-        ensures opening { IfOk result (λ state. Shows (view state) (first_local (bank_part shape.now bank (flat_memory memory.now)))) }
+        ensures opening { IfOk result (λ state. Shows (view state)
+            (first_local (bank_part shape.now bank (flat_memory memory.now)))) }
         ensures reached { IfOk result (λ state. ShowsReached (view state)) }
         ensures shape { IfOk result (λ state. (view state).shape ≡ shape.now) };
 

@@ -43,7 +43,8 @@ impl Step {
     pub fn new(alloc: Global, shape: &Shape, memory: &Memory, bank: u32) -> Result<Step, NoMemory>
         requires in_range { IsShape shape.now }
         requires bank { bank < shape.now.banks }
-        ensures { IfOk result (λ step. IsStepAfter step shape.now (bank_part shape.now bank (flat_memory memory.now.items)) bank []) }
+        ensures { IfOk result (λ step. IsStepAfter step shape.now
+            (bank_part shape.now bank (flat_memory memory.now.items)) bank []) }
     {
         let state = AnyBank::new(alloc, shape, memory, bank)?;
         Ok(Step { bank, state })
@@ -56,9 +57,11 @@ impl Step {
         ensures bank { self.new.bank ≡ self.old.bank }
         ensures shape { self.new.state.shape ≡ self.old.state.shape }
         ensures unchanged { OnErr result (self.new ≡ self.old) }
-        ensures stands { (shape : Shape) (memory : FlatMemory) (bank : ℕ) (rs : List Record) → IsStepAfter self.old shape memory bank rs
+        ensures stands { (shape : Shape) (memory : FlatMemory) (bank : ℕ) (rs : List Record) →
+            IsStepAfter self.old shape memory bank rs
             → OnOk result (IsStepAfter self.new shape memory bank (rs ++ item.now ∷ [])) }
-        ensures broken { (shape : Shape) (memory : FlatMemory) (bank : ℕ) (rs : List Record) → IsStepAfter self.old shape memory bank rs
+        ensures broken { (shape : Shape) (memory : FlatMemory) (bank : ℕ) (rs : List Record) →
+            IsStepAfter self.old shape memory bank rs
             → IfErr result (IsFaultAfter shape memory rs item.now) }
     {
         self.state.apply(item)

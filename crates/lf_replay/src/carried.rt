@@ -25,7 +25,8 @@ fn part_agrees<O: Organisation<Target = Request1>>(
     requires fits { second < 0x1_0000_0000 / shape.now.factor }
     requires inside { place < shape.now.factor }
     requires whole { length bytes.now.items ≡ shape.now.factor * shape.now.block }
-    ensures { OfMissed shape.now (O.seen waiting.now) (λ missed. result ≡ part_agrees shape.now (flat_of memory.now) missed second bytes.now.items place) }
+    ensures { OfMissed shape.now (O.seen waiting.now) (λ missed. result
+        ≡ part_agrees shape.now (flat_of memory.now) missed second bytes.now.items place) }
 {
     let block = sub_block(shape, second, place);
     let part = part_at(shape.block as usize, bytes, place as usize);
@@ -45,7 +46,8 @@ pub fn wide_agrees<O: Organisation<Target = Request1>>(
     requires fits { second < 0x1_0000_0000 / shape.now.factor }
     requires whole { length bytes.now.items ≡ shape.now.factor * shape.now.block }
     ensures { OfMissed shape.now (O.seen waiting.now) (λ missed.
-        result ≡ list_all (part_agrees shape.now (flat_of memory.now) missed second bytes.now.items) (places shape.now)) }
+        result ≡ list_all (part_agrees shape.now (flat_of memory.now) missed second bytes.now.items)
+        (places shape.now)) }
 {
     for place in 0..shape.factor {
         if !part_agrees::<O>(shape, memory, waiting, second, bytes, place) {

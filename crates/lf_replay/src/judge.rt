@@ -12,7 +12,8 @@ ghost use Rattle.lf_rules.specs.Table.{is_among, is_apart, is_head, oldest, stor
 ghost use Rattle.lf_rules.specs.declared.event.Event.TheVariants as event;
 ghost use Rattle.lf_rules.specs.declared.event.Op.{Op};
 ghost use Rattle.lf_replay.specs.BankView.{queue_at, slice_of};
-ghost use Rattle.lf_replay.specs.RegisterRules.{OfMissed, TakesPrimary, TakesMerge, TakesSecondPrimary, TakesSecondMerge};
+ghost use Rattle.lf_replay.specs.RegisterRules.{OfMissed, TakesPrimary, TakesMerge, TakesSecondPrimary};
+ghost use Rattle.lf_replay.specs.RegisterRules.{TakesSecondMerge};
 ghost use Rattle.lf_replay.specs.Shows.{IsJudged, ShowsReached};
 
 use crate::bank::Bank;
@@ -28,7 +29,8 @@ use lf_state::{head, ready_for, second_of};
 
 impl<O1: Organisation<Target = Request1>, O2: Organisation<Target = Request2>> Bank<O1, O2> {
     pub fn judge_issue(&self, tag: u8) -> Option<Rule>
-        ensures { (log size address : ℕ) (op : Op) (bytes : ArrayVec ℕ) → IsJudged self.now log (event.Issue op tag size address bytes) result }
+        ensures { (log size address : ℕ) (op : Op) (bytes : ArrayVec ℕ) →
+            IsJudged self.now log (event.Issue op tag size address bytes) result }
     {
         if u32::from(tag) >= self.shape.tags {
             return Some(Rule::TagRange);
@@ -54,7 +56,8 @@ impl<O1: Organisation<Target = Request1>, O2: Organisation<Target = Request2>> B
     pub fn judge_hit(&self, port: u8, tag: u8) -> Option<Rule>
         ensures judged { (log : ℕ) → IsJudged self.now log (event.Hit port tag) result }
         ensures head { IfNone result (is_head (queue_at self.now.queues port) tag ≡ true) }
-        ensures line { IfNone result (has_line self.now.lines1.lines (oldest (queue_at self.now.queues port)).block ≡ true) }
+        ensures line { IfNone result (has_line self.now.lines1.lines (oldest (queue_at self.now.queues port)).block
+            ≡ true) }
     {
         let Some(request) = head(&self.queues, port, tag) else {
             return Some(Rule::NotHead);
@@ -69,7 +72,8 @@ impl<O1: Organisation<Target = Request1>, O2: Organisation<Target = Request2>> B
         requires { ShowsReached self.now }
         ensures judged { (log : ℕ) → IsJudged self.now log (event.Primary port tag register) result }
         ensures head { IfNone result (is_head (queue_at self.now.queues port) tag ≡ true) }
-        ensures takes { IfNone result (TakesPrimary self.now.shape self.now.waiting port (oldest (queue_at self.now.queues port)) register) }
+        ensures takes { IfNone result (TakesPrimary self.now.shape self.now.waiting port
+            (oldest (queue_at self.now.queues port)) register) }
     {
         let Some(request) = head(&self.queues, port, tag) else {
             return Some(Rule::NotHead);
@@ -86,7 +90,8 @@ impl<O1: Organisation<Target = Request1>, O2: Organisation<Target = Request2>> B
         requires { ShowsReached self.now }
         ensures judged { (log : ℕ) → IsJudged self.now log (event.Merge port tag register) result }
         ensures head { IfNone result (is_head (queue_at self.now.queues port) tag ≡ true) }
-        ensures takes { IfNone result (TakesMerge self.now.shape self.now.waiting port (oldest (queue_at self.now.queues port)) register) }
+        ensures takes { IfNone result (TakesMerge self.now.shape self.now.waiting port
+            (oldest (queue_at self.now.queues port)) register) }
     {
         let Some(request) = head(&self.queues, port, tag) else {
             return Some(Rule::NotHead);
@@ -198,7 +203,8 @@ impl<O1: Organisation<Target = Request1>, O2: Organisation<Target = Request2>> B
     fn may_leave(&self, second: u32) -> bool
         requires { second < 0x1_0000_0000 / self.now.shape.factor }
         ensures { OfMissed self.now.shape self.now.waiting (λ missed. (fetched : List (Held Asked))
-            → result ≡ list_all (is_apart self.now.shape (slice_of self.now missed fetched) second) (places self.now.shape)) }
+            → result ≡ list_all (is_apart self.now.shape (slice_of self.now missed fetched) second)
+            (places self.now.shape)) }
     {
         let in_register = is_waited_for::<O1>(&self.waiting, &self.shape, second);
         self.lines2.may_leave(second, &self.lines1, in_register)
@@ -209,7 +215,8 @@ impl<O1: Organisation<Target = Request1>, O2: Organisation<Target = Request2>> B
         requires count { length masks.now.items ≡ self.now.shape.factor }
         ensures judged { (log : ℕ) → IsJudged self.now log (event.Evict2 second masks.now bytes.now) result }
         ensures line { IfNone result (has_line self.now.lines2.lines second ≡ true) }
-        ensures dirty { IfNone result (same_masks self.now.shape.factor masks.now (dirty_masks self.now.lines2.lines second) ≡ true) }
+        ensures dirty { IfNone result (same_masks self.now.shape.factor masks.now
+            (dirty_masks self.now.lines2.lines second) ≡ true) }
     {
         if !self.lines2.has(second) {
             return Some(Rule::EvictAbsent);

@@ -46,8 +46,10 @@ fn accept_head(
     ensures block { IfOk result (λ taken. taken.0 ≡ (oldest (queue_at queues.old.items port)).block) }
     ensures tells { IfOk result (λ taken. let request = oldest (queue_at queues.old.items port) in
         IsTarget1 shape.now taken.1 (miss_of port 0 (flat_of memory.old) request).target) }
-    ensures effect { OnOk result (flat_of memory.new ≡ accepted (flat_of memory.old) (oldest (queue_at queues.old.items port))) }
-    ensures rest { OnOk result (queue_at queues.new.items ≡ update (queue_at queues.old.items) port (drop 1 (queue_at queues.old.items port))) }
+    ensures effect { OnOk result (flat_of memory.new ≡ accepted (flat_of memory.old)
+        (oldest (queue_at queues.old.items port))) }
+    ensures rest { OnOk result (queue_at queues.new.items ≡ update (queue_at queues.old.items) port
+        (drop 1 (queue_at queues.old.items port))) }
     ensures count { length queues.new.items ≡ length queues.old.items }
     ensures kept_memory { OnErr result (memory.new ≡ memory.old) }
     ensures kept_queues { OnErr result (queues.new.items ≡ queues.old.items) }
@@ -66,7 +68,8 @@ impl<O1: Organisation<Target = Request1>, O2: Organisation<Target = Request2>> B
     /// The port's queue takes the request.
     pub fn issue(&mut self, log: u8, request: Request) -> Result<(), BankFault>
         requires { log < self.old.shape.ports }
-        ensures { (op : Op) (tag size address : ℕ) (bytes : ArrayVec ℕ) → request ≡ request_of self.old.shape tag op size address bytes.items
+        ensures { (op : Op) (tag size address : ℕ) (bytes : ArrayVec ℕ) →
+            request ≡ request_of self.old.shape tag op size address bytes.items
             → IsAnswer self.old self.new log (event.Issue op tag size address bytes) result }
     {
         if let Some(rule) = self.judge_issue(request.tag()) {

@@ -56,7 +56,7 @@ fn block_bytes(shape: &Shape, memory: &FlatMemory, block: u32) -> Block
     bytes
 }
 
-/// The same masks.
+/// A copy of the masks.
 fn copied(masks: &Masks) -> Masks
     ensures { result ≡ masks.now }
 {
@@ -103,7 +103,8 @@ impl<O1: Organisation<Target = Request1>, O2: Organisation<Target = Request2>> B
 
     fn reply_for(&self, port: u8, tag: u8) -> Option<&[u8]>
         ensures { MatchOption result (list_any (is_ready_for port tag) self.now.ready ≡ false)
-            (λ value. (list_any (is_ready_for port tag) self.now.ready ≡ true) × (value.now ≡ first_ready self.now.ready port tag)) }
+            (λ value. (list_any (is_ready_for port tag) self.now.ready ≡ true) ×
+            (value.now ≡ first_ready self.now.ready port tag)) }
     {
         match ready_for(&self.ready, port, tag) {
             Some(ready) => Some(ready.value()),
@@ -172,7 +173,8 @@ impl Step {
     pub fn reply_for(&self, port: u8, tag: u8) -> Option<&[u8]>
         ensures { OfStep self.now (λ shape now.
             MatchOption result (list_any (is_ready_for port tag) now.slice.ready ≡ false)
-            (λ value. (list_any (is_ready_for port tag) now.slice.ready ≡ true) × (value.now ≡ first_ready now.slice.ready port tag))) }
+            (λ value. (list_any (is_ready_for port tag) now.slice.ready ≡ true) ×
+            (value.now ≡ first_ready now.slice.ready port tag))) }
     {
         self.state.reply_for(port, tag)
     }

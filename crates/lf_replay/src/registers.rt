@@ -8,7 +8,8 @@ ghost use Rattle.lf_rules.specs.Registers.{holds, has_room};
 ghost use Rattle.lf_rules.specs.Table.{destinations, destinations2, position, position2, store_bytes};
 ghost use Rattle.lf_rules.specs.declared.shape.Shape.{Shape};
 ghost use Rattle.lf_replay.specs.BankView.{IsFile1, IsFile2};
-ghost use Rattle.lf_replay.specs.RegisterRules.{OfMissed, OfAsked, primary_held, merge_held, primary_told, merge_told, second_primary_held};
+ghost use Rattle.lf_replay.specs.RegisterRules.{OfMissed, OfAsked, primary_held, merge_held, primary_told};
+ghost use Rattle.lf_replay.specs.RegisterRules.{merge_told, second_primary_held};
 ghost use Rattle.lf_replay.specs.RegisterRules.{second_merge_held, second_primary_told, second_merge_told};
 
 use lf_mshr::{Organisation, Request1, Request2};
@@ -25,7 +26,8 @@ pub fn primary_rule<O: Organisation<Target = Request1>>(
 ) -> Option<Rule>
     requires { IsFile1 shape.now (O.seen waiting.now) }
     ensures held { result ≡ primary_held (O.seen waiting.now) register block target.now }
-    ensures told { OfMissed shape.now (O.seen waiting.now) (λ missed. result ≡ primary_told shape.now missed register block target.now) }
+    ensures told { OfMissed shape.now (O.seen waiting.now) (λ missed. result
+        ≡ primary_told shape.now missed register block target.now) }
 {
     match O::primary_fault(waiting, register, block, target) {
         Some(fault) => Some(fault.rule()),
@@ -43,7 +45,8 @@ pub fn merge_rule<O: Organisation<Target = Request1>>(
 ) -> Option<Rule>
     requires { IsFile1 shape.now (O.seen waiting.now) }
     ensures held { result ≡ merge_held (O.seen waiting.now) register block target.now }
-    ensures told { OfMissed shape.now (O.seen waiting.now) (λ missed. result ≡ merge_told shape.now missed register block target.now) }
+    ensures told { OfMissed shape.now (O.seen waiting.now) (λ missed. result
+        ≡ merge_told shape.now missed register block target.now) }
 {
     match O::merge_fault(waiting, register, block, target) {
         Some(fault) => Some(fault.rule()),
@@ -60,7 +63,8 @@ pub fn has_room1<O: Organisation<Target = Request1>>(
 ) -> bool
     requires { IsFile1 shape.now (O.seen waiting.now) }
     ensures { OfMissed shape.now (O.seen waiting.now) (λ missed.
-        result ≡ has_room shape.now.level1.organisation (destinations shape.now) position missed block target.now.destination target.now.position) }
+        result ≡ has_room shape.now.level1.organisation (destinations shape.now) position missed block
+        target.now.destination target.now.position) }
 {
     O::room(waiting, block, target)
 }
@@ -109,7 +113,8 @@ pub fn second_primary_rule<O: Organisation<Target = Request2>>(
 ) -> Option<Rule>
     requires { IsFile2 shape.now (O.seen regs2.now) }
     ensures held { result ≡ second_primary_held (O.seen regs2.now) register second target.now }
-    ensures told { OfAsked shape.now (O.seen regs2.now) (λ fetched. result ≡ second_primary_told shape.now fetched register second target.now) }
+    ensures told { OfAsked shape.now (O.seen regs2.now) (λ fetched. result
+        ≡ second_primary_told shape.now fetched register second target.now) }
 {
     match O::primary_fault(regs2, register, second, target) {
         Some(fault) => Some(fault.rule()),
@@ -127,7 +132,8 @@ pub fn second_merge_rule<O: Organisation<Target = Request2>>(
 ) -> Option<Rule>
     requires { IsFile2 shape.now (O.seen regs2.now) }
     ensures held { result ≡ second_merge_held (O.seen regs2.now) register second target.now }
-    ensures told { OfAsked shape.now (O.seen regs2.now) (λ fetched. result ≡ second_merge_told shape.now fetched register second target.now) }
+    ensures told { OfAsked shape.now (O.seen regs2.now) (λ fetched. result
+        ≡ second_merge_told shape.now fetched register second target.now) }
 {
     match O::merge_fault(regs2, register, second, target) {
         Some(fault) => Some(fault.rule()),
@@ -144,7 +150,8 @@ pub fn has_room2<O: Organisation<Target = Request2>>(
 ) -> bool
     requires { IsFile2 shape.now (O.seen regs2.now) }
     ensures { OfAsked shape.now (O.seen regs2.now) (λ fetched. let level = shape.now.level2 in
-        result ≡ has_room level.organisation (destinations2 shape.now) (position2 shape.now) fetched second target.now.destination target.now.position) }
+        result ≡ has_room level.organisation (destinations2 shape.now) (position2 shape.now) fetched second
+        target.now.destination target.now.position) }
 {
     O::room(regs2, second, target)
 }

@@ -24,7 +24,8 @@ pub fn add_blocks(supplied: &mut Vec<u32>, shape: &Shape, second: u32, targets: 
     requires told { (held : List (Held Request2)) × (fetched : List (Held Asked))
         × (AreAlike (IsTarget2 shape.now) held fetched) × (targets.now ≡ map released_pair (targets_of held second)) }
     ensures { (held : List (Held Request2)) (fetched : List (Held Asked))
-        → AreAlike (IsTarget2 shape.now) held fetched → AreHome shape.now fetched → targets.now ≡ map released_pair (targets_of held second)
+        → AreAlike (IsTarget2 shape.now) held fetched → AreHome shape.now fetched →
+        targets.now ≡ map released_pair (targets_of held second)
         → supplied.new.items ≡ supplied.old.items ++ map block_asked (targets_of fetched second) }
 {
     for (_, target) in targets {

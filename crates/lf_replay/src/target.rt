@@ -35,7 +35,8 @@ fn target_of(shape: &Shape, port: u8, request: &Request, value: &[u8]) -> Reques
     requires port { port < shape.now.ports }
     requires tag { request.now.tag < shape.now.tags }
     requires size { length value.now ≡ (if is_store request.now then 0 else request.now.size) }
-    ensures tells { let missed : model.Missed = record { port = port; request = request.now; value = value.now } in IsTarget1 shape.now result missed }
+    ensures tells { let missed : model.Missed = record { port = port; request = request.now; value = value.now } in
+        IsTarget1 shape.now result missed }
     ensures position { result.position ≡ request.now.offset / 8 }
     ensures destination { result.destination ≡ destination shape.now port request.now.tag }
 {
@@ -54,7 +55,12 @@ pub fn missed(shape: &Shape, memory: &FlatMemory, port: u8, request: &Request) -
     requires in_range { IsShape shape.now }
     requires port { port < shape.now.ports }
     requires tag { request.now.tag < shape.now.tags }
-    ensures tells { let missed : model.Missed = record { port = port; request = request.now; value = value_of (flat_of memory.now) request.now } in
+    ensures tells { let missed : model.Missed = record {
+      port = port;
+      request = request.now;
+      value =
+          value_of (flat_of memory.now) request.now;
+    } in
         IsTarget1 shape.now result missed }
     ensures position { result.position ≡ request.now.offset / 8 }
     ensures destination { result.destination ≡ destination shape.now port request.now.tag }

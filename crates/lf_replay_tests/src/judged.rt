@@ -44,7 +44,7 @@ pub fn assert_judged_on<T: Abort + AllocGlobal>(
     Ok(())
 }
 
-/// The same with a memory of zeros.
+/// Asserts the answer over a memory of zeros.
 pub fn assert_judged<T: Abort + AllocGlobal>(
     rt: &T,
     shape: &Shape,

@@ -60,7 +60,7 @@ const EXPLICIT: OrgShape = OrgShape::Explicit {
     entries: 2,
 };
 
-/// The same for one organisation of level one with each of level two.
+/// Drives one organisation of level one with each of level two.
 fn drive_each<O1, T>(rt: &T, level1: OrgShape) -> Result<(), Fail>
 where
     O1: Organisation<Target = Request1>,

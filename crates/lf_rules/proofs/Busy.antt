@@ -1,5 +1,6 @@
 -- What a record does to the busy tags, by what it does with each port's tag.
-use Rattle.std.proofs.Common.{◌≡◌, ℕ, Bool, true, false, cond, ◌&&◌, ◌==◌, Option, Some, None, refl, sym, ap, ◌∙◌, eqb-true}
+use Rattle.std.proofs.Common.{◌≡◌, ℕ, Bool, true, false, cond, ◌&&◌, ◌==◌, Option, Some, None, refl, sym, ap, ◌∙◌}
+use Rattle.std.proofs.Common.{eqb-true}
 use Rattle.lf_rules.specs.declared.shape.Shape.{Shape}
 use Rattle.lf_rules.specs.declared.event.Record.{Record}
 use Rattle.lf_rules.specs.declared.event.Event.{Event}
@@ -19,9 +20,11 @@ Tags = ℕ → ℕ → Option ℕ
 
 -- a port's tag is set
 set_tag : (busy : Tags) (log tag port t bank : ℕ) (v : Option ℕ) (a : Act) → next_busy a bank (busy port t) ≡ v
-    → update busy log (update (busy log) tag v) port t ≡ next_busy (act_if (log == port && tag == t) a) bank (busy port t)
+    → update busy log (update (busy log) tag v) port t ≡ next_busy (act_if (log == port && tag == t) a) bank
+    (busy port t)
 set_tag busy log tag port t bank v a now =
-    elim (log == port) as (λ b. (log == port) ≡ b → cond b (update (busy log) tag v) (busy port) t ≡ next_busy (act_if (b && (tag == t)) a) bank (busy port t)) [
+    elim (log == port) as (λ b. (log == port) ≡ b → cond b (update (busy log) tag v) (busy port) t
+    ≡ next_busy (act_if (b && (tag == t)) a) bank (busy port t)) [
       | true ↦ λ e. elim (tag == t) as (λ b. cond b v (busy log t) ≡ next_busy (act_if b a) bank (busy port t)) [
         | true ↦ sym now
         | false ↦ ap (λ k. busy k t) (eqb-true log port e)
@@ -42,11 +45,15 @@ quiet_if false bank old = refl
 
 busy_by : (shape : Shape) (busy : Tags) (log bank : ℕ) (e : Event) (port t : ℕ)
     → update busy log (busy_after (busy log) bank e) port t ≡ next_busy (act_of shape port t log e) bank (busy port t)
-busy_by shape busy log bank (Issue op tag size address bytes) port t = set_tag busy log tag port t bank (Some bank) (Issues (request_of shape tag op size address bytes.items)) refl
+busy_by shape busy log bank (Issue op tag size address bytes) port t =
+    set_tag busy log tag port t bank (Some bank) (Issues (request_of shape tag op size address bytes.items)) refl
 busy_by shape busy log bank (Reply tag size bytes) port t = set_tag busy log tag port t bank None Replies refl
-busy_by shape busy log bank (Hit p tag) port t = same_tags busy log port t ∙ quiet_if (p == port && tag == t) bank (busy port t)
-busy_by shape busy log bank (Primary p tag register) port t = same_tags busy log port t ∙ quiet_if (p == port && tag == t) bank (busy port t)
-busy_by shape busy log bank (Merge p tag register) port t = same_tags busy log port t ∙ quiet_if (p == port && tag == t) bank (busy port t)
+busy_by shape busy log bank (Hit p tag) port t = same_tags busy log port t
+    ∙ quiet_if (p == port && tag == t) bank (busy port t)
+busy_by shape busy log bank (Primary p tag register) port t =
+    same_tags busy log port t ∙ quiet_if (p == port && tag == t) bank (busy port t)
+busy_by shape busy log bank (Merge p tag register) port t =
+    same_tags busy log port t ∙ quiet_if (p == port && tag == t) bank (busy port t)
 busy_by shape busy log bank _ port t = same_tags busy log port t
 
 pub busy_at : (shape : Shape) (state : State) (r : Record) (port t : ℕ)

@@ -4,7 +4,8 @@ use Rattle.lf_rules.specs.declared.rule.Rule.{Rule}
 use Rattle.lf_rules.specs.Table.{Side, OfPort, OfBank, OfBoth, Clause}
 use Rattle.lf_rules.specs.Run.{judges, first_failing}
 
-part_step : (j h : Bool) (rule : Rule) (p t : Option Rule) → (t ≡ None → p ≡ None) → cond h t (Some rule) ≡ None → cond j (cond h p (Some rule)) p ≡ None
+part_step : (j h : Bool) (rule : Rule) (p t : Option Rule) → (t ≡ None → p ≡ None) → cond h t (Some rule) ≡ None →
+    cond j (cond h p (Some rule)) p ≡ None
 part_step true true rule p t f e = f e
 part_step true false rule p t f e = e
 part_step false true rule p t f e = f e
@@ -13,7 +14,8 @@ part_step false false rule p t f e = cc
 pub part_holds : (side : Side) (cs : List Clause) → first_failing OfBoth cs ≡ None → first_failing side cs ≡ None
 part_holds side [] e = refl
 part_holds side (c ∷ cs) e =
-    part_step (judges side c.side) c.holds c.rule (first_failing side cs) (first_failing OfBoth cs) (part_holds side cs) e
+    part_step (judges side c.side) c.holds c.rule (first_failing side cs) (first_failing OfBoth cs)
+    (part_holds side cs) e
 
 both_step : (s : Side) (h : Bool) (rule : Rule) (p b t : Option Rule) → (p ≡ None → b ≡ None → t ≡ None)
     → cond (judges OfPort s) (cond h p (Some rule)) p ≡ None → cond (judges OfBank s) (cond h b (Some rule)) b ≡ None
@@ -25,10 +27,12 @@ both_step OfBank false rule p b t f x y = y
 both_step OfBoth true rule p b t f x y = f x y
 both_step OfBoth false rule p b t f x y = x
 
-pub both_hold : (cs : List Clause) → first_failing OfPort cs ≡ None → first_failing OfBank cs ≡ None → first_failing OfBoth cs ≡ None
+pub both_hold : (cs : List Clause) → first_failing OfPort cs ≡ None → first_failing OfBank cs ≡ None →
+    first_failing OfBoth cs ≡ None
 both_hold [] x y = refl
 both_hold (c ∷ cs) x y =
-    both_step c.side c.holds c.rule (first_failing OfPort cs) (first_failing OfBank cs) (first_failing OfBoth cs) (both_hold cs) x y
+    both_step c.side c.holds c.rule (first_failing OfPort cs) (first_failing OfBank cs) (first_failing OfBoth cs)
+    (both_hold cs) x y
 
 -- ---- the first clause of a list and those after it
 
@@ -47,4 +51,8 @@ AllHold (c ∷ cs) = (c.holds ≡ true) × AllHold cs
 
 pub all_hold : (cs : List Clause) → first_failing OfBoth cs ≡ None → AllHold cs
 all_hold [] e = tt
-all_hold (c ∷ cs) e = (this_holds c.holds c.rule (first_failing OfBoth cs) e, all_hold cs (others_hold c.holds c.rule (first_failing OfBoth cs) e))
+all_hold (c ∷ cs) e = (
+  this_holds c.holds c.rule (first_failing OfBoth cs) e,
+  all_hold cs
+      (others_hold c.holds c.rule (first_failing OfBoth cs) e),
+)

@@ -1,5 +1,6 @@
 -- What holds of one block in a copy run: its copies, its line masks and its waiting targets agree with flat memory.
-use Rattle.std.proofs.Common.{◌≡◌, ℕ, ◌<◌, Bool, true, false, cond, ◌||◌, List, [], ◌∷◌, ◌++◌, length, map, Option, Some, None}
+use Rattle.std.proofs.Common.{◌≡◌, ℕ, ◌<◌, Bool, true, false, cond, ◌||◌, List, [], ◌∷◌, ◌++◌, length, map, Option}
+use Rattle.std.proofs.Common.{Some, None}
 use Rattle.std.proofs.Common.{inl, inr, is_some, refl, sym, ap, ◌∙◌, subst, arith, get_or-set_same, get_or-set_other}
 use mathlib.Core.Path.{ap₂, fun_ext}
 use Rattle.std.specs.Prelude.{bit_or, unwrap_or}
@@ -66,18 +67,21 @@ pub record BlockOk (a : Around) : Type 0 where
 
 -- ---- serving
 
-serve-push : (held : List (Held Missed)) (h : Held Missed) (bytes : ℕ → ℕ) → serve (held ++ h ∷ []) bytes ≡ written h.target.request (serve held bytes)
+serve-push : (held : List (Held Missed)) (h : Held Missed) (bytes : ℕ → ℕ) →
+    serve (held ++ h ∷ []) bytes ≡ written h.target.request (serve held bytes)
 serve-push [] h bytes = refl
 serve-push (g ∷ held) h bytes = serve-push held h (written g.target.request bytes)
 
 abbrev pub answer : Held Missed → (ℕ → ℕ) → Ready
 answer h bytes = record { port = h.target.port; tag = h.target.request.tag; value = read h.target.request bytes }
 
-served-push : (held : List (Held Missed)) (h : Held Missed) (bytes : ℕ → ℕ) → served (held ++ h ∷ []) bytes ≡ served held bytes ++ answer h (serve held bytes) ∷ []
+served-push : (held : List (Held Missed)) (h : Held Missed) (bytes : ℕ → ℕ) →
+    served (held ++ h ∷ []) bytes ≡ served held bytes ++ answer h (serve held bytes) ∷ []
 served-push [] h bytes = refl
 served-push (g ∷ held) h bytes = ap (λ rs. answer g bytes ∷ rs) (served-push held h (written g.target.request bytes))
 
-replies-push : (held : List (Held Missed)) (h : Held Missed) → map reply_of (held ++ h ∷ []) ≡ map reply_of held ++ reply_of h ∷ []
+replies-push : (held : List (Held Missed)) (h : Held Missed) →
+    map reply_of (held ++ h ∷ []) ≡ map reply_of held ++ reply_of h ∷ []
 replies-push [] h = refl
 replies-push (g ∷ held) h = ap (λ rs. reply_of g ∷ rs) (replies-push held h)
 
@@ -107,11 +111,16 @@ base-none (Some mask) two below e = cc
 
 -- ---- masks of a line of level two
 
-marked_here : (masks : Masks) (place mask : ℕ) → place < length masks.items → mask_at (marked masks place mask) place ≡ bit_or (mask_at masks place) mask
-marked_here masks place mask inside = ap (λ (m : Mask). m.0) (get_or-set_same masks.items place (record { 0 = bit_or (mask_at masks place) mask }) clean_mask inside)
+marked_here : (masks : Masks) (place mask : ℕ) → place < length masks.items →
+    mask_at (marked masks place mask) place ≡ bit_or (mask_at masks place) mask
+marked_here masks place mask inside = ap (λ (m : Mask). m.0)
+    (get_or-set_same masks.items place (record { 0 = bit_or (mask_at masks place) mask }) clean_mask inside)
 
-marked_other : (masks : Masks) (place other mask : ℕ) → (place ≡ other → ⊥) → mask_at (marked masks place mask) other ≡ mask_at masks other
-marked_other masks place other mask apart = ap (λ (m : Mask). m.0) (get_or-set_other masks.items place other (record { 0 = bit_or (mask_at masks place) mask }) clean_mask (λ e. apart (sym e)))
+marked_other : (masks : Masks) (place other mask : ℕ) → (place ≡ other → ⊥) →
+    mask_at (marked masks place mask) other ≡ mask_at masks other
+marked_other masks place other mask apart = ap (λ (m : Mask). m.0)
+    (get_or-set_other masks.items place other (record { 0 = bit_or (mask_at masks place) mask }) clean_mask
+    (λ e. apart (sym e)))
 
 -- ---- what each event does to its block
 
@@ -135,7 +144,12 @@ module _ (a : Around) (ok : BlockOk a) where
   idle_supplied w e = both_ways (some_wait a.targets) w (ok.is_supplied e).0
 
   pub hit_ok : (q : Request) (mask : ℕ) → a.line1 ≡ Some mask
-      → BlockOk (record a { line1 = Some (bit_or mask (store_mask q)); one = written q a.one; memory = written q a.memory })
+      → BlockOk (record a {
+        line1 = Some (bit_or mask (store_mask q));
+        one = written q a.one;
+        memory =
+            written q a.memory;
+      })
   hit_ok q mask there =
       let in_one = ok.held1 mask there in
       record {
@@ -157,7 +171,8 @@ module _ (a : Around) (ok : BlockOk a) where
         is_supplied = ok.is_supplied;
       }
     where
-      same_some : {m : ℕ} → ◌≡◌ {A = Option ℕ} (Some (bit_or mask (store_mask q))) (Some m) → bit_or mask (store_mask q) ≡ m
+      same_some : {m : ℕ} → ◌≡◌ {A = Option ℕ} (Some (bit_or mask (store_mask q))) (Some m) →
+          bit_or mask (store_mask q) ≡ m
       same_some e = cc
 
   -- a target is placed, and the block may be asked for
@@ -178,12 +193,22 @@ module _ (a : Around) (ok : BlockOk a) where
   }
     where
       answered : {bytes : ℕ → ℕ} → bytes ≡ a.memory → answer h bytes ≡ reply_of h
-      answered e = λ i. record { port = h.target.port; tag = h.target.request.tag; value = (ap (read h.target.request) e ∙ sym value) i }
+      answered e = λ i. record {
+        port = h.target.port;
+        tag = h.target.request.tag;
+        value =
+            (ap (read h.target.request) e ∙ sym value) i;
+      }
 
-  pub primary_ok : (h : Held Missed) → a.line1 ≡ None → some_wait a.targets ≡ false → h.target.value ≡ read h.target.request a.memory
+  pub primary_ok : (h : Held Missed) → a.line1 ≡ None → some_wait a.targets ≡ false →
+      h.target.value ≡ read h.target.request a.memory
       → BlockOk (record a { targets = a.targets ++ h ∷ []; asked = true; memory = written h.target.request a.memory })
   primary_ok h absent idle value =
-      placed_ok h true absent value (λ _. (false_from a.fetched (idle_fetched idle), false_from a.supplied (idle_supplied idle)))
+      placed_ok h true absent value (λ _. (
+        false_from a.fetched (idle_fetched idle),
+        false_from a.supplied
+            (idle_supplied idle),
+      ))
     where
       false_from : (b : Bool) → (b ≡ true → ⊥) → b ≡ false
       false_from true f = absurd (f refl)
@@ -191,10 +216,17 @@ module _ (a : Around) (ok : BlockOk a) where
 
   pub merge_ok : (h : Held Missed) → some_wait a.targets ≡ true → h.target.value ≡ read h.target.request a.memory
       → BlockOk (record a { targets = a.targets ++ h ∷ []; memory = written h.target.request a.memory })
-  merge_ok h waiting value = placed_ok h a.asked (waiting_absent waiting) value (λ e. let k = ok.is_asked e in (k.0, k.1))
+  merge_ok h waiting value = placed_ok h a.asked (waiting_absent waiting) value
+      (λ e. let k = ok.is_asked e in (k.0, k.1))
 
   pub fill1_ok : a.supplied ≡ true
-      → BlockOk (record a { line1 = Some (mask_of_stores a.targets); targets = []; supplied = false; one = serve a.targets a.two })
+      → BlockOk (record a {
+        line1 = Some (mask_of_stores a.targets);
+        targets = [];
+        supplied = false;
+        one =
+            serve a.targets a.two;
+      })
   fill1_ok there =
       let s = ok.is_supplied there in
       let absent : a.line1 ≡ None = waiting_absent s.0 in
@@ -218,7 +250,12 @@ module _ (a : Around) (ok : BlockOk a) where
       same_some e = cc
 
   pub evict1_ok : (mask : ℕ) → a.line1 ≡ Some mask
-      → BlockOk (record a { line1 = None; line2 = Some (marked (unwrap_or a.line2 no_masks) a.place mask); two = overlay a.two a.one mask })
+      → BlockOk (record a {
+        line1 = None;
+        line2 = Some (marked (unwrap_or a.line2 no_masks) a.place mask);
+        two =
+            overlay a.two a.one mask;
+      })
   evict1_ok mask there =
       let in_one = ok.held1 mask there in
       let idle : some_wait a.targets ≡ false = ap some_wait in_one.idle in
@@ -228,26 +265,32 @@ module _ (a : Around) (ok : BlockOk a) where
       record {
         held1 = λ m e. cc;
         held2 = λ m e.
-            let same : marked under.0 a.place mask ≡ m = ap (λ (x : Masks). marked x a.place mask) (sym is) ∙ same_some e in
+            let same : marked under.0 a.place mask ≡ m = ap (λ (x : Masks). marked x a.place mask) (sym is)
+            ∙ same_some e in
             record {
               inside =
                   subst (λ (x : Masks). a.place < length x.items) same
-                  (let long = length-set under.0.items a.place (record { 0 = bit_or (mask_at under.0 a.place) mask }) in let lt = in_two.inside in omega (arith, long, lt));
+                  (let long = length-set under.0.items a.place (record { 0 = bit_or (mask_at under.0 a.place) mask })
+                  in let lt = in_two.inside in omega (arith, long, lt));
               clean = λ o off.
                   let off' : is_under (bit_or (mask_at under.0 a.place) mask) o ≡ false =
-                  ap (λ k. is_under k o) (sym (marked_here under.0 a.place mask in_two.inside) ∙ ap (λ (x : Masks). mask_at x a.place) same) ∙ off in
+                  ap (λ k. is_under k o) (sym (marked_here under.0 a.place mask in_two.inside)
+                  ∙ ap (λ (x : Masks). mask_at x a.place) same) ∙ off in
                   let parts = under_or (mask_at under.0 a.place) mask o off' in
                   cond-false (is_under mask o) (a.one o) (a.two o) parts.1 ∙ in_two.clean o parts.0;
             };
-        waits = λ _. ap (λ held. serve held (overlay a.two a.one mask)) in_one.idle ∙ fun_ext (λ o. at in_one o (is_under mask o) refl);
-        values = λ _. ap (λ held. served held (overlay a.two a.one mask)) in_one.idle ∙ sym (ap (map reply_of) in_one.idle);
+        waits = λ _. ap (λ held. serve held (overlay a.two a.one mask)) in_one.idle
+            ∙ fun_ext (λ o. at in_one o (is_under mask o) refl);
+        values = λ _. ap (λ held. served held (overlay a.two a.one mask)) in_one.idle
+            ∙ sym (ap (map reply_of) in_one.idle);
         is_asked = λ e. absurd (idle_asked idle e);
         is_fetched = λ e. absurd (idle_fetched idle e);
         is_held = λ e. absurd (both_ways (is_some a.line2) (ap is_some (ok.is_held e)) in_one.inner);
         is_supplied = λ e. absurd (idle_supplied idle e);
       }
     where
-      same_some : {m : Masks} → ◌≡◌ {A = Option Masks} (Some (marked (unwrap_or a.line2 no_masks) a.place mask)) (Some m) → marked (unwrap_or a.line2 no_masks) a.place mask ≡ m
+      same_some : {m : Masks} → ◌≡◌ {A = Option Masks} (Some (marked (unwrap_or a.line2 no_masks) a.place mask))
+          (Some m) → marked (unwrap_or a.line2 no_masks) a.place mask ≡ m
       same_some e = cc
 
       at : InOne a mask → (o : ℕ) (b : Bool) → is_under mask o ≡ b → cond b (a.one o) (a.two o) ≡ a.memory o
@@ -255,7 +298,8 @@ module _ (a : Around) (ok : BlockOk a) where
       at in_one o false e = sym (in_one.clean o e) ∙ ap (λ (f : ℕ → ℕ). f o) in_one.same
 
   -- the mask of another block of its second-level block changes
-  pub other_marked_ok : (place mask : ℕ) → (place ≡ a.place → ⊥) → is_some a.line2 ≡ true → BlockOk (record a { line2 = Some (marked (unwrap_or a.line2 no_masks) place mask) })
+  pub other_marked_ok : (place mask : ℕ) → (place ≡ a.place → ⊥) → is_some a.line2 ≡ true →
+      BlockOk (record a { line2 = Some (marked (unwrap_or a.line2 no_masks) place mask) })
   other_marked_ok place mask apart there =
       let under : (x : Masks) × (a.line2 ≡ Some x) = some_is a.line2 there in
       let in_two = ok.held2 under.0 under.1 in
@@ -268,8 +312,11 @@ module _ (a : Around) (ok : BlockOk a) where
             record {
               inside =
                   subst (λ (x : Masks). a.place < length x.items) same
-                  (let long = length-set under.0.items place (record { 0 = bit_or (mask_at under.0 place) mask }) in let lt = in_two.inside in omega (arith, long, lt));
-              clean = λ o off. in_two.clean o (ap (λ k. is_under k o) (sym (marked_other under.0 place a.place mask apart) ∙ ap (λ (x : Masks). mask_at x a.place) same) ∙ off);
+                  (let long = length-set under.0.items place (record { 0 = bit_or (mask_at under.0 place) mask }) in
+                  let lt = in_two.inside in omega (arith, long, lt));
+              clean = λ o off. in_two.clean o (ap (λ k. is_under k o)
+                  (sym (marked_other under.0 place a.place mask apart) ∙ ap (λ (x : Masks). mask_at x a.place) same)
+                  ∙ off);
             };
         waits = λ e. ap (serve a.targets) (sym one_base) ∙ ok.waits e;
         values = λ e. ap (served a.targets) (sym one_base) ∙ ok.values e;
@@ -279,12 +326,19 @@ module _ (a : Around) (ok : BlockOk a) where
         is_supplied = λ e. ((ok.is_supplied e).0, refl);
       }
     where
-      same_some : {m : Masks} → ◌≡◌ {A = Option Masks} (Some (marked (unwrap_or a.line2 no_masks) place mask)) (Some m) → marked (unwrap_or a.line2 no_masks) place mask ≡ m
+      same_some : {m : Masks} → ◌≡◌ {A = Option Masks} (Some (marked (unwrap_or a.line2 no_masks) place mask))
+          (Some m) → marked (unwrap_or a.line2 no_masks) place mask ≡ m
       same_some e = cc
 
   pub second_hit_ok : a.asked ≡ true → is_some a.line2 ≡ true → BlockOk (record a { asked = false; supplied = true })
   second_hit_ok there line = record {
-    held1 = λ mask e. let k = ok.held1 mask e in record { inner = k.inner; idle = k.idle; same = k.same; clean = k.clean };
+    held1 = λ mask e. let k = ok.held1 mask e in record {
+      inner = k.inner;
+      idle = k.idle;
+      same = k.same;
+      clean =
+          k.clean;
+    };
     held2 = λ masks e. let k = ok.held2 masks e in record { inside = k.inside; clean = k.clean };
     waits = ok.waits;
     values = ok.values;
@@ -294,9 +348,16 @@ module _ (a : Around) (ok : BlockOk a) where
     is_supplied = λ e. ((ok.is_asked there).2, line);
   }
 
-  pub second_miss_ok : a.asked ≡ true → a.line2 ≡ None → BlockOk (record a { asked = false; fetched = true; in_register = true })
+  pub second_miss_ok : a.asked ≡ true → a.line2 ≡ None → BlockOk
+      (record a { asked = false; fetched = true; in_register = true })
   second_miss_ok there line = record {
-    held1 = λ mask e. let k = ok.held1 mask e in record { inner = k.inner; idle = k.idle; same = k.same; clean = k.clean };
+    held1 = λ mask e. let k = ok.held1 mask e in record {
+      inner = k.inner;
+      idle = k.idle;
+      same = k.same;
+      clean =
+          k.clean;
+    };
     held2 = λ masks e. let k = ok.held2 masks e in record { inside = k.inside; clean = k.clean };
     waits = ok.waits;
     values = ok.values;
@@ -309,7 +370,13 @@ module _ (a : Around) (ok : BlockOk a) where
   -- another block of its second-level block is placed in a register
   pub other_held_ok : a.line2 ≡ None → BlockOk (record a { in_register = true })
   other_held_ok line = record {
-    held1 = λ mask e. let k = ok.held1 mask e in record { inner = k.inner; idle = k.idle; same = k.same; clean = k.clean };
+    held1 = λ mask e. let k = ok.held1 mask e in record {
+      inner = k.inner;
+      idle = k.idle;
+      same = k.same;
+      clean =
+          k.clean;
+    };
     held2 = λ masks e. let k = ok.held2 masks e in record { inside = k.inside; clean = k.clean };
     waits = ok.waits;
     values = ok.values;
@@ -328,14 +395,22 @@ module _ (a : Around) (ok : BlockOk a) where
       go (Some mask) e = absurd (both_ways (is_some a.line2) (ap is_some (ok.is_held there)) (ok.held1 mask e).inner)
 
   pub fill2_ok : (factor : ℕ) → a.place < factor → a.in_register ≡ true
-      → BlockOk (record a { line2 = Some (clean_masks factor); fetched = false; in_register = false; supplied = a.supplied || a.fetched; two = a.below })
+      → BlockOk (record a {
+        line2 = Some (clean_masks factor);
+        fetched = false;
+        in_register = false;
+        supplied =
+            a.supplied || a.fetched;
+        two = a.below;
+      })
   fill2_ok factor inside there =
       let absent : a.line1 ≡ None = held_absent there in
       let from_below : base a.line2 a.two a.below ≡ a.below = base-none a.line2 a.two a.below (ok.is_held there) in
       record {
         held1 = λ mask e. absurd (both_ways (is_some a.line2) (ap is_some (ok.is_held there)) (ok.held1 mask e).inner);
         held2 = λ masks e. record {
-          inside = subst (λ (x : Masks). a.place < length x.items) (same_some e) (let long = length-replicate factor clean_mask in omega (arith, long, inside));
+          inside = subst (λ (x : Masks). a.place < length x.items) (same_some e)
+              (let long = length-replicate factor clean_mask in omega (arith, long, inside));
           clean = λ o off. refl;
         };
         waits = λ e. ap (serve a.targets) (sym from_below) ∙ ok.waits e;
@@ -357,8 +432,10 @@ module _ (a : Around) (ok : BlockOk a) where
   evict2_ok masks there absent idle = record {
     held1 = λ m e. cc;
     held2 = λ m e. cc;
-    waits = λ _. ap (λ held. serve held (overlay a.below a.two (mask_at masks a.place))) none ∙ fun_ext (λ o. at o (is_under (mask_at masks a.place) o) refl);
-    values = λ _. ap (λ held. served held (overlay a.below a.two (mask_at masks a.place))) none ∙ sym (ap (map reply_of) none);
+    waits = λ _. ap (λ held. serve held (overlay a.below a.two (mask_at masks a.place))) none
+        ∙ fun_ext (λ o. at o (is_under (mask_at masks a.place) o) refl);
+    values = λ _. ap (λ held. served held (overlay a.below a.two (mask_at masks a.place))) none
+        ∙ sym (ap (map reply_of) none);
     is_asked = λ e. absurd (idle_asked idle e);
     is_fetched = λ e. absurd (idle_fetched idle e);
     is_held = λ e. refl;
@@ -369,7 +446,8 @@ module _ (a : Around) (ok : BlockOk a) where
       none = none_waits a.targets idle
 
       two_is : a.two ≡ a.memory
-      two_is = sym (base-some a.line2 a.two a.below (ap is_some there)) ∙ sym (ap (λ held. serve held (base a.line2 a.two a.below)) none) ∙ ok.waits absent
+      two_is = sym (base-some a.line2 a.two a.below (ap is_some there))
+          ∙ sym (ap (λ held. serve held (base a.line2 a.two a.below)) none) ∙ ok.waits absent
 
       at : (o : ℕ) (b : Bool) → is_under (mask_at masks a.place) o ≡ b → cond b (a.two o) (a.below o) ≡ a.memory o
       at o true e = ap (λ (f : ℕ → ℕ). f o) two_is

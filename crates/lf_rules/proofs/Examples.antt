@@ -1,4 +1,5 @@
--- The rows of the worked examples, each with its answer by computation. They show that the definitions mean what they say.
+-- The rows of the worked examples, each with its answer by computation. They show that the definitions mean what
+-- they say.
 use Rattle.std.specs.Prelude.{◌≡◌, Bool, true, false, ℕ, ◌++◌, List, [], ◌∷◌, map, replicate, Option, Some, None, refl}
 use Rattle.arrayvec.specs.ArrayVec.{ArrayVec}
 use Rattle.lf_rules.specs.declared.event.Op.TheVariants.{Load, Store}
@@ -8,11 +9,15 @@ use Rattle.lf_rules.specs.declared.shape.Level.{Level}
 use Rattle.lf_rules.specs.declared.shape.Shape.{Shape}
 use Rattle.lf_rules.specs.declared.event.Record.{Record}
 use Rattle.lf_rules.specs.declared.event.Event.{Event}
-use Rattle.lf_rules.specs.declared.event.Event.TheVariants.{Issue, Reply, Fence, Hit, Primary, Merge, Stall, Fill1, Evict1}
-use Rattle.lf_rules.specs.declared.event.Event.TheVariants.{SecondHit, SecondPrimary, SecondMerge, SecondStall, Fill2, Evict2}
+use Rattle.lf_rules.specs.declared.event.Event.TheVariants.{Issue, Reply, Fence, Hit, Primary, Merge, Stall, Fill1}
+use Rattle.lf_rules.specs.declared.event.Event.TheVariants.{Evict1}
+use Rattle.lf_rules.specs.declared.event.Event.TheVariants.{SecondHit, SecondPrimary, SecondMerge, SecondStall, Fill2}
+use Rattle.lf_rules.specs.declared.event.Event.TheVariants.{Evict2}
 use Rattle.lf_rules.specs.declared.rule.Rule.{Rule}
-use Rattle.lf_rules.specs.declared.rule.Rule.TheVariants.{TagRange, TagBusy, NotOutstanding, ReplyData, FenceBusy, NotHead, NeedlessStall}
-use Rattle.lf_rules.specs.declared.rule.Rule.TheVariants.{PrimaryInFlight, WrongRegister, MergeFull, SetFull, FillData, Inclusion, EvictMask, EvictData}
+use Rattle.lf_rules.specs.declared.rule.Rule.TheVariants.{TagRange, TagBusy, NotOutstanding, ReplyData, FenceBusy}
+use Rattle.lf_rules.specs.declared.rule.Rule.TheVariants.{NotHead, NeedlessStall}
+use Rattle.lf_rules.specs.declared.rule.Rule.TheVariants.{PrimaryInFlight, WrongRegister, MergeFull, SetFull}
+use Rattle.lf_rules.specs.declared.rule.Rule.TheVariants.{FillData, Inclusion, EvictMask, EvictData}
 use Rattle.lf_rules.specs.Address.{Masks, no_bank, flat_memory}
 use Rattle.lf_rules.specs.State.{opening}
 use Rattle.lf_rules.specs.Table.{OfPort, OfBoth}
@@ -116,7 +121,8 @@ port_answer shape rs = first_fault_of OfPort shape (first_local (λ _ _. 0)) 0 (
 copies_from : Shape → CopyState → List Record → Bool
 copies_from shape state [] = true
 copies_from shape state (r ∷ rs) =
-    elim (first_failing OfBoth (copy_clauses shape state r)) [ None ↦ copies_from shape (copy_state_after shape state r) rs | Some rule ↦ false ]
+    elim (first_failing OfBoth (copy_clauses shape state r))
+    [ None ↦ copies_from shape (copy_state_after shape state r) rs | Some rule ↦ false ]
 
 abbrev with_copies : Shape → List Record → Bool
 with_copies shape rs = copies_from shape (copy_opening (λ _ _. 0)) rs
@@ -130,16 +136,19 @@ abbrev load_run : List Record
 load_run = miss_both ++ R 0 8 zeros ∷ []
 
 abbrev store_then_load : List ℕ → List Record
-store_then_load reply = S 0 1 0 (0xaa ∷ []) ∷ P 0 0 ∷ L 1 1 0 ∷ M 1 0 ∷ SP 0 0 ∷ F2 0 zeros ∷ F1 0 zeros ∷ R 0 0 [] ∷ R 1 1 reply ∷ []
+store_then_load reply = S 0 1 0 (0xaa ∷ []) ∷ P 0 0 ∷ L 1 1 0 ∷ M 1 0 ∷ SP 0 0 ∷ F2 0 zeros ∷ F1 0 zeros ∷ R 0 0 []
+    ∷ R 1 1 reply ∷ []
 
 abbrev load_then_store : List ℕ → List Record
-load_then_store reply = L 0 1 0 ∷ P 0 0 ∷ S 1 1 0 (0xaa ∷ []) ∷ M 1 0 ∷ SP 0 0 ∷ F2 0 zeros ∷ F1 0 zeros ∷ R 0 1 reply ∷ R 1 0 [] ∷ []
+load_then_store reply = L 0 1 0 ∷ P 0 0 ∷ S 1 1 0 (0xaa ∷ []) ∷ M 1 0 ∷ SP 0 0 ∷ F2 0 zeros ∷ F1 0 zeros ∷ R 0 1 reply
+    ∷ R 1 0 [] ∷ []
 
 abbrev stored : List Record
 stored = S 0 2 0 (0xaa ∷ 0xbb ∷ []) ∷ P 0 0 ∷ SP 0 0 ∷ F2 0 zeros ∷ F1 0 zeros ∷ []
 
 abbrev fetched_again : List ℕ → List Record
-fetched_again bytes = stored ++ E1 0 3 (0xaa ∷ 0xbb ∷ []) ∷ E2 0 3 (0xaa ∷ 0xbb ∷ []) ∷ L 1 8 0 ∷ P 1 0 ∷ SP 0 0 ∷ F2 0 bytes ∷ []
+fetched_again bytes = stored ++ E1 0 3 (0xaa ∷ 0xbb ∷ []) ∷ E2 0 3 (0xaa ∷ 0xbb ∷ []) ∷ L 1 8 0 ∷ P 1 0 ∷ SP 0 0
+    ∷ F2 0 bytes ∷ []
 
 abbrev second_block : List Record
 second_block = load_run ++ L 0 8 8 ∷ P 0 0 ∷ SP 1 0 ∷ F2 1 zeros ∷ []
@@ -170,10 +179,12 @@ store_merges_behind_load = refl
 store_merges_behind_load_new_byte : answer c1 (load_then_store (0xaa ∷ [])) ≡ Some (7, ReplyData)
 store_merges_behind_load_new_byte = refl
 
-implicit_field_in_use : answer (with_files (Implicit 1) (Explicit 1 1)) (L 0 4 0 ∷ P 0 0 ∷ L 1 4 4 ∷ M 1 0 ∷ []) ≡ Some (3, MergeFull)
+implicit_field_in_use : answer (with_files (Implicit 1) (Explicit 1 1)) (L 0 4 0 ∷ P 0 0 ∷ L 1 4 4 ∷ M 1 0 ∷ [])
+    ≡ Some (3, MergeFull)
 implicit_field_in_use = refl
 
-implicit_field_in_use_stall : answer (with_files (Implicit 1) (Explicit 1 1)) (L 0 4 0 ∷ P 0 0 ∷ L 1 4 4 ∷ X 1 ∷ []) ≡ None
+implicit_field_in_use_stall : answer (with_files (Implicit 1) (Explicit 1 1)) (L 0 4 0 ∷ P 0 0 ∷ L 1 4 4 ∷ X 1 ∷ [])
+    ≡ None
 implicit_field_in_use_stall = refl
 
 explicit_entries_full : answer c1 (L 0 8 0 ∷ P 0 0 ∷ L 1 8 0 ∷ M 1 0 ∷ L 2 8 0 ∷ X 2 ∷ []) ≡ None
@@ -185,13 +196,16 @@ explicit_entries_full_needless = refl
 inverted_two_registers : answer (with_files Inverted (Explicit 1 1)) (L 0 8 0 ∷ P 0 0 ∷ L 1 8 0 ∷ M 1 1 ∷ []) ≡ None
 inverted_two_registers = refl
 
-inverted_two_registers_stall : answer (with_files Inverted (Explicit 1 1)) (L 0 8 0 ∷ P 0 0 ∷ L 1 8 0 ∷ X 1 ∷ []) ≡ Some (3, NeedlessStall)
+inverted_two_registers_stall : answer (with_files Inverted (Explicit 1 1)) (L 0 8 0 ∷ P 0 0 ∷ L 1 8 0 ∷ X 1 ∷ [])
+    ≡ Some (3, NeedlessStall)
 inverted_two_registers_stall = refl
 
-inverted_two_registers_merge : answer (with_files Inverted (Explicit 1 1)) (L 0 8 0 ∷ P 0 0 ∷ L 1 8 0 ∷ M 1 0 ∷ []) ≡ Some (3, WrongRegister)
+inverted_two_registers_merge : answer (with_files Inverted (Explicit 1 1)) (L 0 8 0 ∷ P 0 0 ∷ L 1 8 0 ∷ M 1 0 ∷ [])
+    ≡ Some (3, WrongRegister)
 inverted_two_registers_merge = refl
 
-inverted_two_registers_primary : answer two_registers (L 0 8 0 ∷ P 0 0 ∷ L 1 8 0 ∷ P 1 1 ∷ []) ≡ Some (3, PrimaryInFlight)
+inverted_two_registers_primary : answer two_registers (L 0 8 0 ∷ P 0 0 ∷ L 1 8 0 ∷ P 1 1 ∷ [])
+    ≡ Some (3, PrimaryInFlight)
 inverted_two_registers_primary = refl
 
 inclusion : answer c1 (miss_both ++ E2 0 0 [] ∷ []) ≡ Some (5, Inclusion)
@@ -209,7 +223,8 @@ eviction_mask_and_data_wrong_byte = refl
 eviction_mask_and_data_right : answer c1 (stored ++ E1 0 3 (0xaa ∷ 0xbb ∷ []) ∷ []) ≡ None
 eviction_mask_and_data_right = refl
 
-eviction_mask_and_data_second_level : answer c1 (stored ++ E1 0 3 (0xaa ∷ 0xbb ∷ []) ∷ E2 0 0 [] ∷ []) ≡ Some (6, EvictMask)
+eviction_mask_and_data_second_level : answer c1 (stored ++ E1 0 3 (0xaa ∷ 0xbb ∷ []) ∷ E2 0 0 [] ∷ [])
+    ≡ Some (6, EvictMask)
 eviction_mask_and_data_second_level = refl
 
 eviction_mask_and_data_clean : answer c1 (load_run ++ E1 0 0 [] ∷ []) ≡ None
@@ -245,13 +260,15 @@ set_full_after_eviction = refl
 second_level_stall : answer two_registers (L 0 8 0 ∷ P 0 0 ∷ L 1 8 8 ∷ P 1 1 ∷ SP 0 0 ∷ SS 1 ∷ []) ≡ None
 second_level_stall = refl
 
-second_level_stall_needless : answer two_registers (L 0 8 0 ∷ P 0 0 ∷ L 1 8 8 ∷ P 1 1 ∷ SS 1 ∷ []) ≡ Some (4, NeedlessStall)
+second_level_stall_needless : answer two_registers (L 0 8 0 ∷ P 0 0 ∷ L 1 8 8 ∷ P 1 1 ∷ SS 1 ∷ [])
+    ≡ Some (4, NeedlessStall)
 second_level_stall_needless = refl
 
 second_level_inverted : answer (with_files (Explicit 2 2) Inverted) (L 0 8 0 ∷ P 0 1 ∷ SP 0 1 ∷ []) ≡ None
 second_level_inverted = refl
 
-second_level_inverted_wrong : answer (with_files (Explicit 2 2) Inverted) (L 0 8 0 ∷ P 0 1 ∷ SP 0 0 ∷ []) ≡ Some (2, WrongRegister)
+second_level_inverted_wrong : answer (with_files (Explicit 2 2) Inverted) (L 0 8 0 ∷ P 0 1 ∷ SP 0 0 ∷ [])
+    ≡ Some (2, WrongRegister)
 second_level_inverted_wrong = refl
 
 initial_memory :
@@ -265,7 +282,8 @@ fence_last = refl
 fence_elsewhere : answer c1 (Z ∷ load_run) ≡ None
 fence_elsewhere = refl
 
-fence_elsewhere_between : port_answer c1 (L 0 8 0 ∷ Z ∷ P 0 0 ∷ SP 0 0 ∷ F2 0 zeros ∷ F1 0 zeros ∷ R 0 8 zeros ∷ []) ≡ Some (1, FenceBusy)
+fence_elsewhere_between : port_answer c1 (L 0 8 0 ∷ Z ∷ P 0 0 ∷ SP 0 0 ∷ F2 0 zeros ∷ F1 0 zeros ∷ R 0 8 zeros ∷ [])
+    ≡ Some (1, FenceBusy)
 fence_elsewhere_between = refl
 
 -- ---- second-level blocks of two blocks

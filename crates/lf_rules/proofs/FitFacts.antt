@@ -3,7 +3,8 @@ use Rattle.std.proofs.Common.{◌≡◌, ℕ, ◌%◌, eqb-true}
 use Rattle.lf_rules.specs.declared.shape.Shape.{Shape}
 use Rattle.lf_rules.specs.declared.event.Record.{Record}
 use Rattle.lf_rules.specs.declared.event.Event.{Event}
-use Rattle.lf_rules.specs.declared.event.Event.TheVariants.{Issue, Fill1, Evict1, SecondHit, SecondPrimary, SecondStall, Fill2, Evict2, SecondMerge}
+use Rattle.lf_rules.specs.declared.event.Event.TheVariants.{Issue, Fill1, Evict1, SecondHit, SecondPrimary}
+use Rattle.lf_rules.specs.declared.event.Event.TheVariants.{SecondStall, Fill2, Evict2, SecondMerge}
 use Rattle.lf_rules.specs.Address.{block_of, bank_of}
 use Rattle.lf_rules.specs.Fits.{Fits, FitsEvent}
 

@@ -1,16 +1,20 @@
 -- The records of a bank in the order of their numbers.
-use Rattle.std.proofs.Common.{◌≡◌, ℕ, zero, suc, ◌+◌, ◌<◌, ◌≤◌, Bool, true, false, cond, ◌==◌, List, ◌∷◌, length, get_or, ◌⊎◌, inl, inr, refl, sym, ap, ◌∙◌, subst, eq-eqb, eqb-true, true≢false, arith}
+use Rattle.std.proofs.Common.{◌≡◌, ℕ, zero, suc, ◌+◌, ◌<◌, ◌≤◌, Bool, true, false, cond, ◌==◌, List, ◌∷◌, length}
+use Rattle.std.proofs.Common.{get_or, ◌⊎◌, inl, inr, refl, sym, ap, ◌∙◌, subst, eq-eqb, eqb-true, true≢false, arith}
 use Rattle.std.proofs.lemmas.Bool.{cond-false, cases_lt}
 use Rattle.std.proofs.lemmas.List.{get_or-map, same_lists, length-map, get_or_default}
 use Rattle.std.proofs.lemmas.List.Elements.{Contains-get_or}
 use Rattle.std.proofs.lemmas.List.FromFn.{get_or-range_with_len}
-use Rattle.std.proofs.lemmas.List.Sorted.{IsPermutation-sym, IsPermutation-trans, IsPermutation-map, Contains-permutation, length_permutation, sum_by-IsPermutation}
+use Rattle.std.proofs.lemmas.List.Sorted.{IsPermutation-sym, IsPermutation-trans, IsPermutation-map}
+use Rattle.std.proofs.lemmas.List.Sorted.{Contains-permutation, length_permutation, sum_by-IsPermutation}
 use Rattle.std.proofs.lemmas.List.Sums.{sum_by-cons}
 use Rattle.std.specs.List.{range_with_len}
 use Rattle.std.specs.List.Sorted.{IsPermutation}
 use Rattle.lf_rules.specs.declared.event.Record.{Record}
 use Rattle.lf_rules.specs.Run.{of_bank}
-use Rattle.lf_rules.specs.Numbers.{all_records, numbers_of, bank_numbers, times, IsMissing, IsDouble, IsWhole, IsNumbered, InterleavingsAreNumbered, NumberedIsOne, NumberedIsWhole, GapsAdmitNone}
+use Rattle.lf_rules.specs.Numbers.{all_records, numbers_of, bank_numbers, times, IsMissing, IsDouble, IsWhole}
+use Rattle.lf_rules.specs.Numbers.{IsNumbered, InterleavingsAreNumbered, NumberedIsOne, NumberedIsWhole}
+use Rattle.lf_rules.specs.Numbers.{GapsAdmitNone}
 use Rattle.lf_rules.proofs.Permuted.{interleaving_permutes_bank}
 
 -- ---- how often a number stands in a range
@@ -29,7 +33,8 @@ none_of_range : (a n k : ℕ) → (k < a) ⊎ (a + n ≤ k) → times k (range_w
 none_of_range a zero k out = refl
 none_of_range a (suc n) k out =
     let apart : a ≡ k → ⊥ = λ e. (elim out [ inl lt ↦ omega arith | inr le ↦ omega arith ]) in
-    let further : (k < a + 1) ⊎ (a + 1 + n ≤ k) = (elim out [ inl lt ↦ inl (omega arith) | inr le ↦ inr (omega arith) ]) in
+    let further : (k < a + 1) ⊎ (a + 1 + n ≤ k) = (elim out
+    [ inl lt ↦ inl (omega arith) | inr le ↦ inr (omega arith) ]) in
     let here = cond-false {A = ℕ} (a == k) 1 0 (ne_eqb a k apart) in
     let rest = none_of_range (a + 1) n k further in
     times_cons k a (range_with_len (a + 1) n) ∙ omega (arith, here, rest)
@@ -38,7 +43,8 @@ one_of_range : (a n k : ℕ) → a ≤ k → k < a + n → times k (range_with_l
 one_of_range a zero k le lt = absurd (omega arith)
 one_of_range a (suc n) k le lt = times_cons k a (range_with_len (a + 1) n) ∙ go (a == k) refl (one_of_range (a + 1) n k)
   where
-    go : (t : Bool) → (a == k) ≡ t → (a + 1 ≤ k → k < a + 1 + n → times k (range_with_len (a + 1) n) ≡ 1) → cond t 1 0 + times k (range_with_len (a + 1) n) ≡ 1
+    go : (t : Bool) → (a == k) ≡ t → (a + 1 ≤ k → k < a + 1 + n → times k (range_with_len (a + 1) n) ≡ 1) →
+        cond t 1 0 + times k (range_with_len (a + 1) n) ≡ 1
     go true e next =
         let same = eqb-true a k e in
         let before : k < a + 1 = omega arith in
@@ -56,10 +62,12 @@ module _ (logs : List (List Record)) (bank : ℕ) (rs : List Record) (is : IsNum
   numbers_permute = IsPermutation-map (λ (r : Record). r.number) rs (of_bank bank (all_records logs)) is.same
 
   times_are : (k : ℕ) → times k (bank_numbers logs bank) ≡ times k (range_with_len 0 (length rs))
-  times_are k = sum_by-IsPermutation (λ n. cond (n == k) 1 0) (numbers_of rs) (bank_numbers logs bank) numbers_permute ∙ ap (times k) is.numbers
+  times_are k = sum_by-IsPermutation (λ n. cond (n == k) 1 0) (numbers_of rs) (bank_numbers logs bank) numbers_permute
+      ∙ ap (times k) is.numbers
 
   length_is : length (bank_numbers logs bank) ≡ length rs
-  length_is = length_permutation (numbers_of rs) (bank_numbers logs bank) numbers_permute ∙ length-map rs (λ (r : Record). r.number)
+  length_is = length_permutation (numbers_of rs) (bank_numbers logs bank) numbers_permute
+      ∙ length-map rs (λ (r : Record). r.number)
 
   once_below : (k : ℕ) → k < length rs → times k (bank_numbers logs bank) ≡ 1
   once_below k lt = times_are k ∙ one_of_range 0 (length rs) k (omega arith) (omega arith)
@@ -73,7 +81,8 @@ module _ (logs : List (List Record)) (bank : ℕ) (rs : List Record) (is : IsNum
   no_gap_if_numbered : (k : ℕ) → IsMissing (bank_numbers logs bank) k → ⊥
   no_gap_if_numbered k gap =
       (elim (cases_lt gap.1.0 (length rs)) [
-        | inl lt ↦ let before = gap.1.1 in let one = once_below k (omega arith) in let none = gap.0 in omega (arith, one, none)
+        | inl lt ↦ let before = gap.1.1 in let one = once_below k (omega arith) in let none = gap.0 in
+            omega (arith, one, none)
         | inr le ↦ let none = none_from gap.1.0 le in let some = gap.1.2 in omega (arith, none, some)
       ])
 
@@ -88,21 +97,31 @@ pub numbered_is_whole : NumberedIsWhole
 numbered_is_whole = whole_if_numbered
 
 pub interleavings_are_numbered : InterleavingsAreNumbered
-interleavings_are_numbered logs rs is keeps bank named = record { numbers = keeps bank named; same = interleaving_permutes_bank logs rs is bank }
+interleavings_are_numbered logs rs is keeps bank named = record {
+  numbers = keeps bank named;
+  same =
+      interleaving_permutes_bank logs rs is bank;
+}
 
 pub gaps_admit_none : GapsAdmitNone
-gaps_admit_none logs bank k named (inl gap) rs is keeps = no_gap_if_numbered logs bank (of_bank bank rs) (interleavings_are_numbered logs rs is keeps bank named) k gap
-gaps_admit_none logs bank k named (inr double) rs is keeps = no_double_if_numbered logs bank (of_bank bank rs) (interleavings_are_numbered logs rs is keeps bank named) k double
+gaps_admit_none logs bank k named (inl gap) rs is keeps = no_gap_if_numbered logs bank (of_bank bank rs)
+    (interleavings_are_numbered logs rs is keeps bank named) k gap
+gaps_admit_none logs bank k named (inr double) rs is keeps =
+    no_double_if_numbered logs bank (of_bank bank rs) (interleavings_are_numbered logs rs is keeps bank named) k
+    double
 
 -- ---- there is one order by numbers
 
-number_at : (rs : List Record) → numbers_of rs ≡ range_with_len 0 (length rs) → (i : ℕ) (d : Record) → i < length rs → (get_or rs i d).number ≡ i
+number_at : (rs : List Record) → numbers_of rs ≡ range_with_len 0 (length rs) → (i : ℕ) (d : Record) → i < length rs →
+    (get_or rs i d).number ≡ i
 number_at rs is i d lt =
-    sym (get_or-map (λ (r : Record). r.number) rs i d 0 lt) ∙ ap (λ (ns : List ℕ). get_or ns i 0) is ∙ get_or-range_with_len 0 (length rs) i 0 lt ∙ omega arith
+    sym (get_or-map (λ (r : Record). r.number) rs i d 0 lt)
+    ∙ ap (λ (ns : List ℕ). get_or ns i 0) is ∙ get_or-range_with_len 0 (length rs) i 0 lt ∙ omega arith
 
 pub numbered_is_one : NumberedIsOne
 numbered_is_one logs bank a b first second =
-    let both : IsPermutation a b = IsPermutation-trans a (of_bank bank (all_records logs)) b first.same (IsPermutation-sym b (of_bank bank (all_records logs)) second.same) in
+    let both : IsPermutation a b = IsPermutation-trans a (of_bank bank (all_records logs)) b first.same
+    (IsPermutation-sym b (of_bank bank (all_records logs)) second.same) in
     let lengths : length b ≡ length a = length_permutation a b both in
     same_lists a b (sym lengths) (λ i d lt.
     let x = get_or a i d in

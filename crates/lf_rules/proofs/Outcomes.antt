@@ -17,15 +17,20 @@ none_some e = cc
 some_same : {X : Type 0} {x y : X} → ◌≡◌ {A = Option X} (Some x) (Some y) → x ≡ y
 some_same e = cc
 
-runs_do_not_break : (side : Side) (shape : Shape) (now : Local) (rs : List Record) (n : ℕ) (rule : Rule) → IsRunOf side shape now rs → BreaksAt side shape now rs n rule → ⊥
-runs_do_not_break side shape now rs n rule run breaks = none_some (sym (no_fault_in_run side shape rs now 0 run) ∙ fault_at side shape rs now 0 n rule breaks)
+runs_do_not_break : (side : Side) (shape : Shape) (now : Local) (rs : List Record) (n : ℕ) (rule : Rule) →
+    IsRunOf side shape now rs → BreaksAt side shape now rs n rule → ⊥
+runs_do_not_break side shape now rs n rule run breaks = none_some
+    (sym (no_fault_in_run side shape rs now 0 run) ∙ fault_at side shape rs now 0 n rule breaks)
 
 pub outcomes_are_one : OutcomesAreOne
 outcomes_are_one side shape memory rs Passed Passed run other a b = refl
-outcomes_are_one side shape memory rs Passed (Broken n rule) run breaks a b = absurd (runs_do_not_break side shape (first_local memory) rs n rule run breaks)
-outcomes_are_one side shape memory rs (Broken n rule) Passed breaks run a b = absurd (runs_do_not_break side shape (first_local memory) rs n rule run breaks)
+outcomes_are_one side shape memory rs Passed (Broken n rule) run breaks a b =
+    absurd (runs_do_not_break side shape (first_local memory) rs n rule run breaks)
+outcomes_are_one side shape memory rs (Broken n rule) Passed breaks run a b =
+    absurd (runs_do_not_break side shape (first_local memory) rs n rule run breaks)
 outcomes_are_one side shape memory rs (Broken n rule) (Broken m other) here there a b =
-    let same = some_same (sym (fault_at side shape rs (first_local memory) 0 n rule here) ∙ fault_at side shape rs (first_local memory) 0 m other there) in
+    let same = some_same (sym (fault_at side shape rs (first_local memory) 0 n rule here)
+    ∙ fault_at side shape rs (first_local memory) 0 m other there) in
     let place : n ≡ m = let e = ap (λ (f : ℕ × Rule). f.0) same in omega arith in
     ap₂ (λ k r. Broken k r) place (ap (λ (f : ℕ × Rule). f.1) same)
 outcomes_are_one side shape memory rs NoMemory _ x y a b = absurd (a refl)
@@ -38,7 +43,8 @@ first_is : (o : Option Rule) → (o ≡ None) ⊎ ((rule : Rule) × (o ≡ Some 
 first_is None = inl refl
 first_is (Some rule) = inr (rule, refl)
 
-run_or_break : (side : Side) (shape : Shape) (rs : List Record) (now : Local) → IsRunOf side shape now rs ⊎ Broken' side shape now rs
+run_or_break : (side : Side) (shape : Shape) (rs : List Record) (now : Local) →
+    IsRunOf side shape now rs ⊎ Broken' side shape now rs
 run_or_break side shape [] now = inl tt
 run_or_break side shape (r ∷ rs) now =
     (elim (first_is (first_failing side (clauses shape now r))) [

@@ -17,8 +17,30 @@ abbrev two_knots : List Knot
 two_knots = knot 0 ∷ knot 1 ∷ []
 
 two_waits : (j : ℕ) → j < 2 → IsWait two_logs (knot_at two_knots j) (knot_at two_knots ((j + 1) % 2))
-two_waits zero lt = record { waiting = (0, 1); named = refl; is_bank = lit< tt; place = 1; behind = lit< tt; earlier = (0, 0); there = refl; same_bank = refl; smaller = lit< tt }
-two_waits (suc zero) lt = record { waiting = (1, 1); named = refl; is_bank = lit< tt; place = 1; behind = lit< tt; earlier = (1, 0); there = refl; same_bank = refl; smaller = lit< tt }
+two_waits zero lt = record {
+  waiting = (0, 1);
+  named = refl;
+  is_bank = lit< tt;
+  place = 1;
+  behind = lit< tt;
+  earlier =
+      (0, 0);
+  there = refl;
+  same_bank = refl;
+  smaller = lit< tt;
+}
+two_waits (suc zero) lt = record {
+  waiting = (1, 1);
+  named = refl;
+  is_bank = lit< tt;
+  place = 1;
+  behind =
+      lit< tt;
+  earlier = (1, 0);
+  there = refl;
+  same_bank = refl;
+  smaller = lit< tt;
+}
 two_waits (suc (suc j)) lt = absurd (omega arith)
 
 cycle_of_two_logs : IsRing two_logs two_knots
@@ -30,7 +52,18 @@ abbrev one_log : List (List (ℕ × ℕ))
 one_log = ((0, 1) ∷ (0, 0) ∷ []) ∷ []
 
 one_wait : (j : ℕ) → j < 1 → IsWait one_log (knot_at (knot 0 ∷ []) j) (knot_at (knot 0 ∷ []) ((j + 1) % 1))
-one_wait zero lt = record { waiting = (0, 1); named = refl; is_bank = lit< tt; place = 1; behind = lit< tt; earlier = (0, 0); there = refl; same_bank = refl; smaller = lit< tt }
+one_wait zero lt = record {
+  waiting = (0, 1);
+  named = refl;
+  is_bank = lit< tt;
+  place = 1;
+  behind = lit< tt;
+  earlier =
+      (0, 0);
+  there = refl;
+  same_bank = refl;
+  smaller = lit< tt;
+}
 one_wait (suc j) lt = absurd (omega arith)
 
 cycle_of_one_log : IsRing one_log (knot 0 ∷ [])
@@ -57,7 +90,8 @@ both_empty zero = refl
 both_empty (suc zero) = refl
 both_empty (suc (suc log)) = refl
 
-load_misses_both_levels : Takes load_skeletons (0 ∷ 1 ∷ 1 ∷ 1 ∷ 1 ∷ 0 ∷ []) ((0, 0) ∷ (0, 1) ∷ (0, 2) ∷ (0, 3) ∷ (0, 4) ∷ (0, 5) ∷ [])
+load_misses_both_levels : Takes load_skeletons (0 ∷ 1 ∷ 1 ∷ 1 ∷ 1 ∷ 0 ∷ [])
+    ((0, 0) ∷ (0, 1) ∷ (0, 2) ∷ (0, 3) ∷ (0, 4) ∷ (0, 5) ∷ [])
 load_misses_both_levels = (refl, (refl, (refl, (refl, (refl, (refl, both_empty))))))
 
 earlier_first : IsNotAbove (0 ∷ 1 ∷ []) (1 ∷ 0 ∷ [])

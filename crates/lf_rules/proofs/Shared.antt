@@ -1,5 +1,6 @@
 -- In a run no two registers hold one block, unless the organisation lets them.
-use Rattle.std.proofs.Common.{◌≡◌, ℕ, Bool, true, false, cond, not, ◌&&◌, ◌==◌, List, [], ◌∷◌, ◌++◌, Option, None, ◌⊎◌, inl, inr, refl, sym, ◌∙◌, subst, take, eqb-true, zero, suc}
+use Rattle.std.proofs.Common.{◌≡◌, ℕ, Bool, true, false, cond, not, ◌&&◌, ◌==◌, List, [], ◌∷◌, ◌++◌, Option, None}
+use Rattle.std.proofs.Common.{◌⊎◌, inl, inr, refl, sym, ◌∙◌, subst, take, eqb-true, zero, suc}
 use Rattle.std.proofs.lemmas.Bool.{and_parts, or_cases, not-true, both_ways, or_left, or_right}
 use Rattle.lf_rules.specs.declared.shape.Shape.{Shape}
 use Rattle.lf_rules.specs.declared.shape.OrgShape.{OrgShape}
@@ -17,11 +18,15 @@ use Rattle.lf_rules.specs.Laws.{RunsShare}
 use Rattle.lf_rules.proofs.Clauses.{all_hold}
 
 module _ {T : Type 0} where
-  holds_in_push : (held : List (Held T)) (h : Held T) (register block : ℕ) → holds_in (held ++ h ∷ []) register block ≡ true
+  holds_in_push : (held : List (Held T)) (h : Held T) (register block : ℕ) →
+      holds_in (held ++ h ∷ []) register block ≡ true
       → (holds_in held register block ≡ true) ⊎ ((h.register ≡ register) × (h.block ≡ block))
   holds_in_push [] h register block e =
       (elim (or_cases (h.register == register && h.block == block) false e) [
-        | inl x ↦ inr (eqb-true h.register register (and_parts (h.register == register) (h.block == block) x).0, eqb-true h.block block (and_parts (h.register == register) (h.block == block) x).1)
+        | inl x ↦ inr (
+          eqb-true h.register register (and_parts (h.register == register) (h.block == block) x).0,
+          eqb-true h.block block (and_parts (h.register == register) (h.block == block) x).1,
+        )
         | inr x ↦ absurd (both_ways false refl x)
       ])
   holds_in_push (g ∷ held) h register block e =
@@ -30,7 +35,8 @@ module _ {T : Type 0} where
         | inr x ↦ (elim (holds_in_push held h register block x) [ inl y ↦ inl (or_right _ _ y) | inr y ↦ inr y ])
       ])
 
-  holds_from : (held : List (Held T)) (register block : ℕ) → holds_in held register block ≡ true → holds held block ≡ true
+  holds_from : (held : List (Held T)) (register block : ℕ) → holds_in held register block ≡ true →
+      holds held block ≡ true
   holds_from [] register block e = e
   holds_from (g ∷ held) register block e =
       (elim (or_cases (g.register == register && g.block == block) (holds_in held register block) e) [
@@ -38,33 +44,39 @@ module _ {T : Type 0} where
         | inr x ↦ or_right _ _ (holds_from held register block x)
       ])
 
-  released_holds : (held : List (Held T)) (gone register block : ℕ) → holds_in (released held gone) register block ≡ true → holds_in held register block ≡ true
+  released_holds : (held : List (Held T)) (gone register block : ℕ) →
+      holds_in (released held gone) register block ≡ true → holds_in held register block ≡ true
   released_holds [] gone register block e = e
   released_holds (g ∷ held) gone register block e = go (g.block == gone) (released_holds held gone register block) e
     where
       go : (b : Bool) → (holds_in (released held gone) register block ≡ true → holds_in held register block ≡ true)
-          → holds_in (cond (not b) (g ∷ released held gone) (released held gone)) register block ≡ true → holds_in (g ∷ held) register block ≡ true
+          → holds_in (cond (not b) (g ∷ released held gone) (released held gone)) register block ≡ true →
+          holds_in (g ∷ held) register block ≡ true
       go true rest x = or_right _ _ (rest x)
       go false rest x =
-          (elim (or_cases (g.register == register && g.block == block) (holds_in (released held gone) register block) x) [
+          (elim (or_cases (g.register == register && g.block == block) (holds_in (released held gone) register block)
+          x) [
             | inl y ↦ or_left _ _ y
             | inr y ↦ or_right _ _ (rest y)
           ])
 
   -- a further target keeps them apart if its block is held by closed register, or by its own
-  push_apart : (held : List (Held T)) (h : Held T) → ((holds held h.block ≡ false) ⊎ (holds_in held h.register h.block ≡ true)) → HoldsOnce held → HoldsOnce (held ++ h ∷ [])
+  push_apart : (held : List (Held T)) (h : Held T) → ((holds held h.block ≡ false)
+      ⊎ (holds_in held h.register h.block ≡ true)) → HoldsOnce held → HoldsOnce (held ++ h ∷ [])
   push_apart held h new once block register other x y =
       (elim (holds_in_push held h register block x) [
         | inl a ↦ (elim (holds_in_push held h other block y) [
           | inl b ↦ once block register other a b
           | inr b ↦ (elim new [
-            | inl closed ↦ absurd (both_ways (holds held block) (subst (λ k. holds held k ≡ false) b.1 closed) (holds_from held register block a))
+            | inl closed ↦ absurd (both_ways (holds held block) (subst (λ k. holds held k ≡ false) b.1 closed)
+                (holds_from held register block a))
             | inr at ↦ once block register h.register a (subst (λ k. holds_in held h.register k ≡ true) b.1 at) ∙ b.0
           ])
         ])
         | inr a ↦ (elim (holds_in_push held h other block y) [
           | inl b ↦ (elim new [
-            | inl closed ↦ absurd (both_ways (holds held block) (subst (λ k. holds held k ≡ false) a.1 closed) (holds_from held other block b))
+            | inl closed ↦ absurd (both_ways (holds held block) (subst (λ k. holds held k ≡ false) a.1 closed)
+                (holds_from held other block b))
             | inr at ↦ sym a.0 ∙ once block h.register other (subst (λ k. holds_in held h.register k ≡ true) a.1 at) b
           ])
           | inr b ↦ sym a.0 ∙ b.0
@@ -72,16 +84,20 @@ module _ {T : Type 0} where
       ])
 
   release_apart : (held : List (Held T)) (gone : ℕ) → HoldsOnce held → HoldsOnce (released held gone)
-  release_apart held gone once block register other x y = once block register other (released_holds held gone register block x) (released_holds held gone other block y)
+  release_apart held gone once block register other x y = once block register other
+      (released_holds held gone register block x) (released_holds held gone other block y)
 
-  merge_apart : (organisation : OrgShape) (held : List (Held T)) (block destination register : ℕ) → shares organisation ≡ false
+  merge_apart : (organisation : OrgShape) (held : List (Held T)) (block destination register : ℕ) →
+      shares organisation ≡ false
       → right_for_merge organisation held block destination register ≡ true → holds_in held register block ≡ true
   merge_apart (Implicit registers) held block destination register closed e = e
   merge_apart (Explicit registers entries) held block destination register closed e = e
   merge_apart Inverted held block destination register closed e = absurd (both_ways true closed refl)
 
-apart_after : (shape : Shape) (right : Bool) (busy : ℕ → Option ℕ) (value : List ℕ) (replies : List Ready) (slice : Slice) (log bank : ℕ) (e : Event)
-    → first_failing OfBoth (rules_of shape right busy slice log bank e) ≡ None → KeepsApart shape slice → KeepsApart shape (slice_after shape value replies slice log e)
+apart_after : (shape : Shape) (right : Bool) (busy : ℕ → Option ℕ) (value : List ℕ) (replies : List Ready)
+    (slice : Slice) (log bank : ℕ) (e : Event)
+    → first_failing OfBoth (rules_of shape right busy slice log bank e) ≡ None → KeepsApart shape slice →
+    KeepsApart shape (slice_after shape value replies slice log e)
 apart_after shape right busy value replies slice log bank (Primary port tag register) h apart =
     let clauses = all_hold (rules_of shape right busy slice log bank (Primary port tag register)) h in
     record {
@@ -93,7 +109,8 @@ apart_after shape right busy value replies slice log bank (Merge port tag regist
     record {
       level1 =
           λ closed. push_apart slice.waiting _
-          (inr (merge_apart shape.level1.organisation slice.waiting (oldest (slice.queue port)).block (destination shape port tag) register closed clauses.1.1.1.0)) (apart.level1 closed);
+          (inr (merge_apart shape.level1.organisation slice.waiting (oldest (slice.queue port)).block
+          (destination shape port tag) register closed clauses.1.1.1.0)) (apart.level1 closed);
       level2 = apart.level2;
     }
 apart_after shape right busy value replies slice log bank (Fill1 block bytes) h apart =
@@ -113,22 +130,26 @@ apart_after shape right busy value replies slice log bank (SecondMerge block reg
       level1 = apart.level1;
       level2 =
           λ closed. push_apart slice.regs2 _
-          (inr (merge_apart shape.level2.organisation slice.regs2 (second_of shape block) (asked_register slice.asked block) register closed clauses.1.1.1.1.0)) (apart.level2 closed);
+          (inr (merge_apart shape.level2.organisation slice.regs2 (second_of shape block)
+          (asked_register slice.asked block) register closed clauses.1.1.1.1.0)) (apart.level2 closed);
     }
 apart_after shape right busy value replies slice log bank (Fill2 block bytes) h apart =
     record {
       level1 = apart.level1;
       level2 = λ closed. release_apart slice.regs2 block (apart.level2 closed);
     }
-apart_after shape right busy value replies slice log bank _ h apart = record { level1 = apart.level1; level2 = apart.level2 }
+apart_after shape right busy value replies slice log bank _ h apart =
+    record { level1 = apart.level1; level2 = apart.level2 }
 
 AllApart : Shape → State → Type 0
 AllApart shape state = (bank : ℕ) → KeepsApart shape (state.slice bank)
 
-update_keeps : {X : Type 0} (P : X → Type 0) (f : ℕ → X) (k : ℕ) (v : X) → P v → ((n : ℕ) → P (f n)) → (n : ℕ) → P (update f k v n)
+update_keeps : {X : Type 0} (P : X → Type 0) (f : ℕ → X) (k : ℕ) (v : X) → P v → ((n : ℕ) → P (f n)) → (n : ℕ) →
+    P (update f k v n)
 update_keeps P f k v now rest n = elim (k == n) as (λ b. P (cond b v (f n))) [ true ↦ now | false ↦ rest n ]
 
-shared_from : (shape : Shape) (rs : List Record) (state : State) → AllApart shape state → IsRunFrom shape state rs → (n bank : ℕ)
+shared_from : (shape : Shape) (rs : List Record) (state : State) → AllApart shape state → IsRunFrom shape state rs →
+    (n bank : ℕ)
     → KeepsApart shape ((state_after_all shape state (take n rs)).slice bank)
 unfolding AllApart
 shared_from shape rs state apart run zero bank = apart bank
@@ -143,4 +164,8 @@ pub runs_share : RunsShare
 unfolding AllApart
 runs_share shape memory rs run =
     shared_from shape rs (opening memory)
-    (λ bank. record { level1 = λ closed block register other x y. absurd (both_ways false refl x); level2 = λ closed block register other x y. absurd (both_ways false refl x) }) run
+    (λ bank. record {
+      level1 = λ closed block register other x y. absurd (both_ways false refl x);
+      level2 =
+          λ closed block register other x y. absurd (both_ways false refl x);
+    }) run

@@ -50,14 +50,16 @@ FlatMemory = ℕ → ℕ → ℕ
 -- the memory that a trace names: blocks by their numbers, all others zero
 abbrev pub flat_memory : List (ℕ × ArrayVec ℕ) → FlatMemory
 flat_memory [] block place = 0
-flat_memory (m ∷ memory) block place = if m.0 == block then slice_index m.1.items place else flat_memory memory block place
+flat_memory (m ∷ memory) block place = if m.0 == block then slice_index m.1.items place else flat_memory memory block
+    place
 
 abbrev pub block_bytes : Shape → FlatMemory → ℕ → List ℕ
 block_bytes shape memory block = map (memory block) (range_with_len 0 shape.block)
 
 -- the bytes of a second-level block
 abbrev pub wide_bytes : Shape → FlatMemory → ℕ → List ℕ
-wide_bytes shape memory second = flat_map (λ place. block_bytes shape memory (sub_block shape second place)) (places shape)
+wide_bytes shape memory second = flat_map (λ place. block_bytes shape memory (sub_block shape second place))
+    (places shape)
 
 -- the bytes of the sub-block at a place, where blocks have so many bytes
 abbrev pub part_at : ℕ → List ℕ → ℕ → List ℕ
@@ -76,7 +78,8 @@ Covers mask other = (i : ℕ) → is_under other i ≡ true → is_under mask i 
 
 -- of so many bytes, equal at each whose bit is clear
 abbrev pub agree_off : ℕ → List ℕ → List ℕ → ℕ → Bool
-agree_off size xs ys mask = list_all (λ i. is_under mask i || slice_index xs i == slice_index ys i) (range_with_len 0 size)
+agree_off size xs ys mask = list_all (λ i. is_under mask i || slice_index xs i == slice_index ys i)
+    (range_with_len 0 size)
 
 -- the bytes whose bit is set, rising
 abbrev pub masked : List ℕ → ℕ → List ℕ
@@ -95,7 +98,8 @@ mask_at masks place = (slice_index_or masks.items place clean_mask).0
 -- the bytes of a second-level block whose bit is set, block by block
 abbrev pub wide_masked : Shape → FlatMemory → ℕ → Masks → List ℕ
 wide_masked shape memory second masks =
-    flat_map (λ place. masked (block_bytes shape memory (sub_block shape second place)) (mask_at masks place)) (places shape)
+    flat_map (λ place. masked (block_bytes shape memory (sub_block shape second place)) (mask_at masks place))
+    (places shape)
 
 -- new where the bit is set, old elsewhere
 abbrev pub overlay : (ℕ → ℕ) → (ℕ → ℕ) → ℕ → ℕ → ℕ

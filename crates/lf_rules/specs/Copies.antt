@@ -4,10 +4,12 @@ use Rattle.lf_rules.specs.declared.shape.Shape.{Shape}
 use Rattle.lf_rules.specs.declared.event.Record.{Record}
 use Rattle.lf_rules.specs.declared.event.Event.{Event}
 use Rattle.lf_rules.specs.declared.event.Event.TheVariants.{Hit, Fill1, Evict1, Fill2, Evict2}
-use Rattle.lf_rules.specs.Address.{FlatMemory, second_of, place_of, block_bytes, wide_bytes, mask_at, masked, wide_masked, overlay}
+use Rattle.lf_rules.specs.Address.{FlatMemory, second_of, place_of, block_bytes, wide_bytes, mask_at, masked}
+use Rattle.lf_rules.specs.Address.{wide_masked, overlay}
 use Rattle.lf_rules.specs.Registers.{Held, targets_of}
 use Rattle.lf_rules.specs.State.{update, idle, Missed, Ready, Slice, empty_slice}
-use Rattle.lf_rules.specs.Table.{OfBoth, Clause, oldest, read, written, value_of, accepted, rules_of, busy_after, slice_after}
+use Rattle.lf_rules.specs.Table.{OfBoth, Clause, oldest, read, written, value_of, accepted, rules_of, busy_after}
+use Rattle.lf_rules.specs.Table.{slice_after}
 use Rattle.lf_rules.specs.Run.{first_failing}
 
 -- the bytes of each line of level one, of each line of level two block by block, and of the memory below
@@ -24,14 +26,20 @@ serve (h ∷ held) bytes = serve held (written h.target.request bytes)
 abbrev pub served : List (Held Missed) → (ℕ → ℕ) → List Ready
 served [] bytes = []
 served (h ∷ held) bytes =
-    let reply : Ready = record { port = h.target.port; tag = h.target.request.tag; value = read h.target.request bytes } in
+    let reply : Ready = record {
+      port = h.target.port;
+      tag = h.target.request.tag;
+      value =
+          read h.target.request bytes;
+    } in
     reply ∷ served held (written h.target.request bytes)
 
 -- Are the bytes that an event carries exactly those of the copy that it moves?
 abbrev pub moves_copy : Shape → Copies → Event → Bool
 moves_copy shape copies (Fill1 block bytes) = bytes_eq bytes.items (block_bytes shape copies.two block)
 moves_copy shape copies (Fill2 second bytes) = bytes_eq bytes.items (wide_bytes shape copies.below second)
-moves_copy shape copies (Evict1 block mask bytes) = bytes_eq bytes.items (masked (block_bytes shape copies.one block) mask.0)
+moves_copy shape copies (Evict1 block mask bytes) = bytes_eq bytes.items
+    (masked (block_bytes shape copies.one block) mask.0)
 moves_copy shape copies (Evict2 second masks bytes) = bytes_eq bytes.items (wide_masked shape copies.two second masks)
 moves_copy shape copies _ = true
 
@@ -44,11 +52,13 @@ abbrev pub copies_after : Shape → Copies → Slice → Event → Copies
 copies_after shape copies slice (Hit port tag) = record copies { one = accepted copies.one (oldest (slice.queue port)) }
 copies_after shape copies slice (Fill1 block bytes) =
     record copies { one = update copies.one block (serve (targets_of slice.waiting block) (copies.two block)) }
-copies_after shape copies slice (Fill2 second bytes) = record copies { two = update_second shape copies.two second copies.below }
+copies_after shape copies slice (Fill2 second bytes) = record copies
+    { two = update_second shape copies.two second copies.below }
 copies_after shape copies slice (Evict1 block mask bytes) =
     record copies { two = update copies.two block (overlay (copies.two block) (copies.one block) mask.0) }
 copies_after shape copies slice (Evict2 second masks bytes) =
-    let new : FlatMemory = λ block. overlay (copies.below block) (copies.two block) (mask_at masks (place_of shape block)) in
+    let new : FlatMemory = λ block. overlay (copies.below block) (copies.two block)
+    (mask_at masks (place_of shape block)) in
     record copies { below = update_second shape copies.below second new }
 copies_after shape copies slice _ = copies
 
@@ -77,12 +87,14 @@ copy_state_after shape state r =
       copies = copies_after shape state.copies slice r.event;
       busy = update state.busy r.log (busy_after (state.busy r.log) r.bank r.event);
       slice = update state.slice r.bank
-          (slice_after shape (value_by_copy state.copies slice r.event) (replies_by_copy state.copies slice r.event) slice r.log r.event);
+          (slice_after shape (value_by_copy state.copies slice r.event) (replies_by_copy state.copies slice r.event)
+          slice r.log r.event);
     }
 
 abbrev pub IsCopyRunFrom : Shape → CopyState → List Record → Type 0
 IsCopyRunFrom shape state [] = Unit {0}
-IsCopyRunFrom shape state (r ∷ rs) = (first_failing OfBoth (copy_clauses shape state r) ≡ None) × IsCopyRunFrom shape (copy_state_after shape state r) rs
+IsCopyRunFrom shape state (r ∷ rs) = (first_failing OfBoth (copy_clauses shape state r) ≡ None) ×
+    IsCopyRunFrom shape (copy_state_after shape state r) rs
 
 abbrev pub copy_opening : FlatMemory → CopyState
 copy_opening memory =

@@ -1,12 +1,15 @@
 -- Which records a trace of these ports, banks, block size and factor may have.
-use Rattle.std.specs.Prelude.{◌≡◌, ℕ, ◌+◌, ◌*◌, List, [], ◌∷◌, ◌/◌, ◌%◌, ◌^◌, ◌<◌, Bool, true, false, ◌||◌, ◌==◌, length, slice_index}
+use Rattle.std.specs.Prelude.{◌≡◌, ℕ, ◌+◌, ◌*◌, List, [], ◌∷◌, ◌/◌, ◌%◌, ◌^◌, ◌<◌, Bool, true, false, ◌||◌, ◌==◌}
+use Rattle.std.specs.Prelude.{length, slice_index}
 use Rattle.std.specs.Int.RustNames.{count_ones}
 use Rattle.arrayvec.specs.ArrayVec.{ArrayVec}
 use Rattle.lf_rules.specs.declared.event.Op.{Op}
 use Rattle.lf_rules.specs.declared.event.Op.TheVariants.{Load, Store}
 use Rattle.lf_rules.specs.declared.event.Event.{Event}
-use Rattle.lf_rules.specs.declared.event.Event.TheVariants.{Issue, Reply, Fence, Hit, Primary, Merge, Stall, Fill1, Evict1}
-use Rattle.lf_rules.specs.declared.event.Event.TheVariants.{SecondHit, SecondPrimary, SecondMerge, SecondStall, Fill2, Evict2}
+use Rattle.lf_rules.specs.declared.event.Event.TheVariants.{Issue, Reply, Fence, Hit, Primary, Merge, Stall, Fill1}
+use Rattle.lf_rules.specs.declared.event.Event.TheVariants.{Evict1}
+use Rattle.lf_rules.specs.declared.event.Event.TheVariants.{SecondHit, SecondPrimary, SecondMerge, SecondStall, Fill2}
+use Rattle.lf_rules.specs.declared.event.Event.TheVariants.{Evict2}
 use Rattle.lf_rules.specs.declared.event.Record.{Record}
 use Rattle.lf_rules.specs.declared.shape.Shape.{Shape}
 use Rattle.lf_rules.specs.Address.{Masks, mask_at, no_bank}
@@ -85,7 +88,8 @@ pub record FitsWideEvict (banks size factor bank second : ℕ) (masks : Masks) (
 
 -- an event of this bank
 abbrev pub FitsEvent : ℕ → ℕ → ℕ → ℕ → Event → Type 0
-FitsEvent banks size factor bank (Issue op tag len address bytes) = FitsIssue banks size factor bank op tag len address bytes
+FitsEvent banks size factor bank (Issue op tag len address bytes) =
+    FitsIssue banks size factor bank op tag len address bytes
 FitsEvent banks size factor bank (Reply tag len bytes) = FitsReply tag len bytes
 FitsEvent banks size factor bank (Hit port tag) = FitsRequest port tag
 FitsEvent banks size factor bank (Primary port tag register) = FitsRequest port tag × (register < 0x1_0000)
@@ -94,11 +98,14 @@ FitsEvent banks size factor bank (Stall port tag) = FitsRequest port tag
 FitsEvent banks size factor bank (Fill1 block bytes) = FitsBlock banks factor bank block × IsData size bytes
 FitsEvent banks size factor bank (Evict1 block mask bytes) = FitsEvict banks size factor bank block mask.0 bytes
 FitsEvent banks size factor bank (SecondHit block) = FitsBlock banks factor bank block
-FitsEvent banks size factor bank (SecondPrimary block register) = FitsBlock banks factor bank block × (register < 0x1_0000)
+FitsEvent banks size factor bank (SecondPrimary block register) = FitsBlock banks factor bank block ×
+    (register < 0x1_0000)
 FitsEvent banks size factor bank (SecondStall block) = FitsBlock banks factor bank block
-FitsEvent banks size factor bank (Fill2 second bytes) = FitsSecond banks factor bank second × IsData (factor * size) bytes
+FitsEvent banks size factor bank (Fill2 second bytes) = FitsSecond banks factor bank second ×
+    IsData (factor * size) bytes
 FitsEvent banks size factor bank (Evict2 second masks bytes) = FitsWideEvict banks size factor bank second masks bytes
-FitsEvent banks size factor bank (SecondMerge block register) = FitsBlock banks factor bank block × (register < 0x1_0000)
+FitsEvent banks size factor bank (SecondMerge block register) = FitsBlock banks factor bank block ×
+    (register < 0x1_0000)
 FitsEvent banks size factor bank Fence = Unit {0}
 
 abbrev pub is_of_level_two : Event → Bool

@@ -1,6 +1,7 @@
 -- What a list of records says by itself, with no state: once replied to, and the flat value of a load.
 -- A history is the records so far, the newest first.
-use Rattle.std.specs.Prelude.{◌≡◌, ℕ, ◌+◌, Bool, true, false, ◌&&◌, ◌==◌, IsTrue, List, [], ◌∷◌, Option, Some, None, if◌then◌else◌}
+use Rattle.std.specs.Prelude.{◌≡◌, ℕ, ◌+◌, Bool, true, false, ◌&&◌, ◌==◌, IsTrue, List, [], ◌∷◌, Option, Some, None}
+use Rattle.std.specs.Prelude.{if◌then◌else◌}
 use Rattle.lf_rules.specs.declared.shape.Shape.{Shape}
 use Rattle.lf_rules.specs.declared.event.Record.{Record}
 use Rattle.lf_rules.specs.declared.event.Event.{Event}
@@ -20,7 +21,8 @@ abbrev pub act_if : Bool → Act → Act
 act_if b act = if b then act else Nothing
 
 abbrev pub act_of : Shape → ℕ → ℕ → ℕ → Event → Act
-act_of shape port tag log (Issue op t size address bytes) = act_if (log == port && t == tag) (Issues (request_of shape t op size address bytes.items))
+act_of shape port tag log (Issue op t size address bytes) =
+    act_if (log == port && t == tag) (Issues (request_of shape t op size address bytes.items))
 act_of shape port tag log (Reply t size bytes) = act_if (log == port && t == tag) Replies
 act_of shape port tag log (Hit p t) = act_if (p == port && t == tag) Accepts
 act_of shape port tag log (Primary p t register) = act_if (p == port && t == tag) Accepts
@@ -47,7 +49,8 @@ outstanding_after _ before = before
 
 abbrev pub is_outstanding : Shape → ℕ → ℕ → List Record → Bool
 is_outstanding shape port tag [] = false
-is_outstanding shape port tag (r ∷ history) = outstanding_after (act shape port tag r) (is_outstanding shape port tag history)
+is_outstanding shape port tag (r ∷ history) = outstanding_after (act shape port tag r)
+    (is_outstanding shape port tag history)
 
 -- the history before the acceptance of the port's tag since its latest issue
 abbrev pub acceptance_after : Act → List Record → Option (List Record) → Option (List Record)
@@ -57,7 +60,8 @@ acceptance_after _ history before = before
 
 abbrev pub before_acceptance : Shape → ℕ → ℕ → List Record → Option (List Record)
 before_acceptance shape port tag [] = None
-before_acceptance shape port tag (r ∷ history) = acceptance_after (act shape port tag r) history (before_acceptance shape port tag history)
+before_acceptance shape port tag (r ∷ history) = acceptance_after (act shape port tag r) history
+    (before_acceptance shape port tag history)
 
 -- how often the port's tag was accepted since its latest issue
 abbrev pub times_after : Act → ℕ → ℕ
@@ -79,10 +83,13 @@ accepted_by shape history _ = None
 -- the byte of the last accepted store that covers it, or else that of the initial memory
 abbrev pub bytes_after : Shape → FlatMemory → List Record → FlatMemory
 bytes_after shape initial [] = initial
-bytes_after shape initial (r ∷ history) = accepted_if (bytes_after shape initial history) (accepted_by shape history r.event)
+bytes_after shape initial (r ∷ history) = accepted_if (bytes_after shape initial history)
+    (accepted_by shape history r.event)
 
--- A reply is to the one acceptance of the latest issue. That of a load has its bytes as they were before the acceptance.
-pub record IsFlatReply (shape : Shape) (initial : FlatMemory) (history : List Record) (port tag size : ℕ) (bytes : List ℕ) : Type 0 where
+-- A reply is to the one acceptance of the latest issue. That of a load has its bytes as they were before the
+-- acceptance.
+pub record IsFlatReply (shape : Shape) (initial : FlatMemory) (history : List Record) (port tag size : ℕ)
+    (bytes : List ℕ) : Type 0 where
   pub request : Request
   pub older : List Record
   pub issued : latest_issue shape port tag history ≡ Some request
@@ -97,7 +104,8 @@ IsFlatAt shape initial history log _ = Unit {0}
 
 abbrev pub IsFlatFrom : Shape → FlatMemory → List Record → List Record → Type 0
 IsFlatFrom shape initial history [] = Unit {0}
-IsFlatFrom shape initial history (r ∷ rs) = IsFlatAt shape initial history r.log r.event × IsFlatFrom shape initial (r ∷ history) rs
+IsFlatFrom shape initial history (r ∷ rs) = IsFlatAt shape initial history r.log r.event ×
+    IsFlatFrom shape initial (r ∷ history) rs
 
 -- each load's reply is the initial memory changed by the stores accepted before that load
 abbrev pub IsFlat : Shape → FlatMemory → List Record → Type 0

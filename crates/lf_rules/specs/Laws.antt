@@ -21,5 +21,6 @@ RunsAreFlat = (shape : Shape) (memory : FlatMemory) (rs : List Record) → IsRun
 
 -- for a shape with some factor, as each in range has
 abbrev pub CopyRunsAreRuns : Type 0
-CopyRunsAreRuns = (shape : Shape) (memory : FlatMemory) (rs : List Record) → 0 < shape.factor → AllByRecursion (Fits shape) rs →
+CopyRunsAreRuns = (shape : Shape) (memory : FlatMemory) (rs : List Record) → 0 < shape.factor →
+    AllByRecursion (Fits shape) rs →
     IsCopyRun shape memory rs → IsRun shape memory rs

@@ -1,4 +1,5 @@
--- What a trace means: the rules as one table over one state, the runs, and the orders of logs. All other crates speak of it.
+-- What a trace means: the rules as one table over one state, the runs, and the orders of logs. All other crates
+-- speak of it.
 pub mod Address
 pub mod Clauses
 pub mod Registers

@@ -1,6 +1,7 @@
 -- The lines of one level of a bank: a map from each block that is there to what is dirty of it, by rising blocks.
 -- Level one keeps a mask for each block, level two a mask for each block of a second-level block.
-use Rattle.std.specs.Prelude.{ℕ, Bool, nat_lt, ◌==◌, not, List, [], Option, unwrap_or, is_some, count_by, bit_or, replicate, slice_set}
+use Rattle.std.specs.Prelude.{ℕ, Bool, nat_lt, ◌==◌, not, List, [], Option, unwrap_or, is_some, count_by, bit_or}
+use Rattle.std.specs.Prelude.{replicate, slice_set}
 use Rattle.std.specs.List.{filter, list_all, range_with_len}
 use Rattle.std.specs.Map.{lookup}
 use Rattle.std.specs.BTreeMap.{insert_entry, is_at}
@@ -62,7 +63,10 @@ same_masks factor a b = list_all (λ place. mask_at a place == mask_at b place) 
 
 -- the mask at the place gains these bytes
 abbrev pub marked : Masks → ℕ → ℕ → Masks
-marked masks place mask = record { items = slice_set masks.items place (record { 0 = bit_or (mask_at masks place) mask }) }
+marked masks place mask = record {
+  items = slice_set masks.items place
+      (record { 0 = bit_or (mask_at masks place) mask });
+}
 
 abbrev pub mark_at : WideLines → ℕ → ℕ → ℕ → WideLines
 mark_at lines second place mask = with_line lines second (marked (dirty_masks lines second) place mask)

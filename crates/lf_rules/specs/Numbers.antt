@@ -56,13 +56,16 @@ InterleavingsAreNumbered = (logs : List (List Record)) (rs : List Record) → In
 
 -- there is only one such order
 abbrev pub NumberedIsOne : Type 0
-NumberedIsOne = (logs : List (List Record)) (bank : ℕ) (a b : List Record) → IsNumbered logs bank a → IsNumbered logs bank b → a ≡ b
+NumberedIsOne = (logs : List (List Record)) (bank : ℕ) (a b : List Record) → IsNumbered logs bank a →
+    IsNumbered logs bank b → a ≡ b
 
 -- where there is one, the numbers are whole
 abbrev pub NumberedIsWhole : Type 0
-NumberedIsWhole = (logs : List (List Record)) (bank : ℕ) (rs : List Record) → IsNumbered logs bank rs → IsWhole (bank_numbers logs bank)
+NumberedIsWhole = (logs : List (List Record)) (bank : ℕ) (rs : List Record) → IsNumbered logs bank rs →
+    IsWhole (bank_numbers logs bank)
 
 -- where a number is missing or double, no list of all logs keeps the numbers
 abbrev pub GapsAdmitNone : Type 0
-GapsAdmitNone = (logs : List (List Record)) (bank k : ℕ) → bank < no_bank → IsMissing (bank_numbers logs bank) k ⊎ IsDouble (bank_numbers logs bank) k
+GapsAdmitNone = (logs : List (List Record)) (bank k : ℕ) → bank < no_bank →
+    IsMissing (bank_numbers logs bank) k ⊎ IsDouble (bank_numbers logs bank) k
     → (rs : List Record) → Interleaves logs rs → KeepsNumbers rs → ⊥

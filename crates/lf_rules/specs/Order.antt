@@ -1,5 +1,6 @@
 -- Orders: lists of log numbers, which name at each place the log whose next element comes.
-use Rattle.std.specs.Prelude.{◌≡◌, ℕ, ◌<◌, ◌↔◌, ◌⊎◌, ◌==◌, List, [], ◌∷◌, map, filter, length, drop, slice_index_or, slice_set}
+use Rattle.std.specs.Prelude.{◌≡◌, ℕ, ◌<◌, ◌↔◌, ◌⊎◌, ◌==◌, List, [], ◌∷◌, map, filter, length, drop, slice_index_or}
+use Rattle.std.specs.Prelude.{slice_set}
 use Rattle.std.specs.List.{range_with_len}
 use Rattle.lf_rules.specs.declared.event.Record.{Record}
 use Rattle.lf_rules.specs.Address.{no_bank}
@@ -19,7 +20,8 @@ module _ {T : Type 0} where
   Takes logs [] [] = (log : ℕ) → log_at logs log ≡ []
   Takes logs [] (x ∷ xs) = ⊥
   Takes logs (log ∷ order) [] = ⊥
-  Takes logs (log ∷ order) (x ∷ xs) = (log_at logs log ≡ x ∷ drop 1 (log_at logs log)) × Takes (after_next logs log) order xs
+  Takes logs (log ∷ order) (x ∷ xs) = (log_at logs log ≡ x ∷ drop 1 (log_at logs log)) ×
+      Takes (after_next logs log) order xs
 
 -- ---- orders of skeletons: lists of (bank, number)
 
@@ -56,14 +58,17 @@ OrdersInterleave = (logs : List (List Record)) (order : List ℕ) (rs : List Rec
 
 -- it takes only one list
 abbrev pub OrdersTakeOne : Type 0
-OrdersTakeOne = (logs : List (List Record)) (order : List ℕ) (a b : List Record) → Takes logs order a → Takes logs order b → a ≡ b
+OrdersTakeOne = (logs : List (List Record)) (order : List ℕ) (a b : List Record) → Takes logs order a →
+    Takes logs order b → a ≡ b
 
 -- what it takes from the skeletons are the entries of what it takes from the logs
 abbrev pub SkeletonsFollow : Type 0
-SkeletonsFollow = (logs : List (List Record)) (order : List ℕ) (rs : List Record) → Takes logs order rs → Takes (skeletons_of logs) order (map entry_of rs)
+SkeletonsFollow = (logs : List (List Record)) (order : List ℕ) (rs : List Record) → Takes logs order rs →
+    Takes (skeletons_of logs) order (map entry_of rs)
 
 abbrev pub LogsFollow : Type 0
-LogsFollow = (logs : List (List Record)) (order : List ℕ) (entries : List (ℕ × ℕ)) → Takes (skeletons_of logs) order entries
+LogsFollow = (logs : List (List Record)) (order : List ℕ) (entries : List (ℕ × ℕ)) →
+    Takes (skeletons_of logs) order entries
     → (rs : List Record) × Takes logs order rs × (map entry_of rs ≡ entries)
 
 -- records keep the numbers exactly where their entries do

@@ -32,9 +32,11 @@ IsPortOutcome shape rs outcome = (memory : FlatMemory) → IsOutcomeOf OfPort sh
 -- one list of records has one outcome, out of memory aside
 abbrev pub OutcomesAreOne : Type 0
 OutcomesAreOne = (side : Side) (shape : Shape) (memory : FlatMemory) (rs : List Record) (a b : Outcome) →
-    IsOutcomeOf side shape memory rs a → IsOutcomeOf side shape memory rs b → (a ≡ NoMemory → ⊥) → (b ≡ NoMemory → ⊥) → a ≡ b
+    IsOutcomeOf side shape memory rs a → IsOutcomeOf side shape memory rs b → (a ≡ NoMemory → ⊥) →
+    (b ≡ NoMemory → ⊥) → a ≡ b
 
 -- and each has one: it is a run, or it breaks somewhere
 abbrev pub RunsOrBreaks : Type 0
 RunsOrBreaks = (side : Side) (shape : Shape) (memory : FlatMemory) (rs : List Record) →
-    IsRunOf side shape (first_local memory) rs ⊎ ((n : ℕ) × (rule : Rule) × BreaksAt side shape (first_local memory) rs n rule)
+    IsRunOf side shape (first_local memory) rs ⊎ ((n : ℕ) × (rule : Rule) ×
+    BreaksAt side shape (first_local memory) rs n rule)

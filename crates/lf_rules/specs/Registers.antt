@@ -2,7 +2,8 @@
 use Rattle.std.specs.Prelude.{ℕ, Bool, true, not, ◌&&◌, ◌==◌, nat_lt, List, [], ◌∷◌, count_by, if◌then◌else◌}
 use Rattle.std.specs.List.{range_with_len, list_any, filter}
 use Rattle.lf_rules.specs.Clauses.{Clause, bank_wants}
-use Rattle.lf_rules.specs.declared.rule.Rule.TheVariants.{PrimaryInFlight, NotInFlight, RegisterRange, WrongRegister, RegisterBusy, MergeFull}
+use Rattle.lf_rules.specs.declared.rule.Rule.TheVariants.{PrimaryInFlight, NotInFlight, RegisterRange, WrongRegister}
+use Rattle.lf_rules.specs.declared.rule.Rule.TheVariants.{RegisterBusy, MergeFull}
 use Rattle.lf_rules.specs.declared.shape.OrgShape.{OrgShape}
 use Rattle.lf_rules.specs.declared.shape.OrgShape.TheVariants.{Implicit, Explicit, Inverted}
 
@@ -51,16 +52,20 @@ module _ {T : Type 0} where
 
   -- has the register a place left for a further target?
   abbrev pub takes : OrgShape → (T → ℕ) → List (Held T) → ℕ → ℕ → Bool
-  takes (Implicit registers) position held register at = not (list_any (λ h. h.register == register && position h.target == at) held)
-  takes (Explicit registers entries) position held register at = nat_lt (count_by (λ h. h.register == register) held) entries
+  takes (Implicit registers) position held register at = not
+      (list_any (λ h. h.register == register && position h.target == at) held)
+  takes (Explicit registers entries) position held register at =
+      nat_lt (count_by (λ h. h.register == register) held) entries
   takes Inverted position held register at = is_free held register
 
   -- is there room for a target in flight or not?
   abbrev pub has_room : OrgShape → ℕ → (T → ℕ) → List (Held T) → ℕ → ℕ → ℕ → Bool
-  has_room Inverted destinations position held block destination at = nat_lt destination destinations && is_free held destination
+  has_room Inverted destinations position held block destination at =
+      nat_lt destination destinations && is_free held destination
   has_room organisation destinations position held block destination at =
       if holds held block
-      then list_any (λ r. holds_in held r block && takes organisation position held r at) (range_with_len 0 (registers_of organisation destinations))
+      then list_any (λ r. holds_in held r block && takes organisation position held r at)
+      (range_with_len 0 (registers_of organisation destinations))
       else list_any (is_free held) (range_with_len 0 (registers_of organisation destinations))
 
   -- what a primary miss to the block must meet to take the register, in order

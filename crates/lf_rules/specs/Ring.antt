@@ -1,5 +1,6 @@
 -- Rings of logs that wait for one another.
-use Rattle.std.specs.Prelude.{◌≡◌, ℕ, zero, suc, ◌+◌, ◌%◌, ◌<◌, List, [], ◌∷◌, map, length, slice_index_or, Option, Some, None}
+use Rattle.std.specs.Prelude.{◌≡◌, ℕ, zero, suc, ◌+◌, ◌%◌, ◌<◌, List, [], ◌∷◌, map, length, slice_index_or, Option}
+use Rattle.std.specs.Prelude.{Some, None}
 use Rattle.lf_rules.specs.declared.event.Record.{Record}
 use Rattle.lf_rules.specs.declared.ring.Knot.{Knot}
 use Rattle.lf_rules.specs.Address.{no_bank}

@@ -36,7 +36,8 @@ effect OfBoth shape now r = port_effect (bank_effect shape now r) r
 -- a run of one port or of one bank, by itself
 abbrev pub IsRunOf : Side → Shape → Local → List Record → Type 0
 IsRunOf side shape now [] = Unit {0}
-IsRunOf side shape now (r ∷ rs) = (first_failing side (clauses shape now r) ≡ None) × IsRunOf side shape (effect side shape now r) rs
+IsRunOf side shape now (r ∷ rs) = (first_failing side (clauses shape now r) ≡ None) ×
+    IsRunOf side shape (effect side shape now r) rs
 
 abbrev pub state_after : Shape → State → Record → State
 state_after shape state r = with_seen r.log r.bank state (effect OfBoth shape (seen_by r.log r.bank state) r)
@@ -45,7 +46,8 @@ state_after shape state r = with_seen r.log r.bank state (effect OfBoth shape (s
 abbrev pub IsRunFrom : Shape → State → List Record → Type 0
 IsRunFrom shape state [] = Unit {0}
 IsRunFrom shape state (r ∷ rs) =
-    (first_failing OfBoth (clauses shape (seen_by r.log r.bank state) r) ≡ None) × IsRunFrom shape (state_after shape state r) rs
+    (first_failing OfBoth (clauses shape (seen_by r.log r.bank state) r) ≡ None) ×
+    IsRunFrom shape (state_after shape state r) rs
 
 abbrev pub IsRun : Shape → FlatMemory → List Record → Type 0
 IsRun shape memory rs = IsRunFrom shape (opening memory) rs
@@ -78,7 +80,8 @@ NameTheirLogs logs = (log : ℕ) → AllByRecursion (λ r. r.log ≡ log) (slice
 
 -- Each bank's records carry 0, 1, 2, .. in this order. Those that name no bank are not among them.
 abbrev pub KeepsNumbers : List Record → Type 0
-KeepsNumbers rs = (bank : ℕ) → bank < no_bank → map (λ r. r.number) (of_bank bank rs) ≡ range_with_len 0 (length (of_bank bank rs))
+KeepsNumbers rs = (bank : ℕ) → bank < no_bank → map (λ r. r.number) (of_bank bank rs)
+    ≡ range_with_len 0 (length (of_bank bank rs))
 
 -- ---- the law of composition
 
@@ -98,16 +101,19 @@ fault_here place (Some rule) later = Some (place, rule)
 abbrev pub first_fault_of : Side → Shape → Local → ℕ → List Record → Option (ℕ × Rule)
 first_fault_of side shape now place [] = None
 first_fault_of side shape now place (r ∷ rs) =
-    fault_here place (first_failing side (clauses shape now r)) (first_fault_of side shape (effect side shape now r) (place + 1) rs)
+    fault_here place (first_failing side (clauses shape now r))
+    (first_fault_of side shape (effect side shape now r) (place + 1) rs)
 
 -- the same of the whole system
 abbrev pub first_fault : Shape → State → ℕ → List Record → Option (ℕ × Rule)
 first_fault shape state place [] = None
 first_fault shape state place (r ∷ rs) =
-    fault_here place (first_failing OfBoth (clauses shape (seen_by r.log r.bank state) r)) (first_fault shape (state_after shape state r) (place + 1) rs)
+    fault_here place (first_failing OfBoth (clauses shape (seen_by r.log r.bank state) r))
+    (first_fault shape (state_after shape state r) (place + 1) rs)
 
 -- The first n records are a run of the side, and the next fails with the rule first.
 abbrev pub BreaksAt : Side → Shape → Local → List Record → ℕ → Rule → Type 0
 BreaksAt side shape now [] n rule = ⊥
 BreaksAt side shape now (r ∷ rs) zero rule = first_failing side (clauses shape now r) ≡ Some rule
-BreaksAt side shape now (r ∷ rs) (suc n) rule = (first_failing side (clauses shape now r) ≡ None) × BreaksAt side shape (effect side shape now r) rs n rule
+BreaksAt side shape now (r ∷ rs) (suc n) rule = (first_failing side (clauses shape now r) ≡ None) ×
+    BreaksAt side shape (effect side shape now r) rs n rule

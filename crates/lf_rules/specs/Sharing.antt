@@ -8,7 +8,8 @@ use Rattle.lf_rules.specs.State.{Slice, State, opening}
 use Rattle.lf_rules.specs.Run.{state_after}
 
 abbrev pub HoldsOnce : {T : Type 0} → List (Held T) → Type 0
-HoldsOnce held = (block register other : ℕ) → holds_in held register block ≡ true → holds_in held other block ≡ true → register ≡ other
+HoldsOnce held = (block register other : ℕ) → holds_in held register block ≡ true → holds_in held other block ≡ true →
+    register ≡ other
 
 pub record KeepsApart (shape : Shape) (slice : Slice) : Type 0 where
   pub level1 : shares shape.level1.organisation ≡ false → HoldsOnce slice.waiting
@@ -20,4 +21,5 @@ state_after_all shape state (r ∷ rs) = state_after_all shape (state_after shap
 
 -- so it is after every prefix
 abbrev pub IsSharing : Shape → FlatMemory → List Record → Type 0
-IsSharing shape memory rs = (n bank : ℕ) → KeepsApart shape ((state_after_all shape (opening memory) (take n rs)).slice bank)
+IsSharing shape memory rs = (n bank : ℕ) → KeepsApart shape
+    ((state_after_all shape (opening memory) (take n rs)).slice bank)

@@ -59,7 +59,17 @@ abbrev pub idle : ℕ → Option ℕ
 idle tag = None
 
 abbrev pub empty_slice : Slice
-empty_slice = record { queue = λ _. []; lines1 = []; lines2 = []; waiting = []; regs2 = []; asked = []; supplied = []; ready = [] }
+empty_slice = record {
+  queue = λ _. [];
+  lines1 = [];
+  lines2 = [];
+  waiting = [];
+  regs2 = [];
+  asked = [];
+  supplied =
+      [];
+  ready = [];
+}
 
 abbrev pub opening : FlatMemory → State
 opening memory = record { memory = memory; busy = λ _. idle; slice = λ _. empty_slice }

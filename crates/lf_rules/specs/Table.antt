@@ -1,30 +1,48 @@
 -- The rules: for each event its clauses in order, and its effect.
-use Rattle.std.specs.Prelude.{ℕ, ◌+◌, ◌-◌, ◌*◌, ◌/◌, bit_or, Bool, true, false, not, ◌&&◌, ◌==◌, nat_le, nat_lt, if◌then◌else◌}
-use Rattle.std.specs.Prelude.{List, [], ◌∷◌, ◌++◌, map, length, drop, slice_index, bytes_eq, Option, Some, None, is_none}
+use Rattle.std.specs.Prelude.{ℕ, ◌+◌, ◌-◌, ◌*◌, ◌/◌, bit_or, Bool, true, false, not, ◌&&◌, ◌==◌, nat_le, nat_lt}
+use Rattle.std.specs.Prelude.{if◌then◌else◌}
+use Rattle.std.specs.Prelude.{List, [], ◌∷◌, ◌++◌, map, length, drop, slice_index, bytes_eq, Option, Some, None}
+use Rattle.std.specs.Prelude.{is_none}
 use Rattle.std.specs.List.{range_with_len, list_all, list_any, filter, fold}
 use Rattle.lf_rules.specs.declared.event.Op.{Op}
 use Rattle.lf_rules.specs.declared.event.Op.TheVariants.{Load, Store}
 use Rattle.lf_rules.specs.declared.shape.Shape.{Shape}
 use Rattle.lf_rules.specs.declared.event.Record.{Record}
 use Rattle.lf_rules.specs.declared.event.Event.{Event}
-use Rattle.lf_rules.specs.declared.event.Event.TheVariants.{Issue, Reply, Fence, Hit, Primary, Merge, Stall, Fill1, Evict1}
-use Rattle.lf_rules.specs.declared.event.Event.TheVariants.{SecondHit, SecondPrimary, SecondMerge, SecondStall, Fill2, Evict2}
-use Rattle.lf_rules.specs.declared.rule.Rule.TheVariants.{TagRange, TagBusy, NotOutstanding, NotReady, ReplySize, ReplyData, FenceBusy}
-use Rattle.lf_rules.specs.declared.rule.Rule.TheVariants.{NotHead, NotPresent, Present, NeedlessStall, NotSupplied, SetFull, FillData}
-use Rattle.lf_rules.specs.declared.rule.Rule.TheVariants.{EvictAbsent, EvictMask, EvictData, NotAsked, SecondAbsent, SecondPresent, NotFetched, Inclusion}
+use Rattle.lf_rules.specs.declared.event.Event.TheVariants.{Issue, Reply, Fence, Hit, Primary, Merge, Stall, Fill1}
+use Rattle.lf_rules.specs.declared.event.Event.TheVariants.{Evict1}
+use Rattle.lf_rules.specs.declared.event.Event.TheVariants.{SecondHit, SecondPrimary, SecondMerge, SecondStall, Fill2}
+use Rattle.lf_rules.specs.declared.event.Event.TheVariants.{Evict2}
+use Rattle.lf_rules.specs.declared.rule.Rule.TheVariants.{TagRange, TagBusy, NotOutstanding, NotReady, ReplySize}
+use Rattle.lf_rules.specs.declared.rule.Rule.TheVariants.{ReplyData, FenceBusy}
+use Rattle.lf_rules.specs.declared.rule.Rule.TheVariants.{NotHead, NotPresent, Present, NeedlessStall, NotSupplied}
+use Rattle.lf_rules.specs.declared.rule.Rule.TheVariants.{SetFull, FillData}
+use Rattle.lf_rules.specs.declared.rule.Rule.TheVariants.{EvictAbsent, EvictMask, EvictData, NotAsked, SecondAbsent}
+use Rattle.lf_rules.specs.declared.rule.Rule.TheVariants.{SecondPresent, NotFetched, Inclusion}
 pub use Rattle.lf_rules.specs.Clauses.{Side, OfPort, OfBank, OfBoth, Clause, port_wants, bank_wants, both_want}
-use Rattle.lf_rules.specs.Address.{FlatMemory, block_of, offset_of, second_of, place_of, sub_block, places, set1_of, set2_of}
+use Rattle.lf_rules.specs.Address.{FlatMemory, block_of, offset_of, second_of, place_of, sub_block, places, set1_of}
+use Rattle.lf_rules.specs.Address.{set2_of}
 use Rattle.lf_rules.specs.Address.{block_bytes, part_at, wide_masked, mask_of, agree_off, masked}
-use Rattle.lf_rules.specs.Registers.{Held, registers_of, holds, targets_of, released, has_room, primary_clauses, merge_clauses}
+use Rattle.lf_rules.specs.Registers.{Held, registers_of, holds, targets_of, released, has_room, primary_clauses}
+use Rattle.lf_rules.specs.Registers.{merge_clauses}
 use Rattle.lf_rules.specs.State.{update, Request, Missed, Ready, Asked, Slice, Local}
-use Rattle.lf_rules.specs.Lines.{has_line, dirty_mask, dirty_masks, same_masks, has_way, with_line, without_line, mark, mark_at, clean_masks}
+use Rattle.lf_rules.specs.Lines.{has_line, dirty_mask, dirty_masks, same_masks, has_way, with_line, without_line}
+use Rattle.lf_rules.specs.Lines.{mark, mark_at, clean_masks}
 
 -- ---- requests
 
 -- the request that an issue makes
 abbrev pub request_of : Shape → ℕ → Op → ℕ → ℕ → List ℕ → Request
 request_of shape tag op size address bytes =
-    record { tag = tag; op = op; block = block_of shape address; offset = offset_of shape address; size = size; bytes = bytes }
+    record {
+      tag = tag;
+      op = op;
+      block = block_of shape address;
+      offset = offset_of shape address;
+      size =
+          size;
+      bytes = bytes;
+    }
 
 abbrev pub is_store : Request → Bool
 is_store request = elim request.op [ Load ↦ false | Store ↦ true ]
@@ -46,11 +64,13 @@ covers request place = nat_le request.offset place && nat_lt place (request.offs
 
 -- what a load reads from its block
 abbrev pub read : Request → (ℕ → ℕ) → List ℕ
-read request bytes = if is_store request then [] else map (λ i. bytes (request.offset + i)) (range_with_len 0 request.size)
+read request bytes = if is_store request then [] else map (λ i. bytes (request.offset + i))
+    (range_with_len 0 request.size)
 
 -- its block after a request: a store writes
 abbrev pub written : Request → (ℕ → ℕ) → ℕ → ℕ
-written request bytes place = if is_store request && covers request place then slice_index request.bytes (place - request.offset) else bytes place
+written request bytes place = if is_store request && covers request place then slice_index request.bytes
+    (place - request.offset) else bytes place
 
 -- the bytes of a load, as they are now
 abbrev pub value_of : FlatMemory → Request → List ℕ
@@ -129,14 +149,17 @@ none_busy tags busy = list_all (λ tag. is_none (busy tag)) (range_with_len 0 ta
 abbrev pub part_agrees : Shape → FlatMemory → Slice → ℕ → List ℕ → ℕ → Bool
 part_agrees shape memory slice second bytes place =
     let block = sub_block shape second place in
-    agree_off shape.block (part_at shape.block bytes place) (block_bytes shape memory block) (store_bytes slice.waiting block)
+    agree_off shape.block (part_at shape.block bytes place) (block_bytes shape memory block)
+    (store_bytes slice.waiting block)
 
 -- Are the bytes that an event carries those of the memory, off or on the mask that its rule names?
 abbrev pub carries : Shape → FlatMemory → Slice → Event → Bool
-carries shape memory slice (Fill1 block bytes) = agree_off shape.block bytes.items (block_bytes shape memory block) (store_bytes slice.waiting block)
+carries shape memory slice (Fill1 block bytes) = agree_off shape.block bytes.items (block_bytes shape memory block)
+    (store_bytes slice.waiting block)
 carries shape memory slice (Fill2 second bytes) =
     list_all (λ place. part_agrees shape memory slice second bytes.items place) (places shape)
-carries shape memory slice (Evict1 block mask bytes) = bytes_eq bytes.items (masked (block_bytes shape memory block) mask.0)
+carries shape memory slice (Evict1 block mask bytes) = bytes_eq bytes.items
+    (masked (block_bytes shape memory block) mask.0)
 carries shape memory slice (Evict2 second masks bytes) = bytes_eq bytes.items (wide_masked shape memory second masks)
 carries shape memory slice _ = true
 
@@ -168,23 +191,27 @@ rules_of shape right busy slice log bank (Primary port tag register) =
     let request = oldest (slice.queue port) in
     bank_wants NotHead (nat_lt port shape.ports && is_head (slice.queue port) tag)
     ∷ bank_wants Present (not (has_line slice.lines1 request.block))
-    ∷ primary_clauses shape.level1.organisation (destinations shape) slice.waiting request.block (destination shape port tag) register
+    ∷ primary_clauses shape.level1.organisation (destinations shape) slice.waiting request.block
+    (destination shape port tag) register
 rules_of shape right busy slice log bank (Merge port tag register) =
     let request = oldest (slice.queue port) in
     let destination1 = destination shape port tag in
     bank_wants NotHead (nat_lt port shape.ports && is_head (slice.queue port) tag)
-    ∷ merge_clauses shape.level1.organisation (destinations shape) position slice.waiting request.block destination1 (request.offset / 8) register
+    ∷ merge_clauses shape.level1.organisation (destinations shape) position slice.waiting request.block destination1
+    (request.offset / 8) register
 rules_of shape right busy slice log bank (Stall port tag) =
     let request = oldest (slice.queue port) in
     let destination1 = destination shape port tag in
-    let room = has_room shape.level1.organisation (destinations shape) position slice.waiting request.block destination1 (request.offset / 8) in
+    let room = has_room shape.level1.organisation (destinations shape) position slice.waiting request.block
+    destination1 (request.offset / 8) in
     bank_wants NotHead (nat_lt port shape.ports && is_head (slice.queue port) tag)
     ∷ bank_wants Present (not (has_line slice.lines1 request.block))
     ∷ bank_wants NeedlessStall (not room)
     ∷ []
 rules_of shape right busy slice log bank (Fill1 block bytes) =
     bank_wants NotSupplied (is_among slice.supplied block)
-    ∷ bank_wants SetFull (has_way (set1_of shape.banks shape.factor shape.level1.sets) shape.level1.ways slice.lines1 block)
+    ∷ bank_wants SetFull (has_way (set1_of shape.banks shape.factor shape.level1.sets) shape.level1.ways slice.lines1
+    block)
     ∷ bank_wants FillData right
     ∷ []
 rules_of shape right busy slice log bank (Evict1 block mask bytes) =
@@ -199,11 +226,13 @@ rules_of shape right busy slice log bank (SecondHit block) =
 rules_of shape right busy slice log bank (SecondPrimary block register) =
     bank_wants NotAsked (is_asked slice.asked block)
     ∷ bank_wants SecondPresent (not (has_line slice.lines2 (second_of shape block)))
-    ∷ primary_clauses shape.level2.organisation (destinations2 shape) slice.regs2 (second_of shape block) (asked_register slice.asked block) register
+    ∷ primary_clauses shape.level2.organisation (destinations2 shape) slice.regs2 (second_of shape block)
+    (asked_register slice.asked block) register
 rules_of shape right busy slice log bank (SecondStall block) =
     let second = second_of shape block in
     let destination2 = asked_register slice.asked block in
-    let room = has_room shape.level2.organisation (destinations2 shape) (position2 shape) slice.regs2 second destination2 (place_of shape block) in
+    let room = has_room shape.level2.organisation (destinations2 shape) (position2 shape) slice.regs2 second
+    destination2 (place_of shape block) in
     bank_wants NotAsked (is_asked slice.asked block)
     ∷ bank_wants SecondPresent (not (has_line slice.lines2 second))
     ∷ bank_wants NeedlessStall (not room)
@@ -213,7 +242,8 @@ rules_of shape right busy slice log bank (SecondMerge block register) =
     let destination2 = asked_register slice.asked block in
     bank_wants NotAsked (is_asked slice.asked block)
     ∷ bank_wants SecondPresent (not (has_line slice.lines2 second))
-    ∷ merge_clauses shape.level2.organisation (destinations2 shape) (position2 shape) slice.regs2 second destination2 (place_of shape block) register
+    ∷ merge_clauses shape.level2.organisation (destinations2 shape) (position2 shape) slice.regs2 second destination2
+    (place_of shape block) register
 rules_of shape right busy slice log bank (Fill2 second bytes) =
     bank_wants NotFetched (holds slice.regs2 second)
     ∷ bank_wants SetFull (has_way (set2_of shape.banks shape.level2.sets) shape.level2.ways slice.lines2 second)
@@ -252,11 +282,21 @@ memory_after memory slice event = accepted_if memory (accepts slice event)
 abbrev pub miss : Slice → ℕ → ℕ → List ℕ → Held Missed
 miss slice port register value =
     let request = oldest (slice.queue port) in
-    record { register = register; block = request.block; target = record { port = port; request = request; value = value } }
+    record {
+      register = register;
+      block = request.block;
+      target =
+          record { port = port; request = request; value = value };
+    }
 
 -- what a miss of level two places: its register holds the second-level block
 abbrev pub second_miss : Shape → Slice → ℕ → ℕ → Held Asked
-second_miss shape slice block register = record { register = register; block = second_of shape block; target = (block, asked_register slice.asked block) }
+second_miss shape slice block register = record {
+  register = register;
+  block = second_of shape block;
+  target =
+      (block, asked_register slice.asked block);
+}
 
 -- the block that a target of level two asks for
 abbrev pub block_asked : Held Asked → ℕ
@@ -301,7 +341,11 @@ slice_after shape value replies slice log (Fill1 block bytes) =
       supplied = without slice.supplied block;
     }
 slice_after shape value replies slice log (Evict1 block mask bytes) =
-    record slice { lines1 = without_line slice.lines1 block; lines2 = mark_at slice.lines2 (second_of shape block) (place_of shape block) mask.0 }
+    record slice {
+      lines1 = without_line slice.lines1 block;
+      lines2 =
+          mark_at slice.lines2 (second_of shape block) (place_of shape block) mask.0;
+    }
 slice_after shape value replies slice log (SecondHit block) =
     record slice { asked = without_asked slice.asked block; supplied = slice.supplied ++ block ∷ [] }
 slice_after shape value replies slice log (SecondPrimary block register) =
@@ -338,13 +382,15 @@ replies_at slice _ = []
 -- ---- the step of one record, as its log and its bank see it
 
 abbrev pub clauses : Shape → Local → Record → List Clause
-clauses shape now r = rules_of shape (carries shape now.memory now.slice r.event) now.busy now.slice r.log r.bank r.event
+clauses shape now r = rules_of shape (carries shape now.memory now.slice r.event) now.busy now.slice r.log r.bank
+    r.event
 
 abbrev pub bank_effect : Shape → Local → Record → Local
 bank_effect shape now r = record {
   busy = now.busy;
   memory = memory_after now.memory now.slice r.event;
-  slice = slice_after shape (value_at now.memory (accepts now.slice r.event)) (replies_at now.slice r.event) now.slice r.log r.event;
+  slice = slice_after shape (value_at now.memory (accepts now.slice r.event)) (replies_at now.slice r.event) now.slice
+      r.log r.event;
 }
 
 abbrev pub port_effect : Local → Record → Local

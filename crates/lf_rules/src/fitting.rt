@@ -1,9 +1,11 @@
 //! Which records a trace may have.
 
-ghost use Rattle.std.specs.Prelude.{◌≡◌, ℕ, ◌+◌, ◌<◌, ◌≤◌, ◌↔◌, ◌^◌, IsTrue, nat_lt, slice_index, slice_index_or, length, true};
+ghost use Rattle.std.specs.Prelude.{◌≡◌, ℕ, ◌+◌, ◌<◌, ◌≤◌, ◌↔◌, ◌^◌, IsTrue, nat_lt, slice_index, slice_index_or};
+ghost use Rattle.std.specs.Prelude.{length, true};
 ghost use Rattle.lf_rules.specs.Address.{clean_mask};
 ghost use Rattle.lf_rules.specs.Fits.{is_size, is_block_size, is_factor, is_of_bank, is_of_level_two, masks_len};
-ghost use Rattle.lf_rules.specs.Fits.{FitsIssue, FitsReply, FitsRequest, FitsBlock, FitsEvict, FitsSecond, FitsWideEvict};
+ghost use Rattle.lf_rules.specs.Fits.{FitsIssue, FitsReply, FitsRequest, FitsBlock, FitsEvict, FitsSecond};
+ghost use Rattle.lf_rules.specs.Fits.{FitsWideEvict};
 ghost use Rattle.lf_rules.specs.Fits.{IsData, FitsEvent, FitsBank, FitsLog, FitsRecord};
 
 use crate::division::{quotient, wide_quotient, wide_remainder};
@@ -38,49 +40,61 @@ fn is_data(len: usize, bytes: &Block) -> bool
     slice_is_data(len, bytes)
 }
 
-fn fits_block(banks: u32, factor: u32, bank: u32, block: u32) -> bool
-    requires some_bank { 0 < banks }
-    requires some_factor { 0 < factor }
-    ensures { IsTrue result ↔ FitsBlock banks factor bank block }
-{
-    is_of_bank(banks, bank, u64::from(quotient(block, factor)))
-}
-
-fn fits_second(banks: u32, factor: u32, bank: u32, second: u32) -> bool
-    requires some_bank { 0 < banks }
-    requires some_factor { 0 < factor }
-    ensures { IsTrue result ↔ FitsSecond banks factor bank second }
-{
-    u64::from(second) < wide_quotient(0x1_0000_0000, u64::from(factor))
-        && is_of_bank(banks, bank, u64::from(second))
-}
-
-fn fits_issue(
+/// The sizes that a trace has, and the bank that a record of it names.
+#[derive(Clone, Copy)]
+struct Sizes {
+    /// How many banks there are.
     banks: u32,
+    /// The bytes of a block of level one.
     block: u32,
+    /// How many of these make one of level two.
     factor: u32,
+    /// The bank that the record names.
     bank: u32,
-    op: Op,
-    tag: u8,
-    size: u8,
-    address: u64,
-    bytes: &Block,
-) -> bool
-    requires some_bank { 0 < banks }
-    requires some_block { 0 < block }
-    requires some_factor { 0 < factor }
-    ensures { IsTrue result ↔ FitsIssue banks block factor bank op tag size address bytes.now }
+}
+
+fn fits_block(sizes: Sizes, block: u32) -> bool
+    requires some_bank { 0 < sizes.banks }
+    requires some_factor { 0 < sizes.factor }
+    ensures { IsTrue result ↔ FitsBlock sizes.banks sizes.factor sizes.bank block }
+{
+    is_of_bank(
+        sizes.banks,
+        sizes.bank,
+        u64::from(quotient(block, sizes.factor)),
+    )
+}
+
+fn fits_second(sizes: Sizes, second: u32) -> bool
+    requires some_bank { 0 < sizes.banks }
+    requires some_factor { 0 < sizes.factor }
+    ensures { IsTrue result ↔ FitsSecond sizes.banks sizes.factor sizes.bank second }
+{
+    u64::from(second) < wide_quotient(0x1_0000_0000, u64::from(sizes.factor))
+        && is_of_bank(sizes.banks, sizes.bank, u64::from(second))
+}
+
+fn fits_issue(sizes: Sizes, op: Op, tag: u8, size: u8, address: u64, bytes: &Block) -> bool
+    requires some_bank { 0 < sizes.banks }
+    requires some_block { 0 < sizes.block }
+    requires some_factor { 0 < sizes.factor }
+    ensures { IsTrue result
+        ↔ FitsIssue sizes.banks sizes.block sizes.factor sizes.bank op tag size address bytes.now }
 {
     if !is_size(size) || wide_remainder(address, u64::from(size)) != 0 {
         return false;
     }
-    let number = wide_quotient(address, u64::from(block));
+    let number = wide_quotient(address, u64::from(sizes.block));
     let len = match op {
         Op::Load => 0,
         Op::Store => usize::from(size),
     };
     number < 0x1_0000_0000
-        && is_of_bank(banks, bank, wide_quotient(number, u64::from(factor)))
+        && is_of_bank(
+            sizes.banks,
+            sizes.bank,
+            wide_quotient(number, u64::from(sizes.factor)),
+        )
         && is_data(len, bytes)
 }
 
@@ -91,21 +105,13 @@ pub fn mask_fits(size: u32, mask: u64) -> bool
     size >= 64 || mask < 1 << size
 }
 
-fn fits_evict(
-    banks: u32,
-    size: u32,
-    factor: u32,
-    bank: u32,
-    block: u32,
-    mask: Mask,
-    bytes: &Block,
-) -> bool
-    requires some_bank { 0 < banks }
-    requires some_factor { 0 < factor }
-    ensures { IsTrue result ↔ FitsEvict banks size factor bank block mask.0 bytes.now }
+fn fits_evict(sizes: Sizes, block: u32, mask: Mask, bytes: &Block) -> bool
+    requires some_bank { 0 < sizes.banks }
+    requires some_factor { 0 < sizes.factor }
+    ensures { IsTrue result ↔ FitsEvict sizes.banks sizes.block sizes.factor sizes.bank block mask.0 bytes.now }
 {
-    fits_block(banks, factor, bank, block)
-        && mask_fits(size, mask.0)
+    fits_block(sizes, block)
+        && mask_fits(sizes.block, mask.0)
         && is_data(mask.0.count_ones() as usize, bytes)
 }
 
@@ -136,22 +142,14 @@ fn masks_len(masks: &Masks) -> usize
     len
 }
 
-fn fits_wide_evict(
-    banks: u32,
-    size: u32,
-    factor: u32,
-    bank: u32,
-    second: u32,
-    masks: &Masks,
-    bytes: &WideBlock,
-) -> bool
-    requires some_bank { 0 < banks }
-    requires some_factor { 0 < factor }
-    ensures { IsTrue result ↔ FitsWideEvict banks size factor bank second masks.now bytes.now }
+fn fits_wide_evict(sizes: Sizes, second: u32, masks: &Masks, bytes: &WideBlock) -> bool
+    requires some_bank { 0 < sizes.banks }
+    requires some_factor { 0 < sizes.factor }
+    ensures { IsTrue result ↔ FitsWideEvict sizes.banks sizes.block sizes.factor sizes.bank second masks.now bytes.now }
 {
-    fits_second(banks, factor, bank, second)
-        && masks.len() == factor as usize
-        && masks_fit(size, masks)
+    fits_second(sizes, second)
+        && masks.len() == sizes.factor as usize
+        && masks_fit(sizes.block, masks)
         && is_wide_data(masks_len(masks), bytes)
 }
 
@@ -161,13 +159,13 @@ fn fits_reply(size: u8, tag: u8, bytes: &Block) -> bool
     (size == 0 || is_size(size)) && is_data(usize::from(size), bytes)
 }
 
-fn fits_event(banks: u32, size: u32, factor: u32, bank: u32, event: &Event) -> bool
-    requires some_bank { 0 < banks }
-    requires some_block { 0 < size }
-    requires small_block { size ≤ 64 }
-    requires some_factor { 0 < factor }
-    requires small_factor { factor ≤ 4 }
-    ensures { IsTrue result ↔ FitsEvent banks size factor bank event.now }
+fn fits_event(sizes: Sizes, event: &Event) -> bool
+    requires some_bank { 0 < sizes.banks }
+    requires some_block { 0 < sizes.block }
+    requires small_block { sizes.block ≤ 64 }
+    requires some_factor { 0 < sizes.factor }
+    requires small_factor { sizes.factor ≤ 4 }
+    ensures { IsTrue result ↔ FitsEvent sizes.banks sizes.block sizes.factor sizes.bank event.now }
 {
     match event {
         Event::Issue {
@@ -176,7 +174,7 @@ fn fits_event(banks: u32, size: u32, factor: u32, bank: u32, event: &Event) -> b
             size: len,
             address,
             bytes,
-        } => fits_issue(banks, size, factor, bank, *op, *tag, *len, *address, bytes),
+        } => fits_issue(sizes, *op, *tag, *len, *address, bytes),
         Event::Reply {
             tag,
             size: len,
@@ -195,42 +193,35 @@ fn fits_event(banks: u32, size: u32, factor: u32, bank: u32, event: &Event) -> b
             register,
         } => is_miss(*port, *tag, *register),
         Event::Fill1 { block, bytes } => {
-            fits_block(banks, factor, bank, *block) && is_data(size as usize, bytes)
+            fits_block(sizes, *block) && is_data(sizes.block as usize, bytes)
         }
-        Event::Evict1 { block, mask, bytes } => {
-            fits_evict(banks, size, factor, bank, *block, *mask, bytes)
-        }
+        Event::Evict1 { block, mask, bytes } => { fits_evict(sizes, *block, *mask, bytes) }
         Event::Fence => true,
-        _ => fits_level_two(banks, size, factor, bank, event),
+        _ => fits_level_two(sizes, event),
     }
 }
 
-fn fits_level_two(banks: u32, size: u32, factor: u32, bank: u32, event: &Event) -> bool
-    requires some_bank { 0 < banks }
-    requires small_block { size ≤ 64 }
-    requires some_factor { 0 < factor }
-    requires small_factor { factor ≤ 4 }
+fn fits_level_two(sizes: Sizes, event: &Event) -> bool
+    requires some_bank { 0 < sizes.banks }
+    requires small_block { sizes.block ≤ 64 }
+    requires some_factor { 0 < sizes.factor }
+    requires small_factor { sizes.factor ≤ 4 }
     requires second { is_of_level_two event.now ≡ true }
-    ensures { IsTrue result ↔ FitsEvent banks size factor bank event.now }
+    ensures { IsTrue result ↔ FitsEvent sizes.banks sizes.block sizes.factor sizes.bank event.now }
 {
     match event {
-        Event::SecondHit { block } => fits_block(banks, factor, bank, *block),
-        Event::SecondPrimary { block, register } => {
-            fits_second_miss(banks, factor, bank, *block, *register)
-        }
-        Event::SecondMerge { block, register } => {
-            fits_second_miss(banks, factor, bank, *block, *register)
-        }
-        Event::SecondStall { block } => fits_block(banks, factor, bank, *block),
+        Event::SecondHit { block } => fits_block(sizes, *block),
+        Event::SecondPrimary { block, register } => { fits_second_miss(sizes, *block, *register) }
+        Event::SecondMerge { block, register } => { fits_second_miss(sizes, *block, *register) }
+        Event::SecondStall { block } => fits_block(sizes, *block),
         Event::Fill2 { block, bytes } => {
-            fits_second(banks, factor, bank, *block)
-                && is_wide_data((factor * size) as usize, bytes)
+            fits_second(sizes, *block) && is_wide_data((sizes.factor * sizes.block) as usize, bytes)
         }
         Event::Evict2 {
             block,
             masks,
             bytes,
-        } => fits_wide_evict(banks, size, factor, bank, *block, masks, bytes),
+        } => fits_wide_evict(sizes, *block, masks, bytes),
         _ => unreachable!(),
     }
 }
@@ -249,13 +240,13 @@ fn is_miss(port: u8, tag: u8, register: u16) -> bool
     true
 }
 
-fn fits_second_miss(banks: u32, factor: u32, bank: u32, block: u32, register: u16) -> bool
-    requires some_bank { 0 < banks }
-    requires some_factor { 0 < factor }
-    ensures { IsTrue result ↔ (FitsBlock banks factor bank block × (register < 0x1_0000)) }
+fn fits_second_miss(sizes: Sizes, block: u32, register: u16) -> bool
+    requires some_bank { 0 < sizes.banks }
+    requires some_factor { 0 < sizes.factor }
+    ensures { IsTrue result ↔ (FitsBlock sizes.banks sizes.factor sizes.bank block × (register < 0x1_0000)) }
 {
     let _ = register;
-    fits_block(banks, factor, bank, block)
+    fits_block(sizes, block)
 }
 
 fn fits_log(ports: u32, bank: u32, log: u32, event: &Event) -> bool
@@ -288,7 +279,13 @@ pub fn fits(ports: u32, banks: u32, block: u32, factor: u32, item: &Record) -> b
     ensures { IsTrue result ↔ FitsRecord ports banks block factor item.now }
 {
     let bank = u32::from(item.bank);
+    let sizes = Sizes {
+        banks,
+        block,
+        factor,
+        bank,
+    };
     fits_bank(banks, item.bank, item.number, &item.event)
         && fits_log(ports, bank, u32::from(item.log), &item.event)
-        && fits_event(banks, block, factor, bank, &item.event)
+        && fits_event(sizes, &item.event)
 }

@@ -2,7 +2,8 @@
 
 ghost use Rattle.lf_rules.specs.CommonOrder.{CollectedLogsAreFree};
 ghost use Rattle.lf_rules.specs.Laws.{CopyRunsAreRuns, RunsAnswerOnce, RunsAreFlat, RunsShare};
-ghost use Rattle.lf_rules.specs.Numbers.{GapsAdmitNone, InterleavingsAreNumbered, InterleavingsFit, NumberedIsOne, NumberedIsWhole};
+ghost use Rattle.lf_rules.specs.Numbers.{GapsAdmitNone, InterleavingsAreNumbered, InterleavingsFit, NumberedIsOne};
+ghost use Rattle.lf_rules.specs.Numbers.{NumberedIsWhole};
 ghost use Rattle.lf_rules.specs.Order.{EntriesKeepAlike, LogsFollow, OrdersInterleave, OrdersTakeOne, SkeletonsFollow};
 ghost use Rattle.lf_rules.specs.Outcomes.{OutcomesAreOne, RunsOrBreaks};
 ghost use Rattle.lf_rules.specs.Ring.{RingsAdmitNone};

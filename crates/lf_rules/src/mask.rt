@@ -1,6 +1,7 @@
 //! Which bytes of a block, and of each block of a second-level block.
 
-ghost use Rattle.std.specs.Prelude.{◌≡◌, ℕ, ◌+◌, ◌<◌, ◌≤◌, ◌↔◌, ◌&&◌, ◌||◌, IsTrue, true, bit_or, nat_le, nat_lt, length, slice_index};
+ghost use Rattle.std.specs.Prelude.{◌≡◌, ℕ, ◌+◌, ◌<◌, ◌≤◌, ◌↔◌, ◌&&◌, ◌||◌, IsTrue, true, bit_or, nat_le, nat_lt};
+ghost use Rattle.std.specs.Prelude.{length, slice_index};
 ghost use Rattle.lf_rules.specs.Address.{Covers, agree_off, is_under, mask_at, mask_of, overlay};
 ghost use Rattle.lf_rules.specs.Lines.{clean_masks, same_masks};
 
@@ -73,7 +74,8 @@ fn overlay_slices(old: &[u8], new: &[u8], mask: Mask) -> Block
     requires same_length { length old.now ≡ length new.now }
     requires within { length old.now ≤ 64 }
     ensures len { length result.items ≡ length old.now }
-    ensures bytes { (i : ℕ) → i < length old.now → slice_index result.items i ≡ overlay (slice_index old.now) (slice_index new.now) mask.0 i }
+    ensures bytes { (i : ℕ) → i < length old.now → slice_index result.items i
+        ≡ overlay (slice_index old.now) (slice_index new.now) mask.0 i }
 {
     let mut bytes = Block::new();
     for (i, x) in old.iter().enumerate() {
@@ -86,7 +88,8 @@ fn overlay_slices(old: &[u8], new: &[u8], mask: Mask) -> Block
 pub fn overlay(old: &Block, new: &Block, mask: Mask) -> Block
     requires { length old.now.items ≡ length new.now.items }
     ensures len { length result.items ≡ length old.now.items }
-    ensures bytes { (i : ℕ) → i < length old.now.items → slice_index result.items i ≡ overlay (slice_index old.now.items) (slice_index new.now.items) mask.0 i }
+    ensures bytes { (i : ℕ) → i < length old.now.items → slice_index result.items i
+        ≡ overlay (slice_index old.now.items) (slice_index new.now.items) mask.0 i }
 {
     overlay_slices(old, new, mask)
 }

@@ -34,7 +34,7 @@ pub fn trace_of(alloc: Global, shape: &Shape, parts: &[&str]) -> Result<Vec<u8>,
     trace_of_version(alloc, 1, shape, parts)
 }
 
-/// The same as a trace of this version.
+/// The bytes of these events of port 0 and bank 0 as a trace of this version, with a memory of zeros.
 pub fn trace_of_version(
     alloc: Global,
     version: u8,
@@ -126,7 +126,7 @@ fn put_event(to: &mut Vec<u8>, event: &Event) -> Result<(), AllocError> {
     }
 }
 
-/// The same for what names a block.
+/// Writes what an event that names a block carries.
 fn put_lines(to: &mut Vec<u8>, event: &Event) -> Result<(), AllocError> {
     match event {
         Event::SecondHit { block } | Event::SecondStall { block } => {

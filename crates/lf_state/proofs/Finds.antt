@@ -14,59 +14,79 @@ abbrev pub register_in : Option (ℕ × ℕ) → ℕ
 register_in None = 0
 register_in (Some a) = a.1
 
-pub asked_found : (asked : List (ℕ × ℕ)) (block : ℕ) → asked_register asked block ≡ register_in (find (λ a. a.0 == block) asked)
+pub asked_found : (asked : List (ℕ × ℕ)) (block : ℕ) → asked_register asked block
+    ≡ register_in (find (λ a. a.0 == block) asked)
 asked_found [] block = refl
-asked_found (a ∷ asked) block = elim (a.0 == block) as (λ b. cond b a.1 (asked_register asked block) ≡ register_in (cond b (Some a) (find (λ a. a.0 == block) asked))) [
-  | true ↦ refl
-  | false ↦ asked_found asked block
-]
+asked_found (a ∷ asked) block = elim (a.0 == block) as (λ b. cond b a.1 (asked_register asked block)
+    ≡ register_in (cond b (Some a) (find (λ a. a.0 == block) asked))) [
+      | true ↦ refl
+      | false ↦ asked_found asked block
+    ]
 
 abbrev pub IsFirstReady : List Ready → ℕ → ℕ → Option Ready → Type 0
-IsFirstReady ready port tag found = MatchOption found (list_any (is_ready_for port tag) ready ≡ false) (λ r. (list_any (is_ready_for port tag) ready ≡ true) × (r.value ≡ first_ready ready port tag))
+IsFirstReady ready port tag found = MatchOption found (list_any (is_ready_for port tag) ready ≡ false)
+    (λ r. (list_any (is_ready_for port tag) ready ≡ true) × (r.value ≡ first_ready ready port tag))
 
 pub ready_found : (ready : List Ready) (port tag : ℕ) → IsFirstReady ready port tag (find (is_ready_for port tag) ready)
 ready_found [] port tag = refl
 ready_found (r ∷ ready) port tag =
-    elim (is_ready_for port tag r) as (λ b. MatchOption (cond b (Some r) (find (is_ready_for port tag) ready)) ((b || list_any (is_ready_for port tag) ready) ≡ false)
-    (λ s. ((b || list_any (is_ready_for port tag) ready) ≡ true) × (s.value ≡ cond b r.value (first_ready ready port tag)))) [
+    elim (is_ready_for port tag r) as (λ b. MatchOption (cond b (Some r) (find (is_ready_for port tag) ready))
+    ((b || list_any (is_ready_for port tag) ready) ≡ false)
+    (λ s. ((b || list_any (is_ready_for port tag) ready) ≡ true) ×
+    (s.value ≡ cond b r.value (first_ready ready port tag)))) [
       | true ↦ (refl, refl)
       | false ↦ ready_found ready port tag
     ]
 
-pub ready_lent : (ready : List Ready) (port tag : ℕ) (found : Option (Bor Ready)) → option_copied found ≡ find (is_ready_for port tag) ready
-    → MatchOption found (list_any (is_ready_for port tag) ready ≡ false) (λ r. (list_any (is_ready_for port tag) ready ≡ true) × (r.now.value ≡ first_ready ready port tag))
-ready_lent ready port tag None e = let P : Option Ready → Type 0 = IsFirstReady ready port tag in subst P (sym e) (ready_found ready port tag)
-ready_lent ready port tag (Some r) e = let P : Option Ready → Type 0 = IsFirstReady ready port tag in subst P (sym e) (ready_found ready port tag)
+pub ready_lent : (ready : List Ready) (port tag : ℕ) (found : Option (Bor Ready)) →
+    option_copied found ≡ find (is_ready_for port tag) ready
+    → MatchOption found (list_any (is_ready_for port tag) ready ≡ false)
+    (λ r. (list_any (is_ready_for port tag) ready ≡ true) × (r.now.value ≡ first_ready ready port tag))
+ready_lent ready port tag None e = let P : Option Ready → Type 0 = IsFirstReady ready port tag in
+    subst P (sym e) (ready_found ready port tag)
+ready_lent ready port tag (Some r) e = let P : Option Ready → Type 0 = IsFirstReady ready port tag in
+    subst P (sym e) (ready_found ready port tag)
 
 -- ---- the first ready reply leaves
 
 ready_dropped : (ready : List Ready) (port tag : ℕ)
-    → take (position_or_len (is_ready_for port tag) ready) ready ++ drop (suc (position_or_len (is_ready_for port tag) ready)) ready ≡ without_ready ready port tag
+    → take (position_or_len (is_ready_for port tag) ready) ready
+    ++ drop (suc (position_or_len (is_ready_for port tag) ready)) ready ≡ without_ready ready port tag
 ready_dropped [] port tag = refl
 ready_dropped (r ∷ ready) port tag = go (is_ready_for port tag r) (ready_dropped ready port tag)
   where
-    go : (b : Bool) → take (position_or_len (is_ready_for port tag) ready) ready ++ drop (suc (position_or_len (is_ready_for port tag) ready)) ready ≡ without_ready ready port tag
+    go : (b : Bool) → take (position_or_len (is_ready_for port tag) ready) ready
+        ++ drop (suc (position_or_len (is_ready_for port tag) ready)) ready ≡ without_ready ready port tag
         → take (cond (not b) (1 + position_or_len (is_ready_for port tag) ready) 0) (r ∷ ready)
-        ++ drop (suc (cond (not b) (1 + position_or_len (is_ready_for port tag) ready) 0)) (r ∷ ready) ≡ cond b ready (r ∷ without_ready ready port tag)
+        ++ drop (suc (cond (not b) (1 + position_or_len (is_ready_for port tag) ready) 0)) (r ∷ ready)
+        ≡ cond b ready (r ∷ without_ready ready port tag)
     go true rest = refl
     go false rest =
-        let one : 1 + position_or_len (is_ready_for port tag) ready ≡ suc (position_or_len (is_ready_for port tag) ready) = omega arith in
+        let one : 1 + position_or_len (is_ready_for port tag) ready
+        ≡ suc (position_or_len (is_ready_for port tag) ready) = omega arith in
         ap (λ k. take k (r ∷ ready) ++ drop (suc k) (r ∷ ready)) one ∙ ap (λ (rs : List Ready). r ∷ rs) rest
 
-pub removed_at : (ready : List Ready) (port tag at : ℕ) → Some at ≡ position (is_ready_for port tag) ready → remove ready at ≡ without_ready ready port tag
+pub removed_at : (ready : List Ready) (port tag at : ℕ) → Some at ≡ position (is_ready_for port tag) ready →
+    remove ready at ≡ without_ready ready port tag
 removed_at ready port tag at e = go (nat_lt (position_or_len (is_ready_for port tag) ready) (length ready)) e
   where
-    go : (b : Bool) → ◌≡◌ {A = Option ℕ} (Some at) (cond b (Some (position_or_len (is_ready_for port tag) ready)) None) → remove ready at ≡ without_ready ready port tag
-    go true f = let same : at ≡ position_or_len (is_ready_for port tag) ready = cc in ap (remove ready) same ∙ ready_dropped ready port tag
+    go : (b : Bool) → ◌≡◌ {A = Option ℕ} (Some at) (cond b (Some (position_or_len (is_ready_for port tag) ready))
+        None) → remove ready at ≡ without_ready ready port tag
+    go true f = let same : at ≡ position_or_len (is_ready_for port tag) ready = cc in
+        ap (remove ready) same ∙ ready_dropped ready port tag
     go false f = absurd (cc)
 
-pub none_removed : (ready : List Ready) (port tag : ℕ) → None ≡ position (is_ready_for port tag) ready → ready ≡ without_ready ready port tag
+pub none_removed : (ready : List Ready) (port tag : ℕ) → None ≡ position (is_ready_for port tag) ready →
+    ready ≡ without_ready ready port tag
 none_removed ready port tag e = go (nat_lt (position_or_len (is_ready_for port tag) ready) (length ready)) refl e
   where
     go : (b : Bool) → nat_lt (position_or_len (is_ready_for port tag) ready) (length ready) ≡ b
-        → ◌≡◌ {A = Option ℕ} None (cond b (Some (position_or_len (is_ready_for port tag) ready)) None) → ready ≡ without_ready ready port tag
+        → ◌≡◌ {A = Option ℕ} None (cond b (Some (position_or_len (is_ready_for port tag) ready)) None) →
+        ready ≡ without_ready ready port tag
     go true e f = absurd (cc)
     go false e f =
-        let past : length ready ≤ position_or_len (is_ready_for port tag) ready = ltb-false (position_or_len (is_ready_for port tag) ready) (length ready) e in
+        let past : length ready ≤ position_or_len (is_ready_for port tag) ready =
+        ltb-false (position_or_len (is_ready_for port tag) ready) (length ready) e in
         sym (append-nil ready) ∙ ap₂ (λ (xs ys : List Ready). xs ++ ys) (sym (take_all _ ready past))
-        (sym (drop_all (suc (position_or_len (is_ready_for port tag) ready)) ready (omega arith))) ∙ ready_dropped ready port tag
+        (sym (drop_all (suc (position_or_len (is_ready_for port tag) ready)) ready (omega arith)))
+        ∙ ready_dropped ready port tag

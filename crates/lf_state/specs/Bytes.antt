@@ -1,5 +1,6 @@
 -- The bytes of a memory and of a request.
-use Rattle.std.specs.Prelude.{◌≡◌, ℕ, ◌+◌, ◌-◌, ◌==◌, ◌<◌, ◌≤◌, true, ◌&&◌, nat_eq, nat_le, nat_lt, List, [], length, slice_index, unwrap_or, if◌then◌else◌}
+use Rattle.std.specs.Prelude.{◌≡◌, ℕ, ◌+◌, ◌-◌, ◌==◌, ◌<◌, ◌≤◌, true, ◌&&◌, nat_eq, nat_le, nat_lt, List, [], length}
+use Rattle.std.specs.Prelude.{slice_index, unwrap_or, if◌then◌else◌}
 use Rattle.std.specs.Map.{lookup}
 use Rattle.lf_rules.specs.declared.shape.Shape.{Shape}
 use Rattle.lf_rules.specs.Address.{FlatMemory, bank_of}
@@ -16,7 +17,8 @@ bank_part shape bank memory block place = if bank_of shape block == bank then me
 
 -- the bytes with new ones from a place on
 abbrev pub put : (ℕ → ℕ) → ℕ → List ℕ → ℕ → ℕ
-put bytes offset new place = if nat_le offset place && nat_lt place (offset + length new) then slice_index new (place - offset) else bytes place
+put bytes offset new place = if nat_le offset place && nat_lt place (offset + length new) then slice_index new
+    (place - offset) else bytes place
 
 -- a request that lies within a block, whose store writes as many bytes as it says
 pub record IsWellSized (request : Request) : Type 0 where

@@ -3,7 +3,8 @@
 
 ghost use Rattle.std.specs.Prelude.{◌≡◌, ◌==◌, true, false, ◌∷◌, [], ◌++◌, OnOk, OnErr, MatchOption, option_copied};
 ghost use Rattle.std.specs.List.{find, list_any, position};
-ghost use Rattle.lf_rules.specs.Table.{asked_register, first_ready, is_ready_for, without, without_asked, without_ready};
+ghost use Rattle.lf_rules.specs.Table.{asked_register, first_ready, is_ready_for, without, without_asked};
+ghost use Rattle.lf_rules.specs.Table.{without_ready};
 
 use crate::request::Ready;
 use lf_rules::NoMemory;

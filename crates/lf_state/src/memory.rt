@@ -1,6 +1,7 @@
 //! Flat memory, as far as a trace names it and stores wrote it. All other bytes are zero.
 
-ghost use Rattle.std.specs.Prelude.{◌≡◌, ℕ, ◌+◌, ◌-◌, ◌/◌, ◌<◌, ◌≤◌, ◌||◌, ◌==◌, map, length, slice_index, bytes_eq, IfOk, OnOk, OnErr};
+ghost use Rattle.std.specs.Prelude.{◌≡◌, ℕ, ◌+◌, ◌-◌, ◌/◌, ◌<◌, ◌≤◌, ◌||◌, ◌==◌, map, length, slice_index, bytes_eq};
+ghost use Rattle.std.specs.Prelude.{IfOk, OnOk, OnErr};
 ghost use Rattle.std.specs.Int.{from_le_bytes, w64};
 ghost use Rattle.std.specs.List.{range_with_len, list_all, filter};
 ghost use Rattle.lf_rules.specs.Address.{agree_off, block_bytes, flat_memory, is_under, masked, wide_masked};
@@ -147,7 +148,8 @@ impl FlatMemory {
     /// The block takes these bytes from a place on.
     fn store(&mut self, block: u32, offset: usize, new: &[u8]) -> Result<(), NoMemory>
         requires { offset + length new.now ≤ 64 }
-        ensures ok { OnOk result (flat_of self.new ≡ update (flat_of self.old) block (put (flat_of self.old block) offset new.now)) }
+        ensures ok { OnOk result (flat_of self.new ≡ update (flat_of self.old) block
+            (put (flat_of self.old block) offset new.now)) }
         ensures err { OnErr result (self.new ≡ self.old) }
     {
         match self.blocks.get_mut(&block) {
@@ -278,7 +280,8 @@ fn agree_from(bytes: &[u8], stored: &Bytes, mask: u64, from: usize) -> bool
 
 fn agree_off(bytes: &[u8], stored: &Bytes, mask: u64) -> bool
     requires { length bytes.now ≤ 64 }
-    ensures { result ≡ list_all (λ i. is_under mask i || slice_index bytes.now i == slice_index stored.now i) (range_with_len 0 (length bytes.now)) }
+    ensures { result ≡ list_all (λ i. is_under mask i || slice_index bytes.now i == slice_index stored.now i)
+        (range_with_len 0 (length bytes.now)) }
 {
     // Most fills carry memory's bytes, so that whole words tell.
     let from = same_words(bytes, stored);

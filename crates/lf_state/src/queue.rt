@@ -1,6 +1,7 @@
 //! The requests of one port to one bank that are not accepted yet, the oldest first.
 
-ghost use Rattle.std.specs.Prelude.{◌≡◌, ℕ, true, false, [], ◌∷◌, ◌++◌, ◌<◌, drop, length, IfOk, OnOk, OnErr, MatchOption};
+ghost use Rattle.std.specs.Prelude.{◌≡◌, ℕ, true, false, [], ◌∷◌, ◌++◌, ◌<◌, drop, length, IfOk, OnOk, OnErr};
+ghost use Rattle.std.specs.Prelude.{MatchOption};
 ghost use Rattle.lf_rules.specs.State.{update};
 ghost use Rattle.lf_rules.specs.Table.{is_head, oldest};
 ghost use Rattle.lf_state.specs.Queues.{queue_at};
@@ -38,7 +39,8 @@ impl Queue {
 
     /// The oldest request, where it has the tag.
     pub fn head(&self, tag: u8) -> Option<&Request>
-        ensures { MatchOption result (is_head self.now tag ≡ false) (λ request. (is_head self.now tag ≡ true) × (request.now ≡ oldest self.now)) }
+        ensures { MatchOption result (is_head self.now tag ≡ false)
+            (λ request. (is_head self.now tag ≡ true) × (request.now ≡ oldest self.now)) }
     {
         let request = self.requests.front()?;
         if request.tag() == tag {
@@ -80,7 +82,8 @@ pub fn empty_queues(alloc: Global, ports: u32) -> Result<Vec<Queue>, NoMemory>
 /// The oldest request of the port, where it has the tag.
 pub fn head(queues: &[Queue], port: u8, tag: u8) -> Option<&Request>
     ensures { let queue = queue_at queues.now port in
-        MatchOption result (is_head queue tag ≡ false) (λ request. (is_head queue tag ≡ true) × (request.now ≡ oldest queue)) }
+        MatchOption result (is_head queue tag ≡ false) (λ request. (is_head queue tag ≡ true) ×
+        (request.now ≡ oldest queue)) }
 {
     let queue = queues.get(usize::from(port))?;
     queue.head(tag)
@@ -97,7 +100,8 @@ pub fn drop_head(queues: &mut [Queue], port: u8)
 /// The request joins the port's queue. `NoMemory` where the growth was refused, and nothing changes.
 pub fn enqueue(queues: &mut [Queue], port: u8, request: Request) -> Result<(), NoMemory>
     requires { port < length queues.old }
-    ensures ok { OnOk result (queue_at queues.new ≡ update (queue_at queues.old) port (queue_at queues.old port ++ request ∷ [])) }
+    ensures ok { OnOk result (queue_at queues.new ≡ update (queue_at queues.old) port
+        (queue_at queues.old port ++ request ∷ [])) }
     ensures err { OnErr result (queues.new ≡ queues.old) }
 {
     queues[usize::from(port)].push(request)

@@ -32,10 +32,26 @@ impl Model for Request {
 
     ghost Value = { model.Request };
 
-    ghost view = { λ r. record { tag = r.tag; op = r.op; block = r.block; offset = r.offset; size = r.size; bytes = r.bytes.items } };
+    ghost view = { λ r. record {
+      tag = r.tag;
+      op = r.op;
+      block = r.block;
+      offset = r.offset;
+      size = r.size;
+      bytes =
+          r.bytes.items;
+    } };
 
     ghost invariant = { λ r.
-        let request : model.Request = record { tag = r.tag; op = r.op; block = r.block; offset = r.offset; size = r.size; bytes = r.bytes.items } in
+        let request : model.Request = record {
+          tag = r.tag;
+          op = r.op;
+          block = r.block;
+          offset = r.offset;
+          size =
+              r.size;
+          bytes = r.bytes.items;
+        } in
         IsWellSized request };
 }
 
@@ -55,7 +71,7 @@ impl Model for Ready {
     ghost view = { λ r. record { port = r.port; tag = r.tag; value = r.value.items } };
 }
 
-/// The same bytes.
+/// A copy of at most eight bytes.
 pub fn data_of(bytes: &[u8]) -> Data
     requires { length bytes.now ≤ 8 }
     ensures { result.items ≡ bytes.now }
@@ -88,7 +104,7 @@ impl Request {
         }
     }
 
-    /// The same request.
+    /// A copy of the request.
     pub fn copied(&self) -> Request
         ensures { result ≡ self.now }
     {

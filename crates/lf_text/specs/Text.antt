@@ -102,7 +102,8 @@ record_text r = word_of r.event ++ head_text r ++ fields_text r.event ++ data_te
 
 abbrev pub header_text : Header → List ℕ
 header_text h =
-    codes "lfts version=" ++ decimal h.version ++ codes " ports=" ++ decimal h.ports ++ codes " banks=" ++ decimal h.banks
+    codes "lfts version=" ++ decimal h.version ++ codes " ports=" ++ decimal h.ports ++ codes " banks="
+    ++ decimal h.banks
     ++ block_field h.block ++ codes " factor=" ++ decimal h.factor ++ codes " memory=" ++ decimal h.memory_count
 
 abbrev pub memory_text : ℕ → List ℕ → List ℕ

@@ -15,4 +15,4 @@ mod tests;
 
 pub use data::Data;
 pub use line::{PlacedLine, TextLine};
-pub use record::{MaskFields, data_of};
+pub use record::{MaskFields, data_of, word_of};

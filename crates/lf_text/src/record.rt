@@ -9,7 +9,7 @@ use lf_rules::{Event, Mask, Op, Record};
 use std::fmt;
 
 /// The word of the kind of event.
-fn word_of(event: &Event) -> &'static str
+pub fn word_of(event: &Event) -> &'static str
     ensures { result.now ≡ word_of event.now }
 {
     match event {

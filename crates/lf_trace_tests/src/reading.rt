@@ -34,7 +34,7 @@ pub fn feed(reader: &mut Reader, piece: &[u8]) -> Result<(), Fail> {
     Ok(())
 }
 
-/// The same, where the records go behind these.
+/// Feeds a piece that has no fault, whose records go behind these.
 pub fn feed_into(reader: &mut Reader, piece: &[u8], records: &mut Packed) -> Result<(), Fail> {
     reader.feed_into(piece, records)?;
     Ok(())

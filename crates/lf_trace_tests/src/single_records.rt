@@ -11,10 +11,10 @@ use std::test::Fail;
 /// A header of two ports, two banks and blocks of eight bytes.
 const TWO_BANKS: &str = "4c46545301000202 0800000000000000";
 
-/// The same of version 3, with two blocks in one of level two.
+/// A header of version 3 of two ports, two banks and blocks of eight bytes, two of which make one of level two.
 const WIDE: &str = "4c46545303000202 0800020000000000";
 
-/// The same with four blocks of 64 bytes, which make the largest block of level two.
+/// A header of version 3 with four blocks of 64 bytes in one of level two, which is the largest.
 const WIDEST: &str = "4c46545303000202 4000040000000000";
 
 /// Reads a trace of this header and this one record of bank 1, also by its parts, and writes it again.
@@ -48,7 +48,7 @@ fn assert_one(
     Ok(())
 }
 
-/// The same for bytes in hex and an event in the notation.
+/// Reads and writes a record that is given by its bytes in hex and its event in the notation.
 fn assert_event(
     rt: &impl Abort,
     alloc: Global,

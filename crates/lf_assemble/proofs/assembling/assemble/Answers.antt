@@ -6,7 +6,8 @@ use Rattle.lf_assemble.proofs.assembling.assemble.Goals as goal
 pub returns-in_err-lines-clause-only : goal.returns-in_err-lines-clause-only
 returns-in_err-lines-clause-only c = λ bytes some text.
     let exact : Assembles c.from_residual.result (assembled_text c.args.text.now) = search rules in
-    fails_so c.from_residual.result (assembled_text c.args.text.now) bytes exact (ap assembled_text text ∙ some_again bytes some)
+    fails_so c.from_residual.result (assembled_text c.args.text.now) bytes exact
+    (ap assembled_text text ∙ some_again bytes some)
 
 pub returns-clause-again : goal.returns-clause-again
 returns-clause-again c = λ bytes some text.

@@ -17,7 +17,8 @@ returns-in-Ok c = λ bytes so_far.
       memory = memory;
       records = so_far.records ++ take 1 c.take_memory.new.self.records;
       read = c.drop_front.ensures.taken fed memory so_far.records second;
-      fine = ap (λ (r : Reading). r.fault) read.same ∙ taken_is_fine c.args.reader.now.fault c.feed.new.self.fault c.in-Ok.ensures.told;
+      fine = ap (λ (r : Reading). r.fault) read.same ∙ taken_is_fine c.args.reader.now.fault c.feed.new.self.fault
+          c.in-Ok.ensures.told;
     }
 
 pub returns-in_default : goal.returns-in_default

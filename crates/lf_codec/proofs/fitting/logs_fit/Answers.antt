@@ -30,15 +30,25 @@ pub returns-then-counts-log : goal.returns-then-counts-log
 returns-then-counts-log c = (
   λ no. absurd (let bad : false ≡ true = no in cc),
   λ all. absurd (
-      let fits = rw (← c.item-item.is) at (each_at (FitsIn c.args.header.now) c.args.records.now c.loop-item.item-index c.item-item.result c.loop-item-test.true c.requires.each) in
+      let fits = rw (← c.item-item.is) at (each_at (FitsIn c.args.header.now) c.args.records.now
+      c.loop-item.item-index c.item-item.result c.loop-item-test.true c.requires.each) in
       let below = log_below c.args.header.now c.item-item.result c.requires.header fits in
-      let one_more = log_len_at c.args.records.now c.loop-item.item-index c.item-item.result c.loop-item-test.true c.item-item.is in
-      omega (arith, one_more, all c.item-item.result.log, c.loop-item.invariant.counted c.item-item.result.log below, c.loop-item.invariant.same_limit, c.if-counts-log.true)),
+      let one_more = log_len_at c.args.records.now c.loop-item.item-index c.item-item.result c.loop-item-test.true
+      c.item-item.is in
+      omega (
+        arith,
+        one_more,
+        all c.item-item.result.log,
+        c.loop-item.invariant.counted c.item-item.result.log below,
+        c.loop-item.invariant.same_limit,
+        c.if-counts-log.true,
+      )),
 )
 
 pub returns : goal.returns
 returns c = (
-  λ yes. logs_within c.args.header.now c.args.records.now c.loop-item.counts c.loop-item.item-index c.requires.header c.requires.each c.loop-item-test.false
+  λ yes. logs_within c.args.header.now c.args.records.now c.loop-item.counts c.loop-item.item-index c.requires.header
+      c.requires.each c.loop-item-test.false
       c.loop-item.invariant.counted c.loop-item.invariant.limit,
   λ all. refl,
 )

@@ -8,4 +8,9 @@ pub loop-name-init : goal.loop-name-init
 loop-name-init c =
     let all : c.into_iter-name-iterator.result ≡ keys c.args.table.now = search rules in
     let known = is_known c.args.level in
-    record { can = tt; ends = tt; same = ap (first_name known) all ∙ names_of_table known c.args.table.now.entries c.keys-name-items.ensures.ordered }
+    record {
+      can = tt;
+      ends = tt;
+      same = ap (first_name known) all
+          ∙ names_of_table known c.args.table.now.entries c.keys-name-items.ensures.ordered;
+    }

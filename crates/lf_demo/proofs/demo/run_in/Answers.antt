@@ -15,13 +15,18 @@ loop-seat-preserved g c =
     let at = c.loop-seat in
     let x = c.in-Some.seat in
     let P : SeatView → Type 0 = IsNew c.args.recording.now.desk in
-    let Q : PromisedHandle Recorded RecordedBy → Type 0 = λ h. IsFor c.args.recording.now.places.shape c.args.recording.now.desk h.promise in
+    let Q : PromisedHandle Recorded RecordedBy → Type 0 = λ h. IsFor c.args.recording.now.places.shape
+    c.args.recording.now.desk h.promise in
     let steps : into_iter_items at.seat-iterator ≡ x ∷ into_iter_items c.next.new.self = c.in-Some.ensures.steps.0 in
     let promise = c.in-Ok.ensures.ok in record {
       left = All-tail P x (into_iter_items c.next.new.self) (subst (All P) steps at.invariant.left);
       promises =
           subst (All Q) (sym c.in_ok-push-in-Ok.ensures.items)
-          (All-push Q at.handles.items c.in-Ok.handle at.invariant.promises (ap (λ (p : RecordedBy). p.recording.now.places.shape) promise, ap (λ (p : RecordedBy). p.recording.now.desk) promise));
+          (All-push Q at.handles.items c.in-Ok.handle at.invariant.promises (
+            ap (λ (p : RecordedBy). p.recording.now.places.shape) promise,
+            ap
+                (λ (p : RecordedBy). p.recording.now.desk) promise,
+          ));
     }
 
 pub returns-in-Ok-join_promised : goal.returns-in-Ok-join_promised
@@ -29,6 +34,8 @@ returns-in-Ok-join_promised g c =
     let at = c.loop-seat in
     let all = c.in-Ok-join_promised.all in
     let count : at.handles.len ≡ length at.handles.items = (let ok = at.handles.ok in omega arith) in
-    let same : length all.items ≡ at.handles.len = (let ok = all.ok in let len = c.in-Ok-join_promised.ensures.len in omega arith) in
+    let same : length all.items ≡ at.handles.len = (let ok = all.ok in let len = c.in-Ok-join_promised.ensures.len in
+    omega arith) in
     each_recorded c.args.recording.now.places.shape c.args.recording.now.desk _
-    (λ p r k. k) at.handles.items at.invariant.promises at.handles.len all.items count same c.in-Ok-join_promised.ensures.each
+    (λ p r k. k) at.handles.items at.invariant.promises at.handles.len all.items count same
+    c.in-Ok-join_promised.ensures.each

@@ -16,5 +16,7 @@ loop-one-preserved c =
     let steps : into_iter_items at.one-iterator ≡ x ∷ into_iter_items c.next.new.self = c.in-Some.ensures.steps.0 in
     let own : P x = All-head P x (into_iter_items c.next.new.self) (subst (All P) steps at.invariant.left) in record {
       left = All-tail P x (into_iter_items c.next.new.self) (subst (All P) steps at.invariant.left);
-      seats = subst (All Q) (sym c.in_ok-push.ensures.items) (All-push Q at.seats.items x.seat at.invariant.seats (subst (λ o. OnOk o (Q x.seat)) c.in_ok-outcome.was own.whole));
+      seats = subst (All Q) (sym c.in_ok-push.ensures.items)
+          (All-push Q at.seats.items x.seat at.invariant.seats
+          (subst (λ o. OnOk o (Q x.seat)) c.in_ok-outcome.was own.whole));
     }

@@ -17,7 +17,12 @@ returns-in_err-tell_at_once-clause-chooses g c choice bytes out so_far =
     let kept = c.choose.ensures.choice ∙ so_far.same in
     let same = ap (λ (k : Choice). chosen_lines k all) (sym kept) ∙ rest_is mid out all holds in
     let prefix = c.in_err-tell_at_once.ensures.prefix in
-    rw is (rest_of mid, same, cut_before _ _ (string_bytes mid.text) (concat (map string_bytes mid.lines.items)) prefix.1.0 prefix.1.1)
+    rw is (
+      rest_of mid,
+      same,
+      cut_before _ _ (string_bytes mid.text) (concat (map string_bytes mid.lines.items))
+          prefix.1.0 prefix.1.1,
+    )
 
 pub returns-clause-chooses : goal.returns-clause-chooses
 returns-clause-chooses g c choice bytes out so_far =
@@ -28,6 +33,7 @@ returns-clause-chooses g c choice bytes out so_far =
     let kept = c.choose.ensures.choice ∙ so_far.same in
     let last = ap (λ (k : Choice). k.last) (sym kept) in (
       c.in_ok-enough.ensures.enough bytes so_far.shown,
-      chose choice mid c.tell_at_once.new.self _ _ c.choose.new.self out all bytes kept c.tell_at_once.ensures.choice holds shown mid.choice.last last
+      chose choice mid c.tell_at_once.new.self _ _ c.choose.new.self out all bytes kept c.tell_at_once.ensures.choice
+          holds shown mid.choice.last last
           (subst (λ (l : Option ℕ). IsToldOf l choice out bytes) last so_far.told) c.in_ok-tell_at_once.ensures.whole,
     )

@@ -17,28 +17,34 @@ returns-in_err-tell g c =
 pub returns-in_err-fault : goal.returns-in_err-fault
 returns-in_err-fault g c =
     let t = c.in_ok-choose_lines.ensures.all in
-    let told = whole_told _ _ _ _ _ _ c.args.turns _ _ t c.in_ok-choose_lines.ensures.choice c.in_ok-tell.ensures.whole in
+    let told = whole_told _ _ _ _ _ _ c.args.turns _ _ t c.in_ok-choose_lines.ensures.choice
+    c.in_ok-tell.ensures.whole in
     let none : failures_of c.tell.new.writer ≡ 0 = search (rules, c.in_ok-tell.ensures.failed) in
     let is : c.from_residual-in_err-fault.result ≡ Err Memory = search rules in
-    rw is (dumped_without_memory _ _ _ _ _ c.args.turns _ t.reads (not_some _ t.read) t.bytes t.all told (not_some _ none) refl)
+    rw is (dumped_without_memory _ _ _ _ _ c.args.turns _ t.reads (not_some _ t.read) t.bytes t.all told
+    (not_some _ none) refl)
 
 pub returns-in_err-put : goal.returns-in_err-put
 returns-in_err-put g c =
     let t = c.in_ok-choose_lines.ensures.all in
-    let told = whole_told _ _ _ _ _ _ c.args.turns _ _ t c.in_ok-choose_lines.ensures.choice c.in_ok-tell.ensures.whole in
+    let told = whole_told _ _ _ _ _ _ c.args.turns _ _ t c.in_ok-choose_lines.ensures.choice
+    c.in_ok-tell.ensures.whole in
     let is : c.from_residual-in_err-put.result ≡ Err Write = search rules in
     let text : c.as_bytes.result.now ≡ string_bytes c.close.new.self.text = search rules in
     let due : c.as_bytes.result.now ≡ closing_of t.bytes = text ∙ c.in_ok-fault.ensures.text t.bytes t.shown in
     let failed : 0 < failures_of c.put.new.writer = search (rules, c.in_err-put.ensures.failed) in
     let prefix = rw due at c.in_err-put.ensures.prefix in
-    rw is (dumped_without_closing _ _ _ _ _ c.args.turns _ t.reads (not_some _ t.read) t.bytes t.all told _ prefix.0 failed prefix.1)
+    rw is (dumped_without_closing _ _ _ _ _ c.args.turns _ t.reads (not_some _ t.read) t.bytes t.all told _ prefix.0
+    failed prefix.1)
 
 pub returns : goal.returns
 returns g c =
     let t = c.in_ok-choose_lines.ensures.all in
-    let told = whole_told _ _ _ _ _ _ c.args.turns _ _ t c.in_ok-choose_lines.ensures.choice c.in_ok-tell.ensures.whole in
+    let told = whole_told _ _ _ _ _ _ c.args.turns _ _ t c.in_ok-choose_lines.ensures.choice
+    c.in_ok-tell.ensures.whole in
     let text : c.as_bytes.result.now ≡ string_bytes c.close.new.self.text = search rules in
     let due : c.as_bytes.result.now ≡ closing_of t.bytes = text ∙ c.in_ok-fault.ensures.text t.bytes t.shown in
     let none : failures_of c.put.new.writer ≡ 0 = search (rules, c.in_ok-put.ensures.failed) in
-    dumped_whole _ _ _ _ _ c.args.turns _ t.reads (not_some _ t.read) t.bytes t.all told _ _ t.shown.read.are_bytes (not_some _ none)
+    dumped_whole _ _ _ _ _ c.args.turns _ t.reads (not_some _ t.read) t.bytes t.all told _ _ t.shown.read.are_bytes
+    (not_some _ none)
     (c.in_ok-fault.ensures.fault t.bytes t.shown) (rw due at c.in_ok-put.ensures.whole)

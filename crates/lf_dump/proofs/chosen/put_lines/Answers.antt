@@ -10,4 +10,5 @@ returns-in_err-put-clause-prefix g c =
     let text : c.as_bytes.result.now ≡ string_bytes line = search rules in
     let prefix = rw text at c.in_err-put.ensures.prefix in
     let all = ap (λ (l : List ℕ). so_far.done ++ l) (sym (first_of _ _ line c.in-Some.ensures.items)) ∙ so_far.all in
-    if_err _ _ (cut_behind _ _ _ so_far.done (string_bytes line) (concat (map string_bytes c.pop_front.new.self.items)) _ prefix.0 so_far.out prefix.1 all)
+    if_err _ _ (cut_behind _ _ _ so_far.done (string_bytes line)
+    (concat (map string_bytes c.pop_front.new.self.items)) _ prefix.0 so_far.out prefix.1 all)

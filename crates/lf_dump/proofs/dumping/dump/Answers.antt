@@ -16,4 +16,5 @@ pub returns : goal.returns
 returns g c =
     let other : c.in-Err.fault ≢ Write = search rules in
     let none : failures_of c.put.new.writer ≡ 0 = search (rules, c.in_ok-put.ensures.failed) in
-    dumped_with_line _ _ _ _ _ _ _ c.in-Err.fault c.in-Err.ensures other (not_some _ none) (rw c.stop_line.ensures at c.in_ok-put.ensures.whole)
+    dumped_with_line _ _ _ _ _ _ _ c.in-Err.fault c.in-Err.ensures other (not_some _ none)
+    (rw c.stop_line.ensures at c.in_ok-put.ensures.whole)

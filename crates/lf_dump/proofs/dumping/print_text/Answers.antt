@@ -9,7 +9,8 @@ pub returns-in_err-fault : goal.returns-in_err-fault
 returns-in_err-fault g c =
     let got = c.in_ok-print_lines.ensures in
     let is : c.from_residual-in_err-fault.result ≡ Err Memory = search rules in
-    rw is (dumped_without_memory _ _ _ _ _ c.args.turns _ got.reads (λ failed. let bad = got.read.1 failed in cc) got.all.0 got.all.2 got.all.3 (λ failed. let bad = got.write.1 failed in cc) refl)
+    rw is (dumped_without_memory _ _ _ _ _ c.args.turns _ got.reads (λ failed. let bad = got.read.1 failed in cc)
+    got.all.0 got.all.2 got.all.3 (λ failed. let bad = got.write.1 failed in cc) refl)
 
 pub returns-in_err-put : goal.returns-in_err-put
 returns-in_err-put g c =
@@ -20,7 +21,8 @@ returns-in_err-put g c =
     let due : c.as_bytes.result.now ≡ closing_of told.0 = text ∙ c.in_ok-fault.ensures.text told.0 told.1 in
     let failed : 0 < failures_of c.put.new.writer = search (rules, c.in_err-put.ensures.failed) in
     let prefix = rw due at c.in_err-put.ensures.prefix in
-    rw is (dumped_without_closing _ _ _ _ _ c.args.turns _ got.reads (λ failed. let bad = got.read.1 failed in cc) told.0 told.2 told.3 _ prefix.0 failed prefix.1)
+    rw is (dumped_without_closing _ _ _ _ _ c.args.turns _ got.reads (λ failed. let bad = got.read.1 failed in cc)
+    told.0 told.2 told.3 _ prefix.0 failed prefix.1)
 
 pub returns : goal.returns
 returns g c =
@@ -29,5 +31,6 @@ returns g c =
     let text : c.as_bytes.result.now ≡ string_bytes c.close.new.self.text = search rules in
     let due : c.as_bytes.result.now ≡ closing_of told.0 = text ∙ c.in_ok-fault.ensures.text told.0 told.1 in
     let none : failures_of c.put.new.writer ≡ 0 = search (rules, c.in_ok-put.ensures.failed) in
-    dumped_whole _ _ _ _ _ c.args.turns _ got.reads (λ failed. let bad = got.read.1 failed in cc) told.0 told.2 told.3 _ _ told.1.read.are_bytes (not_some _ none)
+    dumped_whole _ _ _ _ _ c.args.turns _ got.reads (λ failed. let bad = got.read.1 failed in cc) told.0 told.2 told.3
+    _ _ told.1.read.are_bytes (not_some _ none)
     (c.in_ok-fault.ensures.fault told.0 told.1) (rw due at c.in_ok-put.ensures.whole)

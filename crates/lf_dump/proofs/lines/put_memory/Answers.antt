@@ -16,7 +16,8 @@ loop-block-preserved c =
     let rest = c.take_memory.new.self.memory in
     let size : 4 + c.len.result ≡ length (memory_bytes (block, bytes)) =
     omega (arith, c.len.ensures.value, length-append (u32_bytes block) bytes.items, length-u32_bytes block) in
-    let put : string_bytes c.put_line.new.text ≡ string_bytes c.loop-block.text ++ placed_line (memory_text block bytes.items) c.loop-block.at = search (rules, c.deref.ensures) in
+    let put : string_bytes c.put_line.new.text ≡ string_bytes c.loop-block.text
+    ++ placed_line (memory_text block bytes.items) c.loop-block.at = search (rules, c.deref.ensures) in
     record {
       reader = c.in-Some.ensures.rest ∙ ap (λ (q : Reading). record q { memory = rest }) so_far.reader;
       lines = one_line c.loop-block.at _ (block, bytes) rest _ c.in-Some.ensures.first size _ _ _ put so_far.lines;

@@ -8,7 +8,8 @@ invariant-loop-block l = record {
   reader : l.reader ≡ record l.initial.reader { memory = l.reader.memory };
   lines : string_bytes l.text ++ lines_from l.at (map memory_part l.reader.memory)
       ≡ string_bytes l.initial.text ++ lines_from l.initial.offset (map memory_part l.initial.reader.memory);
-  end : l.at + len_of (map memory_part l.reader.memory) ≡ l.initial.offset + len_of (map memory_part l.initial.reader.memory);
+  end : l.at + len_of (map memory_part l.reader.memory) ≡ l.initial.offset
+      + len_of (map memory_part l.initial.reader.memory);
 }
 
 abbrev pub decreases-loop-block : goal.decreases-loop-block

@@ -8,7 +8,8 @@ invariant-loop-item l = record {
   reader : l.reader ≡ record l.initial.reader { records = l.reader.records };
   lines : string_bytes l.text ++ lines_from l.at (map record_part l.reader.records)
       ≡ string_bytes l.initial.text ++ lines_from l.initial.offset (map record_part l.initial.reader.records);
-  end : l.at + len_of (map record_part l.reader.records) ≡ l.initial.offset + len_of (map record_part l.initial.reader.records);
+  end : l.at + len_of (map record_part l.reader.records) ≡ l.initial.offset
+      + len_of (map record_part l.initial.reader.records);
   counted : l.count + length l.reader.records ≡ l.initial.count + length l.initial.reader.records;
 }
 

@@ -6,4 +6,5 @@ pub loop-place-preserved : goal.loop-place-preserved
 loop-place-preserved c =
     let first = c.args.first in
     let i = c.loop-place.place in
-    c.in_ok-push.ensures.items ∙ ap (λ (xs : List ℕ). xs ++ (first + i) ∷ []) c.loop-place.invariant ∙ sym (range_more first i (first + i) refl)
+    c.in_ok-push.ensures.items ∙ ap (λ (xs : List ℕ). xs ++ (first + i) ∷ []) c.loop-place.invariant
+    ∙ sym (range_more first i (first + i) refl)

@@ -23,4 +23,5 @@ returns c =
     let shape = c.args.shape.now in
     let all : c.loop-place.place ≡ shape.block = omega (arith, c.loop-place-test.false, c.loop-place.auto.place-end) in
     c.loop-place.invariant.taken
-    ∙ ap (λ n. map (λ place. c.args.block * shape.block + place) (filter (is_under c.args.mask.0) (range_with_len 0 n))) all
+    ∙ ap (λ n. map (λ place. c.args.block * shape.block + place)
+    (filter (is_under c.args.mask.0) (range_with_len 0 n))) all

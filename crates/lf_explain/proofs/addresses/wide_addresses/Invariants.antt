@@ -6,4 +6,5 @@ use Rattle.lf_explain.proofs.addresses.wide_addresses.Given as goal
 
 abbrev pub invariant-loop-place : goal.invariant-loop-place
 invariant-loop-place l = l.all.items
-    ≡ flat_map (λ place. masked_addresses l.shape (sub_block l.shape l.second place) (mask_at l.masks place)) (range_with_len 0 l.place)
+    ≡ flat_map (λ place. masked_addresses l.shape (sub_block l.shape l.second place) (mask_at l.masks place))
+    (range_with_len 0 l.place)

@@ -1,4 +1,5 @@
-use Rattle.std.proofs.Common.{◌≡◌, ℕ, ◌+◌, ◌<◌, List, ◌∙◌, length, get_or, take, drop, Option, Some, None, append-nil, sym, ap, subst, arith}
+use Rattle.std.proofs.Common.{◌≡◌, ℕ, ◌+◌, ◌<◌, List, ◌∙◌, length, get_or, take, drop, Option, Some, None, append-nil}
+use Rattle.std.proofs.Common.{sym, ap, subst, arith}
 use Rattle.std.specs.List.{AllByRecursion}
 use Rattle.lf_rules.specs.declared.event.Record.{Record}
 use Rattle.lf_rules.specs.declared.rule.Rule.{Rule}
@@ -29,7 +30,8 @@ loop-i-preserved-in_default c =
     let left = left_from rs places i None lt here in
     record {
       stands = subst (λ (xs : List Record). IsStepAfter c.loop-i.step shape memory c.args.bank xs)
-          (sym (append-nil (records_at rs (take i places))) ∙ sym (taken_more rs places i None lt here)) c.loop-i.invariant.stands;
+          (sym (append-nil (records_at rs (take i places))) ∙ sym (taken_more rs places i None lt here))
+          c.loop-i.invariant.stands;
       fit = subst (λ (xs : List Record). AllByRecursion (Fits shape) xs) left c.loop-i.invariant.fit;
       named = subst (λ (xs : List Record). AllByRecursion (λ r. r.bank ≡ c.args.bank) xs) left c.loop-i.invariant.named;
     }
@@ -46,10 +48,12 @@ loop-i-preserved c =
     let here : record_at rs (get_or places i None) ≡ Some item = c.in-Some.ensures in
     let left = left_from rs places i (Some item) lt here in
     record {
-      stands = subst (λ (xs : List Record). IsStepAfter c.apply.new.self shape memory c.args.bank xs) (sym (taken_more rs places i (Some item) lt here))
+      stands = subst (λ (xs : List Record). IsStepAfter c.apply.new.self shape memory c.args.bank xs)
+          (sym (taken_more rs places i (Some item) lt here))
           (c.in-Ok.ensures.stands shape memory c.args.bank (records_at rs (take i places)) c.loop-i.invariant.stands);
       fit = (subst (λ (xs : List Record). AllByRecursion (Fits shape) xs) left c.loop-i.invariant.fit).1;
-      named = (subst (λ (xs : List Record). AllByRecursion (λ r. r.bank ≡ c.args.bank) xs) left c.loop-i.invariant.named).1;
+      named = (subst (λ (xs : List Record). AllByRecursion (λ r. r.bank ≡ c.args.bank) xs) left
+          c.loop-i.invariant.named).1;
     }
 
 pub told-requires-clause-request : goal.told-requires-clause-request
@@ -61,11 +65,14 @@ told-requires-clause-request c =
     let lt : i < length places = c.loop-i-test.true in
     let item = c.in-Some.item.now in
     let here : record_at rs (get_or places i None) ≡ Some item = c.in-Some.ensures in
-    let fits = (subst (λ (xs : List Record). AllByRecursion (Fits shape) xs) (left_from rs places i (Some item) lt here) c.loop-i.invariant.fit).0 in
+    let fits = (subst (λ (xs : List Record). AllByRecursion (Fits shape) xs)
+    (left_from rs places i (Some item) lt here) c.loop-i.invariant.fit).0 in
     let named : c.requested-request.result ≡ requested (records_at rs (take i places)) item.log item.event =
-    c.requested-request.ensures ∙ ap (λ n. requested (records_at rs (take n places)) item.log item.event) (omega arith) in
+    c.requested-request.ensures ∙ ap (λ n. requested (records_at rs (take n places)) item.log item.event)
+    (omega arith) in
     subst (HasBlock shape) (sym named)
-    (requested_fits shape item.bank item.log (records_at rs (take i places)) item.event (all_taken (Fits shape) rs places i c.requires.fit) fits.event)
+    (requested_fits shape item.bank item.log (records_at rs (take i places)) item.event
+    (all_taken (Fits shape) rs places i c.requires.fit) fits.event)
 
 pub returns-in-Err-Rule : goal.returns-in-Err-Rule
 returns-in-Err-Rule c =
@@ -85,9 +92,11 @@ returns-in-Err-Rule c =
     let broken = c.in_ok-broken-in-Err-Rule.broken in
     let breaks = c.in-Err-Rule.ensures.broken shape memory c.args.bank before c.loop-i.invariant.stands in
     let stands : IsStepAfter c.apply.new.self shape memory c.args.bank before
-    = subst (λ (s : StepView). IsStepAfter s shape memory c.args.bank before) (sym c.in-Err-Rule.ensures.unchanged) c.loop-i.invariant.stands in
+    = subst (λ (s : StepView). IsStepAfter s shape memory c.args.bank before) (sym c.in-Err-Rule.ensures.unchanged)
+    c.loop-i.invariant.stands in
     let named : c.requested-request.result ≡ requested before item.log item.event =
-    c.requested-request.ensures ∙ ap (λ n. requested (records_at rs (take n places)) item.log item.event) (omega arith) in
+    c.requested-request.ensures ∙ ap (λ n. requested (records_at rs (take n places)) item.log item.event)
+    (omega arith) in
     let told : IsTold broken rule (requested before item.log item.event) item shape now =
     subst (λ (request : Option ℕ). IsTold broken rule request item shape now) named
     (rw c.in-Err-Rule.rule-is at (c.in_ok-broken-in-Err-Rule.ensures shape memory c.args.bank before stands)) in
@@ -96,8 +105,10 @@ returns-in-Err-Rule c =
       item = item;
       rest = rest;
       all = all;
-      breaks = subst (λ (r : Rule). BreaksAt OfBank shape (first_local memory) (records_at rs places) (length before) r) (sym told.rule)
+      breaks = subst (λ (r : Rule). BreaksAt OfBank shape (first_local memory) (records_at rs places) (length before)
+          r) (sym told.rule)
           (subst (λ (xs : List Record). BreaksAt OfBank shape (first_local memory) xs (length before) rule) (sym all)
           (breaks_longer shape (first_local memory) before item rest rule (rw c.in-Err-Rule.field-0-is at breaks)));
-      told = subst (λ (r : Rule). IsTold broken r (requested before item.log item.event) item shape now) (sym told.rule) told;
+      told = subst (λ (r : Rule). IsTold broken r (requested before item.log item.event) item shape now)
+          (sym told.rule) told;
     }

@@ -8,7 +8,8 @@ use Rattle.lf_explain.proofs.Requests.{request_small}
 use Rattle.lf_explain.proofs.broken.told.Goals as goal
 
 pub addresses_of-requires-clause-request : goal.addresses_of-requires-clause-request
-addresses_of-requires-clause-request c = request_small c.args.shape.now c.args.request c.requires.in_range.block_size c.requires.request
+addresses_of-requires-clause-request c = request_small c.args.shape.now c.args.request c.requires.in_range.block_size
+    c.requires.request
 
 pub returns : goal.returns
 returns c = λ shape memory bank rs stands.

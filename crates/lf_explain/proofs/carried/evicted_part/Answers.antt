@@ -11,4 +11,5 @@ returns c = λ shape memory bank rs stands.
     let same : c.args.shape.now ≡ shape = sym c.requires.shape ∙ stands.state.of_shape in
     let block : c.sub_block-block.result ≡ sub_block shape c.args.second c.args.place =
     c.sub_block-block.ensures ∙ ap (λ (s : Shape). sub_block s c.args.second c.args.place) same in
-    c.evicted.ensures shape memory bank rs stands ∙ (λ i. masked (block_bytes shape now.memory (block i)) (c.mask_at.ensures i))
+    c.evicted.ensures shape memory bank rs stands ∙ (λ i. masked (block_bytes shape now.memory (block i))
+    (c.mask_at.ensures i))

@@ -4,4 +4,7 @@ use Rattle.lf_explain.proofs.carried.off_mask.Goals as goal
 
 pub loop-i-preserved : goal.loop-i-preserved
 loop-i-preserved c =
-    record { read = more_read _ c.loop-i.i c.push.ensures.items c.loop-i.invariant.read c.judged_or_found.ensures; count = omega arith }
+    record {
+      read = more_read _ c.loop-i.i c.push.ensures.items c.loop-i.invariant.read c.judged_or_found.ensures;
+      count = omega arith;
+    }

@@ -6,4 +6,5 @@ use Rattle.lf_explain.proofs.carried.wide_evicted.Given as goal
 
 abbrev pub invariant-loop-place : goal.invariant-loop-place
 invariant-loop-place l = OfStep l.step (λ shape now. l.all.items
-    ≡ flat_map (λ place. masked (block_bytes shape now.memory (sub_block shape l.second place)) (mask_at l.masks place)) (range_with_len 0 l.place))
+    ≡ flat_map (λ place. masked (block_bytes shape now.memory (sub_block shape l.second place))
+    (mask_at l.masks place)) (range_with_len 0 l.place))

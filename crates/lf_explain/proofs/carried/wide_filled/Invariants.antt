@@ -7,4 +7,5 @@ use Rattle.lf_explain.proofs.carried.wide_filled.Given as goal
 
 abbrev pub invariant-loop-place : goal.invariant-loop-place
 invariant-loop-place l = OfStep l.step (λ shape now. l.all.items
-    ≡ flat_map (λ place. filled shape now (sub_block shape l.second place) (part_at shape.block l.found.items place)) (range_with_len 0 l.place))
+    ≡ flat_map (λ place. filled shape now (sub_block shape l.second place) (part_at shape.block l.found.items place))
+    (range_with_len 0 l.place))

@@ -28,5 +28,6 @@ returns-in-None c = λ shape memory bank rs stands.
     let second : second_of shape c.sub_block.result ≡ c.args.second =
     ap (λ (s : Shape). second_of s c.sub_block.result) (sym same) ∙ ap (second_of c.args.shape.now) c.sub_block.ensures
     ∙ second_of_sub c.args.shape.now c.args.second 0 (factor_some c.args.shape.now.factor c.requires.in_range.factor) in
-    let none : c.new.result ≡ no_masks = ap (λ (ms : List Mask). let masks : Masks = record { items = ms } in masks) c.new.ensures in
+    let none : c.new.result ≡ no_masks = ap (λ (ms : List Mask). let masks : Masks = record { items = ms } in masks)
+    c.new.ensures in
     none ∙ ap (λ (o : Option Masks). unwrap_or o no_masks) (sym c.in-None.is ∙ seen.line2 ∙ ap (line_at lines) second)

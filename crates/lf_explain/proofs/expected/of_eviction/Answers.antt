@@ -3,7 +3,9 @@ use Rattle.lf_explain.proofs.expected.of_eviction.Goals as goal
 
 pub returns-in_ok-due-in-Evict1 : goal.returns-in_ok-due-in-Evict1
 returns-in_ok-due-in-Evict1 c = λ shape memory bank rs stands.
-    rw c.in-Evict1.is (c.in_ok-due-in-Evict1.ensures ∙ c.deref.ensures.0 ∙ c.evicted.ensures shape memory bank rs stands)
+    rw c.in-Evict1.is (c.in_ok-due-in-Evict1.ensures ∙ c.deref.ensures.0
+    ∙ c.evicted.ensures shape memory bank rs stands)
 
 pub returns-in_ok-due-in-Evict2 : goal.returns-in_ok-due-in-Evict2
-returns-in_ok-due-in-Evict2 c = λ shape memory bank rs stands. rw c.in-Evict2.is (c.in_ok-due-in-Evict2.ensures shape memory bank rs stands)
+returns-in_ok-due-in-Evict2 c = λ shape memory bank rs stands. rw c.in-Evict2.is
+    (c.in_ok-due-in-Evict2.ensures shape memory bank rs stands)

@@ -16,14 +16,18 @@ loop-block-preserved c = λ shape memory bank rs stands.
     let same : c.args.shape.now ≡ shape = sym c.requires.shape ∙ stands.state.of_shape in
     let block = get_or blocks i 0 in
     subst (λ (xs : List ℕ). AreNamed c.push.new.self.items xs shape now) (sym (take_more blocks i 0 lt))
-    (named_more shape now c.loop-block.all.items c.push.new.self.items (take i blocks) c.named.result block (c.loop-block.invariant shape memory bank rs stands)
-    c.named.ensures.block (c.named.ensures.address ∙ ap (λ (s : Shape). block * s.block) same) (c.named.ensures.state shape memory bank rs stands)
+    (named_more shape now c.loop-block.all.items c.push.new.self.items (take i blocks) c.named.result block
+    (c.loop-block.invariant shape memory bank rs stands)
+    c.named.ensures.block (c.named.ensures.address ∙ ap (λ (s : Shape). block * s.block) same)
+    (c.named.ensures.state shape memory bank rs stands)
     c.in_ok-push.ensures.items)
 
 pub returns : goal.returns
 returns c = λ shape memory bank rs stands.
     let now = bank_after shape (first_local memory) rs in
     let blocks = c.args.blocks.now in
-    let whole : length blocks ≤ c.loop-block.block-index = omega (arith, c.loop-block-test.false, c.loop-block.auto.block-index-end) in
-    subst (λ (xs : List ℕ). AreNamed c.loop-block.all.items xs shape now) (take_all c.loop-block.block-index blocks whole)
+    let whole : length blocks ≤ c.loop-block.block-index = omega
+    (arith, c.loop-block-test.false, c.loop-block.auto.block-index-end) in
+    subst (λ (xs : List ℕ). AreNamed c.loop-block.all.items xs shape now)
+    (take_all c.loop-block.block-index blocks whole)
     (c.loop-block.invariant shape memory bank rs stands)

@@ -11,7 +11,8 @@ use Rattle.lf_join.proofs.order.join.Goals as goal
 pub ring-requires-clause-waits : goal.ring-requires-clause-waits
 ring-requires-clause-waits c =
     let heads = c.in_ok-merged.merged.1 in
-    all_wait (skeleton_lists c.args.skeletons.now) c.in_ok-merged.merged.0.items heads.places heads.next c.in_ok-merged.ensures.is_at c.requires.whole c.in_ok-merged.ensures.nothing_goes
+    all_wait (skeleton_lists c.args.skeletons.now) c.in_ok-merged.merged.0.items heads.places heads.next
+    c.in_ok-merged.ensures.is_at c.requires.whole c.in_ok-merged.ensures.nothing_goes
 
 pub returns-in-Some-clause-ring : goal.returns-in-Some-clause-ring
 returns-in-Some-clause-ring c =
@@ -21,7 +22,8 @@ returns-in-Some-clause-ring c =
     let first = c.in-Some.ensures in
     let ring = c.ring.ensures in
     subst (λ (knots : List Knot). IsStuckRing L knots) (sym ring.2)
-    (is_stuck_ring L c.in_ok-merged.merged.0.items heads.places heads.next m.is_at c.requires.whole m.nothing_goes c.in-Some.start ring.0 ring.1 first.1 first.2)
+    (is_stuck_ring L c.in_ok-merged.merged.0.items heads.places heads.next m.is_at c.requires.whole m.nothing_goes
+    c.in-Some.start ring.0 ring.1 first.1 first.2)
 
 pub returns-in-Some-clause-shown : goal.returns-in-Some-clause-shown
 returns-in-Some-clause-shown c =
@@ -30,10 +32,12 @@ returns-in-Some-clause-shown c =
     let m = c.in_ok-merged.ensures in
     let ring = c.ring.ensures in
     subst (λ (knots : List Knot). IsRing L knots) (sym ring.2)
-    (is_ring L c.in_ok-merged.merged.0.items heads.places heads.next m.is_at c.requires.whole m.nothing_goes c.in-Some.start ring.0 ring.1)
+    (is_ring L c.in_ok-merged.merged.0.items heads.places heads.next m.is_at c.requires.whole m.nothing_goes
+    c.in-Some.start ring.0 ring.1)
 
 pub returns-in-Some-clause-none : goal.returns-in-Some-clause-none
 returns-in-Some-clause-none c =
     let heads = c.in_ok-merged.merged.1 in
-    let some_entry = some_there (next_entry (skeleton_lists c.args.skeletons.now) heads.places c.in-Some.start) c.in-Some.ensures.1 in
+    let some_entry = some_there (next_entry (skeleton_lists c.args.skeletons.now) heads.places c.in-Some.start)
+    c.in-Some.ensures.1 in
     c.in_ok-merged.ensures.none c.in-Some.start some_entry.0 some_entry.1

@@ -14,9 +14,11 @@ loop-i-preserved c =
     let same : pushed ≡ both_at c.args.masks.now.items c.args.others.now.items c.loop-i.i =
     (λ i. record { 0 = bit_or (get_or (c.deref.ensures.0 i) c.loop-i.i clean_mask).0 (c.mask_at.ensures i) }) in
     record {
-      items = c.push.ensures.items ∙ ap₂ (λ (xs : List Mask) (m : Mask). xs ++ m ∷ []) c.loop-i.invariant.items same ∙ sym more;
+      items = c.push.ensures.items ∙ ap₂ (λ (xs : List Mask) (m : Mask). xs ++ m ∷ []) c.loop-i.invariant.items same
+          ∙ sym more;
       count = search rules;
     }
 
 pub returns : goal.returns
-returns c = c.loop-i.invariant.items ∙ joined_all c.args.masks.now.items c.args.others.now.items c.loop-i.i (omega arith)
+returns c = c.loop-i.invariant.items ∙ joined_all c.args.masks.now.items c.args.others.now.items c.loop-i.i
+    (omega arith)

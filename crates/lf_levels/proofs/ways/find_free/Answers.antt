@@ -5,7 +5,8 @@ use Rattle.lf_levels.proofs.ways.find_free.Goals as goal
 
 pub returns-in-Some : goal.returns-in-Some
 returns-in-Some g c =
-    let found = part-finds is_free c.args.rows.now c.args.row c.args.ways None c.requires c.in-Some.way (sym c.in-Some.ensures) in
+    let found = part-finds is_free c.args.rows.now c.args.row c.args.ways None c.requires c.in-Some.way
+    (sym c.in-Some.ensures) in
     (omega arith, omega (arith, found.0), found.1)
 
 pub returns-in-None : goal.returns-in-None

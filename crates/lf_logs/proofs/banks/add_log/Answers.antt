@@ -20,8 +20,10 @@ loop-item-preserved-then-bank-len c =
       placed = λ count seen was.
           let before = c.loop-item.banks.items in
           let parts = c.loop-item.invariant.placed count seen was in
-          let long : length before ≡ count = sym (length-map before (λ (v : Vec Record). v.items)) ∙ ap length parts ∙ length-parts_of (λ r. r.bank) count (seen ++ c.loop-item.yielded) in
-          parts ∙ parts_of-outside (λ r. r.bank) count (seen ++ c.loop-item.yielded) item (omega (arith, long, c.if-bank-len.true, c.from-bank.ensures, c.len.ensures, c.loop-item.banks.ok.0))
+          let long : length before ≡ count = sym (length-map before (λ (v : Vec Record). v.items)) ∙ ap length parts
+          ∙ length-parts_of (λ r. r.bank) count (seen ++ c.loop-item.yielded) in
+          parts ∙ parts_of-outside (λ r. r.bank) count (seen ++ c.loop-item.yielded) item
+          (omega (arith, long, c.if-bank-len.true, c.from-bank.ensures, c.len.ensures, c.loop-item.banks.ok.0))
           ∙ ap (banks_of count) (append_assoc seen c.loop-item.yielded (item ∷ []));
     }
 
@@ -32,7 +34,15 @@ loop-item-preserved c =
     let before = c.loop-item.banks.items in
     let new = c.push.new.self in
     let split = ap (λ (xs : List Record). c.loop-item.yielded ++ xs) (sym rest.0) ∙ c.loop-item.invariant.left in
-    let inside : item.bank < length c.args.banks.now.items = omega (arith, c.if-bank-len.false, c.from-bank.ensures, c.len.ensures, c.loop-item.banks.ok.0, c.loop-item.invariant.len) in
+    let inside : item.bank < length c.args.banks.now.items =
+    omega (
+      arith,
+      c.if-bank-len.false,
+      c.from-bank.ensures,
+      c.len.ensures,
+      c.loop-item.banks.ok.0,
+      c.loop-item.invariant.len,
+    ) in
     let pushed : new.items ≡ c.index_mut.result.now.items ++ item ∷ [] = c.in_ok-push.ensures.items in
     record {
       can_next = tt;
@@ -41,8 +51,10 @@ loop-item-preserved c =
       len = length-set before c.from-bank.result new ∙ c.loop-item.invariant.len;
       placed = λ count seen was.
           let parts = c.loop-item.invariant.placed count seen was in
-          let long : length before ≡ count = sym (length-map before (λ (v : Vec Record). v.items)) ∙ ap length parts ∙ length-parts_of (λ r. r.bank) count (seen ++ c.loop-item.yielded) in
-          placed (λ r. r.bank) before count (seen ++ c.loop-item.yielded) item c.from-bank.result c.index_mut.result.now new c.from-bank.ensures
+          let long : length before ≡ count = sym (length-map before (λ (v : Vec Record). v.items)) ∙ ap length parts
+          ∙ length-parts_of (λ r. r.bank) count (seen ++ c.loop-item.yielded) in
+          placed (λ r. r.bank) before count (seen ++ c.loop-item.yielded) item c.from-bank.result
+          c.index_mut.result.now new c.from-bank.ensures
           (omega (arith, inside, long, c.loop-item.invariant.len)) parts c.index_mut.ensures.value pushed
           ∙ ap (banks_of count) (append_assoc seen c.loop-item.yielded (item ∷ []));
     }

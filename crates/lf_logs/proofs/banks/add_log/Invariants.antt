@@ -11,5 +11,6 @@ invariant-loop-item l = record {
   finite : (goal.iterator-loop-item).is_finite l.item-iterator;
   left : l.yielded ++ into_iter_items l.item-iterator ≡ l.fn.log.items;
   len : length l.banks.items ≡ length l.fn.banks.items;
-  placed : (count : ℕ) (seen : List Record) → lists_of l.fn.banks ≡ banks_of count seen → lists_of l.banks ≡ banks_of count (seen ++ l.yielded);
+  placed : (count : ℕ) (seen : List Record) → lists_of l.fn.banks ≡ banks_of count seen →
+      lists_of l.banks ≡ banks_of count (seen ++ l.yielded);
 }

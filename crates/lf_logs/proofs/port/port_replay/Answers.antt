@@ -6,12 +6,14 @@ use Rattle.lf_logs.proofs.port.port_replay.Goals as goal
 
 pub loop-at-init : goal.loop-at-init
 loop-at-init c memory =
-    GoesOn-start c.args.shape.now (first_local memory) (with_tags (first_local memory) c.new-tags.result.owed_by) c.args.records.now (c.new-tags.ensures (first_local memory))
+    GoesOn-start c.args.shape.now (first_local memory) (with_tags (first_local memory) c.new-tags.result.owed_by)
+    c.args.records.now (c.new-tags.ensures (first_local memory))
 
 pub returns-in-Some-clause-outcome : goal.returns-in-Some-clause-outcome
 returns-in-Some-clause-outcome c memory =
     let now = with_tags (first_local memory) c.loop-at.tags.owed_by in
-    GoesOn-broken c.args.shape.now (first_local memory) now c.args.records.now c.loop-at.at c.index-records-at.result c.in-Some.rule
+    GoesOn-broken c.args.shape.now (first_local memory) now c.args.records.now c.loop-at.at c.index-records-at.result
+    c.in-Some.rule
     (c.loop-at.invariant memory) (omega arith) c.index-records-at.is (c.in-Some.ensures (first_local memory))
 
 pub loop-at-preserved : goal.loop-at-preserved
@@ -19,8 +21,10 @@ loop-at-preserved c memory =
     let now = with_tags (first_local memory) c.loop-at.tags.owed_by in
     let next = with_tags (first_local memory) c.update.new.self.owed_by in
     GoesOn-more c.args.shape.now (first_local memory) now next c.args.records.now c.loop-at.at c.index-records-at.result
-    (c.loop-at.invariant memory) (omega arith) c.index-records-at.is (c.in_default.ensures (first_local memory)) (c.update.ensures (first_local memory))
+    (c.loop-at.invariant memory) (omega arith) c.index-records-at.is (c.in_default.ensures (first_local memory))
+    (c.update.ensures (first_local memory))
 
 pub returns-clause-outcome : goal.returns-clause-outcome
 returns-clause-outcome c memory =
-    GoesOn-all c.args.shape.now (first_local memory) (with_tags (first_local memory) c.loop-at.tags.owed_by) c.args.records.now c.loop-at.at (c.loop-at.invariant memory) (omega arith)
+    GoesOn-all c.args.shape.now (first_local memory) (with_tags (first_local memory) c.loop-at.tags.owed_by)
+    c.args.records.now c.loop-at.at (c.loop-at.invariant memory) (omega arith)

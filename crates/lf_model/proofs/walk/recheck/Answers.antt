@@ -21,5 +21,7 @@ returns c =
     let shape = c.args.shape.now in
     let memory = flat_memory c.args.memory.now.items in
     let logs = lists_of c.args.logs.now in
-    if_ok_more (λ (answer : Recheck). answer ≡ walked c.in_ok-walk.walk logs 0 c.args.order.now) (IsRecheck shape memory logs c.args.order.now) c.follow.result
-    (λ answer e. recheck_tells shape memory logs c.args.order.now answer c.requires.named (e ∙ c.in_ok-walk.ensures.answer c.args.order.now)) c.follow.ensures
+    if_ok_more (λ (answer : Recheck). answer ≡ walked c.in_ok-walk.walk logs 0 c.args.order.now)
+    (IsRecheck shape memory logs c.args.order.now) c.follow.result
+    (λ answer e. recheck_tells shape memory logs c.args.order.now answer c.requires.named
+    (e ∙ c.in_ok-walk.ensures.answer c.args.order.now)) c.follow.ensures

@@ -5,4 +5,5 @@ use Rattle.lf_parse.proofs.field.masks.Given as goal
 
 abbrev pub invariant-loop : goal.invariant-loop
 invariant-loop l =
-    (with_front l.masks.items (masks_at (4 - l.counter) l.rest) ≡ masks_at 4 l.text) × (length l.masks.items ≡ l.counter)
+    (with_front l.masks.items (masks_at (4 - l.counter) l.rest) ≡ masks_at 4 l.text) ×
+    (length l.masks.items ≡ l.counter)

@@ -6,12 +6,14 @@ use Rattle.lf_parse.proofs.line.read_line.Goals as goal
 
 pub returns-in-Ok-clause-again : goal.returns-in-Ok-clause-again
 returns-in-Ok-clause-again c = λ line rest fits behind text.
-    let read = c.line_from.ensures ∙ ap (line_from c.args.ports c.args.defaults.now) (c.without_blanks.ensures ∙ ap without_blanks text) in
+    let read = c.line_from.ensures ∙ ap (line_from c.args.ports c.args.defaults.now)
+    (c.without_blanks.ensures ∙ ap without_blanks text) in
     let again = read ∙ line_again c.args.ports c.args.defaults.now line rest fits behind in
     ap (λ l. Ok l) (same_line c.in-Ok.line line (sym c.in-Ok.is ∙ again))
 
 pub returns-in-Err-clause-again : goal.returns-in-Err-clause-again
 returns-in-Err-clause-again c = λ line rest fits behind text.
-    let read = c.line_from.ensures ∙ ap (line_from c.args.ports c.args.defaults.now) (c.without_blanks.ensures ∙ ap without_blanks text) in
+    let read = c.line_from.ensures ∙ ap (line_from c.args.ports c.args.defaults.now)
+    (c.without_blanks.ensures ∙ ap without_blanks text) in
     let again = read ∙ line_again c.args.ports c.args.defaults.now line rest fits behind in
     absurd (no_fault line c.in-Err.lack (sym again ∙ c.in-Err.is))

@@ -4,4 +4,8 @@ use Rattle.lf_rules.specs.Fits.{Fits}
 use Rattle.lf_part_tests.proofs.rechecks.log_is_sound.Given as goal
 
 abbrev pub invariant-loop-item : goal.invariant-loop-item
-invariant-loop-item l = record { fits : All (Fits l.shape) (take l.item-index l.records); named : All (λ r. r.log ≡ l.log) (take l.item-index l.records) }
+invariant-loop-item l = record {
+  fits : All (Fits l.shape) (take l.item-index l.records);
+  named : All
+      (λ r. r.log ≡ l.log) (take l.item-index l.records);
+}

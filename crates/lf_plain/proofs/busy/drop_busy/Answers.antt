@@ -6,4 +6,5 @@ use Rattle.lf_plain.proofs.busy.drop_busy.Goals as goal
 
 pub returns : goal.returns
 returns c =
-    ap busy_of (filter_same _ (is_other c.args.port c.args.tag) _ (λ x b f' k. search rules) _ _ c.retain.ensures.filtered) ∙ busy_dropped c.args.port c.args.tag c.args.busy.now.items
+    ap busy_of (filter_same _ (is_other c.args.port c.args.tag) _ (λ x b f' k. search rules) _ _
+    c.retain.ensures.filtered) ∙ busy_dropped c.args.port c.args.tag c.args.busy.now.items

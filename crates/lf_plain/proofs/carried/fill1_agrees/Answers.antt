@@ -9,5 +9,7 @@ use Rattle.lf_plain.proofs.carried.fill1_agrees.Goals as goal
 pub returns : goal.returns
 returns c =
     let shape = c.args.shape.now in
-    let stores = c.store_bytes.ensures ∙ ap (λ (w : List (Held Missed)). store_bytes w c.args.block) c.deref-2.ensures.value in
-    c.agrees_off.ensures ∙ (λ i. agree_off shape.block (c.deref.ensures.0 i) (block_bytes shape (flat_of c.args.memory.now) c.args.block) (stores i))
+    let stores = c.store_bytes.ensures ∙ ap (λ (w : List (Held Missed)). store_bytes w c.args.block)
+    c.deref-2.ensures.value in
+    c.agrees_off.ensures ∙ (λ i. agree_off shape.block (c.deref.ensures.0 i)
+    (block_bytes shape (flat_of c.args.memory.now) c.args.block) (stores i))

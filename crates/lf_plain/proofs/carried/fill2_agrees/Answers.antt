@@ -8,14 +8,17 @@ use Rattle.lf_rules.proofs.Masks.{not_all}
 use Rattle.lf_plain.proofs.carried.fill2_agrees.Goals as goal
 
 pub returns : goal.returns
-returns c = sym (all_range _ 0 c.args.shape.now.factor (λ i le lt. c.loop-place.invariant i (omega (arith, lt, c.loop-place-test.false))))
+returns c = sym (all_range _ 0 c.args.shape.now.factor (λ i le lt. c.loop-place.invariant i
+    (omega (arith, lt, c.loop-place-test.false))))
 
 pub returns-then-not-part_agrees : goal.returns-then-not-part_agrees
-returns-then-not-part_agrees c = not_all _ 0 c.args.shape.now.factor c.loop-place.place (omega arith) (omega (arith, c.loop-place-test.true)) (sym c.if-not-part_agrees.true ∙ c.part_agrees.ensures)
+returns-then-not-part_agrees c = not_all _ 0 c.args.shape.now.factor c.loop-place.place (omega arith)
+    (omega (arith, c.loop-place-test.true)) (sym c.if-not-part_agrees.true ∙ c.part_agrees.ensures)
 
 pub loop-place-preserved : goal.loop-place-preserved
 loop-place-preserved c = λ k lt.
-    let agree : ℕ → Bool = λ p. agree_off c.args.shape.now.block (part_at c.args.shape.now.block c.args.bytes.now.items p)
+    let agree : ℕ → Bool = λ p. agree_off c.args.shape.now.block
+    (part_at c.args.shape.now.block c.args.bytes.now.items p)
     (block_bytes c.args.shape.now (flat_of c.args.memory.now) (sub_block c.args.shape.now c.args.second p))
     (store_bytes c.args.slice.now.waiting.items (sub_block c.args.shape.now c.args.second p)) in
     (elim (cases_eq k c.loop-place.place) [

@@ -4,4 +4,5 @@ use Rattle.lf_rules.specs.Table.{reply_of}
 use Rattle.lf_plain.proofs.effect.add_replies.Given as goal
 
 abbrev pub invariant-loop-held : goal.invariant-loop-held
-invariant-loop-held l = l.ready.items ≡ l.initial.ready.items ++ map reply_of (targets_of (take l.held-index l.waiting) l.block)
+invariant-loop-held l = l.ready.items ≡ l.initial.ready.items
+    ++ map reply_of (targets_of (take l.held-index l.waiting) l.block)

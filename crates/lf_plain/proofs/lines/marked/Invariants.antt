@@ -4,4 +4,8 @@ use Rattle.lf_rules.specs.Lines.{marked}
 use Rattle.lf_plain.proofs.lines.marked.Given as goal
 
 abbrev pub invariant-loop-i : goal.invariant-loop-i
-invariant-loop-i l = record { items : l.new.items ≡ take l.i (marked l.masks l.place l.mask).items; count : array_vec_len l.new ≡ l.i }
+invariant-loop-i l = record {
+  items : l.new.items ≡ take l.i (marked l.masks l.place l.mask).items;
+  count :
+      array_vec_len l.new ≡ l.i;
+}

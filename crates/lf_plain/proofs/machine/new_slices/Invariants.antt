@@ -5,4 +5,9 @@ use Rattle.lf_plain.specs.Plain.{IsSliceFramed, slices_of}
 use Rattle.lf_plain.proofs.machine.new_slices.Given as goal
 
 abbrev pub invariant-loop : goal.invariant-loop
-invariant-loop l = record { count : length l.slices.items ≡ l.counter; framed : All (IsSliceFramed l.shape) l.slices.items; empty : (bank : ℕ) → slices_of l.slices.items bank ≡ empty_slice }
+invariant-loop l = record {
+  count : length l.slices.items ≡ l.counter;
+  framed : All (IsSliceFramed l.shape)
+      l.slices.items;
+  empty : (bank : ℕ) → slices_of l.slices.items bank ≡ empty_slice;
+}

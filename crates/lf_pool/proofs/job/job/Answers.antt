@@ -12,7 +12,8 @@ returns-then-number-ports c =
     let jobs = c.args.jobs.now in
     let is_port = c.if-number-ports.true in
     let there : c.args.number < length jobs.logs.items = (let n = c.requires.ready.logs in omega arith) in
-    let log : c.deref.result.now ≡ log_at (lists_of jobs.logs) c.args.number = c.deref.ensures.value ∙ ap (λ (v : Vec Record). v.items) c.index.ensures
+    let log : c.deref.result.now ≡ log_at (lists_of jobs.logs) c.args.number =
+    c.deref.ensures.value ∙ ap (λ (v : Vec Record). v.items) c.index.ensures
     ∙ sym (list_of jobs.logs c.args.number c.index.result.now there) in record {
       port = λ lt. subst (λ rs. IsPortOutcome jobs.shape rs c.port_replay.result) log c.port_replay.ensures.outcome;
       port_memory = λ lt. c.port_replay.ensures.memory;

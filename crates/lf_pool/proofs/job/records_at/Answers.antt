@@ -13,7 +13,8 @@ loop-place-preserved c =
     let was = at.invariant.count in record {
       records =
           record_more
-          (lists_of c.args.logs.now) c.args.places.now at.place-index none at.records.items c.push_reserved.new.self.items c.record_at.result
+          (lists_of c.args.logs.now) c.args.places.now at.place-index none at.records.items
+          c.push_reserved.new.self.items c.record_at.result
           c.loop-place-test.true at.invariant.records c.push_reserved.ensures.items c.record_at.ensures;
       count = omega arith;
       room = (let room = at.invariant.room in let cap = c.push_reserved.ensures.capacity in omega arith);

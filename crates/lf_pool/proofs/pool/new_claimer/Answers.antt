@@ -10,5 +10,6 @@ split_seat-seat-requires c =
     let seat = c.args.keeper.now in (
       c.requires.table.0,
       c.requires.table.1,
-      subst (λ (me : Mine). Splits (AreClaimed shared.key) seat.id me.0 (one_more me.0) (next_worker me.0)) (sym c.requires.made.0) (opens shared.key seat.id c.args.number [] c.requires.made.1),
+      subst (λ (me : Mine). Splits (AreClaimed shared.key) seat.id me.0 (one_more me.0) (next_worker me.0))
+          (sym c.requires.made.0) (opens shared.key seat.id c.args.number [] c.requires.made.1),
     )

@@ -1,4 +1,5 @@
-use Rattle.std.proofs.Common.{◌≡◌, ◌≤◌, ℕ, List, [], ◌∷◌, length, set, Option, Some, sym, ap, ◌∙◌, refl, arith, append_assoc, append-nil}
+use Rattle.std.proofs.Common.{◌≡◌, ◌≤◌, ℕ, List, [], ◌∷◌, length, set, Option, Some, sym, ap, ◌∙◌, refl, arith}
+use Rattle.std.proofs.Common.{append_assoc, append-nil}
 use Rattle.std.specs.Vec.Iter.{into_iter_items}
 use Rattle.std.proofs.lemmas.List.{set_past}
 use Rattle.lf_rules.specs.declared.outcome.Outcome.{Outcome}
@@ -10,10 +11,13 @@ pub loop-number-preserved-then-number-len : goal.loop-number-preserved-then-numb
 loop-number-preserved-then-number-len c =
     let at = c.loop-number in
     let p : ℕ × Outcome = (c.in-Some.number, c.in-Some.outcome) in
-    let steps : into_iter_items at.number-iterator ≡ p ∷ into_iter_items c.next.new.self = c.in-Some.ensures.steps.0 in record {
+    let steps : into_iter_items at.number-iterator ≡ p ∷ into_iter_items c.next.new.self =
+    c.in-Some.ensures.steps.0 in record {
       rest = append_assoc at.yielded (p ∷ []) _ ∙ rw (← steps) at.invariant.rest;
-      left = (let was = at.invariant.left in let gone = c.in-Some.ensures.steps.1 in let short = ap length steps in omega arith);
-      placed = ap (λ (l : List (Option Outcome)). set l c.in-Some.number (Some c.in-Some.outcome)) at.invariant.placed ∙ sym (put_all_snoc c.args.outcomes.now.items at.yielded p);
+      left = (let was = at.invariant.left in let gone = c.in-Some.ensures.steps.1 in let short = ap length steps in
+          omega arith);
+      placed = ap (λ (l : List (Option Outcome)). set l c.in-Some.number (Some c.in-Some.outcome)) at.invariant.placed
+          ∙ sym (put_all_snoc c.args.outcomes.now.items at.yielded p);
     }
 
 pub loop-number-preserved : goal.loop-number-preserved
@@ -22,10 +26,13 @@ loop-number-preserved c =
     let p : ℕ × Outcome = (c.in-Some.number, c.in-Some.outcome) in
     let steps : into_iter_items at.number-iterator ≡ p ∷ into_iter_items c.next.new.self = c.in-Some.ensures.steps.0 in
     let first : List (Option Outcome) = c.args.outcomes.now.items in
-    let long : length (put_all first at.yielded) ≤ c.in-Some.number = (let same = ap length at.invariant.placed in let ok = at.outcomes.ok in omega arith) in record {
+    let long : length (put_all first at.yielded) ≤ c.in-Some.number =
+    (let same = ap length at.invariant.placed in let ok = at.outcomes.ok in omega arith) in record {
       rest = append_assoc at.yielded (p ∷ []) _ ∙ rw (← steps) at.invariant.rest;
-      left = (let was = at.invariant.left in let gone = c.in-Some.ensures.steps.1 in let short = ap length steps in omega arith);
-      placed = at.invariant.placed ∙ (sym (set_past (put_all first at.yielded) c.in-Some.number (Some c.in-Some.outcome) long) ∙ sym (put_all_snoc first at.yielded p));
+      left = (let was = at.invariant.left in let gone = c.in-Some.ensures.steps.1 in let short = ap length steps in
+          omega arith);
+      placed = at.invariant.placed ∙ (sym (set_past (put_all first at.yielded) c.in-Some.number
+          (Some c.in-Some.outcome) long) ∙ sym (put_all_snoc first at.yielded p));
     }
 
 nothing_left : {X : Type 0} (l : List X) → length l ≡ 0 → l ≡ []

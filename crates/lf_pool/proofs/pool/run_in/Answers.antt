@@ -14,7 +14,8 @@ pub loop-claimer-preserved : goal.loop-claimer-preserved
 loop-claimer-preserved g c =
     let at = c.loop-claimer in
     let x = c.in-Some.claimer in
-    let Q : PromisedHandle Worked (WorkedBy g.row.P.Denot) → Type 0 = λ h. IsFor c.args.jobs.now c.args.shared.now.table_id h.promise in
+    let Q : PromisedHandle Worked (WorkedBy g.row.P.Denot) → Type 0 =
+    λ h. IsFor c.args.jobs.now c.args.shared.now.table_id h.promise in
     let P : Claimer → Type 0 = IsClaimer c.args.shared.now.table_id in
     let steps : into_iter_items at.claimer-iterator ≡ x ∷ into_iter_items c.next.new.self = c.in-Some.ensures.steps.0 in
     let short = ap length steps in
@@ -25,7 +26,11 @@ loop-claimer-preserved g c =
       count = (let was = at.invariant.count in omega arith);
       room = (let was = at.invariant.room in let cap = c.push_reserved.ensures.capacity in omega arith);
       promises = subst (All Q) (sym c.push_reserved.ensures.items)
-          (All-push Q at.handles.items c.in-Ok.handle at.invariant.promises (ap (λ (p : WorkedBy g.row.P.Denot). p.jobs.now) c.in-Ok.ensures.ok, ap (λ (p : WorkedBy g.row.P.Denot). p.shared.now.table_id) c.in-Ok.ensures.ok));
+          (All-push Q at.handles.items c.in-Ok.handle at.invariant.promises (
+            ap (λ (p : WorkedBy g.row.P.Denot). p.jobs.now) c.in-Ok.ensures.ok,
+            ap
+                (λ (p : WorkedBy g.row.P.Denot). p.shared.now.table_id) c.in-Ok.ensures.ok,
+          ));
     }
 
 nothing_left : {X : Type 0} (l : List X) → length l ≡ 0 → l ≡ []
@@ -41,11 +46,14 @@ returns-clause-worked g c =
     let all : List Worked = c.in_ok-all.all.items in
     let items : c.push.new.self.items ≡ all ++ c.work-own.result ∷ [] = c.in_ok-push.ensures.items in
     let count : at.handles.len ≡ length at.handles.items = (let ok = at.handles.ok in omega arith) in
-    let same : length all ≡ at.handles.len = (let ok = c.in_ok-all.all.ok in let len = c.in_ok-all.ensures.len in omega arith) in
+    let same : length all ≡ at.handles.len = (let ok = c.in_ok-all.all.ok in let len = c.in_ok-all.ensures.len in
+    omega arith) in
     let was = at.invariant.count in
     let left = at.invariant.left in
     let long = length-append all (c.work-own.result ∷ []) in (
       (ap length items ∙ omega arith),
-      subst (All (IsWorked g.P.Replays.may_give jobs table)) (sym items) (All-push (IsWorked g.P.Replays.may_give jobs table) all c.work-own.result
-          (each_worked g.P.Replays.may_give jobs table _ (λ p r k. k) at.handles.items at.invariant.promises at.handles.len all count same c.in_ok-all.ensures.each) c.work-own.ensures),
+      subst (All (IsWorked g.P.Replays.may_give jobs table)) (sym items)
+          (All-push (IsWorked g.P.Replays.may_give jobs table) all c.work-own.result
+          (each_worked g.P.Replays.may_give jobs table _ (λ p r k. k) at.handles.items at.invariant.promises
+          at.handles.len all count same c.in_ok-all.ensures.each) c.work-own.ensures),
     )

@@ -18,13 +18,15 @@ join_seat-requires g c =
     let x = c.in-Some.one in
     let P : Worked → Type 0 = IsWorked g.P.Replays.may_give c.args.jobs.now shared.table_id in
     let steps : into_iter_items at.one-iterator ≡ x ∷ into_iter_items c.next.new.self = c.in-Some.ensures.steps.0 in
-    let own : IsWorked g.P.Replays.may_give c.args.jobs.now shared.table_id x = All-head P x (into_iter_items c.next.new.self) (subst (All P) steps at.invariant.mine) in (
+    let own : IsWorked g.P.Replays.may_give c.args.jobs.now shared.table_id x =
+    All-head P x (into_iter_items c.next.new.self) (subst (All P) steps at.invariant.mine) in (
       at.invariant.table,
       own.own,
       ap (λ (m : Mine). m.1) own.view,
       c.requires.table.1,
       subst
-          (λ (z : Mine × Mine). Joins (AreClaimed shared.key) at.keeper.id z.0.0 x.seat.id z.1.0 (with_worker z.0.0 z.1.0) Spent)
+          (λ (z : Mine × Mine). Joins (AreClaimed shared.key) at.keeper.id z.0.0 x.seat.id z.1.0
+          (with_worker z.0.0 z.1.0) Spent)
           (λ i. (sym at.invariant.made i, sym own.view i))
           (takes shared.key at.keeper.id c.args.made (map entry_of at.yielded) x.seat.id x.number (claims_of x)),
     )
@@ -36,11 +38,15 @@ loop-one-preserved g c =
     let shared = c.args.shared.now in
     let P : Worked → Type 0 = IsWorked g.P.Replays.may_give c.args.jobs.now shared.table_id in
     let steps : into_iter_items at.one-iterator ≡ x ∷ into_iter_items c.next.new.self = c.in-Some.ensures.steps.0 in
-    let own : IsWorked g.P.Replays.may_give c.args.jobs.now shared.table_id x = All-head P x (into_iter_items c.next.new.self) (subst (All P) steps at.invariant.mine) in record {
+    let own : IsWorked g.P.Replays.may_give c.args.jobs.now shared.table_id x =
+    All-head P x (into_iter_items c.next.new.self) (subst (All P) steps at.invariant.mine) in record {
       rest = append_assoc at.yielded (x ∷ []) _ ∙ rw (← steps) at.invariant.rest;
-      left = (let was = at.invariant.left in let gone = c.in-Some.ensures.steps.1 in let short = ap length steps in omega arith);
+      left = (let was = at.invariant.left in let gone = c.in-Some.ensures.steps.1 in let short = ap length steps in
+          omega arith);
       mine = All-tail P x (into_iter_items c.next.new.self) (subst (All P) steps at.invariant.mine);
       table = c.join_seat.ensures.0 ∙ at.invariant.table;
-      made = keeper_after c.args.made at.yielded x at.keeper.me x.seat.me _ at.invariant.made own.view c.join_seat.ensures.2;
-      placed = c.put.ensures ∙ (ap (λ l. put_all l x.done.items) at.invariant.placed ∙ sym (put_each_snoc c.args.outcomes.now.items at.yielded x));
+      made = keeper_after c.args.made at.yielded x at.keeper.me x.seat.me _ at.invariant.made own.view
+          c.join_seat.ensures.2;
+      placed = c.put.ensures ∙ (ap (λ l. put_all l x.done.items) at.invariant.placed
+          ∙ sym (put_each_snoc c.args.outcomes.now.items at.yielded x));
     }

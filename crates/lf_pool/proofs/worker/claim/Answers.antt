@@ -16,9 +16,11 @@ fetch_add-requires c =
       c.requires.table.0,
       c.requires.table.1,
       subst
-          (λ (me : Mine). Allows (AreClaimed shared.key) slots seat.id me 0 (λ n. (n + 1) % 2 ^ 64) (Claims (step slots 0 1 0 none) me))
+          (λ (me : Mine). Allows (AreClaimed shared.key) slots seat.id me 0 (λ n. (n + 1) % 2 ^ 64)
+          (Claims (step slots 0 1 0 none) me))
           (sym c.requires.seat)
-          (claims shared.key slots seat.id c.args.number _ (none_past shared.key c.args.done.now.items c.requires.done) c.requires.table.2),
+          (claims shared.key slots seat.id c.args.number _ (none_past shared.key c.args.done.now.items
+          c.requires.done) c.requires.table.2),
     )
 
 pub returns-clause-above : goal.returns-clause-above

@@ -15,7 +15,9 @@ fetch_add-requires g c =
       table.0,
       omega arith,
       subst
-          (λ (z : Mine × ℕ). Allows (HasRecords shared.key) slots seat.id z.0 z.1 (λ n. (n + 1) % 2 ^ 64) (Draws event (step slots z.1 1 0 none) z.0))
+          (λ (z : Mine × ℕ). Allows (HasRecords shared.key) slots seat.id z.0 z.1 (λ n. (n + 1) % 2 ^ 64)
+          (Draws event (step slots z.1 1 0 none) z.0))
           (λ i. (sym c.requires.seat i, sym c.from.ensures i))
-          (draws shared.key slots seat.id c.args.log c.args.records.now.items c.args.bank event (omega arith) c.requires.bank c.requires.room),
+          (draws shared.key slots seat.id c.args.log c.args.records.now.items c.args.bank event (omega arith)
+          c.requires.bank c.requires.room),
     )

@@ -10,5 +10,6 @@ split_seat-seat-requires c =
     let seat = c.args.collector.now in (
       c.requires.table.0,
       c.requires.table.1,
-      subst (λ (me : Mine). Splits (HasRecords shared.key) seat.id me.0 (one_more me.0) (next_log me.0)) (sym c.requires.made.0) (opens shared.key seat.id c.args.log [] c.requires.made.1),
+      subst (λ (me : Mine). Splits (HasRecords shared.key) seat.id me.0 (one_more me.0) (next_log me.0))
+          (sym c.requires.made.0) (opens shared.key seat.id c.args.log [] c.requires.made.1),
     )

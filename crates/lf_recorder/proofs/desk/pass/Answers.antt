@@ -14,7 +14,8 @@ fetch_add-requires c =
       table.0,
       table.1,
       subst
-          (λ (me : Mine). Allows (HasRecords shared.key) slots seat.id me 0 (λ n. (n + 0) % 2 ^ 64) (Passes (step slots 0 0 0 none) me))
+          (λ (me : Mine). Allows (HasRecords shared.key) slots seat.id me 0 (λ n. (n + 0) % 2 ^ 64)
+          (Passes (step slots 0 0 0 none) me))
           (sym c.requires.seat)
           (passes shared.key slots seat.id c.args.log c.args.records.now.items (omega arith) c.requires.room),
     )

@@ -8,15 +8,18 @@ use Rattle.lf_state.specs.Bytes.{flat_of}
 use Rattle.lf_replay.proofs.carried.wide_agrees.Goals as goal
 
 pub returns : goal.returns
-returns g c = λ missed alike. sym (all_range _ 0 c.args.shape.now.factor (λ i le lt. c.loop-place.invariant missed alike i (omega (arith, lt, c.loop-place-test.false))))
+returns g c = λ missed alike. sym (all_range _ 0 c.args.shape.now.factor
+    (λ i le lt. c.loop-place.invariant missed alike i (omega (arith, lt, c.loop-place-test.false))))
 
 pub returns-then-not-part_agrees : goal.returns-then-not-part_agrees
 returns-then-not-part_agrees g c = λ missed alike.
-    not_all _ 0 c.args.shape.now.factor c.loop-place.place (omega arith) (omega (arith, c.loop-place-test.true)) (sym c.if-not-part_agrees.true ∙ c.part_agrees.ensures missed alike)
+    not_all _ 0 c.args.shape.now.factor c.loop-place.place (omega arith) (omega (arith, c.loop-place-test.true))
+    (sym c.if-not-part_agrees.true ∙ c.part_agrees.ensures missed alike)
 
 pub loop-place-preserved : goal.loop-place-preserved
 loop-place-preserved g c = λ missed alike k lt.
-    let agree : ℕ → Bool = λ p. agree_off c.args.shape.now.block (part_at c.args.shape.now.block c.args.bytes.now.items p)
+    let agree : ℕ → Bool = λ p. agree_off c.args.shape.now.block
+    (part_at c.args.shape.now.block c.args.bytes.now.items p)
     (block_bytes c.args.shape.now (flat_of c.args.memory.now) (sub_block c.args.shape.now c.args.second p))
     (store_bytes missed (sub_block c.args.shape.now c.args.second p)) in
     (elim (cases_eq k c.loop-place.place) [

@@ -9,5 +9,8 @@ use Rattle.lf_replay.specs.Targets.{IsTarget1}
 use Rattle.lf_replay.proofs.carried.wide_agrees.Given as goal
 
 abbrev pub invariant-loop-place : goal.invariant-loop-place
-invariant-loop-place g l = (missed : List (Held Missed)) → AreAlike (IsTarget1 l.shape) (g.O.Organisation.seen l.waiting).held missed → (k : ℕ) → k < l.place
-    → agree_off l.shape.block (part_at l.shape.block l.bytes.items k) (block_bytes l.shape (flat_of l.memory) (sub_block l.shape l.second k)) (store_bytes missed (sub_block l.shape l.second k)) ≡ true
+invariant-loop-place g l = (missed : List (Held Missed)) → AreAlike (IsTarget1 l.shape)
+    (g.O.Organisation.seen l.waiting).held missed → (k : ℕ) → k < l.place
+    → agree_off l.shape.block (part_at l.shape.block l.bytes.items k)
+    (block_bytes l.shape (flat_of l.memory) (sub_block l.shape l.second k))
+    (store_bytes missed (sub_block l.shape l.second k)) ≡ true

@@ -10,9 +10,11 @@ returns-in-Some-clause-held g c = ap Some c.rule.ensures ∙ c.in-Some.ensures
 pub returns-in-Some-clause-told : goal.returns-in-Some-clause-told
 returns-in-Some-clause-told g c = λ missed alike.
     ap Some c.rule.ensures ∙ c.in-Some.ensures ∙ ap (first_failing OfBank)
-    (primary_told c.args.shape.now (g.O.Organisation.seen c.args.waiting.now) c.requires missed alike c.args.block c.args.register c.args.target.now.destination)
+    (primary_told c.args.shape.now (g.O.Organisation.seen c.args.waiting.now) c.requires missed alike c.args.block
+    c.args.register c.args.target.now.destination)
 
 pub returns-in-None-clause-told : goal.returns-in-None-clause-told
 returns-in-None-clause-told g c = λ missed alike.
     c.in-None.ensures ∙ ap (first_failing OfBank) (primary_told c.args.shape.now
-    (g.O.Organisation.seen c.args.waiting.now) c.requires missed alike c.args.block c.args.register c.args.target.now.destination)
+    (g.O.Organisation.seen c.args.waiting.now) c.requires missed alike c.args.block c.args.register
+    c.args.target.now.destination)

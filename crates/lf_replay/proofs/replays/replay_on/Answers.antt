@@ -17,7 +17,8 @@ apply-requires-clause-fits g c =
     let lent = g.R.Lends.lent in
     let i = c.loop-place.place-index in
     let lt = lent_count lent c.args.records.now i c.loop-place-test.true in
-    let is = lent_at lent c.args.records.now i c.place-item.result c.lend-item.result.now c.loop-place-test.true c.place-item.is c.lend-item.ensures in
+    let is = lent_at lent c.args.records.now i c.place-item.result c.lend-item.result.now c.loop-place-test.true
+    c.place-item.is c.lend-item.ensures in
     subst (λ (s : Shape). Fits s c.lend-item.result.now) (sym c.loop-place.invariant.after.of_shape)
     (all_at (Fits c.args.shape.now) (map lent c.args.records.now) i c.lend-item.result.now c.requires.records.fit lt is)
 
@@ -28,10 +29,12 @@ loop-place-preserved g c =
     let rs = map lent c.args.records.now in
     let memory = bank_part c.args.shape.now c.args.bank (flat_memory c.args.memory.now.items) in
     let lt = lent_count lent c.args.records.now i c.loop-place-test.true in
-    let is = lent_at lent c.args.records.now i c.place-item.result c.lend-item.result.now c.loop-place-test.true c.place-item.is c.lend-item.ensures in
+    let is = lent_at lent c.args.records.now i c.place-item.result c.lend-item.result.now c.loop-place-test.true
+    c.place-item.is c.lend-item.ensures in
     record {
       reached = c.in-Ok-apply.ensures.reached;
-      after = stands_next (g.B.BankState.view c.apply.new.self) c.args.shape.now memory rs i c.lend-item.result.now lt is
+      after = stands_next (g.B.BankState.view c.apply.new.self) c.args.shape.now memory rs i c.lend-item.result.now lt
+          is
           (c.in-Ok-apply.ensures.stands c.args.shape.now memory (take i rs) c.loop-place.invariant.after);
     }
 
@@ -43,10 +46,13 @@ returns-in-Err-Rule g c =
     let whole = flat_memory c.args.memory.now.items in
     let memory = bank_part c.args.shape.now c.args.bank whole in
     let lt = lent_count lent c.args.records.now i c.loop-place-test.true in
-    let is = lent_at lent c.args.records.now i c.place-item.result c.lend-item.result.now c.loop-place-test.true c.place-item.is c.lend-item.ensures in
+    let is = lent_at lent c.args.records.now i c.place-item.result c.lend-item.result.now c.loop-place-test.true
+    c.place-item.is c.lend-item.ensures in
     let broken = c.in-Err-Rule.ensures.broken c.args.shape.now memory (take i rs) c.loop-place.invariant.after in
-    rw c.in-Err-Rule.rule-is (outcome_same c.args.shape.now c.args.bank whole rs c.requires.records (outcome.Broken c.lend-item.result.now.number c.in-Err-Rule.rule)
-    (breaks_at c.args.shape.now memory rs i c.lend-item.result.now c.in-Err-Rule.rule lt is c.requires.records.numbered (rw c.in-Err-Rule.field-0-is at broken)))
+    rw c.in-Err-Rule.rule-is (outcome_same c.args.shape.now c.args.bank whole rs c.requires.records
+    (outcome.Broken c.lend-item.result.now.number c.in-Err-Rule.rule)
+    (breaks_at c.args.shape.now memory rs i c.lend-item.result.now c.in-Err-Rule.rule lt
+    is c.requires.records.numbered (rw c.in-Err-Rule.field-0-is at broken)))
 
 pub returns : goal.returns
 returns g c =
@@ -56,4 +62,5 @@ returns g c =
     let memory = bank_part c.args.shape.now c.args.bank whole in
     let all = take_all i rs (omega (arith, length-map c.args.records.now g.R.Lends.lent, c.loop-place-test.false)) in
     outcome_same c.args.shape.now c.args.bank whole rs c.requires.records outcome.Passed
-    (subst (λ (xs : List Record). IsRunOf OfBank c.args.shape.now (first_local memory) xs) all c.loop-place.invariant.after.is_run)
+    (subst (λ (xs : List Record). IsRunOf OfBank c.args.shape.now (first_local memory) xs) all
+    c.loop-place.invariant.after.is_run)

@@ -10,5 +10,6 @@ invariant-loop-place g l =
     let view = g.B.BankState.view in
     record {
       reached : ShowsReached (view l.state);
-      after : IsBankAfter (view l.state) l.shape (bank_part l.shape l.bank (flat_memory l.memory.items)) (take l.place-index (map g.R.Lends.lent l.records));
+      after : IsBankAfter (view l.state) l.shape (bank_part l.shape l.bank (flat_memory l.memory.items))
+          (take l.place-index (map g.R.Lends.lent l.records));
     }

@@ -8,7 +8,8 @@ loop-target-init c = (λ held waiting block alike are. sym (append-nil c.args.re
 
 pub reply_of-requires-clause-told : goal.reply_of-requires-clause-told
 reply_of-requires-clause-told c =
-    told_at c.args.shape.now c.requires.told.0 c.requires.told.1 c.requires.told.3 c.requires.told.2 c.args.targets.now c.requires.told.4
+    told_at c.args.shape.now c.requires.told.0 c.requires.told.1 c.requires.told.3 c.requires.told.2
+    c.args.targets.now c.requires.told.4
     c.loop-target.target-index c.loop-target-item.result c.loop-target-test.true c.loop-target-item.is
 
 pub push_reserved-requires : goal.push_reserved-requires
@@ -24,7 +25,8 @@ loop-target-preserved c =
     let long = c.loop-target.invariant.1 in
     let pushed = ap length c.push_reserved.ensures.items ∙ length_push c.loop-target.ready.items c.reply_of.result in (
       λ held waiting block alike are.
-          replies_more c.args.shape.now held waiting alike block c.args.targets.now are c.loop-target.target-index c.loop-target-item.result c.reply_of.result
+          replies_more c.args.shape.now held waiting alike block c.args.targets.now are c.loop-target.target-index
+          c.loop-target-item.result c.reply_of.result
           _ _ _ c.loop-target-test.true c.loop-target-item.is c.reply_of.ensures
           (c.loop-target.invariant.0 held waiting block alike are) c.push_reserved.ensures.items,
       omega (arith, long, pushed),
@@ -33,4 +35,5 @@ loop-target-preserved c =
 
 pub returns : goal.returns
 returns c = λ held waiting block alike are.
-    replies_all c.args.shape.now held waiting alike block c.args.targets.now are c.loop-target.target-index _ _ (omega arith) (c.loop-target.invariant.0 held waiting block alike are)
+    replies_all c.args.shape.now held waiting alike block c.args.targets.now are c.loop-target.target-index _ _
+    (omega arith) (c.loop-target.invariant.0 held waiting block alike are)

@@ -11,7 +11,8 @@ use Rattle.lf_replay.proofs.replies.add_replies.Given as goal
 
 abbrev pub invariant-loop-target : goal.invariant-loop-target
 invariant-loop-target l =
-    ((held : List (Held Request1)) (waiting : List (Held Missed)) (block : ℕ) → AreAlike (IsTarget1 l.shape) held waiting → l.targets ≡ map released_pair (targets_of held block)
+    ((held : List (Held Request1)) (waiting : List (Held Missed)) (block : ℕ) →
+    AreAlike (IsTarget1 l.shape) held waiting → l.targets ≡ map released_pair (targets_of held block)
     → l.ready.items ≡ l.initial.ready.items ++ map reply_of (take l.target-index (targets_of waiting block)))
     × (length l.ready.items ≡ length l.initial.ready.items + l.target-index)
     × (vec_capacity l.ready ≡ vec_capacity l.initial.ready)

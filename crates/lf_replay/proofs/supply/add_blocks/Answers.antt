@@ -10,7 +10,8 @@ loop-target-init c = (λ held fetched alike home are. sym (append-nil c.args.sup
 
 pub sub_block-requires-clause-inside : goal.sub_block-requires-clause-inside
 sub_block-requires-clause-inside c =
-    let below = place_below c.args.shape.now c.requires.told.0 c.requires.told.1 c.requires.told.2 c.args.second c.args.targets.now c.requires.told.3
+    let below = place_below c.args.shape.now c.requires.told.0 c.requires.told.1 c.requires.told.2 c.args.second
+    c.args.targets.now c.requires.told.3
     (factor_some c.args.shape.now.factor c.requires.in_range.factor) c.loop-target.target-index
     c.loop-target-item.result c.loop-target-test.true c.loop-target-item.is in
     subst (λ p. p < c.args.shape.now.factor) (sym c.from.ensures) below
@@ -26,15 +27,19 @@ push_reserved-requires c =
 pub loop-target-preserved : goal.loop-target-preserved
 loop-target-preserved c =
     let long = c.loop-target.invariant.1 in
-    let pushed = ap length c.push_reserved.ensures.items ∙ length_push c.loop-target.supplied.items c.sub_block.result in (
+    let pushed = ap length c.push_reserved.ensures.items ∙ length_push c.loop-target.supplied.items c.sub_block.result
+    in (
       λ held fetched alike home are.
-          blocks_more c.args.shape.now held fetched alike c.args.second c.args.targets.now are home c.loop-target.target-index c.loop-target-item.result
+          blocks_more c.args.shape.now held fetched alike c.args.second c.args.targets.now are home
+          c.loop-target.target-index c.loop-target-item.result
           c.sub_block.result _ _ _ c.loop-target-test.true c.loop-target-item.is
-          (c.sub_block.ensures ∙ ap (sub_block c.args.shape.now c.args.second) c.from.ensures) (c.loop-target.invariant.0 held fetched alike home are) c.push_reserved.ensures.items,
+          (c.sub_block.ensures ∙ ap (sub_block c.args.shape.now c.args.second) c.from.ensures)
+          (c.loop-target.invariant.0 held fetched alike home are) c.push_reserved.ensures.items,
       omega (arith, long, pushed),
       c.push_reserved.ensures.capacity ∙ c.loop-target.invariant.2,
     )
 
 pub returns : goal.returns
 returns c = λ held fetched alike home are.
-    blocks_all c.args.shape.now held fetched alike c.args.second c.args.targets.now are c.loop-target.target-index _ _ (omega arith) (c.loop-target.invariant.0 held fetched alike home are)
+    blocks_all c.args.shape.now held fetched alike c.args.second c.args.targets.now are c.loop-target.target-index _ _
+    (omega arith) (c.loop-target.invariant.0 held fetched alike home are)

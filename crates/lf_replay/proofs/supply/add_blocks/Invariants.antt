@@ -12,7 +12,9 @@ use Rattle.lf_replay.proofs.supply.add_blocks.Given as goal
 
 abbrev pub invariant-loop-target : goal.invariant-loop-target
 invariant-loop-target l =
-    ((held : List (Held Request2)) (fetched : List (Held Asked)) → AreAlike (IsTarget2 l.shape) held fetched → AreHome l.shape fetched → l.targets ≡ map released_pair (targets_of held l.second)
-    → l.supplied.items ≡ l.initial.supplied.items ++ map block_asked (take l.target-index (targets_of fetched l.second)))
+    ((held : List (Held Request2)) (fetched : List (Held Asked)) → AreAlike (IsTarget2 l.shape) held fetched →
+    AreHome l.shape fetched → l.targets ≡ map released_pair (targets_of held l.second)
+    → l.supplied.items ≡ l.initial.supplied.items ++ map block_asked
+    (take l.target-index (targets_of fetched l.second)))
     × (length l.supplied.items ≡ length l.initial.supplied.items + l.target-index)
     × (vec_capacity l.supplied ≡ vec_capacity l.initial.supplied)

@@ -6,8 +6,13 @@ use Rattle.lf_state.proofs.memory.masked.Goals.{then-is_under, else-is_under}
 pub loop-i-preserved : goal.loop-i-preserved
 loop-i-preserved c = elim c.if-is_under.branch [
   | then-is_under w ↦ rw w.bytes-is (record {
-    taken = taken_more _ _ c.loop-i.i _ _ _ (sym w.if-is_under.ensures) w.push.ensures.items refl c.loop-i.invariant.taken;
+    taken = taken_more _ _ c.loop-i.i _ _ _ (sym w.if-is_under.ensures) w.push.ensures.items refl
+        c.loop-i.invariant.taken;
     few = omega arith;
   })
-  | else-is_under w ↦ rw w.bytes-is (record { taken = passed_over _ _ c.loop-i.i _ (sym w.if-is_under.ensures) c.loop-i.invariant.taken; few = omega arith })
+  | else-is_under w ↦ rw w.bytes-is (record {
+    taken = passed_over _ _ c.loop-i.i _ (sym w.if-is_under.ensures)
+        c.loop-i.invariant.taken;
+    few = omega arith;
+  })
 ]

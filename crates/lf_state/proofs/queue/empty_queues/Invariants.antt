@@ -3,4 +3,8 @@ use Rattle.lf_state.specs.Queues.{queue_at}
 use Rattle.lf_state.proofs.queue.empty_queues.Given as goal
 
 abbrev pub invariant-loop : goal.invariant-loop
-invariant-loop l = record { count : length l.queues.items ≡ l.counter; empty : (port : ℕ) → queue_at l.queues.items port ≡ [] }
+invariant-loop l = record {
+  count : length l.queues.items ≡ l.counter;
+  empty : (port : ℕ) →
+      queue_at l.queues.items port ≡ [];
+}

@@ -5,5 +5,6 @@ use Rattle.lf_text.proofs.data.spell.Goals as goal
 
 pub unreachable-requires : goal.unreachable-requires
 unreachable-requires c =
-    let written = from_ok c.encode_to_slice.result (c.encode_to_slice.ensures.fits.1 c.requires) c.encode_to_slice.ensures.written in
+    let written = from_ok c.encode_to_slice.result (c.encode_to_slice.ensures.fits.1 c.requires)
+    c.encode_to_slice.ensures.written in
     c.in-Err.ensures.cases.0 (subst IsUtf8 (sym written) (digits_are_text c.args.bytes.now))

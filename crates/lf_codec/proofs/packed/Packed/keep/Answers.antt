@@ -6,7 +6,8 @@ use Rattle.lf_codec.proofs.packed.Packed.keep.Goals as goal
 pub invariant_of-self-2 : goal.invariant_of-self-2
 invariant_of-self-2 c =
     let s = c.self.inside in
-    rw c.in_ok-extend_from_slice.ensures.items (within_stay s.header s.bytes.items c.args.piece.now s.forms.items c.self.invariant)
+    rw c.in_ok-extend_from_slice.ensures.items (within_stay s.header s.bytes.items c.args.piece.now s.forms.items
+    c.self.invariant)
 
 pub returns-clause-kept : goal.returns-clause-kept
 returns-clause-kept c =

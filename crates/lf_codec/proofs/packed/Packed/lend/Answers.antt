@@ -6,7 +6,14 @@ use Rattle.lf_codec.proofs.packed.Packed.lend.Goals as goal
 pub returns-in-Parts : goal.returns-in-Parts
 returns-in-Parts c d =
     let s = c.self.inside in let p = c.in-Parts.parts in
-    let within : c.args.at < length s.forms.items = omega (arith, length-map s.forms.items (form_record s.header s.bytes.items), ap (λ (v : PackedRecords). length v.records) c.self.view_is, c.requires) in
+    let within : c.args.at < length s.forms.items = omega (
+      arith,
+      length-map s.forms.items
+          (form_record s.header s.bytes.items),
+      ap (λ (v : PackedRecords). length v.records) c.self.view_is,
+      c.requires,
+    )
+    in
     c.unpack.ensures
     ∙ ap (λ (n : ℕ). parts_record s.header p.head (take n (drop p.at c.deref.result.now))) (omega arith)
     ∙ ap (λ (xs : List ℕ). parts_record s.header p.head (take p.len (drop p.at xs))) c.deref.ensures.value

@@ -28,7 +28,9 @@ loop-n-preserved c =
       fine = took.3;
       between = ap (λ (r : Reading). r.pending) c.in-Some.ensures.progress ∙ before.between;
       none = ap (λ (r : Reading). r.records) c.in-Some.ensures.progress ∙ before.none;
-      header = ap (λ (v : PackedRecords). v.header) c.in-Some.ensures.rest ∙ before.header ∙ sym c.in-Some.ensures.header;
+      header = ap (λ (v : PackedRecords). v.header) c.in-Some.ensures.rest ∙ before.header
+          ∙ sym c.in-Some.ensures.header;
       bytes = ap (λ (v : PackedRecords). v.bytes) c.in-Some.ensures.rest ∙ before.bytes;
-      so_far = part_after old mid new bytes c.loop-n.at c.in-Some.n before.so_far (took.2 ∙ ap (λ (xs : List ℕ). read_on mid (take c.in-Some.n xs)) rest);
+      so_far = part_after old mid new bytes c.loop-n.at c.in-Some.n before.so_far
+          (took.2 ∙ ap (λ (xs : List ℕ). read_on mid (take c.in-Some.n xs)) rest);
     }

@@ -11,7 +11,8 @@ invariant-loop-n l = record {
   none : l.self.records ≡ [];
   header : l.records.header ≡ l.self.progress.header;
   bytes : l.records.bytes ≡ l.initial.records.bytes;
-  so_far : with_records l.records.records l.self ≡ read_on (with_records l.initial.records.records l.initial.self) (take l.at l.bytes);
+  so_far : with_records l.records.records l.self ≡ read_on (with_records l.initial.records.records l.initial.self)
+      (take l.at l.bytes);
 }
 
 abbrev pub decreases-loop-n : goal.decreases-loop-n

@@ -8,7 +8,8 @@ invariant-loop-at l = record {
   within : l.at ≤ length l.piece;
   fine : l.self.fault ≡ None;
   none : l.self.records ≡ [];
-  so_far : with_records l.records.records l.self ≡ read_on (with_records l.initial.records.records l.initial.self) (take l.at l.piece);
+  so_far : with_records l.records.records l.self ≡ read_on (with_records l.initial.records.records l.initial.self)
+      (take l.at l.piece);
   bytes : l.records.bytes ≡ l.initial.records.bytes;
 }
 

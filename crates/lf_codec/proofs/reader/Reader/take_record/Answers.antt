@@ -13,8 +13,10 @@ pub invariant_of-self-in-Some : goal.invariant_of-self-in-Some
 invariant_of-self-in-Some c =
     let p = c.self.inside.progress in
     let into = c.in_ok-len.ensures.some in
-    let empty : c.self.inside.pending.items ≡ [] = nil_from_length c.self.inside.pending.items (eqb-true _ _ (sym c.if-not-is_empty.ensures)) in
-    rw (empty, into.is_counted) (sound_reader (counted p c.in_ok-len.len into.item.log) (sound_behind p c.args.bytes.now into.item c.in_ok-len.len into.whole into.stage c.self.invariant.sound))
+    let empty : c.self.inside.pending.items ≡ [] = nil_from_length c.self.inside.pending.items
+    (eqb-true _ _ (sym c.if-not-is_empty.ensures)) in
+    rw (empty, into.is_counted) (sound_reader (counted p c.in_ok-len.len into.item.log)
+    (sound_behind p c.args.bytes.now into.item c.in_ok-len.len into.whole into.stage c.self.invariant.sound))
 
 pub returns-clause-some : goal.returns-clause-some
 returns-clause-some c =
@@ -29,11 +31,18 @@ returns-clause-some c =
     let len = c.in_ok-len.len in
     let into = c.in_ok-len.ensures.some in
     let fine : r.fault ≡ None = rw (← c.self.view_is) at c.requires in
-    let empty : r.pending ≡ [] = nil_from_length c.self.inside.pending.items (eqb-true _ _ (sym c.if-not-is_empty.ensures)) in
+    let empty : r.pending ≡ [] = nil_from_length c.self.inside.pending.items
+    (eqb-true _ _ (sym c.if-not-is_empty.ensures)) in
     let placed : Some c.in-Some.item ≡ Some into.item = sym c.in-Some.is ∙ into.is_placed in
     let one : c.in-Some.item ≡ into.item = cc in
-    let longer : c.push_back_reserved.new.self.items ≡ r.records ++ into.item ∷ [] = c.push_back_reserved.ensures.items ∙ ap (λ (i : Record). r.records ++ i ∷ []) one in
-    let same : new ≡ record r { progress = counted r.progress len into.item.log; records = r.records ++ into.item ∷ [] } =
+    let longer : c.push_back_reserved.new.self.items ≡ r.records ++ into.item ∷ [] =
+    c.push_back_reserved.ensures.items ∙ ap (λ (i : Record). r.records ++ i ∷ []) one in
+    let same : new ≡ record r {
+      progress = counted r.progress len into.item.log;
+      records =
+          r.records ++ into.item ∷ [];
+    } =
     ap (λ (p : Progress). record r { progress = p; records = c.push_back_reserved.new.self.items }) into.is_counted
     ∙ ap (λ (rs : List Record). record r { progress = counted r.progress len into.item.log; records = rs }) longer in
-    rw (← c.self.view_is) (taken_at_once r new c.args.bytes.now into.item len fine empty into.stage into.whole c.self.invariant.sound same)
+    rw (← c.self.view_is) (taken_at_once r new c.args.bytes.now into.item len fine empty into.stage into.whole
+    c.self.invariant.sound same)

@@ -16,7 +16,8 @@ returns-in-Err-keep-clause-takes c =
         gives_some = some;
         memory = same.0;
         records = same.1;
-        header = rw c.advance-found.ensures.next (header_kept c.self.inside.progress.stage c.self.inside.progress c.args.bytes.now some);
+        header = rw c.advance-found.ensures.next (header_kept c.self.inside.progress.stage c.self.inside.progress
+            c.args.bytes.now some);
       })),
     )
 

@@ -21,14 +21,17 @@ loop-block-preserved c =
     let part = memory_candidate choice (block, bytes) in
     let size : 4 + c.len.result ≡ length (memory_bytes (block, bytes)) =
     omega (arith, c.len.ensures.value, length-append (u32_bytes block) bytes.items, length-u32_bytes block) in
-    let fits : c.fits_memory-fits.result ≡ fits_memory choice block = c.fits_memory-fits.ensures ∙ ap (λ (k : Choice). fits_memory k block) so_far.choice in
-    let text : memory_text block c.deref.result.now ≡ memory_text block bytes.items = ap (memory_text block) c.deref.ensures.0 in
+    let fits : c.fits_memory-fits.result ≡ fits_memory choice block =
+    c.fits_memory-fits.ensures ∙ ap (λ (k : Choice). fits_memory k block) so_far.choice in
+    let text : memory_text block c.deref.result.now ≡ memory_text block bytes.items =
+    ap (memory_text block) c.deref.ensures.0 in
     record {
       reader = c.in-Some.ensures.rest ∙ ap (λ (q : Reading). record q { memory = rest }) so_far.reader;
       choice = c.add.ensures.choice ∙ so_far.choice;
       done = so_far.done ++ line_at choice c.loop-block.at part;
       holds = λ out head lines h.
-          one_added c.add.new.self out head lines so_far.done c.loop-block.self.choice choice part c.fits_memory-fits.result (memory_text block c.deref.result.now) c.loop-block.at so_far.choice fits text
+          one_added c.add.new.self out head lines so_far.done c.loop-block.self.choice choice part
+          c.fits_memory-fits.result (memory_text block c.deref.result.now) c.loop-block.at so_far.choice fits text
           (c.in_ok-add.ensures.holds out head (lines ++ so_far.done) (so_far.holds out head lines h));
       all = one_more choice c.loop-block.at part (map (memory_candidate choice) rest) _ _ so_far.done _
           (ap (λ (ms : List (ℕ × Bytes)). map (memory_candidate choice) ms) c.in-Some.ensures.first) size so_far.all;

@@ -10,10 +10,13 @@ invariant-loop-block l = record {
   reader : l.reader ≡ record l.initial.reader { memory = l.reader.memory };
   choice : l.self.choice ≡ l.initial.self.choice;
   done : List (List ℕ);
-  holds : (out head : List ℕ) (lines : List (List ℕ)) → Holds l.initial.self out head lines → Holds l.self out head (lines ++ done);
+  holds : (out head : List ℕ) (lines : List (List ℕ)) → Holds l.initial.self out head lines →
+      Holds l.self out head (lines ++ done);
   all : done ++ taken_from l.initial.self.choice l.at (map (memory_candidate l.initial.self.choice) l.reader.memory)
-      ≡ taken_from l.initial.self.choice l.initial.offset (map (memory_candidate l.initial.self.choice) l.initial.reader.memory);
-  end : l.at + len_of (map memory_part l.reader.memory) ≡ l.initial.offset + len_of (map memory_part l.initial.reader.memory);
+      ≡ taken_from l.initial.self.choice l.initial.offset (map (memory_candidate l.initial.self.choice)
+      l.initial.reader.memory);
+  end : l.at + len_of (map memory_part l.reader.memory) ≡ l.initial.offset
+      + len_of (map memory_part l.initial.reader.memory);
 }
 
 abbrev pub decreases-loop-block : goal.decreases-loop-block

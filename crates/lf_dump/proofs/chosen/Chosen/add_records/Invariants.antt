@@ -10,10 +10,14 @@ invariant-loop-item l = record {
   reader : l.reader ≡ record l.initial.reader { records = l.reader.records };
   choice : l.self.choice ≡ l.initial.self.choice;
   done : List (List ℕ);
-  holds : (out head : List ℕ) (lines : List (List ℕ)) → Holds l.initial.self out head lines → Holds l.self out head (lines ++ done);
-  all : done ++ taken_from l.initial.self.choice l.at (map (record_candidate l.initial.self.choice l.initial.header) l.reader.records)
-      ≡ taken_from l.initial.self.choice l.initial.offset (map (record_candidate l.initial.self.choice l.initial.header) l.initial.reader.records);
-  end : l.at + len_of (map record_part l.reader.records) ≡ l.initial.offset + len_of (map record_part l.initial.reader.records);
+  holds : (out head : List ℕ) (lines : List (List ℕ)) → Holds l.initial.self out head lines →
+      Holds l.self out head (lines ++ done);
+  all : done ++ taken_from l.initial.self.choice l.at (map (record_candidate l.initial.self.choice l.initial.header)
+      l.reader.records)
+      ≡ taken_from l.initial.self.choice l.initial.offset (map
+      (record_candidate l.initial.self.choice l.initial.header) l.initial.reader.records);
+  end : l.at + len_of (map record_part l.reader.records) ≡ l.initial.offset
+      + len_of (map record_part l.initial.reader.records);
   counted : l.count + length l.reader.records ≡ l.initial.count + length l.initial.reader.records;
 }
 

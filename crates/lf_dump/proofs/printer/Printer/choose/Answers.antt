@@ -10,7 +10,13 @@ use Rattle.lf_dump.proofs.printer.Printer.choose.Goals as goal
 
 pub returns-in_default-clause-shown : goal.returns-in_default-clause-shown
 returns-in_default-clause-shown c bytes shown =
-    let mid : Printer = record { reader = c.feed.new.reader; text = c.args.self.now.text; offset = c.args.self.now.offset; records = c.args.self.now.records } in
+    let mid : Printer = record {
+      reader = c.feed.new.reader;
+      text = c.args.self.now.text;
+      offset =
+          c.args.self.now.offset;
+      records = c.args.self.now.records;
+    } in
     let has = c.in_ok-enough.ensures.read bytes (reading_of bytes).memory (reading_of bytes).records shown.read in
     let none : header_now c.feed.new.reader ≡ None = search rules in
     shown_unread bytes c.args.piece.now c.args.self.now mid shown has refl refl none
@@ -23,17 +29,37 @@ returns-in_default-clause-lines c bytes out shown held =
 
 pub add_records-requires-clause-room : goal.add_records-requires-clause-room
 add_records-requires-clause-room c =
-    let mid : Printer = record { reader = c.feed.new.reader; text = c.args.self.now.text; offset = c.args.self.now.offset; records = c.args.self.now.records } in
+    let mid : Printer = record {
+      reader = c.feed.new.reader;
+      text = c.args.self.now.text;
+      offset =
+          c.args.self.now.offset;
+      records = c.args.self.now.records;
+    } in
     let bytes = c.requires.0 in
     let shown = c.requires.1 in
     let has = c.in_ok-enough.ensures.read bytes (reading_of bytes).memory (reading_of bytes).records shown.read in
     let reader = ap (λ (p : Printer). p.reader) c.add_header.ensures.rest in
-    let end = due_end mid c.in-Some.header c.add_header.new.self.offset (sym c.in-Some.ensures.now) c.in_ok-add_header.ensures.offset in
-    omega (arith, room_now bytes c.args.piece.now c.args.self.now mid shown has refl, c.requires.2, end, ap (λ (q : Reading). len_of (given_by q)) reader)
+    let end = due_end mid c.in-Some.header c.add_header.new.self.offset (sym c.in-Some.ensures.now)
+    c.in_ok-add_header.ensures.offset in
+    omega (
+      arith,
+      room_now bytes c.args.piece.now c.args.self.now mid shown has refl,
+      c.requires.2,
+      end,
+      ap
+          (λ (q : Reading). len_of (given_by q)) reader,
+    )
 
 pub add_records-requires-clause-count : goal.add_records-requires-clause-count
 add_records-requires-clause-count c =
-    let mid : Printer = record { reader = c.feed.new.reader; text = c.args.self.now.text; offset = c.args.self.now.offset; records = c.args.self.now.records } in
+    let mid : Printer = record {
+      reader = c.feed.new.reader;
+      text = c.args.self.now.text;
+      offset =
+          c.args.self.now.offset;
+      records = c.args.self.now.records;
+    } in
     let bytes = c.requires.0 in
     let shown = c.requires.1 in
     let has = c.in_ok-enough.ensures.read bytes (reading_of bytes).memory (reading_of bytes).records shown.read in
@@ -47,10 +73,17 @@ add_records-requires-clause-count c =
 
 pub returns-clause-shown : goal.returns-clause-shown
 returns-clause-shown c bytes shown =
-    let mid : Printer = record { reader = c.feed.new.reader; text = c.args.self.now.text; offset = c.args.self.now.offset; records = c.args.self.now.records } in
+    let mid : Printer = record {
+      reader = c.feed.new.reader;
+      text = c.args.self.now.text;
+      offset =
+          c.args.self.now.offset;
+      records = c.args.self.now.records;
+    } in
     let has = c.in_ok-enough.ensures.read bytes (reading_of bytes).memory (reading_of bytes).records shown.read in
     let reader = ap (λ (p : Printer). p.reader) c.add_header.ensures.rest in
-    let end = due_end mid c.in-Some.header c.add_header.new.self.offset (sym c.in-Some.ensures.now) c.in_ok-add_header.ensures.offset in
+    let end = due_end mid c.in-Some.header c.add_header.new.self.offset (sym c.in-Some.ensures.now)
+    c.in_ok-add_header.ensures.offset in
     let last = c.in_ok-add_records.ensures in
     shown_after bytes c.args.piece.now c.args.self.now mid c.add_records.new.self shown has refl refl
     (last.reader ∙ ap (λ (q : Reading). record q { memory = []; records = [] }) reader)
@@ -65,7 +98,10 @@ returns-clause-lines c bytes out shown held =
     let piece = c.args.piece.now in
     let has = c.in_ok-enough.ensures.read bytes (reading_of bytes).memory (reading_of bytes).records shown.read in
     let some = sym c.in-Some.ensures.now in
-    let first = c.in_ok-add_header.ensures.holds out (header_lines (header_of bytes)) (taken_of choice bytes) held (none_taken bytes piece q has choice n shown.offset) in
-    held_now bytes piece q has choice n shown.offset c.in-Some.header some c.add_records.new.chosen c.add_header.new.chosen.choice out c.add_header.new.self.offset c.add_header.new.self.reader
-    c.add_header.ensures.choice c.add_records.ensures.choice c.in_ok-add_header.ensures.offset (ap (λ (p : Printer). p.reader) c.add_header.ensures.rest)
+    let first = c.in_ok-add_header.ensures.holds out (header_lines (header_of bytes)) (taken_of choice bytes) held
+    (none_taken bytes piece q has choice n shown.offset) in
+    held_now bytes piece q has choice n shown.offset c.in-Some.header some c.add_records.new.chosen
+    c.add_header.new.chosen.choice out c.add_header.new.self.offset c.add_header.new.self.reader
+    c.add_header.ensures.choice c.add_records.ensures.choice c.in_ok-add_header.ensures.offset
+    (ap (λ (p : Printer). p.reader) c.add_header.ensures.rest)
     (c.in_ok-add_records.ensures.holds out _ (taken_of choice bytes) first)

@@ -16,6 +16,8 @@ returns-clause-stand c =
     let number = c.advance-bank.result.1 in
     let gone = c.advance-bank.ensures in
     let r = c.requires in
-    all_settled L old.places old.next new.places new.next c.args.log bank number r.goes gone.entry gone.gone r.sized r.own c.leave.new.self c.call.new.self c.settle.new.self r.log
+    all_settled L old.places old.next new.places new.next c.args.log bank number r.goes gone.entry gone.gone r.sized
+    r.own c.leave.new.self c.call.new.self c.settle.new.self r.log
     (stands_after L old.places old.next c.args.log c.args.self.now c.leave.new.self c.leave.ensures.others r.stand)
-    (subst (λ n. IsCalled c.leave.new.self c.call.new.self bank (n + 1)) c.from.ensures c.call.ensures) c.settle.ensures.settled c.settle.ensures.others
+    (subst (λ n. IsCalled c.leave.new.self c.call.new.self bank (n + 1)) c.from.ensures c.call.ensures)
+    c.settle.ensures.settled c.settle.ensures.others

@@ -12,5 +12,6 @@ pub loop-log-preserved : goal.loop-log-preserved
 loop-log-preserved c =
     let heads = c.args.heads.now in
     one_placed c.loop-log.roster c.settle.new.self c.loop-log.log
-    (λ (k : ℕ). standing_of heads.next (next_entry (skeleton_lists c.args.skeletons.now) heads.places k)) c.loop-log-test.true c.loop-log.invariant
+    (λ (k : ℕ). standing_of heads.next (next_entry (skeleton_lists c.args.skeletons.now) heads.places k))
+    c.loop-log-test.true c.loop-log.invariant
     c.settle.ensures.settled c.settle.ensures.others

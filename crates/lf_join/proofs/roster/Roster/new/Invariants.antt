@@ -6,4 +6,6 @@ use Rattle.lf_join.proofs.roster.Roster.new.Given as goal
 
 abbrev pub invariant-loop-log : goal.invariant-loop-log
 invariant-loop-log l =
-    ((k : ℕ) → k < l.log → Stands l.roster k (standing_of l.heads.next (next_entry (skeleton_lists l.skeletons) l.heads.places k))) × ((k : ℕ) → k < 32 → l.log ≤ k → Stands l.roster k Nowhere)
+    ((k : ℕ) → k < l.log → Stands l.roster k (standing_of l.heads.next
+    (next_entry (skeleton_lists l.skeletons) l.heads.places k))) ×
+    ((k : ℕ) → k < 32 → l.log ≤ k → Stands l.roster k Nowhere)

@@ -4,7 +4,8 @@ use Rattle.lf_levels.proofs.Searched.{row_fits, way_inside, full_value, filled_w
 use Rattle.lf_levels.proofs.lines.Lines.put.Goals as goal
 
 pub find_free-requires : goal.find_free-requires
-find_free-requires g c = row_fits c.self.invariant c.args.self.now c.self.view_is c.args.block c.row-row.result c.row-row.ensures _ c.deref.ensures.value
+find_free-requires g c = row_fits c.self.invariant c.args.self.now c.self.view_is c.args.block c.row-row.result
+    c.row-row.ensures _ c.deref.ensures.value
 
 pub index_mut-requires : goal.index_mut-requires
 index_mut-requires g c =
@@ -17,22 +18,27 @@ index_mut-requires g c =
 
 pub invariant_of-self : goal.invariant_of-self
 invariant_of-self g c =
-    filled_whole c.self.invariant c.args.self.now c.self.view_is c.args.block c.row-row.result c.row-row.ensures _ c.deref.ensures.value c.in-Some.way c.in-Some.ensures c.requires.absent c.args.dirty c.requires.masks
+    filled_whole c.self.invariant c.args.self.now c.self.view_is c.args.block c.row-row.result c.row-row.ensures _
+    c.deref.ensures.value c.in-Some.way c.in-Some.ensures c.requires.absent c.args.dirty c.requires.masks
 
 pub returns-in_default-clause-refused : goal.returns-in_default-clause-refused
-returns-in_default-clause-refused g c = full_value c.self.invariant c.args.self.now c.self.view_is c.args.block c.row-row.result c.row-row.ensures _ c.deref.ensures.value None c.in_default.ensures
+returns-in_default-clause-refused g c = full_value c.self.invariant c.args.self.now c.self.view_is c.args.block
+    c.row-row.result c.row-row.ensures _ c.deref.ensures.value None c.in_default.ensures
 
 pub returns-clause-free_way : goal.returns-clause-free_way
-returns-clause-free_way g c = full_value c.self.invariant c.args.self.now c.self.view_is c.args.block c.row-row.result c.row-row.ensures _ c.deref.ensures.value (Some c.in-Some.way) c.in-Some.ensures
+returns-clause-free_way g c = full_value c.self.invariant c.args.self.now c.self.view_is c.args.block c.row-row.result
+    c.row-row.ensures _ c.deref.ensures.value (Some c.in-Some.way) c.in-Some.ensures
 
 pub returns-clause-filled : goal.returns-clause-filled
 returns-clause-filled g c =
-    filled_table c.self.invariant c.args.self.now c.self.view_is c.args.block c.row-row.result c.row-row.ensures _ c.deref.ensures.value c.in-Some.way c.in-Some.ensures c.requires.absent c.args.dirty c.requires.masks
+    filled_table c.self.invariant c.args.self.now c.self.view_is c.args.block c.row-row.result c.row-row.ensures _
+    c.deref.ensures.value c.in-Some.way c.in-Some.ensures c.requires.absent c.args.dirty c.requires.masks
 
 pub returns-clause-here : goal.returns-clause-here
 returns-clause-here g c =
     changed-fill c.args.self.now _ c.args.block c.args.dirty
-    (filled_table c.self.invariant c.args.self.now c.self.view_is c.args.block c.row-row.result c.row-row.ensures _ c.deref.ensures.value c.in-Some.way c.in-Some.ensures c.requires.absent c.args.dirty c.requires.masks)
+    (filled_table c.self.invariant c.args.self.now c.self.view_is c.args.block c.row-row.result c.row-row.ensures _
+    c.deref.ensures.value c.in-Some.way c.in-Some.ensures c.requires.absent c.args.dirty c.requires.masks)
 
 pub returns-in_default-clause-free_way : goal.returns-in_default-clause-free_way
 returns-in_default-clause-free_way g c = tt

@@ -12,7 +12,8 @@ returns-then-is_empty c =
     let len = length-append (numbered early.kept.slots) early.rest.entries in
     let kept = length-numbered early.kept.slots in
     let no_kept = eqb-true (slab_len early.kept) 0 (sym c.is_empty.ensures ∙ c.if-is_empty.true) in (
-      λ none. sym c.self.view_is ∙ nil_from_length (numbered early.kept.slots ++ early.rest.entries) (omega (arith, len, kept, no_kept, c.is_empty-then-is_empty.ensures.0 none)),
+      λ none. sym c.self.view_is ∙ nil_from_length (numbered early.kept.slots ++ early.rest.entries)
+          (omega (arith, len, kept, no_kept, c.is_empty-then-is_empty.ensures.0 none)),
       λ nil. c.is_empty-then-is_empty.ensures.1 (omega (arith, ap length (c.self.view_is ∙ nil), len)),
     )
 
@@ -21,5 +22,12 @@ returns-else-is_empty c =
     let early = c.self.inside in
     let some = eqb-false (slab_len early.kept) 0 (sym c.is_empty.ensures ∙ c.if-is_empty.false) in (
       λ none. absurd (cc),
-      λ nil. absurd (omega (arith, ap length (c.self.view_is ∙ nil), length-append (numbered early.kept.slots) early.rest.entries, length-numbered early.kept.slots, some)),
+      λ nil. absurd (omega (
+        arith,
+        ap length (c.self.view_is ∙ nil),
+        length-append (numbered early.kept.slots)
+            early.rest.entries,
+        length-numbered early.kept.slots,
+        some,
+      )),
     )

@@ -7,7 +7,8 @@ use Rattle.lf_logs.proofs.port.BusyTags.none_busy.Goals as goal
 pub loop-tag-preserved : goal.loop-tag-preserved
 loop-tag-preserved c = λ k lt.
     (elim (cases_eq k c.loop-tag.tag) [
-      | inl same ↦ ap (λ n. get_or c.args.self.now.owed_by n None) same ∙ none_if (get_or c.args.self.now.owed_by c.loop-tag.tag None) (sym c.if-is_some.ensures)
+      | inl same ↦ ap (λ n. get_or c.args.self.now.owed_by n None) same
+          ∙ none_if (get_or c.args.self.now.owed_by c.loop-tag.tag None) (sym c.if-is_some.ensures)
       | inr apart ↦ c.loop-tag.invariant k (omega (arith, lt, apart))
     ])
 
@@ -18,7 +19,8 @@ returns-then-is_some c =
     (some_if (get_or c.args.self.now.owed_by c.loop-tag.tag None) (sym c.if-is_some.ensures))
 
 pub returns : goal.returns
-returns c = all_free c.args.tags (λ tag. get_or c.args.self.now.owed_by tag None) (λ k lt. elim (cases_lt k (length c.args.self.now.owed_by)) [
-  | inl within ↦ c.loop-tag.invariant k (omega (arith, lt, within, c.loop-tag-test.false, c.min-named.ensures))
-  | inr past ↦ get_or_past c.args.self.now.owed_by k None past
-])
+returns c = all_free c.args.tags (λ tag. get_or c.args.self.now.owed_by tag None)
+    (λ k lt. elim (cases_lt k (length c.args.self.now.owed_by)) [
+      | inl within ↦ c.loop-tag.invariant k (omega (arith, lt, within, c.loop-tag-test.false, c.min-named.ensures))
+      | inr past ↦ get_or_past c.args.self.now.owed_by k None past
+    ])

@@ -4,4 +4,5 @@ use Rattle.lf_logs.specs.Reordering.{waiting_at}
 use Rattle.lf_logs.proofs.reorder.Reorder.missing.Given as goal
 
 abbrev pub invariant-loop-number : goal.invariant-loop-number
-invariant-loop-number l = (l.self.next ≤ l.number) × ((j : ℕ) → l.self.next ≤ j → j < l.number → is_some (waiting_at l.self j) ≡ true)
+invariant-loop-number l = (l.self.next ≤ l.number) × ((j : ℕ) → l.self.next ≤ j → j < l.number →
+    is_some (waiting_at l.self j) ≡ true)

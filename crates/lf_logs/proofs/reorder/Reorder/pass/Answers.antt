@@ -9,6 +9,7 @@ returns-clause-passed c = λ _ put gave has absent.
     let nothing : c.self.inside.ready ≡ None = search rules in
     let own : c.args.item.now.number ≡ c.args.self.now.next = turn ∙ ap (λ (o : Reordering). o.next) c.self.view_is in (
       own ∙ has.next,
-      HasOrdered-pass c.args.self.now put gave has c.args.item.now _ (omega arith) own (sym (ap (λ (o : Reordering). o.ready) c.self.view_is) ∙ nothing) absent
+      HasOrdered-pass c.args.self.now put gave has c.args.item.now _ (omega arith) own
+          (sym (ap (λ (o : Reordering). o.ready) c.self.view_is) ∙ nothing) absent
           (ap (λ (o : Reordering). record o { next = o.next + 1 }) c.self.view_is),
     )

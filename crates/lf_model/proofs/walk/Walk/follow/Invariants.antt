@@ -8,7 +8,8 @@ invariant-loop-log l = record {
   walk : IsWalk l.self (lists_of l.logs);
   shape : l.self.machine.shape ≡ l.fn.self.machine.shape;
   place : l.place ≡ l.log-index;
-  answer : walked l.self (lists_of l.logs) l.place (drop l.place l.order) ≡ walked l.fn.self (lists_of l.logs) 0 l.order;
+  answer : walked l.self (lists_of l.logs) l.place (drop l.place l.order)
+      ≡ walked l.fn.self (lists_of l.logs) 0 l.order;
   count : l.place + count_left (left_of l.self.places.items (lists_of l.logs)) ≤ 2 ^ 29;
   next : (bank : ℕ) → slice_index l.self.next.items bank ≤ l.place;
 }

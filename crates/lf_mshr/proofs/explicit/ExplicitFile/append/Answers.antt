@@ -20,7 +20,9 @@ push-requires-clause-free g c =
     c.index-count.ensures ∙ ap (λ i. get_or counts i c.index-count.result.now) c.from.ensures
     ∙ get_or_default counts c.args.register c.index-count.result.now 0 (omega (arith, long, c.requires.exists)) in
     let counted = file.counted.counted c.args.register c.requires.exists in
-    rw (c.from-2.ensures, count_is, counted) (row-free file.entries order (λ r. count_by (λ h. h.register == r) (held_of order)) file.within.few file.rows c.args.register c.requires.entry)
+    rw (c.from-2.ensures, count_is, counted) (row-free file.entries order
+    (λ r. count_by (λ h. h.register == r) (held_of order)) file.within.few file.rows c.args.register
+    c.requires.entry)
 
 pub invariant_of-self : goal.invariant_of-self
 invariant_of-self g c =
@@ -34,13 +36,17 @@ invariant_of-self g c =
     let counted = file.counted.counted c.args.register c.requires.exists in
     let item = held_item c.args.register c.args.block c.args.target in
     let place = c.from-2.result * file.entries + c.index-count.result.now in
-    let is = ap (λ r. r * file.entries + c.index-count.result.now) c.from-2.ensures ∙ ap (λ n. c.args.register * file.entries + n) (count_is ∙ counted) in
-    let same : held_of c.push.new.self.places.order ≡ held_of order ++ item ∷ [] = ap held_of c.push.ensures.order ∙ held-push order (place, item) in
+    let is = ap (λ r. r * file.entries + c.index-count.result.now) c.from-2.ensures
+    ∙ ap (λ n. c.args.register * file.entries + n) (count_is ∙ counted) in
+    let same : held_of c.push.new.self.places.order ≡ held_of order ++ item ∷ [] =
+    ap held_of c.push.ensures.order ∙ held-push order (place, item) in
     record {
       all = c.push.ensures.places ∙ file.all ∙ ap (λ n. n * file.entries) (sym c.push.ensures.registers);
-      counted = rw (c.push.ensures.registers, c.from-3.ensures, count_is, same) (IsCounted-push file.registers.registers counts (held_of order) file.counted item c.requires.exists);
+      counted = rw (c.push.ensures.registers, c.from-3.ensures, count_is, same)
+          (IsCounted-push file.registers.registers counts (held_of order) file.counted item c.requires.exists);
       within = rw (c.push.ensures.registers, same) (IsWithin-push file.within item c.requires.exists c.requires.entry);
-      rows = ap (are_in_rows file.entries) c.push.ensures.order ∙ rows-push file.entries order (place, item) file.rows is;
+      rows = ap (are_in_rows file.entries) c.push.ensures.order
+          ∙ rows-push file.entries order (place, item) file.rows is;
       some_entry = file.some_entry;
       limit = subst (λ n. n * file.entries ≤ 1024) (sym c.push.ensures.registers) file.limit;
     }

@@ -12,6 +12,7 @@ returns-in-Some g c = λ destination at.
     let registers = file.registers in
     let held = held_of registers.places.order in
     c.has_entry.ensures
-    ∙ room-found registers.registers held registers.once c.args.block c.in-Some.register c.in-Some.ensures.some.0 c.in-Some.ensures.some.1
+    ∙ room-found registers.registers held registers.once c.args.block c.in-Some.register c.in-Some.ensures.some.0
+    c.in-Some.ensures.some.1
     (λ r. nat_lt (count_by (λ h. h.register == r) held) file.entries)
     (list_any (is_free held) (range_with_len 0 registers.registers))

@@ -14,8 +14,10 @@ returns-then-not-has_entry g c =
     let there : nat_lt c.args.register file.registers.registers ≡ true = search rules in
     let has : holds_in held c.args.register c.args.block ≡ true = search rules in
     let left : nat_lt (count_by (λ h. h.register == c.args.register) held) file.entries ≡ false = search rules in
-    sym (last_fails NotInFlight RegisterRange WrongRegister MergeFull (holds held c.args.block) (nat_lt c.args.register file.registers.registers) (holds_in held c.args.register c.args.block)
-    (nat_lt (count_by (λ h. h.register == c.args.register) held) file.entries) (holds_from held c.args.register c.args.block has) there has left)
+    sym (last_fails NotInFlight RegisterRange WrongRegister MergeFull (holds held c.args.block)
+    (nat_lt c.args.register file.registers.registers) (holds_in held c.args.register c.args.block)
+    (nat_lt (count_by (λ h. h.register == c.args.register) held) file.entries)
+    (holds_from held c.args.register c.args.block has) there has left)
 
 pub returns-then-holds_in : goal.returns-then-holds_in
 returns-then-holds_in g c =
@@ -24,5 +26,7 @@ returns-then-holds_in g c =
     let there : nat_lt c.args.register file.registers.registers ≡ true = search rules in
     let has : holds_in held c.args.register c.args.block ≡ true = search rules in
     let left : nat_lt (count_by (λ h. h.register == c.args.register) held) file.entries ≡ true = search rules in
-    sym (all_from NotInFlight RegisterRange WrongRegister MergeFull (holds held c.args.block) (nat_lt c.args.register file.registers.registers) (holds_in held c.args.register c.args.block)
-    (nat_lt (count_by (λ h. h.register == c.args.register) held) file.entries) (holds_from held c.args.register c.args.block has) there has left)
+    sym (all_from NotInFlight RegisterRange WrongRegister MergeFull (holds held c.args.block)
+    (nat_lt c.args.register file.registers.registers) (holds_in held c.args.register c.args.block)
+    (nat_lt (count_by (λ h. h.register == c.args.register) held) file.entries)
+    (holds_from held c.args.register c.args.block has) there has left)

@@ -12,9 +12,11 @@ use Rattle.lf_mshr.proofs.explicit.ExplicitOrganisation.release_into.Goals as go
 pub invariant_of-file : goal.invariant_of-file
 invariant_of-file g c =
     let file = c.args.file.now in
-    let same : c.release_into.new.self.places.order ≡ file.registers.places.order = c.release_into.ensures.order ∙ left-none file.registers.places.order c.args.block c.in_default.ensures.none in
+    let same : c.release_into.new.self.places.order ≡ file.registers.places.order =
+    c.release_into.ensures.order ∙ left-none file.registers.places.order c.args.block c.in_default.ensures.none in
     record {
-      all = c.release_into.ensures.places ∙ file.all ∙ ap (λ n. n * file.entries) (sym c.release_into.ensures.registers);
+      all = c.release_into.ensures.places ∙ file.all ∙ ap (λ n. n * file.entries)
+          (sym c.release_into.ensures.registers);
       counted = rw (c.release_into.ensures.registers, same) file.counted;
       within = rw (c.release_into.ensures.registers, same) file.within;
       rows = ap (are_in_rows file.entries) same ∙ file.rows;
@@ -25,23 +27,30 @@ invariant_of-file g c =
 pub returns-in_default-clause-others : goal.returns-in_default-clause-others
 returns-in_default-clause-others g c =
     let file = c.args.file.now in
-    ap (λ n. explicit_file n file.entries file.destinations (held_of c.release_into.new.self.places.order)) c.release_into.ensures.registers
-    ∙ ap (explicit_file file.registers.registers file.entries file.destinations) (ap held_of c.release_into.ensures.order ∙ held-left file.registers.places.order c.args.block)
+    ap (λ n. explicit_file n file.entries file.destinations (held_of c.release_into.new.self.places.order))
+    c.release_into.ensures.registers
+    ∙ ap (explicit_file file.registers.registers file.entries file.destinations)
+    (ap held_of c.release_into.ensures.order ∙ held-left file.registers.places.order c.args.block)
 
 pub invariant_of-file-2 : goal.invariant_of-file-2
 invariant_of-file-2 g c =
     let file = c.args.file.now in
     let r = file.registers in
     let order = r.places.order in
-    let same : held_of c.release_into.new.self.places.order ≡ released (held_of order) c.args.block = ap held_of c.release_into.ensures.order ∙ held-left order c.args.block in
+    let same : held_of c.release_into.new.self.places.order ≡ released (held_of order) c.args.block =
+    ap held_of c.release_into.ensures.order ∙ held-left order c.args.block in
     record {
-      all = c.release_into.ensures.places ∙ file.all ∙ ap (λ n. n * file.entries) (sym c.release_into.ensures.registers);
+      all = c.release_into.ensures.places ∙ file.all ∙ ap (λ n. n * file.entries)
+          (sym c.release_into.ensures.registers);
       counted = rw (c.release_into.ensures.registers, same)
           (IsCounted-released r.registers r.used r.blocks.items
-          (held_of order) r.index c.in-Some.register c.args.block c.in-Some.ensures.some.0 c.in-Some.ensures.some.1 r.once file.counts.items file.counted);
-      within = rw (c.release_into.ensures.registers, same) (IsWithin-filter file.within (λ h. not (h.block == c.args.block)));
+          (held_of order) r.index c.in-Some.register c.args.block c.in-Some.ensures.some.0 c.in-Some.ensures.some.1
+          r.once file.counts.items file.counted);
+      within = rw (c.release_into.ensures.registers, same) (IsWithin-filter file.within
+          (λ h. not (h.block == c.args.block)));
       rows = ap (are_in_rows file.entries) c.release_into.ensures.order
-          ∙ rows-left file.entries r.registers r.used r.blocks.items order r.index file.within r.once c.in-Some.register c.args.block c.in-Some.ensures.some.0 c.in-Some.ensures.some.1 file.rows;
+          ∙ rows-left file.entries r.registers r.used r.blocks.items order r.index file.within r.once
+          c.in-Some.register c.args.block c.in-Some.ensures.some.0 c.in-Some.ensures.some.1 file.rows;
       some_entry = file.some_entry;
       limit = subst (λ n. n * file.entries ≤ 1024) (sym c.release_into.ensures.registers) file.limit;
     }
@@ -49,5 +58,7 @@ invariant_of-file-2 g c =
 pub returns-clause-others : goal.returns-clause-others
 returns-clause-others g c =
     let file = c.args.file.now in
-    ap (λ n. explicit_file n file.entries file.destinations (held_of c.release_into.new.self.places.order)) c.release_into.ensures.registers
-    ∙ ap (explicit_file file.registers.registers file.entries file.destinations) (ap held_of c.release_into.ensures.order ∙ held-left file.registers.places.order c.args.block)
+    ap (λ n. explicit_file n file.entries file.destinations (held_of c.release_into.new.self.places.order))
+    c.release_into.ensures.registers
+    ∙ ap (explicit_file file.registers.registers file.entries file.destinations)
+    (ap held_of c.release_into.ensures.order ∙ held-left file.registers.places.order c.args.block)

@@ -4,11 +4,13 @@ use Rattle.lf_mshr.proofs.Room.{has_room_is}
 use Rattle.lf_mshr.proofs.explicit.ExplicitOrganisation.room.Goals as goal
 
 pub returns-clause-value : goal.returns-clause-value
-returns-clause-value g c = c.has_room.ensures (g.T.Target.destination c.args._target.now) (g.T.Target.position c.args._target.now)
+returns-clause-value g c = c.has_room.ensures (g.T.Target.destination c.args._target.now)
+    (g.T.Target.position c.args._target.now)
 
 pub returns-clause-exact : goal.returns-clause-exact
 returns-clause-exact g c =
     let file = c.args.file.now in
-    has_room_is g.T.Target.position g.T.Target.destination (explicit_file file.registers.registers file.entries file.destinations
+    has_room_is g.T.Target.position g.T.Target.destination (explicit_file file.registers.registers file.entries
+    file.destinations
     (held_of file.registers.places.order)) c.args.block c.args._target.now c.has_room.result
     (c.has_room.ensures (g.T.Target.destination c.args._target.now) (g.T.Target.position c.args._target.now))

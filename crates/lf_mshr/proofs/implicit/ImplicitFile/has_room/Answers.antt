@@ -11,6 +11,7 @@ returns-in-Some g c = λ destination.
     let registers = c.args.self.now.registers in
     let held = held_of registers.places.order in
     c.has_field.ensures
-    ∙ room-found registers.registers held registers.once c.args.block c.in-Some.register c.in-Some.ensures.some.0 c.in-Some.ensures.some.1
+    ∙ room-found registers.registers held registers.once c.args.block c.in-Some.register c.in-Some.ensures.some.0
+    c.in-Some.ensures.some.1
     (λ r. takes (Implicit registers.registers) g.T.Target.position held r c.args.at)
     (list_any (is_free held) (range_with_len 0 registers.registers))

@@ -13,9 +13,12 @@ returns-then-not-has_field g c =
     let held = held_of file.registers.places.order in
     let there : nat_lt c.args.register file.registers.registers ≡ true = search rules in
     let has : holds_in held c.args.register c.args.block ≡ true = search rules in
-    let left : not (list_any (λ h. h.register == c.args.register && g.T.Target.position h.target == g.T.Target.position c.args.target.now) held) ≡ false = search rules in
-    sym (last_fails NotInFlight RegisterRange WrongRegister MergeFull (holds held c.args.block) (nat_lt c.args.register file.registers.registers) (holds_in held c.args.register c.args.block)
-    (not (list_any (λ h. h.register == c.args.register && g.T.Target.position h.target == g.T.Target.position c.args.target.now) held))
+    let left : not (list_any (λ h. h.register == c.args.register
+    && g.T.Target.position h.target == g.T.Target.position c.args.target.now) held) ≡ false = search rules in
+    sym (last_fails NotInFlight RegisterRange WrongRegister MergeFull (holds held c.args.block)
+    (nat_lt c.args.register file.registers.registers) (holds_in held c.args.register c.args.block)
+    (not (list_any (λ h. h.register == c.args.register && g.T.Target.position h.target == g.T.Target.position
+    c.args.target.now) held))
     (holds_from held c.args.register c.args.block has) there has left)
 
 pub returns-then-holds_in : goal.returns-then-holds_in
@@ -24,7 +27,10 @@ returns-then-holds_in g c =
     let held = held_of file.registers.places.order in
     let there : nat_lt c.args.register file.registers.registers ≡ true = search rules in
     let has : holds_in held c.args.register c.args.block ≡ true = search rules in
-    let left : not (list_any (λ h. h.register == c.args.register && g.T.Target.position h.target == g.T.Target.position c.args.target.now) held) ≡ true = search rules in
-    sym (all_from NotInFlight RegisterRange WrongRegister MergeFull (holds held c.args.block) (nat_lt c.args.register file.registers.registers) (holds_in held c.args.register c.args.block)
-    (not (list_any (λ h. h.register == c.args.register && g.T.Target.position h.target == g.T.Target.position c.args.target.now) held))
+    let left : not (list_any (λ h. h.register == c.args.register
+    && g.T.Target.position h.target == g.T.Target.position c.args.target.now) held) ≡ true = search rules in
+    sym (all_from NotInFlight RegisterRange WrongRegister MergeFull (holds held c.args.block)
+    (nat_lt c.args.register file.registers.registers) (holds_in held c.args.register c.args.block)
+    (not (list_any (λ h. h.register == c.args.register && g.T.Target.position h.target == g.T.Target.position
+    c.args.target.now) held))
     (holds_from held c.args.register c.args.block has) there has left)

@@ -16,7 +16,8 @@ append-requires-clause-field g c =
     let file = c.args.file.now in
     elim (taken g.T.Target.position g.T.Target.destination (implicit_file file.registers.registers file.destinations
     (held_of file.registers.places.order)) c.args.block c.args.target c.args.register c.requires).1 [
-      | inl primary ↦ takes-from_is_free g.T.Target.position (held_of file.registers.places.order) file.registers.registers c.args.register (g.T.Target.position c.args.target) primary.1
+      | inl primary ↦ takes-from_is_free g.T.Target.position (held_of file.registers.places.order)
+          file.registers.registers c.args.register (g.T.Target.position c.args.target) primary.1
       | inr merge ↦ merge.2
     ]
 

@@ -11,12 +11,15 @@ invariant_of-file g c =
     record {
       all = c.release_into.ensures.places ∙ file.all ∙ ap (λ n. n * 8) (sym c.release_into.ensures.registers);
       own = ap (list_all (λ q. q.0 == q.1.register * 8 + g.T.Target.position q.1.target)) c.release_into.ensures.order
-          ∙ own-left (λ q. q.0 == q.1.register * 8 + g.T.Target.position q.1.target) file.registers.places.order c.args.block file.own;
+          ∙ own-left (λ q. q.0 == q.1.register * 8 + g.T.Target.position q.1.target) file.registers.places.order
+          c.args.block file.own;
       limit = subst (λ n. n ≤ 64) (sym c.release_into.ensures.registers) file.limit;
     }
 
 pub returns-clause-others : goal.returns-clause-others
 returns-clause-others g c =
     let file = c.args.file.now in
-    ap (λ n. implicit_file n file.destinations (held_of c.release_into.new.self.places.order)) c.release_into.ensures.registers
-    ∙ ap (implicit_file file.registers.registers file.destinations) (ap held_of c.release_into.ensures.order ∙ held-left file.registers.places.order c.args.block)
+    ap (λ n. implicit_file n file.destinations (held_of c.release_into.new.self.places.order))
+    c.release_into.ensures.registers
+    ∙ ap (implicit_file file.registers.registers file.destinations)
+    (ap held_of c.release_into.ensures.order ∙ held-left file.registers.places.order c.args.block)

@@ -9,7 +9,8 @@ use Rattle.lf_mshr.proofs.inverted.InvertedFile.append.Goals as goal
 pub push-requires-clause-free : goal.push-requires-clause-free
 push-requires-clause-free g c =
     let file = c.args.self.now in
-    taken-held (λ h. h.register) file.places.order file.own c.args.register ∙ not-true (list_any (λ h. h.register == c.args.register) (held_of file.places.order)) c.requires.free
+    taken-held (λ h. h.register) file.places.order file.own c.args.register
+    ∙ not-true (list_any (λ h. h.register == c.args.register) (held_of file.places.order)) c.requires.free
 
 pub invariant_of-self : goal.invariant_of-self
 invariant_of-self g c =
@@ -18,7 +19,8 @@ invariant_of-self g c =
     record {
       all = c.push.ensures.places ∙ file.all;
       own = ap (list_all (λ q. q.0 == q.1.register)) c.push.ensures.order
-          ∙ own-push (λ q. q.0 == q.1.register) file.places.order (c.args.register, item) file.own (eq-eqb c.args.register c.args.register refl);
+          ∙ own-push (λ q. q.0 == q.1.register) file.places.order (c.args.register, item) file.own
+          (eq-eqb c.args.register c.args.register refl);
     }
 
 pub returns-clause-items : goal.returns-clause-items

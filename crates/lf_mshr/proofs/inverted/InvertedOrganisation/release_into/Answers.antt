@@ -10,10 +10,12 @@ invariant_of-file g c =
     let file = c.args.file.now in
     record {
       all = c.release_into.ensures.places ∙ file.all;
-      own = ap (list_all (λ q. q.0 == q.1.register)) c.release_into.ensures.order ∙ own-left (λ q. q.0 == q.1.register) file.places.order c.args.block file.own;
+      own = ap (list_all (λ q. q.0 == q.1.register)) c.release_into.ensures.order
+          ∙ own-left (λ q. q.0 == q.1.register) file.places.order c.args.block file.own;
     }
 
 pub returns-clause-others : goal.returns-clause-others
 returns-clause-others g c =
     let file = c.args.file.now in
-    ap (inverted_file file.destinations) (ap held_of c.release_into.ensures.order ∙ held-left file.places.order c.args.block)
+    ap (inverted_file file.destinations) (ap held_of c.release_into.ensures.order
+    ∙ held-left file.places.order c.args.block)

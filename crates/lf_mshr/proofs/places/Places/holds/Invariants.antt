@@ -8,7 +8,8 @@ abbrev pub invariant-loop-left : goal.invariant-loop-left
 invariant-loop-left g l =
     let p = l.self-inside in
     record {
-      answer : holds (held_of (placed p.items.items (walk (slice_index p.next.items) l.at l.left))) l.block ≡ holds (held_of l.self.order) l.block;
+      answer : holds (held_of (placed p.items.items (walk (slice_index p.next.items) l.at l.left))) l.block
+          ≡ holds (held_of l.self.order) l.block;
       below : (place : ℕ) → p.end ≤ place → at place (walk (slice_index p.next.items) l.at l.left) ≡ 0;
       low : l.at ≤ p.end;
     }

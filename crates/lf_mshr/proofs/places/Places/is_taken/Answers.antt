@@ -7,4 +7,5 @@ pub returns : goal.returns
 returns g c =
     let p = c.self.inside in
     rw (← c.self.view_is)
-    (c.is_marked.ensures ∙ ap (λ (ws : List ℕ). is_marked ws c.args.place) c.deref.ensures.value ∙ taken-as p.items.items p.next.items p.used.items p.end p.last p.len c.self.invariant c.args.place)
+    (c.is_marked.ensures ∙ ap (λ (ws : List ℕ). is_marked ws c.args.place) c.deref.ensures.value
+    ∙ taken-as p.items.items p.next.items p.used.items p.end p.last p.len c.self.invariant c.args.place)

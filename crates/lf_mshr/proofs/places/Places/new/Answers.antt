@@ -9,5 +9,6 @@ invariant_of-result g c =
     let links : length c.in_ok-next.next.items ≡ c.args.places + 1 = search rules in
     let words : length c.in_ok-used.used.items ≡ c.args.places / 64 + 1 = search rules in
     let zeros : c.in_ok-used.used.items ≡ replicate (c.args.places / 64 + 1) 0 = search rules in
-    chain-empty c.in_ok-items.items.items c.in_ok-next.next.items c.in_ok-used.used.items c.args.places c.requires long links (omega (arith, words))
+    chain-empty c.in_ok-items.items.items c.in_ok-next.next.items c.in_ok-used.used.items c.args.places c.requires
+    long links (omega (arith, words))
     (λ place. ap (λ (ws : List ℕ). is_marked ws place) zeros ∙ clear_words (c.args.places / 64 + 1) place)

@@ -23,10 +23,13 @@ invariant_of-self g c =
     let there = rw (← c.self.view_is) at c.requires.there in
     let free = rw (← c.self.view_is) at c.requires.free in
     let same : c.deref_mut.result.now ≡ p.used.items = c.deref_mut.ensures.value in
-    let long : length c.mark.new.words ≡ length p.used.items = c.mark.ensures.long ∙ ap (λ (ws : List ℕ). length ws) same in
-    let bits = subst (λ (ws : List ℕ). (b : ℕ) → is_marked c.mark.new.words b ≡ (b == c.args.place || is_marked ws b)) same c.mark.ensures.bits in
+    let long : length c.mark.new.words ≡ length p.used.items =
+    c.mark.ensures.long ∙ ap (λ (ws : List ℕ). length ws) same in
+    let bits = subst (λ (ws : List ℕ). (b : ℕ) → is_marked c.mark.new.words b ≡ (b == c.args.place || is_marked ws b))
+    same c.mark.ensures.bits in
     rw (c.from.ensures, c.from-2.ensures, with_items_is p.used c.mark.new.words (long ∙ sym p.used.ok.0))
-    (chain-push p.items.items p.next.items p.used.items p.end p.last p.len c.self.invariant c.args.place c.args.item c.mark.new.words there free long bits).0
+    (chain-push p.items.items p.next.items p.used.items p.end p.last p.len c.self.invariant c.args.place c.args.item
+    c.mark.new.words there free long bits).0
 
 pub returns-clause-order : goal.returns-clause-order
 returns-clause-order g c =
@@ -34,7 +37,10 @@ returns-clause-order g c =
     let there = rw (← c.self.view_is) at c.requires.there in
     let free = rw (← c.self.view_is) at c.requires.free in
     let same : c.deref_mut.result.now ≡ p.used.items = c.deref_mut.ensures.value in
-    let long : length c.mark.new.words ≡ length p.used.items = c.mark.ensures.long ∙ ap (λ (ws : List ℕ). length ws) same in
-    let bits = subst (λ (ws : List ℕ). (b : ℕ) → is_marked c.mark.new.words b ≡ (b == c.args.place || is_marked ws b)) same c.mark.ensures.bits in
+    let long : length c.mark.new.words ≡ length p.used.items =
+    c.mark.ensures.long ∙ ap (λ (ws : List ℕ). length ws) same in
+    let bits = subst (λ (ws : List ℕ). (b : ℕ) → is_marked c.mark.new.words b ≡ (b == c.args.place || is_marked ws b))
+    same c.mark.ensures.bits in
     rw (c.from.ensures, c.from-2.ensures, ← c.self.view_is)
-    (chain-push p.items.items p.next.items p.used.items p.end p.last p.len c.self.invariant c.args.place c.args.item c.mark.new.words there free long bits).1
+    (chain-push p.items.items p.next.items p.used.items p.end p.last p.len c.self.invariant c.args.place c.args.item
+    c.mark.new.words there free long bits).1

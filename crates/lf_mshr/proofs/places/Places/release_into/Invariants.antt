@@ -7,7 +7,8 @@ invariant-loop-left g l =
     let p = l.self-inside in
     let was = l.initial.self-inside in
     record {
-      releasing : IsReleasing was.items.items was.next.items was.len (length was.used.items) l.block p.next.items p.used.items l.targets.items was.end l.last l.kept l.at l.left;
+      releasing : IsReleasing was.items.items was.next.items was.len (length was.used.items) l.block p.next.items
+          p.used.items l.targets.items was.end l.last l.kept l.at l.left;
       items : p.items ≡ was.items;
       end : p.end ≡ was.end;
     }

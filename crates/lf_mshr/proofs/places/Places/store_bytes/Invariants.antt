@@ -12,7 +12,8 @@ invariant-loop-left g l =
     record {
       answer : fold (λ mask h. bit_or mask (store_mask g.T.Target.is_store g.T.Target.bytes h.target)) l.bytes
           (targets_of (held_of (placed p.items.items (walk (slice_index p.next.items) l.at l.left))) l.block)
-          ≡ fold (λ mask h. bit_or mask (store_mask g.T.Target.is_store g.T.Target.bytes h.target)) 0 (targets_of (held_of l.self.order) l.block);
+          ≡ fold (λ mask h. bit_or mask (store_mask g.T.Target.is_store g.T.Target.bytes h.target)) 0
+          (targets_of (held_of l.self.order) l.block);
       below : (place : ℕ) → p.end ≤ place → at place (walk (slice_index p.next.items) l.at l.left) ≡ 0;
       low : l.at ≤ p.end;
     }

@@ -6,4 +6,5 @@ use Rattle.lf_mshr.proofs.registers.Registers.holds.Goals as goal
 pub returns : goal.returns
 returns g c =
     let file = c.args.self.now in
-    c.is_some.ensures ∙ found-is file.registers (held_of file.places.order) c.args.block c.find.result c.find.ensures.some c.find.ensures.none
+    c.is_some.ensures ∙ found-is file.registers (held_of file.places.order) c.args.block c.find.result
+    c.find.ensures.some c.find.ensures.none

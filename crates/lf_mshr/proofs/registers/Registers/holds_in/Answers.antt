@@ -11,9 +11,12 @@ returns-then-index-block g c =
     let long = file.index.long in
     let read : c.index.result.now ≡ slice_index file.blocks.items c.args.register = c.index.ensures
     ∙ get_or_default file.blocks.items c.args.register c.index.result.now 0 (omega (arith, c.requires, long)) in
-    let same : (slice_index file.blocks.items c.args.register == c.args.block) ≡ true = eq-eqb (slice_index file.blocks.items c.args.register) c.args.block (sym read ∙ c.if-index-block.true) in
-    c.has_bit.ensures ∙ own (is_under file.used c.args.register) (slice_index file.blocks.items c.args.register == c.args.block) same
-    ∙ holds_in-is file.registers file.used file.blocks.items (held_of file.places.order) file.index c.args.register c.args.block c.requires
+    let same : (slice_index file.blocks.items c.args.register == c.args.block) ≡ true =
+    eq-eqb (slice_index file.blocks.items c.args.register) c.args.block (sym read ∙ c.if-index-block.true) in
+    c.has_bit.ensures ∙ own (is_under file.used c.args.register)
+    (slice_index file.blocks.items c.args.register == c.args.block) same
+    ∙ holds_in-is file.registers file.used file.blocks.items (held_of file.places.order) file.index c.args.register
+    c.args.block c.requires
   where
     own : (a b : Bool) → b ≡ true → a ≡ (a && b)
     own true b e = sym e

@@ -12,16 +12,20 @@ pub invariant_of-self : goal.invariant_of-self
 invariant_of-self g c =
     let file = c.args.self.now in
     let held = held_of file.places.order in
-    let same : held_of c.release_into.new.self.order ≡ released held c.args.block = ap held_of c.release_into.ensures.order ∙ held-left file.places.order c.args.block in
+    let same : held_of c.release_into.new.self.order ≡ released held c.args.block =
+    ap held_of c.release_into.ensures.order ∙ held-left file.places.order c.args.block in
     record {
-      index = rw same (IsIndexed-released file.registers file.used file.blocks.items held file.index c.in-Some.register c.args.block c.in-Some.ensures.some.0 c.in-Some.ensures.some.1 file.once);
+      index = rw same (IsIndexed-released file.registers file.used file.blocks.items held file.index
+          c.in-Some.register c.args.block c.in-Some.ensures.some.0 c.in-Some.ensures.some.1 file.once);
       below = rw same (IsBelow-filter file.registers held file.below (λ h. not (h.block == c.args.block)));
       once = rw same (HoldsOnce-released held c.args.block file.once);
     }
 
 pub returns-in_default-clause-targets : goal.returns-in_default-clause-targets
 returns-in_default-clause-targets g c =
-    c.clear.ensures ∙ sym (ap (map released_pair) (targets-none (held_of c.args.self.now.places.order) c.args.block c.in_default.ensures.none))
+    c.clear.ensures ∙ sym (ap (map released_pair) (targets-none (held_of c.args.self.now.places.order) c.args.block
+    c.in_default.ensures.none))
 
 pub returns-in_default-clause-order : goal.returns-in_default-clause-order
-returns-in_default-clause-order g c = sym (left-none c.args.self.now.places.order c.args.block c.in_default.ensures.none)
+returns-in_default-clause-order g c = sym (left-none c.args.self.now.places.order c.args.block
+    c.in_default.ensures.none)

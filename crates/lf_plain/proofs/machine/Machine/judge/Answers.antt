@@ -6,5 +6,7 @@ use Rattle.lf_plain.proofs.machine.Machine.judge.Goals as goal
 
 pub returns-then-bank-len : goal.returns-then-bank-len
 returns-then-bank-len c =
-    judged_fence c.args.self.now.shape (seen_by c.args.item.now.log c.args.item.now.bank (state_of c.args.self.now)) c.args.item.now c.judge_fence.result
-    (fence_if c.args.self.now.shape c.args.item.now c.requires.fits (omega (arith, c.requires.machine.banks))) (rw (← c.deref.ensures.value) c.judge_fence.ensures)
+    judged_fence c.args.self.now.shape (seen_by c.args.item.now.log c.args.item.now.bank (state_of c.args.self.now))
+    c.args.item.now c.judge_fence.result
+    (fence_if c.args.self.now.shape c.args.item.now c.requires.fits (omega (arith, c.requires.machine.banks)))
+    (rw (← c.deref.ensures.value) c.judge_fence.ensures)

@@ -5,10 +5,13 @@ use Rattle.lf_replay.proofs.bank.Bank.answer.Goals as goal
 
 pub returns-in-Issue : goal.returns-in-Issue
 returns-in-Issue g c =
-    let same = c.of_issue-request.ensures ∙ ap (request_of c.self.inside.shape c.in-Issue.tag c.in-Issue.op c.in-Issue.size c.in-Issue.address) c.deref.ensures.0 in
+    let same = c.of_issue-request.ensures ∙ ap (request_of c.self.inside.shape c.in-Issue.tag c.in-Issue.op
+    c.in-Issue.size c.in-Issue.address) c.deref.ensures.0 in
     let of_shape = subst (λ (k : BankView). c.of_issue-request.result
-    ≡ request_of k.shape c.in-Issue.tag c.in-Issue.op c.in-Issue.size c.in-Issue.address c.in-Issue.bytes.items) c.self.view_is same in
-    rw c.in-Issue.is (c.issue.ensures c.in-Issue.op c.in-Issue.tag c.in-Issue.size c.in-Issue.address c.in-Issue.bytes of_shape)
+    ≡ request_of k.shape c.in-Issue.tag c.in-Issue.op c.in-Issue.size c.in-Issue.address c.in-Issue.bytes.items)
+    c.self.view_is same in
+    rw c.in-Issue.is (c.issue.ensures c.in-Issue.op c.in-Issue.tag c.in-Issue.size c.in-Issue.address c.in-Issue.bytes
+    of_shape)
 
 pub returns-in-Reply : goal.returns-in-Reply
 returns-in-Reply g c = rw c.in-Reply.is c.reply.ensures

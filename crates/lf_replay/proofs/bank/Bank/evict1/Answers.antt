@@ -26,10 +26,12 @@ returns g c = λ log bank waiting fetched wait.
     let here = subst (λ (k : BankView). AreWaiting k waiting fetched) (sym c.self.view_is) wait in
     let evicted : c.evict.new.self ≡ after_evict c.self.inside.lines1 c.args.block = search rules in
     let outer : c.mark_at.new.lines ≡ after_fill c.self.inside.lines2 (second_of shape c.args.block)
-    (marked (dirty_masks c.self.inside.lines2.lines (second_of shape c.args.block)) (place_of shape c.args.block) c.args.mask.0) =
+    (marked (dirty_masks c.self.inside.lines2.lines (second_of shape c.args.block)) (place_of shape c.args.block)
+    c.args.mask.0) =
     c.mark_at.ensures
     ∙ (λ i. after_fill c.self.inside.lines2 (c.second_of-second.ensures i)
-    (marked (dirty_masks c.self.inside.lines2.lines (c.second_of-second.ensures i)) (c.place_of-place.ensures.place i) c.args.mask.0)) in (
+    (marked (dirty_masks c.self.inside.lines2.lines (c.second_of-second.ensures i)) (c.place_of-place.ensures.place i)
+    c.args.mask.0)) in (
       c.in_default.ensures.judged log bank waiting fetched wait,
       ap (λ (k : BankView). k.shape) c.self.view_is,
       record {
@@ -47,6 +49,7 @@ returns g c = λ log bank waiting fetched wait.
             supplied = c.self.inside.supplied.items;
             ready = c.self.inside.ready.items;
           };
-        }) ∙ ap (λ (k : BankView). after_event k.shape (local_of k waiting fetched) log (Evict1 c.args.block c.args.mask c.args.bytes.now)) c.self.view_is;
+        }) ∙ ap (λ (k : BankView). after_event k.shape (local_of k waiting fetched) log
+            (Evict1 c.args.block c.args.mask c.args.bytes.now)) c.self.view_is;
       },
     )

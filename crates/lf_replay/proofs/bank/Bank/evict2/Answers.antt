@@ -10,5 +10,9 @@ returns g c =
     rw (← c.self.view_is) (λ log bank waiting fetched wait. (
       judged log bank waiting fetched wait,
       refl,
-      record { registers = record { level1 = wait.level1; level2 = wait.level2; home = wait.home }; rest = search rules },
+      record {
+        registers = record { level1 = wait.level1; level2 = wait.level2; home = wait.home };
+        rest =
+            search rules;
+      },
     ))

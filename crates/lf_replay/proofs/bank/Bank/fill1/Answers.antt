@@ -11,8 +11,13 @@ fill-requires g c =
 
 pub add_replies-requires-clause-told : goal.add_replies-requires-clause-told
 add_replies-requires-clause-told g c =
-    let keeps = rw (← c.self.view_is) at c.requires.reached in
-    ((g.O1.Organisation.seen c.self.inside.waiting).held, keeps.now.slice.waiting, c.args.block, keeps.shows.registers.level1, c.as_slice.ensures.value ∙ c.release_into.ensures.targets)
+    let keeps = rw (← c.self.view_is) at c.requires.reached in (
+      (g.O1.Organisation.seen c.self.inside.waiting).held,
+      keeps.now.slice.waiting,
+      c.args.block,
+      keeps.shows.registers.level1,
+      c.as_slice.ensures.value ∙ c.release_into.ensures.targets,
+    )
 
 pub returns-in-Some : goal.returns-in-Some
 returns-in-Some g c = λ log bank waiting fetched wait. (c.in-Some.ensures.judged log bank waiting fetched wait, refl)
@@ -20,20 +25,23 @@ returns-in-Some g c = λ log bank waiting fetched wait. (c.in-Some.ensures.judge
 pub returns-then-is_err : goal.returns-then-is_err
 returns-then-is_err g c =
     let judged = rw (← c.self.view_is) at c.in_default.ensures.judged in
-    rw (← c.self.view_is) (λ log bank waiting fetched wait. (judged log bank waiting fetched wait, search (rules, c.reserve.ensures.items)))
+    rw (← c.self.view_is) (λ log bank waiting fetched wait.
+    (judged log bank waiting fetched wait, search (rules, c.reserve.ensures.items)))
 
 pub returns : goal.returns
 returns g c =
     let judged = rw (← c.self.view_is) at c.in_default.ensures.judged in
     rw (← c.self.view_is) (λ log bank waiting fetched wait.
     let stores = c.store_bytes-stores.ensures c.self.inside.shape waiting wait.level1 in
-    let replies = c.add_replies.ensures (g.O1.Organisation.seen c.self.inside.waiting).held waiting c.args.block wait.level1 (c.as_slice.ensures.value ∙ c.release_into.ensures.targets) in (
+    let replies = c.add_replies.ensures (g.O1.Organisation.seen c.self.inside.waiting).held waiting c.args.block
+    wait.level1 (c.as_slice.ensures.value ∙ c.release_into.ensures.targets) in (
       judged log bank waiting fetched wait,
       refl,
       record {
         registers = record {
           level1 = released1 c.self.inside.shape (g.O1.Organisation.seen c.self.inside.waiting)
-              (g.O1.Organisation.seen c.release_into.new.file) waiting c.args.block wait.level1 c.release_into.ensures.others;
+              (g.O1.Organisation.seen c.release_into.new.file) waiting c.args.block wait.level1
+              c.release_into.ensures.others;
           level2 = wait.level2;
           home = wait.home;
         };

@@ -11,8 +11,12 @@ fill-requires-clause-absent g c =
 
 pub add_blocks-requires-clause-told : goal.add_blocks-requires-clause-told
 add_blocks-requires-clause-told g c =
-    let keeps = rw (← c.self.view_is) at c.requires.reached in
-    ((g.O2.Organisation.seen c.self.inside.regs2).held, keeps.now.slice.regs2, keeps.shows.registers.level2, c.as_slice.ensures.value ∙ c.release_into.ensures.targets)
+    let keeps = rw (← c.self.view_is) at c.requires.reached in (
+      (g.O2.Organisation.seen c.self.inside.regs2).held,
+      keeps.now.slice.regs2,
+      keeps.shows.registers.level2,
+      c.as_slice.ensures.value ∙ c.release_into.ensures.targets,
+    )
 
 pub returns-in-Some : goal.returns-in-Some
 returns-in-Some g c = λ log bank waiting fetched wait. (c.in-Some.ensures.judged log bank waiting fetched wait, refl)
@@ -20,20 +24,23 @@ returns-in-Some g c = λ log bank waiting fetched wait. (c.in-Some.ensures.judge
 pub returns-then-is_err : goal.returns-then-is_err
 returns-then-is_err g c =
     let judged = rw (← c.self.view_is) at c.in_default.ensures.judged in
-    rw (← c.self.view_is) (λ log bank waiting fetched wait. (judged log bank waiting fetched wait, search (rules, c.reserve.ensures.items)))
+    rw (← c.self.view_is) (λ log bank waiting fetched wait.
+    (judged log bank waiting fetched wait, search (rules, c.reserve.ensures.items)))
 
 pub returns : goal.returns
 returns g c =
     let judged = rw (← c.self.view_is) at c.in_default.ensures.judged in
     rw (← c.self.view_is) (λ log bank waiting fetched wait.
-    let supplied = c.add_blocks.ensures (g.O2.Organisation.seen c.self.inside.regs2).held fetched wait.level2 wait.home (c.as_slice.ensures.value ∙ c.release_into.ensures.targets) in (
+    let supplied = c.add_blocks.ensures (g.O2.Organisation.seen c.self.inside.regs2).held fetched wait.level2
+    wait.home (c.as_slice.ensures.value ∙ c.release_into.ensures.targets) in (
       judged log bank waiting fetched wait,
       refl,
       record {
         registers = record {
           level1 = wait.level1;
           level2 = released2 c.self.inside.shape (g.O2.Organisation.seen c.self.inside.regs2)
-              (g.O2.Organisation.seen c.release_into.new.file) fetched c.args.second wait.level2 c.release_into.ensures.others;
+              (g.O2.Organisation.seen c.release_into.new.file) fetched c.args.second wait.level2
+              c.release_into.ensures.others;
           home = home_released c.self.inside.shape fetched c.args.second wait.home;
         };
         rest = search rules;

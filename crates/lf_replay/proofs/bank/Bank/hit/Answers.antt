@@ -9,4 +9,5 @@ pub returns-then-is_err-2 : goal.returns-then-is_err-2
 returns-then-is_err-2 g c =
     let judged = rw (← c.self.view_is) at c.in_default.ensures.judged in
     let unpushed : c.pop.new.self.items ≡ c.self.inside.ready.items = grind (arith, common_steps) in
-    rw (← c.self.view_is) (λ log bank waiting fetched wait. (judged log bank waiting fetched wait, search (rules, unpushed)))
+    rw (← c.self.view_is) (λ log bank waiting fetched wait.
+    (judged log bank waiting fetched wait, search (rules, unpushed)))

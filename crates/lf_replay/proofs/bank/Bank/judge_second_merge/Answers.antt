@@ -10,12 +10,14 @@ use Rattle.lf_replay.proofs.bank.Bank.judge_second_merge.Goals as goal
 pub returns-clause-takes : goal.returns-clause-takes
 returns-clause-takes g c =
     let taken : c.second_merge_rule.result ≡ None → TakesSecondMerge c.self.inside.shape
-    (g.O2.Organisation.seen c.self.inside.regs2) c.self.inside.asked.items c.args.block c.args.register = λ none target there at.
+    (g.O2.Organisation.seen c.self.inside.regs2) c.self.inside.asked.items c.args.block c.args.register =
+    λ none target there at.
     let file = g.O2.Organisation.seen c.self.inside.regs2 in
     let asker = rw c.deref-2.ensures.value at c.fetch-target.ensures.destination in
     let block_is = sym c.second_of-second.ensures in
     let destination_is = at ∙ sym asker in
     let position_is = there ∙ sym c.fetch-target.ensures.position in
-    (λ i. first_failing OfBank (merge_clauses file.organisation file.destinations (λ (r : Request2). r.position) file.held (block_is i) (destination_is i) (position_is i) c.args.register))
+    (λ i. first_failing OfBank (merge_clauses file.organisation file.destinations (λ (r : Request2). r.position)
+    file.held (block_is i) (destination_is i) (position_is i) c.args.register))
     ∙ sym c.second_merge_rule.ensures.held ∙ none in
     rw (← c.self.view_is) (if_none _ taken)

@@ -11,5 +11,7 @@ pub returns : goal.returns
 returns g c = rw (← c.self.view_is) (λ missed alike fetched.
     let shape = c.self.inside.shape in
     c.may_leave.ensures
-    ∙ ap₂ (λ f b. are_absent f c.self.inside.lines1 c.args.second && not b) c.self.invariant.factor2 (c.is_waited_for-in_register.ensures shape missed alike)
-    ∙ all_apart (λ place. has_line c.self.inside.lines1.lines (sub_block shape c.args.second place)) (λ place. holds missed (sub_block shape c.args.second place)) 0 shape.factor)
+    ∙ ap₂ (λ f b. are_absent f c.self.inside.lines1 c.args.second && not b) c.self.invariant.factor2
+    (c.is_waited_for-in_register.ensures shape missed alike)
+    ∙ all_apart (λ place. has_line c.self.inside.lines1.lines (sub_block shape c.args.second place))
+    (λ place. holds missed (sub_block shape c.args.second place)) 0 shape.factor)

@@ -18,7 +18,8 @@ accept_head-requires-clause-tagged g c =
 pub place-requires : goal.place-requires
 place-requires g c =
     let takes = rw (← c.self.view_is) at c.in_default.ensures.takes in
-    inr (subst (λ b. merge_held (g.O1.Organisation.seen c.self.inside.waiting) c.args.register b c.in-Ok.target ≡ None) (sym c.in-Ok.ensures.block)
+    inr (subst (λ b. merge_held (g.O1.Organisation.seen c.self.inside.waiting) c.args.register b c.in-Ok.target
+    ≡ None) (sym c.in-Ok.ensures.block)
     (takes c.in-Ok.target c.in-Ok.ensures.tells.position c.in-Ok.ensures.tells.destination))
 
 pub returns-in-Some : goal.returns-in-Some
@@ -41,8 +42,10 @@ returns g c =
       refl,
       record {
         registers = record {
-          level1 = placed1 c.self.inside.shape (g.O1.Organisation.seen c.self.inside.waiting) (g.O1.Organisation.seen c.place.new.file) waiting c.args.register
-              c.in-Ok.block c.args.port c.in-Ok.target (flat_of c.self.inside.memory) request request wait.level1 c.place.ensures c.in-Ok.ensures.block refl
+          level1 = placed1 c.self.inside.shape (g.O1.Organisation.seen c.self.inside.waiting)
+              (g.O1.Organisation.seen c.place.new.file) waiting c.args.register
+              c.in-Ok.block c.args.port c.in-Ok.target (flat_of c.self.inside.memory) request request wait.level1
+              c.place.ensures c.in-Ok.ensures.block refl
               c.in-Ok.ensures.tells;
           level2 = wait.level2;
           home = wait.home;

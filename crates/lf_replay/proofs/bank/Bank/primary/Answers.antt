@@ -18,7 +18,8 @@ accept_head-requires-clause-tagged g c =
 pub place-requires : goal.place-requires
 place-requires g c =
     let takes = rw (← c.self.view_is) at c.in_default.ensures.takes in
-    inl (subst (λ b. primary_held (g.O1.Organisation.seen c.self.inside.waiting) c.args.register b c.in-Ok.target ≡ None) (sym c.in-Ok.ensures.block)
+    inl (subst (λ b. primary_held (g.O1.Organisation.seen c.self.inside.waiting) c.args.register b c.in-Ok.target
+    ≡ None) (sym c.in-Ok.ensures.block)
     (takes c.in-Ok.target c.in-Ok.ensures.tells.destination))
 
 pub returns-in-Some : goal.returns-in-Some
@@ -27,14 +28,20 @@ returns-in-Some g c = λ log bank waiting fetched wait. (c.in-Some.ensures.judge
 pub returns-then-is_err : goal.returns-then-is_err
 returns-then-is_err g c =
     let judged = rw (← c.self.view_is) at c.in_default.ensures.judged in
-    rw (← c.self.view_is) (λ log bank waiting fetched wait. (judged log bank waiting fetched wait, search (rules, c.reserve.ensures.items)))
+    rw (← c.self.view_is) (λ log bank waiting fetched wait.
+    (judged log bank waiting fetched wait, search (rules, c.reserve.ensures.items)))
 
 pub returns-in_default-accept_head : goal.returns-in_default-accept_head
 returns-in_default-accept_head g c =
     let judged = rw (← c.self.view_is) at c.in_default.ensures.judged in
     rw (← c.self.view_is) (λ log bank waiting fetched wait. (
       judged log bank waiting fetched wait,
-      search (rules, c.reserve.ensures.items, c.in_default-accept_head.ensures.kept_memory, c.in_default-accept_head.ensures.kept_queues),
+      search (
+        rules,
+        c.reserve.ensures.items,
+        c.in_default-accept_head.ensures.kept_memory,
+        c.in_default-accept_head.ensures.kept_queues,
+      ),
     ))
 
 pub returns : goal.returns
@@ -50,8 +57,10 @@ returns g c =
       refl,
       record {
         registers = record {
-          level1 = placed1 c.self.inside.shape (g.O1.Organisation.seen c.self.inside.waiting) (g.O1.Organisation.seen c.place.new.file) waiting c.args.register
-              c.in-Ok.block c.args.port c.in-Ok.target (flat_of c.self.inside.memory) request request wait.level1 c.place.ensures c.in-Ok.ensures.block refl
+          level1 = placed1 c.self.inside.shape (g.O1.Organisation.seen c.self.inside.waiting)
+              (g.O1.Organisation.seen c.place.new.file) waiting c.args.register
+              c.in-Ok.block c.args.port c.in-Ok.target (flat_of c.self.inside.memory) request request wait.level1
+              c.place.ensures c.in-Ok.ensures.block refl
               c.in-Ok.ensures.tells;
           level2 = wait.level2;
           home = wait.home;

@@ -7,7 +7,8 @@ pub place-requires : goal.place-requires
 place-requires g c =
     let takes = rw (← c.self.view_is) at c.in_default.ensures.takes in
     let asker = rw c.deref.ensures.value at c.fetch-target.ensures.destination in
-    inl (subst (λ b. second_primary_held (g.O2.Organisation.seen c.self.inside.regs2) c.args.register b c.fetch-target.result ≡ None) (sym c.second_of-second.ensures)
+    inl (subst (λ b. second_primary_held (g.O2.Organisation.seen c.self.inside.regs2) c.args.register b
+    c.fetch-target.result ≡ None) (sym c.second_of-second.ensures)
     (takes c.fetch-target.result asker))
 
 pub returns-in-Some : goal.returns-in-Some
@@ -23,8 +24,10 @@ returns g c =
       record {
         registers = record {
           level1 = wait.level1;
-          level2 = placed2 c.self.inside.shape (g.O2.Organisation.seen c.self.inside.regs2) (g.O2.Organisation.seen c.place.new.file) fetched c.args.register
-              c.second_of-second.result c.args.block _ c.fetch-target.result wait.level2 c.place.ensures c.fetch-target.ensures.position asker
+          level2 = placed2 c.self.inside.shape (g.O2.Organisation.seen c.self.inside.regs2)
+              (g.O2.Organisation.seen c.place.new.file) fetched c.args.register
+              c.second_of-second.result c.args.block _ c.fetch-target.result wait.level2 c.place.ensures
+              c.fetch-target.ensures.position asker
               c.second_of-second.ensures;
           home = home_placed c.self.inside.shape fetched c.args.register c.args.block _ wait.home;
         };

@@ -8,7 +8,8 @@ pub asking-target-requires-clause-tag : goal.asking-target-requires-clause-tag
 asking-target-requires-clause-tag g c =
     let head = rw c.deref.ensures.value at c.in-Some.ensures in
     let keeps = rw (← c.self.view_is) at c.requires in
-    subst (λ (r : Request). r.tag < c.self.inside.shape.tags) (sym head.1) (oldest_tagged _ keeps c.args.port c.args.tag head.0)
+    subst (λ (r : Request). r.tag < c.self.inside.shape.tags) (sym head.1)
+    (oldest_tagged _ keeps c.args.port c.args.tag head.0)
 
 pub returns : goal.returns
 returns g c = grind (arith, common_steps)

@@ -3,16 +3,21 @@ use Rattle.lf_replay.proofs.Runs.{bank_after_more, fault_more}
 use Rattle.lf_replay.proofs.bank.BankBankState.apply.Goals as goal
 
 pub returns-clause-reached : goal.returns-clause-reached
-returns-clause-reached g c = reached_after c.args.self.now _ c.args.item.now.log c.args.item.now.event c.answer.result c.requires.reached c.answer.ensures
+returns-clause-reached g c = reached_after c.args.self.now _ c.args.item.now.log c.args.item.now.event c.answer.result
+    c.requires.reached c.answer.ensures
 
 pub returns-clause-shape : goal.returns-clause-shape
-returns-clause-shape g c = same_shape c.args.self.now _ c.args.item.now.log c.args.item.now.event c.answer.result c.requires.reached c.answer.ensures
+returns-clause-shape g c = same_shape c.args.self.now _ c.args.item.now.log c.args.item.now.event c.answer.result
+    c.requires.reached c.answer.ensures
 
 pub returns-clause-unchanged : goal.returns-clause-unchanged
-returns-clause-unchanged g c = same_after c.args.self.now _ c.args.item.now.log c.args.item.now.event c.answer.result c.requires.reached c.answer.ensures
+returns-clause-unchanged g c = same_after c.args.self.now _ c.args.item.now.log c.args.item.now.event c.answer.result
+    c.requires.reached c.answer.ensures
 
 pub returns-clause-stands : goal.returns-clause-stands
-returns-clause-stands g c = λ shape memory rs stands. bank_after_more c.args.self.now _ shape memory rs stands c.args.item.now c.answer.result c.answer.ensures
+returns-clause-stands g c = λ shape memory rs stands. bank_after_more c.args.self.now _ shape memory rs stands
+    c.args.item.now c.answer.result c.answer.ensures
 
 pub returns-clause-broken : goal.returns-clause-broken
-returns-clause-broken g c = λ shape memory rs stands. fault_more c.args.self.now _ shape memory rs stands c.args.item.now c.answer.result c.answer.ensures
+returns-clause-broken g c = λ shape memory rs stands. fault_more c.args.self.now _ shape memory rs stands
+    c.args.item.now c.answer.result c.answer.ensures

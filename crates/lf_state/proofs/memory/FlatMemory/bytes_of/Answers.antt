@@ -7,4 +7,6 @@ use Rattle.lf_state.proofs.memory.FlatMemory.bytes_of.Goals as goal
 
 pub returns-in-None : goal.returns-in-None
 returns-in-None c = fun_ext (λ place. zeros 64 place
-    ∙ ap (λ (o : Option (List ℕ)). slice_index (unwrap_or o []) place) (c.in-None.ensures.value ∙ ap (λ (blocks : List (ℕ × List ℕ)). lookup (nat_eq c.args.block) blocks) c.self.view_is))
+    ∙ ap (λ (o : Option (List ℕ)). slice_index (unwrap_or o []) place)
+    (c.in-None.ensures.value ∙ ap (λ (blocks : List (ℕ × List ℕ)). lookup (nat_eq c.args.block) blocks)
+    c.self.view_is))

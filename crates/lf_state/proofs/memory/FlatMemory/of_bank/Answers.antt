@@ -7,7 +7,8 @@ loop-left-preserved-in-Continue-1 c = record {
   within = omega arith;
   held =
       memory_step c.args.shape.now c.args.bank c.args.memory.now c.loop-left.left _ _ _ _
-      (omega arith) c.loop-left.invariant.within c.index-memory-left.is c.loop-left.invariant.held (sym c.bank_of.ensures ∙ c.if-bank_of-bank.true)
+      (omega arith) c.loop-left.invariant.within c.index-memory-left.is c.loop-left.invariant.held
+      (sym c.bank_of.ensures ∙ c.if-bank_of-bank.true)
       (c.padded.ensures ∙ ap slice_index c.deref.ensures.0) c.in_ok-set.ensures.ok;
 }
 
@@ -16,5 +17,6 @@ loop-left-preserved c = record {
   within = omega arith;
   held =
       memory_passed c.args.shape.now c.args.bank c.args.memory.now c.loop-left.left c.index-memory-left.result _
-      (omega arith) c.loop-left.invariant.within c.index-memory-left.is c.loop-left.invariant.held (λ e. c.if-bank_of-bank.false (c.bank_of.ensures ∙ e));
+      (omega arith) c.loop-left.invariant.within c.index-memory-left.is c.loop-left.invariant.held
+      (λ e. c.if-bank_of-bank.false (c.bank_of.ensures ∙ e));
 }

@@ -7,6 +7,7 @@ use Rattle.lf_state.proofs.memory.FlatMemory.wide_masked.Given as goal
 
 abbrev pub invariant-loop-place : goal.invariant-loop-place
 invariant-loop-place l = record {
-  items : l.all.items ≡ flat_map (λ place. masked (block_bytes l.shape (flat_of l.self) (sub_block l.shape l.second place)) (mask_at l.masks place)) (range_with_len 0 l.place);
+  items : l.all.items ≡ flat_map (λ place. masked (block_bytes l.shape (flat_of l.self)
+      (sub_block l.shape l.second place)) (mask_at l.masks place)) (range_with_len 0 l.place);
   count : array_vec_len l.all ≤ 64 * l.place;
 }

@@ -20,8 +20,10 @@ loop-rest-preserved g c plain =
     record {
       before = so_far.before ++ piece;
       whole = grind (arith, common_steps, whole);
-      written = put_two g.W.Write.write_str_gives c.args.f.now c.loop-rest.f c.write_str.new.self (encode_lower so_far.before) (encode_lower piece) _
+      written = put_two g.W.Write.write_str_gives c.args.f.now c.loop-rest.f c.write_str.new.self
+          (encode_lower so_far.before) (encode_lower piece) _
           so_far.written
-          (has_written_of_eq _ _ _ _ _ c.spell-text.ensures (c.in_ok-write_str.ensures.writes so_far.written.plain (refl {a = true})))
+          (has_written_of_eq _ _ _ _ _ c.spell-text.ensures
+          (c.in_ok-write_str.ensures.writes so_far.written.plain (refl {a = true})))
           (sym (encode_with-append lower_digits so_far.before piece));
     }

@@ -9,4 +9,5 @@ decreases-loop-rest g l = length l.rest
 
 abbrev pub invariant-loop-rest : goal.invariant-loop-rest
 invariant-loop-rest g l =
-    IsPlainFormatter l.initial.f → IsSpelledTo (HasWritten g.W.Write.write_str_gives l.initial.f) l.self.0.now l.rest l.f
+    IsPlainFormatter l.initial.f → IsSpelledTo (HasWritten g.W.Write.write_str_gives l.initial.f) l.self.0.now l.rest
+    l.f

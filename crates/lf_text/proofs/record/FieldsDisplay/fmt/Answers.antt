@@ -9,5 +9,6 @@ use Rattle.lf_text.proofs.record.FieldsDisplay.fmt.Goals as goal
 pub returns-in-Issue-clause-writes : goal.returns-in-Issue-clause-writes
 returns-in-Issue-clause-writes g c plain ok =
     let fields =
-    grouped (codes " tag=") (decimal c.in-Issue.tag) (codes " size=") (decimal c.in-Issue.size) (codes " address=") (hexadecimal c.in-Issue.address) in
+    grouped (codes " tag=") (decimal c.in-Issue.tag) (codes " size=") (decimal c.in-Issue.size) (codes " address=")
+    (hexadecimal c.in-Issue.address) in
     rw c.in-Issue.is (has_written_of_eq _ _ _ _ _ (sym fields) (c.write.ensures.writes plain ok))

@@ -6,4 +6,5 @@ use Rattle.lf_text.proofs.record.MaskFieldsDisplay.fmt.Given as goal
 
 abbrev pub invariant-loop-mask : goal.invariant-loop-mask
 invariant-loop-mask g l =
-    IsPlainFormatter l.initial.f → HasWritten g.W.Write.write_str_gives l.initial.f (masks_text (take l.mask-index l.self.0.now)) l.f
+    IsPlainFormatter l.initial.f → HasWritten g.W.Write.write_str_gives l.initial.f
+    (masks_text (take l.mask-index l.self.0.now)) l.f
