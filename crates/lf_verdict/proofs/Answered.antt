@@ -1,5 +1,6 @@
 -- From the logs of a trace to the verdict of its bytes.
-use Rattle.std.proofs.Common.{◌≡◌, ℕ, ◌+◌, ◌<◌, ◌≤◌, ◌^◌, ◌==◌, true, false, cond, List, [], length, get_or, sym, ◌∙◌, ap, subst, arith}
+use Rattle.std.proofs.Common.{◌≡◌, ℕ, ◌+◌, ◌<◌, ◌≤◌, ◌^◌, ◌==◌, true, false, cond, List, [], length, get_or, sym, ◌∙◌}
+use Rattle.std.proofs.Common.{ap, subst, arith}
 use Rattle.std.specs.List.{AllByRecursion, All}
 use Rattle.std.specs.Global.{Vec}
 use Rattle.std.proofs.lemmas.List.{length-map, get_or-map}
@@ -25,56 +26,75 @@ use Rattle.lf_verdict.specs.declared.answer.Refusal.{Refusal}
 use Rattle.lf_verdict.specs.declared.answer.Refusal.TheVariants as refusals
 use Rattle.lf_verdict.specs.Legal.{IsTraceFor}
 use Rattle.lf_verdict.specs.Laws.{YesIsLegal, NoHasNoRun, IsRunlessNo}
-use Rattle.lf_verdict.specs.Gathering.{IsReadRefusal}
+use Rattle.lf_verdict.specs.inner.Gathering.{IsReadRefusal}
 use Rattle.lf_verdict.specs.Verdict.{Differs, IsVerdictOf, IsLegalYes, IsDecided, IsWorkerCount}
-use Rattle.lf_verdict.specs.Judging.{IsLogsVerdict, IsVerdictOrWant}
-use Rattle.lf_verdict.specs.Jobs.{LogsFit, AreJobsOf, IsWorkersVerdict, IsWorkersAnswer}
+use Rattle.lf_verdict.specs.inner.Ending.{IsLogsVerdict, IsVerdictOrWant}
+use Rattle.lf_verdict.specs.inner.Jobs.{LogsFit, AreJobsOf, IsWorkersVerdict, IsWorkersAnswer}
 use Rattle.lf_verdict.proofs.Traces.{logs_fit, log_of_logs}
 
 -- ---- the logs of a trace that agrees with the shape
 
-pub log_below : (ports bank number log banks : ℕ) (event : Event) → FitsBank banks bank number event → FitsLog ports bank log event → log < ports + banks
+pub log_below : (ports bank number log banks : ℕ) (event : Event) → FitsBank banks bank number event →
+    FitsLog ports bank log event → log < ports + banks
 log_below ports bank number log banks (Issue op tag size address bytes) named fits = omega arith
 log_below ports bank number log banks (Reply tag size bytes) named fits = omega arith
 log_below ports bank number log banks Fence named fits = omega arith
 log_below ports bank number log banks _ named fits = omega arith
 
-list_of : (vecs : Vec (Vec Record)) (i : ℕ) (d : Vec Record) → i < length vecs.items → log_at (lists_of vecs) i ≡ (get_or vecs.items i d).items
+list_of : (vecs : Vec (Vec Record)) (i : ℕ) (d : Vec Record) → i < length vecs.items →
+    log_at (lists_of vecs) i ≡ (get_or vecs.items i d).items
 list_of vecs i d lt = get_or-map (λ (v : Vec Record). v.items) vecs.items i d [] lt
 
-pub logs_count : (vecs : Vec (Vec Record)) (count : ℕ) (rs : List Record) → lists_of vecs ≡ logs_of count rs → length vecs.items ≡ count
+pub logs_count : (vecs : Vec (Vec Record)) (count : ℕ) (rs : List Record) → lists_of vecs ≡ logs_of count rs →
+    length vecs.items ≡ count
 logs_count vecs count rs e =
-    sym (length-map vecs.items (λ (v : Vec Record). v.items)) ∙ ap length e ∙ length-map-range_with_len (λ log. of_log log rs) 0 count
+    sym (length-map vecs.items (λ (v : Vec Record). v.items)) ∙ ap length e
+    ∙ length-map-range_with_len (λ log. of_log log rs) 0 count
 
 pub limit_is_small : (version : ℕ) → log_limit version ≤ 2 ^ 24
-limit_is_small version = elim (version == 1) as (λ b. cond b 1048576 16777216 ≤ 2 ^ 24) [ true ↦ omega arith | false ↦ omega arith ]
+limit_is_small version = elim (version == 1) as (λ b. cond b 1048576 16777216 ≤ 2 ^ 24)
+    [ true ↦ omega arith | false ↦ omega arith ]
 
-pub logs_short : (version : ℕ) (vecs : Vec (Vec Record)) (count : ℕ) (rs : List Record) → lists_of vecs ≡ logs_of count rs → ((log : ℕ) → length (of_log log rs) ≤ log_limit version)
+pub logs_short : (version : ℕ) (vecs : Vec (Vec Record)) (count : ℕ) (rs : List Record) →
+    lists_of vecs ≡ logs_of count rs → ((log : ℕ) → length (of_log log rs) ≤ log_limit version)
     → All (λ (v : Vec Record). length v.items ≤ 2 ^ 24) vecs.items
 logs_short version vecs count rs e short log d lt =
     let within : log < count = omega (arith, logs_count vecs count rs e) in
     let here : (get_or vecs.items log d).items ≡ of_log log rs =
-    sym (list_of vecs log d lt) ∙ ap (λ (logs : List (List Record)). log_at logs log) e ∙ log_of_logs count log rs within in
+    sym (list_of vecs log d lt) ∙ ap (λ (logs : List (List Record)). log_at logs log) e
+    ∙ log_of_logs count log rs within in
     omega (arith, ap length here, short log, limit_is_small version)
 
-pub logs_fit_shape : (shape : Shape) (vecs : Vec (Vec Record)) (count : ℕ) (rs : List Record) → lists_of vecs ≡ logs_of count rs → AllByRecursion (Fits shape) rs → LogsFit shape (lists_of vecs)
+pub logs_fit_shape : (shape : Shape) (vecs : Vec (Vec Record)) (count : ℕ) (rs : List Record) →
+    lists_of vecs ≡ logs_of count rs → AllByRecursion (Fits shape) rs → LogsFit shape (lists_of vecs)
 logs_fit_shape shape vecs count rs e fits = subst (LogsFit shape) (sym e) (logs_fit shape count rs fits)
 
 -- ---- the verdict
 
-pub of_logs : (shape : Shape) (bytes : List ℕ) (memory : List (ℕ × Bytes)) (logs : List (List Record)) (verdict : Verdict) → IsTraceFor shape bytes memory logs
+pub of_logs : (shape : Shape) (bytes : List ℕ) (memory : List (ℕ × Bytes)) (logs : List (List Record))
+    (verdict : Verdict) → IsTraceFor shape bytes memory logs
     → IsLogsVerdict shape (flat_memory memory) logs verdict → IsVerdictOrWant shape bytes verdict
-of_logs shape bytes memory logs (Yes events order) trace is = record { memory = memory; logs = logs; trace = trace; parts = is.0.parts; least = is.0.least; count = is.1 }
-of_logs shape bytes memory logs (No fault) trace is = record { memory = memory; logs = logs; trace = trace; fault_of = is }
+of_logs shape bytes memory logs (Yes events order) trace is =
+    record { memory = memory; logs = logs; trace = trace; parts = is.0.parts; least = is.0.least; count = is.1 }
+of_logs shape bytes memory logs (No fault) trace is = record {
+  memory = memory;
+  logs = logs;
+  trace = trace;
+  fault_of =
+      is;
+}
 of_logs shape bytes memory logs (Refused refusals.Memory) trace is = tt
 of_logs shape bytes memory logs (Refused _) trace is = absurd is
 
 -- ---- the same by several workers
 
 -- the verdict of the logs is that of the jobs of these logs
-pub of_jobs : (shape : Shape) (memory : FlatMemory) (logs : List (List Record)) (jobs : Jobs) (verdict : Verdict) → AreJobsOf shape memory logs jobs
-    → IsLogsVerdict jobs.shape (flat_memory jobs.memory.items) (lists_of jobs.logs) verdict → IsWorkersVerdict shape memory logs verdict
-of_jobs shape memory logs jobs verdict of is = unless_thread verdict (subst (λ (z : Shape × (FlatMemory × List (List Record))). IsLogsVerdict z.0 z.1.0 z.1.1 verdict) of.same is)
+pub of_jobs : (shape : Shape) (memory : FlatMemory) (logs : List (List Record)) (jobs : Jobs) (verdict : Verdict) →
+    AreJobsOf shape memory logs jobs
+    → IsLogsVerdict jobs.shape (flat_memory jobs.memory.items) (lists_of jobs.logs) verdict →
+    IsWorkersVerdict shape memory logs verdict
+of_jobs shape memory logs jobs verdict of is = unless_thread verdict
+    (subst (λ (z : Shape × (FlatMemory × List (List Record))). IsLogsVerdict z.0 z.1.0 z.1.1 verdict) of.same is)
   where
     unless_thread : (v : Verdict) → IsLogsVerdict shape memory logs v → IsWorkersVerdict shape memory logs v
     unless_thread (Yes events order) is = is
@@ -86,9 +106,11 @@ of_jobs shape memory logs jobs verdict of is = unless_thread verdict (subst (λ 
     unless_thread (Refused (refusals.Format fault)) is = is
     unless_thread (Refused (refusals.Header field)) is = is
 
-pub of_workers_logs : (shape : Shape) (bytes : List ℕ) (memory : List (ℕ × Bytes)) (logs : List (List Record)) (verdict : Verdict) → IsTraceFor shape bytes memory logs
+pub of_workers_logs : (shape : Shape) (bytes : List ℕ) (memory : List (ℕ × Bytes)) (logs : List (List Record))
+    (verdict : Verdict) → IsTraceFor shape bytes memory logs
     → IsWorkersVerdict shape (flat_memory memory) logs verdict → IsWorkersAnswer shape bytes verdict
-of_workers_logs shape bytes memory logs (Yes events order) trace is = of_logs shape bytes memory logs (Yes events order) trace is
+of_workers_logs shape bytes memory logs (Yes events order) trace is =
+    of_logs shape bytes memory logs (Yes events order) trace is
 of_workers_logs shape bytes memory logs (No fault) trace is = of_logs shape bytes memory logs (No fault) trace is
 of_workers_logs shape bytes memory logs (Refused refusals.Thread) trace is = tt
 of_workers_logs shape bytes memory logs (Refused refusals.Memory) trace is = tt
@@ -97,26 +119,38 @@ of_workers_logs shape bytes memory logs (Refused (refusals.Config fault)) trace 
 of_workers_logs shape bytes memory logs (Refused (refusals.Format fault)) trace is = absurd is
 of_workers_logs shape bytes memory logs (Refused (refusals.Header field)) trace is = absurd is
 
-pub of_header : (shape : Shape) (bytes : List ℕ) (h : Header) (memory : List (ℕ × Bytes)) (rs : List Record) (field : HeaderField) → IsTrace bytes h memory rs → Differs shape h field
+pub of_header : (shape : Shape) (bytes : List ℕ) (h : Header) (memory : List (ℕ × Bytes)) (rs : List Record)
+    (field : HeaderField) → IsTrace bytes h memory rs → Differs shape h field
     → IsWorkersAnswer shape bytes (Refused (refusals.Header field))
-of_header shape bytes h memory rs field trace differs = record { header = h; memory = memory; records = rs; trace = trace; differs = differs }
+of_header shape bytes h memory rs field trace differs = record {
+  header = h;
+  memory = memory;
+  records = rs;
+  trace =
+      trace;
+  differs = differs;
+}
 
-pub of_reading : (shape : Shape) (bytes : List ℕ) (refusal : Refusal) → IsReadRefusal bytes refusal → IsWorkersAnswer shape bytes (Refused refusal)
+pub of_reading : (shape : Shape) (bytes : List ℕ) (refusal : Refusal) → IsReadRefusal bytes refusal →
+    IsWorkersAnswer shape bytes (Refused refusal)
 of_reading shape bytes (refusals.Format fault) is = is
 of_reading shape bytes refusals.Memory is = tt
 of_reading shape bytes _ is = absurd is
 
 -- ---- what the call promises
 
-pub legal_yes : YesIsLegal → (shape : Shape) (bytes : List ℕ) (verdict : Verdict) → IsVerdictOrWant shape bytes verdict → IsLegalYes shape bytes verdict
+pub legal_yes : YesIsLegal → (shape : Shape) (bytes : List ℕ) (verdict : Verdict) →
+    IsVerdictOrWant shape bytes verdict → IsLegalYes shape bytes verdict
 legal_yes law shape bytes (Yes events order) is = (law shape bytes events order.items is, is.count)
 legal_yes law shape bytes _ is = tt
 
-pub runless_no : NoHasNoRun → (shape : Shape) (bytes : List ℕ) (verdict : Verdict) → IsVerdictOrWant shape bytes verdict → IsRunlessNo shape bytes verdict
+pub runless_no : NoHasNoRun → (shape : Shape) (bytes : List ℕ) (verdict : Verdict) →
+    IsVerdictOrWant shape bytes verdict → IsRunlessNo shape bytes verdict
 runless_no law shape bytes (No fault) is = law shape bytes fault is
 runless_no law shape bytes _ is = tt
 
-pub verdict_of : (shape : Shape) (workers : ℕ) (bytes : List ℕ) (verdict : Verdict) → IsWorkerCount workers → IsVerdictOrWant shape bytes verdict
+pub verdict_of : (shape : Shape) (workers : ℕ) (bytes : List ℕ) (verdict : Verdict) → IsWorkerCount workers →
+    IsVerdictOrWant shape bytes verdict
     → IsDecided verdict → IsVerdictOf shape workers bytes verdict
 verdict_of shape workers bytes (Yes events order) one is judged = (one, is)
 verdict_of shape workers bytes (No fault) one is judged = (one, is)
@@ -127,19 +161,15 @@ verdict_of shape workers bytes (Refused (refusals.Config fault)) one is judged =
 verdict_of shape workers bytes (Refused refusals.Memory) one is judged = absurd judged
 verdict_of shape workers bytes (Refused refusals.Thread) one is judged = absurd judged
 
--- the workers are not what is refused, where there is one
-pub never_workers : (shape : Shape) (bytes : List ℕ) (verdict : Verdict) (n : ℕ) → (IsDecided verdict → IsVerdictOf shape 1 bytes verdict) → verdict ≡ Refused (refusals.Workers n) → ⊥
-never_workers shape bytes verdict n is e =
-    let refused : IsDecided (Refused (refusals.Workers n)) → IsVerdictOf shape 1 bytes (Refused (refusals.Workers n)) = subst (λ (v : Verdict). IsDecided v → IsVerdictOf shape 1 bytes v) e is in
-    (refused tt).1 (omega arith, omega arith)
-
-pub never_thread : (shape : Shape) (bytes : List ℕ) (verdict : Verdict) → IsVerdictOrWant shape bytes verdict → verdict ≡ Refused refusals.Thread → ⊥
+pub never_thread : (shape : Shape) (bytes : List ℕ) (verdict : Verdict) → IsVerdictOrWant shape bytes verdict →
+    verdict ≡ Refused refusals.Thread → ⊥
 never_thread shape bytes verdict is e = subst (IsVerdictOrWant shape bytes) e is
 
 -- ---- what the call promises with several workers
 
 -- what holds of each answer, and where a thread was refused, holds of what several workers answer
-by_workers : (shape : Shape) (bytes : List ℕ) (P : Verdict → Type 0) → P (Refused refusals.Thread) → ((v : Verdict) → IsVerdictOrWant shape bytes v → P v)
+by_workers : (shape : Shape) (bytes : List ℕ) (P : Verdict → Type 0) → P (Refused refusals.Thread) →
+    ((v : Verdict) → IsVerdictOrWant shape bytes v → P v)
     → (verdict : Verdict) → IsWorkersAnswer shape bytes verdict → P verdict
 by_workers shape bytes P thread each (Yes events order) is = each (Yes events order) is
 by_workers shape bytes P thread each (No fault) is = each (No fault) is
@@ -150,16 +180,21 @@ by_workers shape bytes P thread each (Refused (refusals.Config fault)) is = each
 by_workers shape bytes P thread each (Refused (refusals.Format fault)) is = each (Refused (refusals.Format fault)) is
 by_workers shape bytes P thread each (Refused (refusals.Header field)) is = each (Refused (refusals.Header field)) is
 
-pub workers_legal : YesIsLegal → (shape : Shape) (bytes : List ℕ) (verdict : Verdict) → IsWorkersAnswer shape bytes verdict → IsLegalYes shape bytes verdict
+pub workers_legal : YesIsLegal → (shape : Shape) (bytes : List ℕ) (verdict : Verdict) →
+    IsWorkersAnswer shape bytes verdict → IsLegalYes shape bytes verdict
 workers_legal law shape bytes = by_workers shape bytes (IsLegalYes shape bytes) tt (legal_yes law shape bytes)
 
-pub workers_runless : NoHasNoRun → (shape : Shape) (bytes : List ℕ) (verdict : Verdict) → IsWorkersAnswer shape bytes verdict → IsRunlessNo shape bytes verdict
+pub workers_runless : NoHasNoRun → (shape : Shape) (bytes : List ℕ) (verdict : Verdict) →
+    IsWorkersAnswer shape bytes verdict → IsRunlessNo shape bytes verdict
 workers_runless law shape bytes = by_workers shape bytes (IsRunlessNo shape bytes) tt (runless_no law shape bytes)
 
-pub workers_verdict : (shape : Shape) (workers : ℕ) (bytes : List ℕ) (verdict : Verdict) → IsWorkerCount workers → IsWorkersAnswer shape bytes verdict
+pub workers_verdict : (shape : Shape) (workers : ℕ) (bytes : List ℕ) (verdict : Verdict) → IsWorkerCount workers →
+    IsWorkersAnswer shape bytes verdict
     → IsDecided verdict → IsVerdictOf shape workers bytes verdict
 workers_verdict shape workers bytes verdict may =
-    by_workers shape bytes (λ v. IsDecided v → IsVerdictOf shape workers bytes v) (λ none. absurd none) (λ v is judged. verdict_of shape workers bytes v may is judged) verdict
+    by_workers shape bytes (λ v. IsDecided v → IsVerdictOf shape workers bytes v) (λ none. absurd none)
+    (λ v is judged. verdict_of shape workers bytes v may is judged) verdict
 
-pub workers_never_workers : (shape : Shape) (bytes : List ℕ) (verdict : Verdict) (n : ℕ) → IsWorkersAnswer shape bytes verdict → verdict ≡ Refused (refusals.Workers n) → ⊥
+pub workers_never_workers : (shape : Shape) (bytes : List ℕ) (verdict : Verdict) (n : ℕ) →
+    IsWorkersAnswer shape bytes verdict → verdict ≡ Refused (refusals.Workers n) → ⊥
 workers_never_workers shape bytes verdict n is e = subst (IsWorkersAnswer shape bytes) e is

@@ -1,5 +1,6 @@
 -- Which parts are at fault, and that such a fault stands whatever records follow.
-use Rattle.std.proofs.Common.{◌≡◌, ℕ, zero, suc, ◌+◌, ◌<◌, ◌≤◌, List, [], ◌∷◌, ◌++◌, length, get_or, Option, Some, None, refl, sym, ap, ◌∙◌, subst, append_assoc, ⊎_elim, arith}
+use Rattle.std.proofs.Common.{◌≡◌, ℕ, zero, suc, ◌+◌, ◌<◌, ◌≤◌, List, [], ◌∷◌, ◌++◌, length, get_or, Option, Some}
+use Rattle.std.proofs.Common.{None, refl, sym, ap, ◌∙◌, subst, ⊎_elim, arith}
 use Rattle.std.specs.Prelude.{slice_get, IfNone}
 use Rattle.std.specs.List.{AllByRecursion, All, range_with_len}
 use Rattle.std.proofs.lemmas.Bool.{cases_lt, cases_eq}
@@ -14,38 +15,41 @@ use Rattle.lf_rules.specs.State.{Local}
 use Rattle.lf_rules.specs.Run.{of_log, of_bank, effect, IsRunOf, BreaksAt}
 use Rattle.lf_rules.specs.Table.{Side, OfPort, OfBank}
 use Rattle.lf_logs.specs.Reordering.{IsLeastDouble, HasOrdered}
-use Rattle.lf_verdict.specs.declared.standing.Standing.{Standing}
+use Rattle.lf_verdict.specs.declared.session.standing.Standing.{Standing}
 use Rattle.lf_verdict.specs.Standing.{IsPortAt, StandsAfterAll, IsPortJudged, IsBankSettled, AreEntered}
 use Rattle.lf_verdict.proofs.Settled.{bank_order, bank_outcome}
 use Rattle.lf_replay.specs.Bytes.{bank_part}
 use Rattle.lf_replay.proofs.Runs.{outcome_same}
-use Rattle.lf_verdict.specs.declared.port_judge.PortJudge.{PortJudge}
-use Rattle.lf_verdict.specs.declared.bank_judge.BankJudge.{BankJudge}
-use Rattle.lf_verdict.specs.declared.breaking.PartFault.{PartFault}
-use Rattle.lf_verdict.specs.declared.breaking.Upon.{Upon}
-use Rattle.lf_verdict.specs.Breaking.{AreFirst, BankBreaks, IsFaultOfPart, NoneBroke, IsPortWhole, IsBankWhole, IsFirstBreak, IsWatch}
+use Rattle.lf_verdict.specs.declared.session.standing.port_judge.PortJudge.{PortJudge}
+use Rattle.lf_verdict.specs.declared.session.standing.bank_judge.BankJudge.{BankJudge}
+use Rattle.lf_verdict.specs.Breaking.{AreFirst, BankBreaks, IsFaultOfPart, NoneBroke}
+use Rattle.lf_verdict.specs.inner.Noting.{IsPortWhole, IsBankWhole}
 use Rattle.lf_logs.proofs.Splitting.{of_key-push_other}
-use Rattle.lf_verdict.specs.declared.breaking.Watch.{Watch}
-use Rattle.lf_verdict.specs.declared.breaking.Watch.TheVariants.{Whole, First, Unknown}
+use Rattle.lf_verdict.specs.declared.session.breaking.Watch.{Watch}
 use Rattle.lf_rules.specs.declared.outcome.Outcome.{Outcome}
 use Rattle.lf_logs.specs.Tags.{PortView}
-use Rattle.lf_verdict.specs.declared.entries.Entries.{Entries}
+use Rattle.lf_verdict.specs.declared.session.standing.log_entries.Entries.{Entries}
 use Rattle.lf_rules.specs.declared.outcome.Outcome.TheVariants as outcomes
-use Rattle.lf_verdict.specs.declared.breaking.PartFault.TheVariants as parts
+use Rattle.lf_verdict.specs.declared.session.breaking.PartFault.TheVariants as parts
 
 -- ---- lists that break
 
-pub breaks_more : (side : Side) (shape : Shape) (now : Local) (rs more : List Record) (n : ℕ) (rule : Rule) → BreaksAt side shape now rs n rule → BreaksAt side shape now (rs ++ more) n rule
+pub breaks_more : (side : Side) (shape : Shape) (now : Local) (rs more : List Record) (n : ℕ) (rule : Rule) →
+    BreaksAt side shape now rs n rule → BreaksAt side shape now (rs ++ more) n rule
 breaks_more side shape now [] more n rule breaks = absurd breaks
 breaks_more side shape now (x ∷ rs) more zero rule breaks = breaks
-breaks_more side shape now (x ∷ rs) more (suc n) rule breaks = (breaks.0, breaks_more side shape (effect side shape now x) rs more n rule breaks.1)
+breaks_more side shape now (x ∷ rs) more (suc n) rule breaks =
+    (breaks.0, breaks_more side shape (effect side shape now x) rs more n rule breaks.1)
 
-pub no_break : (side : Side) (shape : Shape) (now : Local) (rs : List Record) (n : ℕ) (rule : Rule) → BreaksAt side shape now rs n rule → IsRunOf side shape now rs → ⊥
+pub no_break : (side : Side) (shape : Shape) (now : Local) (rs : List Record) (n : ℕ) (rule : Rule) →
+    BreaksAt side shape now rs n rule → IsRunOf side shape now rs → ⊥
 no_break side shape now [] n rule breaks runs = breaks
 no_break side shape now (x ∷ rs) zero rule breaks runs = let e : None ≡ Some rule = sym runs.0 ∙ breaks in absurd (cc)
-no_break side shape now (x ∷ rs) (suc n) rule breaks runs = no_break side shape (effect side shape now x) rs n rule breaks.1 runs.1
+no_break side shape now (x ∷ rs) (suc n) rule breaks runs =
+    no_break side shape (effect side shape now x) rs n rule breaks.1 runs.1
 
-pub one_break : (side : Side) (shape : Shape) (now : Local) (rs : List Record) (n n' : ℕ) (rule rule' : Rule) → BreaksAt side shape now rs n rule → BreaksAt side shape now rs n' rule'
+pub one_break : (side : Side) (shape : Shape) (now : Local) (rs : List Record) (n n' : ℕ) (rule rule' : Rule) →
+    BreaksAt side shape now rs n rule → BreaksAt side shape now rs n' rule'
     → (n' ≡ n) × (rule' ≡ rule)
 one_break side shape now [] n n' rule rule' a b = absurd a
 one_break side shape now (x ∷ rs) zero zero rule rule' a b = let e : Some rule' ≡ Some rule = sym b ∙ a in (refl, cc)
@@ -61,7 +65,8 @@ get_below [] k lt = absurd (omega arith)
 get_below (x ∷ xs) zero lt = (x, refl)
 get_below (x ∷ xs) (suc k) lt = get_below xs k (omega arith)
 
-pub begins_with : {X : Type 0} (xs ys : List X) → ((k : ℕ) → k < length xs → slice_get ys k ≡ slice_get xs k) → (zs : List X) × (ys ≡ xs ++ zs)
+pub begins_with : {X : Type 0} (xs ys : List X) → ((k : ℕ) → k < length xs → slice_get ys k ≡ slice_get xs k) →
+    (zs : List X) × (ys ≡ xs ++ zs)
 begins_with [] ys same = (ys, refl)
 begins_with (x ∷ xs) [] same = let e = same 0 (omega arith) in absurd (cc)
 begins_with (x ∷ xs) (y ∷ ys) same =
@@ -74,7 +79,8 @@ begins_with (x ∷ xs) (y ∷ ys) same =
 abbrev pub IsAt : List Record → Record → Type 0
 IsAt rs r = slice_get rs r.number ≡ Some r
 
-numbered_at : (a : ℕ) (rs : List Record) → numbers_of rs ≡ range_with_len a (length rs) → (k : ℕ) (d : Record) → k < length rs
+numbered_at : (a : ℕ) (rs : List Record) → numbers_of rs ≡ range_with_len a (length rs) → (k : ℕ) (d : Record) →
+    k < length rs
     → ((get_or rs k d).number ≡ a + k) × (slice_get rs k ≡ Some (get_or rs k d))
 numbered_at a [] e k d lt = absurd (omega arith)
 numbered_at a (r ∷ rs) e zero d lt =
@@ -105,24 +111,37 @@ module _ (shape : Shape) (memory : FlatMemory) (records : List Record) (r : Reco
   abbrev after : List Record
   after = records ++ r ∷ []
 
-  pub none_broke_more : NoneBroke shape memory records → IsPortWhole shape memory after r.log → IsBankWhole shape memory after r.bank → NoneBroke shape memory after
+  pub none_broke_more : NoneBroke shape memory records → IsPortWhole shape memory after r.log →
+      IsBankWhole shape memory after r.bank → NoneBroke shape memory after
   none_broke_more none port bank (parts.Port p at rule) is = ⊎_elim
-      (λ (own : p ≡ r.log). port at rule (subst (λ (q : ℕ). IsFaultOfPart shape memory after (parts.Port q at rule)) own is))
+      (λ (own : p ≡ r.log). port at rule (subst (λ (q : ℕ). IsFaultOfPart shape memory after (parts.Port q at rule))
+      own is))
       (λ (other : p ≡ r.log → ⊥).
-      none (parts.Port p at rule) (is.0, subst (λ (rs : List Record). BreaksAt OfPort shape (first_local memory) rs at rule) (of_key-push_other (λ r. r.log) p records r (λ e. other (sym e))) is.1))
+      none (parts.Port p at rule) (
+        is.0,
+        subst (λ (rs : List Record). BreaksAt OfPort shape (first_local memory) rs at
+            rule) (of_key-push_other (λ r. r.log) p records r (λ e. other (sym e))) is.1,
+      ))
       (cases_eq p r.log)
   none_broke_more none port bank (parts.Double b k) is = ⊎_elim
-      (λ (own : b ≡ r.bank). bank.numbers k (subst (λ (q : ℕ). IsFaultOfPart shape memory after (parts.Double q k)) own is))
+      (λ (own : b ≡ r.bank). bank.numbers k (subst (λ (q : ℕ). IsFaultOfPart shape memory after (parts.Double q k))
+      own is))
       (λ (other : b ≡ r.bank → ⊥).
-      none (parts.Double b k) (is.0, subst (λ (rs : List Record). IsDouble (numbers_of rs) k) (of_key-push_other (λ r. r.bank) b records r (λ e. other (sym e))) is.1))
+      none (parts.Double b k) (
+        is.0,
+        subst (λ (rs : List Record). IsDouble (numbers_of rs) k)
+            (of_key-push_other (λ r. r.bank) b records r (λ e. other (sym e))) is.1,
+      ))
       (cases_eq b r.bank)
   none_broke_more none port bank (parts.Bank b number rule) is = ⊎_elim
-      (λ (own : b ≡ r.bank). bank.rules number rule (subst (λ (q : ℕ). IsFaultOfPart shape memory after (parts.Bank q number rule)) own is))
+      (λ (own : b ≡ r.bank). bank.rules number rule (subst (λ (q : ℕ). IsFaultOfPart shape memory after
+      (parts.Bank q number rule)) own is))
       (λ (other : b ≡ r.bank → ⊥).
       none (parts.Bank b number rule) (record {
         is_bank = is.is_bank;
         gave = is.gave;
-        first = subst (λ (rs : List Record). AreFirst rs is.gave) (of_key-push_other (λ r. r.bank) b records r (λ e. other (sym e))) is.first;
+        first = subst (λ (rs : List Record). AreFirst rs is.gave)
+            (of_key-push_other (λ r. r.bank) b records r (λ e. other (sym e))) is.first;
         breaks = is.breaks;
       }))
       (cases_eq b r.bank)
@@ -139,40 +158,56 @@ none_broke_nothing shape memory (parts.Bank bank number rule) is = nothing is.ga
 
 -- ---- what the judges found
 
-fault_of_port : (shape : Shape) (memory : FlatMemory) (rs : List Record) (step : PortView) (outcome : Outcome) (at : ℕ) (rule : Rule) → IsPortAt shape rs step outcome
+fault_of_port : (shape : Shape) (memory : FlatMemory) (rs : List Record) (step : PortView) (outcome : Outcome)
+    (at : ℕ) (rule : Rule) → IsPortAt shape rs step outcome
     → outcome ≡ outcomes.Broken at rule → BreaksAt OfPort shape (first_local memory) rs at rule
 fault_of_port shape memory rs step outcome at rule judged is = subst (IsPortAt shape rs step) is judged memory
 
-none_of_port : (shape : Shape) (memory : FlatMemory) (rs : List Record) (step : PortView) (outcome : Outcome) (at : ℕ) (rule : Rule) → IsPortAt shape rs step outcome
-    → ((n : ℕ) (rule : Rule) → outcome ≡ outcomes.Broken n rule → ⊥) → BreaksAt OfPort shape (first_local memory) rs at rule → ⊥
-none_of_port shape memory rs step outcomes.Passed at rule judged fine breaks = no_break OfPort shape (first_local memory) rs at rule breaks (judged.is_run memory)
+none_of_port : (shape : Shape) (memory : FlatMemory) (rs : List Record) (step : PortView) (outcome : Outcome) (at : ℕ)
+    (rule : Rule) → IsPortAt shape rs step outcome
+    → ((n : ℕ) (rule : Rule) → outcome ≡ outcomes.Broken n rule → ⊥) →
+    BreaksAt OfPort shape (first_local memory) rs at rule → ⊥
+none_of_port shape memory rs step outcomes.Passed at rule judged fine breaks =
+    no_break OfPort shape (first_local memory) rs at rule breaks (judged.is_run memory)
 none_of_port shape memory rs step (outcomes.Broken n rule') at rule judged fine breaks = fine n rule' refl
 none_of_port shape memory rs step outcomes.NoMemory at rule judged fine breaks = judged
 
-module _ (shape : Shape) (records : List Record) (e : Entries) (entered : AreEntered shape records e) (port : ℕ) (judge : PortJudge) (read : judge ≡ get_or e.ports.items port judge) (lt : port < shape.ports) where
+module _ (shape : Shape) (records : List Record) (e : Entries) (entered : AreEntered shape records e) (port : ℕ)
+    (judge : PortJudge) (read : judge ≡ get_or e.ports.items port judge) (lt : port < shape.ports) where
   port_is : IsPortJudged shape port (of_log port records) judge
-  port_is = subst (λ (j : PortJudge). IsPortJudged shape port (of_log port records) j) (sym read) (entered.ports port judge lt)
+  port_is = subst (λ (j : PortJudge). IsPortJudged shape port (of_log port records) j) (sym read)
+      (entered.ports port judge lt)
 
-  pub port_found : (memory : FlatMemory) (at : ℕ) (rule : Rule) → judge.outcome ≡ outcomes.Broken at rule → IsFaultOfPart shape memory records (parts.Port port at rule)
-  port_found memory at rule is = (lt, fault_of_port shape memory (of_log port records) judge.step judge.outcome at rule port_is.judged is)
+  pub port_found : (memory : FlatMemory) (at : ℕ) (rule : Rule) → judge.outcome ≡ outcomes.Broken at rule →
+      IsFaultOfPart shape memory records (parts.Port port at rule)
+  port_found memory at rule is = (
+    lt,
+    fault_of_port shape memory (of_log port records) judge.step judge.outcome at
+        rule port_is.judged is,
+  )
 
-  pub port_whole : (memory : FlatMemory) → ((n : ℕ) (rule : Rule) → judge.outcome ≡ outcomes.Broken n rule → ⊥) → IsPortWhole shape memory records port
-  port_whole memory fine at rule is = none_of_port shape memory (of_log port records) judge.step judge.outcome at rule port_is.judged fine is.1
+  pub port_whole : (memory : FlatMemory) → ((n : ℕ) (rule : Rule) → judge.outcome ≡ outcomes.Broken n rule → ⊥) →
+      IsPortWhole shape memory records port
+  port_whole memory fine at rule is = none_of_port shape memory (of_log port records) judge.step judge.outcome at rule
+      port_is.judged fine is.1
 
-module _ (shape : Shape) (memory : FlatMemory) (records : List Record) (s : Standing) (stands : StandsAfterAll shape memory records s) (bank : ℕ) (judge : BankJudge)
+module _ (shape : Shape) (memory : FlatMemory) (records : List Record) (s : Standing)
+    (stands : StandsAfterAll shape memory records s) (bank : ℕ) (judge : BankJudge)
     (read : judge ≡ get_or s.banks.items bank judge) (lt : bank < shape.banks) where
   abbrev gave : List Record
   gave = log_at stands.given bank
 
   bank_is : IsBankSettled shape (bank_part shape bank memory) bank (of_bank bank records) gave judge
-  bank_is = subst (λ (j : BankJudge). IsBankSettled shape (bank_part shape bank memory) bank (of_bank bank records) gave j) (sym read) (stands.banks bank judge lt)
+  bank_is = subst (λ (j : BankJudge). IsBankSettled shape (bank_part shape bank memory) bank (of_bank bank records)
+      gave j) (sym read) (stands.banks bank judge lt)
 
   bank_judged : IsBankOutcome shape memory gave judge.outcome
   bank_judged =
       outcome_same shape bank memory gave (bank_order shape memory records s stands bank lt) judge.outcome
       (bank_outcome shape (bank_part shape bank memory) bank gave judge.step judge.outcome bank_is.bank_judged.judged).0
 
-  pub bank_found : (number : ℕ) (rule : Rule) → judge.outcome ≡ outcomes.Broken number rule → IsFaultOfPart shape memory records (parts.Bank bank number rule)
+  pub bank_found : (number : ℕ) (rule : Rule) → judge.outcome ≡ outcomes.Broken number rule →
+      IsFaultOfPart shape memory records (parts.Bank bank number rule)
   bank_found number rule is = record {
     is_bank = lt;
     gave = gave;
@@ -180,13 +215,20 @@ module _ (shape : Shape) (memory : FlatMemory) (records : List Record) (s : Stan
     breaks = subst (IsBankOutcome shape memory gave) is bank_judged;
   }
 
-  pub double_found : (found : Option ℕ) (k : ℕ) → ((put gave : List Record) → HasOrdered judge.order put gave → IsLeastDouble (numbers_of put) found) → found ≡ Some k
+  pub double_found : (found : Option ℕ) (k : ℕ) → ((put gave : List Record) → HasOrdered judge.order put gave →
+      IsLeastDouble (numbers_of put) found) → found ≡ Some k
       → IsFaultOfPart shape memory records (parts.Double bank k)
-  double_found found k least is = (lt, (subst (IsLeastDouble (numbers_of (of_bank bank records))) is (least (of_bank bank records) gave bank_is.bank_judged.ordered)).0)
+  double_found found k least is = (
+    lt,
+    (subst (IsLeastDouble (numbers_of (of_bank bank records)))
+        is (least (of_bank bank records) gave bank_is.bank_judged.ordered)).0,
+  )
 
   -- what was given out begins with each list of the first records
-  given_begins : (first : List Record) → AreFirst (of_bank bank records) first → (zs : List Record) × (gave ≡ first ++ zs)
-  given_begins xs first = begins_with xs gave (λ k below. bank_is.bank_judged.ordered.given k (within k below) ∙ sym (first k below))
+  given_begins : (first : List Record) → AreFirst (of_bank bank records) first → (zs : List Record) ×
+      (gave ≡ first ++ zs)
+  given_begins xs first = begins_with xs gave (λ k below. bank_is.bank_judged.ordered.given k (within k below)
+      ∙ sym (first k below))
     where
       short : length xs ≤ length gave
       short = ⊎_elim
@@ -199,62 +241,40 @@ module _ (shape : Shape) (memory : FlatMemory) (records : List Record) (s : Stan
       within : (k : ℕ) → k < length xs → k < length gave
       within k below = omega (arith, below, short)
 
-  no_rule : (outcome : Outcome) (number : ℕ) (rule : Rule) → IsBankOutcome shape memory gave outcome → ((n : ℕ) (rule : Rule) → outcome ≡ outcomes.Broken n rule → ⊥) → (outcome ≡ outcomes.NoMemory → ⊥)
+  no_rule : (outcome : Outcome) (number : ℕ) (rule : Rule) → IsBankOutcome shape memory gave outcome →
+      ((n : ℕ) (rule : Rule) → outcome ≡ outcomes.Broken n rule → ⊥) → (outcome ≡ outcomes.NoMemory → ⊥)
       → BankBreaks shape memory records bank number rule → ⊥
   no_rule outcomes.Passed number rule run fine had is =
       let whole = given_begins is.gave is.first in
       no_break OfBank shape (first_local memory) gave number rule
-      (subst (λ (rs : List Record). BreaksAt OfBank shape (first_local memory) rs number rule) (sym whole.1) (breaks_more OfBank shape (first_local memory) is.gave whole.0 number rule is.breaks)) run
+      (subst (λ (rs : List Record). BreaksAt OfBank shape (first_local memory) rs number rule) (sym whole.1)
+      (breaks_more OfBank shape (first_local memory) is.gave whole.0 number rule is.breaks)) run
   no_rule (outcomes.Broken n rule') number rule run fine had is = fine n rule' refl
   no_rule outcomes.NoMemory number rule run fine had is = had refl
 
-  pub bank_whole_now : (found : Option ℕ) → ((put gave : List Record) → HasOrdered judge.order put gave → IsLeastDouble (numbers_of put) found) → found ≡ None
+  pub bank_whole_now : (found : Option ℕ) → ((put gave : List Record) → HasOrdered judge.order put gave →
+      IsLeastDouble (numbers_of put) found) → found ≡ None
       → ((n : ℕ) (rule : Rule) → judge.outcome ≡ outcomes.Broken n rule → ⊥) → IsBankWhole shape memory records bank
   bank_whole_now found least none fine = record {
-    rules = λ number rule is. no_rule judge.outcome number rule bank_judged fine (bank_outcome shape (bank_part shape bank memory) bank gave judge.step judge.outcome bank_is.bank_judged.judged).1 is;
-    numbers = λ k is. subst (IsLeastDouble (numbers_of (of_bank bank records))) none (least (of_bank bank records) gave bank_is.bank_judged.ordered) k is.1;
+    rules = λ number rule is. no_rule judge.outcome number rule bank_judged fine
+        (bank_outcome shape (bank_part shape bank memory) bank gave judge.step judge.outcome
+        bank_is.bank_judged.judged).1 is;
+    numbers = λ k is. subst (IsLeastDouble (numbers_of (of_bank bank records))) none
+        (least (of_bank bank records) gave bank_is.bank_judged.ordered) k is.1;
   }
 
--- a part that there is not is not at fault
-pub no_port : (shape : Shape) (memory : FlatMemory) (records : List Record) (port : ℕ) → shape.ports ≤ port → IsPortWhole shape memory records port
-no_port shape memory records port past at rule is = let lt = is.0 in absurd (omega (arith, past, lt))
-
-pub no_bank_there : (shape : Shape) (memory : FlatMemory) (records : List Record) (bank : ℕ) → shape.banks ≤ bank → IsBankWhole shape memory records bank
-no_bank_there shape memory records bank past = record {
-  rules = λ number rule is. let lt = is.is_bank in absurd (omega (arith, past, lt));
-  numbers = λ k is. let lt = is.0 in absurd (omega (arith, past, lt));
-}
-
 -- each part is whole
-pub all_whole_parts : (shape : Shape) (memory : FlatMemory) (records : List Record) → ((port : ℕ) → port < shape.ports → IsPortWhole shape memory records port)
+pub all_whole_parts : (shape : Shape) (memory : FlatMemory) (records : List Record) →
+    ((port : ℕ) → port < shape.ports → IsPortWhole shape memory records port)
     → ((bank : ℕ) → bank < shape.banks → IsBankWhole shape memory records bank) → NoneBroke shape memory records
 all_whole_parts shape memory records ports banks (parts.Port port at rule) is = ports port is.0 at rule is
 all_whole_parts shape memory records ports banks (parts.Double bank k) is = (banks bank is.0).numbers k is
-all_whole_parts shape memory records ports banks (parts.Bank bank number rule) is = (banks bank is.is_bank).rules number rule is
-
--- ---- the first break stays the first
-
-pub first_stays : (start : ℕ) (shape : Shape) (memory : FlatMemory) (records more : List Record) (fault : PartFault) (upon : Upon) → IsFirstBreak start shape memory records fault upon
-    → IsFirstBreak start shape memory (records ++ more) fault upon
-first_stays start shape memory records more fault upon is = record {
-  before = is.before;
-  item = is.item;
-  after = is.after ++ more;
-  are = ap (λ (rs : List Record). rs ++ more) is.are ∙ append_assoc is.before (is.item ∷ is.after) more;
-  place = is.place;
-  whole = is.whole;
-  broke = is.broke;
-}
-
--- what is watched while a record more comes, where it was known before that a part broke, or not known
-pub watch_goes_on : (start : ℕ) (shape : Shape) (memory : FlatMemory) (records : List Record) (item : Record) (watch : Watch) → ((next : ℕ) → ¬ (watch ≡ Whole next))
-    → IsWatch start shape memory records watch → IsWatch start shape memory (records ++ item ∷ []) watch
-watch_goes_on start shape memory records item (Whole next) other is = absurd (other next refl)
-watch_goes_on start shape memory records item (First first) other is = first_stays start shape memory records (item ∷ []) first.fault first.upon is
-watch_goes_on start shape memory records item Unknown other is = tt
+all_whole_parts shape memory records ports banks (parts.Bank bank number rule) is =
+    (banks bank is.is_bank).rules number rule is
 
 -- what is watched says nothing of how the parts stand
-pub stands_watched : (shape : Shape) (memory : FlatMemory) (records : List Record) (s : Standing) (watch : Watch) → StandsAfterAll shape memory records s
+pub stands_watched : (shape : Shape) (memory : FlatMemory) (records : List Record) (s : Standing) (watch : Watch) →
+    StandsAfterAll shape memory records s
     → StandsAfterAll shape memory records (record s { watch = watch })
 stands_watched shape memory records s watch stands = record {
   fit = stands.fit;

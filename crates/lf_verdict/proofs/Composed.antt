@@ -27,13 +27,17 @@ pub record Laws : Type 0 where
   pub keep : EntriesKeepAlike
 
 -- an interleaving that keeps the numbers has the bank's numbered list, which runs
-bank_runs : (laws : Laws) (shape : Shape) (memory : FlatMemory) (logs : List (List Record)) (rs : List Record) → shape.banks ≤ 16 → PartsRun shape memory logs
-    → Interleaves logs rs → KeepsNumbers rs → (bank : ℕ) → bank < shape.banks → IsSliceRun shape memory (of_bank bank rs)
+bank_runs : (laws : Laws) (shape : Shape) (memory : FlatMemory) (logs : List (List Record)) (rs : List Record) →
+    shape.banks ≤ 16 → PartsRun shape memory logs
+    → Interleaves logs rs → KeepsNumbers rs → (bank : ℕ) → bank < shape.banks →
+    IsSliceRun shape memory (of_bank bank rs)
 bank_runs laws shape memory logs rs few parts interleaves keeps bank lt =
     let runs = parts.banks bank lt in
-    subst (IsSliceRun shape memory) (laws.one logs bank runs.records (of_bank bank rs) runs.numbered (laws.numbered logs rs interleaves keeps bank (omega (arith, lt, few)))) runs.run
+    subst (IsSliceRun shape memory) (laws.one logs bank runs.records (of_bank bank rs) runs.numbered
+    (laws.numbered logs rs interleaves keeps bank (omega (arith, lt, few)))) runs.run
 
-pub runs : (laws : Laws) (shape : Shape) (memory : FlatMemory) (logs : List (List Record)) (rs : List Record) → shape.banks ≤ 16 → PartsRun shape memory logs
+pub runs : (laws : Laws) (shape : Shape) (memory : FlatMemory) (logs : List (List Record)) (rs : List Record) →
+    shape.banks ≤ 16 → PartsRun shape memory logs
     → Interleaves logs rs → KeepsNumbers rs → AllByRecursion (Fits shape) rs → IsRun shape memory rs
 runs laws shape memory logs rs few parts interleaves keeps fits =
     (laws.parts shape memory rs fits).1 (
@@ -51,7 +55,8 @@ legal_by_parts laws shape bytes events order yes_by_parts =
     let named = (laws.interleave y.logs order rs (trace_names shape bytes y.memory y.logs y.trace)).0 taken.1 in
     let keeps = (laws.keep rs).1 (subst EntriesKeepNumbers (sym taken.2) is_order.kept) in
     let fits = laws.fit shape y.logs rs named.0 (trace_fits shape bytes y.memory y.logs y.trace) in
-    let run = runs laws shape memory y.logs rs (trace_banks shape bytes y.memory y.logs y.trace) y.parts named.0 keeps fits in
+    let run = runs laws shape memory y.logs rs (trace_banks shape bytes y.memory y.logs y.trace) y.parts named.0 keeps
+    fits in
     record {
       memory = y.memory;
       logs = y.logs;

@@ -1,10 +1,11 @@
 -- A piece that is fed a record at a time.
-use Rattle.std.proofs.Common.{◌≡◌, ℕ, ◌+◌, ◌-◌, ◌≤◌, List, [], ◌∷◌, ◌++◌, length, take, drop, Option, Some, None, Ok, refl, sym, ap, subst, ◌∙◌, arith, append_assoc}
+use Rattle.std.proofs.Common.{◌≡◌, ℕ, ◌+◌, ◌-◌, ◌≤◌, List, [], ◌∷◌, ◌++◌, length, take, drop, Option, Some, None, Ok}
+use Rattle.std.proofs.Common.{refl, sym, ap, subst, ◌∙◌, arith, append_assoc}
 use Rattle.std.proofs.Math.Seq.{take-add}
 use Rattle.std.proofs.lemmas.List.{append-nil, length-drop, take-append-drop, take_all}
 use Rattle.lf_rules.specs.declared.event.Record.{Record}
-use Rattle.lf_verdict.specs.declared.intake.Intake.{Intake}
-use Rattle.lf_verdict.specs.declared.intake.Stop.{Stop}
+use Rattle.lf_verdict.specs.declared.session.intake.Intake.{Intake}
+use Rattle.lf_verdict.specs.declared.session.intake.Stop.{Stop}
 use Rattle.lf_verdict.specs.Session.{HasFed, stop_told}
 
 -- what of the piece is still to be fed
@@ -25,17 +26,24 @@ told_going old (Some stop) going is = let none : stop_told None (Some stop) ≡ 
 pub fed_nothing : (s : Intake) (bytes : List ℕ) → HasFed s bytes → HasFed s (bytes ++ [])
 fed_nothing s bytes fed = subst (HasFed s) (sym (append-nil bytes)) fed
 
-pub fed_more : (s : Intake) (bytes piece : List ℕ) (at n : ℕ) → HasFed s ((bytes ++ take at piece) ++ take n (rest_of piece at)) → HasFed s (bytes ++ take (at + n) piece)
+pub fed_more : (s : Intake) (bytes piece : List ℕ) (at n : ℕ) →
+    HasFed s ((bytes ++ take at piece) ++ take n (rest_of piece at)) → HasFed s (bytes ++ take (at + n) piece)
 fed_more s bytes piece at n fed =
-    let more : take at piece ++ take n (rest_of piece at) ≡ take (at + n) piece = ap (λ (xs : List ℕ). take at piece ++ take n xs) (rest_is piece at) ∙ sym (take-add at n piece) in
-    subst (HasFed s) (append_assoc bytes (take at piece) (take n (rest_of piece at)) ∙ ap (λ (xs : List ℕ). bytes ++ xs) more) fed
+    let more : take at piece ++ take n (rest_of piece at) ≡ take (at + n) piece =
+    ap (λ (xs : List ℕ). take at piece ++ take n xs) (rest_is piece at) ∙ sym (take-add at n piece) in
+    subst (HasFed s) (append_assoc bytes (take at piece) (take n (rest_of piece at))
+    ∙ ap (λ (xs : List ℕ). bytes ++ xs) more) fed
 
-pub fed_rest : (s : Intake) (bytes piece : List ℕ) (at : ℕ) → HasFed s ((bytes ++ take at piece) ++ rest_of piece at) → HasFed s (bytes ++ piece)
+pub fed_rest : (s : Intake) (bytes piece : List ℕ) (at : ℕ) →
+    HasFed s ((bytes ++ take at piece) ++ rest_of piece at) → HasFed s (bytes ++ piece)
 fed_rest s bytes piece at fed =
-    let whole : take at piece ++ rest_of piece at ≡ piece = ap (λ (xs : List ℕ). take at piece ++ xs) (rest_is piece at) ∙ take-append-drop at piece in
-    subst (HasFed s) (append_assoc bytes (take at piece) (rest_of piece at) ∙ ap (λ (xs : List ℕ). bytes ++ xs) whole) fed
+    let whole : take at piece ++ rest_of piece at ≡ piece =
+    ap (λ (xs : List ℕ). take at piece ++ xs) (rest_is piece at) ∙ take-append-drop at piece in
+    subst (HasFed s) (append_assoc bytes (take at piece) (rest_of piece at) ∙ ap (λ (xs : List ℕ). bytes ++ xs) whole)
+    fed
 
-pub fed_all : (s : Intake) (bytes piece : List ℕ) (at : ℕ) → length piece ≤ at → HasFed s (bytes ++ take at piece) → HasFed s (bytes ++ piece)
+pub fed_all : (s : Intake) (bytes piece : List ℕ) (at : ℕ) → length piece ≤ at → HasFed s (bytes ++ take at piece) →
+    HasFed s (bytes ++ piece)
 fed_all s bytes piece at past fed = subst (λ (xs : List ℕ). HasFed s (bytes ++ xs)) (take_all at piece past) fed
 
 -- the record at the front

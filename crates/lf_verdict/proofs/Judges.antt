@@ -18,39 +18,49 @@ use Rattle.lf_logs.specs.Tags.{PortView}
 use Rattle.lf_logs.proofs.Reordered.{first_with-number, first_with-push_other}
 use Rattle.lf_logs.proofs.GivenOut.{first_with-all}
 use Rattle.lf_replay.specs.Step.{StepView, IsForStep}
-use Rattle.lf_verdict.specs.declared.bank_judge.BankJudge.{BankJudge}
+use Rattle.lf_verdict.specs.declared.session.standing.bank_judge.BankJudge.{BankJudge}
 use Rattle.lf_verdict.specs.Standing.{IsPortAt, IsBankAt, IsBankJudged, IsBankSettled}
 
 -- where records break a rule, they break it there with more behind them
-breaks_longer : (side : Side) (shape : Shape) (now : Local) (rs : List Record) (r : Record) (n : ℕ) (rule : Rule) → BreaksAt side shape now rs n rule → BreaksAt side shape now (rs ++ r ∷ []) n rule
+breaks_longer : (side : Side) (shape : Shape) (now : Local) (rs : List Record) (r : Record) (n : ℕ) (rule : Rule) →
+    BreaksAt side shape now rs n rule → BreaksAt side shape now (rs ++ r ∷ []) n rule
 breaks_longer side shape now [] r n rule breaks = absurd breaks
 breaks_longer side shape now (x ∷ rs) r zero rule breaks = breaks
-breaks_longer side shape now (x ∷ rs) r (suc n) rule breaks = (breaks.0, breaks_longer side shape (effect side shape now x) rs r n rule breaks.1)
+breaks_longer side shape now (x ∷ rs) r (suc n) rule breaks =
+    (breaks.0, breaks_longer side shape (effect side shape now x) rs r n rule breaks.1)
 
-pub port_kept : (shape : Shape) (rs : List Record) (r : Record) (step : PortView) (outcome : Outcome) → (outcome ≡ outcomes.Passed → ⊥)
+pub port_kept : (shape : Shape) (rs : List Record) (r : Record) (step : PortView) (outcome : Outcome) →
+    (outcome ≡ outcomes.Passed → ⊥)
     → IsPortAt shape rs step outcome → IsPortAt shape (rs ++ r ∷ []) step outcome
 port_kept shape rs r step outcomes.Passed broken at = absurd (broken refl)
-port_kept shape rs r step (outcomes.Broken n rule) broken at = λ memory. breaks_longer OfPort shape (first_local memory) rs r n rule (at memory)
+port_kept shape rs r step (outcomes.Broken n rule) broken at =
+    λ memory. breaks_longer OfPort shape (first_local memory) rs r n rule (at memory)
 port_kept shape rs r step outcomes.NoMemory broken at = at
 
-pub bank_kept : (shape : Shape) (memory : FlatMemory) (bank : ℕ) (rs : List Record) (r : Record) (step : StepView) (outcome : Outcome) → (outcome ≡ outcomes.Passed → ⊥)
+pub bank_kept : (shape : Shape) (memory : FlatMemory) (bank : ℕ) (rs : List Record) (r : Record) (step : StepView)
+    (outcome : Outcome) → (outcome ≡ outcomes.Passed → ⊥)
     → IsBankAt shape memory bank rs step outcome → IsBankAt shape memory bank (rs ++ r ∷ []) step outcome
 bank_kept shape memory bank rs r step outcomes.Passed broken at = absurd (broken refl)
-bank_kept shape memory bank rs r step (outcomes.Broken n rule) broken at = breaks_longer OfBank shape (first_local memory) rs r n rule at
+bank_kept shape memory bank rs r step (outcomes.Broken n rule) broken at =
+    breaks_longer OfBank shape (first_local memory) rs r n rule at
 bank_kept shape memory bank rs r step outcomes.NoMemory broken at = at
 
 -- ---- a bank's records in turn
 
-module _ (shape : Shape) (memory : FlatMemory) (bank : ℕ) (came gave : List Record) (old : BankJudge) (judged : IsBankJudged shape memory bank came gave old) where
+module _ (shape : Shape) (memory : FlatMemory) (bank : ℕ) (came gave : List Record) (old : BankJudge)
+    (judged : IsBankJudged shape memory bank came gave old) where
   pub turn_fits : (r : Record) → Some r ≡ first_with (length gave) came → IsForStep old.step r
   turn_fits r turn = record {
-    fits = subst (λ (s : Shape). Fits s r) (sym judged.of_shape) (first_with-all (Fits shape) (length gave) came r judged.fit (sym turn));
+    fits = subst (λ (s : Shape). Fits s r) (sym judged.of_shape)
+        (first_with-all (Fits shape) (length gave) came r judged.fit (sym turn));
     named = first_with-all (λ r. r.bank ≡ bank) (length gave) came r judged.named (sym turn) ∙ sym judged.of_bank;
   }
 
-  pub judged_more : (r : Record) (new : BankJudge) → Some r ≡ first_with (length gave) came → HasOrdered new.order came (gave ++ r ∷ []) → new.order.bank ≡ old.order.bank
+  pub judged_more : (r : Record) (new : BankJudge) → Some r ≡ first_with (length gave) came →
+      HasOrdered new.order came (gave ++ r ∷ []) → new.order.bank ≡ old.order.bank
       → new.step.bank ≡ old.step.bank → new.step.state.shape ≡ old.step.state.shape
-      → (r.number ≡ length gave → IsBankAt shape memory bank gave old.step old.outcome → IsBankAt shape memory bank (gave ++ r ∷ []) new.step new.outcome)
+      → (r.number ≡ length gave → IsBankAt shape memory bank gave old.step old.outcome →
+      IsBankAt shape memory bank (gave ++ r ∷ []) new.step new.outcome)
       → IsBankJudged shape memory bank came (gave ++ r ∷ []) new
   judged_more r new turn ordered same_order same_bank same_shape goes = record {
     fit = judged.fit;
@@ -62,7 +72,8 @@ module _ (shape : Shape) (memory : FlatMemory) (bank : ℕ) (came gave : List Re
     judged = goes (first_with-number (length gave) came r (sym turn)) judged.judged;
   }
 
-  pub judged_all : (order : Reordering) → None ≡ first_with (length gave) came → HasOrdered order came (gave ++ []) → order.bank ≡ old.order.bank
+  pub judged_all : (order : Reordering) → None ≡ first_with (length gave) came → HasOrdered order came (gave ++ []) →
+      order.bank ≡ old.order.bank
       → IsBankSettled shape memory bank came gave (record old { order = order })
   judged_all order turn ordered same = record {
     bank_judged = record {
@@ -77,11 +88,13 @@ module _ (shape : Shape) (memory : FlatMemory) (bank : ℕ) (came gave : List Re
     drained = sym turn;
   }
 
-  all_push : (P : Record → Type 0) (rs : List Record) (r : Record) → AllByRecursion P rs → P r → AllByRecursion P (rs ++ r ∷ [])
+  all_push : (P : Record → Type 0) (rs : List Record) (r : Record) → AllByRecursion P rs → P r →
+      AllByRecursion P (rs ++ r ∷ [])
   all_push P [] r all p = (p, tt)
   all_push P (x ∷ rs) r all p = (all.0, all_push P rs r all.1 p)
 
-  pub judged_put : (r : Record) (order : Reordering) → Fits shape r → r.bank ≡ bank → HasOrdered order (came ++ r ∷ []) gave → order.bank ≡ old.order.bank
+  pub judged_put : (r : Record) (order : Reordering) → Fits shape r → r.bank ≡ bank →
+      HasOrdered order (came ++ r ∷ []) gave → order.bank ≡ old.order.bank
       → IsBankJudged shape memory bank (came ++ r ∷ []) gave (record old { order = order })
   judged_put r order fits named ordered same = record {
     fit = all_push (Fits shape) came r judged.fit fits;
@@ -94,9 +107,11 @@ module _ (shape : Shape) (memory : FlatMemory) (bank : ℕ) (came gave : List Re
   }
 
   -- a record that was passed on in its turn
-  pub judged_pass : (r : Record) (new : BankJudge) → Fits shape r → r.bank ≡ bank → r.number ≡ length gave → HasOrdered new.order (came ++ r ∷ []) (gave ++ r ∷ []) → new.order.bank ≡ old.order.bank
+  pub judged_pass : (r : Record) (new : BankJudge) → Fits shape r → r.bank ≡ bank → r.number ≡ length gave →
+      HasOrdered new.order (came ++ r ∷ []) (gave ++ r ∷ []) → new.order.bank ≡ old.order.bank
       → new.step.bank ≡ old.step.bank → new.step.state.shape ≡ old.step.state.shape
-      → (r.number ≡ length gave → IsBankAt shape memory bank gave old.step old.outcome → IsBankAt shape memory bank (gave ++ r ∷ []) new.step new.outcome)
+      → (r.number ≡ length gave → IsBankAt shape memory bank gave old.step old.outcome →
+      IsBankAt shape memory bank (gave ++ r ∷ []) new.step new.outcome)
       → IsBankJudged shape memory bank (came ++ r ∷ []) (gave ++ r ∷ []) new
   judged_pass r new fits named turn ordered same_order same_bank same_shape goes = record {
     fit = all_push (Fits shape) came r judged.fit fits;
@@ -109,7 +124,8 @@ module _ (shape : Shape) (memory : FlatMemory) (bank : ℕ) (came gave : List Re
   }
 
   -- a record that came early, or again, leaves what was given out
-  pub settled_put : (r : Record) (order : Reordering) → first_with (length gave) came ≡ None → Fits shape r → r.bank ≡ bank → ¬ (r.number ≡ length gave)
+  pub settled_put : (r : Record) (order : Reordering) → first_with (length gave) came ≡ None → Fits shape r →
+      r.bank ≡ bank → ¬ (r.number ≡ length gave)
       → HasOrdered order (came ++ r ∷ []) gave → order.bank ≡ old.order.bank
       → IsBankSettled shape memory bank (came ++ r ∷ []) gave (record old { order = order })
   settled_put r order drained fits named early ordered same = record {

@@ -1,5 +1,6 @@
 -- How many bytes stand before a record.
-use Rattle.std.proofs.Common.{◌≡◌, ℕ, ◌+◌, ◌*◌, ◌<◌, ◌≤◌, ◌^◌, List, [], ◌∷◌, ◌++◌, length, Option, Some, None, refl, sym, ap, ◌∙◌, subst, arith}
+use Rattle.std.proofs.Common.{◌≡◌, ℕ, ◌+◌, ◌*◌, ◌<◌, ◌≤◌, ◌^◌, List, [], ◌∷◌, ◌++◌, length, Option, Some, None, refl}
+use Rattle.std.proofs.Common.{sym, ap, ◌∙◌, subst, arith}
 use Rattle.std.specs.Prelude.{IfSome}
 use Rattle.std.specs.List.{flat_map, AllByRecursion}
 use Rattle.std.proofs.Math.Nat.{suc-mul}
@@ -12,7 +13,8 @@ use Rattle.lf_rules.specs.declared.event.Record.{Record}
 use Rattle.lf_rules.specs.Address.{FlatMemory, flat_memory}
 use Rattle.lf_rules.specs.Fits.{Bytes}
 use Rattle.lf_codec.specs.declared.header.Header.{Header}
-use Rattle.lf_codec.specs.Layout.{u16_bytes, u32_bytes, header_bytes, memory_bytes, record_bytes, fixed_bytes, data_of, kind_of}
+use Rattle.lf_codec.specs.Layout.{u16_bytes, u32_bytes, header_bytes, memory_bytes, record_bytes, fixed_bytes}
+use Rattle.lf_codec.specs.Layout.{data_of, kind_of}
 use Rattle.lf_codec.specs.Laws.{WhatIsReadFits}
 use Rattle.lf_codec.specs.Reading.{Reading, reading_of, header_of}
 use Rattle.lf_codec.specs.Reader.{HasRead, with_record}
@@ -24,12 +26,13 @@ use Rattle.lf_codec.proofs.Judged.{judged_passed}
 use Rattle.lf_codec.proofs.Numbers.{length-u32_bytes}
 use Rattle.lf_codec.proofs.Soundness.{block_at_most_64, data_limit, most_data-le, fixed_len-le}
 use Rattle.lf_codec.specs.Checks.{fixed_checks, log_limit}
-use Rattle.lf_verdict.specs.declared.breaking.Watch.{Watch}
-use Rattle.lf_verdict.specs.declared.breaking.Watch.TheVariants.{Whole, First, Unknown}
-use Rattle.lf_verdict.specs.declared.standing.Standing.{Standing}
-use Rattle.lf_verdict.specs.Breaking.{first_offset, offset_after, IsWatch, EndsInRange}
+use Rattle.lf_verdict.specs.declared.session.breaking.Watch.{Watch}
+use Rattle.lf_verdict.specs.declared.session.breaking.Watch.TheVariants.{Whole, First, Unknown}
+use Rattle.lf_verdict.specs.declared.session.standing.Standing.{Standing}
+use Rattle.lf_verdict.specs.Breaking.{first_offset, offset_after}
+use Rattle.lf_verdict.specs.Standing.{IsWatch, StandsAfterAll}
+use Rattle.lf_verdict.specs.inner.Noting.{EndsInRange}
 use Rattle.lf_verdict.specs.Legal.{Agrees}
-use Rattle.lf_verdict.specs.Standing.{StandsAfterAll}
 use Rattle.lf_verdict.specs.Session.{IsRunning}
 
 -- ---- the header and the memory
@@ -38,7 +41,8 @@ length-header : (h : Header) → length (header_bytes h) ≡ 16
 unfolding u16_bytes u32_bytes
 length-header h = refl
 
-length-memory : (size least : ℕ) (memory : List (ℕ × Bytes)) → FitsMemory size least memory → length (flat_map memory_bytes memory) ≡ length memory * (4 + size)
+length-memory : (size least : ℕ) (memory : List (ℕ × Bytes)) → FitsMemory size least memory →
+    length (flat_map memory_bytes memory) ≡ length memory * (4 + size)
 length-memory size least [] fits = omega arith
 length-memory size least (m ∷ memory) fits =
     omega (
@@ -52,9 +56,16 @@ length-memory size least (m ∷ memory) fits =
       suc-mul (length memory) (4 + size),
     )
 
-pub first_offset_is : (h : Header) (memory : List (ℕ × Bytes)) → FitsMemory h.block 0 memory → first_offset h memory ≡ 16 + length memory * (4 + h.block)
+pub first_offset_is : (h : Header) (memory : List (ℕ × Bytes)) → FitsMemory h.block 0 memory →
+    first_offset h memory ≡ 16 + length memory * (4 + h.block)
 first_offset_is h memory fits =
-    omega (arith, length-append (header_bytes h) (flat_map memory_bytes memory), length-header h, length-memory h.block 0 memory fits)
+    omega (
+      arith,
+      length-append (header_bytes h) (flat_map memory_bytes memory),
+      length-header h,
+      length-memory
+          h.block 0 memory fits,
+    )
 
 -- ---- records
 
@@ -76,7 +87,8 @@ length-record h r header fits =
     let kind = kind_of r.event in
     let le = block_at_most_64 h.block header.block_size in
     let event = fits.fits.event in
-    let passed = judged_passed (fixed_checks h r.bank kind (fixed_bytes r.event)) (fixed_passes h r.bank r.event le event) in
+    let passed = judged_passed (fixed_checks h r.bank kind (fixed_bytes r.event))
+    (fixed_passes h r.bank r.event le event) in
     omega (
       arith,
       length-append (u32_bytes r.number ++ fixed_bytes r.event) (data_of r.event),
@@ -89,7 +101,8 @@ length-record h r header fits =
       most_data-le h kind range,
     )
 
-length-records : (h : Header) (rs : List Record) → FitsHeader h → AllByRecursion (FitsIn h) rs → length (flat_map record_bytes rs) ≤ 300 * length rs
+length-records : (h : Header) (rs : List Record) → FitsHeader h → AllByRecursion (FitsIn h) rs →
+    length (flat_map record_bytes rs) ≤ 300 * length rs
 length-records h [] header fit = omega arith
 length-records h (r ∷ rs) header fit =
     omega (
@@ -100,24 +113,14 @@ length-records h (r ∷ rs) header fit =
       length-records h rs header fit.1,
     )
 
--- the record behind one more
-pub offset_behind : (start : ℕ) (records : List Record) (r : Record) → offset_after start records + length (record_bytes r) ≡ offset_after start (records ++ r ∷ [])
-offset_behind start records r =
-    omega (
-      arith,
-      ap length (flat_map-append record_bytes records (r ∷ [])),
-      length-append (flat_map record_bytes records) (flat_map record_bytes (r ∷ [])),
-      ap length (flat_map-cons record_bytes r []),
-      length-append (record_bytes r) [],
-    )
-
 pub offset_of_first : (start : ℕ) → start ≡ offset_after start []
 offset_of_first start = omega arith
 
 -- ---- what a reader gives
 
 -- no record of a trace ends above 2^64
-trace_ends : (h : Header) (memory : List (ℕ × Bytes)) (before rest : List Record) (r : Record) → FitsTrace h memory (before ++ r ∷ rest)
+trace_ends : (h : Header) (memory : List (ℕ × Bytes)) (before rest : List Record) (r : Record) →
+    FitsTrace h memory (before ++ r ∷ rest)
     → offset_after (first_offset h memory) before + length (record_bytes r) < 2 ^ 64
 trace_ends h memory before rest r fits =
     let few = few_of_trace h memory (before ++ r ∷ rest) fits in
@@ -137,26 +140,32 @@ trace_ends h memory before rest r fits =
     memory_limit =
         let count = fits.memory_count in
         let few_blocks = fits.header.memory_count in
-        mul-le (length memory) (4 + h.block) 0x1_0000_0000 68 (omega (arith, count, few_blocks)) (omega (arith, block_at_most_64 h.block fits.header.block_size))
+        mul-le (length memory) (4 + h.block) 0x1_0000_0000 68 (omega (arith, count, few_blocks))
+        (omega (arith, block_at_most_64 h.block fits.header.block_size))
 
 none_more : (xs ys : List (ℕ × Bytes)) → length (xs ++ ys) ≤ length xs → xs ++ ys ≡ xs
 none_more xs [] le = append-nil xs
 none_more xs (y ∷ ys) le = absurd (omega (arith, length-append xs (y ∷ ys)))
 
-watch_ends : (start : ℕ) (shape : Shape) (memory : FlatMemory) (records : List Record) (watch : Watch) (r : Record) → IsWatch start shape memory records watch
+watch_ends : (start : ℕ) (shape : Shape) (memory : FlatMemory) (records : List Record) (watch : Watch) (r : Record) →
+    IsWatch start shape memory records watch
     → offset_after start records + length (record_bytes r) < 2 ^ 64 → EndsInRange watch r
 watch_ends start shape memory records (Whole next) r watched lt = omega (arith, watched.1)
 watch_ends start shape memory records (First first) r watched lt = tt
 watch_ends start shape memory records Unknown r watched lt = tt
 
 -- the next record that the reader gives ends below 2^64
-pub ends_in_range : WhatIsReadFits → (shape : Shape) (bytes : List ℕ) (memory : List (ℕ × Bytes)) (records : List Record) (r : Reading) (running : Standing) (item : Record) (rest : List Record)
-    → HasRead r bytes memory records → IsRunning shape bytes memory records running → r.records ≡ item ∷ rest → EndsInRange running.watch item
+pub ends_in_range : WhatIsReadFits → (shape : Shape) (bytes : List ℕ) (memory : List (ℕ × Bytes))
+    (records : List Record) (r : Reading) (running : Standing) (item : Record) (rest : List Record)
+    → HasRead r bytes memory records → IsRunning shape bytes memory records running → r.records ≡ item ∷ rest →
+    EndsInRange running.watch item
 ends_in_range law shape bytes memory records r running item rest read run next =
     let fits = law bytes run.header read.are_bytes run.read in
-    let whole : (reading_of bytes).records ≡ records ++ item ∷ rest = ap (λ (q : Reading). q.records) read.same ∙ ap (λ (xs : List Record). records ++ xs) next in
+    let whole : (reading_of bytes).records ≡ records ++ item ∷ rest =
+    ap (λ (q : Reading). q.records) read.same ∙ ap (λ (xs : List Record). records ++ xs) next in
     let stored : (reading_of bytes).memory ≡ memory ++ r.memory = ap (λ (q : Reading). q.memory) read.same in
-    let none : memory ++ r.memory ≡ memory = none_more memory r.memory (omega (arith, ap length stored, fits.few, run.whole)) in
+    let none : memory ++ r.memory ≡ memory = none_more memory r.memory
+    (omega (arith, ap length stored, fits.few, run.whole)) in
     let trace : FitsTrace run.header memory (records ++ item ∷ rest) = record {
       header = fits.header;
       memory_count = sym run.whole;
@@ -168,20 +177,27 @@ ends_in_range law shape bytes memory records r running item rest read run next =
     (trace_ends run.header memory records rest item trace)
 
 -- ... also where it stands in a place
-pub place_ends : WhatIsReadFits → (shape : Shape) (bytes : List ℕ) (memory : List (ℕ × Bytes)) (records : List Record) (r : Reading) (running : Standing) (place : Option Record)
-    → HasRead (with_record place r) bytes memory records → IsRunning shape bytes memory records running → IfSome place (EndsInRange running.watch)
+pub place_ends : WhatIsReadFits → (shape : Shape) (bytes : List ℕ) (memory : List (ℕ × Bytes)) (records : List Record)
+    (r : Reading) (running : Standing) (place : Option Record)
+    → HasRead (with_record place r) bytes memory records → IsRunning shape bytes memory records running →
+    IfSome place (EndsInRange running.watch)
 place_ends law shape bytes memory records r running None read run = tt
-place_ends law shape bytes memory records r running (Some item) read run = ends_in_range law shape bytes memory records (with_record (Some item) r) running item r.records read run refl
+place_ends law shape bytes memory records r running (Some item) read run =
+    ends_in_range law shape bytes memory records (with_record (Some item) r) running item r.records read run refl
 
 -- no record came, and the first begins behind the header and the memory
-pub opened : WhatIsReadFits → (shape : Shape) (bytes : List ℕ) (memory : List (ℕ × Bytes)) (records : List Record) (r : Reading) (h : Header) (start : ℕ) (running : Standing)
+pub opened : WhatIsReadFits → (shape : Shape) (bytes : List ℕ) (memory : List (ℕ × Bytes)) (records : List Record)
+    (r : Reading) (h : Header) (start : ℕ) (running : Standing)
     → HasRead r bytes memory records → header_of bytes ≡ Some h → Agrees shape h → length memory ≡ h.memory_count
-    → ((memory : List (ℕ × Bytes)) → length memory ≡ h.memory_count → FitsMemory h.block 0 memory → start ≡ first_offset h memory)
-    → StandsAfterAll shape (flat_memory memory) [] running → IsWatch start shape (flat_memory memory) [] running.watch → IsRunning shape bytes memory [] running
+    → ((memory : List (ℕ × Bytes)) → length memory ≡ h.memory_count → FitsMemory h.block 0 memory →
+    start ≡ first_offset h memory)
+    → StandsAfterAll shape (flat_memory memory) [] running →
+    IsWatch start shape (flat_memory memory) [] running.watch → IsRunning shape bytes memory [] running
 opened law shape bytes memory records r h start running read header agrees whole starts stands watched =
     let fits = law bytes h read.are_bytes header in
     let stored : (reading_of bytes).memory ≡ memory ++ r.memory = ap (λ (q : Reading). q.memory) read.same in
-    let none : memory ++ r.memory ≡ memory = none_more memory r.memory (omega (arith, ap length stored, fits.few, whole)) in
+    let none : memory ++ r.memory ≡ memory = none_more memory r.memory
+    (omega (arith, ap length stored, fits.few, whole)) in
     let blocks : FitsMemory h.block 0 memory = subst (FitsMemory h.block 0) (stored ∙ none) fits.blocks in
     record {
       header = h;
@@ -189,5 +205,6 @@ opened law shape bytes memory records r h start running read header agrees whole
       agrees = agrees;
       whole = whole;
       stands = stands;
-      watched = subst (λ (n : ℕ). IsWatch n shape (flat_memory memory) [] running.watch) (starts memory whole blocks) watched;
+      watched = subst (λ (n : ℕ). IsWatch n shape (flat_memory memory) [] running.watch) (starts memory whole blocks)
+          watched;
     }

@@ -16,14 +16,16 @@ use Rattle.lf_verdict.specs.Legal.{Agrees, IsTraceFor}
 use Rattle.lf_verdict.specs.Laws.{AreMixtures, MixturesAreAlike}
 use Rattle.lf_verdict.specs.Verdict.{Differs, IsTraceVerdict}
 
-same_logs : (rs others : List Record) (logs : List ℕ) → ((log : ℕ) → of_log log rs ≡ of_log log others) → map (λ log. of_log log rs) logs ≡ map (λ log. of_log log others) logs
+same_logs : (rs others : List Record) (logs : List ℕ) → ((log : ℕ) → of_log log rs ≡ of_log log others) →
+    map (λ log. of_log log rs) logs ≡ map (λ log. of_log log others) logs
 same_logs rs others [] same = refl
 same_logs rs others (log ∷ logs) same =
     let here = same log in
     let rest = same_logs rs others logs same in cc
 
 -- what is a trace for the shape stays one, with its memory and its logs
-moved : BytesAreOfOneTrace → (shape : Shape) (bytes other : List ℕ) → AreMixtures bytes other → (memory : List (ℕ × Bytes)) (logs : List (List Record)) → IsTraceFor shape bytes memory logs
+moved : BytesAreOfOneTrace → (shape : Shape) (bytes other : List ℕ) → AreMixtures bytes other →
+    (memory : List (ℕ × Bytes)) (logs : List (List Record)) → IsTraceFor shape bytes memory logs
     → IsTraceFor shape other memory logs
 moved one_trace shape bytes other mixed memory logs t =
     let same = one_trace bytes t.header mixed.header memory mixed.memory t.records mixed.records t.trace mixed.trace in
@@ -33,27 +35,60 @@ moved one_trace shape bytes other mixed memory logs t =
       records = mixed.others;
       trace = mixed.other_trace;
       agrees = subst (Agrees shape) same.0 t.agrees;
-      are_logs = t.are_logs ∙ ap (logs_of count) same.2 ∙ same_logs mixed.records mixed.others (range_with_len 0 count) mixed.same_logs;
+      are_logs = t.are_logs ∙ ap (logs_of count) same.2 ∙ same_logs mixed.records mixed.others
+          (range_with_len 0 count) mixed.same_logs;
     })
 
-alike : BytesAreOfOneTrace → FaultlessBytesAreTraces → (shape : Shape) (bytes other : List ℕ) (verdict : Verdict) → ((i : ℕ) → slice_index bytes i < 256)
+alike : BytesAreOfOneTrace → FaultlessBytesAreTraces → (shape : Shape) (bytes other : List ℕ) (verdict : Verdict) →
+    ((i : ℕ) → slice_index bytes i < 256)
     → AreMixtures bytes other → IsTraceVerdict shape bytes verdict → IsTraceVerdict shape other verdict
 alike one_trace faultless shape bytes other (Yes events order) fit mixed is =
-    record { memory = is.memory; logs = is.logs; trace = moved one_trace shape bytes other mixed is.memory is.logs is.trace; parts = is.parts; least = is.least; count = is.count }
+    record {
+      memory = is.memory;
+      logs = is.logs;
+      trace = moved one_trace shape bytes other mixed is.memory is.logs
+          is.trace;
+      parts = is.parts;
+      least = is.least;
+      count = is.count;
+    }
 alike one_trace faultless shape bytes other (No fault) fit mixed is =
-    record { memory = is.memory; logs = is.logs; trace = moved one_trace shape bytes other mixed is.memory is.logs is.trace; fault_of = is.fault_of }
+    record {
+      memory = is.memory;
+      logs = is.logs;
+      trace = moved one_trace shape bytes other mixed is.memory is.logs
+          is.trace;
+      fault_of = is.fault_of;
+    }
 alike one_trace faultless shape bytes other (Refused (refusals.Format fault)) fit mixed is =
-    let none = (faultless bytes fit).1 (record { header = mixed.header; memory = mixed.memory; records = mixed.records; trace = mixed.trace }) in cc
+    let none = (faultless bytes fit).1 (record {
+      header = mixed.header;
+      memory = mixed.memory;
+      records =
+          mixed.records;
+      trace = mixed.trace;
+    }) in cc
 alike one_trace faultless shape bytes other (Refused (refusals.Header field)) fit mixed is =
-    let same = one_trace bytes is.header mixed.header is.memory mixed.memory is.records mixed.records is.trace mixed.trace in
-    record { header = mixed.header; memory = mixed.memory; records = mixed.others; trace = mixed.other_trace; differs = subst (λ (h : Header). Differs shape h field) same.0 is.differs }
+    let same = one_trace bytes is.header mixed.header is.memory mixed.memory is.records mixed.records is.trace
+    mixed.trace in
+    record {
+      header = mixed.header;
+      memory = mixed.memory;
+      records = mixed.others;
+      trace =
+          mixed.other_trace;
+      differs = subst (λ (h : Header). Differs shape h field) same.0 is.differs;
+    }
 alike one_trace faultless shape bytes other (Refused _) fit mixed is = absurd is
 
 pub mixtures_are_alike : BytesAreOfOneTrace → FaultlessBytesAreTraces → MixturesAreAlike
-mixtures_are_alike one_trace faultless shape workers bytes other (Yes events order) fit mixed is = (is.0, alike one_trace faultless shape bytes other (Yes events order) fit mixed is.1)
-mixtures_are_alike one_trace faultless shape workers bytes other (No fault) fit mixed is = (is.0, alike one_trace faultless shape bytes other (No fault) fit mixed is.1)
+mixtures_are_alike one_trace faultless shape workers bytes other (Yes events order) fit mixed is =
+    (is.0, alike one_trace faultless shape bytes other (Yes events order) fit mixed is.1)
+mixtures_are_alike one_trace faultless shape workers bytes other (No fault) fit mixed is =
+    (is.0, alike one_trace faultless shape bytes other (No fault) fit mixed is.1)
 mixtures_are_alike one_trace faultless shape workers bytes other (Refused (refusals.Workers n)) fit mixed is = is
-mixtures_are_alike one_trace faultless shape workers bytes other (Refused (refusals.Config fault)) fit mixed is = absurd is.1
+mixtures_are_alike one_trace faultless shape workers bytes other (Refused (refusals.Config fault)) fit mixed is =
+    absurd is.1
 mixtures_are_alike one_trace faultless shape workers bytes other (Refused (refusals.Format fault)) fit mixed is =
     (is.0, alike one_trace faultless shape bytes other (Refused (refusals.Format fault)) fit mixed is.1)
 mixtures_are_alike one_trace faultless shape workers bytes other (Refused (refusals.Header field)) fit mixed is =

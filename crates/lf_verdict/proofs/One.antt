@@ -1,5 +1,6 @@
 -- Bytes have one verdict.
-use Rattle.std.proofs.Common.{◌≡◌, ℕ, ◌+◌, ◌<◌, ◌≤◌, List, length, Some, refl, sym, ◌∙◌, ap, subst, arith, ◌⊎◌, inl, inr}
+use Rattle.std.proofs.Common.{◌≡◌, ℕ, ◌+◌, ◌<◌, ◌≤◌, List, length, Some, refl, sym, ◌∙◌, ap, subst, arith, ◌⊎◌, inl}
+use Rattle.std.proofs.Common.{inr}
 use Rattle.std.specs.Prelude.{slice_index}
 use Rattle.std.proofs.lemmas.Bool.{cases_lt}
 use Rattle.lf_rules.specs.declared.shape.Shape.{Shape}
@@ -9,7 +10,8 @@ use Rattle.lf_rules.specs.declared.outcome.Outcome.TheVariants as outcomes
 use Rattle.lf_rules.specs.Address.{FlatMemory, flat_memory}
 use Rattle.lf_rules.specs.Fits.{Bytes}
 use Rattle.lf_rules.specs.Numbers.{bank_numbers, NumberedIsOne, IsMissing, IsDouble}
-use Rattle.lf_rules.specs.Order.{log_at, IsLeastOrder, OrdersInterleave, LogsFollow, EntriesKeepAlike, EntriesKeepNumbers}
+use Rattle.lf_rules.specs.Order.{log_at, IsLeastOrder, OrdersInterleave, LogsFollow, EntriesKeepAlike}
+use Rattle.lf_rules.specs.Order.{EntriesKeepNumbers}
 use Rattle.lf_rules.specs.Outcomes.{OutcomesAreOne, first_local}
 use Rattle.lf_rules.specs.declared.ring.Knot.{Knot}
 use Rattle.lf_rules.specs.Ring.{RingsAdmitNone, skeletons_of, IsRing}
@@ -26,14 +28,16 @@ use Rattle.lf_verdict.specs.declared.answer.Fault.TheVariants.{Missing, Double, 
 use Rattle.lf_verdict.specs.declared.answer.HeaderField.{HeaderField}
 use Rattle.lf_verdict.specs.declared.answer.HeaderField.TheVariants as fields
 use Rattle.lf_verdict.specs.Legal.{Agrees, IsTraceFor}
-use Rattle.lf_verdict.specs.Parts.{HasWholeNumbers, PortRuns, BankRuns, PartsRun, IsFirstNumber, IsPortFault, IsBankFault}
+use Rattle.lf_verdict.specs.Parts.{HasWholeNumbers, PortRuns, BankRuns, PartsRun, IsFirstNumber, IsPortFault}
+use Rattle.lf_verdict.specs.Parts.{IsBankFault}
 use Rattle.lf_verdict.specs.declared.answer.Verdict.{Verdict}
 use Rattle.lf_verdict.specs.declared.answer.Verdict.TheVariants.{Yes, No, Refused}
 use Rattle.lf_verdict.specs.declared.answer.Refusal.TheVariants as refusals
 use Rattle.lf_verdict.specs.Laws.{SameVerdict, VerdictsAreOne, WorkersAreAlike}
-use Rattle.lf_verdict.specs.Verdict.{Differs, IsFaultOfLogs, IsNo, IsYes, IsOfAnother, IsTraceVerdict, IsVerdictOf, IsWorkerCount}
+use Rattle.lf_verdict.specs.Verdict.{Differs, IsFaultOfLogs, IsNo, IsYes, IsOfAnother, IsTraceVerdict, IsVerdictOf}
+use Rattle.lf_verdict.specs.Verdict.{IsWorkerCount}
 use Rattle.lf_verdict.proofs.Traces.{trace_names, trace_fits}
-use Rattle.lf_verdict.specs.Jobs.{LogsFit}
+use Rattle.lf_verdict.specs.inner.Jobs.{LogsFit}
 use Rattle.lf_verdict.proofs.Skeletons.{banks_whole, all_whole}
 use Rattle.lf_join.specs.Laws.{LeastOrdersAreOne, StuckRingsAreOne}
 use Rattle.lf_verdict.proofs.Counts.{no_gap, no_double}
@@ -63,17 +67,23 @@ lowest a b x y = go (cases_lt a b) (cases_lt b a)
 
 -- ---- parts that run do not break
 
-module _ (laws : Laws) (shape : Shape) (memory : FlatMemory) (logs : List (List Record)) (fits : LogsFit shape logs) where
-  no_break : (side : Side) (rs : List Record) (n : ℕ) (rule : Rule) → BreaksAt side shape (first_local memory) rs n rule → IsRunOf side shape (first_local memory) rs → ⊥
+module _ (laws : Laws) (shape : Shape) (memory : FlatMemory) (logs : List (List Record))
+    (fits : LogsFit shape logs) where
+  no_break : (side : Side) (rs : List Record) (n : ℕ) (rule : Rule) →
+      BreaksAt side shape (first_local memory) rs n rule → IsRunOf side shape (first_local memory) rs → ⊥
   no_break side rs n rule breaks runs =
-      let same = laws.one_outcome side shape memory rs outcomes.Passed (outcomes.Broken n rule) runs breaks (λ e. cc) (λ e. cc) in cc
+      let same = laws.one_outcome side shape memory rs outcomes.Passed (outcomes.Broken n rule) runs breaks (λ e. cc)
+      (λ e. cc) in cc
 
-  port_breaks : (port at : ℕ) (rule : Rule) → IsPortFault shape memory logs port at rule → PortRuns shape memory logs port → ⊥
+  port_breaks : (port at : ℕ) (rule : Rule) → IsPortFault shape memory logs port at rule →
+      PortRuns shape memory logs port → ⊥
   port_breaks port at rule is runs = no_break OfPort (log_at logs port) at rule is.breaks runs
 
-  bank_breaks : (bank number : ℕ) (rule : Rule) → IsBankFault shape memory logs bank number rule → BankRuns shape memory logs bank → ⊥
+  bank_breaks : (bank number : ℕ) (rule : Rule) → IsBankFault shape memory logs bank number rule →
+      BankRuns shape memory logs bank → ⊥
   bank_breaks bank number rule is runs =
-      no_break OfBank is.records number rule is.breaks (subst (IsRunOf OfBank shape (first_local memory)) (laws.one_list logs bank runs.records is.records runs.numbered is.numbered) runs.run)
+      no_break OfBank is.records number rule is.breaks (subst (IsRunOf OfBank shape (first_local memory))
+      (laws.one_list logs bank runs.records is.records runs.numbered is.numbered) runs.run)
 
   -- a number that is missing or double
   abbrev IsGap : ℕ → ℕ → Type 0
@@ -83,57 +93,74 @@ module _ (laws : Laws) (shape : Shape) (memory : FlatMemory) (logs : List (List 
   whole_or_gap bank k whole (inl gap) = no_gap (bank_numbers logs bank) whole k gap
   whole_or_gap bank k whole (inr double) = no_double (bank_numbers logs bank) whole k double
 
-  same_bank : (bank k bank' k' : ℕ) → IsFirstNumber shape logs bank k → IsGap bank k → IsFirstNumber shape logs bank' k' → IsGap bank' k' → bank ≡ bank'
+  same_bank : (bank k bank' k' : ℕ) → IsFirstNumber shape logs bank k → IsGap bank k →
+      IsFirstNumber shape logs bank' k' → IsGap bank' k' → bank ≡ bank'
   same_bank bank k bank' k' a gap b gap' =
-      lowest bank bank' (λ lt. whole_or_gap bank k (b.banks_before bank lt) gap) (λ lt. whole_or_gap bank' k' (a.banks_before bank' lt) gap')
+      lowest bank bank' (λ lt. whole_or_gap bank k (b.banks_before bank lt) gap)
+      (λ lt. whole_or_gap bank' k' (a.banks_before bank' lt) gap')
 
   fine_or_gap : (bank k k' : ℕ) → IsFirstNumber shape logs bank k' → k < k' → IsGap bank k → ⊥
   fine_or_gap bank k k' a lt (inl gap) = (a.numbers_before k lt).0 gap
   fine_or_gap bank k k' a lt (inr double) = (a.numbers_before k lt).1 double
 
-  same_number : (bank k bank' k' : ℕ) → bank ≡ bank' → IsFirstNumber shape logs bank k → IsGap bank k → IsFirstNumber shape logs bank' k' → IsGap bank' k' → k ≡ k'
+  same_number : (bank k bank' k' : ℕ) → bank ≡ bank' → IsFirstNumber shape logs bank k → IsGap bank k →
+      IsFirstNumber shape logs bank' k' → IsGap bank' k' → k ≡ k'
   same_number bank k bank' k' e a gap b gap' =
       let back : IsFirstNumber shape logs bank k' = subst (λ n. IsFirstNumber shape logs n k') (sym e) b in
       let gap_there : IsGap bank k' = subst (λ n. IsGap n k') (sym e) gap' in
       lowest k k' (λ lt. fine_or_gap bank k k' back lt gap) (λ lt. fine_or_gap bank k' k a lt gap_there)
 
-  missing_or_double : (bank k bank' k' : ℕ) → IsFirstNumber shape logs bank k → IsMissing (bank_numbers logs bank) k → IsFirstNumber shape logs bank' k' → IsDouble (bank_numbers logs bank') k' → ⊥
+  missing_or_double : (bank k bank' k' : ℕ) → IsFirstNumber shape logs bank k → IsMissing (bank_numbers logs bank) k →
+      IsFirstNumber shape logs bank' k' → IsDouble (bank_numbers logs bank') k' → ⊥
   missing_or_double bank k bank' k' a gap b double =
       let bank_is = same_bank bank k bank' k' a (inl gap) b (inr double) in
       let k_is = same_number bank k bank' k' bank_is a (inl gap) b (inr double) in
-      let there : IsDouble (bank_numbers logs bank) k = subst (λ n. IsDouble (bank_numbers logs bank) n) (sym k_is) (subst (λ n. IsDouble (bank_numbers logs n) k') (sym bank_is) double) in
+      let there : IsDouble (bank_numbers logs bank) k = subst (λ n. IsDouble (bank_numbers logs bank) n) (sym k_is)
+      (subst (λ n. IsDouble (bank_numbers logs n) k') (sym bank_is) double) in
       let none = gap.0 in
       omega (arith, none, there)
 
-  same_break : (side : Side) (rs : List Record) (n n' : ℕ) (rule rule' : Rule) → BreaksAt side shape (first_local memory) rs n rule
+  same_break : (side : Side) (rs : List Record) (n n' : ℕ) (rule rule' : Rule) →
+      BreaksAt side shape (first_local memory) rs n rule
       → BreaksAt side shape (first_local memory) rs n' rule' → (n ≡ n') × (rule ≡ rule')
   same_break side rs n n' rule rule' a b =
-      let same = laws.one_outcome side shape memory rs (outcomes.Broken n rule) (outcomes.Broken n' rule') a b (λ e. cc) (λ e. cc) in (cc, cc)
+      let same = laws.one_outcome side shape memory rs (outcomes.Broken n rule) (outcomes.Broken n' rule') a b
+      (λ e. cc) (λ e. cc) in (cc, cc)
 
-  same_port : (port at port' at' : ℕ) (rule rule' : Rule) → IsPortFault shape memory logs port at rule → IsPortFault shape memory logs port' at' rule' → Port port at rule ≡ Port port' at' rule'
+  same_port : (port at port' at' : ℕ) (rule rule' : Rule) → IsPortFault shape memory logs port at rule →
+      IsPortFault shape memory logs port' at' rule' → Port port at rule ≡ Port port' at' rule'
   same_port port at port' at' rule rule' a b =
-      let port_is = lowest port port' (λ lt. port_breaks port at rule a (b.ports_before port lt)) (λ lt. port_breaks port' at' rule' b (a.ports_before port' lt)) in
-      let both = same_break OfPort (log_at logs port) at at' rule rule' a.breaks (subst (λ n. BreaksAt OfPort shape (first_local memory) (log_at logs n) at' rule') (sym port_is) b.breaks) in
+      let port_is = lowest port port' (λ lt. port_breaks port at rule a (b.ports_before port lt))
+      (λ lt. port_breaks port' at' rule' b (a.ports_before port' lt)) in
+      let both = same_break OfPort (log_at logs port) at at' rule rule' a.breaks
+      (subst (λ n. BreaksAt OfPort shape (first_local memory) (log_at logs n) at' rule') (sym port_is) b.breaks)
+      in
       let at_is = both.0 in let rule_is = both.1 in cc
 
-  same_bank_fault : (bank number bank' number' : ℕ) (rule rule' : Rule) → IsBankFault shape memory logs bank number rule → IsBankFault shape memory logs bank' number' rule'
+  same_bank_fault : (bank number bank' number' : ℕ) (rule rule' : Rule) →
+      IsBankFault shape memory logs bank number rule → IsBankFault shape memory logs bank' number' rule'
       → Bank bank number rule ≡ Bank bank' number' rule'
   same_bank_fault bank number bank' number' rule rule' a b =
-      let bank_is = lowest bank bank' (λ lt. bank_breaks bank number rule a (b.banks_before bank lt)) (λ lt. bank_breaks bank' number' rule' b (a.banks_before bank' lt)) in
+      let bank_is = lowest bank bank' (λ lt. bank_breaks bank number rule a (b.banks_before bank lt))
+      (λ lt. bank_breaks bank' number' rule' b (a.banks_before bank' lt)) in
       let here = subst (λ n. IsBankFault shape memory logs n number' rule') (sym bank_is) b in
       let list = laws.one_list logs bank here.records a.records here.numbered a.numbered in
-      let both = same_break OfBank a.records number number' rule rule' a.breaks (subst (λ rs. BreaksAt OfBank shape (first_local memory) rs number' rule') list here.breaks) in
+      let both = same_break OfBank a.records number number' rule rule' a.breaks
+      (subst (λ rs. BreaksAt OfBank shape (first_local memory) rs number' rule') list here.breaks) in
       let number_is = both.0 in let rule_is = both.1 in cc
 
   -- ---- what comes later says that the earlier does not hold
 
-  gap_or_whole : (bank k : ℕ) → IsFirstNumber shape logs bank k → IsGap bank k → ((b : ℕ) → b < shape.banks → HasWholeNumbers logs b) → ⊥
+  gap_or_whole : (bank k : ℕ) → IsFirstNumber shape logs bank k → IsGap bank k →
+      ((b : ℕ) → b < shape.banks → HasWholeNumbers logs b) → ⊥
   gap_or_whole bank k a gap whole = whole_or_gap bank k (whole bank a.is_bank) gap
 
-  port_or_runs : (port at : ℕ) (rule : Rule) → IsPortFault shape memory logs port at rule → ((p : ℕ) → p < shape.ports → PortRuns shape memory logs p) → ⊥
+  port_or_runs : (port at : ℕ) (rule : Rule) → IsPortFault shape memory logs port at rule →
+      ((p : ℕ) → p < shape.ports → PortRuns shape memory logs p) → ⊥
   port_or_runs port at rule a runs = port_breaks port at rule a (runs port a.is_port)
 
-  bank_or_runs : (bank number : ℕ) (rule : Rule) → IsBankFault shape memory logs bank number rule → ((b : ℕ) → b < shape.banks → BankRuns shape memory logs b) → ⊥
+  bank_or_runs : (bank number : ℕ) (rule : Rule) → IsBankFault shape memory logs bank number rule →
+      ((b : ℕ) → b < shape.banks → BankRuns shape memory logs b) → ⊥
   bank_or_runs bank number rule a runs = bank_breaks bank number rule a (runs bank a.is_bank)
 
   one_fault : (a b : Fault) → IsFaultOfLogs shape memory logs a → IsFaultOfLogs shape memory logs b → a ≡ b
@@ -159,7 +186,8 @@ module _ (laws : Laws) (shape : Shape) (memory : FlatMemory) (logs : List (List 
   one_fault (Bank bank number rule) (Missing bank' k) a b = absurd (gap_or_whole bank' k b.0 (inl b.1) a.numbers)
   one_fault (Bank bank number rule) (Double bank' k) a b = absurd (gap_or_whole bank' k b.0 (inr b.1) a.numbers)
   one_fault (Bank bank number rule) (Port port at rule') a b = absurd (port_or_runs port at rule' b a.ports)
-  one_fault (Bank bank number rule) (Bank bank' number' rule') a b = same_bank_fault bank number bank' number' rule rule' a b
+  one_fault (Bank bank number rule) (Bank bank' number' rule') a b =
+      same_bank_fault bank number bank' number' rule rule' a b
   one_fault (Bank bank number rule) (Cycle ring) a b = absurd (bank_or_runs bank number rule a b.parts.banks)
   one_fault (Cycle ring) (Missing bank k) a b = absurd (gap_or_whole bank k b.0 (inl b.1) a.parts.numbers)
   one_fault (Cycle ring) (Double bank k) a b = absurd (gap_or_whole bank k b.0 (inr b.1) a.parts.numbers)
@@ -167,16 +195,20 @@ module _ (laws : Laws) (shape : Shape) (memory : FlatMemory) (logs : List (List 
   one_fault (Cycle ring) (Bank bank number rule) a b = absurd (bank_or_runs bank number rule b a.parts.banks)
   one_fault (Cycle ring) (Cycle ring') a b =
       let whole = banks_whole logs (all_whole shape logs fits a.parts.numbers) in
-      ap (λ (items : List Knot). Cycle (record { items = items })) (laws.one_ring (skeletons_of logs) ring.items ring'.items whole a.stuck b.stuck)
+      ap (λ (items : List Knot). Cycle (record { items = items }))
+      (laws.one_ring (skeletons_of logs) ring.items ring'.items whole a.stuck b.stuck)
 
   -- a ring admits no order
-  ring_or_order : NameTheirLogs logs → (ring : List Knot) → IsRing (skeletons_of logs) ring → (order : List ℕ) → IsLeastOrder (skeletons_of logs) order → ⊥
+  ring_or_order : NameTheirLogs logs → (ring : List Knot) → IsRing (skeletons_of logs) ring → (order : List ℕ) →
+      IsLeastOrder (skeletons_of logs) order → ⊥
   ring_or_order named ring is order least =
       let taken = laws.follow logs order least.is_order.entries least.is_order.taken in
       let interleaves = ((laws.interleave logs order taken.0 named).0 taken.1).0 in
-      laws.rings logs ring is taken.0 interleaves ((laws.keep taken.0).1 (subst EntriesKeepNumbers (sym taken.2) least.is_order.kept))
+      laws.rings logs ring is taken.0 interleaves ((laws.keep taken.0).1
+      (subst EntriesKeepNumbers (sym taken.2) least.is_order.kept))
 
-  no_or_yes : NameTheirLogs logs → (fault : Fault) (order : List ℕ) → IsFaultOfLogs shape memory logs fault → PartsRun shape memory logs → IsLeastOrder (skeletons_of logs) order → ⊥
+  no_or_yes : NameTheirLogs logs → (fault : Fault) (order : List ℕ) → IsFaultOfLogs shape memory logs fault →
+      PartsRun shape memory logs → IsLeastOrder (skeletons_of logs) order → ⊥
   no_or_yes named (Missing bank k) order a parts least = gap_or_whole bank k a.0 (inl a.1) parts.numbers
   no_or_yes named (Double bank k) order a parts least = gap_or_whole bank k a.0 (inr a.1) parts.numbers
   no_or_yes named (Port port at rule) order a parts least = port_or_runs port at rule a parts.ports
@@ -210,13 +242,17 @@ agrees_or_differs shape h fields.Block agrees differs = differs.2 agrees.block
 agrees_or_differs shape h fields.Factor agrees differs = differs.3 agrees.factor
 
 module _ (laws : Laws) (shape : Shape) (bytes : List ℕ) (fit : (i : ℕ) → slice_index bytes i < 256) where
-  fault_or_trace : (fault : CodecFault) (h : Header) (memory : List (ℕ × Bytes)) (rs : List Record) → trace_fault bytes ≡ Some fault → IsTrace bytes h memory rs → ⊥
+  fault_or_trace : (fault : CodecFault) (h : Header) (memory : List (ℕ × Bytes)) (rs : List Record) →
+      trace_fault bytes ≡ Some fault → IsTrace bytes h memory rs → ⊥
   fault_or_trace fault h memory rs e trace =
-      let none = (laws.faultless bytes fit).1 (record { header = h; memory = memory; records = rs; trace = trace }) in cc
+      let none = (laws.faultless bytes fit).1 (record { header = h; memory = memory; records = rs; trace = trace }) in
+      cc
 
-  trace_or_other : (field : HeaderField) (memory : List (ℕ × Bytes)) (logs : List (List Record)) → IsOfAnother shape bytes field → IsTraceFor shape bytes memory logs → ⊥
+  trace_or_other : (field : HeaderField) (memory : List (ℕ × Bytes)) (logs : List (List Record)) →
+      IsOfAnother shape bytes field → IsTraceFor shape bytes memory logs → ⊥
   trace_or_other field memory logs other trace =
-      let same = laws.one_trace bytes other.header trace.header other.memory memory other.records trace.records other.trace trace.trace in
+      let same = laws.one_trace bytes other.header trace.header other.memory memory other.records trace.records
+      other.trace trace.trace in
       agrees_or_differs shape trace.header field trace.agrees (subst (λ h. Differs shape h field) same.0 other.differs)
 
   same_other : (a b : HeaderField) → IsOfAnother shape bytes a → IsOfAnother shape bytes b → a ≡ b
@@ -224,12 +260,14 @@ module _ (laws : Laws) (shape : Shape) (bytes : List ℕ) (fit : (i : ℕ) → s
       let same = laws.one_trace bytes x.header y.header x.memory y.memory x.records y.records x.trace y.trace in
       one_field shape y.header a b (subst (λ h. Differs shape h a) same.0 x.differs) y.differs
 
-  same_logs : (memory memory' : List (ℕ × Bytes)) (logs logs' : List (List Record)) → IsTraceFor shape bytes memory logs → IsTraceFor shape bytes memory' logs' → (memory ≡ memory') × (logs ≡ logs')
+  same_logs : (memory memory' : List (ℕ × Bytes)) (logs logs' : List (List Record)) →
+      IsTraceFor shape bytes memory logs → IsTraceFor shape bytes memory' logs' → (memory ≡ memory') × (logs ≡ logs')
   same_logs memory memory' logs logs' a b =
       let same = laws.one_trace bytes a.header b.header memory memory' a.records b.records a.trace b.trace in
       (same.1, a.are_logs ∙ ap (logs_of (shape.ports + shape.banks)) same.2 ∙ sym b.are_logs)
 
-  moved_fault : (fault : Fault) (n : IsNo shape bytes fault) (memory : List (ℕ × Bytes)) (logs : List (List Record)) → IsTraceFor shape bytes memory logs
+  moved_fault : (fault : Fault) (n : IsNo shape bytes fault) (memory : List (ℕ × Bytes)) (logs : List (List Record)) →
+      IsTraceFor shape bytes memory logs
       → IsFaultOfLogs shape (flat_memory memory) logs fault
   moved_fault fault n memory logs trace =
       let same = same_logs n.memory memory n.logs logs n.trace trace in
@@ -237,14 +275,18 @@ module _ (laws : Laws) (shape : Shape) (bytes : List ℕ) (fit : (i : ℕ) → s
       (subst (λ (ls : List (List Record)). IsFaultOfLogs shape (flat_memory n.memory) ls fault) same.1 n.fault_of)
 
   same_no : (a b : Fault) → IsNo shape bytes a → IsNo shape bytes b → a ≡ b
-  same_no a b x y = one_fault laws shape (flat_memory y.memory) y.logs (trace_fits shape bytes y.memory y.logs y.trace) a b (moved_fault a x y.memory y.logs y.trace) y.fault_of
+  same_no a b x y = one_fault laws shape (flat_memory y.memory) y.logs
+      (trace_fits shape bytes y.memory y.logs y.trace) a b (moved_fault a x y.memory y.logs y.trace) y.fault_of
 
-  yes_or_no : (fault : Fault) (events : ℕ) (order : List ℕ) → IsNo shape bytes fault → IsYes shape bytes events order → ⊥
+  yes_or_no : (fault : Fault) (events : ℕ) (order : List ℕ) → IsNo shape bytes fault →
+      IsYes shape bytes events order → ⊥
   yes_or_no fault events order n y =
-      no_or_yes laws shape (flat_memory y.memory) y.logs (trace_fits shape bytes y.memory y.logs y.trace) (trace_names shape bytes y.memory y.logs y.trace) fault order
+      no_or_yes laws shape (flat_memory y.memory) y.logs (trace_fits shape bytes y.memory y.logs y.trace)
+      (trace_names shape bytes y.memory y.logs y.trace) fault order
       (moved_fault fault n y.memory y.logs y.trace) y.parts y.least
 
-  same_yes : (events events' : ℕ) (order order' : List ℕ) → IsYes shape bytes events order → IsYes shape bytes events' order' → (events ≡ events') × (order ≡ order')
+  same_yes : (events events' : ℕ) (order order' : List ℕ) → IsYes shape bytes events order →
+      IsYes shape bytes events' order' → (events ≡ events') × (order ≡ order')
   same_yes events events' order order' a b =
       let same = same_logs a.memory b.memory a.logs b.logs a.trace b.trace in
       let least = subst (λ (ls : List (List Record)). IsLeastOrder (skeletons_of ls) order) same.1 a.least in
@@ -254,30 +296,40 @@ module _ (laws : Laws) (shape : Shape) (bytes : List ℕ) (fit : (i : ℕ) → s
   one_verdict : (a b : Verdict) → IsTraceVerdict shape bytes a → IsTraceVerdict shape bytes b → SameVerdict a b
   one_verdict (Yes events order) (Yes events' order') a b = same_yes events events' order.items order'.items a b
   one_verdict (Yes events order) (No fault) a b = yes_or_no fault events order.items b a
-  one_verdict (Yes events order) (Refused (refusals.Format fault)) a b = fault_or_trace fault a.trace.header a.memory a.trace.records b a.trace.trace
+  one_verdict (Yes events order) (Refused (refusals.Format fault)) a b =
+      fault_or_trace fault a.trace.header a.memory a.trace.records b a.trace.trace
   one_verdict (Yes events order) (Refused (refusals.Header field)) a b = trace_or_other field a.memory a.logs b a.trace
   one_verdict (Yes events order) (Refused _) a b = absurd b
   one_verdict (No fault) (Yes events order) a b = yes_or_no fault events order.items a b
   one_verdict (No fault) (No fault') a b = same_no fault fault' a b
-  one_verdict (No fault) (Refused (refusals.Format fault')) a b = fault_or_trace fault' a.trace.header a.memory a.trace.records b a.trace.trace
+  one_verdict (No fault) (Refused (refusals.Format fault')) a b =
+      fault_or_trace fault' a.trace.header a.memory a.trace.records b a.trace.trace
   one_verdict (No fault) (Refused (refusals.Header field)) a b = trace_or_other field a.memory a.logs b a.trace
   one_verdict (No fault) (Refused _) a b = absurd b
-  one_verdict (Refused (refusals.Format fault)) (Yes events order) a b = fault_or_trace fault b.trace.header b.memory b.trace.records a b.trace.trace
-  one_verdict (Refused (refusals.Format fault)) (No fault') a b = fault_or_trace fault b.trace.header b.memory b.trace.records a b.trace.trace
-  one_verdict (Refused (refusals.Format fault)) (Refused (refusals.Format fault')) a b = let e : Some fault ≡ Some fault' = sym a ∙ b in cc
-  one_verdict (Refused (refusals.Format fault)) (Refused (refusals.Header field)) a b = absurd (fault_or_trace fault b.header b.memory b.records a b.trace)
+  one_verdict (Refused (refusals.Format fault)) (Yes events order) a b =
+      fault_or_trace fault b.trace.header b.memory b.trace.records a b.trace.trace
+  one_verdict (Refused (refusals.Format fault)) (No fault') a b =
+      fault_or_trace fault b.trace.header b.memory b.trace.records a b.trace.trace
+  one_verdict (Refused (refusals.Format fault)) (Refused (refusals.Format fault')) a b =
+      let e : Some fault ≡ Some fault' = sym a ∙ b in cc
+  one_verdict (Refused (refusals.Format fault)) (Refused (refusals.Header field)) a b =
+      absurd (fault_or_trace fault b.header b.memory b.records a b.trace)
   one_verdict (Refused (refusals.Format fault)) (Refused _) a b = absurd b
   one_verdict (Refused (refusals.Header field)) (Yes events order) a b = trace_or_other field b.memory b.logs a b.trace
   one_verdict (Refused (refusals.Header field)) (No fault) a b = trace_or_other field b.memory b.logs a b.trace
-  one_verdict (Refused (refusals.Header field)) (Refused (refusals.Format fault)) a b = absurd (fault_or_trace fault a.header a.memory a.records b a.trace)
-  one_verdict (Refused (refusals.Header field)) (Refused (refusals.Header field')) a b = ap (λ (f : HeaderField). refusals.Header f) (same_other field field' a b)
+  one_verdict (Refused (refusals.Header field)) (Refused (refusals.Format fault)) a b =
+      absurd (fault_or_trace fault a.header a.memory a.records b a.trace)
+  one_verdict (Refused (refusals.Header field)) (Refused (refusals.Header field')) a b =
+      ap (λ (f : HeaderField). refusals.Header f) (same_other field field' a b)
   one_verdict (Refused (refusals.Header field)) (Refused _) a b = absurd b
   one_verdict (Refused _) _ a b = absurd a
 
 pub verdicts_are_one : Laws → VerdictsAreOne
 verdicts_are_one laws shape workers bytes a b fit x y = go a b x y
   where
-    split : (v : Verdict) → IsVerdictOf shape workers bytes v → ((v ≡ Refused (refusals.Workers workers)) × ¬ IsWorkerCount workers) ⊎ (IsWorkerCount workers × IsTraceVerdict shape bytes v)
+    split : (v : Verdict) → IsVerdictOf shape workers bytes v →
+        ((v ≡ Refused (refusals.Workers workers)) × ¬ IsWorkerCount workers)
+        ⊎ (IsWorkerCount workers × IsTraceVerdict shape bytes v)
     split (Yes events order) is = inr is
     split (No fault) is = inr is
     split (Refused (refusals.Workers n)) is = inl (ap (λ m. Refused (refusals.Workers m)) is.0, is.1)
@@ -287,9 +339,12 @@ verdicts_are_one laws shape workers bytes a b fit x y = go a b x y
     split (Refused refusals.Memory) is = inr is
     split (Refused refusals.Thread) is = inr is
 
-    both : (a b : Verdict) → ((a ≡ Refused (refusals.Workers workers)) × ¬ IsWorkerCount workers) ⊎ (IsWorkerCount workers × IsTraceVerdict shape bytes a)
-        → ((b ≡ Refused (refusals.Workers workers)) × ¬ IsWorkerCount workers) ⊎ (IsWorkerCount workers × IsTraceVerdict shape bytes b) → SameVerdict a b
-    both a b (inl m) (inl n) = subst (λ v. SameVerdict v b) (sym m.0) (subst (λ v. SameVerdict (Refused (refusals.Workers workers)) v) (sym n.0) refl)
+    both : (a b : Verdict) → ((a ≡ Refused (refusals.Workers workers)) × ¬ IsWorkerCount workers)
+        ⊎ (IsWorkerCount workers × IsTraceVerdict shape bytes a)
+        → ((b ≡ Refused (refusals.Workers workers)) × ¬ IsWorkerCount workers)
+        ⊎ (IsWorkerCount workers × IsTraceVerdict shape bytes b) → SameVerdict a b
+    both a b (inl m) (inl n) = subst (λ v. SameVerdict v b) (sym m.0)
+        (subst (λ v. SameVerdict (Refused (refusals.Workers workers)) v) (sym n.0) refl)
     both a b (inl m) (inr n) = absurd (m.1 n.0)
     both a b (inr m) (inl n) = absurd (n.1 m.0)
     both a b (inr m) (inr n) = one_verdict laws shape bytes fit a b m.1 n.1
@@ -298,7 +353,8 @@ verdicts_are_one laws shape workers bytes a b fit x y = go a b x y
     go a b x y = both a b (split a x) (split b y)
 
 -- the verdict with a number of workers is that with any other
-pub any_workers : (shape : Shape) (workers other : ℕ) (bytes : List ℕ) (v : Verdict) → IsWorkerCount workers → IsWorkerCount other → IsVerdictOf shape other bytes v → IsVerdictOf shape workers bytes v
+pub any_workers : (shape : Shape) (workers other : ℕ) (bytes : List ℕ) (v : Verdict) → IsWorkerCount workers →
+    IsWorkerCount other → IsVerdictOf shape other bytes v → IsVerdictOf shape workers bytes v
 any_workers shape workers other bytes (Yes events order) may may' is = (may, is.1)
 any_workers shape workers other bytes (No fault) may may' is = (may, is.1)
 any_workers shape workers other bytes (Refused (refusals.Workers n)) may may' is = absurd (is.1 may')
@@ -309,4 +365,5 @@ any_workers shape workers other bytes (Refused refusals.Memory) may may' is = (m
 any_workers shape workers other bytes (Refused refusals.Thread) may may' is = (may, is.1)
 
 pub workers_are_alike : VerdictsAreOne → WorkersAreAlike
-workers_are_alike one shape workers other bytes a b fit may may' x y = one shape workers bytes a b fit x (any_workers shape workers other bytes b may may' y)
+workers_are_alike one shape workers other bytes a b fit may may' x y =
+    one shape workers bytes a b fit x (any_workers shape workers other bytes b may may' y)

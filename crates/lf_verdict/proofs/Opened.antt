@@ -1,5 +1,6 @@
 -- The parts of a trace before its first record.
-use Rattle.std.proofs.Common.{◌≡◌, ℕ, zero, suc, ◌+◌, ◌<◌, List, [], ◌∷◌, ◌++◌, map, length, get_or, refl, sym, ap, ◌∙◌, subst, inl, inr, arith}
+use Rattle.std.proofs.Common.{◌≡◌, ℕ, zero, suc, ◌+◌, ◌<◌, List, [], ◌∷◌, ◌++◌, map, length, get_or, refl, sym, ap}
+use Rattle.std.proofs.Common.{◌∙◌, subst, inl, inr, arith}
 use Rattle.std.specs.Prelude.{replicate}
 use Rattle.std.specs.List.{range_with_len}
 use Rattle.std.proofs.Math.Seq.{get_or-append_seam}
@@ -12,21 +13,25 @@ last_of : {X : Type 0} (xs : List X) (x d : X) (n : ℕ) → n ≡ length xs →
 last_of xs x d n e = rw e (get_or-append_seam xs x [] d)
 
 -- one more at the end, of which the same holds
-pub each_more : {X : Type 0} (P : ℕ → X → Type 0) (xs ys : List X) (n : ℕ) (x : X) → length xs ≡ n → ys ≡ xs ++ x ∷ [] → ((k : ℕ) (d : X) → k < n → P k (get_or xs k d)) → P n x
+pub each_more : {X : Type 0} (P : ℕ → X → Type 0) (xs ys : List X) (n : ℕ) (x : X) → length xs ≡ n →
+    ys ≡ xs ++ x ∷ [] → ((k : ℕ) (d : X) → k < n → P k (get_or xs k d)) → P n x
     → (length ys ≡ n + 1) × ((k : ℕ) (d : X) → k < n + 1 → P k (get_or ys k d))
 each_more {X = X} P xs ys n x long is each here = (
   ap length is ∙ length-append xs (x ∷ []) ∙ ap (λ m. m + 1) long,
   λ k d lt. elim (cases_lt k n) [
     | inl below ↦
         let short : k < length xs = omega (arith, long) in
-        subst (P k) (sym (ap (λ (zs : List X). get_or zs k d) is ∙ get_or_append_left xs (x ∷ []) d k short)) (each k d below)
+        subst (P k) (sym (ap (λ (zs : List X). get_or zs k d) is ∙ get_or_append_left xs (x ∷ []) d k short))
+        (each k d below)
     | inr above ↦
         let same : k ≡ n = omega arith in
-        subst (λ m. P m (get_or ys k d)) (sym same) (subst (P n) (sym (ap (λ (zs : List X). get_or zs k d) is ∙ last_of xs x d k (same ∙ sym long))) here)
+        subst (λ m. P m (get_or ys k d)) (sym same) (subst (P n)
+        (sym (ap (λ (zs : List X). get_or zs k d) is ∙ last_of xs x d k (same ∙ sym long))) here)
   ],
 )
 
-pub no_entries : (a n : ℕ) → replicate {A = List (ℕ × ℕ)} n [] ≡ skeletons_of (map (λ log. of_log log []) (range_with_len a n))
+pub no_entries : (a n : ℕ) → replicate {A = List (ℕ × ℕ)} n []
+    ≡ skeletons_of (map (λ log. of_log log []) (range_with_len a n))
 no_entries a zero = refl
 no_entries a (suc n) = ap (λ (ls : List (List (ℕ × ℕ))). [] ∷ ls) (no_entries (a + 1) n)
 

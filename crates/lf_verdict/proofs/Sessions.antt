@@ -1,5 +1,6 @@
 -- What a session takes from its reader, and what it answers.
-use Rattle.std.proofs.Common.{◌≡◌, ℕ, ◌-◌, ◌<◌, ◌≤◌, List, [], ◌∷◌, ◌++◌, length, Option, Some, None, Ok, Err, refl, sym, ap, ◌∙◌, subst, ◌⊎◌, inl, inr, ⊎_elim, ◌^◌, append_assoc, arith}
+use Rattle.std.proofs.Common.{◌≡◌, ℕ, ◌-◌, ◌<◌, ◌≤◌, List, [], ◌∷◌, ◌++◌, length, Option, Some, None, Ok, Err, refl}
+use Rattle.std.proofs.Common.{sym, ap, ◌∙◌, subst, ◌⊎◌, inl, inr, ⊎_elim, ◌^◌, append_assoc, arith}
 use Rattle.std.specs.Prelude.{◌==◌, slice_index, option_to_list, OnOk, Result}
 use Rattle.std.specs.List.{AllByRecursion}
 use Rattle.std.proofs.lemmas.List.{append-nil, length-append, take-append-le, get_or_append_left, get_or-append_right}
@@ -26,50 +27,76 @@ use Rattle.lf_codec.specs.Reader.{HasRead, RanOut, WantsMemory, told, fault_in, 
 use Rattle.lf_codec.specs.Trace.{IsTrace, FitsIn}
 use Rattle.lf_verdict.specs.declared.answer.Verdict.TheVariants.{Refused}
 use Rattle.lf_verdict.specs.declared.answer.HeaderField.{HeaderField}
-use Rattle.lf_verdict.specs.declared.intake.Intake.{Intake}
-use Rattle.lf_verdict.specs.declared.intake.Stop.{Stop}
-use Rattle.lf_verdict.specs.declared.intake.Stop.TheVariants as stops
-use Rattle.lf_verdict.specs.declared.standing.Standing.{Standing}
+use Rattle.lf_verdict.specs.declared.session.intake.Intake.{Intake}
+use Rattle.lf_verdict.specs.declared.session.intake.Stop.{Stop}
+use Rattle.lf_verdict.specs.declared.session.intake.Stop.TheVariants as stops
+use Rattle.lf_verdict.specs.declared.session.standing.Standing.{Standing}
 use Rattle.lf_verdict.specs.Legal.{Agrees, IsTraceFor}
-use Rattle.lf_verdict.specs.Judging.{IsVerdictOrWant}
-use Rattle.lf_verdict.specs.Reading.{IsFaultOrWant}
-use Rattle.lf_verdict.specs.Breaking.{first_offset, IsWatch}
-use Rattle.lf_verdict.specs.Standing.{MayCome, MayAllCome, IsShort, StandsAfterAll, logs_so_far}
-use Rattle.lf_verdict.specs.Session.{IsRunning, IsOfAnotherHeader, IsJudging, HasJudged, HasFedUntil, HasTaken, IsLacking, HasFed, refusal_of, stop_told, IsRefusalSoFar, IsStopOf}
+use Rattle.lf_verdict.specs.inner.Ending.{IsVerdictOrWant}
+use Rattle.lf_verdict.specs.inner.Gathering.{IsFaultOrWant}
+use Rattle.lf_verdict.specs.Breaking.{first_offset}
+use Rattle.lf_verdict.specs.Standing.{IsWatch, StandsAfterAll}
+use Rattle.lf_verdict.specs.inner.Coming.{MayCome, MayAllCome, IsShort, logs_so_far}
+use Rattle.lf_verdict.specs.Session.{IsRunning, IsOfAnotherHeader, IsJudging, HasJudged, HasFedUntil, HasTaken, HasFed}
+use Rattle.lf_verdict.specs.Session.{refusal_of, stop_told, IsRefusalSoFar}
+use Rattle.lf_verdict.specs.inner.Taking.{IsLacking, IsStopOf}
 use Rattle.lf_verdict.specs.declared.answer.Refusal.{Refusal}
 use Rattle.lf_codec.specs.declared.fault.Told.TheVariants as tolds
 use Rattle.std.specs.Prelude.{IsSome}
-use Rattle.lf_verdict.specs.declared.intake.Judging.{Judging}
-use Rattle.lf_verdict.specs.declared.intake.Judging.TheVariants.{Waiting, Running, Another}
+use Rattle.lf_verdict.specs.declared.session.intake.Judging.{Judging}
+use Rattle.lf_verdict.specs.declared.session.intake.Judging.TheVariants.{Waiting, Running, Another}
 use Rattle.lf_rules.specs.InRange.{IsShape}
 use Rattle.lf_verdict.specs.Verdict.{Differs, IsOfAnother}
 
 -- ---- the next record may come
 
-middle : (P : Record → Type 0) (xs : List Record) (r : Record) (ys : List Record) → AllByRecursion P (xs ++ r ∷ ys) → P r
+middle : (P : Record → Type 0) (xs : List Record) (r : Record) (ys : List Record) → AllByRecursion P (xs ++ r ∷ ys) →
+    P r
 middle P [] r ys all = all.0
 middle P (x ∷ xs) r ys all = middle P xs r ys all.1
 
-one_of_log : (xs : List Record) (r : Record) (ys : List Record) → length (of_log r.log xs) < length (of_log r.log (xs ++ r ∷ ys))
+one_of_log : (xs : List Record) (r : Record) (ys : List Record) →
+    length (of_log r.log xs) < length (of_log r.log (xs ++ r ∷ ys))
 one_of_log xs r ys =
     let whole = filter-append (λ (x : Record). x.log == r.log) xs (r ∷ ys) in
     let own = cond-true (r.log == r.log) (r ∷ of_log r.log ys) (of_log r.log ys) (eq-eqb r.log r.log refl) in
     omega (arith, ap length whole, length-append (of_log r.log xs) (of_log r.log (r ∷ ys)), ap length own)
 
-pub may_come : WhatIsReadFits → (shape : Shape) (bytes : List ℕ) (memory : List (ℕ × Bytes)) (records : List Record) (r : Reading) (running : Standing) (item : Record) (rest : List Record)
-    → HasRead r bytes memory records → IsRunning shape bytes memory records running → r.records ≡ item ∷ rest → MayCome shape records item
+pub may_come : WhatIsReadFits → (shape : Shape) (bytes : List ℕ) (memory : List (ℕ × Bytes)) (records : List Record)
+    (r : Reading) (running : Standing) (item : Record) (rest : List Record)
+    → HasRead r bytes memory records → IsRunning shape bytes memory records running → r.records ≡ item ∷ rest →
+    MayCome shape records item
 may_come law shape bytes memory records r running item rest read run next =
     let fits = law bytes run.header read.are_bytes run.read in
-    let all : (reading_of bytes).records ≡ records ++ item ∷ rest = ap (λ (q : Reading). q.records) read.same ∙ ap (λ (xs : List Record). records ++ xs) next in
+    let all : (reading_of bytes).records ≡ records ++ item ∷ rest =
+    ap (λ (q : Reading). q.records) read.same ∙ ap (λ (xs : List Record). records ++ xs) next in
     record {
-      fits = fits_shape shape run.header item run.agrees (middle (FitsIn run.header) records item rest (subst (AllByRecursion (FitsIn run.header)) all fits.each)).fits;
-      room = omega (arith, limit_is_small run.header.version, one_of_log records item rest, ap (λ (xs : List Record). length (of_log item.log xs)) all, fits.logs item.log);
+      fits = fits_shape shape run.header item run.agrees (middle (FitsIn run.header) records item rest
+          (subst (AllByRecursion (FitsIn run.header)) all fits.each)).fits;
+      room = omega (
+        arith,
+        limit_is_small run.header.version,
+        one_of_log records item rest,
+        ap
+            (λ (xs : List Record). length (of_log item.log xs)) all,
+        fits.logs item.log,
+      );
     }
 
-pub running_more : (shape : Shape) (bytes : List ℕ) (memory : List (ℕ × Bytes)) (records more : List Record) (old new : Standing) (running : IsRunning shape bytes memory records old)
-    → StandsAfterAll shape (flat_memory memory) more new → IsWatch (first_offset running.header memory) shape (flat_memory memory) more new.watch → IsRunning shape bytes memory more new
+pub running_more : (shape : Shape) (bytes : List ℕ) (memory : List (ℕ × Bytes)) (records more : List Record)
+    (old new : Standing) (running : IsRunning shape bytes memory records old)
+    → StandsAfterAll shape (flat_memory memory) more new → IsWatch (first_offset running.header memory) shape
+    (flat_memory memory) more new.watch → IsRunning shape bytes memory more new
 running_more shape bytes memory records more old new running stands watched =
-    record { header = running.header; read = running.read; agrees = running.agrees; whole = running.whole; stands = stands; watched = watched }
+    record {
+      header = running.header;
+      read = running.read;
+      agrees = running.agrees;
+      whole = running.whole;
+      stands =
+          stands;
+      watched = watched;
+    }
 
 -- where it ends well
 pub on_ok : {F : Type 0} {P Q : Type 0} (result : Result (Unit {0}) F) → OnOk result P → (P → Q) → OnOk result Q
@@ -77,29 +104,41 @@ on_ok (Ok u) p f = f p
 on_ok (Err e) p f = tt
 
 -- the record that the reader gave last may come
-pub place_may_come : WhatIsReadFits → (shape : Shape) (bytes : List ℕ) (memory : List (ℕ × Bytes)) (records : List Record) (r : Reading) (running : Standing) (place : Option Record)
-    → HasRead (with_record place r) bytes memory records → IsRunning shape bytes memory records running → MayAllCome shape records (option_to_list place)
+pub place_may_come : WhatIsReadFits → (shape : Shape) (bytes : List ℕ) (memory : List (ℕ × Bytes))
+    (records : List Record) (r : Reading) (running : Standing) (place : Option Record)
+    → HasRead (with_record place r) bytes memory records → IsRunning shape bytes memory records running →
+    MayAllCome shape records (option_to_list place)
 place_may_come law shape bytes memory records r running None read run = tt
-place_may_come law shape bytes memory records r running (Some item) read run = (may_come law shape bytes memory records (with_record (Some item) r) running item r.records read run refl, tt)
+place_may_come law shape bytes memory records r running (Some item) read run =
+    (may_come law shape bytes memory records (with_record (Some item) r) running item r.records read run refl, tt)
 
 -- what the reader gave stood in front
-pub given_one : (r : Reading) (place : Option Record) (bytes : List ℕ) (memory : List (ℕ × Bytes)) (records : List Record) → HasRead (with_record place r) bytes memory records
+pub given_one : (r : Reading) (place : Option Record) (bytes : List ℕ) (memory : List (ℕ × Bytes))
+    (records : List Record) → HasRead (with_record place r) bytes memory records
     → HasRead r bytes memory (records ++ option_to_list place)
 given_one r place bytes memory records read = record {
   are_bytes = read.are_bytes;
-  same = read.same ∙ ap (λ (rs : List Record). record r { memory = memory ++ r.memory; records = rs }) (sym (append_assoc records (option_to_list place) r.records));
+  same = read.same ∙ ap (λ (rs : List Record). record r { memory = memory ++ r.memory; records = rs })
+      (sym (append_assoc records (option_to_list place) r.records));
 }
 
 -- all that the reader has found may come
-pub may_all_come : WhatIsReadFits → (shape : Shape) (bytes : List ℕ) (memory : List (ℕ × Bytes)) (records : List Record) (r : Reading) (running : Standing)
+pub may_all_come : WhatIsReadFits → (shape : Shape) (bytes : List ℕ) (memory : List (ℕ × Bytes))
+    (records : List Record) (r : Reading) (running : Standing)
     → HasRead r bytes memory records → IsRunning shape bytes memory records running → MayAllCome shape records r.records
 may_all_come law shape bytes memory records r running read run =
     let fits = law bytes run.header read.are_bytes run.read in
     let all : (reading_of bytes).records ≡ records ++ r.records = ap (λ (q : Reading). q.records) read.same in
     go records r.records (subst (AllByRecursion (FitsIn run.header)) all fits.each)
-    (λ log. omega (arith, limit_is_small run.header.version, ap (λ (xs : List Record). length (of_log log xs)) all, fits.logs log))
+    (λ log. omega (
+      arith,
+      limit_is_small run.header.version,
+      ap (λ (xs : List Record). length (of_log log xs)) all,
+      fits.logs log,
+    ))
   where
-    go : (before rs : List Record) → AllByRecursion (FitsIn run.header) (before ++ rs) → ((log : ℕ) → length (of_log log (before ++ rs)) ≤ 2 ^ 24) → MayAllCome shape before rs
+    go : (before rs : List Record) → AllByRecursion (FitsIn run.header) (before ++ rs) →
+        ((log : ℕ) → length (of_log log (before ++ rs)) ≤ 2 ^ 24) → MayAllCome shape before rs
     go before [] each few = tt
     go before (item ∷ rs) each few =
         let same : before ++ item ∷ rs ≡ (before ++ item ∷ []) ++ rs = sym (append_assoc before (item ∷ []) rs) in (
@@ -107,16 +146,20 @@ may_all_come law shape bytes memory records r running read run =
             fits = fits_shape shape run.header item run.agrees (middle (FitsIn run.header) before item rs each).fits;
             room = omega (arith, one_of_log before item rs, few item.log);
           },
-          go (before ++ item ∷ []) rs (subst (AllByRecursion (FitsIn run.header)) same each) (λ log. subst (λ (xs : List Record). length (of_log log xs) ≤ 2 ^ 24) same (few log)),
+          go (before ++ item ∷ []) rs (subst (AllByRecursion (FitsIn run.header)) same each)
+              (λ log. subst (λ (xs : List Record). length (of_log log xs) ≤ 2 ^ 24) same (few log)),
         )
 
 -- ---- what a session answers
 
-pub told_stop : (shape : Shape) (bytes : List ℕ) (fault : CodecFault) (stop : Stop) → IsFaultOrWant bytes fault → IsStopOf fault stop → IsVerdictOrWant shape bytes (Refused (refusal_of stop))
-told_stop shape bytes fault (stops.Format told) either is = ⊎_elim (λ want. absurd (is.1 want)) (λ e. e ∙ ap Some (sym is.0)) either
+pub told_stop : (shape : Shape) (bytes : List ℕ) (fault : CodecFault) (stop : Stop) → IsFaultOrWant bytes fault →
+    IsStopOf fault stop → IsVerdictOrWant shape bytes (Refused (refusal_of stop))
+told_stop shape bytes fault (stops.Format told) either is =
+    ⊎_elim (λ want. absurd (is.1 want)) (λ e. e ∙ ap Some (sym is.0)) either
 told_stop shape bytes fault stops.Memory either is = tt
 
-module _ (exact : ReadingIsExact) (shape : Shape) (bytes : List ℕ) (are_bytes : (i : ℕ) → slice_index bytes i < 256) (h : Header) (memory left : List (ℕ × Bytes))
+module _ (exact : ReadingIsExact) (shape : Shape) (bytes : List ℕ) (are_bytes : (i : ℕ) → slice_index bytes i < 256)
+    (h : Header) (memory left : List (ℕ × Bytes))
     (records rest : List Record) (trace : IsTrace bytes h (memory ++ left) (records ++ rest)) where
   same_header : (header : Header) → header_of bytes ≡ Some header → header ≡ h
   same_header header read =
@@ -136,7 +179,14 @@ module _ (exact : ReadingIsExact) (shape : Shape) (bytes : List ℕ) (are_bytes 
     none_left : left ≡ []
     none_left =
         let one = same_header run.header run.read in
-        empty left (omega (arith, trace.fits.memory_count, length-append memory left, run.whole, ap (λ (g : Header). g.memory_count) one))
+        empty left (omega (
+          arith,
+          trace.fits.memory_count,
+          length-append memory left,
+          run.whole,
+          ap
+              (λ (g : Header). g.memory_count) one,
+        ))
       where
         empty : (xs : List (ℕ × Bytes)) → length xs ≡ 0 → xs ≡ []
         empty [] e = refl
@@ -144,8 +194,10 @@ module _ (exact : ReadingIsExact) (shape : Shape) (bytes : List ℕ) (are_bytes 
 
     whole_trace : IsTrace bytes h memory records
     whole_trace =
-        subst (λ (rs : List Record). IsTrace bytes h memory rs) (ap (λ (xs : List Record). records ++ xs) drained ∙ append-nil records)
-        (subst (λ (m : List (ℕ × Bytes)). IsTrace bytes h m (records ++ rest)) (ap (λ (xs : List (ℕ × Bytes)). memory ++ xs) none_left ∙ append-nil memory) trace)
+        subst (λ (rs : List Record). IsTrace bytes h memory rs)
+        (ap (λ (xs : List Record). records ++ xs) drained ∙ append-nil records)
+        (subst (λ (m : List (ℕ × Bytes)). IsTrace bytes h m (records ++ rest))
+        (ap (λ (xs : List (ℕ × Bytes)). memory ++ xs) none_left ∙ append-nil memory) trace)
 
     pub trace_for : IsTraceFor shape bytes memory (logs_so_far shape records)
     trace_for = record {
@@ -157,13 +209,19 @@ module _ (exact : ReadingIsExact) (shape : Shape) (bytes : List ℕ) (are_bytes 
     }
 
     pub short_logs : IsShape shape → IsShort shape records
-    short_logs in_range = record { in_range = in_range; short = λ log. omega (arith, limit_is_small h.version, whole_trace.fits.logs log) }
+    short_logs in_range = record {
+      in_range = in_range;
+      short =
+          λ log. omega (arith, limit_is_small h.version, whole_trace.fits.logs log);
+    }
 
 -- while the session waits, no memory matters
-pub waiting_any : (shape : Shape) (bytes : List ℕ) (a b : List (ℕ × Bytes)) (records : List Record) (judging : Judging) → judging ≡ Waiting
+pub waiting_any : (shape : Shape) (bytes : List ℕ) (a b : List (ℕ × Bytes)) (records : List Record)
+    (judging : Judging) → judging ≡ Waiting
     → IsJudging shape bytes a records judging → IsJudging shape bytes b records judging
 waiting_any shape bytes a b records judging e h =
-    subst (λ (j : Judging). IsJudging shape bytes b records j) (sym e) (subst (λ (j : Judging). IsJudging shape bytes a records j) e h)
+    subst (λ (j : Judging). IsJudging shape bytes b records j) (sym e)
+    (subst (λ (j : Judging). IsJudging shape bytes a records j) e h)
 
 -- what a session that nothing stopped has taken
 pub going : (s : Intake) (bytes : List ℕ) → s.stop ≡ None → HasFed s bytes → HasTaken s bytes
@@ -177,31 +235,38 @@ no_fault_so_far s bytes e fed =
     let m = going s bytes e fed in
     ap (λ (q : Reading). q.fault) m.1.read.same ∙ m.1.fine
 
-pub refusal_so_far : (s : Intake) (bytes : List ℕ) (stop : Stop) → HasFedUntil s bytes (Some stop) → IsRefusalSoFar bytes (refusal_of stop)
+pub refusal_so_far : (s : Intake) (bytes : List ℕ) (stop : Stop) → HasFedUntil s bytes (Some stop) →
+    IsRefusalSoFar bytes (refusal_of stop)
 refusal_so_far s bytes (stops.Format fault) at = at.0
 refusal_so_far s bytes stops.Memory at = tt
 
 -- what a feed that succeeded, and one that did not, says of the bytes
-pub fed_fine : (s : Intake) (bytes : List ℕ) (old new : Option Stop) → s.stop ≡ new → Ok tt ≡ stop_told old new → HasFed s bytes → fault_so_far bytes ≡ None
+pub fed_fine : (s : Intake) (bytes : List ℕ) (old new : Option Stop) → s.stop ≡ new → Ok tt ≡ stop_told old new →
+    HasFed s bytes → fault_so_far bytes ≡ None
 fed_fine s bytes None None e told fed = no_fault_so_far s bytes e fed
 fed_fine s bytes None (Some stop) e told fed = absurd (cc)
 fed_fine s bytes (Some stop) new e told fed = absurd (cc)
 
-pub fed_fault : (s : Intake) (bytes : List ℕ) (old new : Option Stop) (t : Told Refusal) → s.stop ≡ new → (IsSome old → old ≡ new) → Err t ≡ stop_told old new
+pub fed_fault : (s : Intake) (bytes : List ℕ) (old new : Option Stop) (t : Told Refusal) → s.stop ≡ new →
+    (IsSome old → old ≡ new) → Err t ≡ stop_told old new
     → HasFed s bytes → IsRefusalSoFar bytes (fault_in t)
 fed_fault s bytes None None t e same told fed = absurd (cc)
 fed_fault s bytes None (Some stop) t e same told fed =
     let is : t ≡ tolds.Fault (refusal_of stop) = cc in
-    subst (λ (u : Told Refusal). IsRefusalSoFar bytes (fault_in u)) (sym is) (refusal_so_far s bytes stop (subst (λ (o : Option Stop). HasFedUntil s bytes o) e fed))
+    subst (λ (u : Told Refusal). IsRefusalSoFar bytes (fault_in u)) (sym is)
+    (refusal_so_far s bytes stop (subst (λ (o : Option Stop). HasFedUntil s bytes o) e fed))
 fed_fault s bytes (Some stop) new t e same told fed =
     let is : t ≡ tolds.Failed (refusal_of stop) = cc in
-    subst (λ (u : Told Refusal). IsRefusalSoFar bytes (fault_in u)) (sym is) (refusal_so_far s bytes stop (subst (λ (o : Option Stop). HasFedUntil s bytes o) (e ∙ sym (same refl)) fed))
+    subst (λ (u : Told Refusal). IsRefusalSoFar bytes (fault_in u)) (sym is)
+    (refusal_so_far s bytes stop (subst (λ (o : Option Stop). HasFedUntil s bytes o) (e ∙ sym (same refl)) fed))
 
 -- ---- a session that waits
 
 -- bytes that are a whole trace lack nothing
-pub waits_no_more : ReadingIsExact → (bytes : List ℕ) (r : Reading) (h : Header) (memory : List (ℕ × Bytes)) (records : List Record)
-    → HasRead r bytes memory records → IsTrace bytes h (memory ++ r.memory) (records ++ r.records) → IsLacking r memory → ⊥
+pub waits_no_more : ReadingIsExact → (bytes : List ℕ) (r : Reading) (h : Header) (memory : List (ℕ × Bytes))
+    (records : List Record)
+    → HasRead r bytes memory records → IsTrace bytes h (memory ++ r.memory) (records ++ r.records) →
+    IsLacking r memory → ⊥
 waits_no_more exact bytes r h memory records read trace lacking =
     let read_as = (exact bytes h (memory ++ r.memory) (records ++ r.records) read.are_bytes).1 trace in
     let here : header_now r ≡ Some h = sym (ap header_now read.same) ∙ read_as.1 in
@@ -219,8 +284,13 @@ both_bytes xs ys a b i =
       | inr le ↦ rw (get_or-append_right xs ys (length xs) i 0 refl le) (b (i - length xs))
     ]
 
-pub stop_stays : FaultsStand → (s : Intake) (bytes piece : List ℕ) (stop : Stop) → AreBytes piece → HasFedUntil s bytes (Some stop) → HasFedUntil s (bytes ++ piece) (Some stop)
-stop_stays law s bytes piece (stops.Format fault) fit at = ((law bytes piece fault at.0).so_far, both_bytes bytes piece at.1 fit)
+pub stop_stays : FaultsStand → (s : Intake) (bytes piece : List ℕ) (stop : Stop) → AreBytes piece →
+    HasFedUntil s bytes (Some stop) → HasFedUntil s (bytes ++ piece) (Some stop)
+stop_stays law s bytes piece (stops.Format fault) fit at = (
+  (law bytes piece fault at.0).so_far,
+  both_bytes bytes
+      piece at.1 fit,
+)
 stop_stays law s bytes piece stops.Memory fit at = tt
 
 -- a reader that has failed since memory ran out, however that came
@@ -229,12 +299,19 @@ pub record Wants (r : Reading) : Type 0 where
   pub failed : r.fault ≡ Some fault
   pub cause : fault.cause ≡ NoMemory
 
-stop_is : (s : Intake) (old : Option CodecFault) (new : Reading) (bytes : List ℕ) (memory : List (ℕ × Bytes)) (records : List Record) (t : Told CodecFault) (stop : Stop)
-    → old ≡ None → told old new.fault ≡ Err t → HasRead new bytes memory records ⊎ Wants new → IsStopOf (fault_in t) stop → HasFedUntil s bytes (Some stop)
+stop_is : (s : Intake) (old : Option CodecFault) (new : Reading) (bytes : List ℕ) (memory : List (ℕ × Bytes))
+    (records : List Record) (t : Told CodecFault) (stop : Stop)
+    → old ≡ None → told old new.fault ≡ Err t → HasRead new bytes memory records ⊎ Wants new →
+    IsStopOf (fault_in t) stop → HasFedUntil s bytes (Some stop)
 stop_is s old new bytes memory records t (stops.Format fault) fine e either is =
-    let here : new.fault ≡ Some (fault_in t) = fault_told new.fault t (sym (ap (λ (f : Option CodecFault). told f new.fault) fine) ∙ e) in
+    let here : new.fault ≡ Some (fault_in t) = fault_told new.fault t
+    (sym (ap (λ (f : Option CodecFault). told f new.fault) fine) ∙ e) in
     ⊎_elim
-    (λ (has : HasRead new bytes memory records). (ap (λ (q : Reading). q.fault) has.same ∙ here ∙ ap Some (sym is.0), has.are_bytes))
+    (λ (has : HasRead new bytes memory records). (
+      ap (λ (q : Reading). q.fault) has.same ∙ here
+          ∙ ap Some (sym is.0),
+      has.are_bytes,
+    ))
     (λ (out : Wants new).
     let same : Some out.fault ≡ Some (fault_in t) = sym out.failed ∙ here in
     let one : out.fault ≡ fault_in t = cc in
@@ -242,36 +319,65 @@ stop_is s old new bytes memory records t (stops.Format fault) fine e either is =
     either
 stop_is s old new bytes memory records t stops.Memory fine e either is = tt
 
-pub read_stop : (s : Intake) (old : Option CodecFault) (new : Reading) (bytes : List ℕ) (memory : List (ℕ × Bytes)) (records : List Record) (t : Told CodecFault) (stop : Stop)
+pub read_stop : (s : Intake) (old : Option CodecFault) (new : Reading) (bytes : List ℕ) (memory : List (ℕ × Bytes))
+    (records : List Record) (t : Told CodecFault) (stop : Stop)
     → old ≡ None → told old new.fault ≡ Err t
-    → HasRead new bytes memory records ⊎ RanOut new bytes memory records → IsStopOf (fault_in t) stop → HasFedUntil s bytes (Some stop)
+    → HasRead new bytes memory records ⊎ RanOut new bytes memory records → IsStopOf (fault_in t) stop →
+    HasFedUntil s bytes (Some stop)
 read_stop s old new bytes memory records t stop fine e either =
     stop_is s old new bytes memory records t stop fine e
-    (⊎_elim inl (λ (out : RanOut new bytes memory records). inr (record { fault = out.fault; failed = out.failed; cause = out.cause })) either)
+    (⊎_elim inl (λ (out : RanOut new bytes memory records). inr
+    (record { fault = out.fault; failed = out.failed; cause = out.cause })) either)
 
 -- the same of a reader that packs what it reads
-pub packed_stop : (s : Intake) (old : Option CodecFault) (new : Reading) (bytes : List ℕ) (memory : List (ℕ × Bytes)) (records : List Record) (t : Told CodecFault) (stop : Stop)
+pub packed_stop : (s : Intake) (old : Option CodecFault) (new : Reading) (bytes : List ℕ) (memory : List (ℕ × Bytes))
+    (records : List Record) (t : Told CodecFault) (stop : Stop)
     → old ≡ None → told old new.fault ≡ Err t
-    → HasRead new bytes memory records ⊎ WantsMemory new bytes memory records → IsStopOf (fault_in t) stop → HasFedUntil s bytes (Some stop)
+    → HasRead new bytes memory records ⊎ WantsMemory new bytes memory records → IsStopOf (fault_in t) stop →
+    HasFedUntil s bytes (Some stop)
 packed_stop s old new bytes memory records t stop fine e either =
     stop_is s old new bytes memory records t stop fine e
-    (⊎_elim inl (λ (out : WantsMemory new bytes memory records). inr (record { fault = out.fault; failed = out.has_failed.failed; cause = out.cause })) either)
+    (⊎_elim inl (λ (out : WantsMemory new bytes memory records). inr
+    (record { fault = out.fault; failed = out.has_failed.failed; cause = out.cause })) either)
 
-pub header_stays : HeaderIsOfItsBytes → (bytes piece : List ℕ) (h : Header) → header_of bytes ≡ Some h → header_of (bytes ++ piece) ≡ Some h
+pub header_stays : HeaderIsOfItsBytes → (bytes piece : List ℕ) (h : Header) → header_of bytes ≡ Some h →
+    header_of (bytes ++ piece) ≡ Some h
 header_stays law bytes piece h e = elim (cases_lt (length bytes) 16) [
   | inl lt ↦ let no : Some h ≡ None = sym e ∙ law.fewer bytes lt in absurd (cc)
   | inr le ↦
       let long : 16 ≤ length (bytes ++ piece) = omega (arith, length-append bytes piece) in
       let same : take 16 (bytes ++ piece) ≡ take 16 bytes = take-append-le 16 bytes piece le in
-      law.whole (bytes ++ piece) long ∙ ap (λ (b : List ℕ). header_if (judged (header_checks b)) b) same ∙ sym (law.whole bytes le) ∙ e
+      law.whole (bytes ++ piece) long ∙ ap (λ (b : List ℕ). header_if (judged (header_checks b)) b) same
+      ∙ sym (law.whole bytes le) ∙ e
 ]
 
-pub judged_feed : HeaderIsOfItsBytes → (s : Intake) (bytes piece : List ℕ) (records : List Record) (new : Reading) → HasJudged s bytes records
+pub judged_feed : HeaderIsOfItsBytes → (s : Intake) (bytes piece : List ℕ) (records : List Record) (new : Reading) →
+    HasJudged s bytes records
     → HasRead new (bytes ++ piece) s.memory.items records → new.fault ≡ None
     → HasJudged (record s { reader = new }) (bytes ++ piece) records
-judged_feed law s bytes piece records new was read fine = record { in_range = was.in_range; read = read; fine = fine; judging = go s.judging was.judging }
+judged_feed law s bytes piece records new was read fine = record {
+  in_range = was.in_range;
+  read = read;
+  fine =
+      fine;
+  judging = go s.judging was.judging;
+}
   where
-    go : (j : Judging) → IsJudging s.shape bytes s.memory.items records j → IsJudging s.shape (bytes ++ piece) s.memory.items records j
+    go : (j : Judging) → IsJudging s.shape bytes s.memory.items records j →
+        IsJudging s.shape (bytes ++ piece) s.memory.items records j
     go Waiting h = h
-    go (Running running) h = record { header = h.header; read = header_stays law bytes piece h.header h.read; agrees = h.agrees; whole = h.whole; stands = h.stands; watched = h.watched }
-    go (Another field) h = record { header = h.header; read = header_stays law bytes piece h.header h.read; differs = h.differs }
+    go (Running running) h = record {
+      header = h.header;
+      read = header_stays law bytes piece h.header h.read;
+      agrees =
+          h.agrees;
+      whole = h.whole;
+      stands = h.stands;
+      watched = h.watched;
+    }
+    go (Another field) h = record {
+      header = h.header;
+      read = header_stays law bytes piece h.header h.read;
+      differs =
+          h.differs;
+    }

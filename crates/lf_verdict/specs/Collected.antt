@@ -37,5 +37,6 @@ CollectedLogsAreInOrder = (shape : Shape) (workers : ℕ) (bytes : List ℕ) (ve
 
 -- nor for the hierarchy that a text says.
 abbrev pub CollectedLogsAreInOrderFor : Type 0
-CollectedLogsAreInOrderFor = (text : List ℕ) (workers : ℕ) (bytes : List ℕ) (verdict : Verdict) → AreOfCollectedLogs bytes
+CollectedLogsAreInOrderFor = (text : List ℕ) (workers : ℕ) (bytes : List ℕ) (verdict : Verdict) →
+    AreOfCollectedLogs bytes
     → IsVerdictFor text workers bytes verdict → ¬ IsOutOfOrder verdict

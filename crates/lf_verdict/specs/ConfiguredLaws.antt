@@ -20,15 +20,18 @@ fault_told told.NoMemory = None
 
 -- the same verdict, wherever its order or its name lies in memory
 abbrev pub SameVerdictFor : Verdict → Verdict → Type 0
-SameVerdictFor (Refused (refusals.Config fault)) (Refused (refusals.Config fault')) = fault_told fault ≡ fault_told fault'
+SameVerdictFor (Refused (refusals.Config fault)) (Refused (refusals.Config fault')) =
+    fault_told fault ≡ fault_told fault'
 SameVerdictFor verdict verdict' = SameVerdict verdict verdict'
 
 -- A text and bytes have one verdict.
 abbrev pub VerdictsForAreOne : Type 0
-VerdictsForAreOne = (text : List ℕ) (workers : ℕ) (bytes : List ℕ) (a b : Verdict) → ((i : ℕ) → slice_index bytes i < 256)
+VerdictsForAreOne = (text : List ℕ) (workers : ℕ) (bytes : List ℕ) (a b : Verdict) →
+    ((i : ℕ) → slice_index bytes i < 256)
     → IsVerdictFor text workers bytes a → IsVerdictFor text workers bytes b → SameVerdictFor a b
 
 -- Mixtures of the same logs have the same verdicts.
 abbrev pub MixturesAreAlikeFor : Type 0
-MixturesAreAlikeFor = (text : List ℕ) (workers : ℕ) (bytes other : List ℕ) (verdict : Verdict) → ((i : ℕ) → slice_index bytes i < 256)
+MixturesAreAlikeFor = (text : List ℕ) (workers : ℕ) (bytes other : List ℕ) (verdict : Verdict) →
+    ((i : ℕ) → slice_index bytes i < 256)
     → AreMixtures bytes other → IsVerdictFor text workers bytes verdict → IsVerdictFor text workers other verdict

@@ -7,17 +7,17 @@ use Rattle.lf_rules.specs.Fits.{Bytes}
 use Rattle.lf_codec.specs.declared.header.Header.{Header}
 use Rattle.lf_codec.specs.Laws.{AreBytes}
 use Rattle.lf_codec.specs.Reading.{reading_of, header_of}
-use Rattle.lf_verdict.specs.declared.breaking.PartFault.{PartFault}
-use Rattle.lf_verdict.specs.declared.breaking.PartFault.TheVariants as parts
-use Rattle.lf_verdict.specs.declared.breaking.Upon.{Upon}
-use Rattle.lf_verdict.specs.declared.breaking.Broken.{Broken}
-use Rattle.lf_verdict.specs.declared.breaking.Broken.TheVariants as broken
+use Rattle.lf_verdict.specs.declared.session.breaking.PartFault.{PartFault}
+use Rattle.lf_verdict.specs.declared.session.breaking.PartFault.TheVariants as parts
+use Rattle.lf_verdict.specs.declared.session.breaking.Upon.{Upon}
+use Rattle.lf_verdict.specs.declared.session.breaking.Broken.{Broken}
+use Rattle.lf_verdict.specs.declared.session.breaking.Broken.TheVariants as broken
 use Rattle.lf_verdict.specs.declared.answer.HeaderField.{HeaderField}
 use Rattle.lf_verdict.specs.Breaking.{first_offset, IsFaultOfPart, NoneBroke, IsFirstBreak}
 use Rattle.lf_verdict.specs.Legal.{Agrees}
-use Rattle.lf_verdict.specs.declared.intake.Intake.{Intake}
-use Rattle.lf_verdict.specs.declared.intake.Judging.{Judging}
-use Rattle.lf_verdict.specs.declared.intake.Judging.TheVariants.{Waiting, Running, Another}
+use Rattle.lf_verdict.specs.declared.session.intake.Intake.{Intake}
+use Rattle.lf_verdict.specs.declared.session.intake.Judging.{Judging}
+use Rattle.lf_verdict.specs.declared.session.intake.Judging.TheVariants.{Waiting, Running, Another}
 use Rattle.lf_verdict.specs.Session.{HasJudged}
 use Rattle.lf_verdict.specs.declared.answer.Fault.{Fault}
 use Rattle.lf_verdict.specs.declared.answer.Fault.TheVariants.{Missing, Double, Port, Bank}
@@ -36,7 +36,8 @@ IsNoLater (parts.Port port at rule) (Port port' at' rule') = (port' < port) ⊎ 
 IsNoLater (parts.Bank bank number rule) (Missing bank' k') = Unit {0}
 IsNoLater (parts.Bank bank number rule) (Double bank' k') = Unit {0}
 IsNoLater (parts.Bank bank number rule) (Port port' at' rule') = Unit {0}
-IsNoLater (parts.Bank bank number rule) (Bank bank' number' rule') = (bank' < bank) ⊎ (Bank bank' number' rule' ≡ Bank bank number rule)
+IsNoLater (parts.Bank bank number rule) (Bank bank' number' rule') =
+    (bank' < bank) ⊎ (Bank bank' number' rule' ≡ Bank bank number rule)
 IsNoLater _ _ = ⊥
 
 -- Not a yes: a fault of a part, or one named before it, or the same field of the header, or the bytes are no trace.
@@ -48,7 +49,8 @@ IsNoYesAfter _ _ = ⊥
 
 -- What broke is final for these bytes: whatever bytes follow, the verdict is no yes.
 abbrev pub IsFinal : Shape → List ℕ → Broken → Type 0
-IsFinal shape bytes found = (more : List ℕ) (verdict : Verdict) → AreBytes more → IsVerdictOf shape 1 (bytes ++ more) verdict → IsNoYesAfter found verdict
+IsFinal shape bytes found = (more : List ℕ) (verdict : Verdict) → AreBytes more →
+    IsVerdictOf shape 1 (bytes ++ more) verdict → IsNoYesAfter found verdict
 
 -- ---- the laws
 
@@ -64,12 +66,15 @@ pub record Begins (shape : Shape) (bytes : List ℕ) (memory : List (ℕ × Byte
 
 -- A fault of a part of the records so far is final.
 abbrev pub PartFaultsAreFinal : Type 0
-PartFaultsAreFinal = (shape : Shape) (bytes : List ℕ) (memory : List (ℕ × Bytes)) (records : List Record) (fault : PartFault) (upon : Option Upon) → AreBytes bytes
-    → Begins shape bytes memory records → IsFaultOfPart shape (flat_memory memory) records fault → IsFinal shape bytes (broken.Part fault upon)
+PartFaultsAreFinal = (shape : Shape) (bytes : List ℕ) (memory : List (ℕ × Bytes)) (records : List Record)
+    (fault : PartFault) (upon : Option Upon) → AreBytes bytes
+    → Begins shape bytes memory records → IsFaultOfPart shape (flat_memory memory) records fault →
+    IsFinal shape bytes (broken.Part fault upon)
 
 -- So is a header of another hierarchy.
 abbrev pub OtherHeadersAreFinal : Type 0
-OtherHeadersAreFinal = (shape : Shape) (bytes : List ℕ) (header : Header) (field : HeaderField) → AreBytes bytes → header_of bytes ≡ Some header → Differs shape header field
+OtherHeadersAreFinal = (shape : Shape) (bytes : List ℕ) (header : Header) (field : HeaderField) → AreBytes bytes →
+    header_of bytes ≡ Some header → Differs shape header field
     → IsFinal shape bytes (broken.Header field)
 
 -- ---- what a session says
@@ -87,11 +92,13 @@ IsEarliest shape bytes (broken.Header field) = Unit {0}
 IsEarliest shape bytes (broken.Part fault None) = ⊥
 IsEarliest shape bytes (broken.Part fault (Some upon)) = IsFirstOf shape bytes fault upon
 
--- Unless it was stopped, the trace is of no other hierarchy so far, and no part of the records that the session took is at fault.
+-- Unless it was stopped, the trace is of no other hierarchy so far, and no part of the records that the session took
+-- is at fault.
 abbrev pub IsUnbrokenSoFar : Intake → Judging → List Record → Type 0
 IsUnbrokenSoFar s Waiting records = Unit {0}
 IsUnbrokenSoFar s (Running running) records = NoneBroke s.shape (flat_memory s.memory.items) records
 IsUnbrokenSoFar s (Another field) records = ⊥
 
 abbrev pub IsUnbroken : Intake → List ℕ → Type 0
-IsUnbroken s bytes = s.stop ≡ None → (records : List Record) → HasJudged s bytes records → IsUnbrokenSoFar s s.judging records
+IsUnbroken s bytes = s.stop ≡ None → (records : List Record) → HasJudged s bytes records →
+    IsUnbrokenSoFar s s.judging records

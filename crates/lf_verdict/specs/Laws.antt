@@ -16,26 +16,32 @@ use Rattle.lf_verdict.specs.Verdict.{IsYes, IsNo, IsWorkerCount, IsVerdictOf}
 
 -- Where each part of a trace runs and its logs have an order, the trace is legal by that order.
 abbrev pub YesIsLegal : Type 0
-YesIsLegal = (shape : Shape) (bytes : List ℕ) (events : ℕ) (order : List ℕ) → IsYes shape bytes events order → IsLegal shape bytes order
+YesIsLegal = (shape : Shape) (bytes : List ℕ) (events : ℕ) (order : List ℕ) → IsYes shape bytes events order →
+    IsLegal shape bytes order
 
 -- The list holds the logs, each in its own order, and no other records, and keeps the numbers that the banks gave.
 pub record IsRecorded (logs : List (List Record)) (rs : List Record) : Type 0 where
   pub own_order : Interleaves logs rs
   pub numbers : KeepsNumbers rs
 
--- No list of all records that keeps the banks' numbers is a run, and none is a run whose levels hold copies of the bytes.
+-- No list of all records that keeps the banks' numbers is a run, and none is a run whose levels hold copies of the
+-- bytes.
 abbrev pub HasNoRun : Shape → FlatMemory → List (List Record) → Type 0
-HasNoRun shape memory logs = (rs : List Record) → IsRecorded logs rs → ¬ IsRun shape memory rs × ¬ IsCopyRun shape memory rs
+HasNoRun shape memory logs = (rs : List Record) → IsRecorded logs rs → ¬ IsRun shape memory rs ×
+    ¬ IsCopyRun shape memory rs
 
 -- Where the answer is no, the trace has no run.
 abbrev pub NoHasNoRun : Type 0
 NoHasNoRun = (shape : Shape) (bytes : List ℕ) (fault : Fault) → IsNo shape bytes fault
-    → (memory : List (ℕ × Bytes)) (logs : List (List Record)) → IsTraceFor shape bytes memory logs → HasNoRun shape (flat_memory memory) logs
+    → (memory : List (ℕ × Bytes)) (logs : List (List Record)) → IsTraceFor shape bytes memory logs →
+    HasNoRun shape (flat_memory memory) logs
 
--- A no means that the trace has no run: no list of its records that keeps each log's order and the banks' numbers is one.
+-- A no means that the trace has no run: no list of its records that keeps each log's order and the banks' numbers is
+-- one.
 abbrev pub IsRunlessNo : Shape → List ℕ → Verdict → Type 0
 IsRunlessNo shape bytes (No fault) =
-    (memory : List (ℕ × Bytes)) (logs : List (List Record)) → IsTraceFor shape bytes memory logs → HasNoRun shape (flat_memory memory) logs
+    (memory : List (ℕ × Bytes)) (logs : List (List Record)) → IsTraceFor shape bytes memory logs →
+    HasNoRun shape (flat_memory memory) logs
 IsRunlessNo shape bytes _ = Unit {0}
 
 -- the same verdict, wherever its order lies in memory
@@ -52,8 +58,10 @@ VerdictsAreOne = (shape : Shape) (workers : ℕ) (bytes : List ℕ) (a b : Verdi
 
 -- So they have the same with any other number of workers.
 abbrev pub WorkersAreAlike : Type 0
-WorkersAreAlike = (shape : Shape) (workers other : ℕ) (bytes : List ℕ) (a b : Verdict) → ((i : ℕ) → slice_index bytes i < 256)
-    → IsWorkerCount workers → IsWorkerCount other → IsVerdictOf shape workers bytes a → IsVerdictOf shape other bytes b → SameVerdict a b
+WorkersAreAlike = (shape : Shape) (workers other : ℕ) (bytes : List ℕ) (a b : Verdict) →
+    ((i : ℕ) → slice_index bytes i < 256)
+    → IsWorkerCount workers → IsWorkerCount other → IsVerdictOf shape workers bytes a →
+    IsVerdictOf shape other bytes b → SameVerdict a b
 
 -- The bytes are traces of one header, one memory and the same logs, however these are mixed.
 pub record AreMixtures (bytes other : List ℕ) : Type 0 where
@@ -67,5 +75,6 @@ pub record AreMixtures (bytes other : List ℕ) : Type 0 where
 
 -- They have the same verdicts.
 abbrev pub MixturesAreAlike : Type 0
-MixturesAreAlike = (shape : Shape) (workers : ℕ) (bytes other : List ℕ) (verdict : Verdict) → ((i : ℕ) → slice_index bytes i < 256)
+MixturesAreAlike = (shape : Shape) (workers : ℕ) (bytes other : List ℕ) (verdict : Verdict) →
+    ((i : ℕ) → slice_index bytes i < 256)
     → AreMixtures bytes other → IsVerdictOf shape workers bytes verdict → IsVerdictOf shape workers other verdict

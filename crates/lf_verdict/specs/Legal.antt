@@ -25,8 +25,10 @@ pub record Agrees (shape : Shape) (h : Header) : Type 0 where
   pub block : h.block ≡ shape.block
   pub factor : h.factor ≡ shape.factor
 
--- The bytes are a trace that agrees with the shape, of this memory and these logs: those of the ports, then those of the banks.
-pub record IsTraceFor (shape : Shape) (bytes : List ℕ) (memory : List (ℕ × Bytes)) (logs : List (List Record)) : Type 0 where
+-- The bytes are a trace that agrees with the shape, of this memory and these logs: those of the ports, then those of
+-- the banks.
+pub record IsTraceFor (shape : Shape) (bytes : List ℕ) (memory : List (ℕ × Bytes)) (logs : List (List Record)) : Type
+    0 where
   pub header : Header
   pub records : List Record
   pub trace : IsTrace bytes header memory records

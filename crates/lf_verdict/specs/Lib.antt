@@ -1,20 +1,18 @@
--- For callers: which verdict a trace has, its text, what a session has seen, and the laws.
+-- What a verdict means, its text, and the laws.
 pub mod Legal
 pub mod Parts
 pub mod Verdict
-pub mod Text
 pub mod Configured
-pub mod Session
-pub mod Ahead
+pub mod Breaking
+pub mod Final
 pub mod Laws
 pub mod ConfiguredLaws
 pub mod Collected
 pub mod Rechecked
-pub mod Breaking
-pub mod Final
--- For the contracts of the crate alone: how a trace is read, and how its parts are judged.
-pub mod Reading
+pub mod Text
+-- What a session was fed, and how its parts stand then.
+pub mod Session
 pub mod Standing
-pub mod Judging
-pub mod Jobs
-pub mod Gathering
+pub mod Ahead
+-- What no public contract needs.
+pub mod inner

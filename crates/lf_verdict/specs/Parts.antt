@@ -36,15 +36,19 @@ pub record IsFirstNumber (shape : Shape) (logs : List (List Record)) (bank k : �
   pub banks_before : (b : ℕ) → b < bank → HasWholeNumbers logs b
   pub numbers_before : IsFineBelow (bank_numbers logs bank) k
 
--- The numbers are whole, the port is the lowest that does not run, and breaks at this place of its log with this rule first.
-pub record IsPortFault (shape : Shape) (memory : FlatMemory) (logs : List (List Record)) (port at : ℕ) (rule : Rule) : Type 0 where
+-- The numbers are whole, the port is the lowest that does not run, and breaks at this place of its log with this
+-- rule first.
+pub record IsPortFault (shape : Shape) (memory : FlatMemory) (logs : List (List Record)) (port at : ℕ) (rule : Rule) :
+    Type 0 where
   pub numbers : (bank : ℕ) → bank < shape.banks → HasWholeNumbers logs bank
   pub is_port : port < shape.ports
   pub ports_before : (p : ℕ) → p < port → PortRuns shape memory logs p
   pub breaks : BreaksAt OfPort shape (first_local memory) (log_at logs port) at rule
 
--- The numbers are whole, the ports run, the bank is the lowest that does not run, and breaks at this number with this rule first.
-pub record IsBankFault (shape : Shape) (memory : FlatMemory) (logs : List (List Record)) (bank number : ℕ) (rule : Rule) : Type 0 where
+-- The numbers are whole, the ports run, the bank is the lowest that does not run, and breaks at this number with
+-- this rule first.
+pub record IsBankFault (shape : Shape) (memory : FlatMemory) (logs : List (List Record)) (bank number : ℕ)
+    (rule : Rule) : Type 0 where
   pub numbers : (b : ℕ) → b < shape.banks → HasWholeNumbers logs b
   pub ports : (port : ℕ) → port < shape.ports → PortRuns shape memory logs port
   pub is_bank : bank < shape.banks

@@ -1,5 +1,5 @@
 -- What a session has seen of a trace.
-use Rattle.std.specs.Prelude.{◌≡◌, ◌≢◌, ℕ, List, [], length, Option, Some, None, Result, Ok, Err}
+use Rattle.std.specs.Prelude.{◌≡◌, ℕ, List, [], length, Option, Some, None, Result, Ok, Err}
 use Rattle.lf_rules.specs.declared.event.Record.{Record}
 use Rattle.lf_rules.specs.declared.shape.Shape.{Shape}
 use Rattle.lf_rules.specs.Address.{flat_memory}
@@ -9,27 +9,27 @@ use Rattle.lf_codec.specs.declared.header.Header.{Header}
 use Rattle.lf_codec.specs.declared.fault.Told.{Told}
 use Rattle.lf_codec.specs.declared.fault.Told.TheVariants as tolds
 use Rattle.lf_codec.specs.Laws.{AreBytes}
-use Rattle.lf_codec.specs.Reading.{Reading, header_now, header_of, fault_so_far}
-use Rattle.lf_codec.specs.Reader.{HasRead, told}
-use Rattle.lf_verdict.specs.declared.intake.Intake.{Intake}
-use Rattle.lf_verdict.specs.declared.intake.Stop.{Stop}
-use Rattle.lf_verdict.specs.declared.intake.Stop.TheVariants as stops
-use Rattle.lf_verdict.specs.declared.intake.Judging.{Judging}
-use Rattle.lf_verdict.specs.declared.intake.Judging.TheVariants.{Waiting, Running, Another}
-use Rattle.lf_verdict.specs.declared.standing.Standing.{Standing}
+use Rattle.lf_codec.specs.Reading.{header_of, fault_so_far}
+use Rattle.lf_codec.specs.Reader.{HasRead}
+use Rattle.lf_verdict.specs.declared.session.intake.Intake.{Intake}
+use Rattle.lf_verdict.specs.declared.session.intake.Stop.{Stop}
+use Rattle.lf_verdict.specs.declared.session.intake.Stop.TheVariants as stops
+use Rattle.lf_verdict.specs.declared.session.intake.Judging.{Judging}
+use Rattle.lf_verdict.specs.declared.session.intake.Judging.TheVariants.{Waiting, Running, Another}
+use Rattle.lf_verdict.specs.declared.session.standing.Standing.{Standing}
 use Rattle.lf_verdict.specs.declared.answer.HeaderField.{HeaderField}
-use Rattle.lf_codec.specs.declared.fault.CodecCause.TheVariants.{NoMemory}
-use Rattle.lf_codec.specs.declared.fault.CodecFault.{CodecFault}
 use Rattle.lf_verdict.specs.declared.answer.Refusal.{Refusal}
 use Rattle.lf_verdict.specs.declared.answer.Refusal.TheVariants as refusals
 use Rattle.lf_verdict.specs.Configured.{IsConfigFault}
 use Rattle.lf_verdict.specs.Legal.{Agrees}
-use Rattle.lf_verdict.specs.Breaking.{first_offset, IsWatch, IsKnown}
-use Rattle.lf_verdict.specs.Standing.{StandsAfterAll}
+use Rattle.lf_verdict.specs.Breaking.{first_offset}
+use Rattle.lf_verdict.specs.Standing.{IsWatch, IsKnown, StandsAfterAll}
 use Rattle.lf_verdict.specs.Verdict.{Differs}
 
--- The memory is whole and of a header that agrees with the shape, the parts stand where the records lead, and it is known whether one broke.
-pub record IsRunning (shape : Shape) (bytes : List ℕ) (memory : List (ℕ × Bytes)) (records : List Record) (running : Standing) : Type 0 where
+-- The memory is whole and of a header that agrees with the shape, the parts stand where the records lead, and it is
+-- known whether one broke.
+pub record IsRunning (shape : Shape) (bytes : List ℕ) (memory : List (ℕ × Bytes)) (records : List Record)
+    (running : Standing) : Type 0 where
   pub header : Header
   pub read : header_of bytes ≡ Some header
   pub agrees : Agrees shape header
@@ -43,7 +43,8 @@ pub record IsOfAnotherHeader (shape : Shape) (bytes : List ℕ) (field : HeaderF
   pub read : header_of bytes ≡ Some header
   pub differs : Differs shape header field
 
--- No record was taken before the memory is whole; from then on each is judged, unless the header is of another hierarchy.
+-- No record was taken before the memory is whole; from then on each is judged, unless the header is of another
+-- hierarchy.
 abbrev pub IsJudging : Shape → List ℕ → List (ℕ × Bytes) → List Record → Judging → Type 0
 IsJudging shape bytes memory records Waiting = records ≡ []
 IsJudging shape bytes memory records (Running running) = IsRunning shape bytes memory records running
@@ -69,22 +70,6 @@ IsRunningNow _ = ⊥
 abbrev pub IsInTurn : Judging → Type 0
 IsInTurn (Running running) = IsKnown running.watch
 IsInTurn _ = Unit {0}
-
--- No memory record waits in the reader, and the header is not there or lacks memory records.
-pub record IsLacking (reader : Reading) (memory : List (ℕ × Bytes)) : Type 0 where
-  pub none : reader.memory ≡ []
-  pub lacks : (h : Header) → header_now reader ≡ Some h → ¬ (length memory ≡ h.memory_count)
-
--- ... where the session waits
-abbrev pub IsLackingIf : Judging → Reading → List (ℕ × Bytes) → Type 0
-IsLackingIf Waiting reader memory = IsLacking reader memory
-IsLackingIf _ reader memory = Unit {0}
-
--- What can be judged was taken from the reader.
-abbrev pub IsDrained : Judging → Reading → List (ℕ × Bytes) → Type 0
-IsDrained Waiting reader memory = IsLacking reader memory
-IsDrained (Running running) reader memory = reader.records ≡ []
-IsDrained (Another field) reader memory = Unit {0}
 
 -- Nothing stopped the session and it has judged the records that it took, or a fault that stands in the bytes stopped
 -- it, or memory ran out.
@@ -116,11 +101,6 @@ abbrev pub IsRefusalSoFar : List ℕ → Refusal → Type 0
 IsRefusalSoFar bytes (refusals.Format fault) = fault_so_far bytes ≡ Some fault
 IsRefusalSoFar bytes refusals.Memory = Unit {0}
 IsRefusalSoFar bytes _ = ⊥
-
--- what a fault of the reader stops with
-abbrev pub IsStopOf : CodecFault → Stop → Type 0
-IsStopOf fault (stops.Format told) = (told ≡ fault) × (fault.cause ≢ NoMemory)
-IsStopOf fault stops.Memory = fault.cause ≡ NoMemory
 
 -- a text that is no configuration, or out of memory
 abbrev pub IsConfigRefusal : List ℕ → Refusal → Type 0

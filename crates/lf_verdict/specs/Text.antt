@@ -6,11 +6,11 @@ use Rattle.lf_rules.specs.declared.ring.Knot.{Knot}
 use Rattle.lf_rules.specs.Text.{rule_text}
 use Rattle.lf_codec.specs.Text as codec
 use Rattle.lf_config.specs.Text as config
-use Rattle.lf_verdict.specs.declared.breaking.PartFault.{PartFault}
-use Rattle.lf_verdict.specs.declared.breaking.PartFault.TheVariants as parts
-use Rattle.lf_verdict.specs.declared.breaking.Upon.{Upon}
-use Rattle.lf_verdict.specs.declared.breaking.Broken.{Broken}
-use Rattle.lf_verdict.specs.declared.breaking.Broken.TheVariants as broken
+use Rattle.lf_verdict.specs.declared.session.breaking.PartFault.{PartFault}
+use Rattle.lf_verdict.specs.declared.session.breaking.PartFault.TheVariants as parts
+use Rattle.lf_verdict.specs.declared.session.breaking.Upon.{Upon}
+use Rattle.lf_verdict.specs.declared.session.breaking.Broken.{Broken}
+use Rattle.lf_verdict.specs.declared.session.breaking.Broken.TheVariants as broken
 use Rattle.lf_verdict.specs.declared.answer.HeaderField.{HeaderField}
 use Rattle.lf_verdict.specs.declared.answer.HeaderField.TheVariants as fields
 use Rattle.lf_verdict.specs.declared.answer.Fault.{Fault}
@@ -36,19 +36,24 @@ logs_text (knot ∷ knots) = decimal knot.log ++ more_logs_text knots
 abbrev pub fault_text : Fault → List ℕ
 fault_text (faults.Missing bank k) = codes "numbering bank=" ++ decimal bank ++ codes " missing=" ++ decimal k
 fault_text (faults.Double bank k) = codes "numbering bank=" ++ decimal bank ++ codes " double=" ++ decimal k
-fault_text (faults.Port port at rule) = codes "port=" ++ decimal port ++ codes " event=" ++ decimal at ++ codes " rule=" ++ rule_text rule
-fault_text (faults.Bank bank number rule) = codes "bank=" ++ decimal bank ++ codes " number=" ++ decimal number ++ codes " rule=" ++ rule_text rule
+fault_text (faults.Port port at rule) = codes "port=" ++ decimal port ++ codes " event=" ++ decimal at
+    ++ codes " rule=" ++ rule_text rule
+fault_text (faults.Bank bank number rule) = codes "bank=" ++ decimal bank ++ codes " number=" ++ decimal number
+    ++ codes " rule=" ++ rule_text rule
 fault_text (faults.Cycle ring) = codes "cycle logs=" ++ logs_text ring.items
 
 abbrev pub part_text : PartFault → List ℕ
 part_text (parts.Double bank k) = codes "numbering bank=" ++ decimal bank ++ codes " double=" ++ decimal k
-part_text (parts.Port port at rule) = codes "port=" ++ decimal port ++ codes " event=" ++ decimal at ++ codes " rule=" ++ rule_text rule
-part_text (parts.Bank bank number rule) = codes "bank=" ++ decimal bank ++ codes " number=" ++ decimal number ++ codes " rule=" ++ rule_text rule
+part_text (parts.Port port at rule) = codes "port=" ++ decimal port ++ codes " event=" ++ decimal at ++ codes " rule="
+    ++ rule_text rule
+part_text (parts.Bank bank number rule) = codes "bank=" ++ decimal bank ++ codes " number=" ++ decimal number
+    ++ codes " rule=" ++ rule_text rule
 
 -- the record upon which the first part broke
 abbrev pub upon_text : Option Upon → List ℕ
 upon_text None = []
-upon_text (Some upon) = codes " upon log=" ++ decimal upon.log ++ codes " event=" ++ decimal upon.at ++ codes " at=" ++ decimal upon.offset
+upon_text (Some upon) = codes " upon log=" ++ decimal upon.log ++ codes " event=" ++ decimal upon.at ++ codes " at="
+    ++ decimal upon.offset
 
 abbrev pub broken_text : Broken → List ℕ
 broken_text (broken.Header field) = codes "header " ++ field_text field

@@ -30,7 +30,8 @@ abbrev pub Differs : Shape → Header → HeaderField → Type 0
 Differs shape h fields.Ports = ¬ (h.ports ≡ shape.ports)
 Differs shape h fields.Banks = (h.ports ≡ shape.ports) × ¬ (h.banks ≡ shape.banks)
 Differs shape h fields.Block = (h.ports ≡ shape.ports) × (h.banks ≡ shape.banks) × ¬ (h.block ≡ shape.block)
-Differs shape h fields.Factor = (h.ports ≡ shape.ports) × (h.banks ≡ shape.banks) × (h.block ≡ shape.block) × ¬ (h.factor ≡ shape.factor)
+Differs shape h fields.Factor = (h.ports ≡ shape.ports) × (h.banks ≡ shape.banks) × (h.block ≡ shape.block) ×
+    ¬ (h.factor ≡ shape.factor)
 
 pub record IsOfAnother (shape : Shape) (bytes : List ℕ) (field : HeaderField) : Type 0 where
   pub header : Header
@@ -47,7 +48,8 @@ pub record IsCycle (shape : Shape) (memory : FlatMemory) (logs : List (List Reco
 
 -- The numbers are judged first, then the ports, then the banks, then whether the logs wait for one another.
 abbrev pub IsFaultOfLogs : Shape → FlatMemory → List (List Record) → Fault → Type 0
-IsFaultOfLogs shape memory logs (Missing bank k) = IsFirstNumber shape logs bank k × IsMissing (bank_numbers logs bank) k
+IsFaultOfLogs shape memory logs (Missing bank k) = IsFirstNumber shape logs bank k ×
+    IsMissing (bank_numbers logs bank) k
 IsFaultOfLogs shape memory logs (Double bank k) = IsFirstNumber shape logs bank k × IsDouble (bank_numbers logs bank) k
 IsFaultOfLogs shape memory logs (Port port at rule) = IsPortFault shape memory logs port at rule
 IsFaultOfLogs shape memory logs (Bank bank number rule) = IsBankFault shape memory logs bank number rule

@@ -33,7 +33,8 @@ pub fn differing(shape: &Shape, header: Header) -> Option<HeaderField>
 
 /// The offset at which the first record begins, behind the header and all memory records.
 pub fn first_offset(header: &Header) -> u64
-    ensures { (memory : List (ℕ × Bytes)) → length memory ≡ header.now.memory_count → FitsMemory header.now.block 0 memory
+    ensures { (memory : List (ℕ × Bytes)) → length memory ≡ header.now.memory_count →
+        FitsMemory header.now.block 0 memory
         → result ≡ first_offset header.now memory }
 {
     16 + u64::from(header.memory_count) * (4 + u64::from(header.block))

@@ -7,48 +7,23 @@
 //! mixed in them.
 #![tactic(auto)]
 
-mod ahead;
 mod answer;
-mod bank_judge;
-mod batch;
-mod breaking;
-mod broken;
-mod collected;
-mod configured;
-mod configured_laws;
-mod ending;
-mod entries;
-mod gathering;
+mod broken_part;
+mod early_end;
 mod header;
-mod intake;
-mod judge;
 mod laws;
-mod numbers;
 mod order;
-mod parallel;
-mod parts;
-mod place;
-mod port_judge;
-mod rechecked;
+mod pool;
 mod session;
-mod shape_check;
-mod standing;
-mod standing_new;
-mod standing_verdict;
 mod text;
 
 pub use answer::{Fault, HeaderField, Refusal, Verdict};
-pub use breaking::{Broken, PartFault, Upon};
-pub use collected::collected_logs_are_in_order;
-pub use configured::check;
-pub use configured_laws::{mixtures_are_alike_for, verdicts_for_are_one};
 pub use laws::{
-    mixtures_are_alike, no_has_no_run, other_headers_are_final, part_faults_are_final,
-    verdicts_are_one, workers_are_alike, yes_is_legal,
+    collected_logs_are_in_order, mixtures_are_alike, mixtures_are_alike_for, no_has_no_run,
+    other_headers_are_final, part_faults_are_final, verdicts_are_one, verdicts_for_are_one,
+    workers_are_alike, yes_is_legal, yes_is_rechecked,
 };
 pub use lf_pool::{Gate, NoGate, is_worker_count};
 pub use lf_rules::Ring;
-pub use parallel::ParallelSession;
-pub use rechecked::yes_is_rechecked;
-pub use session::Session;
-pub use shape_check::check_shape;
+pub use pool::{check, check_shape};
+pub use session::{Broken, ParallelSession, PartFault, Session, Upon};

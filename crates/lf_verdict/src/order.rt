@@ -6,10 +6,10 @@ ghost use Rattle.lf_rules.specs.Order.{IsLeastOrder};
 ghost use Rattle.lf_rules.specs.Ring.{skeletons_of};
 ghost use Rattle.lf_rules.specs.Lists.{lists_of};
 ghost use Rattle.lf_join.specs.Join.{skeleton_lists, BanksAreWhole};
-ghost use Rattle.lf_verdict.specs.Jobs.{AllAreWhole, IsOrderEnding};
+ghost use Rattle.lf_verdict.specs.inner.Jobs.{AllAreWhole, IsOrderEnding};
 
 use crate::answer::Fault;
-use crate::ending::Ending;
+use crate::early_end::Ending;
 use lf_join::{JoinFault, join};
 use lf_logs::skeletons;
 use lf_rules::{Logs, Skeleton};
@@ -31,7 +31,7 @@ pub fn least_order(alloc: Global, logs: &[Skeleton]) -> Result<Vec<u8>, Ending>
     }
 }
 
-/// The same of the logs' records.
+/// An order of the records of the logs.
 pub fn order_of(alloc: Global, logs: &Logs) -> Result<Vec<u8>, Ending>
     requires few { length logs.now.items ≤ 32 }
     requires short { All (λ log. length log.items ≤ 2 ^ 24) logs.now.items }

@@ -4,7 +4,7 @@ ghost use Rattle.std.specs.Prelude.{◌≡◌, Some};
 ghost use Rattle.lf_verdict.specs.Text.{field_text, logs_text, fault_text, part_text, broken_text, refusal_text};
 
 use crate::answer::{Fault, HeaderField, Refusal};
-use crate::breaking::{Broken, PartFault, Upon};
+use crate::session::{Broken, PartFault, Upon};
 use lf_rules::Knot;
 use std::fmt;
 

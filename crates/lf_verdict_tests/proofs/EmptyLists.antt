@@ -1,5 +1,6 @@
 -- The jobs of logs that are empty.
-use Rattle.std.proofs.Common.{rules, arith, ◌≡◌, ◌≤◌, ◌^◌, ℕ, List, [], zero, suc, length, replicate, sym, ◌∙◌, ap, refl}
+use Rattle.std.proofs.Common.{rules, arith, ◌≡◌, ◌≤◌, ◌^◌, ℕ, List, [], zero, suc, length, replicate, sym, ◌∙◌, ap}
+use Rattle.std.proofs.Common.{refl}
 use Rattle.std.specs.Global.{Vec}
 use Rattle.std.specs.List.{All}
 use Rattle.std.proofs.lemmas.List.{length-map, get_or-map}
@@ -14,12 +15,15 @@ nothing_at (suc n) zero = refl
 nothing_at (suc n) (suc log) = nothing_at n log
 
 -- as many vectors as lists
-pub as_many : {X : Type 0} (vecs : Vec (Vec X)) (n : ℕ) → lists_of vecs ≡ replicate n [] → length vecs.items ≡ length (replicate {A = List X} n [])
+pub as_many : {X : Type 0} (vecs : Vec (Vec X)) (n : ℕ) → lists_of vecs ≡ replicate n [] →
+    length vecs.items ≡ length (replicate {A = List X} n [])
 as_many vecs n same = sym (length-map vecs.items (λ v. v.items)) ∙ ap length same
 
-pub none_long : {X : Type 0} (vecs : Vec (Vec X)) (n : ℕ) → lists_of vecs ≡ replicate n [] → All (λ v. length v.items ≤ 2 ^ 24) vecs.items
+pub none_long : {X : Type 0} (vecs : Vec (Vec X)) (n : ℕ) → lists_of vecs ≡ replicate n [] →
+    All (λ v. length v.items ≤ 2 ^ 24) vecs.items
 none_long vecs n same = λ log d below.
-    let none = sym (get_or-map (λ v. v.items) vecs.items log d [] below) ∙ ap (λ lists. log_at lists log) same ∙ nothing_at n log in
+    let none = sym (get_or-map (λ v. v.items) vecs.items log d [] below) ∙ ap (λ lists. log_at lists log) same
+    ∙ nothing_at n log in
     omega (arith, ap length none)
 
 -- no records are the order of each bank

@@ -63,7 +63,7 @@ pub fn assert_verdict<T: Abort + AllocGlobal + Threads + Wait + Sync>(
     Ok(())
 }
 
-/// The same for the trace of these events of port 0 and bank 0.
+/// Asserts the verdict on the trace of these events of port 0 and bank 0.
 pub fn assert_told<T: Abort + AllocGlobal + Threads + Wait + Sync>(
     rt: &T,
     shape: &Shape,

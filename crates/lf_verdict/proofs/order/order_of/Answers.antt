@@ -14,4 +14,5 @@ least_order-requires-clause-whole c =
 pub least_order-requires-clause-short : goal.least_order-requires-clause-short
 least_order-requires-clause-short c =
     let same = ap joins.skeleton_lists c.deref.ensures.value ∙ c.in_ok-all.ensures in
-    subst (All (λ (entries : List (ℕ × ℕ)). length entries ≤ 2 ^ 24)) (sym same) (skeletons_short c.args.logs.now (2 ^ 24) c.requires.short)
+    subst (All (λ (entries : List (ℕ × ℕ)). length entries ≤ 2 ^ 24)) (sym same)
+    (skeletons_short c.args.logs.now (2 ^ 24) c.requires.short)

@@ -6,4 +6,5 @@ use Rattle.lf_verdict.proofs.text.RingLogsDisplay.fmt.Given as goal
 
 abbrev pub invariant-loop-knot : goal.invariant-loop-knot
 invariant-loop-knot g l =
-    IsPlainFormatter l.initial.f → HasWritten g.W.Write.write_str_gives l.initial.f (more_logs_text (take l.knot-index l.others)) l.f
+    IsPlainFormatter l.initial.f → HasWritten g.W.Write.write_str_gives l.initial.f
+    (more_logs_text (take l.knot-index l.others)) l.f

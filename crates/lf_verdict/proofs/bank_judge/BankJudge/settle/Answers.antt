@@ -1,5 +1,0 @@
-use Rattle.std.proofs.Common.{refl}
-use Rattle.lf_verdict.proofs.bank_judge.BankJudge.settle.Goals as goal
-
-pub returns-then-is_empty : goal.returns-then-is_empty
-returns-then-is_empty c shape memory bank came gave judged = (gave, record { bank_judged = judged; drained = c.if-is_empty.ensures.none refl came gave judged.ordered })

@@ -1,6 +1,0 @@
-use Rattle.std.proofs.Common.{map}
-use Rattle.lf_verdict.specs.Judging.{NoneBroken}
-use Rattle.lf_verdict.proofs.broken.first_broken.Given as goal
-
-abbrev pub invariant-loop-part : goal.invariant-loop-part
-invariant-loop-part g l = NoneBroken (map g.P.Part.outcome_of l.parts) l.part

@@ -1,5 +1,0 @@
-use Rattle.lf_verdict.specs.Jobs.{NoneRanOut}
-use Rattle.lf_verdict.proofs.parts.ran_out.Given as goal
-
-abbrev pub invariant-loop-outcome : goal.invariant-loop-outcome
-invariant-loop-outcome l = NoneRanOut l.all l.outcome-index

@@ -1,0 +1,82 @@
+use Rattle.std.proofs.Common.{◌≡◌, ℕ, List, Option, Some, None, false, true, is_some, refl, sym, ◌∙◌, subst}
+use Rattle.std.specs.Prelude.{IfSome, IfNone}
+use Rattle.lf_verdict.specs.declared.session.intake.Intake.{Intake}
+use Rattle.lf_verdict.specs.declared.session.intake.Judging.{Judging}
+use Rattle.lf_verdict.specs.declared.session.intake.Stop.{Stop}
+use Rattle.lf_verdict.specs.Session.{IsJudging, IsInTurn, HasJudged}
+use Rattle.lf_codec.specs.declared.header.Header.{Header}
+use Rattle.lf_verdict.specs.Breaking.{first_offset}
+use Rattle.lf_verdict.specs.inner.Noting.{IsPartBroken}
+use Rattle.lf_verdict.specs.declared.session.breaking.Broken.{Broken}
+use Rattle.lf_verdict.specs.Final.{IsUnbrokenSoFar, IsUnbroken}
+use Rattle.lf_verdict.proofs.Breaks.{if_none}
+use Rattle.lf_verdict.proofs.Finals.{begins_fed, begins_fed-header, final_if, earliest_if}
+use Rattle.lf_verdict.proofs.Sessions.{going}
+use Rattle.lf_rules.specs.Address.{flat_memory}
+use Rattle.lf_rules.specs.declared.event.Record.{Record}
+use Rattle.lf_verdict.proofs.session.intake.Intake.broken.Goals as goal
+
+none_of : (o : Option Stop) → is_some o ≡ false → o ≡ None
+none_of None e = refl
+none_of (Some stop) e = absurd (cc)
+
+not_none : (o : Option Stop) → is_some o ≡ true → o ≡ None → ⊥
+not_none None e is = absurd (cc)
+not_none (Some stop) e is = absurd (cc)
+
+unbroken_if : (s : Intake) (bytes : List ℕ) (found : Option Broken)
+    → (s.stop ≡ None → (records : List Record) → HasJudged s bytes records →
+    IfNone found (IsUnbrokenSoFar s s.judging records)) → IfNone found (IsUnbroken s bytes)
+unbroken_if s bytes None f = f
+unbroken_if s bytes (Some found) f = tt
+
+pub returns-then-is_some-clause-none : goal.returns-then-is_some-clause-none
+returns-then-is_some-clause-none c bytes on records judged =
+    absurd (not_none c.args.self.now.stop (sym c.is_some.ensures ∙ c.if-is_some.true) on)
+
+pub returns-in-Waiting-clause-none : goal.returns-in-Waiting-clause-none
+returns-in-Waiting-clause-none c bytes on records judged = subst
+    (λ (j : Judging). IsUnbrokenSoFar c.args.self.now j records) (sym c.in-Waiting.is) tt
+
+pub returns-in-Another-clause-stands : goal.returns-in-Another-clause-stands
+returns-in-Another-clause-stands c bytes fed =
+    let s = c.args.self.now in
+    let m = going s bytes (none_of s.stop (sym c.is_some.ensures ∙ c.if-is_some.false)) fed in
+    let other = subst (λ (j : Judging). IsJudging s.shape bytes s.memory.items m.0 j) c.in-Another.is m.1.judging in
+    c.other_headers_are_final.ensures s.shape bytes other.header c.in-Another.field m.1.read.are_bytes other.read
+    other.differs
+
+pub returns-in-Running-clause-stands : goal.returns-in-Running-clause-stands
+returns-in-Running-clause-stands c bytes fed =
+    let s = c.args.self.now in
+    let m = going s bytes (none_of s.stop (sym c.is_some.ensures ∙ c.if-is_some.false)) fed in
+    let run = subst (λ (j : Judging). IsJudging s.shape bytes s.memory.items m.0 j) c.in-Running.is m.1.judging in
+    let begins = begins_fed c.read_so_far.ensures s bytes m.0 c.in-Running.standing m.1 run in
+    final_if (first_offset run.header s.memory.items) c.part_faults_are_final.ensures s.shape bytes s.memory.items m.0
+    c.broken.result m.1.read.are_bytes begins
+    (c.broken.ensures.some (first_offset run.header s.memory.items) s.shape (flat_memory s.memory.items) m.0
+    run.stands run.watched)
+
+pub returns-in-Running-clause-earliest : goal.returns-in-Running-clause-earliest
+returns-in-Running-clause-earliest c turn bytes fed =
+    let s = c.args.self.now in
+    let m = going s bytes (none_of s.stop (sym c.is_some.ensures ∙ c.if-is_some.false)) fed in
+    let run = subst (λ (j : Judging). IsJudging s.shape bytes s.memory.items m.0 j) c.in-Running.is m.1.judging in
+    let begins = begins_fed c.read_so_far.ensures s bytes m.0 c.in-Running.standing m.1 run in
+    let some = c.broken.ensures.some (first_offset run.header s.memory.items) s.shape (flat_memory s.memory.items) m.0
+    run.stands run.watched in
+    let same = begins_fed-header c.read_so_far.ensures s bytes m.0 c.in-Running.standing m.1 run in
+    earliest_if s.shape bytes s.memory.items m.0 c.broken.result begins
+    (subst (λ (h : Header). IfSome c.broken.result (IsPartBroken (first_offset h s.memory.items) s.shape
+    (flat_memory s.memory.items) m.0)) (sym same) some)
+    (c.broken.ensures.named (subst IsInTurn c.in-Running.is turn))
+
+pub returns-in-Running-clause-none : goal.returns-in-Running-clause-none
+returns-in-Running-clause-none c bytes =
+    let s = c.args.self.now in
+    unbroken_if s bytes c.broken.result (λ on records judged.
+    let run = subst (λ (j : Judging). IsJudging s.shape bytes s.memory.items records j) c.in-Running.is judged.judging
+    in
+    if_none c.broken.result (c.broken.ensures.none (first_offset run.header s.memory.items) s.shape
+    (flat_memory s.memory.items) records run.stands run.watched)
+    (λ none. subst (λ (j : Judging). IsUnbrokenSoFar s j records) (sym c.in-Running.is) none))

@@ -1,0 +1,15 @@
+use Rattle.std.proofs.Common.{◌≡◌, ◌≤◌, ◌-◌, ◌++◌, ℕ, List, length, take, None}
+use Rattle.lf_verdict.specs.Session.{HasFed, IsInTurn}
+use Rattle.lf_verdict.proofs.session.intake.Intake.feed.Given as goal
+
+abbrev pub invariant-loop-at : goal.invariant-loop-at
+invariant-loop-at l = record {
+  within : l.at ≤ length l.piece;
+  shape : l.self.shape ≡ l.fn.self.shape;
+  going : l.self.stop ≡ None;
+  in_turn : IsInTurn l.fn.self.judging → IsInTurn l.self.judging;
+  fed : (bytes : List ℕ) → HasFed l.fn.self bytes → HasFed l.self (bytes ++ take l.at l.piece);
+}
+
+abbrev pub decreases-loop-at : goal.decreases-loop-at
+decreases-loop-at l = length l.piece - l.at

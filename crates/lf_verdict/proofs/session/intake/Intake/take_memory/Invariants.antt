@@ -1,0 +1,11 @@
+use Rattle.std.proofs.Common.{◌≡◌, ℕ, List, length}
+use Rattle.lf_verdict.specs.declared.session.intake.Judging.TheVariants.{Waiting}
+use Rattle.lf_verdict.specs.Session.{HasTaken}
+use Rattle.lf_verdict.proofs.session.intake.Intake.take_memory.Given as goal
+
+abbrev pub invariant-loop-item : goal.invariant-loop-item
+invariant-loop-item l = (l.self.shape ≡ l.fn.self.shape) × (l.self.stop ≡ l.fn.self.stop) ×
+    (l.self.judging ≡ Waiting) × ((bytes : List ℕ) → HasTaken l.fn.self bytes → HasTaken l.self bytes)
+
+abbrev pub decreases-loop-item : goal.decreases-loop-item
+decreases-loop-item l = length l.self.reader.memory

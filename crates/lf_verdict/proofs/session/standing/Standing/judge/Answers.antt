@@ -1,0 +1,55 @@
+use Rattle.std.proofs.Common.{◌<◌, refl, arith}
+use Rattle.lf_rules.specs.Run.{of_bank}
+use Rattle.lf_rules.specs.Order.{log_at}
+use Rattle.lf_replay.specs.Bytes.{bank_part}
+use Rattle.lf_replay.proofs.Runs.{on_ok}
+use Rattle.lf_verdict.proofs.Standings.{bank_before, stands_more}
+use Rattle.lf_verdict.proofs.session.standing.Standing.judge.Goals as goal
+
+pub take-requires : goal.take-requires
+take-requires c =
+    let r = c.requires in
+    let may = r.may in
+    let stands = r.stands in
+    let item = c.args.item.now in
+    let i = c.from-bank.result in
+    let v = c.index_mut.result.now in
+    let within : item.bank < r.shape.banks = omega (
+      arith,
+      c.from-bank.ensures,
+      c.len.ensures,
+      stands.count_banks,
+      c.if-bank-len.false,
+    ) in
+    record {
+      shape = r.shape;
+      memory = bank_part r.shape item.bank r.memory;
+      bank = item.bank;
+      came = of_bank item.bank r.records;
+      gave = log_at stands.given item.bank;
+      fits = may.fits;
+      named = refl;
+      settled = bank_before r.shape r.memory r.records c.args.self.now stands item may i v c.from-bank.ensures
+          c.index_mut.ensures.value within;
+    }
+
+pub returns-clause-judged : goal.returns-clause-judged
+returns-clause-judged c shape memory records may stands =
+    let item = c.args.item.now in
+    let i = c.from-bank.result in
+    let v = c.index_mut.result.now in
+    let entered = c.in_ok-enter.ensures shape records may stands.entered in
+    let within : item.bank < shape.banks = omega (
+      arith,
+      c.from-bank.ensures,
+      c.len.ensures,
+      stands.count_banks,
+      c.if-bank-len.false,
+    ) in
+    on_ok c.take.result
+    (stands_more shape memory records c.args.self.now stands item may c.enter.new.self _ i c.take.new.self entered
+    within refl c.from-bank.ensures)
+    (c.take.ensures shape (bank_part shape item.bank memory) item.bank (of_bank item.bank records)
+    (log_at stands.given item.bank) may.fits refl
+    (bank_before shape memory records c.args.self.now stands item may i v c.from-bank.ensures
+    c.index_mut.ensures.value within))

@@ -1,0 +1,15 @@
+use Rattle.std.proofs.Common.{ℕ, List}
+use Rattle.lf_rules.specs.declared.shape.Shape.{Shape}
+use Rattle.lf_rules.specs.declared.event.Record.{Record}
+use Rattle.lf_rules.specs.Address.{FlatMemory}
+use Rattle.lf_logs.specs.Reordering.{waiting_count}
+use Rattle.lf_verdict.specs.Standing.{IsBankJudged}
+use Rattle.lf_verdict.proofs.session.standing.bank_judge.BankJudge.settle_waiting.Given as goal
+
+abbrev pub invariant-loop-item : goal.invariant-loop-item
+invariant-loop-item l = (shape : Shape) (memory : FlatMemory) (bank : ℕ) (came : List Record) (gave : List Record) →
+    IsBankJudged shape memory bank came gave l.fn.self
+    → (more : List Record) × IsBankJudged shape memory bank came more l.self
+
+abbrev pub decreases-loop-item : goal.decreases-loop-item
+decreases-loop-item l = waiting_count l.self.order

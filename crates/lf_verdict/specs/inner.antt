@@ -1,0 +1,10 @@
+-- What only the contracts of the crate's own functions and their proofs use. No file beside this folder names a file in
+-- it.
+pub mod Coming
+pub mod Noting
+pub mod Taking
+pub mod Turns
+pub mod Batches
+pub mod Ending
+pub mod Jobs
+pub mod Gathering

@@ -1,0 +1,92 @@
+//! The laws about verdicts. Each function only calls the laws from which its own follows.
+
+ghost use Rattle.lf_verdict.specs.Final.{PartFaultsAreFinal, OtherHeadersAreFinal};
+ghost use Rattle.lf_verdict.specs.Laws.{YesIsLegal, NoHasNoRun, VerdictsAreOne, MixturesAreAlike, WorkersAreAlike};
+
+mod collected;
+mod configured;
+mod rechecked;
+
+pub use collected::collected_logs_are_in_order;
+pub use configured::{mixtures_are_alike_for, verdicts_for_are_one};
+use lf_codec::{exact_reading, faultless_bytes, header_of_bytes, one_trace};
+use lf_join::joins_are_one;
+use lf_rules::{
+    copies_are_flat, gaps_admit_none, interleavings_are_numbered, numbers_are_whole,
+    orders_interleave, outcomes_are_one, rings_admit_none, runs_are_right, runs_by_parts,
+    skeletons_follow,
+};
+pub use rechecked::yes_is_rechecked;
+
+/// Where each part of a trace runs and its logs have an order, the trace is legal by that order.
+pub fn yes_is_legal()
+    ensures { YesIsLegal }
+{
+    runs_by_parts();
+    runs_are_right();
+    interleavings_are_numbered();
+    numbers_are_whole();
+    orders_interleave();
+    skeletons_follow();
+}
+
+/// Where a part of a trace has a fault, or its logs wait for one another, no list of all its events
+/// that keeps each log's order and the banks' numbers is a run, with or without copies.
+pub fn no_has_no_run()
+    ensures { NoHasNoRun }
+{
+    runs_by_parts();
+    copies_are_flat();
+    interleavings_are_numbered();
+    numbers_are_whole();
+    outcomes_are_one();
+    gaps_admit_none();
+    rings_admit_none();
+    one_trace();
+}
+
+/// Bytes have one verdict.
+pub fn verdicts_are_one()
+    ensures { VerdictsAreOne }
+{
+    numbers_are_whole();
+    outcomes_are_one();
+    rings_admit_none();
+    orders_interleave();
+    skeletons_follow();
+    joins_are_one();
+    one_trace();
+    faultless_bytes();
+}
+
+/// So they have the same with any number of workers.
+pub fn workers_are_alike()
+    ensures { WorkersAreAlike }
+{
+    verdicts_are_one();
+}
+
+/// How the logs are mixed in the bytes does not matter.
+pub fn mixtures_are_alike()
+    ensures { MixturesAreAlike }
+{
+    one_trace();
+    faultless_bytes();
+}
+
+/// A port or a bank that broke a rule, and a number that came twice, are final: no bytes behind them lead to a
+/// yes, nor to a fault that is named after it.
+pub fn part_faults_are_final()
+    ensures { PartFaultsAreFinal }
+{
+    exact_reading();
+    header_of_bytes();
+}
+
+/// So is a header of another hierarchy: the bytes are no trace, or it is that field that is refused.
+pub fn other_headers_are_final()
+    ensures { OtherHeadersAreFinal }
+{
+    exact_reading();
+    header_of_bytes();
+}

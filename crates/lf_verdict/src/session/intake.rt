@@ -1,0 +1,411 @@
+//! What a session keeps of the bytes that it was fed.
+
+ghost use Rattle.std.specs.Prelude.{◌≡◌, ◌<◌, ◌++◌, ℕ, List, [], Some, None, IsSome, IfSome, IfNone, IfOk, Ok, OnOk};
+ghost use Rattle.std.specs.Prelude.{option_to_list};
+ghost use Rattle.lf_rules.specs.InRange.{IsShape};
+ghost use Rattle.lf_verdict.specs.inner.Ending.{IsVerdictOrWant};
+ghost use Rattle.lf_verdict.specs.Standing.{IsWatch, IsKnown, StandsAfterAll};
+ghost use Rattle.lf_verdict.specs.inner.Noting.{EndsInRange};
+ghost use Rattle.lf_verdict.specs.Final.{IsFinal, IsEarliest, IsUnbroken};
+ghost use Rattle.lf_verdict.specs.Session.{refusal_of, stop_told, IsRunning, HasTaken, IsRunningNow, IsInTurn, HasFed};
+ghost use Rattle.lf_verdict.specs.inner.Taking.{IsStopOf, IsLackingIf, IsDrained, CanJudge};
+ghost use Rattle.lf_codec.specs.Reader.{fault_in, answer_of, bytes_taken, with_record, TakesSome};
+ghost use Rattle.lf_verdict.specs.declared.session.intake.Judging.TheVariants.{Waiting};
+ghost use Rattle.lf_rules.specs.declared.shape.Shape.{Shape};
+ghost use Rattle.lf_rules.specs.declared.event.Record.{Record};
+ghost use Rattle.lf_rules.specs.Fits.{Bytes};
+ghost use Rattle.lf_codec.specs.Reader.{HasRead};
+ghost use Rattle.lf_rules.specs.Address.{FlatMemory};
+ghost use Rattle.lf_codec.specs.declared.fault.Told.TheVariants as tolds;
+ghost use Rattle.lf_verdict.specs.inner.Coming.{MayAllCome};
+
+use crate::answer::{HeaderField, Refusal, Verdict};
+use crate::header::{differing, first_offset};
+use crate::laws::{other_headers_are_final, part_faults_are_final};
+use crate::session::breaking::Broken;
+use crate::session::standing::Standing;
+use lf_codec::{
+    CodecCause, CodecFault, Reader, Told, exact_reading, faults_stand, header_of_bytes, read_so_far,
+};
+use lf_rules::{Memory, NoMemory, Record, Shape};
+use std::alloc::Global;
+
+/// What ended the judging.
+#[derive(Clone, Copy, Debug, PartialEq, Eq)]
+pub enum Stop {
+    Format(CodecFault),
+    Memory,
+}
+
+/// How far the judging is.
+#[derive(Drop)]
+pub enum Judging {
+    /// The header and the memory are not whole yet.
+    Waiting,
+    Running(Standing),
+    /// The trace is of another hierarchy: its format alone is judged further.
+    Another(HeaderField),
+}
+
+/// What was fed so far, judged as far as that can be.
+#[derive(Drop)]
+pub struct Intake {
+    pub alloc: Global,
+    pub shape: Shape,
+    pub reader: Reader,
+    pub memory: Memory,
+    pub judging: Judging,
+    pub stop: Option<Stop>,
+}
+
+pub fn refusal_of(stop: Stop) -> Refusal
+    ensures { result ≡ refusal_of stop }
+{
+    match stop {
+        Stop::Format(fault) => Refusal::Format(fault),
+        Stop::Memory => Refusal::Memory,
+    }
+}
+
+pub fn stop_of(told: Told<CodecFault>) -> Stop
+    ensures { IsStopOf (fault_in told) result }
+{
+    let fault = told.fault();
+    if fault.cause == CodecCause::NoMemory {
+        Stop::Memory
+    } else {
+        Stop::Format(fault)
+    }
+}
+
+/// Takes the records that the reader has found, so that it need not keep them.
+fn discard(reader: &mut Reader)
+    ensures fault { reader.new.fault ≡ reader.old.fault }
+    ensures read { (bytes : List ℕ) (memory : List (ℕ × Bytes)) (records : List Record) →
+        HasRead reader.old bytes memory records
+        → (more : List Record) × HasRead reader.new bytes memory more }
+{
+    while reader.take().is_some() {}
+}
+
+/// Judges the records that the reader has found.
+fn judge_records(reader: &mut Reader, standing: &mut Standing) -> Result<(), NoMemory>
+    requires { CanJudge reader.old standing.old }
+    ensures judged { (shape : Shape) (bytes : List ℕ) (memory : List (ℕ × Bytes)) (records : List Record) →
+        HasRead reader.old bytes memory records
+        → IsRunning shape bytes memory records standing.old
+        → OnOk result ((more : List Record) × (HasRead reader.new bytes memory more ×
+        IsRunning shape bytes memory more standing.new)) }
+    ensures fault { reader.new.fault ≡ reader.old.fault }
+    ensures drained { OnOk result (reader.new.records ≡ []) }
+    ensures known { IsKnown standing.old.watch → IsKnown standing.new.watch }
+{
+    read_so_far();
+    while let Some(item) = reader.front() {
+        standing.take(item)?;
+        reader.drop_front();
+    }
+    Ok(())
+}
+
+/// Judges the record in the place, where there is one.
+fn judge_one(standing: &mut Standing, place: &Option<Record>) -> Result<(), NoMemory>
+    requires next { (shape : Shape) × ((memory : FlatMemory) × ((records : List Record) ×
+        (StandsAfterAll shape memory records standing.old × MayAllCome shape records (option_to_list place.now)))) }
+    requires range { IfSome place.now (EndsInRange standing.old.watch) }
+    ensures judged { (shape : Shape) (memory : FlatMemory) (records : List Record) →
+        StandsAfterAll shape memory records standing.old
+        → MayAllCome shape records (option_to_list place.now)
+        → OnOk result (StandsAfterAll shape memory (records ++ option_to_list place.now) standing.new) }
+    ensures watched { (start : ℕ) (shape : Shape) (memory : FlatMemory) (records : List Record) →
+        StandsAfterAll shape memory records standing.old
+        → MayAllCome shape records (option_to_list place.now) → IsWatch start shape memory records standing.old.watch
+        → OnOk result (IsWatch start shape memory (records ++ option_to_list place.now) standing.new.watch) }
+    ensures known { IsKnown standing.old.watch → IsKnown standing.new.watch }
+{
+    match place {
+        Some(item) => standing.take(item),
+        None => Ok(()),
+    }
+}
+
+/// Judges the record in the place, and those that the reader has found beside it.
+fn judge_placed(
+    reader: &mut Reader,
+    standing: &mut Standing,
+    place: &Option<Record>,
+) -> Result<(), NoMemory>
+    requires { CanJudge (with_record place.now reader.old) standing.old }
+    ensures judged { (shape : Shape) (bytes : List ℕ) (memory : List (ℕ × Bytes)) (records : List Record)
+        → HasRead (with_record place.now reader.old) bytes memory records →
+        IsRunning shape bytes memory records standing.old
+        → OnOk result ((more : List Record) × (HasRead reader.new bytes memory more ×
+        IsRunning shape bytes memory more standing.new)) }
+    ensures fault { reader.new.fault ≡ reader.old.fault }
+    ensures drained { OnOk result (reader.new.records ≡ []) }
+    ensures known { IsKnown standing.old.watch → IsKnown standing.new.watch }
+{
+    read_so_far();
+    judge_one(standing, place)?;
+    if reader.front().is_none() {
+        return Ok(());
+    }
+    judge_records(reader, standing)
+}
+
+impl Intake {
+    /// Nothing was fed yet.
+    pub fn new(alloc: Global, shape: &Shape) -> Intake
+        requires { IsShape shape.now }
+        ensures shape { result.shape ≡ shape.now }
+        ensures fed { HasFed result [] }
+        ensures in_turn { IsInTurn result.judging }
+    {
+        Intake {
+            alloc,
+            shape: *shape,
+            reader: Reader::new(alloc),
+            memory: Vec::new(alloc),
+            judging: Judging::Waiting,
+            stop: None,
+        }
+    }
+
+    /// Stops for good, and tells why.
+    pub fn stop_with(&mut self, stop: Stop) -> Told<Refusal>
+        ensures stopped { self.new ≡ record self.old { stop = Some stop } }
+        ensures told { result ≡ tolds.Fault (refusal_of stop) }
+    {
+        self.stop = Some(stop);
+        Told::Fault(refusal_of(stop))
+    }
+
+    /// Takes the memory records that the reader has found.
+    fn take_memory(&mut self) -> Result<(), NoMemory>
+        requires { self.old.judging ≡ Waiting }
+        ensures shape { self.new.shape ≡ self.old.shape }
+        ensures stop { self.new.stop ≡ self.old.stop }
+        ensures taken { (bytes : List ℕ) → HasTaken self.old bytes → OnOk result (HasTaken self.new bytes) }
+        ensures waiting { self.new.judging ≡ Waiting }
+        ensures none { OnOk result (self.new.reader.memory ≡ []) }
+    {
+        while let Some(item) = self.reader.take_memory() {
+            self.memory.push(item)?;
+        }
+        Ok(())
+    }
+
+    /// Takes what the reader gives, and judges the records.
+    fn take_all(&mut self) -> Result<(), NoMemory>
+        requires { (bytes : List ℕ) × HasTaken self.old bytes }
+        ensures shape { self.new.shape ≡ self.old.shape }
+        ensures stop { self.new.stop ≡ self.old.stop }
+        ensures taken { (bytes : List ℕ) → HasTaken self.old bytes → OnOk result (HasTaken self.new bytes) }
+        ensures drained { OnOk result (IsDrained self.new.judging self.new.reader self.new.memory.items) }
+        ensures in_turn { IsInTurn self.old.judging → IsInTurn self.new.judging }
+    {
+        self.prepare()?;
+        self.judge()
+    }
+
+    /// Takes the memory and begins to judge, where that has not begun.
+    fn prepare(&mut self) -> Result<(), NoMemory>
+        requires { (bytes : List ℕ) × HasTaken self.old bytes }
+        ensures shape { self.new.shape ≡ self.old.shape }
+        ensures stop { self.new.stop ≡ self.old.stop }
+        ensures taken { (bytes : List ℕ) → HasTaken self.old bytes → OnOk result (HasTaken self.new bytes) }
+        ensures lacking { OnOk result (IsLackingIf self.new.judging self.new.reader self.new.memory.items) }
+        ensures in_turn { IsInTurn self.old.judging → IsInTurn self.new.judging }
+    {
+        let Judging::Waiting = self.judging else {
+            return Ok(());
+        };
+        self.take_memory()?;
+        self.open()
+    }
+
+    /// Judges the records that the reader has found.
+    fn judge(&mut self) -> Result<(), NoMemory>
+        requires taken { (bytes : List ℕ) × HasTaken self.old bytes }
+        requires lacking { IsLackingIf self.old.judging self.old.reader self.old.memory.items }
+        ensures shape { self.new.shape ≡ self.old.shape }
+        ensures stop { self.new.stop ≡ self.old.stop }
+        ensures taken { (bytes : List ℕ) → HasTaken self.old bytes → OnOk result (HasTaken self.new bytes) }
+        ensures drained { OnOk result (IsDrained self.new.judging self.new.reader self.new.memory.items) }
+        ensures in_turn { IsInTurn self.old.judging → IsInTurn self.new.judging }
+    {
+        match &mut self.judging {
+            Judging::Waiting => Ok(()),
+            Judging::Another(_) => {
+                discard(&mut self.reader);
+                Ok(())
+            }
+            Judging::Running(standing) => judge_records(&mut self.reader, standing),
+        }
+    }
+
+    /// Judges the record in the place, while the records are judged.
+    fn judge_with(&mut self, place: &Option<Record>) -> Result<(), NoMemory>
+        requires taken { (bytes : List ℕ) × HasTaken (record self.old
+            { reader = with_record place.now self.old.reader }) bytes }
+        requires running { IsRunningNow self.old.judging }
+        ensures shape { self.new.shape ≡ self.old.shape }
+        ensures stop { self.new.stop ≡ self.old.stop }
+        ensures taken { (bytes : List ℕ) → HasTaken (record self.old
+            { reader = with_record place.now self.old.reader }) bytes
+            → OnOk result (HasTaken self.new bytes) }
+        ensures drained { OnOk result (IsDrained self.new.judging self.new.reader self.new.memory.items) }
+        ensures in_turn { IsInTurn self.old.judging → IsInTurn self.new.judging }
+    {
+        match &mut self.judging {
+            Judging::Running(standing) => judge_placed(&mut self.reader, standing, place),
+            _ => unreachable!(),
+        }
+    }
+
+    /// Begins to judge once the header and the memory are whole.
+    fn open(&mut self) -> Result<(), NoMemory>
+        requires taken { (bytes : List ℕ) × HasTaken self.old bytes }
+        requires waiting { self.old.judging ≡ Waiting }
+        requires none { self.old.reader.memory ≡ [] }
+        ensures shape { self.new.shape ≡ self.old.shape }
+        ensures stop { self.new.stop ≡ self.old.stop }
+        ensures taken { (bytes : List ℕ) → HasTaken self.old bytes → OnOk result (HasTaken self.new bytes) }
+        ensures lacking { OnOk result (IsLackingIf self.new.judging self.new.reader self.new.memory.items) }
+        ensures in_turn { IsInTurn self.new.judging }
+    {
+        read_so_far();
+        let Some(header) = self.reader.header() else {
+            return Ok(());
+        };
+        if let Some(field) = differing(&self.shape, header) {
+            self.judging = Judging::Another(field);
+            return Ok(());
+        }
+        if self.memory.len() as u64 == u64::from(header.memory_count) {
+            let start = first_offset(&header);
+            let standing = Standing::new(self.alloc, &self.shape, &self.memory, start)?;
+            self.judging = Judging::Running(standing);
+        }
+        Ok(())
+    }
+
+    /// Takes the next piece of the trace, a record at a time.
+    pub fn feed(&mut self, piece: &[u8]) -> Result<(), Told<Refusal>>
+        requires { (bytes : List ℕ) × HasFed self.old bytes }
+        ensures shape { self.new.shape ≡ self.old.shape }
+        ensures fed { (bytes : List ℕ) → HasFed self.old bytes → HasFed self.new (bytes ++ piece.now) }
+        ensures told { result ≡ stop_told self.old.stop self.new.stop }
+        ensures failed { IsSome self.old.stop → self.new ≡ self.old }
+        ensures in_turn { IsInTurn self.old.judging → IsInTurn self.new.judging }
+    {
+        faults_stand();
+        if let Some(stop) = self.stop {
+            return Err(Told::Failed(refusal_of(stop)));
+        }
+        let mut place = None;
+        let mut at = 0;
+        while at < piece.len() {
+            match self.feed_record(&piece[at..], &mut place) {
+                Ok(n) => at += n,
+                Err(told) => return Err(told),
+            }
+        }
+        Ok(())
+    }
+
+    /// Takes the next record of these bytes, or what there is of it, and judges it.
+    #[inline(never)]
+    fn feed_some(&mut self, bytes: &[u8]) -> Result<usize, Told<Refusal>>
+        requires fed { (fed : List ℕ) × HasFed self.old fed }
+        requires going { self.old.stop ≡ None }
+        ensures shape { self.new.shape ≡ self.old.shape }
+        ensures some { IfOk result (TakesSome bytes.now) }
+        ensures fed { (fed : List ℕ) → HasFed self.old fed → HasFed self.new (fed ++ bytes_taken result bytes.now) }
+        ensures told { answer_of result ≡ stop_told self.old.stop self.new.stop }
+        ensures in_turn { IsInTurn self.old.judging → IsInTurn self.new.judging }
+    {
+        header_of_bytes();
+        let n = match self.reader.feed_some(bytes) {
+            Ok(n) => n,
+            Err(told) => return Err(self.stop_with(stop_of(told))),
+        };
+        match self.take_all() {
+            Ok(()) => Ok(n),
+            Err(NoMemory) => Err(self.stop_with(Stop::Memory)),
+        }
+    }
+
+    /// Takes the front of the bytes. While the records are judged each is written to the place and judged there.
+    fn feed_record(
+        &mut self,
+        bytes: &[u8],
+        place: &mut Option<Record>,
+    ) -> Result<usize, Told<Refusal>>
+        requires fed { (fed : List ℕ) × HasFed self.old fed }
+        requires going { self.old.stop ≡ None }
+        ensures shape { self.new.shape ≡ self.old.shape }
+        ensures some { IfOk result (TakesSome bytes.now) }
+        ensures fed { (fed : List ℕ) → HasFed self.old fed → HasFed self.new (fed ++ bytes_taken result bytes.now) }
+        ensures told { answer_of result ≡ stop_told self.old.stop self.new.stop }
+        ensures in_turn { IsInTurn self.old.judging → IsInTurn self.new.judging }
+    {
+        let Judging::Running(_) = self.judging else {
+            return self.feed_some(bytes);
+        };
+        header_of_bytes();
+        let n = match self.reader.feed_one(bytes, place) {
+            Ok(n) => n,
+            Err(told) => return Err(self.stop_with(stop_of(told))),
+        };
+        match self.judge_with(place) {
+            Ok(()) => Ok(n),
+            Err(NoMemory) => Err(self.stop_with(Stop::Memory)),
+        }
+    }
+
+    /// The verdict of the bytes that were fed.
+    pub fn answer(&mut self) -> Verdict
+        requires { (bytes : List ℕ) × HasFed self.old bytes }
+        ensures answer { (bytes : List ℕ) → HasFed self.old bytes → IsVerdictOrWant self.old.shape bytes result }
+        ensures stopped { IfSome self.old.stop (λ stop. result ≡ Verdict.Refused (refusal_of stop)) }
+    {
+        exact_reading();
+        if let Some(stop) = self.stop {
+            return Verdict::Refused(refusal_of(stop));
+        }
+        if let Err(NoMemory) = self.take_all() {
+            return Verdict::Refused(Refusal::Memory);
+        }
+        if let Err(told) = self.reader.finish() {
+            return Verdict::Refused(refusal_of(stop_of(told)));
+        }
+        match &mut self.judging {
+            Judging::Waiting => unreachable!(),
+            Judging::Another(field) => Verdict::Refused(Refusal::Header(*field)),
+            Judging::Running(standing) => standing.verdict(self.alloc),
+        }
+    }
+
+    /// What is final for the bytes that were fed, where something is. Where the records were judged one after another
+    /// the record is named.
+    pub fn broken(&self) -> Option<Broken>
+        requires { (bytes : List ℕ) × HasFed self.now bytes }
+        ensures stands { (bytes : List ℕ) → HasFed self.now bytes → IfSome result (IsFinal self.now.shape bytes) }
+        ensures earliest { IsInTurn self.now.judging → (bytes : List ℕ) → HasFed self.now bytes
+            → IfSome result (IsEarliest self.now.shape bytes) }
+        ensures none { (bytes : List ℕ) → IfNone result (IsUnbroken self.now bytes) }
+    {
+        read_so_far();
+        part_faults_are_final();
+        other_headers_are_final();
+        if self.stop.is_some() {
+            return None;
+        }
+        match &self.judging {
+            Judging::Waiting => None,
+            Judging::Another(field) => Some(Broken::Header(*field)),
+            Judging::Running(standing) => standing.broken(),
+        }
+    }
+}

@@ -1,0 +1,117 @@
+//! The verdict of a trace, judged while its bytes come.
+
+ghost use Rattle.std.specs.Prelude.{◌≡◌, ◌++◌, ℕ, List, [], Ok, None, IfOk, IfErr, IfSome, IfNone, IsSome, OnOk};
+ghost use Rattle.lf_rules.specs.InRange.{IsShape};
+ghost use Rattle.lf_codec.specs.Reader.{fault_in};
+ghost use Rattle.lf_codec.specs.Reading.{fault_so_far};
+ghost use Rattle.lf_config.specs.Configuration.{configuration_of};
+ghost use Rattle.lf_verdict.specs.declared.answer.Verdict.{Verdict};
+ghost use Rattle.lf_verdict.specs.declared.answer.Refusal.{Refusal};
+ghost use Rattle.lf_verdict.specs.Verdict.{IsDecided, IsVerdictOf, IsLegalYes};
+ghost use Rattle.lf_verdict.specs.Laws.{IsRunlessNo};
+ghost use Rattle.lf_verdict.specs.Final.{IsFinal, IsEarliest, IsUnbroken};
+ghost use Rattle.lf_verdict.specs.Session.{IsConfigRefusal, refusal_of, stop_told, IsRefusalSoFar, HasFed};
+
+mod ahead;
+mod batch;
+mod breaking;
+mod intake;
+mod parallel;
+mod standing;
+
+use crate::answer::{Refusal, Verdict};
+use crate::laws::{no_has_no_run, yes_is_legal};
+use crate::session::intake::Intake;
+pub use breaking::{Broken, PartFault, Upon};
+use lf_codec::Told;
+use lf_config::{ConfigFault, read};
+use lf_rules::Shape;
+pub use parallel::ParallelSession;
+use std::alloc::Global;
+use std::marker::Model;
+
+/// Judges a trace while its bytes come, by one worker, and keeps no whole trace.
+#[derive(Drop)]
+pub struct Session {
+    intake: Intake,
+}
+
+impl Model for Session {
+    ghost use Rattle.lf_verdict.specs.declared.session.intake.Intake.{Intake};
+    ghost use Rattle.lf_verdict.specs.Session.{WasFed, IsInTurn};
+
+    ghost Value = { Intake };
+
+    ghost view = { λ s. s.intake };
+
+    ghost invariant = { λ s. WasFed s.intake × IsInTurn s.intake.judging };
+}
+
+impl Session {
+    /// A session for the shape, that was fed nothing.
+    pub fn for_shape(alloc: Global, shape: &Shape) -> Session
+        requires { IsShape shape.now }
+        ensures shape { result.shape ≡ shape.now }
+        ensures fed { HasFed result [] }
+    {
+        Session {
+            intake: Intake::new(alloc, shape),
+        }
+    }
+
+    /// A session for the hierarchy that the configuration says, that was fed nothing.
+    pub fn new(alloc: Global, config: &str) -> Result<Session, Refusal>
+        ensures configured { IfOk result (λ s. configuration_of config.now ≡ Ok s.shape) }
+        ensures fed { IfOk result (λ s. HasFed s []) }
+        ensures refused { IfErr result (IsConfigRefusal config.now) }
+    {
+        match read(alloc, config) {
+            Ok(shape) => Ok(Session::for_shape(alloc, &shape)),
+            Err(ConfigFault::NoMemory) => Err(Refusal::Memory),
+            Err(fault) => Err(Refusal::Config(fault)),
+        }
+    }
+
+    /// Takes the next piece of the trace. It refuses a fault of the format that stands in the bytes so
+    /// far, other than `Truncated`, and out of memory; from then on it answers `Failed`.
+    pub fn feed(&mut self, piece: &[u8]) -> Result<(), Told<Refusal>>
+        ensures shape { self.new.shape ≡ self.old.shape }
+        ensures fed { (bytes : List ℕ) → HasFed self.old bytes → HasFed self.new (bytes ++ piece.now) }
+        // When it answers what.
+        ensures told { result ≡ stop_told self.old.stop self.new.stop }
+        ensures failed { IsSome self.old.stop → self.new ≡ self.old }
+        ensures fine { OnOk result ((bytes : List ℕ) → HasFed self.old bytes →
+            fault_so_far (bytes ++ piece.now) ≡ None) }
+        ensures fault { IfErr result (λ t. (bytes : List ℕ) → HasFed self.old bytes →
+            IsRefusalSoFar (bytes ++ piece.now) (fault_in t)) }
+    {
+        self.intake.feed(piece)
+    }
+
+    /// What broke, where something did for which no bytes that follow lead to a yes: a header of another hierarchy, or
+    /// a part of the records so far, always with the first record upon which one was at fault. The verdict is then
+    /// that fault, one that is named before it, or that the bytes are no trace. After a refused `feed` nothing is told.
+    pub fn broken(&self) -> Option<Broken>
+        ensures stands { (bytes : List ℕ) → HasFed self.now bytes → IfSome result (IsFinal self.now.shape bytes) }
+        ensures earliest { (bytes : List ℕ) → HasFed self.now bytes → IfSome result (IsEarliest self.now.shape bytes) }
+        ensures none { (bytes : List ℕ) → IfNone result (IsUnbroken self.now bytes) }
+    {
+        self.intake.broken()
+    }
+
+    /// The verdict of the bytes that were fed: that of `check_shape`. After a refused
+    /// `feed` it is that refusal.
+    pub fn finish(self) -> Verdict
+        ensures legal { (bytes : List ℕ) → HasFed self bytes → IsLegalYes self.shape bytes result }
+        ensures runless { (bytes : List ℕ) → HasFed self bytes → IsRunlessNo self.shape bytes result }
+        ensures verdict { (bytes : List ℕ) → HasFed self bytes → IsDecided result →
+            IsVerdictOf self.shape 1 bytes result }
+        ensures stopped { IfSome self.stop (λ stop. result ≡ Verdict.Refused (refusal_of stop)) }
+        ensures thread { ¬ (result ≡ Verdict.Refused Refusal.Thread) }
+    {
+        yes_is_legal();
+        no_has_no_run();
+        let mut intake = self.intake;
+        intake.answer()
+    }
+}

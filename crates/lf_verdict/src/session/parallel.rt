@@ -1,0 +1,117 @@
+//! The verdict of a trace, judged by several workers while its bytes come.
+
+ghost use Rattle.std.specs.Prelude.{◌≡◌, ◌++◌, ℕ, List, [], None, IfErr, IfSome, IsSome, OnOk};
+ghost use Rattle.lf_rules.specs.InRange.{IsShape};
+ghost use Rattle.lf_codec.specs.Reader.{fault_in};
+ghost use Rattle.lf_codec.specs.Reading.{fault_so_far};
+ghost use Rattle.lf_verdict.specs.declared.answer.Verdict.{Verdict};
+ghost use Rattle.lf_verdict.specs.declared.answer.Refusal.{Refusal};
+ghost use Rattle.lf_verdict.specs.Verdict.{IsDecided, IsVerdictOf, IsLegalYes};
+ghost use Rattle.lf_verdict.specs.Laws.{IsRunlessNo};
+ghost use Rattle.lf_verdict.specs.Session.{refusal_of, stop_told, IsRefusalSoFar, HasFed};
+
+use crate::answer::{Refusal, Verdict};
+use crate::laws::{no_has_no_run, yes_is_legal};
+use crate::session::ahead::Ahead;
+use lf_codec::Told;
+use lf_pool::{Gate, NoGate};
+use lf_rules::Shape;
+use std::alloc::Global;
+use std::marker::Model;
+use std::thread::Threads;
+
+/// So many records are judged at a time. Fewer are not worth the threads that are made for them, and more
+/// fill the caches of the processors.
+const BATCH: usize = 16384;
+
+/// Judges a trace while its bytes come, as `Session` does. With more than one worker a thread reads the trace,
+/// another enters what was read into the logs, and as many as there are workers judge the banks, so that a
+/// refusal for memory may come with a later piece. One worker does all in one thread.
+///
+/// It is ended by `finish` alone, so that no thread is left at work.
+pub struct ParallelSession<G = NoGate> {
+    ahead: Ahead<G>,
+}
+
+impl<G> Model for ParallelSession<G> {
+    ghost use Rattle.lf_verdict.specs.declared.session.intake.Intake.{Intake};
+    ghost use Rattle.lf_verdict.specs.Session.{WasFed};
+    ghost use Rattle.lf_verdict.specs.Ahead.{session_of, IsAhead};
+
+    ghost Value = { Intake };
+
+    ghost view = { λ s. session_of s.ahead };
+
+    ghost invariant = { λ s. WasFed (session_of s.ahead) × IsAhead s.ahead };
+}
+
+impl ParallelSession {
+    /// A session for the shape with so many workers, that was fed nothing.
+    pub fn for_shape(alloc: Global, shape: &Shape, workers: u32) -> ParallelSession
+        requires { IsShape shape.now }
+        ensures shape { result.shape ≡ shape.now }
+        ensures fed { HasFed result [] }
+    {
+        ParallelSession::in_batches(alloc, shape, workers, BATCH, NoGate)
+    }
+}
+
+impl<G: Gate + Sync + Send + Copy + 'static> ParallelSession<G> {
+    /// A session for tests, which see by the gate who judges at once: a thread passes it before it judges a bank
+    /// on the records of a batch. Records are judged once so many are read, 16,384 where nothing is said. No answer
+    /// depends on either.
+    pub fn in_batches(
+        alloc: Global,
+        shape: &Shape,
+        workers: u32,
+        batch: usize,
+        gate: G,
+    ) -> ParallelSession<G>
+        requires { IsShape shape.now }
+        ensures shape { result.shape ≡ shape.now }
+        ensures fed { HasFed result [] }
+    {
+        ParallelSession {
+            ahead: Ahead::new(alloc, shape, workers, batch, gate),
+        }
+    }
+
+    /// Takes the next piece of the trace. It refuses a fault of the format that stands in the bytes so
+    /// far, other than `Truncated`, and out of memory; from then on it answers `Failed`. Where a thread is
+    /// refused, its work is done here.
+    pub fn feed<R: Threads + Sync + Send + Copy + 'static>(
+        &mut self,
+        rt: &R,
+        piece: &[u8],
+    ) -> Result<(), Told<Refusal>>
+        ensures shape { self.new.shape ≡ self.old.shape }
+        ensures fed { (bytes : List ℕ) → HasFed self.old bytes → HasFed self.new (bytes ++ piece.now) }
+        // When it answers what.
+        ensures told { result ≡ stop_told self.old.stop self.new.stop }
+        ensures failed { IsSome self.old.stop → self.new ≡ self.old }
+        ensures fine { OnOk result ((bytes : List ℕ) → HasFed self.old bytes →
+            fault_so_far (bytes ++ piece.now) ≡ None) }
+        ensures fault { IfErr result (λ t. (bytes : List ℕ) → HasFed self.old bytes →
+            IsRefusalSoFar (bytes ++ piece.now) (fault_in t)) }
+    {
+        self.ahead.feed(rt, piece)
+    }
+
+    /// The verdict of the bytes that were fed: that of `check_shape`. After a refused `feed` it is that
+    /// refusal.
+    pub fn finish<R: Threads + Sync>(self, rt: &R) -> Verdict
+        ensures legal { (bytes : List ℕ) → HasFed self bytes → IsLegalYes self.shape bytes result }
+        ensures runless { (bytes : List ℕ) → HasFed self bytes → IsRunlessNo self.shape bytes result }
+        ensures verdict { (bytes : List ℕ) → HasFed self bytes → IsDecided result →
+            IsVerdictOf self.shape 1 bytes result }
+        ensures stopped { IfSome self.stop (λ stop. result ≡ Verdict.Refused (refusal_of stop)) }
+        ensures thread { ¬ (result ≡ Verdict.Refused Refusal.Thread) }
+    {
+        yes_is_legal();
+        no_has_no_run();
+        let ParallelSession { mut ahead } = self;
+        let verdict = ahead.answer(rt);
+        ahead.end();
+        verdict
+    }
+}

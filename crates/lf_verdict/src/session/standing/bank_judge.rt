@@ -1,0 +1,156 @@
+//! A bank, judged while its records come.
+
+ghost use Rattle.std.specs.Prelude.{◌≡◌, ◌<◌, ℕ, List, [], ◌∷◌, ◌++◌, length, IfOk, OnOk};
+ghost use Rattle.lf_rules.specs.declared.shape.Shape.{Shape};
+ghost use Rattle.lf_rules.specs.declared.event.Record.{Record};
+ghost use Rattle.lf_rules.specs.Address.{FlatMemory, flat_memory};
+ghost use Rattle.lf_rules.specs.InRange.{IsShape};
+ghost use Rattle.lf_logs.specs.Reordering.{HasOrdered};
+ghost use Rattle.lf_replay.specs.Bytes.{bank_part};
+ghost use Rattle.lf_replay.specs.Step.{IsForStep};
+ghost use Rattle.lf_verdict.specs.Standing.{IsBankAt, IsBankSettled};
+ghost use Rattle.lf_verdict.specs.inner.Batches.{CanTakeAll, TakesOwn, TakesAll};
+ghost use Rattle.lf_verdict.specs.inner.Turns.{CanSettle, Settles, CanTake, TakesNext};
+
+use crate::broken_part::Part;
+use crate::session::standing::placeholder::no_record;
+use lf_codec::Packed;
+use lf_logs::Reorder;
+use lf_replay::{BankFault, Step};
+use lf_rules::{Memory, NoMemory, Outcome, Record, Shape};
+use std::alloc::Global;
+
+/// A bank, the records that came before their turn, and the first that broke a rule.
+#[derive(Drop)]
+pub struct BankJudge {
+    pub order: Reorder,
+    pub step: Step,
+    pub outcome: Outcome,
+}
+
+impl Part for BankJudge {
+    ghost outcome_of = { λ judge. judge.outcome };
+
+    fn outcome(&self) -> Outcome {
+        self.outcome
+    }
+}
+
+impl BankJudge {
+    pub fn new(
+        alloc: Global,
+        shape: &Shape,
+        memory: &Memory,
+        bank: u8,
+    ) -> Result<BankJudge, NoMemory>
+        requires in_range { IsShape shape.now }
+        requires bank { bank < shape.now.banks }
+        ensures { IfOk result (IsBankSettled shape.now (bank_part shape.now bank (flat_memory memory.now.items)) bank
+            [] []) }
+    {
+        Ok(BankJudge {
+            order: Reorder::new(alloc, bank),
+            step: Step::new(alloc, shape, memory, u32::from(bank))?,
+            outcome: Outcome::Passed,
+        })
+    }
+
+    /// Judges the record whose turn it is, unless an earlier one broke a rule.
+    fn judge(&mut self, item: &Record) -> Result<(), NoMemory>
+        requires { IsForStep self.old.step item.now }
+        ensures order { self.new.order ≡ self.old.order }
+        ensures bank { self.new.step.bank ≡ self.old.step.bank }
+        ensures shape { self.new.step.state.shape ≡ self.old.step.state.shape }
+        ensures judged { (shape : Shape) (memory : FlatMemory) (bank : ℕ) (rs : List Record) →
+            item.now.number ≡ length rs
+            → IsBankAt shape memory bank rs self.old.step self.old.outcome
+            → OnOk result (IsBankAt shape memory bank (rs ++ item.now ∷ []) self.new.step self.new.outcome) }
+    {
+        if let Outcome::Passed = self.outcome {
+            match self.step.apply(item) {
+                Ok(()) => {}
+                Err(BankFault::Rule(rule)) => {
+                    self.outcome = Outcome::Broken(item.number, rule);
+                }
+                Err(BankFault::NoMemory) => return Err(NoMemory),
+            }
+        }
+        Ok(())
+    }
+
+    /// Judges the records whose turn has come.
+    fn settle(&mut self) -> Result<(), NoMemory>
+        requires { CanSettle self.old }
+        ensures { Settles self.old result self.new }
+    {
+        if self.order.is_empty() {
+            return Ok(());
+        }
+        self.settle_waiting()
+    }
+
+    /// Judges those of the waiting records whose turn has come. It is apart from `settle`, since it has
+    /// a place for a record, which costs time where none waits.
+    #[inline(never)]
+    fn settle_waiting(&mut self) -> Result<(), NoMemory>
+        requires { CanSettle self.old }
+        ensures { Settles self.old result self.new }
+    {
+        let mut item = no_record();
+        while self.order.next_into(&mut item) {
+            self.judge(&item)?;
+        }
+        Ok(())
+    }
+
+    /// Keeps a record that came before its turn, or again. It is apart from `take`, since it has a place
+    /// for a record, which costs time where none is kept.
+    #[inline(never)]
+    fn keep(&mut self, item: &Record) -> Result<(), NoMemory>
+        requires { item.now.bank ≡ self.old.order.bank }
+        ensures rest { self.new ≡ record self.old { order = self.new.order } }
+        ensures bank { self.new.order.bank ≡ self.old.order.bank }
+        ensures put { (put : List Record) (gave : List Record) → HasOrdered self.old.order put gave
+            → OnOk result (HasOrdered self.new.order (put ++ item.now ∷ []) gave) }
+    {
+        self.order.put_lent(item)
+    }
+
+    /// Takes a record of the bank, and judges those whose turn has come. One that came before its turn
+    /// is copied.
+    pub fn take(&mut self, item: &Record) -> Result<(), NoMemory>
+        requires { CanTake item.now self.old }
+        ensures { TakesNext item.now self.old result self.new }
+    {
+        if !self.order.pass(item) {
+            return self.keep(item);
+        }
+        self.judge(item)?;
+        self.settle()
+    }
+
+    /// Judges those of the records that are of this bank, in their order.
+    fn take_own(&mut self, bank: usize, records: &Packed) -> Result<(), NoMemory>
+        requires { CanTakeAll bank records.now.records self.old }
+        ensures { TakesOwn bank records.now.records self.old result self.new }
+    {
+        let mut place = no_record();
+        for at in 0..records.len() {
+            if usize::from(records.bank(at)) == bank {
+                self.take(records.lend(at, &mut place))?;
+            }
+        }
+        Ok(())
+    }
+
+    /// Judges the records of a batch. A thread has nobody to tell that memory ran out: then that is the outcome.
+    pub fn take_all(&mut self, bank: usize, records: &Packed)
+        requires { CanTakeAll bank records.now.records self.old }
+        ensures { TakesAll bank records.now.records self.old self.new }
+    {
+        match self.take_own(bank, records) {
+            Ok(()) => {}
+            Err(NoMemory) => self.outcome = Outcome::NoMemory,
+        }
+    }
+}

@@ -1,0 +1,136 @@
+//! The parts of a trace, judged while its records come.
+
+ghost use Rattle.std.specs.Prelude.{◌≡◌, ℕ, List, [], ◌∷◌, ◌++◌, length, IfSome, IfNone, OnOk};
+ghost use Rattle.lf_rules.specs.declared.shape.Shape.{Shape};
+ghost use Rattle.lf_rules.specs.declared.event.Record.{Record};
+ghost use Rattle.lf_rules.specs.Address.{FlatMemory};
+ghost use Rattle.lf_rules.specs.Run.{of_log};
+ghost use Rattle.lf_verdict.specs.Breaking.{IsFaultOfPart, NoneBroke};
+ghost use Rattle.lf_verdict.specs.inner.Noting.{IsBankWhole, EndsInRange};
+ghost use Rattle.lf_verdict.specs.Standing.{IsWatch, IsKnown, StandsAfterAll};
+ghost use Rattle.lf_verdict.specs.inner.Coming.{MayCome, CanStand};
+
+mod bank_judge;
+mod log_entries;
+mod new;
+mod placeholder;
+mod port_judge;
+mod verdict;
+
+use crate::session::breaking::{FirstBreak, PartFault, Upon, Watch};
+pub use bank_judge::BankJudge;
+use lf_history::record_len;
+use lf_rules::{NoMemory, Outcome, Record};
+pub use log_entries::Entries;
+
+/// The entries of the logs so far, with how each port stands, how each bank stands, and whether one of them broke.
+#[derive(Drop)]
+pub struct Standing {
+    pub entries: Entries,
+    pub banks: Vec<BankJudge>,
+    pub watch: Watch,
+}
+
+impl Standing {
+    /// Takes the next record of the trace: keeps its entry, judges it by its port and hands it to its
+    /// bank, which judges it in its turn. Where it is the first upon which a part breaks, that is noted.
+    pub fn take(&mut self, item: &Record) -> Result<(), NoMemory>
+        requires next { CanStand item.now self.old }
+        requires range { EndsInRange self.old.watch item.now }
+        ensures judged { (shape : Shape) (memory : FlatMemory) (records : List Record) → MayCome shape records item.now
+            → StandsAfterAll shape memory records self.old
+            → OnOk result (StandsAfterAll shape memory (records ++ item.now ∷ []) self.new) }
+        ensures watched { (start : ℕ) (shape : Shape) (memory : FlatMemory) (records : List Record) →
+            MayCome shape records item.now
+            → StandsAfterAll shape memory records self.old → IsWatch start shape memory records self.old.watch
+            → OnOk result (IsWatch start shape memory (records ++ item.now ∷ []) self.new.watch) }
+        ensures known { IsKnown self.old.watch → IsKnown self.new.watch }
+    {
+        let at = self.entries.place_of(item);
+        self.judge(item)?;
+        self.note(item, at);
+        Ok(())
+    }
+
+    /// Judges the next record of the trace.
+    fn judge(&mut self, item: &Record) -> Result<(), NoMemory>
+        requires { CanStand item.now self.old }
+        ensures judged { (shape : Shape) (memory : FlatMemory) (records : List Record) → MayCome shape records item.now
+            → StandsAfterAll shape memory records self.old
+            → OnOk result (StandsAfterAll shape memory (records ++ item.now ∷ []) self.new) }
+        ensures watch { self.new.watch ≡ self.old.watch }
+    {
+        self.entries.enter(item)?;
+        let bank = usize::from(item.bank);
+        if bank >= self.banks.len() {
+            return Ok(());
+        }
+        self.banks[bank].take(item)
+    }
+
+    /// A fault of the bank: a rule that it broke, or otherwise a number that came twice.
+    pub fn bank_fault(&self, bank: u8) -> Option<PartFault>
+        ensures some { (shape : Shape) (memory : FlatMemory) (records : List Record) →
+            StandsAfterAll shape memory records self.now
+            → IfSome result (IsFaultOfPart shape memory records) }
+        ensures none { (shape : Shape) (memory : FlatMemory) (records : List Record) →
+            StandsAfterAll shape memory records self.now
+            → IfNone result (IsBankWhole shape memory records bank) }
+    {
+        let at = usize::from(bank);
+        if at >= self.banks.len() {
+            return None;
+        }
+        let judge = &self.banks[at];
+        if let Outcome::Broken(number, rule) = judge.outcome {
+            return Some(PartFault::Bank { bank, number, rule });
+        }
+        match judge.order.double() {
+            Some(k) => Some(PartFault::Double { bank, k }),
+            None => None,
+        }
+    }
+
+    /// What broke upon the record, which came last: its port, or its bank.
+    fn broke_upon(&self, item: &Record) -> Option<PartFault>
+        ensures some { (shape : Shape) (memory : FlatMemory) (records : List Record) →
+            StandsAfterAll shape memory records self.now
+            → IfSome result (IsFaultOfPart shape memory records) }
+        ensures none { (shape : Shape) (memory : FlatMemory) (before : List Record) → NoneBroke shape memory before
+            → StandsAfterAll shape memory (before ++ item.now ∷ []) self.now
+            → IfNone result (NoneBroke shape memory (before ++ item.now ∷ [])) }
+    {
+        match self.entries.port_fault(item.log) {
+            Some(fault) => Some(fault),
+            None => self.bank_fault(item.bank),
+        }
+    }
+
+    /// Notes what broke upon the record, which came last and stands at this place of its log, unless a part broke
+    /// before.
+    fn note(&mut self, item: &Record, at: u32)
+        requires range { EndsInRange self.old.watch item.now }
+        ensures rest { self.new ≡ record self.old { watch = self.new.watch } }
+        ensures watched { (start : ℕ) (shape : Shape) (memory : FlatMemory) (before : List Record) →
+            at ≡ length (of_log item.now.log before)
+            → StandsAfterAll shape memory (before ++ item.now ∷ []) self.old →
+            IsWatch start shape memory before self.old.watch
+            → IsWatch start shape memory (before ++ item.now ∷ []) self.new.watch }
+        ensures known { IsKnown self.old.watch → IsKnown self.new.watch }
+    {
+        let Watch::Whole { next } = self.watch else {
+            return;
+        };
+        match self.broke_upon(item) {
+            Some(fault) => {
+                let (log, offset) = (item.log, next);
+                let upon = Upon { log, at, offset };
+                self.watch = Watch::First(FirstBreak { fault, upon });
+            }
+            None => {
+                let next = next + record_len(item);
+                self.watch = Watch::Whole { next };
+            }
+        }
+    }
+}
