@@ -24,6 +24,11 @@ fixed_bytes_len (events.SecondPrimary block register) = refl
 fixed_bytes_len (events.SecondStall block) = refl
 fixed_bytes_len (events.Fill2 second bytes) = refl
 fixed_bytes_len (events.Evict2 second masks bytes) =
-    omega (arith, length-append (u32_bytes second) (flat_map mask_bytes masks.items), length-u32_bytes second, length-mask_bytes masks.items)
+    omega (
+      arith,
+      length-append (u32_bytes second) (flat_map mask_bytes masks.items),
+      length-u32_bytes second,
+      length-mask_bytes masks.items,
+    )
 fixed_bytes_len events.Fence = refl
 fixed_bytes_len (events.SecondMerge block register) = refl

@@ -8,4 +8,5 @@ use Rattle.lf_history.specs.Touching.{asked}
 -- It has what the latest request of each port and tag asks for, among these records, which stand latest first.
 pub record IsLatest (shape : Shape) (before : List Record) (requests : Requests) : Type 0 where
   pub len : length requests.seconds.items ≡ 65536
-  pub latest : (port tag : ℕ) → port < 256 → tag < 256 → slice_index_or requests.seconds.items (port * 256 + tag) None ≡ asked shape before port tag
+  pub latest : (port tag : ℕ) → port < 256 → tag < 256 → slice_index_or requests.seconds.items (port * 256 + tag) None
+      ≡ asked shape before port tag

@@ -1,5 +1,6 @@
 -- What came before a record.
-use Rattle.std.specs.Prelude.{◌≡◌, ℕ, ◌-◌, Bool, true, false, ◌==◌, List, [], length, take, drop, map, filter, Option, Some, None, slice_get}
+use Rattle.std.specs.Prelude.{◌≡◌, ℕ, ◌-◌, Bool, true, false, ◌==◌, List, [], length, take, drop, map, filter, Option}
+use Rattle.std.specs.Prelude.{Some, None, slice_get}
 use Rattle.lf_rules.specs.declared.event.Record.{Record}
 use Rattle.lf_rules.specs.declared.shape.Shape.{Shape}
 use Rattle.lf_history.specs.declared.history.History.{History}
@@ -33,7 +34,8 @@ touched_by shape before (Some r) = touched shape before r.log r.event
 -- the second-level block that the record of a number of the bank touches
 abbrev pub touched_at : Shape → List Record → ℕ → ℕ → Option ℕ
 touched_at shape rs bank number =
-    touched_by shape (all_before [] rs (places_of_numbers bank rs number)) (record_at rs (place_of_number bank rs number))
+    touched_by shape (all_before [] rs (places_of_numbers bank rs number))
+    (record_at rs (place_of_number bank rs number))
 
 -- The record of a number of the bank, and the last of those with lower numbers that touch its second-level block.
 pub record IsHistoryInBank (shape : Shape) (rs : List Record) (bank number most : ℕ) (history : History) : Type 0 where

@@ -6,7 +6,8 @@ use Rattle.lf_rules.specs.declared.event.Record.{Record}
 -- the places of the records for which this holds, where the first record stands at this place
 abbrev pub places_from : (Record → Bool) → ℕ → List Record → List ℕ
 places_from holds place [] = []
-places_from holds place (r ∷ rs) = if holds r then place ∷ places_from holds (suc place) rs else places_from holds (suc place) rs
+places_from holds place (r ∷ rs) = if holds r then place ∷ places_from holds (suc place) rs else places_from holds
+    (suc place) rs
 
 -- the places of the records of a log
 abbrev pub places_of_log : ℕ → List Record → List ℕ

@@ -16,3 +16,4 @@ pub use bank_order::places_in_order;
 pub use history::{History, history_in_bank, history_in_log};
 pub use lf_rules::NoMemory;
 pub use offsets::{record_len, record_offsets};
+pub use places::record_at;

@@ -1,10 +1,19 @@
 //! The places of records in a trace.
 
-ghost use Rattle.std.specs.Prelude.{◌≡◌, IfOk};
+ghost use Rattle.std.specs.Prelude.{◌≡◌, Some, None, IfOk, MatchOption};
 ghost use Rattle.lf_history.specs.Places.{places_of_log, places_of_numbers};
+ghost use Rattle.lf_history.specs.Touching.{record_at};
 
 use lf_rules::{NoMemory, Record};
 use std::alloc::Global;
+
+/// The record at a place, where there is one.
+pub fn record_at(records: &[Record], place: Option<usize>) -> Option<&Record>
+    ensures { MatchOption result (record_at records.now place ≡ None)
+        (λ item. record_at records.now place ≡ Some item.now) }
+{
+    records.get(place?)
+}
 
 /// The places of the records of a log.
 pub(crate) fn places_of_log(

@@ -63,7 +63,8 @@ impl Requests {
     /// What the latest request of the port with this tag asks for.
     fn asked(&self, port: u8, tag: u8) -> Option<u64>
         requires { length self.now.seconds.items ≡ 65536 }
-        ensures { (shape : Shape) (before : List Record) → IsLatest shape before self.now → result ≡ asked shape before port tag }
+        ensures { (shape : Shape) (before : List Record) → IsLatest shape before self.now →
+            result ≡ asked shape before port tag }
     {
         self.seconds[index_of(port, tag)]
     }
@@ -99,7 +100,8 @@ impl Requests {
         requires len { length self.old.seconds.items ≡ 65536 }
         requires block { 0 < shape.now.block }
         requires factor { 0 < shape.now.factor }
-        ensures { (before : List Record) → IsLatest shape.now before self.old → IsLatest shape.now (item.now ∷ before) self.new }
+        ensures { (before : List Record) → IsLatest shape.now before self.old →
+            IsLatest shape.now (item.now ∷ before) self.new }
     {
         if let Event::Issue { tag, address, .. } = &item.event {
             self.seconds[index_of(item.log, *tag)] = Some(second_at(shape, *address));

@@ -1,8 +1,10 @@
 -- One more block of a port.
-use Rattle.std.proofs.Common.{◌≡◌, ℕ, ◌+◌, ◌<◌, Bool, true, false, cond, eqb, List, [], ◌∷◌, ◌++◌, map, length, get_or, set, take, Option, Some, None, refl, sym, ap, ◌∙◌, ⊎_elim, arith}
+use Rattle.std.proofs.Common.{◌≡◌, ℕ, ◌+◌, ◌<◌, Bool, true, false, cond, eqb, List, [], ◌∷◌, ◌++◌, map, length}
+use Rattle.std.proofs.Common.{get_or, set, take, Option, Some, None, refl, sym, ap, ◌∙◌, ⊎_elim, arith}
 use Rattle.std.specs.List.{filter_map, cons_option}
 use Rattle.std.specs.Global.{Vec}
-use Rattle.std.proofs.lemmas.List.{length-map, map-set, get_or-map, get_or-set_same, get_or-set_other, append-nil, take_more}
+use Rattle.std.proofs.lemmas.List.{length-map, map-set, get_or-map, get_or-set_same, get_or-set_other, append-nil}
+use Rattle.std.proofs.lemmas.List.{take_more}
 use Rattle.std.proofs.lemmas.List.Elements.{filter-append, filter_map-append}
 use Rattle.std.proofs.lemmas.Bool.{cases_eq, eq-eqb, ne_eqb}
 use Rattle.lf_rules.specs.declared.shape.Shape.{Shape}
@@ -32,18 +34,22 @@ issued_push shape port rs r =
     ap (filter_map block) (filter-append (λ (r : Record). eqb r.log port) rs (r ∷ []))
     ∙ filter_map-append block (of_log port rs) (of_log port (r ∷ []))
     ∙ ap (λ xs. issued shape port rs ++ xs)
-    (elim (eqb r.log port) as (λ b. filter_map block (cond b (r ∷ []) []) ≡ cons_option (cond b (block r) None) []) [ true ↦ refl | false ↦ refl ])
+    (elim (eqb r.log port) as (λ b. filter_map block (cond b (r ∷ []) []) ≡ cons_option (cond b (block r) None) [])
+    [ true ↦ refl | false ↦ refl ])
 
 abbrev blocks_at : List (Vec ℕ) → ℕ → List ℕ
 blocks_at vecs port = get_or (map (λ v. v.items) vecs) port []
 
-pub placed : (vecs : List (Vec ℕ)) (i : ℕ) (v w : Vec ℕ) (block : ℕ) → v ≡ get_or vecs i v → w.items ≡ v.items ++ block ∷ []
+pub placed : (vecs : List (Vec ℕ)) (i : ℕ) (v w : Vec ℕ) (block : ℕ) → v ≡ get_or vecs i v →
+    w.items ≡ v.items ++ block ∷ []
     → i < length vecs → (port : ℕ) →
     blocks_at (set vecs i w) port ≡ blocks_at vecs port ++ cons_option (block_if (eqb i port) block) []
 placed vecs i v w block read pushed inside port =
     let changed = map-set (λ (v : Vec ℕ). v.items) vecs i w in
-    let place : i < length (map (λ (v : Vec ℕ). v.items) vecs) = omega (arith, length-map vecs (λ (v : Vec ℕ). v.items)) in
-    let was : blocks_at vecs i ≡ v.items = get_or-map (λ (v : Vec ℕ). v.items) vecs i v [] inside ∙ ap (λ (v : Vec ℕ). v.items) (sym read) in
+    let place : i < length (map (λ (v : Vec ℕ). v.items) vecs) =
+    omega (arith, length-map vecs (λ (v : Vec ℕ). v.items)) in
+    let was : blocks_at vecs i ≡ v.items = get_or-map (λ (v : Vec ℕ). v.items) vecs i v [] inside
+    ∙ ap (λ (v : Vec ℕ). v.items) (sym read) in
     ap (λ xs. get_or xs port []) changed
     ∙ ⊎_elim
     (λ (same : i ≡ port).
@@ -85,10 +91,13 @@ module _ (shape : Shape) (logs : List (List Record)) (places : List Place) (at :
     (inside : at < length places) (is : record_at logs (get_or places at nowhere) ≡ Some r) (port : ℕ) where
   pub issued_more : issued shape port (records_at logs (take (at + 1) places))
       ≡ issued shape port (records_at logs (take at places)) ++ cons_option (issued_by shape port r.log r.event) []
-  issued_more = ap (issued shape port) (records_more logs places at r inside is) ∙ issued_push shape port (records_at logs (take at places)) r
+  issued_more = ap (issued shape port) (records_more logs places at r inside is)
+      ∙ issued_push shape port (records_at logs (take at places)) r
 
-  pub issued_same : ((op : Op) (tag size address : ℕ) (bytes : ArrayVec ℕ) → r.event ≡ Issue op tag size address bytes → ⊥)
-      → issued shape port (records_at logs (take (at + 1) places)) ≡ issued shape port (records_at logs (take at places))
+  pub issued_same : ((op : Op) (tag size address : ℕ) (bytes : ArrayVec ℕ) →
+      r.event ≡ Issue op tag size address bytes → ⊥)
+      → issued shape port (records_at logs (take (at + 1) places))
+      ≡ issued shape port (records_at logs (take at places))
   issued_same never =
       issued_more
       ∙ ap (λ o. issued shape port (records_at logs (take at places)) ++ cons_option o [])
@@ -97,7 +106,9 @@ module _ (shape : Shape) (logs : List (List Record)) (places : List Place) (at :
 
   pub issued_new : (op : Op) (tag size address : ℕ) (bytes : ArrayVec ℕ) → r.event ≡ Issue op tag size address bytes →
       issued shape port (records_at logs (take (at + 1) places))
-      ≡ issued shape port (records_at logs (take at places)) ++ cons_option (block_if (eqb r.log port) (block_of shape address)) []
+      ≡ issued shape port (records_at logs (take at places))
+      ++ cons_option (block_if (eqb r.log port) (block_of shape address)) []
   issued_new op tag size address bytes e =
       issued_more
-      ∙ ap (λ event. issued shape port (records_at logs (take at places)) ++ cons_option (issued_by shape port r.log event) []) e
+      ∙ ap (λ event. issued shape port (records_at logs (take at places))
+      ++ cons_option (issued_by shape port r.log event) []) e

@@ -1,5 +1,6 @@
 -- Lists with the same numbers, each as often.
-use Rattle.std.proofs.Common.{◌≡◌, ℕ, zero, suc, ◌+◌, ◌<◌, ◌≤◌, Bool, true, false, not, ◌||◌, cond, eqb, List, [], ◌∷◌, ◌++◌, length, refl, sym, ap, ◌∙◌, subst, ⊎_elim, arith}
+use Rattle.std.proofs.Common.{◌≡◌, ℕ, zero, suc, ◌+◌, ◌<◌, ◌≤◌, Bool, true, false, not, ◌||◌, cond, eqb, List, []}
+use Rattle.std.proofs.Common.{◌∷◌, ◌++◌, length, refl, sym, ap, ◌∙◌, subst, ⊎_elim, arith}
 use Rattle.std.specs.List.{filter}
 use Rattle.std.proofs.lemmas.Bool.{cases_eq, eq-eqb, ne_eqb}
 use Rattle.std.proofs.lemmas.List.Sums.{sum_by-cons}
@@ -25,14 +26,16 @@ pub among_none : (ns : List ℕ) (n : ℕ) → times n ns ≡ 0 → is_among ns 
 among_none [] n none = refl
 among_none (k ∷ ns) n none = ⊎_elim
     (λ (same : k ≡ n). let here = ap one (eq-eqb k n same) in absurd (omega (arith, times_cons n k ns, here, none)))
-    (λ (other : k ≡ n → ⊥). ap (λ b. b || is_among ns n) (ne_eqb k n other) ∙ among_none ns n (sym (times_other n k ns other) ∙ none))
+    (λ (other : k ≡ n → ⊥). ap (λ b. b || is_among ns n) (ne_eqb k n other)
+    ∙ among_none ns n (sym (times_other n k ns other) ∙ none))
     (cases_eq k n)
 
 pub among_some : (ns : List ℕ) (n : ℕ) → 0 < times n ns → is_among ns n ≡ true
 among_some [] n some = absurd (omega (arith, some))
 among_some (k ∷ ns) n some = ⊎_elim
     (λ (same : k ≡ n). ap (λ b. b || is_among ns n) (eq-eqb k n same))
-    (λ (other : k ≡ n → ⊥). ap (λ b. b || is_among ns n) (ne_eqb k n other) ∙ among_some ns n (subst (λ m. 0 < m) (times_other n k ns other) some))
+    (λ (other : k ≡ n → ⊥). ap (λ b. b || is_among ns n) (ne_eqb k n other)
+    ∙ among_some ns n (subst (λ m. 0 < m) (times_other n k ns other) some))
     (cases_eq k n)
 
 -- one more number is counted where it is not among them
@@ -72,7 +75,8 @@ among_same xs ys n same = ⊎_elim
 pub same_cons : (k : ℕ) (xs ys : List ℕ) → AreSame xs ys → AreSame (k ∷ xs) (k ∷ ys)
 same_cons k xs ys same = record {
   times = λ n. times_cons n k xs ∙ ap (λ m. one (eqb k n) + m) (same.times n) ∙ sym (times_cons n k ys);
-  distinct = ap (λ d. one_more (is_among xs k) d) same.distinct ∙ ap (λ b. one_more b (distinct ys)) (among_same xs ys k (same.times k));
+  distinct = ap (λ d. one_more (is_among xs k) d) same.distinct
+      ∙ ap (λ b. one_more b (distinct ys)) (among_same xs ys k (same.times k));
 }
 
 one_more-swap : (a b : Bool) (n : ℕ) → one_more a (one_more b n) ≡ one_more b (one_more a n)
@@ -84,9 +88,17 @@ same_swap : (j k : ℕ) (ns : List ℕ) → AreSame (j ∷ k ∷ ns) (k ∷ j �
 same_swap j k ns = ⊎_elim
     (λ (same : j ≡ k). subst (λ i. AreSame (j ∷ i ∷ ns) (i ∷ j ∷ ns)) same (same_refl (j ∷ j ∷ ns)))
     (λ (other : j ≡ k → ⊥). record {
-      times = λ n. omega (arith, times_cons n j (k ∷ ns), times_cons n k ns, times_cons n k (j ∷ ns), times_cons n j ns);
+      times = λ n. omega (
+        arith,
+        times_cons n j (k ∷ ns),
+        times_cons n k ns,
+        times_cons n k (j ∷ ns),
+        times_cons n j
+            ns,
+      );
       distinct =
-          ap (λ b. one_more (b || is_among ns j) (one_more (is_among ns k) (distinct ns))) (ne_eqb k j (λ e. other (sym e)))
+          ap (λ b. one_more (b || is_among ns j) (one_more (is_among ns k) (distinct ns)))
+          (ne_eqb k j (λ e. other (sym e)))
           ∙ one_more-swap (is_among ns j) (is_among ns k) (distinct ns)
           ∙ sym (ap (λ b. one_more (b || is_among ns k) (one_more (is_among ns j) (distinct ns))) (ne_eqb j k other));
     })
@@ -113,7 +125,8 @@ same_split block (h ∷ holds) =
     (registers_of (cond b (h ∷ filter (λ g. eqb g.0 block) holds) (filter (λ g. eqb g.0 block) holds))
     ++ registers_of (cond (not b) (h ∷ others_of block holds) (others_of block holds)))) [
       | true ↦ rest
-      | false ↦ same_trans (h.1 ∷ registers_of holds) (h.1 ∷ (mine ++ others)) (mine ++ h.1 ∷ others) rest (same_middle h.1 mine others)
+      | false ↦ same_trans (h.1 ∷ registers_of holds) (h.1 ∷ (mine ++ others)) (mine ++ h.1 ∷ others) rest
+          (same_middle h.1 mine others)
     ]
 
 one_more-le : (b : Bool) (n m : ℕ) → n ≤ m → one_more b n ≤ m + 1
@@ -122,4 +135,5 @@ one_more-le false n m h = omega arith
 
 pub distinct-le-length : (ns : List ℕ) → distinct ns ≤ length ns
 distinct-le-length [] = omega arith
-distinct-le-length (k ∷ ns) = let h = one_more-le (is_among ns k) (distinct ns) (length ns) (distinct-le-length ns) in omega (arith, h)
+distinct-le-length (k ∷ ns) = let h = one_more-le (is_among ns k) (distinct ns) (length ns) (distinct-le-length ns) in
+    omega (arith, h)

@@ -7,7 +7,8 @@ use Rattle.lf_rules.specs.declared.shape.Level.{Level}
 use Rattle.lf_rules.specs.declared.shape.Shape.{Shape}
 use Rattle.lf_rules.specs.declared.event.Record.{Record}
 use Rattle.lf_rules.specs.declared.event.Event.{Event}
-use Rattle.lf_rules.specs.declared.event.Event.TheVariants.{Issue, Reply, Hit, Primary, Merge, Stall, Fill1, SecondPrimary, Fill2, Fence}
+use Rattle.lf_rules.specs.declared.event.Event.TheVariants.{Issue, Reply, Hit, Primary, Merge, Stall, Fill1}
+use Rattle.lf_rules.specs.declared.event.Event.TheVariants.{SecondPrimary, Fill2, Fence}
 use Rattle.lf_rules.specs.Address.{no_bank}
 use Rattle.lf_stats.specs.declared.counts.BankStats.{BankStats}
 use Rattle.lf_stats.specs.Statistics.{bank_stats, unanswered}
@@ -60,11 +61,19 @@ abbrev F1 : ℕ → Record
 F1 block = of_its_bank (Fill1 block no_bytes)
 
 abbrev counts : ℕ → ℕ → ℕ → ℕ → ℕ → BankStats
-counts hits primary merges stalls peak = record { hits = hits; primary = primary; merges = merges; stalls = stalls; peak = peak }
+counts hits primary merges stalls peak = record {
+  hits = hits;
+  primary = primary;
+  merges = merges;
+  stalls =
+      stalls;
+  peak = peak;
+}
 
 -- ---- the worked examples
 
-load_merges_behind_store : bank_stats shape (S 0 0 ∷ P 0 0 ∷ L 1 0 ∷ M 1 0 ∷ SP 0 0 ∷ F2 0 ∷ F1 0 ∷ R 0 ∷ R 1 ∷ []) ≡ counts 0 1 1 0 1
+load_merges_behind_store : bank_stats shape (S 0 0 ∷ P 0 0 ∷ L 1 0 ∷ M 1 0 ∷ SP 0 0 ∷ F2 0 ∷ F1 0 ∷ R 0 ∷ R 1 ∷ [])
+    ≡ counts 0 1 1 0 1
 load_merges_behind_store = refl
 
 load_merges_behind_store_port : unanswered (S 0 0 ∷ L 1 0 ∷ R 0 ∷ R 1 ∷ []) ≡ 0

@@ -1,5 +1,6 @@
 -- What is held when one more register is, and when the holds for a block end.
-use Rattle.std.proofs.Common.{◌≡◌, ℕ, ◌+◌, ◌<◌, Bool, true, false, not, cond, eqb, List, [], ◌∷◌, ◌++◌, Option, None, Some, refl, sym, ap, ◌∙◌, subst, ⊎_elim, arith}
+use Rattle.std.proofs.Common.{◌≡◌, ℕ, ◌+◌, ◌<◌, Bool, true, false, not, cond, eqb, List, [], ◌∷◌, ◌++◌, Option, None}
+use Rattle.std.proofs.Common.{Some, refl, sym, ap, ◌∙◌, subst, ⊎_elim, arith}
 use Rattle.std.specs.List.{filter}
 use Rattle.std.specs.Prelude.{unwrap_or, is_some}
 use Rattle.std.specs.Global.{Vec}
@@ -13,7 +14,8 @@ use Rattle.lf_rules.specs.Numbers.{times}
 use Rattle.lf_stats.specs.declared.held.Times.{Times}
 use Rattle.lf_stats.specs.Standing.{IsCount, AreTimes, registers_of, held_for, items_in}
 use Rattle.lf_stats.specs.Statistics.{distinct}
-use Rattle.lf_stats.proofs.Distinct.{AreSame, times_here, times_other, distinct_new, distinct_again, same_middle, same_split, others_of}
+use Rattle.lf_stats.proofs.Distinct.{AreSame, times_here, times_other, distinct_new, distinct_again, same_middle}
+use Rattle.lf_stats.proofs.Distinct.{same_split, others_of}
 
 -- ---- a count that is kept
 
@@ -38,8 +40,10 @@ at_other k q other = test k q ∙ ne_eqb k q other
 
 -- ---- one more or less of a register, where the counts of the others stay
 
-module _ (register : ℕ) (registers : List ℕ) (before after : ℕ → Option ℕ) (others : (q : ℕ) → (register ≡ q → ⊥) → after q ≡ before q) where
-  pub each_added : ((q : ℕ) → IsCount (before q) (times q registers)) → after register ≡ Some (unwrap_or (before register) 0 + 1)
+module _ (register : ℕ) (registers : List ℕ) (before after : ℕ → Option ℕ)
+    (others : (q : ℕ) → (register ≡ q → ⊥) → after q ≡ before q) where
+  pub each_added : ((q : ℕ) → IsCount (before q) (times q registers)) →
+      after register ≡ Some (unwrap_or (before register) 0 + 1)
       → (q : ℕ) → IsCount (after q) (times q (register ∷ registers))
   each_added told here q = ⊎_elim
       (λ (same : register ≡ q). subst (λ k. IsCount (after k) (times k (register ∷ registers))) same
@@ -66,20 +70,26 @@ count_added register registers None count told is = omega (arith, is, distinct_n
 count_added register registers (Some k) count told is = omega (arith, is, distinct_again registers register told.1)
 
 pub times_same : (kept : Times) (xs ys : List ℕ) → AreSame xs ys → AreTimes kept xs → AreTimes kept ys
-times_same kept xs ys same told = record { each = λ q. subst (IsCount _) (same.times q) (told.each q); count = told.count ∙ same.distinct }
+times_same kept xs ys same told = record {
+  each = λ q. subst (IsCount _) (same.times q) (told.each q);
+  count =
+      told.count ∙ same.distinct;
+}
 
 -- ---- one more hold
 
 pub registers_push : (holds : List (ℕ × ℕ)) (block register : ℕ)
     → AreSame (register ∷ registers_of holds) (registers_of (holds ++ (block, register) ∷ []))
 registers_push holds block register =
-    let pushed : registers_of (holds ++ (block, register) ∷ []) ≡ registers_of holds ++ register ∷ [] = map_push (λ (h : ℕ × ℕ). h.1) holds (block, register) in
+    let pushed : registers_of (holds ++ (block, register) ∷ []) ≡ registers_of holds ++ register ∷ [] =
+    map_push (λ (h : ℕ × ℕ). h.1) holds (block, register) in
     subst (AreSame (register ∷ registers_of holds)) (sym pushed)
     (subst (λ rs. AreSame (register ∷ rs) (registers_of holds ++ register ∷ [])) (append-nil (registers_of holds))
     (same_middle register (registers_of holds) []))
 
 pub held_for_push : (block : ℕ) (holds : List (ℕ × ℕ)) (other register : ℕ)
-    → held_for other (holds ++ (block, register) ∷ []) ≡ cond (eqb block other) (held_for other holds ++ register ∷ []) (held_for other holds)
+    → held_for other (holds ++ (block, register) ∷ []) ≡ cond (eqb block other)
+    (held_for other holds ++ register ∷ []) (held_for other holds)
 held_for_push block holds other register =
     let for_other = λ (h : ℕ × ℕ). eqb h.0 other in
     let before = filter for_other holds in
@@ -99,10 +109,12 @@ kept_if b h holds = cond b (h ∷ holds) holds
 pub held_for_none : (block : ℕ) (holds : List (ℕ × ℕ)) → held_for block (others_of block holds) ≡ []
 held_for_none block [] = refl
 held_for_none block (h ∷ holds) = ⊎_elim
-    (λ (same : h.0 ≡ block). ap (λ b. held_for block (kept_if (not b) h (others_of block holds))) (eq-eqb h.0 block same) ∙ held_for_none block holds)
+    (λ (same : h.0 ≡ block). ap (λ b. held_for block (kept_if (not b) h (others_of block holds)))
+    (eq-eqb h.0 block same) ∙ held_for_none block holds)
     (λ (other : h.0 ≡ block → ⊥).
     ap (λ b. held_for block (kept_if (not b) h (others_of block holds))) (ne_eqb h.0 block other)
-    ∙ ap (λ b. registers_of (kept_if b h (filter (λ g. eqb g.0 block) (others_of block holds)))) (ne_eqb h.0 block other)
+    ∙ ap (λ b. registers_of (kept_if b h (filter (λ g. eqb g.0 block) (others_of block holds))))
+    (ne_eqb h.0 block other)
     ∙ held_for_none block holds)
     (cases_eq h.0 block)
 
@@ -116,10 +128,12 @@ held_for_others block other (h ∷ holds) apart =
     (λ (same : h.0 ≡ block).
     ap (λ b. held_for other (kept_if (not b) h (others_of block holds))) (eq-eqb h.0 block same)
     ∙ rest
-    ∙ sym (ap (λ b. registers_of (kept_if b h (filter for_other holds))) (ne_eqb h.0 other (λ e. apart (sym same ∙ e)))))
+    ∙ sym (ap (λ b. registers_of (kept_if b h (filter for_other holds)))
+    (ne_eqb h.0 other (λ e. apart (sym same ∙ e)))))
     (λ (not_it : h.0 ≡ block → ⊥).
     ap (λ b. held_for other (kept_if (not b) h (others_of block holds))) (ne_eqb h.0 block not_it)
-    ∙ elim (eqb h.0 other) as (λ b. registers_of (kept_if b h (filter for_other (others_of block holds))) ≡ registers_of (kept_if b h (filter for_other holds))) [
+    ∙ elim (eqb h.0 other) as (λ b. registers_of (kept_if b h (filter for_other (others_of block holds)))
+    ≡ registers_of (kept_if b h (filter for_other holds))) [
       | true ↦ ap (λ rs. h.1 ∷ rs) rest
       | false ↦ rest
     ])
@@ -127,9 +141,11 @@ held_for_others block other (h ∷ holds) apart =
 
 pub released : (block : ℕ) (holds : List (ℕ × ℕ)) (before after : ℕ → Option (Vec ℕ))
     → ((q : ℕ) → (block ≡ q → ⊥) → after q ≡ before q) → after block ≡ None
-    → ((q : ℕ) → items_in (before q) ≡ held_for q holds) → (q : ℕ) → items_in (after q) ≡ held_for q (others_of block holds)
+    → ((q : ℕ) → items_in (before q) ≡ held_for q holds) → (q : ℕ) →
+    items_in (after q) ≡ held_for q (others_of block holds)
 released block holds before after others gone told q = ⊎_elim
-    (λ (same : block ≡ q). subst (λ k. items_in (after k) ≡ held_for k (others_of block holds)) same (ap items_in gone ∙ sym (held_for_none block holds)))
+    (λ (same : block ≡ q). subst (λ k. items_in (after k) ≡ held_for k (others_of block holds)) same
+    (ap items_in gone ∙ sym (held_for_none block holds)))
     (λ (other : block ≡ q → ⊥). ap items_in (others q other) ∙ told q ∙ sym (held_for_others block q holds other))
     (cases_eq block q)
 
@@ -138,4 +154,5 @@ pub times_split : (kept : Times) (block : ℕ) (holds : List (ℕ × ℕ)) (mine
     → AreTimes kept (mine ++ registers_of (others_of block holds))
 times_split kept block holds mine is told =
     subst (λ rs. AreTimes kept (rs ++ registers_of (others_of block holds))) (sym is)
-    (times_same kept (registers_of holds) (held_for block holds ++ registers_of (others_of block holds)) (same_split block holds) told)
+    (times_same kept (registers_of holds) (held_for block holds ++ registers_of (others_of block holds))
+    (same_split block holds) told)

@@ -4,6 +4,6 @@ pub mod Orders
 pub mod Blocks
 mod Waits
 pub mod Sizes
-mod Pushed
-mod Lines
+pub mod Pushed
+pub mod Lines
 mod Examples

@@ -1,5 +1,6 @@
 -- One more record of an order, and what is counted of it.
-use Rattle.std.proofs.Common.{◌≡◌, ℕ, zero, suc, ◌+◌, ◌<◌, ◌≤◌, Bool, cond, List, [], ◌∷◌, ◌++◌, map, length, eqb, take, get_or}
+use Rattle.std.proofs.Common.{◌≡◌, ℕ, zero, suc, ◌+◌, ◌<◌, ◌≤◌, Bool, cond, List, [], ◌∷◌, ◌++◌, map, length, eqb}
+use Rattle.std.proofs.Common.{take, get_or}
 use Rattle.std.proofs.Common.{Option, Some, None, IsSome, not, ◌==◌, max, refl, sym, ap, ◌∙◌, subst, arith, add-one}
 use Rattle.std.specs.List.{All, filter_map, cons_option, count_by, slice_get}
 use Rattle.std.proofs.lemmas.Bool.{false≢true}
@@ -27,23 +28,27 @@ cons_first : {Y : Type 0} (o : Option Y) (ys : List Y) → IsSome o → slice_ge
 cons_first None ys h = absurd (false≢true h)
 cons_first (Some y) ys h = refl
 
-cons_later : {Y : Type 0} (o : Option Y) (n : ℕ) (ys : List Y) → IsSome o → slice_get (cons_option o ys) (suc n) ≡ slice_get ys n
+cons_later : {Y : Type 0} (o : Option Y) (n : ℕ) (ys : List Y) → IsSome o →
+    slice_get (cons_option o ys) (suc n) ≡ slice_get ys n
 cons_later None n ys h = absurd (false≢true h)
 cons_later (Some y) n ys h = refl
 
 module _ {X Y : Type 0} (f : X → Option Y) where
   pub length_found : (xs : List X) → All (λ x. IsSome (f x)) xs → length (filter_map f xs) ≡ length xs
   length_found [] all = refl
-  length_found (x ∷ xs) all = cons_length (f x) (filter_map f xs) (all 0 x (omega arith)) ∙ ap suc (length_found xs (λ k d h. all (suc k) d (omega arith)))
+  length_found (x ∷ xs) all = cons_length (f x) (filter_map f xs) (all 0 x (omega arith))
+      ∙ ap suc (length_found xs (λ k d h. all (suc k) d (omega arith)))
 
   pub get_found : (xs : List X) (n : ℕ) (d : X) → All (λ x. IsSome (f x)) xs → n < length xs
       → slice_get (filter_map f xs) n ≡ f (get_or xs n d)
   get_found [] n d all inside = absurd (omega arith)
   get_found (x ∷ xs) zero d all inside = cons_first (f x) (filter_map f xs) (all 0 x (omega arith))
   get_found (x ∷ xs) (suc n) d all inside =
-      cons_later (f x) n (filter_map f xs) (all 0 x (omega arith)) ∙ get_found xs n d (λ k e h. all (suc k) e (omega arith)) (omega arith)
+      cons_later (f x) n (filter_map f xs) (all 0 x (omega arith))
+      ∙ get_found xs n d (λ k e h. all (suc k) e (omega arith)) (omega arith)
 
-pub take_at : {X : Type 0} (xs : List X) (n : ℕ) (x : X) → slice_get xs n ≡ Some x → take (suc n) xs ≡ take n xs ++ x ∷ []
+pub take_at : {X : Type 0} (xs : List X) (n : ℕ) (x : X) → slice_get xs n ≡ Some x →
+    take (suc n) xs ≡ take n xs ++ x ∷ []
 take_at [] n x e = absurd (cc)
 take_at (y ∷ ys) zero x e = let same : y ≡ x = cc in ap (λ z. z ∷ []) same
 take_at (y ∷ ys) (suc n) x e = ap (λ zs. y ∷ zs) (take_at ys n x e)
@@ -52,7 +57,8 @@ take_at (y ∷ ys) (suc n) x e = ap (λ zs. y ∷ zs) (take_at ys n x e)
 
 pub count_at : {X : Type 0} (p : X → Bool) (xs : List X) (n : ℕ) (x : X) → slice_get xs n ≡ Some x
     → count_by p (take (n + 1) xs) ≡ count_by p (take n xs) + cond (p x) 1 0
-count_at p xs n x e = ap (λ m. count_by p (take m xs)) (add-one n) ∙ ap (count_by p) (take_at xs n x e) ∙ sum_by_push (λ x. cond (p x) 1 0) (take n xs) x
+count_at p xs n x e = ap (λ m. count_by p (take m xs)) (add-one n) ∙ ap (count_by p) (take_at xs n x e)
+    ∙ sum_by_push (λ x. cond (p x) 1 0) (take n xs) x
 
 pub count_le : {X : Type 0} (p : X → Bool) (xs : List X) (n : ℕ) → count_by p (take n xs) ≤ n
 count_le p xs n = omega (arith, count_by-le-length p (take n xs), length-take n xs)
@@ -61,16 +67,19 @@ count_le p xs n = omega (arith, count_by-le-length p (take n xs), length-take n 
 
 pub held_at : (shape : Shape) (rs : List Record) (n : ℕ) (r : Record) → slice_get rs n ≡ Some r
     → held shape rs (n + 1) ≡ held_by (next_block shape rs n) r.event (held shape rs n)
-held_at shape rs n r e = ap (held shape rs) (add-one n) ∙ ap (λ o. held_after (next_block shape rs n) o (held shape rs n)) e
+held_at shape rs n r e = ap (held shape rs) (add-one n) ∙ ap
+    (λ o. held_after (next_block shape rs n) o (held shape rs n)) e
 
 pub greatest_at : (f : ℕ → ℕ) (n : ℕ) → greatest f (n + 1) ≡ max (greatest f n) (f n)
 greatest_at f n = ap (greatest f) (add-one n)
 
-hold_le : (next : Option ℕ) (register : ℕ) (holds : List (ℕ × ℕ)) → length (hold next register holds) ≤ suc (length holds)
+hold_le : (next : Option ℕ) (register : ℕ) (holds : List (ℕ × ℕ)) →
+    length (hold next register holds) ≤ suc (length holds)
 hold_le None register holds = omega arith
 hold_le (Some block) register holds = omega (arith, length-append holds ((block, register) ∷ []))
 
-held_by_le : (next : ℕ → Option ℕ) (event : Event) (holds : List (ℕ × ℕ)) → length (held_by next event holds) ≤ suc (length holds)
+held_by_le : (next : ℕ → Option ℕ) (event : Event) (holds : List (ℕ × ℕ)) →
+    length (held_by next event holds) ≤ suc (length holds)
 held_by_le next (Primary port tag register) holds = hold_le (next port) register holds
 held_by_le next (Merge port tag register) holds = hold_le (next port) register holds
 held_by_le next (Fill1 block bytes) holds =
@@ -78,7 +87,8 @@ held_by_le next (Fill1 block bytes) holds =
     omega (arith, length-filter others holds, count_by-le-length others holds)
 held_by_le next _ holds = omega arith
 
-held_after_le : (next : ℕ → Option ℕ) (o : Option Record) (holds : List (ℕ × ℕ)) → length (held_after next o holds) ≤ suc (length holds)
+held_after_le : (next : ℕ → Option ℕ) (o : Option Record) (holds : List (ℕ × ℕ)) →
+    length (held_after next o holds) ≤ suc (length holds)
 held_after_le next None holds = omega arith
 held_after_le next (Some r) holds = held_by_le next r.event holds
 
@@ -89,11 +99,14 @@ held_le shape rs (suc n) =
     omega (arith, step, held_le shape rs n)
 
 -- what is kept tells of one more record, by the blocks that each port issued and how many were accepted
-module _ (shape : Shape) (rs : List Record) (n : ℕ) (r : Record) (here : slice_get rs n ≡ Some r) (blocks : List (Vec ℕ)) (counts : List ℕ) where
-  pub held_next : ((port : ℕ) → port < 256 → get_or (map (λ (v : Vec ℕ). v.items) blocks) port [] ≡ issued shape port rs)
+module _ (shape : Shape) (rs : List Record) (n : ℕ) (r : Record) (here : slice_get rs n ≡ Some r)
+    (blocks : List (Vec ℕ)) (counts : List ℕ) where
+  pub held_next : ((port : ℕ) → port < 256 → get_or (map (λ (v : Vec ℕ). v.items) blocks) port []
+      ≡ issued shape port rs)
       → ((port : ℕ) → port < 256 → get_or counts port 0 ≡ accepted port (take n rs))
       → (before after : Held)
-      → ((next : ℕ → Option ℕ) (holds : List (ℕ × ℕ)) → AreAlike next (next_of blocks counts) → IsHeld before holds → IsHeld after (held_by next r.event holds))
+      → ((next : ℕ → Option ℕ) (holds : List (ℕ × ℕ)) → AreAlike next (next_of blocks counts) → IsHeld before holds →
+      IsHeld after (held_by next r.event holds))
       → IsHeld before (held shape rs n) → IsHeld after (held shape rs (n + 1))
   held_next issues told before after step now =
       let alike : AreAlike (next_block shape rs n) (next_of blocks counts) = record {
@@ -104,12 +117,21 @@ module _ (shape : Shape) (rs : List Record) (n : ℕ) (r : Record) (here : slice
       subst (IsHeld after) (sym (held_at shape rs n r here)) (step (next_block shape rs n) (held shape rs n) alike now)
 
 -- so many registers are held at most
-pub registers_le : (kept : Held) (shape : Shape) (rs : List Record) (n : ℕ) → IsHeld kept (held shape rs n) → btree_map_len kept.times.0 ≤ n
+pub registers_le : (kept : Held) (shape : Shape) (rs : List Record) (n : ℕ) → IsHeld kept (held shape rs n) →
+    btree_map_len kept.times.0 ≤ n
 registers_le kept shape rs n told =
     let holds = held shape rs n in
-    omega (arith, told.times.count, distinct-le-length (registers_of holds), length-map holds (λ h. h.1), held_le shape rs n)
+    omega (
+      arith,
+      told.times.count,
+      distinct-le-length (registers_of holds),
+      length-map holds (λ h. h.1),
+      held_le
+          shape rs n,
+    )
 
-pub named_le : (kept : Held) (shape : Shape) (rs : List Record) (n register : ℕ) → IsHeld kept (held shape rs n) → named kept register ≤ n
+pub named_le : (kept : Held) (shape : Shape) (rs : List Record) (n register : ℕ) → IsHeld kept (held shape rs n) →
+    named kept register ≤ n
 named_le kept shape rs n register told =
     let holds = held shape rs n in
     omega (

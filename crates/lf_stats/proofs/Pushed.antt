@@ -1,5 +1,6 @@
 -- What holds of each element stays when one more comes at the end.
-use Rattle.std.proofs.Common.{◌≡◌, ℕ, zero, suc, ◌+◌, ◌<◌, ◌≤◌, List, [], ◌∷◌, ◌++◌, length, get_or, refl, sym, subst, ⊎_elim, arith}
+use Rattle.std.proofs.Common.{◌≡◌, ℕ, zero, suc, ◌+◌, ◌<◌, ◌≤◌, List, [], ◌∷◌, ◌++◌, length, get_or, refl, sym, subst}
+use Rattle.std.proofs.Common.{⊎_elim, arith}
 use Rattle.std.proofs.lemmas.Bool.{cases_lt}
 
 pub before_push : {X : Type 0} (xs ys : List X) (i : ℕ) (d : X) → i < length xs → get_or (xs ++ ys) i d ≡ get_or xs i d
@@ -19,5 +20,6 @@ each_more P xs x n long before last i d h = ⊎_elim
     (λ (late : length xs ≤ i).
     let here : length xs ≡ i = omega arith in
     let there : n ≡ i = omega arith in
-    subst (P i) (sym (subst (λ k. get_or (xs ++ x ∷ []) k d ≡ x) here (at_push xs x d))) (subst (λ k. P k x) there last))
+    subst (P i) (sym (subst (λ k. get_or (xs ++ x ∷ []) k d ≡ x) here (at_push xs x d)))
+    (subst (λ k. P k x) there last))
     (cases_lt i (length xs))

@@ -1,5 +1,6 @@
 -- Which tags wait after one more record, and how many do.
-use Rattle.std.proofs.Common.{◌≡◌, ℕ, ◌+◌, ◌<◌, ◌≤◌, Bool, false, eqb, cond, List, [], ◌∷◌, map, length, take, set, get_or, refl, sym, ap, ◌∙◌, ⊎_elim, arith}
+use Rattle.std.proofs.Common.{◌≡◌, ℕ, ◌+◌, ◌<◌, ◌≤◌, Bool, false, eqb, cond, List, [], ◌∷◌, map, length, take, set}
+use Rattle.std.proofs.Common.{get_or, refl, sym, ap, ◌∙◌, ⊎_elim, arith}
 use Rattle.std.specs.List.{filter, count_by, range_with_len}
 use Rattle.std.proofs.lemmas.List.{get_or-set_same, get_or-set_other}
 use Rattle.std.proofs.lemmas.List.Sums.{fold_more, length-filter, sum_by-cons, count_by-le-length}
@@ -39,13 +40,15 @@ waits_same tag before _ never none = refl
 count_by-map : {X : Type 0} (f : X → Bool) (xs : List X) → count_by (λ b. b) (map f xs) ≡ count_by f xs
 count_by-map f [] = refl
 count_by-map f (x ∷ xs) =
-    sum_by-cons (λ b. cond b 1 0) (f x) (map f xs) ∙ ap (λ n. cond (f x) 1 0 + n) (count_by-map f xs) ∙ sym (sum_by-cons (λ x. cond (f x) 1 0) x xs)
+    sum_by-cons (λ b. cond b 1 0) (f x) (map f xs) ∙ ap (λ n. cond (f x) 1 0 + n) (count_by-map f xs)
+    ∙ sym (sum_by-cons (λ x. cond (f x) 1 0) x xs)
 
 pub waiting_all : (log : List Record) (ws : List Bool) → length ws ≡ 256
     → ((tag : ℕ) → tag < 256 → get_or ws tag false ≡ waits log tag) → length (filter (λ w. w) ws) ≡ unanswered log
 unfolding unanswered
 waiting_all log ws long are =
-    length-filter (λ w. w) ws ∙ ap (count_by (λ b. b)) (fill_by_all (waits log) ws 256 false long are) ∙ count_by-map (waits log) (range_with_len 0 256)
+    length-filter (λ w. w) ws ∙ ap (count_by (λ b. b)) (fill_by_all (waits log) ws 256 false long are)
+    ∙ count_by-map (waits log) (range_with_len 0 256)
 
 pub waiting_few : (ws : List Bool) → length (filter (λ w. w) ws) ≤ length ws
 waiting_few ws = omega (arith, length-filter (λ (w : Bool). w) ws, count_by-le-length (λ (w : Bool). w) ws)

@@ -17,7 +17,8 @@ AreComplete ports logs = (p : ℕ) → p < ports → IsLowestWaiting (slice_inde
 -- the lowest such tag of the lowest port that has one, where one has
 abbrev pub IsFirstIncomplete : ℕ → List (List Record) → Option Incomplete → Type 0
 IsFirstIncomplete ports logs (Some found) =
-    (found.port < ports) × IsLowestWaiting (slice_index_or logs found.port []) (Some found.tag) × AreComplete found.port logs
+    (found.port < ports) × IsLowestWaiting (slice_index_or logs found.port []) (Some found.tag) ×
+    AreComplete found.port logs
 IsFirstIncomplete ports logs None = AreComplete ports logs
 
 abbrev pub incomplete_text : Incomplete → List ℕ

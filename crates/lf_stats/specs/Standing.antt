@@ -1,5 +1,6 @@
 -- What is kept of the registers that are held.
-use Rattle.std.specs.Prelude.{◌≡◌, ℕ, ◌<◌, ◌==◌, List, [], map, filter, Option, Some, None, unwrap_or, slice_get, slice_index, slice_index_or}
+use Rattle.std.specs.Prelude.{◌≡◌, ℕ, ◌<◌, ◌==◌, List, [], map, filter, Option, Some, None, unwrap_or, slice_get}
+use Rattle.std.specs.Prelude.{slice_index, slice_index_or}
 use Rattle.std.specs.Global.{Vec}
 use Rattle.std.specs.BTreeMap.{BTreeMap, get, btree_map_len}
 use Rattle.std.specs.Ordering.{nat_cmp}
@@ -42,7 +43,8 @@ pub record IsHeld (held : Held) (holds : List (ℕ × ℕ)) : Type 0 where
 
 -- the block that is accepted next of each port
 abbrev pub next_of : List (Vec ℕ) → List ℕ → ℕ → Option ℕ
-next_of issued accepted port = slice_get (slice_index_or (map (λ v. v.items) issued) port []) (slice_index accepted port)
+next_of issued accepted port = slice_get (slice_index_or (map (λ v. v.items) issued) port [])
+    (slice_index accepted port)
 
 -- the two answer alike at each number of a port
 pub record AreAlike (next other : ℕ → Option ℕ) : Type 0 where

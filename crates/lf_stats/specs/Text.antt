@@ -6,7 +6,8 @@ use Rattle.lf_stats.specs.declared.counts.Stats.{Stats}
 
 abbrev pub bank_text : BankStats → List ℕ
 bank_text counts =
-    codes "hits=" ++ decimal counts.hits ++ codes " primary=" ++ decimal counts.primary ++ codes " merges=" ++ decimal counts.merges
+    codes "hits=" ++ decimal counts.hits ++ codes " primary=" ++ decimal counts.primary ++ codes " merges="
+    ++ decimal counts.merges
     ++ codes " stalls=" ++ decimal counts.stalls ++ codes " peak=" ++ decimal counts.peak
 
 -- each line ends with a newline

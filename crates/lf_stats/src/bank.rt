@@ -23,7 +23,8 @@ fn hold(
 ) -> Result<(), NoMemory>
     requires issued { length issued.now ≡ 256 }
     requires few { (register : ℕ) → named held.old register < 2 ^ 29 }
-    ensures { OnOk result ((next : ℕ → Option ℕ) (holds : List (ℕ × ℕ)) → AreAlike next (next_of issued.now accepted.now.counts)
+    ensures { OnOk result ((next : ℕ → Option ℕ) (holds : List (ℕ × ℕ)) →
+        AreAlike next (next_of issued.now accepted.now.counts)
         → IsHeld held.old holds → IsHeld held.new (held_by next event.now holds)) }
 {
     match event {

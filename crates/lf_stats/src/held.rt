@@ -1,6 +1,7 @@
 //! Which registers are held.
 
-ghost use Rattle.std.specs.Prelude.{◌≡◌, ℕ, ◌+◌, ◌<◌, ◌^◌, List, [], ◌∷◌, ◌++◌, not, ◌==◌, filter, Some, unwrap_or, OnOk, if◌then◌else◌};
+ghost use Rattle.std.specs.Prelude.{◌≡◌, ℕ, ◌+◌, ◌<◌, ◌^◌, List, [], ◌∷◌, ◌++◌, not, ◌==◌, filter, Some, unwrap_or};
+ghost use Rattle.std.specs.Prelude.{OnOk, if◌then◌else◌};
 ghost use Rattle.std.specs.BTreeMap.{get, btree_map_len};
 ghost use Rattle.std.specs.Ordering.{nat_cmp};
 ghost use Rattle.lf_stats.specs.Standing.{AreTimes, items_at};
@@ -18,7 +19,8 @@ impl Times {
     /// The register is named once more.
     fn add(&mut self, register: u16) -> Result<(), NoMemory>
         requires few { unwrap_or (get nat_cmp self.old.0 register) 0 < 2 ^ 29 }
-        ensures { OnOk result ((registers : List ℕ) → AreTimes self.old registers → AreTimes self.new (register ∷ registers)) }
+        ensures { OnOk result ((registers : List ℕ) → AreTimes self.old registers →
+            AreTimes self.new (register ∷ registers)) }
     {
         let times = self.0.get(&register).copied().unwrap_or(0);
         let _ = self.0.insert(register, times + 1)?;
@@ -91,7 +93,8 @@ impl Held {
     /// Holds the register for the block.
     pub fn hold(&mut self, alloc: Global, block: u64, register: u16) -> Result<(), NoMemory>
         requires few { named self.old register < 2 ^ 29 }
-        ensures { OnOk result ((holds : List (ℕ × ℕ)) → IsHeld self.old holds → IsHeld self.new (holds ++ (block, register) ∷ [])) }
+        ensures { OnOk result ((holds : List (ℕ × ℕ)) → IsHeld self.old holds →
+            IsHeld self.new (holds ++ (block, register) ∷ [])) }
     {
         push_at(&mut self.by_block, alloc, block, register)?;
         self.times.add(register)?;
@@ -100,7 +103,8 @@ impl Held {
 
     /// Ends all holds for the block.
     pub fn release(&mut self, block: u64)
-        ensures { (holds : List (ℕ × ℕ)) → IsHeld self.old holds → IsHeld self.new (filter (λ h. not (h.0 == block)) holds) }
+        ensures { (holds : List (ℕ × ℕ)) → IsHeld self.old holds →
+            IsHeld self.new (filter (λ h. not (h.0 == block)) holds) }
     {
         if let Some(registers) = self.by_block.remove(&block) {
             self.times.take_all(registers.as_slice());

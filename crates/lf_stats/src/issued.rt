@@ -1,6 +1,7 @@
 //! The blocks of the requests of each port at a bank.
 
-ghost use Rattle.std.specs.Prelude.{◌≡◌, ◌+◌, ◌<◌, ◌^◌, ℕ, [], length, All, IfOk, IsSome, slice_index, slice_index_or, if◌then◌else◌};
+ghost use Rattle.std.specs.Prelude.{◌≡◌, ◌+◌, ◌<◌, ◌^◌, ℕ, [], length, All, IfOk, IsSome, slice_index};
+ghost use Rattle.std.specs.Prelude.{slice_index_or, if◌then◌else◌};
 ghost use Rattle.lf_rules.specs.Lists.{lists_of};
 ghost use Rattle.lf_logs.specs.Places.{record_at, records_at};
 ghost use Rattle.lf_stats.specs.Standing.{next_of};
@@ -75,7 +76,8 @@ impl Accepted {
     /// Counts the event.
     pub fn count(&mut self, event: &Event)
         requires { (port : ℕ) → port < 256 → slice_index self.old.counts port < 2 ^ 29 }
-        ensures { (port : ℕ) → port < 256 → slice_index self.new.counts port ≡ slice_index self.old.counts port + (if accepts port event.now then 1 else 0) }
+        ensures { (port : ℕ) → port < 256 → slice_index self.new.counts port ≡ slice_index self.old.counts port
+            + (if accepts port event.now then 1 else 0) }
     {
         match event {
             Event::Hit { port, .. } | Event::Primary { port, .. } | Event::Merge { port, .. } => {

@@ -17,9 +17,12 @@ returns c =
     let count = c.args.count in
     let Are = λ (places : Vec (Option ℕ)). places.items ≡ places_of_numbers bank rs count in
     record {
-      records = if_ok Are (λ places. records_at rs places.items ≡ in_order bank rs count) c.places_of_numbers.result (λ places e. ap (records_at rs) e)
+      records = if_ok Are (λ places. records_at rs places.items ≡ in_order bank rs count) c.places_of_numbers.result
+          (λ places e. ap (records_at rs) e)
           c.places_of_numbers.ensures;
-      named = if_ok Are (λ places. AllByRecursion (λ r. r.bank ≡ bank) (records_at rs places.items)) c.places_of_numbers.result
-          (λ places e. subst (λ (ps : List (Option ℕ)). AllByRecursion (λ r. r.bank ≡ bank) (records_at rs ps)) (sym e) (in_order_named bank rs count))
+      named = if_ok Are (λ places. AllByRecursion (λ r. r.bank ≡ bank) (records_at rs places.items))
+          c.places_of_numbers.result
+          (λ places e. subst (λ (ps : List (Option ℕ)). AllByRecursion (λ r. r.bank ≡ bank) (records_at rs ps))
+          (sym e) (in_order_named bank rs count))
           c.places_of_numbers.ensures;
     }

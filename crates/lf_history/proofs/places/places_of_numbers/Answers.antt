@@ -15,4 +15,5 @@ returns c =
     ext_get_or None items _ (len ∙ sym (length-map-range_with_len (place_of_number bank rs) 0 c.args.count))
     (λ k lt. c.loop-place.invariant.found k (omega (arith, len))
     ∙ ap (λ (n : ℕ). slice_get (places_from (is_numbered bank k) n (drop n rs)) 0) none
-    ∙ sym (get_or-map-range_with_len (place_of_number bank rs) 0 c.args.count k k None (omega (arith, len)) (omega arith)))
+    ∙ sym (get_or-map-range_with_len (place_of_number bank rs) 0 c.args.count k k None (omega (arith, len))
+    (omega arith)))

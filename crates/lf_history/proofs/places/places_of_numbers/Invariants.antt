@@ -7,7 +7,8 @@ abbrev pub invariant-loop-place : goal.invariant-loop-place
 invariant-loop-place l = record {
   inside : l.place ≤ length l.records;
   len : length l.places.items ≡ l.count;
-  found : (k : ℕ) → k < l.count → get_or l.places.items k None ≡ slice_get (places_from (is_numbered l.bank k) l.place (drop l.place l.records)) 0;
+  found : (k : ℕ) → k < l.count → get_or l.places.items k None
+      ≡ slice_get (places_from (is_numbered l.bank k) l.place (drop l.place l.records)) 0;
 }
 
 abbrev pub decreases-loop-place : goal.decreases-loop-place

@@ -1,4 +1,5 @@
-use Rattle.std.proofs.Common.{◌≡◌, ◌+◌, List, [], ◌∷◌, ◌++◌, Option, ℕ, Some, None, drop, ◌<◌, ◌≤◌, length, rules, refl, arith, sym, ap, ◌∙◌, append_assoc}
+use Rattle.std.proofs.Common.{◌≡◌, ◌+◌, List, [], ◌∷◌, ◌++◌, Option, ℕ, Some, None, drop, ◌<◌, ◌≤◌, length, rules}
+use Rattle.std.proofs.Common.{refl, arith, sym, ap, ◌∙◌, append_assoc}
 use Rattle.std.proofs.lemmas.List.{drop_more}
 use Rattle.std.proofs.lemmas.Option.{slice_get_past, slice_get_read}
 use Rattle.lf_history.specs.declared.touching.Touch.{Touch}
@@ -15,14 +16,17 @@ loop-at-preserved-in_default-get c =
     let past : length rs ≤ c.in-Some.place = search rules in
     let none = slice_get_past rs c.in-Some.place past in
     let here : drop c.loop-at.at-index c.args.places.now ≡ Some c.in-Some.place ∷ next =
-    drop_more c.args.places.now c.loop-at.at-index None (omega (arith, c.loop-at-test.true)) ∙ ap (λ (at : Option ℕ). at ∷ next) c.in-Some.is in
+    drop_more c.args.places.now c.loop-at.at-index None (omega (arith, c.loop-at-test.true))
+    ∙ ap (λ (at : Option ℕ). at ∷ next) c.in-Some.is in
     record {
       before = before;
       latest = c.loop-at.invariant.latest;
       found =
-          ap (λ (xs : List Touch). c.loop-at.found.items ++ xs) (sym (ap (touches shape before rs) here ∙ touches_none shape before rs c.in-Some.place next none))
+          ap (λ (xs : List Touch). c.loop-at.found.items ++ xs)
+          (sym (ap (touches shape before rs) here ∙ touches_none shape before rs c.in-Some.place next none))
           ∙ c.loop-at.invariant.found;
-      rest = sym (ap (all_before before rs) here ∙ all_before_none before rs c.in-Some.place next none) ∙ c.loop-at.invariant.rest;
+      rest = sym (ap (all_before before rs) here ∙ all_before_none before rs c.in-Some.place next none)
+          ∙ c.loop-at.invariant.rest;
     }
 
 pub loop-at-preserved : goal.loop-at-preserved
@@ -35,17 +39,23 @@ loop-at-preserved c =
     let inside : c.in-Some.place < length rs = search rules in
     let item = slice_get_read rs (length rs) c.in-Some.place r refl inside c.in-Some-get.ensures.lookup.1 in
     let here : drop c.loop-at.at-index c.args.places.now ≡ Some c.in-Some.place ∷ next =
-    drop_more c.args.places.now c.loop-at.at-index None (omega (arith, c.loop-at-test.true)) ∙ ap (λ (at : Option ℕ). at ∷ next) c.in-Some.is in
-    let pushed : c.push.new.self.items ≡ c.loop-at.found.items ++ record { place = c.in-Some.place; second = c.touched.result } ∷ [] = c.in_ok-push.ensures.items in
+    drop_more c.args.places.now c.loop-at.at-index None (omega (arith, c.loop-at-test.true))
+    ∙ ap (λ (at : Option ℕ). at ∷ next) c.in-Some.is in
+    let pushed : c.push.new.self.items ≡ c.loop-at.found.items
+    ++ record { place = c.in-Some.place; second = c.touched.result } ∷ [] = c.in_ok-push.ensures.items in
     record {
       before = r ∷ before;
       latest = c.note.ensures before c.loop-at.invariant.latest;
       found =
           ap (λ (xs : List Touch). xs ++ touches shape (r ∷ before) rs next) pushed
-          ∙ append_assoc c.loop-at.found.items (record { place = c.in-Some.place; second = c.touched.result } ∷ []) (touches shape (r ∷ before) rs next)
-          ∙ ap (λ (second : Option ℕ). c.loop-at.found.items ++ record { place = c.in-Some.place; second = second } ∷ touches shape (r ∷ before) rs next)
+          ∙ append_assoc c.loop-at.found.items (record { place = c.in-Some.place; second = c.touched.result } ∷ [])
+          (touches shape (r ∷ before) rs next)
+          ∙ ap (λ (second : Option ℕ). c.loop-at.found.items ++ record { place = c.in-Some.place; second = second }
+          ∷ touches shape (r ∷ before) rs next)
           (c.touched.ensures before c.loop-at.invariant.latest)
-          ∙ ap (λ (xs : List Touch). c.loop-at.found.items ++ xs) (sym (ap (touches shape before rs) here ∙ touches_some shape before rs c.in-Some.place r next item))
+          ∙ ap (λ (xs : List Touch). c.loop-at.found.items ++ xs)
+          (sym (ap (touches shape before rs) here ∙ touches_some shape before rs c.in-Some.place r next item))
           ∙ c.loop-at.invariant.found;
-      rest = sym (ap (all_before before rs) here ∙ all_before_some before rs c.in-Some.place r next item) ∙ c.loop-at.invariant.rest;
+      rest = sym (ap (all_before before rs) here ∙ all_before_some before rs c.in-Some.place r next item)
+          ∙ c.loop-at.invariant.rest;
     }

@@ -1,4 +1,5 @@
-use Rattle.std.proofs.Common.{◌≡◌, ℕ, ◌+◌, ◌<◌, List, [], Some, cond, max, Bool, map, length, take, get_or, sym, ap, ◌∙◌, arith}
+use Rattle.std.proofs.Common.{◌≡◌, ℕ, ◌+◌, ◌<◌, List, [], Some, cond, max, Bool, map, length, take, get_or, sym, ap}
+use Rattle.std.proofs.Common.{◌∙◌, arith}
 use Rattle.std.specs.List.{slice_get}
 use Rattle.std.specs.Global.{Vec}
 use Rattle.std.proofs.lemmas.List.{take_all}
@@ -6,9 +7,11 @@ use Rattle.lf_rules.specs.declared.event.Event.{Event}
 use Rattle.lf_rules.specs.declared.event.Record.{Record}
 use Rattle.lf_rules.specs.Lists.{lists_of}
 use Rattle.lf_logs.specs.Places.{record_at, records_at}
-use Rattle.lf_stats.specs.Statistics.{accepts, held, held_count, greatest, kinds, is_hit, is_primary, is_merge, is_stall}
+use Rattle.lf_stats.specs.Statistics.{accepts, held, held_count, greatest, kinds, is_hit, is_primary, is_merge}
+use Rattle.lf_stats.specs.Statistics.{is_stall}
 use Rattle.lf_stats.proofs.Blocks.{nowhere}
-use Rattle.lf_stats.proofs.Orders.{length_found, get_found, count_at, count_le, greatest_at, held_next, named_le, registers_le}
+use Rattle.lf_stats.proofs.Orders.{length_found, get_found, count_at, count_le, greatest_at, held_next, named_le}
+use Rattle.lf_stats.proofs.Orders.{registers_le}
 use Rattle.lf_stats.proofs.bank.bank_stats.Goals as goal
 
 abbrev lists_in : List (Vec ℕ) → List (List ℕ)
@@ -17,12 +20,21 @@ lists_in vecs = map (λ v. v.items) vecs
 pub hold-requires-clause-few : goal.hold-requires-clause-few
 hold-requires-clause-few c register =
     let rs = records_at (lists_of c.args.logs.now) c.args.places.now in
-    omega (arith, named_le c.loop-place.held c.args.shape.now rs c.loop-place.place-index register c.loop-place.invariant.held)
+    omega (
+      arith,
+      named_le c.loop-place.held c.args.shape.now rs c.loop-place.place-index register
+          c.loop-place.invariant.held,
+    )
 
 pub count-requires : goal.count-requires
 count-requires c port h =
     let rs = records_at (lists_of c.args.logs.now) c.args.places.now in
-    omega (arith, c.loop-place.invariant.accepted port h, count_le (λ r. accepts port r.event) rs c.loop-place.place-index)
+    omega (
+      arith,
+      c.loop-place.invariant.accepted port h,
+      count_le (λ r. accepts port r.event) rs
+          c.loop-place.place-index,
+    )
 
 pub distinct-requires : goal.distinct-requires
 distinct-requires c =
@@ -31,10 +43,13 @@ distinct-requires c =
     let n = c.loop-place.place-index in
     let item = c.record_at.result.now in
     let at_rs : slice_get rs n ≡ Some item =
-    get_found (record_at (lists_of c.args.logs.now)) c.args.places.now n nowhere c.requires.named c.loop-place-test.true ∙ c.record_at.ensures in
+    get_found (record_at (lists_of c.args.logs.now)) c.args.places.now n nowhere c.requires.named
+    c.loop-place-test.true ∙ c.record_at.ensures in
     let issues = λ (port : ℕ) (h : port < 256).
-    ap (λ (v : List (Vec ℕ)). get_or (lists_in v) port []) c.as_slice.ensures.value ∙ c.in_ok-issued.ensures.issued port h in
-    let now = held_next shape rs n item at_rs c.as_slice.result.now c.loop-place.accepted.counts issues c.loop-place.invariant.accepted
+    ap (λ (v : List (Vec ℕ)). get_or (lists_in v) port []) c.as_slice.ensures.value
+    ∙ c.in_ok-issued.ensures.issued port h in
+    let now = held_next shape rs n item at_rs c.as_slice.result.now c.loop-place.accepted.counts issues
+    c.loop-place.invariant.accepted
     c.loop-place.held c.hold.new.held c.in_ok-hold.ensures c.loop-place.invariant.held in
     record { few = omega (arith, registers_le c.hold.new.held shape rs (n + 1) now) }
 
@@ -45,10 +60,13 @@ loop-place-preserved c =
     let n = c.loop-place.place-index in
     let item = c.record_at.result.now in
     let at_rs : slice_get rs n ≡ Some item =
-    get_found (record_at (lists_of c.args.logs.now)) c.args.places.now n nowhere c.requires.named c.loop-place-test.true ∙ c.record_at.ensures in
+    get_found (record_at (lists_of c.args.logs.now)) c.args.places.now n nowhere c.requires.named
+    c.loop-place-test.true ∙ c.record_at.ensures in
     let issues = λ (port : ℕ) (h : port < 256).
-    ap (λ (v : List (Vec ℕ)). get_or (lists_in v) port []) c.as_slice.ensures.value ∙ c.in_ok-issued.ensures.issued port h in
-    let now = held_next shape rs n item at_rs c.as_slice.result.now c.loop-place.accepted.counts issues c.loop-place.invariant.accepted
+    ap (λ (v : List (Vec ℕ)). get_or (lists_in v) port []) c.as_slice.ensures.value
+    ∙ c.in_ok-issued.ensures.issued port h in
+    let now = held_next shape rs n item at_rs c.as_slice.result.now c.loop-place.accepted.counts issues
+    c.loop-place.invariant.accepted
     c.loop-place.held c.hold.new.held c.in_ok-hold.ensures c.loop-place.invariant.held in
     let one_more = λ (kind : Event → Bool). sym (count_at (λ (r : Record). kind r.event) rs n item at_rs) in
     let counted = c.count-in-loop-place.ensures in
@@ -59,9 +77,12 @@ loop-place-preserved c =
           ∙ one_more (accepts port);
       held = now;
       hits = counted.hits ∙ ap (λ k. k + cond (is_hit item.event) 1 0) c.loop-place.invariant.hits ∙ one_more is_hit;
-      primary = counted.primary ∙ ap (λ k. k + cond (is_primary item.event) 1 0) c.loop-place.invariant.primary ∙ one_more is_primary;
-      merges = counted.merges ∙ ap (λ k. k + cond (is_merge item.event) 1 0) c.loop-place.invariant.merges ∙ one_more is_merge;
-      stalls = counted.stalls ∙ ap (λ k. k + cond (is_stall item.event) 1 0) c.loop-place.invariant.stalls ∙ one_more is_stall;
+      primary = counted.primary ∙ ap (λ k. k + cond (is_primary item.event) 1 0) c.loop-place.invariant.primary
+          ∙ one_more is_primary;
+      merges = counted.merges ∙ ap (λ k. k + cond (is_merge item.event) 1 0) c.loop-place.invariant.merges
+          ∙ one_more is_merge;
+      stalls = counted.stalls ∙ ap (λ k. k + cond (is_stall item.event) 1 0) c.loop-place.invariant.stalls
+          ∙ one_more is_stall;
       peak =
           c.max.ensures
           ∙ ap (λ k. max k c.distinct.result) (counted.peak ∙ c.loop-place.invariant.peak)
@@ -74,7 +95,8 @@ returns c =
     let shape = c.args.shape.now in
     let rs : List Record = records_at (lists_of c.args.logs.now) c.args.places.now in
     let n = c.loop-place.place-index in
-    let long : length rs ≡ length c.args.places.now = length_found (record_at (lists_of c.args.logs.now)) c.args.places.now c.requires.named in
+    let long : length rs ≡ length c.args.places.now = length_found (record_at (lists_of c.args.logs.now))
+    c.args.places.now c.requires.named in
     let here : n ≡ length rs = omega (arith, c.loop-place-test.false, long) in
     let all : take n rs ≡ rs = take_all n rs (omega arith) in
     λ i. record {

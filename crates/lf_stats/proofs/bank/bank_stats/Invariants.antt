@@ -2,7 +2,8 @@ use Rattle.std.proofs.Common.{◌≡◌, ◌+◌, ℕ, ◌<◌, take, get_or}
 use Rattle.lf_rules.specs.Lists.{lists_of}
 use Rattle.lf_logs.specs.Places.{records_at}
 use Rattle.lf_stats.specs.Standing.{IsHeld}
-use Rattle.lf_stats.specs.Statistics.{accepted, held, held_count, greatest, kinds, is_hit, is_primary, is_merge, is_stall}
+use Rattle.lf_stats.specs.Statistics.{accepted, held, held_count, greatest, kinds, is_hit, is_primary, is_merge}
+use Rattle.lf_stats.specs.Statistics.{is_stall}
 use Rattle.lf_stats.proofs.bank.bank_stats.Given as goal
 
 abbrev pub invariant-loop-place : goal.invariant-loop-place

@@ -1,4 +1,5 @@
-use Rattle.std.proofs.Common.{◌≡◌, ℕ, ◌+◌, ◌<◌, List, [], ◌∷◌, ◌++◌, Some, cond, map, length, get_or, sym, ap, ◌∙◌, arith}
+use Rattle.std.proofs.Common.{◌≡◌, ℕ, ◌+◌, ◌<◌, List, [], ◌∷◌, ◌++◌, Some, cond, map, length, get_or, sym, ap, ◌∙◌}
+use Rattle.std.proofs.Common.{arith}
 use Rattle.std.specs.List.{slice_get, range_with_len}
 use Rattle.std.specs.Global.{Vec}
 use Rattle.std.proofs.lemmas.List.FromFn.{map-range_with_len_more}
@@ -16,12 +17,21 @@ lists_in vecs = map (λ v. v.items) vecs
 pub hold-requires-clause-few : goal.hold-requires-clause-few
 hold-requires-clause-few c register =
     let rs = records_at (lists_of c.args.logs.now) c.args.places.now in
-    omega (arith, named_le c.loop-place.held c.args.shape.now rs c.loop-place.place-index register c.loop-place.invariant.held)
+    omega (
+      arith,
+      named_le c.loop-place.held c.args.shape.now rs c.loop-place.place-index register
+          c.loop-place.invariant.held,
+    )
 
 pub count-requires : goal.count-requires
 count-requires c port h =
     let rs = records_at (lists_of c.args.logs.now) c.args.places.now in
-    omega (arith, c.loop-place.invariant.accepted port h, count_le (λ r. accepts port r.event) rs c.loop-place.place-index)
+    omega (
+      arith,
+      c.loop-place.invariant.accepted port h,
+      count_le (λ r. accepts port r.event) rs
+          c.loop-place.place-index,
+    )
 
 pub distinct-requires : goal.distinct-requires
 distinct-requires c =
@@ -30,10 +40,13 @@ distinct-requires c =
     let n = c.loop-place.place-index in
     let item = c.record_at.result.now in
     let at_rs : slice_get rs n ≡ Some item =
-    get_found (record_at (lists_of c.args.logs.now)) c.args.places.now n nowhere c.requires.named c.loop-place-test.true ∙ c.record_at.ensures in
+    get_found (record_at (lists_of c.args.logs.now)) c.args.places.now n nowhere c.requires.named
+    c.loop-place-test.true ∙ c.record_at.ensures in
     let issues = λ (port : ℕ) (h : port < 256).
-    ap (λ (v : List (Vec ℕ)). get_or (lists_in v) port []) c.as_slice.ensures.value ∙ c.in_ok-issued.ensures.issued port h in
-    let now = held_next shape rs n item at_rs c.as_slice.result.now c.loop-place.accepted.counts issues c.loop-place.invariant.accepted
+    ap (λ (v : List (Vec ℕ)). get_or (lists_in v) port []) c.as_slice.ensures.value
+    ∙ c.in_ok-issued.ensures.issued port h in
+    let now = held_next shape rs n item at_rs c.as_slice.result.now c.loop-place.accepted.counts issues
+    c.loop-place.invariant.accepted
     c.loop-place.held c.hold.new.held c.in_ok-hold.ensures c.loop-place.invariant.held in
     record { few = omega (arith, registers_le c.hold.new.held shape rs (n + 1) now) }
 
@@ -44,10 +57,13 @@ loop-place-preserved c =
     let n = c.loop-place.place-index in
     let item = c.record_at.result.now in
     let at_rs : slice_get rs n ≡ Some item =
-    get_found (record_at (lists_of c.args.logs.now)) c.args.places.now n nowhere c.requires.named c.loop-place-test.true ∙ c.record_at.ensures in
+    get_found (record_at (lists_of c.args.logs.now)) c.args.places.now n nowhere c.requires.named
+    c.loop-place-test.true ∙ c.record_at.ensures in
     let issues = λ (port : ℕ) (h : port < 256).
-    ap (λ (v : List (Vec ℕ)). get_or (lists_in v) port []) c.as_slice.ensures.value ∙ c.in_ok-issued.ensures.issued port h in
-    let now = held_next shape rs n item at_rs c.as_slice.result.now c.loop-place.accepted.counts issues c.loop-place.invariant.accepted
+    ap (λ (v : List (Vec ℕ)). get_or (lists_in v) port []) c.as_slice.ensures.value
+    ∙ c.in_ok-issued.ensures.issued port h in
+    let now = held_next shape rs n item at_rs c.as_slice.result.now c.loop-place.accepted.counts issues
+    c.loop-place.invariant.accepted
     c.loop-place.held c.hold.new.held c.in_ok-hold.ensures c.loop-place.invariant.held in
     let count : c.distinct.result ≡ held_count shape rs (n + 1) = c.distinct.ensures (held shape rs (n + 1)) now in
     record {
@@ -68,6 +84,7 @@ returns c =
     let shape = c.args.shape.now in
     let rs : List Record = records_at (lists_of c.args.logs.now) c.args.places.now in
     let n = c.loop-place.place-index in
-    let long : length rs ≡ length c.args.places.now = length_found (record_at (lists_of c.args.logs.now)) c.args.places.now c.requires.named in
+    let long : length rs ≡ length c.args.places.now = length_found (record_at (lists_of c.args.logs.now))
+    c.args.places.now c.requires.named in
     let here : n ≡ length rs = omega (arith, c.loop-place-test.false, long) in
     c.loop-place.invariant.counts ∙ ap (λ k. map (held_count shape rs) (range_with_len 0 (k + 1))) here

@@ -6,5 +6,6 @@ use Rattle.lf_stats.proofs.bank.hold.Goals as goal
 
 pub returns-in-Fill1 : goal.returns-in-Fill1
 returns-in-Fill1 c next holds alike told =
-    let ended = subst (λ block. IsHeld c.release.new.self (filter (λ h. not (h.0 == block)) holds)) c.from.ensures (c.release.ensures holds told) in
+    let ended = subst (λ block. IsHeld c.release.new.self (filter (λ h. not (h.0 == block)) holds)) c.from.ensures
+    (c.release.ensures holds told) in
     subst (λ event. IsHeld c.release.new.self (held_by next event holds)) (sym c.in-Fill1.is) ended

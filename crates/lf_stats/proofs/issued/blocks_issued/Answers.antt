@@ -1,4 +1,5 @@
-use Rattle.std.proofs.Common.{◌≡◌, ℕ, ◌/◌, List, [], ◌∷◌, ◌++◌, map, length, take, set, get_or, eqb, sym, ap, ◌∙◌, arith}
+use Rattle.std.proofs.Common.{◌≡◌, ℕ, ◌/◌, List, [], ◌∷◌, ◌++◌, map, length, take, set, get_or, eqb, sym, ap, ◌∙◌}
+use Rattle.std.proofs.Common.{arith}
 use Rattle.std.specs.List.{cons_option}
 use Rattle.std.specs.Global.{Vec}
 use Rattle.std.proofs.lemmas.List.{length-set}
@@ -22,18 +23,25 @@ loop-place-preserved c =
           let log = w.from-in-Issue.result in
           let own : log ≡ item.log = w.from-in-Issue.ensures in
           let block = w.in-Issue.address / w.from.result in
-          let is : block ≡ block_of c.args.shape.now w.in-Issue.address = ap (λ n. w.in-Issue.address / n) w.from.ensures in
-          let pushed : w.push.new.self.items ≡ w.index_mut.result.now.items ++ block ∷ [] = w.in_ok-push.ensures.items in
-          let changed : c.match-item.lists.items ≡ set vecs log w.push.new.self = ap (λ (v : Vec (Vec ℕ)). v.items) w.lists-is in
+          let is : block ≡ block_of c.args.shape.now w.in-Issue.address =
+          ap (λ n. w.in-Issue.address / n) w.from.ensures in
+          let pushed : w.push.new.self.items ≡ w.index_mut.result.now.items ++ block ∷ [] =
+          w.in_ok-push.ensures.items in
+          let changed : c.match-item.lists.items ≡ set vecs log w.push.new.self =
+          ap (λ (v : Vec (Vec ℕ)). v.items) w.lists-is in
           record {
             len = ap length changed ∙ length-set vecs log w.push.new.self ∙ c.loop-place.invariant.len;
             issued = λ port h.
                 ap (λ (vs : List (Vec ℕ)). get_or (map (λ (v : Vec ℕ). v.items) vs) port []) changed
-                ∙ placed vecs log w.index_mut.result.now w.push.new.self block w.index_mut.ensures.value pushed (omega (arith, c.loop-place.invariant.len)) port
+                ∙ placed vecs log w.index_mut.result.now w.push.new.self block w.index_mut.ensures.value pushed
+                (omega (arith, c.loop-place.invariant.len)) port
                 ∙ ap (λ xs. xs ++ cons_option (block_if (eqb log port) block) []) (c.loop-place.invariant.issued port h)
-                ∙ ap (λ n. issued c.args.shape.now port (records_at logs (take at places)) ++ cons_option (block_if (eqb n port) block) []) own
-                ∙ ap (λ b. issued c.args.shape.now port (records_at logs (take at places)) ++ cons_option (block_if (eqb item.log port) b) []) is
-                ∙ sym (issued_new c.args.shape.now logs places at item c.loop-place-test.true c.record_at-item.ensures port _ _ _ _ _ w.in-Issue.is);
+                ∙ ap (λ n. issued c.args.shape.now port (records_at logs (take at places))
+                ++ cons_option (block_if (eqb n port) block) []) own
+                ∙ ap (λ b. issued c.args.shape.now port (records_at logs (take at places))
+                ++ cons_option (block_if (eqb item.log port) b) []) is
+                ∙ sym (issued_new c.args.shape.now logs places at item c.loop-place-test.true c.record_at-item.ensures
+                port _ _ _ _ _ w.in-Issue.is);
           }
       | in_default w ↦ record {
         len = ap (λ (v : Vec (Vec ℕ)). length v.items) w.lists-is ∙ c.loop-place.invariant.len;

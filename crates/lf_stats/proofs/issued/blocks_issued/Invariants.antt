@@ -8,5 +8,6 @@ abbrev pub invariant-loop-place : goal.invariant-loop-place
 invariant-loop-place l = record {
   len : length l.lists.items ≡ 256;
   issued : (port : ℕ) → port < 256
-      → get_or (lists_of l.lists) port [] ≡ issued l.shape port (records_at (lists_of l.logs) (take l.place-index l.places));
+      → get_or (lists_of l.lists) port [] ≡ issued l.shape port
+      (records_at (lists_of l.logs) (take l.place-index l.places));
 }

@@ -9,4 +9,11 @@ returns c =
     ∙ waiting_all c.args.log.now c.waits_of-waits.result c.waits_of-waits.ensures.len c.waits_of-waits.ensures.waits
 
 pub overflow_cast-result : goal.overflow_cast-result
-overflow_cast-result c = omega (arith, c.count.ensures, ap length c.as_slice.ensures, waiting_few c.as_slice.result.now, c.waits_of-waits.ensures.len)
+overflow_cast-result c = omega (
+  arith,
+  c.count.ensures,
+  ap length c.as_slice.ensures,
+  waiting_few
+      c.as_slice.result.now,
+  c.waits_of-waits.ensures.len,
+)

@@ -1,4 +1,5 @@
-use Rattle.std.proofs.Common.{◌≡◌, ℕ, zero, suc, true, false, cond, eqb, length, take, set, get_or, refl, sym, ap, ◌∙◌, arith}
+use Rattle.std.proofs.Common.{◌≡◌, ℕ, zero, suc, true, false, cond, eqb, length, take, set, get_or, refl, sym, ap}
+use Rattle.std.proofs.Common.{◌∙◌, arith}
 use Rattle.std.proofs.Math.ListN.{replicate}
 use Rattle.std.proofs.lemmas.List.{length-replicate, length-set, take_all}
 use Rattle.lf_stats.specs.Statistics.{waits, waits_after}
@@ -52,4 +53,5 @@ loop-item-preserved c =
 
 pub returns-clause-waits : goal.returns-clause-waits
 returns-clause-waits c = λ tag h.
-    c.loop-item.invariant.waits tag h ∙ ap (λ log. waits log tag) (take_all c.loop-item.item-index c.args.log.now (omega arith))
+    c.loop-item.invariant.waits tag h ∙ ap (λ log. waits log tag)
+    (take_all c.loop-item.item-index c.args.log.now (omega arith))

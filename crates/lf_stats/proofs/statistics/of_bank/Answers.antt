@@ -4,4 +4,9 @@ use Rattle.lf_stats.proofs.statistics.of_bank.Goals as goal
 
 pub bank_stats-requires-clause-few : goal.bank_stats-requires-clause-few
 bank_stats-requires-clause-few c =
-    omega (arith, ap length c.as_slice.ensures.value, order_le c.args.logs.now.items c.args.bank c.in-Ok.places.items c.requires.short c.in-Ok.ensures.order)
+    omega (
+      arith,
+      ap length c.as_slice.ensures.value,
+      order_le c.args.logs.now.items c.args.bank c.in-Ok.places.items
+          c.requires.short c.in-Ok.ensures.order,
+    )

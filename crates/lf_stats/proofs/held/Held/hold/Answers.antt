@@ -12,6 +12,7 @@ returns c holds told =
           c.in_ok-push_at.ensures q
           ∙ ap (λ rs. cond (eqb block q) (rs ++ register ∷ []) rs) (told.blocks q)
           ∙ sym (held_for_push block holds q register);
-      times = times_same c.add.new.self (register ∷ registers_of holds) (registers_of (holds ++ (block, register) ∷ [])) (registers_push holds block register)
+      times = times_same c.add.new.self (register ∷ registers_of holds)
+          (registers_of (holds ++ (block, register) ∷ [])) (registers_push holds block register)
           (c.in_ok-add.ensures (registers_of holds) told.times);
     }

@@ -9,7 +9,8 @@ pub returns : goal.returns
 returns c = record {
   blocks = λ block. ap (λ entries. items_in (lookup (is_at (nat_cmp block)) entries)) c.new.ensures.empty;
   times = record {
-    each = λ register. subst (λ entries. IsCount (lookup (is_at (nat_cmp register)) entries) 0) (sym c.new-2.ensures.empty) refl;
+    each = λ register. subst (λ entries. IsCount (lookup (is_at (nat_cmp register)) entries) 0)
+        (sym c.new-2.ensures.empty) refl;
     count = c.new-2.ensures.len;
   };
 }

@@ -13,10 +13,13 @@ returns-in-Some c holds told =
     let before : ℕ → Option (Vec ℕ) = get nat_cmp c.args.self.now.by_block in
     let after : ℕ → Option (Vec ℕ) = get nat_cmp c.remove.new.self in
     let updates = c.in-Some.ensures.updates in
-    let mine : c.as_slice.result.now ≡ held_for block holds = c.as_slice.ensures.value ∙ ap items_in c.in-Some.ensures.value ∙ told.blocks block in
+    let mine : c.as_slice.result.now ≡ held_for block holds =
+    c.as_slice.ensures.value ∙ ap items_in c.in-Some.ensures.value ∙ told.blocks block in
     record {
-      blocks = released block holds before after (λ q other. updates.2 q (at_other block q other)) updates.1 told.blocks;
-      times = c.take_all.ensures (registers_of (others_of block holds)) (times_split c.args.self.now.times block holds c.as_slice.result.now mine told.times);
+      blocks = released block holds before after (λ q other. updates.2 q (at_other block q other)) updates.1
+          told.blocks;
+      times = c.take_all.ensures (registers_of (others_of block holds))
+          (times_split c.args.self.now.times block holds c.as_slice.result.now mine told.times);
     }
 
 pub returns-in_default : goal.returns-in_default
@@ -28,6 +31,7 @@ returns-in_default c holds told =
     let gone : before block ≡ None = search rules in
     let mine : [] ≡ held_for block holds = sym (ap items_in gone) ∙ told.blocks block in
     record {
-      blocks = released block holds before after (λ q other. updates.2 q (at_other block q other)) updates.1 told.blocks;
+      blocks = released block holds before after (λ q other. updates.2 q (at_other block q other)) updates.1
+          told.blocks;
       times = times_split c.args.self.now.times block holds [] mine told.times;
     }

@@ -18,5 +18,6 @@ returns c registers told =
       count =
           c.in_ok-insert.ensures.len
           ∙ ap (λ o. btree_map_len c.args.self.now.0 + cond (is_some o) 0 1) c.in_ok-insert.ensures.old
-          ∙ count_added register registers (before register) (btree_map_len c.args.self.now.0) (told.each register) told.count;
+          ∙ count_added register registers (before register) (btree_map_len c.args.self.now.0) (told.each register)
+          told.count;
     }

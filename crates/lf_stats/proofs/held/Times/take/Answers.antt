@@ -18,8 +18,10 @@ returns-then-times-lt2 c registers told =
     let all = times_here register registers in
     let is = count_is (before register) (times register (register ∷ registers)) (told.each register) in
     let last : times register registers ≡ 0 = omega (arith, kept, is, all, c.if-times-lt2.true) in
-    let there = some_kept (before register) (times register (register ∷ registers)) (omega (arith, all)) (told.each register) in
-    let taken : cond (is_some c.remove.result) 1 0 ≡ 1 = ap (λ o. cond {A = ℕ} (is_some o) 1 0) c.remove.ensures.value ∙ ap (λ b. cond {A = ℕ} b 1 0) there in
+    let there = some_kept (before register) (times register (register ∷ registers)) (omega (arith, all))
+    (told.each register) in
+    let taken : cond (is_some c.remove.result) 1 0 ≡ 1 = ap (λ o. cond {A = ℕ} (is_some o) 1 0) c.remove.ensures.value
+    ∙ ap (λ b. cond {A = ℕ} b 1 0) there in
     record {
       each = each_taken register registers before after (λ q other. updates.2 q (at_other register q other)) told.each
           (subst (λ o. IsCount o (times register registers)) (sym updates.1) last);
@@ -38,7 +40,8 @@ returns-in-Some c registers told =
     let kept : c.unwrap_or-times.result ≡ unwrap_or (before register) 0 = search rules in
     let all = times_here register registers in
     let is = count_is (before register) (times register (register ∷ registers)) (told.each register) in
-    let now_is : c.in-Some.times.now ≡ unwrap_or (before register) 0 = ap (λ o. unwrap_or o 0) c.in-Some.ensures.value in
+    let now_is : c.in-Some.times.now ≡ unwrap_or (before register) 0 =
+    ap (λ o. unwrap_or o 0) c.in-Some.ensures.value in
     let more : 0 < times register registers = omega (arith, kept, is, all, c.if-times-lt2.false) in
     let same : left ≡ times register registers = omega (arith, now_is, is, all) in
     record {

@@ -17,7 +17,8 @@ loop-bank-preserved g c plain =
     let line = codes "bank=" ++ (decimal bank ++ (codes " " ++ (bank_text counts ++ 10 ∷ []))) in
     let before = c.loop-bank.invariant plain in
     let inside : bank < length banks = omega (arith, c.loop-bank-test.true) in
-    put_two g.W.Write.write_str_gives c.args.f.now c.loop-bank.f c.writeln.new.self lines line (lines_from bank_line 0 (take (bank + 1) banks))
+    put_two g.W.Write.write_str_gives c.args.f.now c.loop-bank.f c.writeln.new.self lines line
+    (lines_from bank_line 0 (take (bank + 1) banks))
     before (c.in_ok-writeln.ensures.writes before.plain (refl {a = true}))
     (ap (λ text. lines ++ text) (sym (grouped (codes "bank=") (decimal bank) (codes " ") (bank_text counts) (10 ∷ [])))
     ∙ sym (lines_next bank_line banks bank none inside))

@@ -6,4 +6,5 @@ use Rattle.lf_stats.proofs.text.BankLinesDisplay.fmt.Given as goal
 
 abbrev pub invariant-loop-bank : goal.invariant-loop-bank
 invariant-loop-bank g l =
-    IsPlainFormatter l.initial.f → HasWritten g.W.Write.write_str_gives l.initial.f (lines_from bank_line 0 (take l.bank-counter l.self.0.now)) l.f
+    IsPlainFormatter l.initial.f → HasWritten g.W.Write.write_str_gives l.initial.f
+    (lines_from bank_line 0 (take l.bank-counter l.self.0.now)) l.f

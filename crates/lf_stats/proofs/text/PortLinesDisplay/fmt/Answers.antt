@@ -15,7 +15,9 @@ loop-port-preserved g c plain =
     let line = codes "port=" ++ (decimal port ++ (codes " unanswered=" ++ (decimal unanswered ++ 10 ∷ []))) in
     let before = c.loop-port.invariant plain in
     let inside : port < length ports = omega (arith, c.loop-port-test.true) in
-    put_two g.W.Write.write_str_gives c.args.f.now c.loop-port.f c.writeln.new.self lines line (lines_from port_line 0 (take (port + 1) ports))
+    put_two g.W.Write.write_str_gives c.args.f.now c.loop-port.f c.writeln.new.self lines line
+    (lines_from port_line 0 (take (port + 1) ports))
     before (c.in_ok-writeln.ensures.writes before.plain (refl {a = true}))
-    (ap (λ text. lines ++ text) (sym (grouped (codes "port=") (decimal port) (codes " unanswered=") (decimal unanswered) (10 ∷ [])))
+    (ap (λ text. lines ++ text) (sym (grouped (codes "port=") (decimal port) (codes " unanswered=")
+    (decimal unanswered) (10 ∷ [])))
     ∙ sym (lines_next port_line ports port 0 inside))

@@ -6,4 +6,5 @@ use Rattle.lf_stats.proofs.text.PortLinesDisplay.fmt.Given as goal
 
 abbrev pub invariant-loop-port : goal.invariant-loop-port
 invariant-loop-port g l =
-    IsPlainFormatter l.initial.f → HasWritten g.W.Write.write_str_gives l.initial.f (lines_from port_line 0 (take l.port-counter l.self.0.now)) l.f
+    IsPlainFormatter l.initial.f → HasWritten g.W.Write.write_str_gives l.initial.f
+    (lines_from port_line 0 (take l.port-counter l.self.0.now)) l.f

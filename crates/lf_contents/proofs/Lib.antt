@@ -1,0 +1,2 @@
+mod Split
+mod Taken

@@ -1,0 +1,3 @@
+pub mod MarksAlike
+mod Marking
+mod Placed

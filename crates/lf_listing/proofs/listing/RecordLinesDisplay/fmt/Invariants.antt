@@ -1,0 +1,13 @@
+-- What has been written since the loop began is the lines so far.
+use Rattle.std.proofs.Common.{take}
+use Rattle.std.specs.Fmt.{HasWritten, IsPlainFormatter}
+use Rattle.lf_listing.specs.Marks.{besides}
+use Rattle.lf_listing.specs.Lines.{lines_text}
+use Rattle.lf_listing.proofs.listing.RecordLinesDisplay.fmt.Given as goal
+
+abbrev pub invariant-loop-place : goal.invariant-loop-place
+invariant-loop-place g l =
+    IsPlainFormatter l.initial.f
+    → HasWritten g.W.Write.write_str_gives l.initial.f
+    (lines_text l.self.listing.records.now (besides l.self.listing.marks.now) (take l.place-index l.self.places.now))
+    l.f

@@ -1,0 +1,103 @@
+//! The lines of records.
+
+ghost use Rattle.std.specs.Prelude.{Some, string_bytes};
+ghost use Rattle.std.specs.Option.{option_map};
+ghost use Rattle.lf_listing.specs.Marks.{beside, besides};
+ghost use Rattle.lf_listing.specs.Lines.{time_text, line_if, line_at, lines_text};
+
+use crate::mark::Mark;
+use lf_rules::Record;
+use lf_text::{PlacedLine, TextLine};
+use std::fmt;
+
+/// The records of a trace, and the mark of each.
+#[derive(Clone, Copy)]
+pub struct Listing<'a> {
+    pub records: &'a [Record],
+    pub marks: &'a [Mark],
+}
+
+/// The time of a record behind its offset, where a map tells it.
+#[derive(Clone, Copy)]
+struct TimeText<'a>(&'a Option<String>);
+
+impl fmt::Display for TimeText<'_> {
+    ghost output = { λ text. Some (time_text (option_map string_bytes text.0.now)) };
+
+    fn fmt<W: fmt::Write>(&self, f: &mut fmt::Formatter<W>) -> fmt::Result {
+        match self.0 {
+            Some(time) => write!(f, ", time {time}"),
+            None => Ok(()),
+        }
+    }
+}
+
+/// The line of a record and its mark.
+#[derive(Clone, Copy)]
+struct MarkedLine<'a> {
+    item: &'a Record,
+    mark: &'a Mark,
+}
+
+impl fmt::Display for MarkedLine<'_> {
+    ghost output = { λ line. Some (line_if (Some line.item.now) (Some (beside line.mark.now))) };
+
+    fn fmt<W: fmt::Write>(&self, f: &mut fmt::Formatter<W>) -> fmt::Result {
+        let placed = PlacedLine {
+            line: TextLine::Event(self.item),
+            offset: self.mark.offset,
+        };
+        let time = TimeText(&self.mark.time);
+        write!(f, "{placed}{time}\n")
+    }
+}
+
+/// The line of the record at a place, with its newline, where there is one.
+#[derive(Clone, Copy)]
+pub struct RecordLine<'a> {
+    pub listing: Listing<'a>,
+    pub place: Option<usize>,
+}
+
+impl fmt::Display for RecordLine<'_> {
+    ghost output = { λ line. Some
+        (line_at line.listing.records.now (besides line.listing.marks.now) line.place) };
+
+    #[tactic(auto, using(crate::proofs::Placed::beside_at))]
+    fn fmt<W: fmt::Write>(&self, f: &mut fmt::Formatter<W>) -> fmt::Result {
+        let Some(place) = self.place else {
+            return Ok(());
+        };
+        let Some(item) = self.listing.records.get(place) else {
+            return Ok(());
+        };
+        let Some(mark) = self.listing.marks.get(place) else {
+            return Ok(());
+        };
+        let line = MarkedLine { item, mark };
+        write!(f, "{line}")
+    }
+}
+
+/// A line for each place.
+#[derive(Clone, Copy)]
+pub struct RecordLines<'a> {
+    pub listing: Listing<'a>,
+    pub places: &'a [usize],
+}
+
+impl fmt::Display for RecordLines<'_> {
+    ghost output = { λ lines. Some
+        (lines_text lines.listing.records.now (besides lines.listing.marks.now) lines.places.now) };
+
+    fn fmt<W: fmt::Write>(&self, f: &mut fmt::Formatter<W>) -> fmt::Result {
+        for place in self.places {
+            let line = RecordLine {
+                listing: self.listing,
+                place: Some(*place),
+            };
+            write!(f, "{line}")?;
+        }
+        Ok(())
+    }
+}

@@ -1,0 +1,4 @@
+mod Adding
+mod Keys
+mod Numbers
+mod Words
