@@ -48,7 +48,8 @@ beyond mask other = bit_and mask (bit_xor mask other)
 
 -- the same mask by mask
 abbrev pub all_beyond : Masks → Masks → List Mask
-all_beyond masks others = map (λ place. record { 0 = beyond (mask_at masks place) (mask_at others place) }) (range_with_len 0 (length masks.items))
+all_beyond masks others = map (λ place. record { 0 = beyond (mask_at masks place) (mask_at others place) })
+    (range_with_len 0 (length masks.items))
 
 abbrev pub mask_line : List ℕ → List Mask → List ℕ
 mask_line label masks = codes "  " ++ label ++ masks_text masks ++ 10 ∷ []

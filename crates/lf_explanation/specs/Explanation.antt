@@ -17,7 +17,8 @@ use Rattle.lf_explanation.specs.declared.explanation.Explanation.{Explanation}
 use Rattle.lf_explanation.specs.Breach.{rule_of}
 use Rattle.lf_explanation.specs.Origins.{ComeFrom}
 
--- The record that breaks the rule, and the last before it that matter: those of the port's log, or those of the bank that touch its
+-- The record that breaks the rule, and the last before it that matter: those of the port's log, or those of the bank
+-- that touch its
 -- second-level block.
 abbrev pub IsHistoryOf : Shape → List Record → Breach → ℕ → History → Type 0
 IsHistoryOf shape rs (Port port at rule) most history = IsHistoryInLog rs port at most history
@@ -35,9 +36,11 @@ IsBrokenBy shape memory rs (Port port at rule) broken = broken ≡ None
 IsBrokenBy shape memory rs (Bank bank number rule) broken =
     IsFirstBroken shape (bank_part shape bank (flat_memory memory)) (in_order bank rs (number + 1)) broken
 
--- It tells of the rule, of the record that breaks it, of what that has to carry and which blocks it names, of the records
+-- It tells of the rule, of the record that breaks it, of what that has to carry and which blocks it names, of the
+-- records
 -- that the state of the rule comes from, and of the records before.
-pub record IsExplanation (shape : Shape) (memory : List (ℕ × Bytes)) (rs : List Record) (breach : Breach) (most : ℕ) (why : Explanation) : Type 0 where
+pub record IsExplanation (shape : Shape) (memory : List (ℕ × Bytes)) (rs : List Record) (breach : Breach) (most : ℕ)
+    (why : Explanation) : Type 0 where
   pub rule : why.rule ≡ rule_of breach
   pub history : IsHistoryOf shape rs breach most why.history
   pub broken : IsBrokenBy shape memory rs breach why.broken

@@ -21,7 +21,7 @@ fn same_at(due: &[u8], found: &[u8], place: usize) -> bool
 }
 
 /// The place of the first byte that differs, which is behind all where none does.
-pub(crate) fn first_difference(due: &[u8], found: &[u8]) -> usize
+pub fn first_difference(due: &[u8], found: &[u8]) -> usize
     ensures { result ≡ common_prefix_len nat_eq due.now found.now }
 {
     let most = due.len().min(found.len());
@@ -100,7 +100,7 @@ fn one_mask(mask: Mask) -> Masks
     masks
 }
 
-/// The same masks.
+/// A copy of the masks.
 fn copied(masks: &Masks) -> Masks
     ensures { result ≡ masks.now }
 {
@@ -112,7 +112,7 @@ fn copied(masks: &Masks) -> Masks
 }
 
 /// The masks that an eviction carries.
-fn masks_of(event: &Event) -> Masks
+pub fn masks_of(event: &Event) -> Masks
     ensures { result ≡ masks_of event.now }
 {
     match event {
@@ -129,8 +129,8 @@ fn beyond(mask: u64, other: u64) -> u64
     mask & (mask ^ other)
 }
 
-/// The same mask by mask.
-fn all_beyond(masks: &Masks, others: &Masks) -> Masks
+/// Which bytes of the masks are not among those of the others, mask by mask.
+pub fn all_beyond(masks: &Masks, others: &Masks) -> Masks
     ensures { result.items ≡ all_beyond masks.now others.now }
 {
     let mut all = Masks::new();

@@ -3,72 +3,18 @@
 ghost use Rattle.std.specs.Prelude.{Some};
 ghost use Rattle.lf_history.specs.Touching.{record_at};
 ghost use Rattle.lf_explanation.specs.Carried.{carried_text};
-ghost use Rattle.lf_explanation.specs.Text.{asked_text, line_at, record_text, lines_text, before_text};
-ghost use Rattle.lf_explanation.specs.Text.{origins_text, explained_text};
+ghost use Rattle.lf_explanation.specs.Text.{asked_text, before_text, origins_text, explained_text};
+ghost use Rattle.lf_listing.specs.Marks.{besides};
 
 use crate::carried::Carried;
 use crate::explanation::Explanation;
-use crate::origins::record_at;
-use crate::sentence::sentence;
+use crate::sentence::sentence_of;
 use crate::state::State;
+use lf_history::record_at;
+use lf_listing::{Listing, RecordLine, RecordLines};
 use lf_origins::{Origins, OriginsText};
-use lf_rules::{Record, Rule};
-use lf_text::{PlacedLine, TextLine};
+use lf_rules::Rule;
 use std::fmt;
-
-/// The records of a trace, and the offset of the first byte of each.
-#[derive(Clone, Copy)]
-pub struct Told<'a> {
-    pub records: &'a [Record],
-    pub offsets: &'a [u64],
-}
-
-/// The line of the record at a place, where there is one.
-#[derive(Clone, Copy)]
-struct LineAt<'a> {
-    told: Told<'a>,
-    place: usize,
-}
-
-impl fmt::Display for LineAt<'_> {
-    ghost output = { λ line. Some (line_at line.told.records.now line.told.offsets.now line.place) };
-
-    fn fmt<W: fmt::Write>(&self, f: &mut fmt::Formatter<W>) -> fmt::Result {
-        let Some(item) = self.told.records.get(self.place) else {
-            return Ok(());
-        };
-        let Some(offset) = self.told.offsets.get(self.place) else {
-            return Ok(());
-        };
-        let placed = PlacedLine {
-            line: TextLine::Event(item),
-            offset: *offset,
-        };
-        write!(f, "{placed}\n")
-    }
-}
-
-/// The line of the record that breaks the rule.
-#[derive(Clone, Copy)]
-struct RecordLine<'a> {
-    told: Told<'a>,
-    place: Option<usize>,
-}
-
-impl fmt::Display for RecordLine<'_> {
-    ghost output = { λ line. Some (record_text line.told.records.now line.told.offsets.now line.place) };
-
-    fn fmt<W: fmt::Write>(&self, f: &mut fmt::Formatter<W>) -> fmt::Result {
-        let Some(place) = self.place else {
-            return Ok(());
-        };
-        let line = LineAt {
-            told: self.told,
-            place,
-        };
-        write!(f, "{line}")
-    }
-}
 
 /// What a rule asks.
 #[derive(Clone, Copy)]
@@ -79,7 +25,7 @@ impl fmt::Display for Asked {
 
     fn fmt<W: fmt::Write>(&self, f: &mut fmt::Formatter<W>) -> fmt::Result {
         let rule = self.0;
-        let sentence = sentence(rule);
+        let sentence = sentence_of(rule);
         write!(f, "  {rule} asks that {sentence}\n")
     }
 }
@@ -87,16 +33,16 @@ impl fmt::Display for Asked {
 /// What the record that breaks the rule has to carry and carries.
 #[derive(Clone, Copy)]
 struct RecordCarries<'a> {
-    told: Told<'a>,
+    listing: Listing<'a>,
     why: &'a Explanation,
 }
 
 impl fmt::Display for RecordCarries<'_> {
     ghost output = { λ it. Some
-        (carried_text (record_at it.told.records.now it.why.now.history.place) it.why.now.broken) };
+        (carried_text (record_at it.listing.records.now it.why.now.history.place) it.why.now.broken) };
 
     fn fmt<W: fmt::Write>(&self, f: &mut fmt::Formatter<W>) -> fmt::Result {
-        let Some(item) = record_at(self.told.records, self.why.history.place) else {
+        let Some(item) = record_at(self.listing.records, self.why.history.place) else {
             return Ok(());
         };
         let carried = Carried {
@@ -107,44 +53,22 @@ impl fmt::Display for RecordCarries<'_> {
     }
 }
 
-/// A line for each place.
-#[derive(Clone, Copy)]
-struct Lines<'a> {
-    told: Told<'a>,
-    places: &'a [usize],
-}
-
-impl fmt::Display for Lines<'_> {
-    ghost output = { λ lines. Some (lines_text lines.told.records.now lines.told.offsets.now lines.places.now) };
-
-    fn fmt<W: fmt::Write>(&self, f: &mut fmt::Formatter<W>) -> fmt::Result {
-        for place in self.places {
-            let line = LineAt {
-                told: self.told,
-                place: *place,
-            };
-            write!(f, "{line}")?;
-        }
-        Ok(())
-    }
-}
-
 /// The records before, under a heading of their own, where there are any.
 #[derive(Clone, Copy)]
 struct Before<'a> {
-    told: Told<'a>,
+    listing: Listing<'a>,
     places: &'a [usize],
 }
 
 impl fmt::Display for Before<'_> {
-    ghost output = { λ before. Some (before_text before.told.records.now before.told.offsets.now before.places.now) };
+    ghost output = { λ before. Some (before_text before.listing.records.now (besides before.listing.marks.now) before.places.now) };
 
     fn fmt<W: fmt::Write>(&self, f: &mut fmt::Formatter<W>) -> fmt::Result {
         if self.places.is_empty() {
             return Ok(());
         }
-        let lines = Lines {
-            told: self.told,
+        let lines = RecordLines {
+            listing: self.listing,
             places: self.places,
         };
         write!(f, "\nbefore it:\n{lines}")
@@ -154,20 +78,19 @@ impl fmt::Display for Before<'_> {
 /// The records that the state of the rule comes from, where it is about such a state.
 #[derive(Clone, Copy)]
 struct OriginsLines<'a> {
-    told: Told<'a>,
+    listing: Listing<'a>,
     origins: &'a Option<Origins>,
 }
 
 impl fmt::Display for OriginsLines<'_> {
-    ghost output = { λ it. Some (origins_text it.told.records.now it.told.offsets.now it.origins.now) };
+    ghost output = { λ it. Some (origins_text it.listing.records.now (besides it.listing.marks.now) it.origins.now) };
 
     fn fmt<W: fmt::Write>(&self, f: &mut fmt::Formatter<W>) -> fmt::Result {
         let Some(origins) = self.origins else {
             return Ok(());
         };
-        let Told { records, offsets } = self.told;
         let text = OriginsText {
-            told: lf_origins::Told { records, offsets },
+            listing: self.listing,
             origins,
         };
         write!(f, "{text}")
@@ -179,31 +102,31 @@ impl fmt::Display for OriginsLines<'_> {
 /// state of the rule comes from, and the records before.
 #[derive(Clone, Copy)]
 pub struct Explained<'a> {
-    pub told: Told<'a>,
+    pub listing: Listing<'a>,
     pub why: &'a Explanation,
 }
 
 impl fmt::Display for Explained<'_> {
-    ghost output = { λ it. Some (explained_text it.told.records.now it.told.offsets.now it.why.now) };
+    ghost output = { λ it. Some (explained_text it.listing.records.now (besides it.listing.marks.now) it.why.now) };
 
     fn fmt<W: fmt::Write>(&self, f: &mut fmt::Formatter<W>) -> fmt::Result {
-        let told = self.told;
+        let listing = self.listing;
         let record = RecordLine {
-            told,
+            listing,
             place: self.why.history.place,
         };
         let asked = Asked(self.why.rule);
         let carried = RecordCarries {
-            told,
+            listing,
             why: self.why,
         };
         let state = State(&self.why.broken);
         let origins = OriginsLines {
-            told,
+            listing,
             origins: &self.why.origins,
         };
         let before = Before {
-            told,
+            listing,
             places: &self.why.history.before,
         };
         write!(f, "{record}{asked}{carried}{state}{origins}{before}")

@@ -2,8 +2,8 @@
 //! the record carries, what the bank has of the blocks that the record names, the records that the state of the rule
 //! comes from, and the records before it that matter.
 //!
-//! `explain` finds the records, and `Explained` is their text. A record is told as `lf_text` does, with the
-//! offset of its first byte. `specs/Explanation` says which records, and `specs/Text` each line exactly.
+//! `explain` finds the records, and `Explained` is their text. A record is told as `lf_listing` does.
+//! `specs/Explanation` says which records, and `specs/Text` each line exactly.
 #![tactic(auto)]
 
 mod carried;
@@ -15,5 +15,7 @@ mod state;
 #[cfg(test)]
 mod tests;
 
-pub use explained::{Explained, Told};
+pub use carried::{all_beyond, first_difference, masks_of};
+pub use explained::Explained;
 pub use explanation::{Breach, Explanation, explain};
+pub use sentence::sentence_of;

@@ -1,6 +1,6 @@
 //! Which records the state comes from that the broken rule is about.
 
-ghost use Rattle.std.specs.Prelude.{◌≡◌, Some, None, List, map, take, IfOk, MatchOption};
+ghost use Rattle.std.specs.Prelude.{◌≡◌, Some, None, List, map, take, IfOk};
 ghost use Rattle.lf_rules.specs.InRange.{IsShape};
 ghost use Rattle.lf_history.specs.Places.{places_of_log};
 ghost use Rattle.lf_history.specs.Touching.{record_at};
@@ -9,19 +9,11 @@ ghost use Rattle.lf_explanation.specs.Origins.{wrong_byte, wrong_address, AreOri
 use crate::carried::first_difference;
 use crate::explanation::Breach;
 use lf_explain::{Broken, Expected};
-use lf_history::{history_in_log, places_in_order};
+use lf_history::{history_in_log, places_in_order, record_at};
 use lf_origins::{BrokenRule, Origins, origins_of};
 use lf_rules::{Event, NoMemory, Record, Rule, Shape};
 use lf_text::data_of;
 use std::alloc::Global;
-
-/// The record at a place, where there is one.
-pub(crate) fn record_at(records: &[Record], place: Option<usize>) -> Option<&Record>
-    ensures { MatchOption result (record_at records.now place ≡ None)
-        (λ item. record_at records.now place ≡ Some item.now) }
-{
-    records.get(place?)
-}
 
 /// The address of the first byte that differs, where the rule is about the bytes that an event carries.
 fn wrong_byte(due: &Option<Expected>, addresses: &[u64], event: &Event) -> Option<u64>
@@ -36,7 +28,7 @@ fn wrong_byte(due: &Option<Expected>, addresses: &[u64], event: &Event) -> Optio
     }
 }
 
-/// The same for what is told of a record that breaks a rule of a bank.
+/// The address of the first byte that differs, in what is told of a record that breaks a rule of a bank.
 fn wrong_address(broken: &Option<Broken>, event: &Event) -> Option<u64>
     ensures { result ≡ wrong_address broken.now event.now }
 {

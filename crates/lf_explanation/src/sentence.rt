@@ -6,7 +6,7 @@ ghost use Rattle.lf_explanation.specs.Sentence.{sentence};
 use lf_rules::Rule;
 
 /// What the rule asks, as a sentence that follows "asks that".
-pub(crate) fn sentence(rule: Rule) -> &'static str
+pub fn sentence_of(rule: Rule) -> &'static str
     ensures { result.now ≡ sentence rule }
 {
     match rule {

@@ -6,8 +6,10 @@ ghost use Rattle.lf_rules.specs.Fits.{Fits};
 ghost use Rattle.lf_rules.specs.InRange.{IsShape};
 ghost use Rattle.lf_explanation.specs.Explanation.{HasBank};
 
-use crate::{Breach, Explained, Told, explain};
+use crate::{Breach, Explained, Explanation, explain};
+use lf_listing::{Listing, Mark, marks_of};
 use lf_rules::{Block, Event, Level, Op, OrgShape, Record, Rule, Shape, fits};
+use std::alloc::{AllocError, Global};
 use std::process::Abort;
 use std::test::Fail;
 
@@ -50,6 +52,18 @@ fn has_bank(shape: &Shape, breach: &Breach) -> bool
     }
 }
 
+/// The text of an explanation over records with these marks.
+fn text_of<'a>(
+    alloc: Global,
+    records: &'a [Record],
+    marks: &'a [Mark],
+    why: &'a Explanation,
+) -> Result<String, AllocError> {
+    let listing = Listing { records, marks };
+    let explained = Explained { listing, why };
+    format!(in alloc; "{explained}")
+}
+
 /// Fails where these records, at the offsets 16, 24, and so on, have another explanation.
 fn assert_explained<T: Abort + AllocGlobal>(
     rt: &T,
@@ -65,14 +79,10 @@ fn assert_explained<T: Abort + AllocGlobal>(
     let Ok(why) = explain(rt.alloc(), &SHAPE, &memory, records, &breach, most) else {
         return Err(Fail::from("out of memory"));
     };
-    let explained = Explained {
-        told: Told {
-            records,
-            offsets: &[16, 24, 32, 40],
-        },
-        why: &why,
+    let Ok(marks) = marks_of(rt.alloc(), records, &[16, 24, 32, 40], None) else {
+        return Err(Fail::from("out of memory"));
     };
-    let text = format!(in rt.alloc(); "{explained}")?;
+    let text = text_of(rt.alloc(), records, marks.as_slice(), &why)?;
     assert_eq!(rt; text.as_str(), due);
     Ok(())
 }

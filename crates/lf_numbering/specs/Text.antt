@@ -1,44 +1,35 @@
 -- The text of why the numbers of a trace give no order.
-use Rattle.std.specs.Prelude.{ℕ, List, [], ◌∷◌, ◌++◌, Option, Some, None, codes, slice_get}
+use Rattle.std.specs.Prelude.{ℕ, List, [], ◌∷◌, ◌++◌, Option, Some, None, codes}
 use Rattle.std.specs.Fmt.{decimal}
 use Rattle.std.specs.List.{flat_map}
 use Rattle.lf_rules.specs.declared.event.Event.{Event}
 use Rattle.lf_rules.specs.declared.event.Event.TheVariants.{Issue, Reply, Fence}
 use Rattle.lf_rules.specs.declared.event.Record.{Record}
-use Rattle.lf_text.specs.Text.{record_text}
+use Rattle.lf_listing.specs.Marks.{Beside}
+use Rattle.lf_listing.specs.Lines.{line_at, lines_text}
 use Rattle.lf_history.specs.Touching.{record_at}
 use Rattle.lf_numbering.specs.declared.cycle.Wait.{Wait}
 use Rattle.lf_numbering.specs.declared.reason.Reason.{Reason}
 use Rattle.lf_numbering.specs.declared.reason.Reason.TheVariants.{Double, Missing, Cycle}
 
--- the record, and in a comment the offset of its first byte
-abbrev pub line_if : Option Record → Option ℕ → List ℕ
-line_if (Some item) (Some offset) = record_text item ++ codes " ; at " ++ decimal offset ++ 10 ∷ []
-line_if _ _ = []
-
--- the line of the record at a place, where there is one
-abbrev pub line_at : List Record → List ℕ → Option ℕ → List ℕ
-line_at rs offsets None = []
-line_at rs offsets (Some place) = line_if (slice_get rs place) (slice_get offsets place)
-
-abbrev pub lines_text : List Record → List ℕ → List ℕ → List ℕ
-lines_text rs offsets places = flat_map (λ place. line_at rs offsets (Some place)) places
-
 -- ---- one number
 
-abbrev pub double_text : List Record → List ℕ → ℕ → ℕ → List ℕ → List ℕ
-double_text rs offsets bank number places =
-    codes "these records all have number " ++ decimal number ++ codes " of bank " ++ decimal bank ++ (codes ":" ++ 10 ∷ lines_text rs offsets places)
+abbrev pub double_text : List Record → List Beside → ℕ → ℕ → List ℕ → List ℕ
+double_text rs marks bank number places =
+    codes "these records all have number " ++ decimal number ++ codes " of bank " ++ decimal bank
+    ++ (codes ":" ++ 10 ∷ lines_text rs marks places)
 
 -- the records with the nearest number, under a heading of their own, where there are any
-abbrev pub nearest_text : List Record → List ℕ → List ℕ → List ℕ → List ℕ
-nearest_text rs offsets side [] = []
-nearest_text rs offsets side (place ∷ places) = 10 ∷ codes "the nearest number " ++ side ++ codes " it:" ++ 10 ∷ lines_text rs offsets (place ∷ places)
+abbrev pub nearest_text : List Record → List Beside → List ℕ → List ℕ → List ℕ
+nearest_text rs marks side [] = []
+nearest_text rs marks side (place ∷ places) = 10 ∷ codes "the nearest number " ++ side ++ codes " it:" ++ 10
+    ∷ lines_text rs marks (place ∷ places)
 
-abbrev pub missing_text : List Record → List ℕ → ℕ → ℕ → List ℕ → List ℕ → List ℕ
-missing_text rs offsets bank number below above =
-    codes "no record has number " ++ decimal number ++ codes " of bank " ++ decimal bank ++ 10 ∷ nearest_text rs offsets (codes "below") below
-    ++ nearest_text rs offsets (codes "above") above
+abbrev pub missing_text : List Record → List Beside → ℕ → ℕ → List ℕ → List ℕ → List ℕ
+missing_text rs marks bank number below above =
+    codes "no record has number " ++ decimal number ++ codes " of bank " ++ decimal bank ++ 10
+    ∷ nearest_text rs marks (codes "below") below
+    ++ nearest_text rs marks (codes "above") above
 
 -- ---- records that wait for one another
 
@@ -68,24 +59,25 @@ by_log_text None = []
 by_log_text (Some r) = log_line r
 
 -- the record that waits, and the one that it waits for
-abbrev pub wait_text : List Record → List ℕ → Wait → List ℕ
-wait_text rs offsets wait =
-    line_at rs offsets wait.waiting ++ by_number_text (record_at rs wait.waiting)
-    ++ line_at rs offsets wait.earlier ++ by_log_text (record_at rs wait.earlier)
+abbrev pub wait_text : List Record → List Beside → Wait → List ℕ
+wait_text rs marks wait =
+    line_at rs marks wait.waiting ++ by_number_text (record_at rs wait.waiting)
+    ++ line_at rs marks wait.earlier ++ by_log_text (record_at rs wait.earlier)
 
-abbrev pub waits_text : List Record → List ℕ → List Wait → List ℕ
-waits_text rs offsets waits = flat_map (wait_text rs offsets) waits
+abbrev pub waits_text : List Record → List Beside → List Wait → List ℕ
+waits_text rs marks waits = flat_map (wait_text rs marks) waits
 
 -- the record that waits first, once more
-abbrev pub first_text : List Record → List ℕ → List Wait → List ℕ
-first_text rs offsets [] = []
-first_text rs offsets (wait ∷ waits) = line_at rs offsets wait.waiting
+abbrev pub first_text : List Record → List Beside → List Wait → List ℕ
+first_text rs marks [] = []
+first_text rs marks (wait ∷ waits) = line_at rs marks wait.waiting
 
-abbrev pub cycle_text : List Record → List ℕ → List Wait → List ℕ
-cycle_text rs offsets waits =
-    codes "these records wait for one another, and none can come first:" ++ 10 ∷ waits_text rs offsets waits ++ first_text rs offsets waits
+abbrev pub cycle_text : List Record → List Beside → List Wait → List ℕ
+cycle_text rs marks waits =
+    codes "these records wait for one another, and none can come first:" ++ 10 ∷ waits_text rs marks waits
+    ++ first_text rs marks waits
 
-abbrev pub reason_text : List Record → List ℕ → Reason → List ℕ
-reason_text rs offsets (Double bank number places) = double_text rs offsets bank number places.items
-reason_text rs offsets (Missing bank number below above) = missing_text rs offsets bank number below.items above.items
-reason_text rs offsets (Cycle waits) = cycle_text rs offsets waits.items
+abbrev pub reason_text : List Record → List Beside → Reason → List ℕ
+reason_text rs marks (Double bank number places) = double_text rs marks bank number places.items
+reason_text rs marks (Missing bank number below above) = missing_text rs marks bank number below.items above.items
+reason_text rs marks (Cycle waits) = cycle_text rs marks waits.items

@@ -1,8 +1,10 @@
 //! What the state of a rule comes from, with the texts written out.
 
-use crate::{BrokenRule, OriginsText, Told, origins_of};
+use crate::{BrokenRule, Origins, OriginsText, origins_of};
 use lf_history::places_in_order;
+use lf_listing::{Listing, Mark, marks_of};
 use lf_rules::{Block, Event, Level, Mask, Masks, Op, OrgShape, Record, Rule, Shape, WideBlock};
+use std::alloc::{AllocError, Global};
 use std::process::Abort;
 use std::test::Fail;
 
@@ -21,6 +23,18 @@ const SHAPE: Shape = Shape {
     level1: LEVEL,
     level2: LEVEL,
 };
+
+/// The text of origins over records with these marks.
+fn text_of<'a>(
+    alloc: Global,
+    records: &'a [Record],
+    marks: &'a [Mark],
+    origins: &'a Origins,
+) -> Result<String, AllocError> {
+    let listing = Listing { records, marks };
+    let text = OriginsText { listing, origins };
+    format!(in alloc; "{text}")
+}
 
 /// Fails where the state of the rule that the last of these records breaks comes from others. They stand at the
 /// offsets 16, 24, and so on.
@@ -45,14 +59,11 @@ fn assert_origins<T: Abort + AllocGlobal>(
     let Ok(Some(origins)) = origins_of(rt.alloc(), &SHAPE, records, &places, broken) else {
         return Err(Fail::from("the rule has no such state"));
     };
-    let text = OriginsText {
-        told: Told {
-            records,
-            offsets: &[16, 24, 32, 40, 48, 56, 64, 72],
-        },
-        origins: &origins,
+    let offsets = [16, 24, 32, 40, 48, 56, 64, 72];
+    let Ok(marks) = marks_of(rt.alloc(), records, &offsets, None) else {
+        return Err(Fail::from("out of memory"));
     };
-    let found = format!(in rt.alloc(); "{text}")?;
+    let found = text_of(rt.alloc(), records, marks.as_slice(), &origins)?;
     assert_eq!(rt; found.as_str(), due);
     Ok(())
 }

@@ -1,74 +1,20 @@
 //! The text of what a rule's state comes from.
 
 ghost use Rattle.std.specs.Prelude.{Some};
-ghost use Rattle.lf_origins.specs.Text.{line_at, lines_text, origins_text};
+ghost use Rattle.lf_listing.specs.Marks.{besides};
+ghost use Rattle.lf_origins.specs.Text.{origins_text};
 
 use crate::origins::Origins;
 use crate::parts::StatePart;
-use lf_rules::Record;
-use lf_text::{PlacedLine, TextLine};
+use lf_listing::{Listing, RecordLines};
 use std::fmt;
-
-/// The records of a trace, and the offset of the first byte of each.
-#[derive(Clone, Copy)]
-pub struct Told<'a> {
-    pub records: &'a [Record],
-    pub offsets: &'a [u64],
-}
-
-/// The line of the record at a place, where there is one.
-#[derive(Clone, Copy)]
-struct LineAt<'a> {
-    told: Told<'a>,
-    place: usize,
-}
-
-impl fmt::Display for LineAt<'_> {
-    ghost output = { λ line. Some (line_at line.told.records.now line.told.offsets.now line.place) };
-
-    fn fmt<W: fmt::Write>(&self, f: &mut fmt::Formatter<W>) -> fmt::Result {
-        let Some(item) = self.told.records.get(self.place) else {
-            return Ok(());
-        };
-        let Some(offset) = self.told.offsets.get(self.place) else {
-            return Ok(());
-        };
-        let placed = PlacedLine {
-            line: TextLine::Event(item),
-            offset: *offset,
-        };
-        write!(f, "{placed}\n")
-    }
-}
-
-/// A line for each place.
-#[derive(Clone, Copy)]
-pub struct RecordLines<'a> {
-    pub told: Told<'a>,
-    pub places: &'a [usize],
-}
-
-impl fmt::Display for RecordLines<'_> {
-    ghost output = { λ lines. Some (lines_text lines.told.records.now lines.told.offsets.now lines.places.now) };
-
-    fn fmt<W: fmt::Write>(&self, f: &mut fmt::Formatter<W>) -> fmt::Result {
-        for place in self.places {
-            let line = LineAt {
-                told: self.told,
-                place: *place,
-            };
-            write!(f, "{line}")?;
-        }
-        Ok(())
-    }
-}
 
 impl StatePart {
     ghost use Rattle.std.specs.Prelude.{◌≡◌};
     ghost use Rattle.lf_origins.specs.Text.{heading};
 
     /// What the records of this part are called.
-    fn heading(self) -> &'static str
+    pub fn heading(self) -> &'static str
         ensures { result.now ≡ heading self }
     {
         match self {
@@ -94,12 +40,12 @@ impl StatePart {
 /// a line for each record.
 #[derive(Clone, Copy)]
 pub struct OriginsText<'a> {
-    pub told: Told<'a>,
+    pub listing: Listing<'a>,
     pub origins: &'a Origins,
 }
 
 impl fmt::Display for OriginsText<'_> {
-    ghost output = { λ it. Some (origins_text it.told.records.now it.told.offsets.now it.origins.now) };
+    ghost output = { λ it. Some (origins_text it.listing.records.now (besides it.listing.marks.now) it.origins.now) };
 
     fn fmt<W: fmt::Write>(&self, f: &mut fmt::Formatter<W>) -> fmt::Result {
         let heading = self.origins.part.heading();
@@ -107,7 +53,7 @@ impl fmt::Display for OriginsText<'_> {
             return write!(f, "\n{heading}: none\n");
         }
         let lines = RecordLines {
-            told: self.told,
+            listing: self.listing,
             places: &self.origins.places,
         };
         write!(f, "\n{heading}:\n{lines}")

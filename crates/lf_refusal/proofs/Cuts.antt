@@ -9,6 +9,7 @@ one_line : (t : Bool) (b : ℕ) (text : List ℕ) (n : ℕ) → (length text ≤
 one_line true b text n only far = absurd (omega arith)
 one_line false b text n only far = let all : slice_split is_newline text ≡ text ∷ [] = only (omega arith) in rw all refl
 
-pub last_line : (text : List ℕ) → length text ≤ position_or_len is_newline text → slice_split is_newline text ≡ text ∷ []
+pub last_line : (text : List ℕ) → length text ≤ position_or_len is_newline text →
+    slice_split is_newline text ≡ text ∷ []
 last_line [] far = refl
 last_line (b ∷ text) far = one_line (is_newline b) b text (position_or_len is_newline text) (last_line text) far

@@ -31,7 +31,7 @@ pub(crate) fn behind(bytes: &[u8], place: usize) -> &[u8]
 }
 
 /// The first bytes, at most so many.
-pub(crate) fn up_to(bytes: &[u8], len: u64) -> &[u8]
+pub fn up_to(bytes: &[u8], len: u64) -> &[u8]
     ensures { result.now ≡ take len bytes.now }
 {
     if len < bytes.len() as u64 {
@@ -66,8 +66,8 @@ pub(crate) fn u64_at(bytes: &[u8], place: usize) -> u64
     u64::from(u32_at(bytes, place)) + 0x1_0000_0000 * u64::from(u32_at(bytes, place + 4))
 }
 
-/// The header that these bytes spell.
-pub(crate) fn header_at(bytes: &[u8]) -> Header
+/// The header that the first 16 bytes spell, whether or not its numbers are allowed. Bytes that are not there are 0.
+pub fn header_at(bytes: &[u8]) -> Header
     ensures { result ≡ header_at bytes.now }
 {
     let version = u16_at(bytes, 4);

@@ -21,6 +21,7 @@ mod part;
 #[cfg(test)]
 mod tests;
 
+pub use bytes::{header_at, up_to};
 pub use config::ConfigRefusal;
 pub use format::FormatRefusal;
 pub use header::HeaderRefusal;

@@ -16,7 +16,8 @@ module _ (change : Event → Change) where
       ap (λ m. latest_first change (take m rs)) (add-one n) ∙ ap (latest_first change) (take_at rs n r e)
       ∙ fold-append (λ (before : List Change) (r : Record). change r.event ∷ before) [] (take n rs) (r ∷ [])
 
-  longer : (before : List Change) (rs : List Record) → length (fold (λ (cs : List Change) (r : Record). change r.event ∷ cs) before rs) ≡ length before + length rs
+  longer : (before : List Change) (rs : List Record) → length
+      (fold (λ (cs : List Change) (r : Record). change r.event ∷ cs) before rs) ≡ length before + length rs
   longer before [] = omega arith
   longer before (r ∷ rs) = omega (arith, longer (change r.event ∷ before) rs)
 

@@ -1,4 +1,2 @@
 mod Bounds
 mod Latest
-mod Lines
-mod Pushed

@@ -1,7 +1,8 @@
 -- What the events of a bank change in its levels.
 use Rattle.std.specs.Prelude.{List, [], ◌∷◌, fold}
 use Rattle.lf_rules.specs.declared.event.Event.{Event}
-use Rattle.lf_rules.specs.declared.event.Event.TheVariants.{Primary, Merge, Fill1, Evict1, SecondPrimary, SecondMerge, Fill2, Evict2}
+use Rattle.lf_rules.specs.declared.event.Event.TheVariants.{Primary, Merge, Fill1, Evict1, SecondPrimary, SecondMerge}
+use Rattle.lf_rules.specs.declared.event.Event.TheVariants.{Fill2, Evict2}
 use Rattle.lf_rules.specs.declared.event.Record.{Record}
 use Rattle.lf_rules.specs.declared.shape.Shape.{Shape}
 use Rattle.lf_rules.specs.Address.{set1_of, set2_of}

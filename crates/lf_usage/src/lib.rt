@@ -17,5 +17,5 @@ mod usage;
 
 pub use level::LevelUse;
 pub use lf_rules::NoMemory;
-pub use text::UsageText;
+pub use text::{UsageText, tags_used};
 pub use usage::{BankUse, Usage, usage_of};

@@ -27,7 +27,8 @@ impl Counts {
     }
 
     fn set(&mut self, key: u32, count: u32) -> Result<(), NoMemory>
-        ensures { OnOk result ((other : ℕ) → count_at self.new other ≡ (if key == other then count else count_at self.old other)) }
+        ensures { OnOk result ((other : ℕ) → count_at self.new other
+            ≡ (if key == other then count else count_at self.old other)) }
     {
         let _ = self.0.insert(key, count)?;
         Ok(())
@@ -67,8 +68,10 @@ impl Tally {
     /// Makes the change, and says what it uses.
     fn make(&mut self, change: Change) -> Result<LevelUse, NoMemory>
         requires few { (before : List Change) × Holds self.old before × (length before < 2 ^ 30) }
-        ensures holds { OnOk result ((before : List Change) → Holds self.old before → Holds self.new (change ∷ before)) }
-        ensures uses { IfOk result (λ used. (before : List Change) → Holds self.old before → used ≡ uses (change ∷ before)) }
+        ensures holds { OnOk result ((before : List Change) → Holds self.old before →
+            Holds self.new (change ∷ before)) }
+        ensures uses { IfOk result (λ used. (before : List Change) → Holds self.old before →
+            used ≡ uses (change ∷ before)) }
         ensures most { OnOk result (self.new.most ≡ self.old.most) }
     {
         let mut used = LevelUse::default();

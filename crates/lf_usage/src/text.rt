@@ -1,7 +1,9 @@
 //! The text of what a trace uses at most.
 
 ghost use Rattle.std.specs.Prelude.{◌≡◌, ◌≤◌, Some};
-ghost use Rattle.lf_usage.specs.Text.{share_text, registers_text, level_line, bank_lines, tags_used, port_line, lines_from, usage_text};
+ghost use Rattle.lf_stats.specs.Text.{lines_from};
+ghost use Rattle.lf_usage.specs.Text.{share_text, registers_text, level_line, bank_lines, tags_used, port_line};
+ghost use Rattle.lf_usage.specs.Text.{usage_text};
 
 use crate::level::LevelUse;
 use crate::usage::{BankUse, Usage};
@@ -147,7 +149,7 @@ impl fmt::Display for BankTexts<'_> {
 }
 
 /// How many tags there are up to this one.
-fn tags_used(highest: Option<u8>) -> u32
+pub fn tags_used(highest: Option<u8>) -> u32
     ensures { result ≡ tags_used highest }
 {
     match highest {

@@ -16,7 +16,8 @@ loop-place-preserved c =
     let bytes : c.beyond-bytes.result ≡ beyond (mask_at masks i) (mask_at others i) =
     c.beyond-bytes.ensures ∙ ap₂ beyond c.mask_at.ensures c.mask_at-in-loop-place.ensures in
     record {
-      read = c.push.ensures.items ∙ ap (λ (ms : List Mask). ms ++ record { 0 = c.beyond-bytes.result } ∷ []) c.loop-place.invariant.read
+      read = c.push.ensures.items ∙ ap (λ (ms : List Mask). ms ++ record { 0 = c.beyond-bytes.result } ∷ [])
+          c.loop-place.invariant.read
           ∙ ap (λ (n : ℕ). let m : Mask = record { 0 = n } in map f (range_with_len 0 i) ++ m ∷ []) bytes
           ∙ sym (map-range_with_len_more f 0 i i (omega arith));
       count = omega arith;

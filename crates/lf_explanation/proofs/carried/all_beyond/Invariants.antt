@@ -8,6 +8,9 @@ use Rattle.lf_explanation.proofs.carried.all_beyond.Given as goal
 
 abbrev pub invariant-loop-place : goal.invariant-loop-place
 invariant-loop-place l = record {
-  read : l.all.items ≡ map {B = Mask} (λ place. record { 0 = beyond (mask_at l.masks place) (mask_at l.others place) }) (range_with_len 0 l.place);
+  read : l.all.items ≡ map {B = Mask} (λ place. record {
+    0 =
+        beyond (mask_at l.masks place) (mask_at l.others place);
+  }) (range_with_len 0 l.place);
   count : array_vec_len l.all ≡ l.place;
 }

@@ -11,7 +11,12 @@ loop-place-preserved c =
     let i = c.loop-place.place in
     let left : i < length due = omega arith in
     let right : i < length found = omega arith in
-    omega (arith, c.loop-place.invariant, common_prefix_len-drop_yes nat_eq due found i 0 0 left right (sym c.same_at.ensures ∙ c.if-not-same_at.false))
+    omega (
+      arith,
+      c.loop-place.invariant,
+      common_prefix_len-drop_yes nat_eq due found i 0 0 left right
+          (sym c.same_at.ensures ∙ c.if-not-same_at.false),
+    )
 
 pub returns-then-not-same_at : goal.returns-then-not-same_at
 returns-then-not-same_at c =
@@ -20,7 +25,12 @@ returns-then-not-same_at c =
     let i = c.loop-place.place in
     let left : i < length due = omega arith in
     let right : i < length found = omega arith in
-    omega (arith, c.loop-place.invariant, common_prefix_len-drop_no nat_eq due found i 0 0 left right (sym c.same_at.ensures ∙ c.if-not-same_at.true))
+    omega (
+      arith,
+      c.loop-place.invariant,
+      common_prefix_len-drop_no nat_eq due found i 0 0 left right
+          (sym c.same_at.ensures ∙ c.if-not-same_at.true),
+    )
 
 pub returns : goal.returns
 returns c =

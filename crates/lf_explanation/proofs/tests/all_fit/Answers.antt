@@ -5,7 +5,8 @@ use Rattle.lf_rules.specs.declared.event.Record.{Record}
 use Rattle.lf_rules.specs.Fits.{Fits}
 use Rattle.lf_explanation.proofs.tests.all_fit.Goals as goal
 
-all_push : {X : Type 0} (P : X → Type 0) (xs : List X) (x : X) → AllByRecursion P xs → P x → AllByRecursion P (xs ++ x ∷ [])
+all_push : {X : Type 0} (P : X → Type 0) (xs : List X) (x : X) → AllByRecursion P xs → P x →
+    AllByRecursion P (xs ++ x ∷ [])
 all_push P [] x all p = (p, tt)
 all_push P (y ∷ xs) x all p = (all.0, all_push P xs x all.1 p)
 

@@ -31,4 +31,10 @@ pub returns : goal.returns
 returns c =
     let n = c.args.header.now.factor in
     let fits : ℕ → Bool = fits_block c.args.header.now c.args.bytes.now in
-    omega (arith, c.loop-place.invariant, length-range_with_len 0 n, prefix_len-drop_all fits (range_with_len 0 n) c.loop-place.place)
+    omega (
+      arith,
+      c.loop-place.invariant,
+      length-range_with_len 0 n,
+      prefix_len-drop_all fits (range_with_len 0 n)
+          c.loop-place.place,
+    )

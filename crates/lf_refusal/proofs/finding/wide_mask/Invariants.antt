@@ -5,4 +5,5 @@ use Rattle.lf_refusal.proofs.finding.wide_mask.Given as goal
 
 abbrev pub invariant-loop-place : goal.invariant-loop-place
 invariant-loop-place l =
-    l.place + prefix_len (fits_block l.header l.bytes) (drop l.place (range_with_len 0 l.header.factor)) ≡ wide_mask l.header l.bytes
+    l.place + prefix_len (fits_block l.header l.bytes) (drop l.place (range_with_len 0 l.header.factor))
+    ≡ wide_mask l.header l.bytes

@@ -20,14 +20,28 @@ note-requires c =
     let rs : List Record = records_at (lists_of c.args.logs.now) c.args.places.now in
     let n = c.loop-place.place-index in
     let change = change1 c.args.shape.now in
-    record { few = (latest_first change (take n rs), c.loop-place.invariant.one, omega (arith, latest_le change rs n, c.loop-place-test.true, c.requires.few)) }
+    record {
+      few = (
+        latest_first change (take n rs),
+        c.loop-place.invariant.one,
+        omega
+            (arith, latest_le change rs n, c.loop-place-test.true, c.requires.few),
+      );
+    }
 
 pub note-requires-in-loop-place : goal.note-requires-in-loop-place
 note-requires-in-loop-place c =
     let rs : List Record = records_at (lists_of c.args.logs.now) c.args.places.now in
     let n = c.loop-place.place-index in
     let change = change2 c.args.shape.now in
-    record { few = (latest_first change (take n rs), c.loop-place.invariant.two, omega (arith, latest_le change rs n, c.loop-place-test.true, c.requires.few)) }
+    record {
+      few = (
+        latest_first change (take n rs),
+        c.loop-place.invariant.two,
+        omega
+            (arith, latest_le change rs n, c.loop-place-test.true, c.requires.few),
+      );
+    }
 
 pub loop-place-preserved : goal.loop-place-preserved
 loop-place-preserved c =
@@ -36,15 +50,18 @@ loop-place-preserved c =
     let n = c.loop-place.place-index in
     let item = c.record_at.result.now in
     let at_rs : slice_get rs n ≡ Some item =
-    get_found (record_at (lists_of c.args.logs.now)) c.args.places.now n nowhere c.requires.named c.loop-place-test.true ∙ c.record_at.ensures in
+    get_found (record_at (lists_of c.args.logs.now)) c.args.places.now n nowhere c.requires.named
+    c.loop-place-test.true ∙ c.record_at.ensures in
     let before1 = latest_first (change1 shape) (take n rs) in
     let before2 = latest_first (change2 shape) (take n rs) in
     record {
       one = subst (λ (cs : List Change). IsTally c.note.new.self cs)
-          (ap (λ (change : Change). change ∷ before1) c.change1.ensures ∙ sym (latest_next (change1 shape) rs n item at_rs))
+          (ap (λ (change : Change). change ∷ before1) c.change1.ensures
+          ∙ sym (latest_next (change1 shape) rs n item at_rs))
           (c.in_ok-note.ensures before1 c.loop-place.invariant.one);
       two = subst (λ (cs : List Change). IsTally c.note-in-loop-place.new.self cs)
-          (ap (λ (change : Change). change ∷ before2) c.change2.ensures ∙ sym (latest_next (change2 shape) rs n item at_rs))
+          (ap (λ (change : Change). change ∷ before2) c.change2.ensures
+          ∙ sym (latest_next (change2 shape) rs n item at_rs))
           (c.in_ok-note-2.ensures before2 c.loop-place.invariant.two);
     }
 
@@ -53,9 +70,12 @@ returns c =
     let shape : Shape = c.args.shape.now in
     let rs : List Record = records_at (lists_of c.args.logs.now) c.args.places.now in
     let n = c.loop-place.place-index in
-    let long : length rs ≡ length c.args.places.now = length_found (record_at (lists_of c.args.logs.now)) c.args.places.now c.requires.named in
+    let long : length rs ≡ length c.args.places.now = length_found (record_at (lists_of c.args.logs.now))
+    c.args.places.now c.requires.named in
     let all : take n rs ≡ rs = take_all n rs (omega (arith, c.loop-place-test.false, long)) in
     λ i. record {
-      level1 = (c.loop-place.invariant.one.most ∙ ap (λ (rs : List Record). level_use (latest_first (change1 shape) rs)) all) i;
-      level2 = (c.loop-place.invariant.two.most ∙ ap (λ (rs : List Record). level_use (latest_first (change2 shape) rs)) all) i;
+      level1 = (c.loop-place.invariant.one.most ∙ ap (λ (rs : List Record). level_use
+          (latest_first (change1 shape) rs)) all) i;
+      level2 = (c.loop-place.invariant.two.most ∙ ap (λ (rs : List Record). level_use
+          (latest_first (change2 shape) rs)) all) i;
     }

@@ -3,7 +3,7 @@ use Rattle.std.specs.Global.{Vec}
 use Rattle.std.proofs.lemmas.List.{length-append, get_or-map}
 use Rattle.lf_rules.specs.declared.event.Record.{Record}
 use Rattle.lf_rules.specs.Lists.{lists_of}
-use Rattle.lf_usage.proofs.Pushed.{each_more}
+use Rattle.lf_stats.proofs.Pushed.{each_more}
 use Rattle.lf_usage.specs.declared.usage.BankUse.{BankUse}
 use Rattle.lf_usage.specs.Usage.{IsBankUse, highest_tag}
 use Rattle.lf_usage.proofs.usage.usage_of.Goals as goal

@@ -9,4 +9,5 @@ unfolding block_text
 returns-clause-writes g c plain ok =
     let named = c.args.self.now.0.now in
     let state = named.state in
-    has_written_of_eq _ _ _ _ _ (sym (grouped (heading_text named) (lines_text state) (registers_text state) (asked_text state) (memory_text state))) (c.write.ensures.writes plain ok)
+    has_written_of_eq _ _ _ _ _ (sym (grouped (heading_text named) (lines_text state) (registers_text state)
+    (asked_text state) (memory_text state))) (c.write.ensures.writes plain ok)

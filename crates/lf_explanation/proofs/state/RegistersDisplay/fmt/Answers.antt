@@ -8,5 +8,6 @@ use Rattle.lf_explanation.proofs.state.RegistersDisplay.fmt.Goals as goal
 pub returns-clause-writes : goal.returns-clause-writes
 returns-clause-writes g c plain ok =
     let state = c.args.self.now.0.now in
-    has_written_of_eq _ _ _ _ _ (sym (grouped (codes "  level-one register    ") (register1_text state.held state.stores)
+    has_written_of_eq _ _ _ _ _ (sym (grouped (codes "  level-one register    ")
+    (register1_text state.held state.stores)
     (10 ∷ codes "  level-two register    ") (register2_text state.fetched) (10 ∷ []))) (c.write.ensures.writes plain ok)

@@ -10,9 +10,20 @@ overflow_add-self c =
 pub overflow_add-used : goal.overflow_add-used
 overflow_add-used c =
     let before = c.requires.few.0 in
-    omega (arith, c.of.ensures ∙ c.requires.few.1.targets c.in-Joined.register, targets_le c.in-Joined.register before, c.requires.few.2)
+    omega (
+      arith,
+      c.of.ensures ∙ c.requires.few.1.targets c.in-Joined.register,
+      targets_le c.in-Joined.register
+          before,
+      c.requires.few.2,
+    )
 
 pub overflow_add-used-in-Filled : goal.overflow_add-used-in-Filled
 overflow_add-used-in-Filled c =
     let before = c.requires.few.0 in
-    omega (arith, c.of-in-Filled.ensures ∙ c.requires.few.1.lines c.in-Filled.set, lines_le c.in-Filled.set before, c.requires.few.2)
+    omega (
+      arith,
+      c.of-in-Filled.ensures ∙ c.requires.few.1.lines c.in-Filled.set,
+      lines_le c.in-Filled.set before,
+      c.requires.few.2,
+    )

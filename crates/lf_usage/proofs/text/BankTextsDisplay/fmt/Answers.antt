@@ -3,8 +3,9 @@ use Rattle.std.proofs.lemmas.Grind.{put_two}
 use Rattle.lf_usage.specs.declared.level.LevelUse.{LevelUse}
 use Rattle.lf_usage.specs.declared.usage.BankUse.{BankUse}
 use Rattle.lf_usage.specs.Usage.{unused}
-use Rattle.lf_usage.specs.Text.{bank_lines, lines_from}
-use Rattle.lf_usage.proofs.Lines.{lines_next}
+use Rattle.lf_stats.specs.Text.{lines_from}
+use Rattle.lf_usage.specs.Text.{bank_lines}
+use Rattle.lf_stats.proofs.Lines.{lines_next}
 use Rattle.lf_usage.proofs.text.BankTextsDisplay.fmt.Goals as goal
 
 pub loop-bank-preserved : goal.loop-bank-preserved
@@ -17,6 +18,7 @@ loop-bank-preserved g c plain =
     let lines = lines_from line 0 (take bank banks) in
     let before = c.loop-bank.invariant plain in
     let inside : bank < length banks = omega (arith, c.loop-bank-test.true) in
-    put_two g.W.Write.write_str_gives c.args.f.now c.loop-bank.f c.write.new.self lines (line bank used) (lines_from line 0 (take (bank + 1) banks))
+    put_two g.W.Write.write_str_gives c.args.f.now c.loop-bank.f c.write.new.self lines (line bank used)
+    (lines_from line 0 (take (bank + 1) banks))
     before (c.in_ok-write.ensures.writes before.plain (refl {a = true}))
     (sym (lines_next line banks bank none inside))

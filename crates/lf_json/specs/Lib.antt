@@ -1,0 +1,2 @@
+-- What an answer in JSON says.
+pub mod Answer

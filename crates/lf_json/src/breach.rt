@@ -1,0 +1,103 @@
+//! A rule that a record breaks.
+
+use crate::carried::set_carried;
+use crate::object::Object;
+use crate::record::{record_at_json, records_json};
+use crate::state::blocks_json;
+use lf_explain::Broken;
+use lf_explanation::{Explanation, sentence_of};
+use lf_listing::Listing;
+use lf_origins::Origins;
+use lf_rules::{NoMemory, Record, Rule};
+use serde_json::{Value, json};
+use std::alloc::Global;
+
+/// How many records of a log these are.
+fn count_in(records: &[Record], log: u8) -> usize {
+    records.iter().filter(|item| item.log == log).count()
+}
+
+/// Where the record stands, as the line of the verdict says it: a record that breaks a rule of a bank by its number
+/// there, and one that breaks a rule of a port by its place in the log.
+fn set_place(
+    object: &mut Object,
+    listing: &Listing<'_>,
+    place: usize,
+    broken: &Option<Broken>,
+) -> Result<(), NoMemory> {
+    let Some(item) = listing.records.get(place) else {
+        return Ok(());
+    };
+    if let Some(broken) = broken {
+        object.set("bank", Value::from(item.bank))?;
+        return object.set("number", Value::from(broken.number));
+    }
+    let event = count_in(&listing.records[..place], item.log);
+    object.set("port", Value::from(item.log))?;
+    object.set("event", Value::from(event))
+}
+
+/// The rule, and what it asks.
+fn set_rule(object: &mut Object, rule: Rule) -> Result<(), NoMemory> {
+    let name = format!(in object.alloc; "{rule}")?;
+    object.set_text("kind", "rule")?;
+    object.set_text("rule", name.as_str())?;
+    object.set_text("asks", sentence_of(rule))
+}
+
+/// The records that the state of the rule comes from, and null where it is about no such state.
+fn origins_json(
+    alloc: Global,
+    listing: &Listing<'_>,
+    origins: &Option<Origins>,
+) -> Result<Value, NoMemory> {
+    let Some(origins) = origins else {
+        return Ok(Value::Null);
+    };
+    let records = records_json(alloc, listing, &origins.places)?;
+    Ok(json!(in alloc; {"heading": origins.part.heading(), "records": records})?)
+}
+
+/// What the record that breaks the rule has to carry, and what the bank has of its blocks.
+fn set_broken(
+    object: &mut Object,
+    listing: &Listing<'_>,
+    why: &Explanation,
+) -> Result<(), NoMemory> {
+    let alloc = object.alloc;
+    for name in [
+        "expected",
+        "found",
+        "first_different",
+        "too_many",
+        "too_few",
+    ] {
+        object.set(name, Value::Null)?;
+    }
+    let Some(broken) = &why.broken else {
+        return object.set("blocks", Value::Array(Vec::new(alloc)));
+    };
+    object.set("blocks", blocks_json(alloc, &broken.blocks)?)?;
+    match lf_history::record_at(listing.records, why.history.place) {
+        Some(item) => set_carried(object, broken, &item.event),
+        None => Ok(()),
+    }
+}
+
+/// Why a record breaks a rule.
+pub(crate) fn breach_json(
+    alloc: Global,
+    listing: &Listing<'_>,
+    why: &Explanation,
+) -> Result<Value, NoMemory> {
+    let mut object = Object::new(alloc);
+    set_rule(&mut object, why.rule)?;
+    if let Some(place) = why.history.place {
+        set_place(&mut object, listing, place, &why.broken)?;
+    }
+    object.set("record", record_at_json(alloc, listing, why.history.place)?)?;
+    set_broken(&mut object, listing, why)?;
+    object.set("origins", origins_json(alloc, listing, &why.origins)?)?;
+    object.set("before", records_json(alloc, listing, &why.history.before)?)?;
+    Ok(object.done())
+}

@@ -1,0 +1,124 @@
+//! Why a trace is not legal.
+
+ghost use Rattle.std.specs.Prelude.{◌≡◌, IfOk};
+ghost use Rattle.std.specs.List.{AllByRecursion};
+ghost use Rattle.lf_rules.specs.Fits.{Fits};
+ghost use Rattle.lf_rules.specs.InRange.{IsShape};
+ghost use Rattle.lf_listing.specs.Marks.{told_by};
+ghost use Rattle.lf_verdict.specs.Verdict.{IsNo};
+ghost use Rattle.lf_why.specs.Cause.{HasBankOf};
+ghost use Rattle.lf_why.specs.NotLegal.{as_fault, names_place, HasBankOfFirst, IsEarliestIf, IsFirstCause, IsNotLegal};
+
+use crate::cause::{Cause, Contents, cause_of};
+use crate::why::Asked;
+use lf_codec::exact_reading;
+use lf_contents::{Parts, parts_in};
+use lf_history::record_offsets;
+use lf_listing::{Mark, marks_of};
+use lf_rules::{NoMemory, Record, Shape};
+use lf_verdict::{Broken, Fault, PartFault};
+use std::alloc::Global;
+
+/// How many bytes the end of a trace takes.
+const END: u64 = 8;
+
+/// Why a trace is not legal.
+#[derive(Debug, Drop)]
+pub struct NotLegal {
+    /// The records of the trace, in the order of the file.
+    pub records: Vec<Record>,
+    /// What stands beside each record.
+    pub marks: Vec<Mark>,
+    /// Why the fault stands that the verdict names.
+    pub fault: Cause,
+    /// Why what broke first stands, where the verdict does not name its place.
+    pub first: Option<Cause>,
+}
+
+/// A fault of a part, as a verdict names it.
+fn as_fault(part: &PartFault) -> Fault
+    ensures { result ≡ as_fault part.now }
+{
+    match *part {
+        PartFault::Double { bank, k } => Fault::Double { bank, k },
+        PartFault::Port { port, at, rule } => Fault::Port { port, at, rule },
+        PartFault::Bank { bank, number, rule } => Fault::Bank { bank, number, rule },
+    }
+}
+
+/// Whether the verdict names the place of that fault.
+fn names_place(fault: &Fault, part: &PartFault) -> bool
+    ensures { result ≡ names_place fault.now part.now }
+{
+    match (fault, part) {
+        (Fault::Double { bank, k }, PartFault::Double { bank: b, k: n }) => bank == b && k == n,
+        (Fault::Port { port, at, .. }, PartFault::Port { port: p, at: n, .. }) => {
+            port == p && at == n
+        }
+        (
+            Fault::Bank { bank, number, .. },
+            PartFault::Bank {
+                bank: b,
+                number: n,
+                ..
+            },
+        ) => { bank == b && number == n }
+        _ => false,
+    }
+}
+
+/// Why what broke first stands, where the verdict does not name its place.
+fn first_cause(
+    alloc: Global,
+    shape: &Shape,
+    contents: &Contents<'_>,
+    fault: &Fault,
+    earliest: &Option<Broken>,
+    most: u16,
+) -> Result<Option<Cause>, NoMemory>
+    requires in_range { IsShape shape.now }
+    requires bank { HasBankOfFirst shape.now earliest.now }
+    requires fit { AllByRecursion (Fits shape.now) contents.now.records.now }
+    ensures { IfOk result (IsFirstCause shape.now contents.now.memory.now.items contents.now.records.now most fault.now
+        earliest.now) }
+{
+    match earliest {
+        Some(Broken::Part { fault: part, .. }) if !names_place(fault, part) => {
+            Ok(Some(cause_of(alloc, shape, contents, &as_fault(part), most)?))
+        }
+        _ => Ok(None),
+    }
+}
+
+/// Why the trace in these bytes is not legal.
+pub(crate) fn not_legal(
+    alloc: Global,
+    shape: &Shape,
+    bytes: &[u8],
+    fault: &Fault,
+    earliest: &Option<Broken>,
+    asked: &Asked<'_>,
+) -> Result<NotLegal, NoMemory>
+    requires in_range { IsShape shape.now }
+    requires no { IsNo shape.now bytes.now fault.now }
+    requires earliest { IsEarliestIf shape.now bytes.now earliest.now }
+    ensures { IfOk result (IsNotLegal shape.now bytes.now (told_by asked.now.times) asked.now.most fault.now) }
+{
+    exact_reading();
+    let Asked { most, times } = *asked;
+    let Parts { memory, records } = parts_in(alloc, bytes)?;
+    let offsets = record_offsets(alloc, bytes.len() as u64 - END, &records)?;
+    let marks = marks_of(alloc, &records, &offsets, times)?;
+    let contents = Contents {
+        memory: &memory,
+        records: &records,
+    };
+    let first = first_cause(alloc, shape, &contents, fault, earliest, most)?;
+    let fault = cause_of(alloc, shape, &contents, fault, most)?;
+    Ok(NotLegal {
+        records,
+        marks,
+        fault,
+        first,
+    })
+}

@@ -1,0 +1,89 @@
+//! Why a verdict is what it is.
+
+ghost use Rattle.std.specs.Prelude.{◌≡◌, IfOk};
+ghost use Rattle.lf_listing.specs.Marks.{told_by};
+ghost use Rattle.lf_rules.specs.InRange.{IsShape};
+ghost use Rattle.lf_contents.specs.Logs.{IsCountable};
+ghost use Rattle.lf_verdict.specs.Verdict.{IsDecided, IsVerdictOf};
+ghost use Rattle.lf_why.specs.NotLegal.{IsEarliestIf};
+ghost use Rattle.lf_why.specs.Why.{records_before, IsUsageOf, HasWhy};
+
+use crate::not_legal::{NotLegal, not_legal};
+use lf_codec::CodecFault;
+use lf_contents::{logs_in, records_in};
+use lf_map::Times;
+use lf_refusal::up_to;
+use lf_rules::{NoMemory, Shape};
+use lf_usage::{Usage, usage_of};
+use lf_verdict::{Broken, Refusal, Verdict};
+use std::alloc::Global;
+
+/// Why a verdict is what it is.
+#[derive(Debug, Drop)]
+pub enum Why {
+    /// Why a trace is not legal.
+    No(NotLegal),
+    /// What a legal trace used at most.
+    Yes(Usage),
+    /// Where bytes are no trace, and how many event records stand before.
+    Format { fault: CodecFault, count: u64 },
+    /// The trace is of another hierarchy.
+    Header,
+}
+
+/// What is told of a verdict beside what explains it.
+#[derive(Clone, Copy)]
+pub struct Asked<'a> {
+    /// How many records before one that breaks a rule.
+    pub most: u16,
+    /// The time of each record, where a recorder wrote it down.
+    pub times: Option<&'a Times>,
+}
+
+/// What the trace in these bytes uses at most.
+fn usage_in(alloc: Global, shape: &Shape, bytes: &[u8]) -> Result<Usage, NoMemory>
+    requires in_range { IsShape shape.now }
+    requires countable { IsCountable shape.now bytes.now }
+    ensures { IfOk result (IsUsageOf shape.now bytes.now) }
+{
+    let logs = logs_in(alloc, shape, bytes)?;
+    usage_of(alloc, shape, &logs)
+}
+
+/// How many event records stand before an offset.
+fn records_before(alloc: Global, bytes: &[u8], offset: u64) -> Result<u64, NoMemory>
+    ensures { IfOk result (λ count. count ≡ records_before bytes.now offset) }
+{
+    let records = records_in(alloc, up_to(bytes, offset))?;
+    Ok(records.len() as u64)
+}
+
+/// Why the verdict on these bytes is what it is. A refused configuration, a refused number of workers, and that memory
+/// ran out or a thread was refused are not told of.
+pub fn why_of(
+    alloc: Global,
+    shape: &Shape,
+    bytes: &[u8],
+    verdict: &Verdict,
+    earliest: &Option<Broken>,
+    asked: &Asked<'_>,
+) -> Result<Option<Why>, NoMemory>
+    requires in_range { IsShape shape.now }
+    requires judged { IsDecided verdict.now → IsVerdictOf shape.now 1 bytes.now verdict.now }
+    requires earliest { IsEarliestIf shape.now bytes.now earliest.now }
+    ensures { IfOk result (HasWhy shape.now bytes.now (told_by asked.now.times) asked.now.most verdict.now) }
+{
+    match verdict {
+        Verdict::No(fault) => {
+            let why = not_legal(alloc, shape, bytes, fault, earliest, asked)?;
+            Ok(Some(Why::No(why)))
+        }
+        Verdict::Yes { .. } => Ok(Some(Why::Yes(usage_in(alloc, shape, bytes)?))),
+        Verdict::Refused(Refusal::Format(fault)) => Ok(Some(Why::Format {
+            fault: *fault,
+            count: records_before(alloc, bytes, fault.offset)?,
+        })),
+        Verdict::Refused(Refusal::Header(_)) => Ok(Some(Why::Header)),
+        Verdict::Refused(_) => Ok(None),
+    }
+}
