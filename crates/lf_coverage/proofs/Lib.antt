@@ -1,2 +1,3 @@
 mod Tallies
 mod Standings
+mod Counting

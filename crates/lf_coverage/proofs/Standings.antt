@@ -1,8 +1,8 @@
 -- Where a bank stands after one more record, and what is seen of it.
-use Rattle.std.proofs.Common.{◌≡◌, ℕ, zero, suc, ◌+◌, ◌≤◌, List, [], ◌∷◌, ◌++◌, map, length, Option, Some, None, not, ◌==◌, sym, ap, arith, add-one, ◌∙◌}
-use Rattle.std.specs.List.{slice_get, range_with_len}
+use Rattle.std.proofs.Common.{◌≡◌, ℕ, zero, suc, ◌+◌, ◌≤◌, List, [], ◌∷◌, length, Option, Some, None, not}
+use Rattle.std.proofs.Common.{◌==◌, ap, arith, add-one, ◌∙◌}
+use Rattle.std.specs.List.{slice_get}
 use Rattle.std.proofs.lemmas.List.{length-append}
-use Rattle.std.proofs.lemmas.List.FromFn.{map-range_with_len_more}
 use Rattle.std.proofs.lemmas.List.Sums.{length-filter, count_by-le-length}
 use Rattle.lf_rules.specs.declared.shape.Shape.{Shape}
 use Rattle.lf_rules.specs.declared.event.Record.{Record}
@@ -10,8 +10,8 @@ use Rattle.lf_rules.specs.declared.event.Event.{Event}
 use Rattle.lf_rules.specs.declared.event.Event.TheVariants.{Primary, Merge, Fill1, SecondPrimary, SecondMerge, Fill2}
 use Rattle.lf_rules.specs.Address.{second_of}
 use Rattle.lf_coverage.specs.declared.request.Request.{Request}
-use Rattle.lf_coverage.specs.declared.sight.Sight.{Sight}
-use Rattle.lf_coverage.specs.Standing.{Standing, with_request, waiting_after, waiting2_after, standing_after, after_if, standing}
+use Rattle.lf_coverage.specs.Standing.{Standing, with_request, waiting_after, waiting2_after, standing_after}
+use Rattle.lf_coverage.specs.Standing.{after_if, standing}
 use Rattle.lf_coverage.specs.Sights.{sight, sight_by, sight_if}
 
 -- ---- no more requests wait than there are records
@@ -29,7 +29,8 @@ waiting_after_le latest (Fill1 block bytes) waiting =
     omega (arith, length-filter others waiting, count_by-le-length others waiting)
 waiting_after_le latest _ waiting = omega arith
 
-after_if_le : (shape : Shape) (o : Option Record) (s : Standing) → length ((after_if shape o s).waiting) ≤ suc (length s.waiting)
+after_if_le : (shape : Shape) (o : Option Record) (s : Standing) →
+    length ((after_if shape o s).waiting) ≤ suc (length s.waiting)
 after_if_le shape None s = omega arith
 after_if_le shape (Some r) s = waiting_after_le s.latest r.event s.waiting
 
@@ -41,15 +42,19 @@ waiting_le shape rs (suc n) =
 
 -- ---- nor do more misses wait for level two
 
-waiting2_after_le : (shape : Shape) (event : Event) (waiting : List ℕ) → length (waiting2_after shape event waiting) ≤ suc (length waiting)
-waiting2_after_le shape (SecondPrimary block register) waiting = omega (arith, length-append waiting (second_of shape block ∷ []))
-waiting2_after_le shape (SecondMerge block register) waiting = omega (arith, length-append waiting (second_of shape block ∷ []))
+waiting2_after_le : (shape : Shape) (event : Event) (waiting : List ℕ) →
+    length (waiting2_after shape event waiting) ≤ suc (length waiting)
+waiting2_after_le shape (SecondPrimary block register) waiting =
+    omega (arith, length-append waiting (second_of shape block ∷ []))
+waiting2_after_le shape (SecondMerge block register) waiting =
+    omega (arith, length-append waiting (second_of shape block ∷ []))
 waiting2_after_le shape (Fill2 second bytes) waiting =
     let others = λ (other : ℕ). not (other == second) in
     omega (arith, length-filter others waiting, count_by-le-length others waiting)
 waiting2_after_le shape _ waiting = omega arith
 
-after_if_le2 : (shape : Shape) (o : Option Record) (s : Standing) → length ((after_if shape o s).waiting2) ≤ suc (length s.waiting2)
+after_if_le2 : (shape : Shape) (o : Option Record) (s : Standing) →
+    length ((after_if shape o s).waiting2) ≤ suc (length s.waiting2)
 after_if_le2 shape None s = omega arith
 after_if_le2 shape (Some r) s = waiting2_after_le shape r.event s.waiting2
 
@@ -68,13 +73,3 @@ standing_at shape rs n r e = ap (standing shape rs) (add-one n) ∙ ap (λ o. af
 pub sight_at : (shape : Shape) (rs : List Record) (n : ℕ) (r : Record) → slice_get rs n ≡ Some r
     → sight shape rs n ≡ sight_by shape (standing shape rs n) r.event
 sight_at shape rs n r e = ap (sight_if shape (standing shape rs n)) e
-
--- the list of what is seen, after one more record
-pub sights_more : (shape : Shape) (rs : List Record) (n : ℕ) (before after : List Sight) (seen : Sight)
-    → before ≡ map (sight shape rs) (range_with_len 0 n) → after ≡ before ++ seen ∷ [] → seen ≡ sight shape rs n
-    → after ≡ map (sight shape rs) (range_with_len 0 (n + 1))
-sights_more shape rs n before after seen all pushed is =
-    pushed
-    ∙ ap (λ (ss : List Sight). ss ++ seen ∷ []) all
-    ∙ ap (λ (s : Sight). map (sight shape rs) (range_with_len 0 n) ++ s ∷ []) is
-    ∙ sym (map-range_with_len_more (sight shape rs) 0 n n (omega arith))

@@ -1,17 +1,10 @@
 -- What is kept of a bank's records.
-use Rattle.std.specs.Prelude.{◌≡◌, ℕ, ◌+◌, ◌*◌, ◌^◌, ◌<◌, ◌≤◌, Bool, ◌==◌}
-use Rattle.std.specs.Prelude.{List, length, All, IsSome, Option, None, slice_index_or}
+use Rattle.std.specs.Prelude.{◌≡◌, ℕ, ◌+◌, ◌*◌, ◌<◌, Bool, ◌==◌, length, Option, None, slice_index_or}
 use Rattle.std.specs.HashSet.{HashSet, contains}
-use Rattle.lf_rules.specs.declared.shape.Shape.{Shape}
-use Rattle.lf_rules.specs.declared.event.Record.{Record}
-use Rattle.lf_logs.specs.Places.{record_at, records_at}
-use Rattle.lf_stats.specs.Statistics.{held_counts}
 use Rattle.lf_coverage.specs.declared.request.Request.{Request}
 use Rattle.lf_coverage.specs.declared.request.Requests.{Requests}
 use Rattle.lf_coverage.specs.declared.standing.Kept.{Kept}
-use Rattle.lf_coverage.specs.declared.counts.Order.{Order}
 use Rattle.lf_coverage.specs.Standing.{Standing}
-use Rattle.lf_coverage.specs.Sights.{sights}
 
 -- the latest request of the port with the tag
 abbrev pub latest_in : Requests → ℕ → ℕ → Option Request
@@ -29,10 +22,3 @@ pub record IsKept (kept : Kept) (s : Standing) : Type 0 where
   pub written : (block : ℕ) → is_in kept.written block ≡ s.written block
   pub waiting2 : kept.waiting2.items ≡ s.waiting2
   pub written2 : (second : ℕ) → is_in kept.written2 second ≡ s.written2 second
-
--- the order has the places of these records, and what is counted and seen of each
-pub record IsOrder (shape : Shape) (logs : List (List Record)) (order : Order) : Type 0 where
-  pub named : All (λ place. IsSome (record_at logs place)) order.places.now
-  pub few : length order.places.now ≤ 2 ^ 29
-  pub held : order.held.now ≡ held_counts shape (records_at logs order.places.now)
-  pub seen : order.seen.now ≡ sights shape (records_at logs order.places.now)

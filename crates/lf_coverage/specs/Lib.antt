@@ -5,6 +5,7 @@ pub mod Sights
 pub mod Kept
 pub mod Points
 pub mod Reachable
+pub mod Counted
 pub mod Coverage
 pub mod Text
 pub mod Data

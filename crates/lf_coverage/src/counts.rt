@@ -1,140 +1,196 @@
-//! How often a point was reached.
+//! How often the records of a bank reached each point.
 
-ghost use Rattle.std.specs.Prelude.{◌≡◌, ◌<◌, ◌≤◌, ◌^◌, ◌++◌, OnOk, length, All, IsSome};
+ghost use Rattle.std.specs.Prelude.{◌≡◌, ℕ, ◌+◌, ◌<◌, ◌≤◌, ◌^◌, length, All, IsSome, IfOk, if◌then◌else◌};
+ghost use Rattle.std.specs.Prelude.{slice_index};
 ghost use Rattle.lf_rules.specs.Lists.{lists_of};
 ghost use Rattle.lf_logs.specs.Places.{record_at, records_at};
 ghost use Rattle.lf_stats.specs.Statistics.{held_counts};
-ghost use Rattle.lf_coverage.specs.Sights.{sights};
-ghost use Rattle.lf_coverage.specs.Kept.{IsOrder};
-ghost use Rattle.lf_coverage.specs.Points.{reached, port_reached};
-ghost use Rattle.lf_coverage.specs.Coverage.{bank_tally, bank_tallies, port_tally, port_tallies};
-ghost use Rattle.lf_coverage.specs.Reachable.{bank_points};
+ghost use Rattle.lf_coverage.specs.declared.point.BankPoint.{BankPoint};
+ghost use Rattle.lf_coverage.specs.Points.{is_number, reaches, reached};
+ghost use Rattle.lf_coverage.specs.Counted.{kind_at, numbers_of, AreFew, AreCounts};
 
-use crate::point::{BankPoint, Point, PortPoint};
+use crate::point::{BankPoint, Measure};
 use crate::sight::Sight;
-use crate::tally::Tally;
+use crate::standing::Kept;
 use lf_logs::{Place, record_at};
-use lf_rules::{Logs, NoMemory, Record, Shape};
+use lf_rules::{Event, Logs, NoMemory, Shape};
+use std::alloc::Global;
 
-/// The points of a port.
-const PORT_POINTS: [PortPoint; 10] = [
-    PortPoint::Load(1),
-    PortPoint::Load(2),
-    PortPoint::Load(4),
-    PortPoint::Load(8),
-    PortPoint::Store(1),
-    PortPoint::Store(2),
-    PortPoint::Store(4),
-    PortPoint::Store(8),
-    PortPoint::Reply,
-    PortPoint::Fence,
+/// How many points have no number.
+const KIND_COUNT: usize = 29;
+
+/// The numbers of a measure that are told apart: those below.
+const NUMBERS: usize = 65;
+
+/// The points of a bank without a number.
+pub(crate) const KINDS: [BankPoint; KIND_COUNT] = [
+    BankPoint::Hit,
+    BankPoint::Primary,
+    BankPoint::Merge,
+    BankPoint::Stall,
+    BankPoint::StallNoRegister,
+    BankPoint::StallNoEntry,
+    BankPoint::StallField,
+    BankPoint::Fill1,
+    BankPoint::Evict1,
+    BankPoint::CleanEviction,
+    BankPoint::PartEviction,
+    BankPoint::WholeEviction,
+    BankPoint::HitUnderMiss,
+    BankPoint::SecondHit,
+    BankPoint::SecondPrimary,
+    BankPoint::SecondMerge,
+    BankPoint::SecondStall,
+    BankPoint::SecondStallNoRegister,
+    BankPoint::SecondStallNoEntry,
+    BankPoint::SecondRefetch,
+    BankPoint::Fill2,
+    BankPoint::Evict2,
+    BankPoint::LoadBehindLoad,
+    BankPoint::LoadBehindStore,
+    BankPoint::StoreBehindLoad,
+    BankPoint::StoreBehindStore,
+    BankPoint::Refetch,
+    BankPoint::FillOutOfOrder,
+    BankPoint::FillOverStores,
 ];
 
-/// The places of a bank's records in the order of their numbers, how many registers of level one are held before the
-/// first and after each, and what is seen of each.
-#[derive(Clone, Copy)]
-pub(crate) struct Order<'a> {
-    pub places: &'a [Place],
-    pub held: &'a [u32],
-    pub seen: &'a [Sight],
+/// Adds one to the count of each point without a number that the event reaches, where so many registers of level one
+/// are held before it and after it, and the records before it say so much of it.
+fn add_kinds(
+    counts: &mut [u32; KIND_COUNT],
+    shape: &Shape,
+    before: u32,
+    after: u32,
+    seen: Sight,
+    event: &Event,
+)
+    requires block { shape.now.block ≤ 64 }
+    requires factor { 0 < shape.now.factor }
+    requires few { (n : ℕ) → n < 29 → slice_index counts.old n < 2 ^ 29 }
+    ensures { (n : ℕ) → n < 29 → slice_index counts.new n ≡ slice_index counts.old n
+        + (if reaches shape.now (kind_at n) before after seen event.now then 1 else 0) }
+{
+    for (i, kind) in KINDS.iter().enumerate() {
+        if kind.reaches(shape, before, after, seen, event) {
+            counts[i] += 1;
+        }
+    }
 }
 
-/// How many of the records at these places reach the point.
-fn reached(
+/// Adds one to the count of the number, where there is one.
+fn add_number(counts: &mut [u32; NUMBERS], number: Option<u32>)
+    requires few { (n : ℕ) → n < 65 → slice_index counts.old n < 2 ^ 29 }
+    ensures { (n : ℕ) → n < 65 → slice_index counts.new n
+        ≡ slice_index counts.old n + (if is_number n number then 1 else 0) }
+{
+    if let Some(number) = number {
+        let place = number as usize;
+        if place < NUMBERS {
+            counts[place] += 1;
+        }
+    }
+}
+
+/// How often each point of a bank was reached so far.
+#[derive(Drop)]
+pub(crate) struct Counts {
+    /// Of each point without a number, in the order of `KINDS`.
+    pub kinds: [u32; KIND_COUNT],
+    /// Of each number of a measure, from 0.
+    pub dirty_blocks: [u32; NUMBERS],
+    pub registers: [u32; NUMBERS],
+    pub targets: [u32; NUMBERS],
+    pub fields: [u32; NUMBERS],
+    pub merge_ports: [u32; NUMBERS],
+    pub second_targets: [u32; NUMBERS],
+    pub second_fields: [u32; NUMBERS],
+}
+
+impl Counts {
+    /// No record yet.
+    fn new() -> Self
+        ensures { AreCounts result (λ point. 0) }
+    {
+        Counts {
+            kinds: [0; KIND_COUNT],
+            dirty_blocks: [0; NUMBERS],
+            registers: [0; NUMBERS],
+            targets: [0; NUMBERS],
+            fields: [0; NUMBERS],
+            merge_ports: [0; NUMBERS],
+            second_targets: [0; NUMBERS],
+            second_fields: [0; NUMBERS],
+        }
+    }
+
+    /// The counts of the numbers of the measure.
+    pub fn numbers(&self, measure: Measure) -> &[u32; NUMBERS]
+        ensures { result.now ≡ numbers_of self.now measure }
+    {
+        match measure {
+            Measure::DirtyBlocks => &self.dirty_blocks,
+            Measure::Registers => &self.registers,
+            Measure::Targets => &self.targets,
+            Measure::Field => &self.fields,
+            Measure::MergePort => &self.merge_ports,
+            Measure::SecondTargets => &self.second_targets,
+            Measure::SecondField => &self.second_fields,
+        }
+    }
+
+    /// Counts an event, where so many registers of level one are held before it and after it, and the records before
+    /// it say so much of it.
+    fn count(&mut self, shape: &Shape, before: u32, after: u32, seen: Sight, event: &Event)
+        requires block { shape.now.block ≤ 64 }
+        requires factor { 0 < shape.now.factor }
+        requires few { AreFew self.old }
+        ensures { (count : BankPoint → ℕ) → AreCounts self.old count → AreCounts self.new
+            (λ point. count point + (if reaches shape.now point before after seen event.now then 1 else 0)) }
+    {
+        let dirty_blocks = Measure::DirtyBlocks.number_of(shape, before, after, seen, event);
+        let registers = Measure::Registers.number_of(shape, before, after, seen, event);
+        let targets = Measure::Targets.number_of(shape, before, after, seen, event);
+        let field = Measure::Field.number_of(shape, before, after, seen, event);
+        let merge_port = Measure::MergePort.number_of(shape, before, after, seen, event);
+        let second_targets = Measure::SecondTargets.number_of(shape, before, after, seen, event);
+        let second_field = Measure::SecondField.number_of(shape, before, after, seen, event);
+        add_kinds(&mut self.kinds, shape, before, after, seen, event);
+        add_number(&mut self.dirty_blocks, dirty_blocks);
+        add_number(&mut self.registers, registers);
+        add_number(&mut self.targets, targets);
+        add_number(&mut self.fields, field);
+        add_number(&mut self.merge_ports, merge_port);
+        add_number(&mut self.second_targets, second_targets);
+        add_number(&mut self.second_fields, second_field);
+    }
+}
+
+/// How often the records at these places reach each point, where so many registers of level one are held before the
+/// first and after each.
+pub(crate) fn counted(
+    alloc: Global,
     shape: &Shape,
     logs: &Logs,
     places: &[Place],
     held: &[u32],
-    seen: &[Sight],
-    point: BankPoint,
-) -> u32
+) -> Result<Counts, NoMemory>
+    requires some_block { 0 < shape.now.block }
     requires block { shape.now.block ≤ 64 }
     requires factor { 0 < shape.now.factor }
     requires named { All (λ place. IsSome (record_at (lists_of logs.now) place)) places.now }
     requires few { length places.now ≤ 2 ^ 29 }
     requires held { held.now ≡ held_counts shape.now (records_at (lists_of logs.now) places.now) }
-    requires seen { seen.now ≡ sights shape.now (records_at (lists_of logs.now) places.now) }
-    ensures { result ≡ reached shape.now (records_at (lists_of logs.now) places.now) point
-        (length (records_at (lists_of logs.now) places.now)) }
+    ensures { IfOk result (λ counts. let rs = records_at (lists_of logs.now) places.now in
+        AreCounts counts (λ point. reached shape.now rs point (length rs))) }
 {
-    let mut count = 0;
+    let mut kept = Kept::new(alloc)?;
+    let mut counts = Counts::new();
     for (i, place) in places.iter().enumerate() {
-        let event = &record_at(logs, *place).event;
-        if point.reaches(shape, held[i], held[i + 1], seen[i], event) {
-            count += 1;
-        }
+        let item = record_at(logs, *place);
+        let seen = kept.sight(shape, &item.event);
+        counts.count(shape, held[i], held[i + 1], seen, &item.event);
+        kept.take(shape, item)?;
     }
-    count
-}
-
-/// How often the records of this order reached the point of the bank.
-fn bank_tally(shape: &Shape, logs: &Logs, bank: u8, order: Order, point: BankPoint) -> Tally
-    requires block { shape.now.block ≤ 64 }
-    requires factor { 0 < shape.now.factor }
-    requires order { IsOrder shape.now (lists_of logs.now) order }
-    ensures { result ≡ bank_tally shape.now bank (records_at (lists_of logs.now) order.entry.places.now) point }
-{
-    Tally {
-        point: Point::Bank { bank, point },
-        count: reached(shape, logs, order.places, order.held, order.seen, point),
-    }
-}
-
-/// Adds what a bank reached, whose records have this order.
-pub(crate) fn add_bank(
-    tallies: &mut Vec<Tally>,
-    shape: &Shape,
-    logs: &Logs,
-    bank: u8,
-    points: &[BankPoint],
-    order: Order,
-) -> Result<(), NoMemory>
-    requires block { shape.now.block ≤ 64 }
-    requires factor { 0 < shape.now.factor }
-    requires points { points.now ≡ bank_points shape.now }
-    requires order { IsOrder shape.now (lists_of logs.now) order }
-    ensures { OnOk result (tallies.new.items
-        ≡ tallies.old.items ++ bank_tallies shape.now bank (records_at (lists_of logs.now) order.entry.places.now)) }
-{
-    for point in points {
-        let tally = bank_tally(shape, logs, bank, order, *point);
-        tallies.push(tally)?;
-    }
-    Ok(())
-}
-
-/// How many records of a port's log reach the point.
-fn port_reached(log: &[Record], point: PortPoint) -> u32
-    requires { length log.now ≤ 2 ^ 24 }
-    ensures { result ≡ port_reached log.now point }
-{
-    let mut count = 0;
-    for item in log {
-        if point.reaches(&item.event) {
-            count += 1;
-        }
-    }
-    count
-}
-
-/// How often the log of the port reached the point.
-fn port_tally(port: u8, log: &[Record], point: PortPoint) -> Tally
-    requires { length log.now ≤ 2 ^ 24 }
-    ensures { result ≡ port_tally port log.now point }
-{
-    Tally {
-        point: Point::Port { port, point },
-        count: port_reached(log, point),
-    }
-}
-
-/// Adds what a port reached.
-pub(crate) fn add_port(tallies: &mut Vec<Tally>, port: u8, log: &[Record]) -> Result<(), NoMemory>
-    requires { length log.now ≤ 2 ^ 24 }
-    ensures { OnOk result (tallies.new.items ≡ tallies.old.items ++ port_tallies port log.now) }
-{
-    for point in &PORT_POINTS {
-        tallies.push(port_tally(port, log, *point))?;
-    }
-    Ok(())
+    Ok(counts)
 }

@@ -4,13 +4,11 @@ ghost use Rattle.std.specs.Prelude.{◌≡◌, ◌+◌, ◌<◌, ◌≤◌, ◌^
 ghost use Rattle.lf_rules.specs.InRange.{IsShape};
 ghost use Rattle.lf_rules.specs.Numbers.{bank_numbers, IsWhole};
 ghost use Rattle.lf_rules.specs.Lists.{lists_of};
-ghost use Rattle.lf_coverage.specs.Reachable.{bank_points};
 ghost use Rattle.lf_coverage.specs.Coverage.{AreOfBanks, of_ports, IsCoverage};
 
-use crate::counts::{Order, add_bank, add_port};
-use crate::point::BankPoint;
-use crate::reachable::bank_points;
-use crate::standing::sights;
+use crate::banks::add_bank;
+use crate::counts::counted;
+use crate::ports::add_port;
 use crate::tally::Tally;
 use lf_logs::bank_order;
 use lf_rules::{Logs, NoMemory, Shape};
@@ -28,12 +26,10 @@ fn cover_bank(
     alloc: Global,
     shape: &Shape,
     logs: &Logs,
-    points: &[BankPoint],
     bank: u8,
     tallies: &mut Vec<Tally>,
 ) -> Result<(), NoMemory>
     requires in_range { IsShape shape.now }
-    requires points { points.now ≡ bank_points shape.now }
     requires few { length logs.now.items ≤ 32 }
     requires short { All (λ log. length log.items ≤ 2 ^ 24) logs.now.items }
     requires whole { IsWhole (bank_numbers (lists_of logs.now) bank) }
@@ -44,13 +40,8 @@ fn cover_bank(
         return Err(NoMemory);
     };
     let held = held_counts(alloc, shape, logs, places.as_slice())?;
-    let seen = sights(alloc, shape, logs, places.as_slice())?;
-    let order = Order {
-        places: places.as_slice(),
-        held: held.as_slice(),
-        seen: seen.as_slice(),
-    };
-    add_bank(tallies, shape, logs, bank, points, order)
+    let counts = counted(alloc, shape, logs, places.as_slice(), held.as_slice())?;
+    add_bank(tallies, shape, bank, &counts)
 }
 
 /// What the banks reached.
@@ -61,17 +52,9 @@ fn cover_banks(alloc: Global, shape: &Shape, logs: &Logs) -> Result<Vec<Tally>, 
     requires whole { (bank : ℕ) → bank < shape.now.banks → IsWhole (bank_numbers (lists_of logs.now) bank) }
     ensures { IfOk result (λ tallies. AreOfBanks shape.now (lists_of logs.now) shape.now.banks tallies.items) }
 {
-    let points = bank_points(alloc, shape)?;
     let mut tallies = Vec::new(alloc);
     for bank in 0..shape.banks {
-        cover_bank(
-            alloc,
-            shape,
-            logs,
-            points.as_slice(),
-            bank as u8,
-            &mut tallies,
-        )?;
+        cover_bank(alloc, shape, logs, bank as u8, &mut tallies)?;
     }
     Ok(tallies)
 }

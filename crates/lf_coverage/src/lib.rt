@@ -5,10 +5,12 @@
 //! shown as lines, the points that were not reached first, and `CoverageData` shows it as a file of Verilator.
 #![tactic(auto)]
 
+mod banks;
 mod counts;
 mod coverage;
 mod data;
 mod point;
+mod ports;
 mod reach;
 mod reachable;
 mod request;

@@ -1,63 +1,15 @@
 //! The points that a hierarchy can reach.
 
-ghost use Rattle.std.specs.Prelude.{◌≡◌, ◌++◌, ◌∷◌, [], OnOk, IfOk, filter};
-ghost use Rattle.std.specs.List.{flat_map};
+ghost use Rattle.std.specs.Prelude.{◌≡◌};
 ghost use Rattle.lf_rules.specs.InRange.{IsShape};
 ghost use Rattle.lf_coverage.specs.Reachable.{requests, most_held, joins, can_merge, most_targets, fields};
 ghost use Rattle.lf_coverage.specs.Reachable.{exceeds_registers, exceeds_entries, exceeds_field, can_stall};
 ghost use Rattle.lf_coverage.specs.Reachable.{joins2, can_merge2, most_asked, most_targets2, can_stall2};
-ghost use Rattle.lf_coverage.specs.Reachable.{can_have, can_reach, kinds, all_measures, points_of, bank_points};
+ghost use Rattle.lf_coverage.specs.Reachable.{can_have, can_reach};
 
 use crate::point::{BankPoint, Measure};
 use crate::reach::is_implicit;
-use lf_rules::{NoMemory, OrgShape, Shape};
-use std::alloc::Global;
-
-/// The points of a bank without a number.
-const KINDS: [BankPoint; 29] = [
-    BankPoint::Hit,
-    BankPoint::Primary,
-    BankPoint::Merge,
-    BankPoint::Stall,
-    BankPoint::StallNoRegister,
-    BankPoint::StallNoEntry,
-    BankPoint::StallField,
-    BankPoint::Fill1,
-    BankPoint::Evict1,
-    BankPoint::CleanEviction,
-    BankPoint::PartEviction,
-    BankPoint::WholeEviction,
-    BankPoint::HitUnderMiss,
-    BankPoint::SecondHit,
-    BankPoint::SecondPrimary,
-    BankPoint::SecondMerge,
-    BankPoint::SecondStall,
-    BankPoint::SecondStallNoRegister,
-    BankPoint::SecondStallNoEntry,
-    BankPoint::SecondRefetch,
-    BankPoint::Fill2,
-    BankPoint::Evict2,
-    BankPoint::LoadBehindLoad,
-    BankPoint::LoadBehindStore,
-    BankPoint::StoreBehindLoad,
-    BankPoint::StoreBehindStore,
-    BankPoint::Refetch,
-    BankPoint::FillOutOfOrder,
-    BankPoint::FillOverStores,
-];
-
-const MEASURES: [Measure; 7] = [
-    Measure::DirtyBlocks,
-    Measure::Registers,
-    Measure::Targets,
-    Measure::Field,
-    Measure::MergePort,
-    Measure::SecondTargets,
-    Measure::SecondField,
-];
-
-/// The numbers of a measure that are told apart: those below.
-const NUMBERS: u32 = 65;
+use lf_rules::{OrgShape, Shape};
 
 /// How many requests can be outstanding at once.
 fn requests(shape: &Shape) -> u32
@@ -227,7 +179,7 @@ fn can_have(shape: &Shape, measure: Measure, number: u32) -> bool
 }
 
 /// Whether a bank can reach the point.
-fn can_reach(shape: &Shape, point: BankPoint) -> bool
+pub(crate) fn can_reach(shape: &Shape, point: BankPoint) -> bool
     requires { IsShape shape.now }
     ensures { result ≡ can_reach shape.now point }
 {
@@ -256,59 +208,4 @@ fn can_reach(shape: &Shape, point: BankPoint) -> bool
         BankPoint::Numbered(measure, number) => can_have(shape, measure, number),
         _ => true,
     }
-}
-
-/// Adds the point, where a bank can reach it.
-fn add(points: &mut Vec<BankPoint>, shape: &Shape, point: BankPoint) -> Result<(), NoMemory>
-    requires { IsShape shape.now }
-    ensures { OnOk result (points.new.items ≡ points.old.items ++ filter (can_reach shape.now) (point ∷ [])) }
-{
-    if can_reach(shape, point) {
-        points.push(point)?;
-    }
-    Ok(())
-}
-
-/// Those of a kind.
-fn add_kinds(points: &mut Vec<BankPoint>, shape: &Shape) -> Result<(), NoMemory>
-    requires { IsShape shape.now }
-    ensures { OnOk result (points.new.items ≡ points.old.items ++ filter (can_reach shape.now) kinds) }
-{
-    for point in &KINDS {
-        add(points, shape, *point)?;
-    }
-    Ok(())
-}
-
-/// Those of a measure.
-fn add_numbers(points: &mut Vec<BankPoint>, shape: &Shape, measure: Measure) -> Result<(), NoMemory>
-    requires { IsShape shape.now }
-    ensures { OnOk result (points.new.items ≡ points.old.items ++ points_of shape.now measure) }
-{
-    for number in 0..NUMBERS {
-        add(points, shape, BankPoint::Numbered(measure, number))?;
-    }
-    Ok(())
-}
-
-/// Those of each measure.
-fn add_measures(points: &mut Vec<BankPoint>, shape: &Shape) -> Result<(), NoMemory>
-    requires { IsShape shape.now }
-    ensures { OnOk result (points.new.items ≡ points.old.items ++ flat_map (points_of shape.now) all_measures) }
-{
-    for measure in &MEASURES {
-        add_numbers(points, shape, *measure)?;
-    }
-    Ok(())
-}
-
-/// The points that a bank can reach.
-pub(crate) fn bank_points(alloc: Global, shape: &Shape) -> Result<Vec<BankPoint>, NoMemory>
-    requires { IsShape shape.now }
-    ensures { IfOk result (λ points. points.items ≡ bank_points shape.now) }
-{
-    let mut points = Vec::new(alloc);
-    add_kinds(&mut points, shape)?;
-    add_measures(&mut points, shape)?;
-    Ok(points)
 }

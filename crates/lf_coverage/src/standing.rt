@@ -1,20 +1,17 @@
 //! What a bank's records so far say of the next one.
 
-ghost use Rattle.std.specs.Prelude.{◌≡◌, ℕ, ◌+◌, ◌<◌, ◌≤◌, ◌^◌, not, ◌||◌, ◌==◌};
-ghost use Rattle.std.specs.Prelude.{length, filter, All, IsSome, IfOk, OnOk, vec_len};
-ghost use Rattle.lf_rules.specs.Lists.{lists_of};
-ghost use Rattle.lf_logs.specs.Places.{record_at, records_at};
+ghost use Rattle.std.specs.Prelude.{◌≡◌, ℕ, ◌+◌, ◌<◌, ◌^◌, not, ◌||◌, ◌==◌};
+ghost use Rattle.std.specs.Prelude.{length, filter, IfOk, OnOk, vec_len};
 ghost use Rattle.lf_coverage.specs.Standing.{Standing, at_first, standing_after, waiting_after, writes_back};
 ghost use Rattle.lf_coverage.specs.Standing.{last_kind, waits_for, targets, is_behind_others, has_store};
 ghost use Rattle.lf_coverage.specs.Standing.{waiting2_after, waits_for2, targets2, writes_back2};
-ghost use Rattle.lf_coverage.specs.Sights.{joined, joined_if, taken_if, stalled_if, filled, sight_by, sights};
+ghost use Rattle.lf_coverage.specs.Sights.{joined, joined_if, taken_if, stalled_if, filled, sight_by};
 ghost use Rattle.lf_coverage.specs.Kept.{IsKept, is_in};
 
 use crate::reach::dirty_blocks;
 use crate::request::{Request, Requests};
 use crate::sight::Sight;
-use lf_logs::{Place, record_at};
-use lf_rules::{Event, Logs, NoMemory, Op, Record, Shape, quotient};
+use lf_rules::{Event, NoMemory, Op, Record, Shape, quotient};
 use std::alloc::Global;
 use std::collections::HashSet;
 
@@ -81,7 +78,7 @@ fn joined(waiting: &[Request], request: Request) -> Sight
     }
 }
 
-/// The same, where the request is known.
+/// What a merge with this request is, where the request is known.
 fn joined_if(waiting: &[Request], request: Option<Request>) -> Sight
     requires few { length waiting.now < 2 ^ 29 }
     ensures { result ≡ joined_if waiting.now request }
@@ -315,27 +312,4 @@ impl Kept {
         self.requests.keep(shape, item);
         Ok(())
     }
-}
-
-/// What is seen of each of the records at these places.
-pub(crate) fn sights(
-    alloc: Global,
-    shape: &Shape,
-    logs: &Logs,
-    places: &[Place],
-) -> Result<Vec<Sight>, NoMemory>
-    requires block { 0 < shape.now.block }
-    requires factor { 0 < shape.now.factor }
-    requires named { All (λ place. IsSome (record_at (lists_of logs.now) place)) places.now }
-    requires few { length places.now ≤ 2 ^ 29 }
-    ensures { IfOk result (λ all. all.items ≡ sights shape.now (records_at (lists_of logs.now) places.now)) }
-{
-    let mut kept = Kept::new(alloc)?;
-    let mut all = Vec::new(alloc);
-    for place in places {
-        let item = record_at(logs, *place);
-        all.push(kept.sight(shape, &item.event))?;
-        kept.take(shape, item)?;
-    }
-    Ok(all)
 }

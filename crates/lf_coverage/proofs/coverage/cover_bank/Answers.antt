@@ -1,4 +1,5 @@
-use Rattle.std.proofs.Common.{◌≡◌, ℕ, ◌<◌, ◌≤◌, true, List, ◌++◌, length, IsSome, sym, ap, ◌∙◌, subst, add-one, arith}
+use Rattle.std.proofs.Common.{◌≡◌, ℕ, ◌<◌, ◌≤◌, true, List, ◌++◌, map, length, IsSome, sym, ap, ◌∙◌, subst, add-one}
+use Rattle.std.proofs.Common.{arith}
 use Rattle.std.specs.List.{All}
 use Rattle.lf_rules.specs.declared.event.Record.{Record}
 use Rattle.lf_rules.specs.Fits.{is_block_size, is_factor}
@@ -8,8 +9,11 @@ use Rattle.lf_logs.specs.declared.order.Place.{Place}
 use Rattle.lf_logs.specs.Places.{record_at, records_at}
 use Rattle.lf_stats.specs.Statistics.{held_counts}
 use Rattle.lf_stats.proofs.Sizes.{order_le}
-use Rattle.lf_coverage.specs.Sights.{sights}
-use Rattle.lf_coverage.specs.Coverage.{AreOfBanks, bank_tallies}
+use Rattle.lf_coverage.specs.declared.point.BankPoint.{BankPoint}
+use Rattle.lf_coverage.specs.Points.{reached}
+use Rattle.lf_coverage.specs.Reachable.{bank_points}
+use Rattle.lf_coverage.specs.Counted.{AreCounts, tally_of}
+use Rattle.lf_coverage.specs.Coverage.{AreOfBanks}
 use Rattle.lf_coverage.proofs.Tallies.{on_ok}
 use Rattle.lf_coverage.proofs.coverage.cover_bank.Goals as goal
 
@@ -30,44 +34,46 @@ pub held_counts-requires-clause-block : goal.held_counts-requires-clause-block
 held_counts-requires-clause-block c = some_block c.args.shape.now.block c.requires.in_range.block_size
 
 pub held_counts-requires-clause-named : goal.held_counts-requires-clause-named
-held_counts-requires-clause-named c = named_same (lists_of c.args.logs.now) _ _ c.as_slice.ensures.value c.in-Ok.ensures.order.named
+held_counts-requires-clause-named c = named_same (lists_of c.args.logs.now) _ _ c.as_slice.ensures.value
+    c.in-Ok.ensures.order.named
 
 pub held_counts-requires-clause-few : goal.held_counts-requires-clause-few
 held_counts-requires-clause-few c =
-    omega (arith, ap length c.as_slice.ensures.value, order_le c.args.logs.now.items c.args.bank c.in-Ok.places.items c.requires.short c.in-Ok.ensures.order)
+    omega (
+      arith,
+      ap length c.as_slice.ensures.value,
+      order_le c.args.logs.now.items c.args.bank c.in-Ok.places.items
+          c.requires.short c.in-Ok.ensures.order,
+    )
 
-pub sights-requires-clause-block : goal.sights-requires-clause-block
-sights-requires-clause-block c = some_block c.args.shape.now.block c.requires.in_range.block_size
+pub counted-requires-clause-some_block : goal.counted-requires-clause-some_block
+counted-requires-clause-some_block c = some_block c.args.shape.now.block c.requires.in_range.block_size
 
-pub sights-requires-clause-factor : goal.sights-requires-clause-factor
-sights-requires-clause-factor c = some_factor c.args.shape.now.factor c.requires.in_range.factor
+pub counted-requires-clause-block : goal.counted-requires-clause-block
+counted-requires-clause-block c = block_at_most_64 c.args.shape.now.block c.requires.in_range.block_size
 
-pub sights-requires-clause-named : goal.sights-requires-clause-named
-sights-requires-clause-named c = named_same (lists_of c.args.logs.now) _ _ c.as_slice-2.ensures.value c.in-Ok.ensures.order.named
+pub counted-requires-clause-factor : goal.counted-requires-clause-factor
+counted-requires-clause-factor c = some_factor c.args.shape.now.factor c.requires.in_range.factor
 
-pub sights-requires-clause-few : goal.sights-requires-clause-few
-sights-requires-clause-few c =
-    omega (arith, ap length c.as_slice-2.ensures.value, order_le c.args.logs.now.items c.args.bank c.in-Ok.places.items c.requires.short c.in-Ok.ensures.order)
+pub counted-requires-clause-named : goal.counted-requires-clause-named
+counted-requires-clause-named c = named_same (lists_of c.args.logs.now) _ _ c.as_slice-2.ensures.value
+    c.in-Ok.ensures.order.named
 
-pub add_bank-requires-clause-block : goal.add_bank-requires-clause-block
-add_bank-requires-clause-block c = block_at_most_64 c.args.shape.now.block c.requires.in_range.block_size
+pub counted-requires-clause-few : goal.counted-requires-clause-few
+counted-requires-clause-few c =
+    omega (
+      arith,
+      ap length c.as_slice-2.ensures.value,
+      order_le c.args.logs.now.items c.args.bank
+          c.in-Ok.places.items c.requires.short c.in-Ok.ensures.order,
+    )
 
-pub add_bank-requires-clause-factor : goal.add_bank-requires-clause-factor
-add_bank-requires-clause-factor c = some_factor c.args.shape.now.factor c.requires.in_range.factor
-
-pub add_bank-requires-clause-order : goal.add_bank-requires-clause-order
-add_bank-requires-clause-order c =
-    let shape = c.args.shape.now in
-    let logs = lists_of c.args.logs.now in
-    let here = c.as_slice-3.ensures.value in
-    let held_there : c.as_slice.result.now ≡ c.as_slice-3.result.now = c.as_slice.ensures.value ∙ sym here in
-    let seen_there : c.as_slice-2.result.now ≡ c.as_slice-3.result.now = c.as_slice-2.ensures.value ∙ sym here in
-    record {
-      named = named_same logs _ _ here c.in-Ok.ensures.order.named;
-      few = omega (arith, ap length here, order_le c.args.logs.now.items c.args.bank c.in-Ok.places.items c.requires.short c.in-Ok.ensures.order);
-      held = c.as_slice-4.ensures.value ∙ c.in_ok-held.ensures ∙ ap (λ (ps : List Place). held_counts shape (records_at logs ps)) held_there;
-      seen = c.as_slice-5.ensures.value ∙ c.in_ok-seen.ensures ∙ ap (λ (ps : List Place). sights shape (records_at logs ps)) seen_there;
-    }
+pub counted-requires-clause-held : goal.counted-requires-clause-held
+counted-requires-clause-held c =
+    let there : c.as_slice.result.now ≡ c.as_slice-2.result.now =
+    c.as_slice.ensures.value ∙ sym c.as_slice-2.ensures.value in
+    c.as_slice-3.ensures.value ∙ c.in_ok-held.ensures
+    ∙ ap (λ (ps : List Place). held_counts c.args.shape.now (records_at (lists_of c.args.logs.now) ps)) there
 
 pub returns : goal.returns
 returns c =
@@ -76,10 +82,13 @@ returns c =
     let bank = c.args.bank in
     let old = c.args.tallies.now.items in
     let new = c.add_bank.new.tallies.items in
-    let places = c.as_slice-3.result.now in
+    let places = c.as_slice-2.result.now in
     let order = records_at lists places in
     let numbered : IsNumbered lists bank order =
-    subst (λ (ps : List Place). IsNumbered lists bank (records_at lists ps)) (sym c.as_slice-3.ensures.value) c.in-Ok.ensures.order.numbered in
-    let step = λ (pushed : new ≡ old ++ bank_tallies shape bank order) (before : AreOfBanks shape lists bank old).
-    subst (λ (n : ℕ). AreOfBanks shape lists n new) (sym (add-one bank)) (old, before, (order, numbered, pushed)) in
+    subst (λ (ps : List Place). IsNumbered lists bank (records_at lists ps)) (sym c.as_slice-2.ensures.value)
+    c.in-Ok.ensures.order.numbered in
+    let step = λ (pushed : (count : BankPoint → ℕ) → AreCounts c.in_ok-counts.counts count
+    → new ≡ old ++ map (tally_of bank count) (bank_points shape)) (before : AreOfBanks shape lists bank old).
+    subst (λ (n : ℕ). AreOfBanks shape lists n new) (sym (add-one bank))
+    (old, before, (order, numbered, pushed (λ point. reached shape order point (length order)) c.in_ok-counts.ensures)) in
     on_ok c.add_bank.result step c.add_bank.ensures

@@ -9,4 +9,5 @@ cover_bank-requires-clause-whole c = c.requires.whole c.loop-bank.bank c.loop-ba
 pub returns : goal.returns
 returns c =
     let all : c.loop-bank.bank ≡ c.args.shape.now.banks = omega arith in
-    subst (λ (n : ℕ). AreOfBanks c.args.shape.now (lists_of c.args.logs.now) n c.loop-bank.tallies.items) all c.loop-bank.invariant
+    subst (λ (n : ℕ). AreOfBanks c.args.shape.now (lists_of c.args.logs.now) n c.loop-bank.tallies.items) all
+    c.loop-bank.invariant

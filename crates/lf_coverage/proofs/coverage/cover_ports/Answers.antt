@@ -14,8 +14,11 @@ loop-port-preserved c =
     let logs = lists_of c.args.logs.now in
     let items = λ (v : Vec Record). v.items in
     let here : c.as_slice.result.now ≡ get_or logs port [] =
-    c.as_slice.ensures.value ∙ ap items c.index.ensures ∙ sym (get_or-map items c.args.logs.now.items port c.index.result.now [] (omega arith)) in
-    let added = c.in_ok-add_port.ensures ∙ ap (λ (log : List Record). c.loop-port.tallies.items ++ port_tallies port log) here in
-    more_pushed c.args.tallies.now.items c.loop-port.tallies.items c.add_port.new.tallies.items (of_ports logs port) (port_tallies port (get_or logs port []))
+    c.as_slice.ensures.value ∙ ap items c.index.ensures ∙ sym
+    (get_or-map items c.args.logs.now.items port c.index.result.now [] (omega arith)) in
+    let added = c.in_ok-add_port.ensures ∙ ap (λ (log : List Record). c.loop-port.tallies.items
+    ++ port_tallies port log) here in
+    more_pushed c.args.tallies.now.items c.loop-port.tallies.items c.add_port.new.tallies.items (of_ports logs port)
+    (port_tallies port (get_or logs port []))
     c.loop-port.invariant added
     ∙ ap (λ (ts : List Tally). c.args.tallies.now.items ++ ts) (sym (ap (of_ports logs) (add-one port)))

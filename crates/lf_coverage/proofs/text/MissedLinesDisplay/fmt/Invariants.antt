@@ -6,4 +6,5 @@ use Rattle.lf_coverage.proofs.text.MissedLinesDisplay.fmt.Given as goal
 
 abbrev pub invariant-loop-tally : goal.invariant-loop-tally
 invariant-loop-tally g l =
-    IsPlainFormatter l.initial.f → HasWritten g.W.Write.write_str_gives l.initial.f (lines_of (missed (take l.tally-index l.self.0.now))) l.f
+    IsPlainFormatter l.initial.f → HasWritten g.W.Write.write_str_gives l.initial.f
+    (lines_of (missed (take l.tally-index l.self.0.now))) l.f

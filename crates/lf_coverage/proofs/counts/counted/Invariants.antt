@@ -1,0 +1,15 @@
+use Rattle.lf_rules.specs.Lists.{lists_of}
+use Rattle.lf_logs.specs.Places.{records_at}
+use Rattle.lf_coverage.specs.Standing.{standing}
+use Rattle.lf_coverage.specs.Points.{reached}
+use Rattle.lf_coverage.specs.Kept.{IsKept}
+use Rattle.lf_coverage.specs.Counted.{AreCounts}
+use Rattle.lf_coverage.proofs.counts.counted.Given as goal
+
+abbrev pub invariant-loop-i : goal.invariant-loop-i
+invariant-loop-i l =
+    let rs = records_at (lists_of l.logs) l.places in
+    record {
+      kept : IsKept l.kept (standing l.shape rs l.i);
+      counted : AreCounts l.counts (λ point. reached l.shape rs point l.i);
+    }

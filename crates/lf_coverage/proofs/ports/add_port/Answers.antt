@@ -1,0 +1,22 @@
+use Rattle.std.proofs.Common.{ℕ, get_or, ap}
+use Rattle.lf_coverage.specs.declared.point.PortPoint.TheVariants.{Load}
+use Rattle.lf_coverage.specs.declared.point.Point.TheVariants.{Port}
+use Rattle.lf_coverage.specs.declared.tally.Tally.{Tally}
+use Rattle.lf_coverage.specs.Coverage.{port_tally}
+use Rattle.lf_coverage.specs.Counted.{port_point_at}
+use Rattle.lf_coverage.specs.Reachable.{port_points}
+use Rattle.lf_coverage.proofs.Tallies.{mapped_next}
+use Rattle.lf_coverage.proofs.ports.add_port.Goals as goal
+
+tally_at : ℕ → ℕ → ℕ → Tally
+tally_at port i count = record { point = Port port (port_point_at i); count = count }
+
+pub loop-i-preserved : goal.loop-i-preserved
+unfolding tally_at
+loop-i-preserved c =
+    let i = c.loop-i.i in
+    mapped_next c.args.tallies.now.items c.loop-i.tallies.items c.push.new.self.items
+    (port_tally c.args.port c.args.log.now) port_points i (Load 0)
+    (tally_at c.args.port i (get_or c.counted-counts.result i 0))
+    c.loop-i-test.true c.loop-i.invariant c.in_ok-push.ensures.items
+    (ap (tally_at c.args.port i) (c.counted-counts.ensures i c.loop-i-test.true))

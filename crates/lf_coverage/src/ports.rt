@@ -1,0 +1,69 @@
+//! How often the log of a port reached each point.
+
+ghost use Rattle.std.specs.Prelude.{◌≡◌, ℕ, ◌+◌, ◌<◌, ◌≤◌, ◌^◌, ◌++◌, OnOk, length, slice_index};
+ghost use Rattle.std.specs.Prelude.{if◌then◌else◌};
+ghost use Rattle.lf_coverage.specs.Points.{port_reaches, port_reached};
+ghost use Rattle.lf_coverage.specs.Counted.{port_point_at};
+ghost use Rattle.lf_coverage.specs.Coverage.{port_tallies};
+
+use crate::point::{Point, PortPoint};
+use crate::tally::Tally;
+use lf_rules::{Event, NoMemory, Record};
+
+/// The points of a port.
+const PORT_POINTS: [PortPoint; 10] = [
+    PortPoint::Load(1),
+    PortPoint::Load(2),
+    PortPoint::Load(4),
+    PortPoint::Load(8),
+    PortPoint::Store(1),
+    PortPoint::Store(2),
+    PortPoint::Store(4),
+    PortPoint::Store(8),
+    PortPoint::Reply,
+    PortPoint::Fence,
+];
+
+/// Adds one to the count of each point that the event reaches.
+fn count(counts: &mut [u32; 10], event: &Event)
+    requires few { (n : ℕ) → n < 10 → slice_index counts.old n < 2 ^ 24 }
+    ensures { (n : ℕ) → n < 10 → slice_index counts.new n ≡ slice_index counts.old n
+        + (if port_reaches (port_point_at n) event.now then 1 else 0) }
+{
+    for (i, point) in PORT_POINTS.iter().enumerate() {
+        if point.reaches(event) {
+            counts[i] += 1;
+        }
+    }
+}
+
+/// How many records of a port's log reach each point.
+fn counted(log: &[Record]) -> [u32; 10]
+    requires { length log.now ≤ 2 ^ 24 }
+    ensures { (n : ℕ) → n < 10 → slice_index result n ≡ port_reached log.now (port_point_at n) }
+{
+    let mut counts = [0; 10];
+    for item in log {
+        count(&mut counts, &item.event);
+    }
+    counts
+}
+
+/// Adds what a port reached.
+pub(crate) fn add_port(tallies: &mut Vec<Tally>, port: u8, log: &[Record]) -> Result<(), NoMemory>
+    requires { length log.now ≤ 2 ^ 24 }
+    ensures { OnOk result (tallies.new.items ≡ tallies.old.items ++ port_tallies port log.now) }
+{
+    let counts = counted(log);
+    for (i, point) in PORT_POINTS.iter().enumerate() {
+        let point = Point::Port {
+            port,
+            point: *point,
+        };
+        tallies.push(Tally {
+            point,
+            count: counts[i],
+        })?;
+    }
+    Ok(())
+}
