@@ -1,5 +1,7 @@
 -- What one more piece adds to the wave.
-use Rattle.std.proofs.Common.{◌≡◌, ℕ, ◌+◌, ◌<◌, ◌≤◌, Bool, true, false, List, [], ◌∷◌, ◌++◌, length, Option, Some, None, refl, sym, ap, subst, ◌∙◌, append_assoc, append-nil, arith, inl, inr, ◌⊎◌, string_bytes}
+use Rattle.std.proofs.Common.{◌≡◌, ℕ, ◌+◌, ◌<◌, ◌≤◌, Bool, true, false, List, [], ◌∷◌, ◌++◌, length, Option, Some}
+use Rattle.std.proofs.Common.{None, refl, sym, ap, subst, ◌∙◌, append_assoc, append-nil, arith, inl, inr, ◌⊎◌}
+use Rattle.std.proofs.Common.{string_bytes}
 use Rattle.std.specs.Prelude.{is_some}
 use Rattle.std.proofs.lemmas.List.{length-append}
 use Rattle.lf_rules.specs.Fits.{Bytes}
@@ -18,11 +20,13 @@ use Rattle.lf_view.specs.Viewing.{head_in, wave_of, IsDrawn, head_due, or_header
 
 -- ---- records one behind another
 
-drawn_after-append : (wave : Drawn) (xs ys : List Record) → drawn_after wave (xs ++ ys) ≡ drawn_after (drawn_after wave xs) ys
+drawn_after-append : (wave : Drawn) (xs ys : List Record) →
+    drawn_after wave (xs ++ ys) ≡ drawn_after (drawn_after wave xs) ys
 drawn_after-append wave [] ys = refl
 drawn_after-append wave (x ∷ xs) ys = drawn_after-append (next wave x) xs ys
 
-wave_from-append : (wave : Drawn) (xs ys : List Record) → wave_from wave (xs ++ ys) ≡ wave_from wave xs ++ wave_from (drawn_after wave xs) ys
+wave_from-append : (wave : Drawn) (xs ys : List Record) → wave_from wave (xs ++ ys) ≡ wave_from wave xs
+    ++ wave_from (drawn_after wave xs) ys
 wave_from-append wave [] ys = refl
 wave_from-append wave (x ∷ xs) ys =
     ap (λ (l : List ℕ). next_shown wave x ++ l) (wave_from-append (next wave x) xs ys)
@@ -41,14 +45,17 @@ view_after wave (x ∷ xs) = view_after (next wave x) xs
 module _ (view : View) (bytes piece : List ℕ) (records : List Record)
     (more : (reading_of (bytes ++ piece)).records ≡ (reading_of bytes).records ++ records) where
   then : Follows (reading_of bytes) (reading_of (bytes ++ piece))
-  then = subst (λ (q : Reading). Follows (reading_of bytes) q) (sym (read_on-append bytes piece nothing_read)) (follows piece (reading_of bytes))
+  then = subst (λ (q : Reading). Follows (reading_of bytes) q) (sym (read_on-append bytes piece nothing_read))
+      (follows piece (reading_of bytes))
 
   -- what is due after the bytes
   abbrev due : Option Header → Option Header → List ℕ
-  due old new = head_due (is_some old) view new ++ wave_from (drawn_after (undrawn view) (reading_of bytes).records) records
+  due old new = head_due (is_some old) view new ++ wave_from (drawn_after (undrawn view) (reading_of bytes).records)
+      records
 
   all_records : wave_from (undrawn view) (reading_of (bytes ++ piece)).records
-      ≡ wave_from (undrawn view) (reading_of bytes).records ++ wave_from (drawn_after (undrawn view) (reading_of bytes).records) records
+      ≡ wave_from (undrawn view) (reading_of bytes).records
+      ++ wave_from (drawn_after (undrawn view) (reading_of bytes).records) records
   all_records = ap (wave_from (undrawn view)) more ∙ wave_from-append (undrawn view) (reading_of bytes).records records
 
   behind_header : (h : Header) → header_of bytes ≡ Some h → header_of (bytes ++ piece) ≡ Some h
@@ -59,12 +66,14 @@ module _ (view : View) (bytes piece : List ℕ) (records : List Record)
       let last = wave_from (drawn_after (undrawn view) (reading_of bytes).records) records in
       rw (old, new, all_records) (sym (append_assoc front first last))
 
-  from_header : header_of bytes ≡ None → wave_of view (bytes ++ piece) ≡ wave_of view bytes ++ due (header_of bytes) (header_of (bytes ++ piece))
+  from_header : header_of bytes ≡ None → wave_of view (bytes ++ piece) ≡ wave_of view bytes
+      ++ due (header_of bytes) (header_of (bytes ++ piece))
   from_header none =
       let empty = ((orderly bytes).unread none).1 in
       rw (none, all_records, empty) refl
 
-  pub more_wave : wave_of view (bytes ++ piece) ≡ wave_of view bytes ++ due (header_of bytes) (header_of (bytes ++ piece))
+  pub more_wave : wave_of view (bytes ++ piece) ≡ wave_of view bytes
+      ++ due (header_of bytes) (header_of (bytes ++ piece))
   more_wave =
       elim (header_cases (header_of bytes)) [
         | inl none ↦ from_header none
@@ -76,7 +85,8 @@ module _ (view : View) (bytes piece : List ℕ) (records : List Record)
       ]
 
   -- whether the header is there
-  pub more_header : is_some (header_of (bytes ++ piece)) ≡ or_header (is_some (header_of bytes)) (header_of (bytes ++ piece))
+  pub more_header : is_some (header_of (bytes ++ piece)) ≡ or_header (is_some (header_of bytes))
+      (header_of (bytes ++ piece))
   more_header =
       elim (header_cases (header_of bytes)) [
         | inl none ↦ rw none refl
@@ -90,7 +100,8 @@ module _ (view : View) (bytes piece : List ℕ) (records : List Record)
 -- ---- a drawer
 
 module _ (view : View) (bytes piece : List ℕ) (old mid : Drawer) (drawn : IsDrawn view bytes old)
-    (has : HasRead mid.reader (bytes ++ piece) (reading_of bytes).memory (reading_of bytes).records) (begun : mid.begun ≡ old.begun) (wave : mid.wave ≡ old.wave) where
+    (has : HasRead mid.reader (bytes ++ piece) (reading_of bytes).memory (reading_of bytes).records)
+    (begun : mid.begun ≡ old.begun) (wave : mid.wave ≡ old.wave) where
   records_now : (reading_of (bytes ++ piece)).records ≡ (reading_of bytes).records ++ mid.reader.records
   records_now = ap (λ (q : Reading). q.records) has.same
 
@@ -115,7 +126,8 @@ module _ (view : View) (bytes piece : List ℕ) (old mid : Drawer) (drawn : IsDr
 
   pub drawn_now : (new : Drawer) → DrawsAll mid new → IsDrawn view (bytes ++ piece) new
   drawn_now new draws = record {
-    read = subst (λ (r : Reading). HasRead r (bytes ++ piece) (reading_of (bytes ++ piece)).memory (reading_of (bytes ++ piece)).records) (sym draws.reader)
+    read = subst (λ (r : Reading). HasRead r (bytes ++ piece) (reading_of (bytes ++ piece)).memory
+        (reading_of (bytes ++ piece)).records) (sym draws.reader)
         (all_taken (bytes ++ piece) (reading_of bytes).memory (reading_of bytes).records mid.reader has);
     no_memory = ap (λ (r : Reading). r.memory) draws.reader;
     no_records = ap (λ (r : Reading). r.records) draws.reader;
@@ -127,16 +139,25 @@ module _ (view : View) (bytes piece : List ℕ) (old mid : Drawer) (drawn : IsDr
         ∙ ap (drawn_after (undrawn view)) (sym records_now);
   }
 
-  pub wave_now : (new : Drawer) → DrawsAll mid new → string_bytes mid.text ≡ [] → wave_of view (bytes ++ piece) ≡ wave_of view bytes ++ string_bytes new.text
+  pub wave_now : (new : Drawer) → DrawsAll mid new → string_bytes mid.text ≡ [] →
+      wave_of view (bytes ++ piece) ≡ wave_of view bytes ++ string_bytes new.text
   wave_now new draws empty =
-      let shows : mid.wave.view ≡ view = ap (λ (w : Drawn). w.view) wave_so_far ∙ view_after (undrawn view) (reading_of bytes).records in
-      let text : string_bytes new.text ≡ head_due mid.begun mid.wave.view (header_now mid.reader) ++ wave_from mid.wave mid.reader.records =
-      draws.text ∙ ap (λ (l : List ℕ). l ++ (head_due mid.begun mid.wave.view (header_now mid.reader) ++ wave_from mid.wave mid.reader.records)) empty in
+      let shows : mid.wave.view ≡ view = ap (λ (w : Drawn). w.view) wave_so_far
+      ∙ view_after (undrawn view) (reading_of bytes).records in
+      let text : string_bytes new.text ≡ head_due mid.begun mid.wave.view (header_now mid.reader)
+      ++ wave_from mid.wave mid.reader.records =
+      draws.text ∙ ap (λ (l : List ℕ). l ++ (head_due mid.begun mid.wave.view (header_now mid.reader)
+      ++ wave_from mid.wave mid.reader.records)) empty in
       let due : head_due mid.begun mid.wave.view (header_now mid.reader) ++ wave_from mid.wave mid.reader.records
-      ≡ head_due (is_some (header_of bytes)) view (header_of (bytes ++ piece)) ++ wave_from (drawn_after (undrawn view) (reading_of bytes).records) mid.reader.records =
-      ap (λ (b : Bool). head_due b mid.wave.view (header_now mid.reader) ++ wave_from mid.wave mid.reader.records) (begun ∙ drawn.begun)
-      ∙ ap (λ (v : View). head_due (is_some (header_of bytes)) v (header_now mid.reader) ++ wave_from mid.wave mid.reader.records) shows
-      ∙ ap (λ (h : Option Header). head_due (is_some (header_of bytes)) view h ++ wave_from mid.wave mid.reader.records) (sym header_same)
-      ∙ ap (λ (w : Drawn). head_due (is_some (header_of bytes)) view (header_of (bytes ++ piece)) ++ wave_from w mid.reader.records) wave_so_far in
+      ≡ head_due (is_some (header_of bytes)) view (header_of (bytes ++ piece))
+      ++ wave_from (drawn_after (undrawn view) (reading_of bytes).records) mid.reader.records =
+      ap (λ (b : Bool). head_due b mid.wave.view (header_now mid.reader) ++ wave_from mid.wave mid.reader.records)
+      (begun ∙ drawn.begun)
+      ∙ ap (λ (v : View). head_due (is_some (header_of bytes)) v (header_now mid.reader)
+      ++ wave_from mid.wave mid.reader.records) shows
+      ∙ ap (λ (h : Option Header). head_due (is_some (header_of bytes)) view h
+      ++ wave_from mid.wave mid.reader.records) (sym header_same)
+      ∙ ap (λ (w : Drawn). head_due (is_some (header_of bytes)) view (header_of (bytes ++ piece))
+      ++ wave_from w mid.reader.records) wave_so_far in
       more_wave view bytes piece mid.reader.records records_now
       ∙ ap (λ (l : List ℕ). wave_of view bytes ++ l) (sym (text ∙ due))

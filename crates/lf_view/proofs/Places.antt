@@ -32,7 +32,8 @@ module _ (bytes piece : List ℕ) (old new : Finder) (mid : Reader) (was : IsSea
 
   pub searched_now : IsSearched new (bytes ++ piece)
   searched_now = record {
-    read = subst (λ (r : Reader). HasRead r (bytes ++ piece) (reading_of (bytes ++ piece)).memory (reading_of (bytes ++ piece)).records) (sym taken)
+    read = subst (λ (r : Reader). HasRead r (bytes ++ piece) (reading_of (bytes ++ piece)).memory
+        (reading_of (bytes ++ piece)).records) (sym taken)
         (all_taken (bytes ++ piece) (reading_of bytes).memory (reading_of bytes).records mid has);
     no_memory = ap (λ (r : Reader). r.memory) taken;
     no_records = ap (λ (r : Reader). r.records) taken;

@@ -1,5 +1,6 @@
 -- What a view read and wrote so far.
-use Rattle.std.proofs.Common.{◌≡◌, ℕ, zero, suc, ◌+◌, ◌*◌, ◌≤◌, List, [], ◌∷◌, ◌++◌, length, take, Bool, Ok, Err, refl, sym, ap, subst, ◌∙◌, append-nil, arith}
+use Rattle.std.proofs.Common.{◌≡◌, ℕ, zero, suc, ◌+◌, ◌*◌, ◌≤◌, List, [], ◌∷◌, ◌++◌, length, take, Bool, Ok, Err}
+use Rattle.std.proofs.Common.{refl, sym, ap, subst, ◌∙◌, append-nil, arith}
 use Rattle.std.specs.Prelude.{IsTrue}
 use Rattle.std.proofs.lemmas.List.{length-append}
 use Rattle.std.specs.Io.KnownBytes.{Consumes, Keeps, IsAtEnd}
@@ -35,7 +36,8 @@ pub record IsTelling (view : View) (old new writer writer' : Account) (turn : �
   pub out : WentOut writer writer' (wave_of view bytes)
   pub size : length bytes ≤ turn * piece_len
 
-pub stops_here : (view : View) (a b w x : Account) (turn : ℕ) (drawer : Drawer) → IsTelling view a b w x turn drawer → IsViewedSoFar view a b w x
+pub stops_here : (view : View) (a b w x : Account) (turn : ℕ) (drawer : Drawer) → IsTelling view a b w x turn drawer →
+    IsViewedSoFar view a b w x
 stops_here view a b w x turn drawer t = record { bytes = t.bytes; part = t.part; out = t.out }
 
 -- no byte was read, and nothing went out
@@ -44,12 +46,21 @@ nothing_viewed view a w = record { bytes = []; more = []; part = begun IsNone a 
 
 -- ---- one more read
 
-pub telling_start : FaultsSoFarAreNotTruncated → (view : View) (a w : Account) (drawer : Drawer) → IsDrawn view [] drawer → IsTelling view a a w w 0 drawer
+pub telling_start : FaultsSoFarAreNotTruncated → (view : View) (a w : Account) (drawer : Drawer) →
+    IsDrawn view [] drawer → IsTelling view a a w w 0 drawer
 telling_start so_far view a w drawer drawn =
-    record { bytes = []; drawn = drawn; part = begun HasFault a (none_stands so_far [] refl); out = nothing_out w; size = omega arith }
+    record {
+      bytes = [];
+      drawn = drawn;
+      part = begun HasFault a (none_stands so_far [] refl);
+      out =
+          nothing_out w;
+      size = omega arith;
+    }
 
 -- A read that failed answered nothing.
-pub telling_same : (view : View) (a b c w x : Account) (turn : ℕ) (drawer : Drawer) → IsTelling view a b w x turn drawer → c.pieces ≡ b.pieces → Keeps b.known c.known
+pub telling_same : (view : View) (a b c w x : Account) (turn : ℕ) (drawer : Drawer) →
+    IsTelling view a b w x turn drawer → c.pieces ≡ b.pieces → Keeps b.known c.known
     → IsTelling view a c w x (turn + 1) drawer
 telling_same view a b c w x turn drawer t pieces known = record {
   bytes = t.bytes;
@@ -62,10 +73,13 @@ telling_same view a b c w x turn drawer t pieces known = record {
 -- All bytes that were to be read were, and their wave went out.
 abbrev pub IsWhollyTold : View → Account → Account → Account → Account → Drawer → Type 0
 IsWhollyTold view old new writer writer' drawer =
-    (bytes : List ℕ) × IsDrawn view bytes drawer × IsAllRead HasFault piece_len old new bytes × WentOut writer writer' (wave_of view bytes)
+    (bytes : List ℕ) × IsDrawn view bytes drawer × IsAllRead HasFault piece_len old new bytes ×
+    WentOut writer writer' (wave_of view bytes)
 
-module _ (view : View) (a b c w x : Account) (turn : ℕ) (old : Drawer) (t : IsTelling view a b w x turn old) (piece : List ℕ)
-    (pieces : c.pieces ≡ b.pieces ++ piece ∷ []) (known : Consumes b.known c.known piece) (one_read : length piece ≤ piece_len) where
+module _ (view : View) (a b c w x : Account) (turn : ℕ) (old : Drawer) (t : IsTelling view a b w x turn old)
+    (piece : List ℕ)
+    (pieces : c.pieces ≡ b.pieces ++ piece ∷ []) (known : Consumes b.known c.known piece)
+    (one_read : length piece ≤ piece_len) where
   -- A read answered no bytes.
   pub told_at_end : piece ≡ [] → IsAtEnd c.known → IsWhollyTold view a c w x old
   told_at_end none at_end =
@@ -80,19 +94,23 @@ module _ (view : View) (a b c w x : Account) (turn : ℕ) (old : Drawer) (t : Is
   part_read = more_part IsNone a b c t.bytes (any_part a b t.bytes t.part) piece pieces known (λ bad. bad)
 
   module _ (y : Account) (new : Drawer) where
-    wave_out : (wave : List ℕ) → wave_of view (t.bytes ++ piece) ≡ wave_of view t.bytes ++ wave → WentOut x y wave → WentOut w y (wave_of view (t.bytes ++ piece))
+    wave_out : (wave : List ℕ) → wave_of view (t.bytes ++ piece) ≡ wave_of view t.bytes ++ wave → WentOut x y wave →
+        WentOut w y (wave_of view (t.bytes ++ piece))
     wave_out wave same out = subst (WentOut w y) (sym same) (out_on w x y (wave_of view t.bytes) wave t.out out)
 
-    pub told_last : (enough : Bool) → IsTrue enough → Shows view x y new t.bytes piece (Ok enough) → IsWhollyTold view a c w y new
+    pub told_last : (enough : Bool) → IsTrue enough → Shows view x y new t.bytes piece (Ok enough) →
+        IsWhollyTold view a c w y new
     told_last enough is h =
         let fault = h.1.0 is in (
           t.bytes ++ piece,
           h.0,
-          last_part HasFault a b c t.bytes t.part piece pieces known piece_len one_read (λ sound. absurd (sound fault)) (λ sound. absurd (sound fault)),
+          last_part HasFault a b c t.bytes t.part piece pieces known piece_len one_read
+              (λ sound. absurd (sound fault)) (λ sound. absurd (sound fault)),
           wave_out h.2.0 h.2.1 h.2.2,
         )
 
-    pub telling_more : (enough : Bool) → ¬ IsTrue enough → Shows view x y new t.bytes piece (Ok enough) → IsTelling view a c w y (turn + 1) new
+    pub telling_more : (enough : Bool) → ¬ IsTrue enough → Shows view x y new t.bytes piece (Ok enough) →
+        IsTelling view a c w y (turn + 1) new
     telling_more enough not h = record {
       bytes = t.bytes ++ piece;
       drawn = h.0;
@@ -102,10 +120,12 @@ module _ (view : View) (a b c w x : Account) (turn : ℕ) (old : Drawer) (t : Is
     }
 
     -- The wave of the piece went out as far as the writer took it.
-    cut_in_wave : (wave : List ℕ) (n : ℕ) → wave_of view (t.bytes ++ piece) ≡ wave_of view t.bytes ++ wave → WentOut x y (take n wave) → IsCutOff view a c w y
+    cut_in_wave : (wave : List ℕ) (n : ℕ) → wave_of view (t.bytes ++ piece) ≡ wave_of view t.bytes ++ wave →
+        WentOut x y (take n wave) → IsCutOff view a c w y
     cut_in_wave wave n same out =
         let count : ℕ = length (wave_of view t.bytes) + n in
-        let whole : take count (wave_of view (t.bytes ++ piece)) ≡ wave_of view t.bytes ++ take n wave = ap (take count) same ∙ front (wave_of view t.bytes) wave n in
+        let whole : take count (wave_of view (t.bytes ++ piece)) ≡ wave_of view t.bytes ++ take n wave =
+        ap (take count) same ∙ front (wave_of view t.bytes) wave n in
         record {
           bytes = t.bytes ++ piece;
           part = part_read;
@@ -117,5 +137,11 @@ module _ (view : View) (a b c w x : Account) (turn : ℕ) (old : Drawer) (t : Is
     stopped_by Read h = absurd h
     stopped_by Turns h = absurd h
     stopped_by Memory same =
-        record { bytes = t.bytes; more = piece; part = part_read; out = subst (λ (z : Account). WentOut w z (wave_of view t.bytes)) (sym same) t.out }
+        record {
+          bytes = t.bytes;
+          more = piece;
+          part = part_read;
+          out =
+              subst (λ (z : Account). WentOut w z (wave_of view t.bytes)) (sym same) t.out;
+        }
     stopped_by Write h = cut_in_wave h.0 h.2.0 h.1 h.2.1

@@ -1,5 +1,6 @@
 -- The place of a record in a trace: how many records stand before it in the file.
-use Rattle.std.specs.Prelude.{◌≡◌, ℕ, ◌+◌, ◌^◌, ◌-◌, ◌==◌, ◌&&◌, ◌≤◌, min, Bool, List, [], ◌∷◌, if◌then◌else◌, Option, Some, None, Result, Ok, Err, IfOk, IsErrOf, ◌↔◌, ◌<◌}
+use Rattle.std.specs.Prelude.{◌≡◌, ℕ, ◌+◌, ◌^◌, ◌-◌, ◌==◌, ◌&&◌, ◌≤◌, min, Bool, List, [], ◌∷◌, if◌then◌else◌, Option}
+use Rattle.std.specs.Prelude.{Some, None, Result, Ok, Err, IfOk, IsErrOf, ◌↔◌, ◌<◌}
 use Rattle.lf_rules.specs.declared.event.Record.{Record}
 use Rattle.lf_codec.specs.Laws.{AreBytes}
 use Rattle.lf_codec.specs.Reader.{HasRead}
@@ -71,7 +72,8 @@ pub record IsFound (sought : Sought) (old new : Account) (found : Option ℕ) : 
   pub place : found ≡ place_in sought bytes
 
 -- A search within so many reads.
-pub record IsSearch (sought : Sought) (old new : Account) (turns : ℕ) (answer : Result (Option ℕ) ViewFault) : Type 0 where
+pub record IsSearch (sought : Sought) (old new : Account) (turns : ℕ) (answer : Result (Option ℕ) ViewFault) : Type
+    0 where
   pub reads : new.calls ≤ turns
   pub found : IfOk answer (IsFound sought old new)
   -- When each fault comes.

@@ -1,5 +1,6 @@
 -- The wave of a trace that is read in pieces.
-use Rattle.std.specs.Prelude.{◌≡◌, ◌↔◌, ℕ, ◌<◌, ◌≤◌, Bool, true, false, List, [], ◌++◌, take, string_bytes, Option, Some, None, is_some, Result, Ok, Err}
+use Rattle.std.specs.Prelude.{◌≡◌, ◌↔◌, ℕ, ◌<◌, ◌≤◌, Bool, true, false, List, [], ◌++◌, take, string_bytes, Option}
+use Rattle.std.specs.Prelude.{Some, None, is_some, Result, Ok, Err}
 use Rattle.std.specs.Prelude.{IfOk, IfErr, IsErrOf, IsTrue}
 use Rattle.lf_codec.specs.declared.header.Header.{Header}
 use Rattle.lf_codec.specs.declared.fault.CodecFault.{CodecFault}
@@ -90,7 +91,8 @@ IsStopped view old new writer writer' Memory = IsViewedInPart view old new write
 IsStopped view old new writer writer' Write = IsCutOff view old new writer writer'
 
 -- A trace was viewed within so many reads.
-pub record IsViewed (view : View) (old new writer writer' : Account) (turns : ℕ) (answer : Result (Option CodecFault) ViewFault) : Type 0 where
+pub record IsViewed (view : View) (old new writer writer' : Account) (turns : ℕ)
+    (answer : Result (Option CodecFault) ViewFault) : Type 0 where
   pub reads : new.calls ≤ turns
   pub whole : IfOk answer (IsViewedWhole view old new writer writer')
   pub stopped : IfErr answer (IsStopped view old new writer writer')
@@ -101,9 +103,11 @@ pub record IsViewed (view : View) (old new writer writer' : Account) (turns : �
 
 -- What one more piece does, after these bytes.
 abbrev pub Shows : View → Account → Account → Drawer → List ℕ → List ℕ → Result Bool ViewFault → Type 0
-Shows view old new drawer bytes piece (Ok enough) = IsDrawn view (bytes ++ piece) drawer × (IsTrue enough ↔ HasFault (bytes ++ piece))
+Shows view old new drawer bytes piece (Ok enough) = IsDrawn view (bytes ++ piece) drawer ×
+    (IsTrue enough ↔ HasFault (bytes ++ piece))
     × ((wave : List ℕ) × (wave_of view (bytes ++ piece) ≡ wave_of view bytes ++ wave) × WentOut old new wave)
 Shows view old new drawer bytes piece (Err Write) =
-    (wave : List ℕ) × (wave_of view (bytes ++ piece) ≡ wave_of view bytes ++ wave) × ((n : ℕ) × WentOut old new (take n wave))
+    (wave : List ℕ) × (wave_of view (bytes ++ piece) ≡ wave_of view bytes ++ wave) ×
+    ((n : ℕ) × WentOut old new (take n wave))
 Shows view old new drawer bytes piece (Err Memory) = new ≡ old
 Shows view old new drawer bytes piece (Err fault) = ⊥

@@ -1,6 +1,7 @@
 //! Draws the wave of a trace from its bytes.
 
-ghost use Rattle.std.specs.Prelude.{◌≡◌, ◌<◌, ◌+◌, ◌^◌, ◌++◌, ◌↔◌, ℕ, List, [], length, string_bytes, OnOk, IfOk, IsTrue};
+ghost use Rattle.std.specs.Prelude.{◌≡◌, ◌<◌, ◌+◌, ◌^◌, ◌++◌, ◌↔◌, ℕ, List, [], length, string_bytes, OnOk, IfOk};
+ghost use Rattle.std.specs.Prelude.{IsTrue};
 ghost use Rattle.lf_codec.specs.Reading.{header_now, trace_fault};
 ghost use Rattle.lf_dump.specs.Dump.{HasFault};
 ghost use Rattle.lf_wave.specs.declared.view.View.{View};
@@ -73,7 +74,8 @@ impl Drawer {
     /// Takes a piece and draws its wave, and tells whether a fault stands in what came so far. `NoMemory`
     /// says that a growth was refused.
     pub fn show(&mut self, piece: &[u8]) -> Result<bool, NoMemory>
-        requires { (view : View) × (bytes : List ℕ) × IsDrawn view bytes self.old × (length bytes + length piece.now < 2 ^ 63) }
+        requires { (view : View) × (bytes : List ℕ) × IsDrawn view bytes self.old ×
+            (length bytes + length piece.now < 2 ^ 63) }
         ensures drawn { (view : View) (bytes : List ℕ) → IsDrawn view bytes self.old →
             OnOk result (IsDrawn view (bytes ++ piece.now) self.new) }
         ensures wave { (view : View) (bytes : List ℕ) → IsDrawn view bytes self.old →

@@ -1,6 +1,7 @@
 //! What a reader has to give.
 
-ghost use Rattle.std.specs.Prelude.{◌≡◌, ◌<◌, ◌+◌, ◌^◌, ◌++◌, ◌↔◌, ℕ, List, [], length, string_bytes, OnOk, IfOk, IsTrue};
+ghost use Rattle.std.specs.Prelude.{◌≡◌, ◌<◌, ◌+◌, ◌^◌, ◌++◌, ◌↔◌, ℕ, List, [], length, string_bytes, OnOk, IfOk};
+ghost use Rattle.std.specs.Prelude.{IsTrue};
 ghost use Rattle.lf_rules.specs.Fits.{Bytes};
 ghost use Rattle.lf_rules.specs.declared.event.Record.{Record};
 ghost use Rattle.lf_codec.specs.Reader.{HasRead};
@@ -46,7 +47,8 @@ pub fn put_records(
 ) -> Result<(), AllocError>
     requires { wave.old.place + length reader.old.records < 2 ^ 63 }
     ensures taken { OnOk result (reader.new ≡ record reader.old { records = [] }) }
-    ensures shown { OnOk result (string_bytes text.new ≡ string_bytes text.old ++ wave_from wave.old reader.old.records) }
+    ensures shown { OnOk result (string_bytes text.new ≡ string_bytes text.old
+        ++ wave_from wave.old reader.old.records) }
     ensures wave { OnOk result (wave.new ≡ drawn_after wave.old reader.old.records) }
 {
     while let Some(item) = reader.take() {

@@ -15,6 +15,7 @@ const VIEW: View = View {
     from: 0,
     to: u64::MAX,
     tags: 1,
+    banks: 1,
     level1_registers: 1,
     level2_registers: 0,
     block: 8,
@@ -43,6 +44,10 @@ $var wire 32 b0b block [31:0] $end
 $var wire 16 b0r register [15:0] $end
 $var wire 16 b0x level1_registers [15:0] $end
 $var wire 16 b0y level2_registers [15:0] $end
+$var wire 16 b0q asked [15:0] $end
+$var wire 16 b0s supplied [15:0] $end
+$var wire 32 b0d level1_dirty [31:0] $end
+$var wire 32 b0w level2_dirty [31:0] $end
 $var wire 32 b0h0 level1_register0 [31:0] $end
 $var wire 16 b0t0 level1_targets0 [15:0] $end
 $upscope $end
@@ -58,12 +63,20 @@ b0 p0o
 s b0e
 b0 b0x
 b0 b0y
+b0 b0q
+b0 b0s
+b0 b0d
+b0 b0w
 bz b0h0
 b0 b0t0
 $end
 #00
 1p0t0
 b1 p0o
+b0 b0q
+b0 b0s
+b0 b0d
+b0 b0w
 sload p0e
 b0 p0i
 b0 p0a

@@ -26,11 +26,13 @@ fn show<W: Write>(
     writer: &mut Counted<W>,
     piece: &[u8],
 ) -> Result<bool, ViewFault>
-    requires ready { (view : View) × (bytes : List ℕ) × IsDrawn view bytes drawer.old × (length bytes + length piece.now < 2 ^ 63) }
+    requires ready { (view : View) × (bytes : List ℕ) × IsDrawn view bytes drawer.old ×
+        (length bytes + length piece.now < 2 ^ 63) }
     requires writes { failures_of writer.old ≡ 0 }
     ensures write { IsErrOf result ViewFault.Write ↔ (0 < failures_of writer.new) }
     ensures shown { (view : View) (bytes : List ℕ) → IsDrawn view bytes drawer.old →
-        Shows view (account_of W.contents writer.old) (account_of W.contents writer.new) drawer.new bytes piece.now result }
+        Shows view (account_of W.contents writer.old) (account_of W.contents writer.new) drawer.new bytes piece.now
+        result }
 {
     let enough = drawer.show(piece)?;
     put(writer, drawer.text().as_bytes())?;
@@ -54,7 +56,8 @@ fn view_pieces<S: Source, W: Write>(
     ensures reads { (S.account source.new).calls ≤ turns }
     ensures all { OnOk result ((bytes : List ℕ) × IsDrawn drawer.old.wave.view bytes drawer.new
         × IsAllRead HasFault piece_len (S.account source.old) (S.account source.new) bytes
-        × WentOut (account_of W.contents writer.old) (account_of W.contents writer.new) (wave_of drawer.old.wave.view bytes)) }
+        × WentOut (account_of W.contents writer.old) (account_of W.contents writer.new)
+        (wave_of drawer.old.wave.view bytes)) }
     ensures stopped { IfErr result (IsStopped drawer.old.wave.view (S.account source.old) (S.account source.new)
         (account_of W.contents writer.old) (account_of W.contents writer.new)) }
     ensures read { IsErrOf result ViewFault.Read ↔ (0 < (S.account source.new).failures) }

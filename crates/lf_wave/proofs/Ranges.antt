@@ -6,10 +6,12 @@ use Rattle.std.proofs.lemmas.List.Folds.{flat_map-map}
 use Rattle.std.proofs.lemmas.List.FromFn.{map-range_with_len_more}
 use Rattle.std.proofs.lemmas.Grind.{flat_map-append}
 
-pub each_more : (f : ℕ → List ℕ) (n : ℕ) → flat_map f (range_with_len 0 n) ++ f n ≡ flat_map f (range_with_len 0 (n + 1))
+pub each_more : (f : ℕ → List ℕ) (n : ℕ) → flat_map f (range_with_len 0 n) ++ f n
+    ≡ flat_map f (range_with_len 0 (n + 1))
 each_more f n =
     let same = λ (xs : List ℕ). flat_map-map (λ (x : List ℕ). x) f xs in
-    let one : flat_map (λ (x : List ℕ). x) (f n ∷ []) ≡ f n = flat_map-cons (λ (x : List ℕ). x) (f n) [] ∙ append-nil (f n) in
+    let one : flat_map (λ (x : List ℕ). x) (f n ∷ []) ≡ f n =
+    flat_map-cons (λ (x : List ℕ). x) (f n) [] ∙ append-nil (f n) in
     sym (
     sym (same (range_with_len 0 (n + 1)))
     ∙ ap (λ (xs : List (List ℕ)). flat_map (λ (x : List ℕ). x) xs) (map-range_with_len_more f 0 n n (omega arith))

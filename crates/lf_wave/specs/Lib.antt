@@ -1,4 +1,5 @@
--- What callers read: the signals of a wave, the registers that are held, what each record changes, the head, and the file of
+-- What callers read: the signals of a wave, the registers that are held, what each record changes, the head, and the
+-- file of
 -- signals beside it.
 pub mod Signals
 pub mod Registers

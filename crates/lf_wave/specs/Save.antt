@@ -1,4 +1,5 @@
--- The file of signals that GTKWave opens beside a wave: a line of flags before each signal says how its values are shown.
+-- The file of signals that GTKWave opens beside a wave: a line of flags before each signal says how its values are
+-- shown.
 use Rattle.std.specs.Prelude.{ℕ, ◌-◌, max, List, [], ◌++◌, codes, flat_map, Option, Some, None}
 use Rattle.std.specs.List.{range_with_len}
 use Rattle.std.specs.Fmt.{decimal}
@@ -43,7 +44,8 @@ tag_rows tags port = flat_map (tag_row port) (range_with_len 0 tags)
 abbrev pub port_rows : ℕ → ℕ → List ℕ
 port_rows tags port =
     title (codes "port") port ++ (port_row port as_text (codes "event") ++ (port_row port as_decimal (codes "tag[7:0]")
-    ++ (port_row port as_hexadecimal (codes "address[63:0]") ++ (port_row port as_decimal (codes "outstanding[15:0]") ++ tag_rows tags port))))
+    ++ (port_row port as_hexadecimal (codes "address[63:0]")
+    ++ (port_row port as_decimal (codes "outstanding[15:0]") ++ tag_rows tags port))))
 
 abbrev pub all_port_rows : ℕ → ℕ → List ℕ
 all_port_rows tags ports = flat_map (port_rows tags) (range_with_len 0 ports)
@@ -54,7 +56,14 @@ bank_request_rows bank =
     ++ bank_row bank as_decimal (codes "register[15:0]"))
 
 abbrev pub bank_register_rows : ℕ → List ℕ
-bank_register_rows bank = bank_row bank as_decimal (codes "level1_registers[15:0]") ++ bank_row bank as_decimal (codes "level2_registers[15:0]")
+bank_register_rows bank = bank_row bank as_decimal (codes "level1_registers[15:0]")
+    ++ bank_row bank as_decimal (codes "level2_registers[15:0]")
+
+abbrev pub bank_traffic_rows : ℕ → List ℕ
+bank_traffic_rows bank =
+    bank_row bank as_decimal (codes "asked[15:0]") ++ (bank_row bank as_decimal (codes "supplied[15:0]")
+    ++ (bank_row bank as_decimal (codes "level1_dirty[31:0]")
+    ++ bank_row bank as_decimal (codes "level2_dirty[31:0]")))
 
 -- the block that a register holds, and how many targets wait in it
 abbrev pub register_row : Level → ℕ → ℕ → List ℕ
@@ -66,12 +75,15 @@ abbrev pub register_rows : ℕ → Level → ℕ → List ℕ
 register_rows registers level bank = flat_map (register_row level bank) (range_with_len 0 registers)
 
 abbrev pub level_rows : View → ℕ → List ℕ
-level_rows view bank = register_rows view.level1_registers levels.One bank ++ register_rows view.level2_registers levels.Two bank
+level_rows view bank = register_rows view.level1_registers levels.One bank
+    ++ register_rows view.level2_registers levels.Two bank
 
 abbrev pub bank_rows : View → ℕ → List ℕ
 bank_rows view bank =
-    title (codes "bank") bank ++ (bank_row bank as_text (codes "event") ++ (bank_row bank as_decimal (codes "number[31:0]")
-    ++ (bank_row bank as_decimal (codes "block[31:0]") ++ (bank_request_rows bank ++ (bank_register_rows bank ++ level_rows view bank)))))
+    title (codes "bank") bank ++ (bank_row bank as_text (codes "event")
+    ++ (bank_row bank as_decimal (codes "number[31:0]")
+    ++ (bank_row bank as_decimal (codes "block[31:0]") ++ (bank_request_rows bank
+    ++ (bank_register_rows bank ++ (bank_traffic_rows bank ++ level_rows view bank))))))
 
 abbrev pub all_bank_rows : View → ℕ → List ℕ
 all_bank_rows view banks = flat_map (bank_rows view) (range_with_len 0 banks)
@@ -95,4 +107,5 @@ marked_at None = codes "-1"
 abbrev pub save_text : View → ℕ → ℕ → List ℕ
 save_text view ports banks =
     codes "[timestart] " ++ (decimal (opens_at view) ++ (codes "000\n[size] 1600 900\n*-10.5 " ++ (marked_at view.marker
-    ++ (codes "\n[signals_width] 210\n@28\nscore.fault\n@820\nscore.rule\n" ++ (all_port_rows view.tags ports ++ all_bank_rows view banks)))))
+    ++ (codes "\n[signals_width] 210\n@28\nscore.fault\n@820\nscore.rule\n"
+    ++ (all_port_rows view.tags ports ++ all_bank_rows view banks)))))

@@ -42,6 +42,10 @@ identifier (signals.Block bank) = of_bank bank (codes "b")
 identifier (signals.Register bank) = of_bank bank (codes "r")
 identifier (signals.InUse levels.One bank) = of_bank bank (codes "x")
 identifier (signals.InUse levels.Two bank) = of_bank bank (codes "y")
+identifier (signals.Asked bank) = of_bank bank (codes "q")
+identifier (signals.Supplied bank) = of_bank bank (codes "s")
+identifier (signals.Dirty levels.One bank) = of_bank bank (codes "d")
+identifier (signals.Dirty levels.Two bank) = of_bank bank (codes "w")
 identifier (signals.HeldBlock level bank register) = of_bank bank (block_letter level ++ decimal register)
 identifier (signals.Targets level bank register) = of_bank bank (target_letter level ++ decimal register)
 
@@ -81,12 +85,14 @@ busy_change tags up port tag = if nat_lt tag tags then bit_change up (signals.Bu
 abbrev pub held_change : ℕ → Level → HeldRegister → List ℕ
 held_change registers level h =
     if nat_lt h.register registers
-    then number_change h.block (signals.HeldBlock level h.bank h.register) ++ number_change h.targets (signals.Targets level h.bank h.register)
+    then number_change h.block (signals.HeldBlock level h.bank h.register)
+    ++ number_change h.targets (signals.Targets level h.bank h.register)
     else []
 
 -- it holds none from now on
 abbrev pub free_change : Level → ℕ → ℕ → List ℕ
-free_change level bank register = absence_change (signals.HeldBlock level bank register) ++ number_change 0 (signals.Targets level bank register)
+free_change level bank register = absence_change (signals.HeldBlock level bank register)
+    ++ number_change 0 (signals.Targets level bank register)
 
 abbrev pub freed_change : ℕ → Level → ℕ → ℕ → List ℕ
 freed_change registers level bank register = if nat_lt register registers then free_change level bank register else []

@@ -1,12 +1,16 @@
 -- The wave of a trace: what each record changes. A record's place is the number of records that stand before it.
-use Rattle.std.specs.Prelude.{ℕ, ◌+◌, ◌==◌, ◌&&◌, ◌||◌, not, Bool, true, false, List, [], ◌∷◌, ◌++◌, codes, nat_le, if◌then◌else◌, Option, Some, None, filter, count_by, flat_map}
+use Rattle.std.specs.Prelude.{ℕ, ◌+◌, ◌==◌, ◌&&◌, ◌||◌, not, Bool, true, false, List, [], ◌∷◌, ◌++◌, codes, nat_le}
+use Rattle.std.specs.Prelude.{if◌then◌else◌, Option, Some, None, filter, count_by, flat_map}
 use Rattle.std.specs.Fmt.{decimal}
+use Rattle.std.specs.List.{range_with_len}
 use Rattle.lf_rules.specs.Text.{rule_text}
 use Rattle.lf_rules.specs.declared.event.Event.{Event}
 use Rattle.lf_rules.specs.declared.event.Event.TheVariants as events
 use Rattle.lf_rules.specs.declared.event.Record.{Record}
 use Rattle.lf_rules.specs.declared.rule.Rule.{Rule}
 use Rattle.lf_text.specs.Text.{word_of}
+use Rattle.lf_traffic.specs.declared.counts.Counts.{Counts}
+use Rattle.lf_traffic.specs.Flow.{Flows, flow_at, counts_of, flows_after, no_flow}
 use Rattle.lf_wave.specs.declared.busy.BusyTag.{BusyTag}
 use Rattle.lf_wave.specs.declared.registers.HeldRegister.{HeldRegister}
 use Rattle.lf_wave.specs.declared.registers.Level.{Level}
@@ -24,7 +28,8 @@ abbrev pub is_other : ℕ → ℕ → BusyTag → Bool
 is_other port tag b = not (b.port == port) || not (b.tag == tag)
 
 abbrev pub busy_by : Event → ℕ → List BusyTag → List BusyTag
-busy_by (events.Issue op tag size address bytes) port busy = filter (is_other port tag) busy ++ (record { port = port; tag = tag; address = address }) ∷ []
+busy_by (events.Issue op tag size address bytes) port busy =
+    filter (is_other port tag) busy ++ (record { port = port; tag = tag; address = address }) ∷ []
 busy_by (events.Reply tag size bytes) port busy = filter (is_other port tag) busy
 busy_by _ port busy = busy
 
@@ -51,7 +56,8 @@ port_changes tags busy port (events.Issue op tag size address bytes) =
     number_change tag (signals.PortTag port) ++ (number_change address (signals.Address port)
     ++ (busy_change tags true port tag ++ number_change busy (signals.Outstanding port)))
 port_changes tags busy port (events.Reply tag size bytes) =
-    number_change tag (signals.PortTag port) ++ (busy_change tags false port tag ++ number_change busy (signals.Outstanding port))
+    number_change tag (signals.PortTag port) ++ (busy_change tags false port tag
+    ++ number_change busy (signals.Outstanding port))
 port_changes tags busy port event = []
 
 -- the request that a bank's record names
@@ -62,10 +68,14 @@ request_changes bank port tag = number_change port (signals.Requester bank) ++ n
 abbrev pub bank_changes : ℕ → Event → List ℕ
 bank_changes bank (events.Hit port tag) = request_changes bank port tag
 bank_changes bank (events.Stall port tag) = request_changes bank port tag
-bank_changes bank (events.Primary port tag register) = request_changes bank port tag ++ number_change register (signals.Register bank)
-bank_changes bank (events.Merge port tag register) = request_changes bank port tag ++ number_change register (signals.Register bank)
-bank_changes bank (events.SecondPrimary block register) = number_change block (signals.Block bank) ++ number_change register (signals.Register bank)
-bank_changes bank (events.SecondMerge block register) = number_change block (signals.Block bank) ++ number_change register (signals.Register bank)
+bank_changes bank (events.Primary port tag register) = request_changes bank port tag
+    ++ number_change register (signals.Register bank)
+bank_changes bank (events.Merge port tag register) = request_changes bank port tag
+    ++ number_change register (signals.Register bank)
+bank_changes bank (events.SecondPrimary block register) = number_change block (signals.Block bank)
+    ++ number_change register (signals.Register bank)
+bank_changes bank (events.SecondMerge block register) = number_change block (signals.Block bank)
+    ++ number_change register (signals.Register bank)
 bank_changes bank (events.Fill1 block bytes) = number_change block (signals.Block bank)
 bank_changes bank (events.Evict1 block mask bytes) = number_change block (signals.Block bank)
 bank_changes bank (events.SecondHit block) = number_change block (signals.Block bank)
@@ -75,28 +85,34 @@ bank_changes bank (events.Evict2 second masks bytes) = number_change second (sig
 bank_changes bank event = []
 
 abbrev pub named_by : ℕ → ℕ → ℕ → ℕ → ℕ → Event → List ℕ
-named_by tags busy log bank number (events.Issue op tag size address bytes) = port_changes tags busy log (events.Issue op tag size address bytes)
-named_by tags busy log bank number (events.Reply tag size bytes) = port_changes tags busy log (events.Reply tag size bytes)
+named_by tags busy log bank number (events.Issue op tag size address bytes) =
+    port_changes tags busy log (events.Issue op tag size address bytes)
+named_by tags busy log bank number (events.Reply tag size bytes) =
+    port_changes tags busy log (events.Reply tag size bytes)
 named_by tags busy log bank number events.Fence = []
 named_by tags busy log bank number event = number_change number (signals.Number bank) ++ bank_changes bank event
 
 -- all that a record changes, where so many tags of its port are busy then
 abbrev pub record_changes : ℕ → ℕ → Record → List ℕ
-record_changes tags busy r = text_change (word_of r.event) (event_signal r.log r.bank r.event) ++ named_by tags busy r.log r.bank r.number r.event
+record_changes tags busy r = text_change (word_of r.event) (event_signal r.log r.bank r.event)
+    ++ named_by tags busy r.log r.bank r.number r.event
 
 -- ---- the registers that it changes, of which so many of each level have signals
 
 -- a register that is freed by the fill of this block
 abbrev pub freed_by : ℕ → Level → ℕ → ℕ → HeldRegister → List ℕ
-freed_by registers level bank block h = if is_of_block bank block h then freed_change registers level bank h.register else []
+freed_by registers level bank block h = if is_of_block bank block h then freed_change registers level bank h.register
+    else []
 
 abbrev pub freed_registers : ℕ → Level → ℕ → ℕ → List HeldRegister → List ℕ
 freed_registers registers level bank block held = flat_map (freed_by registers level bank block) held
 
 -- the registers that a fill frees, of those that are held before it
 abbrev pub fill_changes : View → List HeldRegister → List HeldRegister → ℕ → Event → List ℕ
-fill_changes view level1 level2 bank (events.Fill1 block bytes) = freed_registers view.level1_registers levels.One bank block level1
-fill_changes view level1 level2 bank (events.Fill2 second bytes) = freed_registers view.level2_registers levels.Two bank second level2
+fill_changes view level1 level2 bank (events.Fill1 block bytes) =
+    freed_registers view.level1_registers levels.One bank block level1
+fill_changes view level1 level2 bank (events.Fill2 second bytes) =
+    freed_registers view.level2_registers levels.Two bank second level2
 fill_changes view level1 level2 bank event = []
 
 abbrev pub held_if : ℕ → Level → Option HeldRegister → List ℕ
@@ -109,17 +125,60 @@ count_change level held bank = number_change (in_use held bank) (signals.InUse l
 
 -- the register that a miss names, and how many are held
 abbrev pub miss_changes : ℕ → Level → List HeldRegister → ℕ → ℕ → List ℕ
-miss_changes registers level held bank register = held_if registers level (register_of held bank register) ++ count_change level held bank
+miss_changes registers level held bank register = held_if registers level (register_of held bank register)
+    ++ count_change level held bank
 
 -- what it changes, where these registers are held after it
 abbrev pub register_changes : View → List HeldRegister → List HeldRegister → ℕ → Event → List ℕ
-register_changes view level1 level2 bank (events.Primary port tag register) = miss_changes view.level1_registers levels.One level1 bank register
-register_changes view level1 level2 bank (events.Merge port tag register) = miss_changes view.level1_registers levels.One level1 bank register
+register_changes view level1 level2 bank (events.Primary port tag register) =
+    miss_changes view.level1_registers levels.One level1 bank register
+register_changes view level1 level2 bank (events.Merge port tag register) =
+    miss_changes view.level1_registers levels.One level1 bank register
 register_changes view level1 level2 bank (events.Fill1 block bytes) = count_change levels.One level1 bank
-register_changes view level1 level2 bank (events.SecondPrimary block register) = miss_changes view.level2_registers levels.Two level2 bank register
-register_changes view level1 level2 bank (events.SecondMerge block register) = miss_changes view.level2_registers levels.Two level2 bank register
+register_changes view level1 level2 bank (events.SecondPrimary block register) =
+    miss_changes view.level2_registers levels.Two level2 bank register
+register_changes view level1 level2 bank (events.SecondMerge block register) =
+    miss_changes view.level2_registers levels.Two level2 bank register
 register_changes view level1 level2 bank (events.Fill2 second bytes) = count_change levels.Two level2 bank
 register_changes view level1 level2 bank event = []
+
+-- ---- the blocks between the levels and the dirty lines
+
+abbrev pub asked_change : ℕ → Counts → List ℕ
+asked_change bank c = number_change c.asked (signals.Asked bank)
+
+abbrev pub supplied_change : ℕ → Counts → List ℕ
+supplied_change bank c = number_change c.supplied (signals.Supplied bank)
+
+abbrev pub dirty1_change : ℕ → Counts → List ℕ
+dirty1_change bank c = number_change c.dirty1 (signals.Dirty levels.One bank)
+
+abbrev pub dirty2_change : ℕ → Counts → List ℕ
+dirty2_change bank c = number_change c.dirty2 (signals.Dirty levels.Two bank)
+
+abbrev pub all_counts : ℕ → Counts → List ℕ
+all_counts bank c =
+    asked_change bank c ++ (supplied_change bank c ++ (dirty1_change bank c ++ dirty2_change bank c))
+
+-- the counts that a record may change, where these are those of its bank after it
+abbrev pub traffic_changes : ℕ → Counts → Event → List ℕ
+traffic_changes bank c (events.Hit port tag) = dirty1_change bank c
+traffic_changes bank c (events.Primary port tag register) = asked_change bank c
+traffic_changes bank c (events.SecondHit block) = asked_change bank c ++ supplied_change bank c
+traffic_changes bank c (events.SecondPrimary block register) = asked_change bank c
+traffic_changes bank c (events.SecondMerge block register) = asked_change bank c
+traffic_changes bank c (events.Fill2 second bytes) = supplied_change bank c ++ dirty2_change bank c
+traffic_changes bank c (events.Fill1 block bytes) = supplied_change bank c ++ dirty1_change bank c
+traffic_changes bank c (events.Evict1 block mask bytes) = dirty1_change bank c ++ dirty2_change bank c
+traffic_changes bank c (events.Evict2 second masks bytes) = dirty2_change bank c
+traffic_changes bank c event = []
+
+-- the counts of each of the first banks
+abbrev pub standing_count : Flows → ℕ → List ℕ
+standing_count flows bank = all_counts bank (counts_of (flow_at flows.banks bank))
+
+abbrev pub standing_counts : ℕ → Flows → List ℕ
+standing_counts banks flows = flat_map (standing_count flows) (range_with_len 0 banks)
 
 -- ---- the wave
 
@@ -129,7 +188,8 @@ time place tenth = codes "#" ++ (decimal place ++ line tenth)
 
 -- a tag that is busy where the wave begins, and how many of its port are
 abbrev pub standing_tag : ℕ → List BusyTag → BusyTag → List ℕ
-standing_tag tags busy b = busy_change tags true b.port b.tag ++ number_change (outstanding busy b.port) (signals.Outstanding b.port)
+standing_tag tags busy b = busy_change tags true b.port b.tag
+    ++ number_change (outstanding busy b.port) (signals.Outstanding b.port)
 
 abbrev pub standing_tags : ℕ → List BusyTag → List ℕ
 standing_tags tags busy = flat_map (standing_tag tags busy) busy
@@ -141,11 +201,13 @@ standing_register registers level held h = held_change registers level h ++ coun
 abbrev pub standing_registers : ℕ → Level → List HeldRegister → List ℕ
 standing_registers registers level held = flat_map (standing_register registers level held) held
 
-abbrev pub standing : View → ℕ → List BusyTag → List HeldRegister → List HeldRegister → List ℕ
-standing view place busy level1 level2 =
+abbrev pub standing : View → ℕ → List BusyTag → List HeldRegister → List HeldRegister → Flows → List ℕ
+standing view place busy level1 level2 flows =
     if place == view.from
     then standing_tags view.tags busy
-    ++ (standing_registers view.level1_registers levels.One level1 ++ standing_registers view.level2_registers levels.Two level2)
+    ++ (standing_registers view.level1_registers levels.One level1
+    ++ (standing_registers view.level2_registers levels.Two level2
+    ++ standing_counts view.banks flows))
     else []
 
 abbrev pub rule_named : Option Rule → List ℕ
@@ -161,14 +223,15 @@ mark None place = []
 abbrev pub beginning : View → ℕ → List HeldRegister → List HeldRegister → Record → List ℕ
 beginning view place level1 level2 r = time place (codes "0") ++ fill_changes view level1 level2 r.bank r.event
 
--- The rest of it, where these tags are busy and these registers are held after it. It has one nanosecond, and its word is taken
--- away before the next one.
-abbrev pub moment : View → ℕ → List BusyTag → List HeldRegister → List HeldRegister → Record → List ℕ
-moment view place busy level1 level2 r =
-    standing view place busy level1 level2 ++ (mark view.marker place
+-- The rest of it, where these tags are busy, these registers are held and this goes between the levels after it. It
+-- has one nanosecond, and its word is taken away before the next one.
+abbrev pub moment : View → ℕ → List BusyTag → List HeldRegister → List HeldRegister → Flows → Record → List ℕ
+moment view place busy level1 level2 flows r =
+    standing view place busy level1 level2 flows ++ (mark view.marker place
     ++ (record_changes view.tags (outstanding busy r.log) r
     ++ (register_changes view level1 level2 r.bank r.event
-    ++ (time place (codes "9") ++ text_change [] (event_signal r.log r.bank r.event)))))
+    ++ (traffic_changes r.bank (counts_of (flow_at flows.banks r.bank)) r.event
+    ++ (time place (codes "9") ++ text_change [] (event_signal r.log r.bank r.event))))))
 
 abbrev pub is_shown : View → ℕ → Bool
 is_shown view place = nat_le view.from place && nat_le place view.to
@@ -176,20 +239,29 @@ is_shown view place = nat_le view.from place && nat_le place view.to
 abbrev pub begun : View → ℕ → List HeldRegister → List HeldRegister → Record → List ℕ
 begun view place level1 level2 r = if is_shown view place then beginning view place level1 level2 r else []
 
-abbrev pub shown : View → ℕ → List BusyTag → List HeldRegister → List HeldRegister → Record → List ℕ
-shown view place busy level1 level2 r = if is_shown view place then moment view place busy level1 level2 r else []
+abbrev pub shown : View → ℕ → List BusyTag → List HeldRegister → List HeldRegister → Flows → Record → List ℕ
+shown view place busy level1 level2 flows r =
+    if is_shown view place then moment view place busy level1 level2 flows r else []
 
--- how far a wave is drawn: what it shows, how many records there were, and after them the tags that are busy and the registers of
--- each level that are held
+-- how far a wave is drawn: what it shows, how many records there were, and after them the tags that are busy, the
+-- registers of each level that are held, and what goes between the levels
 pub record Drawn : Type 0 where
   pub view : View
   pub place : ℕ
   pub busy : List BusyTag
   pub level1 : List HeldRegister
   pub level2 : List HeldRegister
+  pub flows : Flows
 
 abbrev pub undrawn : View → Drawn
-undrawn view = record { view = view; place = 0; busy = []; level1 = []; level2 = [] }
+undrawn view = record {
+  view = view;
+  place = 0;
+  busy = [];
+  level1 = [];
+  level2 = [];
+  flows = no_flow view.block view.factor;
+}
 
 -- one record more
 abbrev pub next : Drawn → Record → Drawn
@@ -199,6 +271,7 @@ next wave r = record {
   busy = busy_after wave.busy r;
   level1 = level1_after wave.view.block wave.busy r.bank r.event wave.level1;
   level2 = level2_after wave.view.factor r.bank r.event wave.level2;
+  flows = flows_after wave.flows r;
 }
 
 abbrev pub drawn_after : Drawn → List Record → Drawn
@@ -208,7 +281,8 @@ drawn_after wave (r ∷ records) = drawn_after (next wave r) records
 -- the wave of the record that comes next
 abbrev pub next_shown : Drawn → Record → List ℕ
 next_shown wave r =
-    begun wave.view wave.place wave.level1 wave.level2 r ++ shown wave.view wave.place (next wave r).busy (next wave r).level1 (next wave r).level2 r
+    begun wave.view wave.place wave.level1 wave.level2 r ++ shown wave.view wave.place (next wave r).busy
+    (next wave r).level1 (next wave r).level2 (next wave r).flows r
 
 -- the wave of these records, from here on
 abbrev pub wave_from : Drawn → List Record → List ℕ

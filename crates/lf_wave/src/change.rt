@@ -195,7 +195,7 @@ impl fmt::Display for FreeChange {
     }
 }
 
-/// The same, where it is one of those that have signals.
+/// The change of a register that a fill frees, where it is one of those that have signals.
 #[derive(Clone, Copy)]
 pub struct FreedChange {
     pub registers: u16,

@@ -1,19 +1,21 @@
 //! The head of a wave: its scopes, its signals, and their first values.
 
-ghost use Rattle.std.specs.Prelude.{Some};
+ghost use Rattle.std.specs.Prelude.{◌≡◌, Some};
 ghost use Rattle.lf_wave.specs.Head.{scope_begin, scope_end, port_scope, port_scopes, bank_scope, bank_scopes, scopes};
 ghost use Rattle.lf_wave.specs.Head.{tag_starts, port_start, port_starts, bank_starts, start, head_text};
-ghost use Rattle.lf_wave.specs.Head.{port_values, bank_values, register_values};
+ghost use Rattle.lf_wave.specs.Head.{port_values, bank_values, register_values, traffic_values};
 ghost use Rattle.lf_wave.specs.Head.{held_variable, targets_variable, register_variable, register_variables};
-ghost use Rattle.lf_wave.specs.Head.{register_starts, bank_start};
+ghost use Rattle.lf_wave.specs.Head.{no_counts, register_starts, bank_start};
 ghost use Rattle.lf_wave.specs.Head.{tag_variable, tag_variables};
 
 use crate::change::{BitChange, FreeChange, NumberChange, TextChange};
 use crate::moment::Time;
 use crate::registers::Level;
 use crate::signal::Signal;
+use crate::traffic_changes::AllCounts;
 use crate::variable::{NumberVariable, TextVariable};
 use crate::view::View;
+use lf_traffic::Counts;
 use std::fmt;
 
 /// The line at which a scope begins.
@@ -237,6 +239,47 @@ impl fmt::Display for RegisterValues {
     }
 }
 
+/// The lines of the signals that say how many blocks go between the levels and how many lines are dirty.
+#[derive(Clone, Copy)]
+struct TrafficValues {
+    bank: u8,
+}
+
+impl fmt::Display for TrafficValues {
+    ghost output = { λ v. Some (traffic_values v.bank) };
+
+    fn fmt<W: fmt::Write>(&self, f: &mut fmt::Formatter<W>) -> fmt::Result {
+        let bank = self.bank;
+        let asked = NumberVariable {
+            width: 16,
+            signal: Signal::Asked { bank },
+            name: "asked [15:0]",
+        };
+        let supplied = NumberVariable {
+            width: 16,
+            signal: Signal::Supplied { bank },
+            name: "supplied [15:0]",
+        };
+        let level1 = NumberVariable {
+            width: 32,
+            signal: Signal::Dirty {
+                level: Level::One,
+                bank,
+            },
+            name: "level1_dirty [31:0]",
+        };
+        let level2 = NumberVariable {
+            width: 32,
+            signal: Signal::Dirty {
+                level: Level::Two,
+                bank,
+            },
+            name: "level2_dirty [31:0]",
+        };
+        write!(f, "{asked}{supplied}{level1}{level2}")
+    }
+}
+
 /// The line of the block that a register holds.
 #[derive(Clone, Copy)]
 struct HeldVariable {
@@ -367,7 +410,8 @@ impl fmt::Display for BankScope<'_> {
             index: bank,
         };
         let values = BankValues { bank };
-        let counts = RegisterValues { bank };
+        let held = RegisterValues { bank };
+        let counts = TrafficValues { bank };
         let level1 = RegisterVariables {
             registers: view.level1_registers,
             level: Level::One,
@@ -379,7 +423,7 @@ impl fmt::Display for BankScope<'_> {
             bank,
         };
         let end = ScopeEnd;
-        write!(f, "{begin}{values}{counts}{level1}{level2}{end}")
+        write!(f, "{begin}{values}{held}{counts}{level1}{level2}{end}")
     }
 }
 
@@ -533,6 +577,18 @@ impl fmt::Display for RegisterStarts {
     }
 }
 
+/// A bank that nothing happened in.
+fn no_counts() -> Counts
+    ensures { result ≡ no_counts }
+{
+    Counts {
+        asked: 0,
+        supplied: 0,
+        dirty1: 0,
+        dirty2: 0,
+    }
+}
+
 /// A bank with no record yet and no register held.
 #[derive(Clone, Copy)]
 struct BankStart<'a> {
@@ -556,6 +612,10 @@ impl fmt::Display for BankStart<'_> {
             level,
             bank,
         };
+        let counts = AllCounts {
+            bank,
+            counts: no_counts(),
+        };
         let level = Level::Two;
         let none2 = NumberChange::new(0, Signal::InUse { level, bank });
         let free2 = RegisterStarts {
@@ -563,7 +623,7 @@ impl fmt::Display for BankStart<'_> {
             level,
             bank,
         };
-        write!(f, "{word}{none1}{none2}{free1}{free2}")
+        write!(f, "{word}{none1}{none2}{counts}{free1}{free2}")
     }
 }
 

@@ -10,8 +10,10 @@ use crate::event::event_signal;
 use crate::register_changes::{FillChanges, RegisterChanges, StandingRegisters};
 use crate::registers::{HeldRegister, Level};
 use crate::signal::Signal;
+use crate::traffic_changes::{StandingCounts, TrafficChanges};
 use crate::view::{Marker, View};
 use lf_rules::{Record, Rule};
+use lf_traffic::Traffic;
 use std::fmt;
 
 /// A time, in nanoseconds and a tenth of one.
@@ -86,10 +88,11 @@ struct Standing<'a> {
     busy: &'a [BusyTag],
     level1: &'a [HeldRegister],
     level2: &'a [HeldRegister],
+    traffic: &'a Traffic,
 }
 
 impl fmt::Display for Standing<'_> {
-    ghost output = { λ s. Some (standing s.view.now s.place s.busy.now s.level1.now s.level2.now) };
+    ghost output = { λ s. Some (standing s.view.now s.place s.busy.now s.level1.now s.level2.now s.traffic.now) };
 
     fn fmt<W: fmt::Write>(&self, f: &mut fmt::Formatter<W>) -> fmt::Result {
         if self.place == self.view.from {
@@ -107,7 +110,11 @@ impl fmt::Display for Standing<'_> {
                 level: Level::Two,
                 held: self.level2,
             };
-            write!(f, "{tags}{level1}{level2}")
+            let counts = StandingCounts {
+                banks: self.view.banks,
+                traffic: self.traffic,
+            };
+            write!(f, "{tags}{level1}{level2}{counts}")
         } else {
             Ok(())
         }
@@ -191,7 +198,8 @@ impl fmt::Display for Beginning<'_> {
     }
 }
 
-/// The rest of a record, where these tags are busy and these registers of each level are held after it.
+/// The rest of a record, where these tags are busy, these registers of each level are held and this goes between the
+/// levels after it.
 #[derive(Clone, Copy)]
 pub struct Moment<'a> {
     pub view: &'a View,
@@ -199,11 +207,13 @@ pub struct Moment<'a> {
     pub busy: &'a [BusyTag],
     pub level1: &'a [HeldRegister],
     pub level2: &'a [HeldRegister],
+    pub traffic: &'a Traffic,
     pub item: &'a Record,
 }
 
 impl fmt::Display for Moment<'_> {
-    ghost output = { λ m. Some (moment m.view.now m.place m.busy.now m.level1.now m.level2.now m.item.now) };
+    ghost output = { λ m.
+        Some (moment m.view.now m.place m.busy.now m.level1.now m.level2.now m.traffic.now m.item.now) };
 
     fn fmt<W: fmt::Write>(&self, f: &mut fmt::Formatter<W>) -> fmt::Result {
         let Moment {
@@ -212,6 +222,7 @@ impl fmt::Display for Moment<'_> {
             busy,
             level1,
             level2,
+            traffic,
             item,
         } = *self;
         let standing = Standing {
@@ -220,6 +231,7 @@ impl fmt::Display for Moment<'_> {
             busy,
             level1,
             level2,
+            traffic,
         };
         let mark = Mark {
             marker: view.marker,
@@ -236,11 +248,18 @@ impl fmt::Display for Moment<'_> {
             level2,
             item,
         };
+        let counts = TrafficChanges {
+            counts: traffic.counts(item.bank),
+            item,
+        };
         let end = Time { place, tenth: "9" };
         let cleared = TextChange {
             text: "",
             signal: event_signal(item),
         };
-        write!(f, "{standing}{mark}{changes}{registers}{end}{cleared}")
+        write!(
+            f,
+            "{standing}{mark}{changes}{registers}{counts}{end}{cleared}"
+        )
     }
 }

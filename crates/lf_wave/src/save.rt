@@ -2,7 +2,7 @@
 
 ghost use Rattle.std.specs.Prelude.{◌≡◌, Some};
 ghost use Rattle.lf_wave.specs.Save.{port_row, bank_row, title, tag_row, tag_rows, port_rows, all_port_rows};
-ghost use Rattle.lf_wave.specs.Save.{bank_rows, bank_request_rows, bank_register_rows};
+ghost use Rattle.lf_wave.specs.Save.{bank_rows, bank_request_rows, bank_register_rows, bank_traffic_rows};
 ghost use Rattle.lf_wave.specs.Save.{register_row, register_rows, level_rows};
 ghost use Rattle.lf_wave.specs.Save.{all_bank_rows, opens_at, marked_at, save_text};
 
@@ -193,11 +193,12 @@ impl fmt::Display for BankRows<'_> {
             name: "block[31:0]",
         };
         let request = BankRequestRows { bank };
-        let counts = BankRegisterRows { bank };
+        let held = BankRegisterRows { bank };
+        let counts = BankTrafficRows { bank };
         let registers = LevelRows { view, bank };
         write!(
             f,
-            "{title}{event}{number}{block}{request}{counts}{registers}"
+            "{title}{event}{number}{block}{request}{held}{counts}{registers}"
         )
     }
 }
@@ -254,6 +255,41 @@ impl fmt::Display for BankRegisterRows {
             name: "level2_registers[15:0]",
         };
         write!(f, "{level1}{level2}")
+    }
+}
+
+/// Those that say how many blocks go between the levels, and how many lines are dirty.
+#[derive(Clone, Copy)]
+struct BankTrafficRows {
+    bank: u8,
+}
+
+impl fmt::Display for BankTrafficRows {
+    ghost output = { λ r. Some (bank_traffic_rows r.bank) };
+
+    fn fmt<W: fmt::Write>(&self, f: &mut fmt::Formatter<W>) -> fmt::Result {
+        let bank = self.bank;
+        let asked = BankRow {
+            bank,
+            flags: "24",
+            name: "asked[15:0]",
+        };
+        let supplied = BankRow {
+            bank,
+            flags: "24",
+            name: "supplied[15:0]",
+        };
+        let level1 = BankRow {
+            bank,
+            flags: "24",
+            name: "level1_dirty[31:0]",
+        };
+        let level2 = BankRow {
+            bank,
+            flags: "24",
+            name: "level2_dirty[31:0]",
+        };
+        write!(f, "{asked}{supplied}{level1}{level2}")
     }
 }
 

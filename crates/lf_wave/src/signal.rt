@@ -63,6 +63,19 @@ pub enum Signal {
         level: Level,
         bank: u8,
     },
+    /// How many blocks the bank's level one asks for.
+    Asked {
+        bank: u8,
+    },
+    /// How many blocks its level two has supplied.
+    Supplied {
+        bank: u8,
+    },
+    /// How many lines of the bank's level are dirty.
+    Dirty {
+        level: Level,
+        bank: u8,
+    },
     /// The block that a register of the bank's level holds.
     HeldBlock {
         level: Level,
@@ -123,6 +136,16 @@ impl fmt::Display for Signal {
                 level: Level::Two,
                 bank,
             } => write!(f, "b{bank}y"),
+            Signal::Asked { bank } => write!(f, "b{bank}q"),
+            Signal::Supplied { bank } => write!(f, "b{bank}s"),
+            Signal::Dirty {
+                level: Level::One,
+                bank,
+            } => write!(f, "b{bank}d"),
+            Signal::Dirty {
+                level: Level::Two,
+                bank,
+            } => write!(f, "b{bank}w"),
             Signal::HeldBlock {
                 level,
                 bank,

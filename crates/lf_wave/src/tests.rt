@@ -19,6 +19,7 @@ const VIEW: View = View {
     from: 1,
     to: 2,
     tags: 2,
+    banks: 1,
     level1_registers: 3,
     level2_registers: 1,
     block: 8,
@@ -51,6 +52,10 @@ $var wire 32 b0b block [31:0] $end
 $var wire 16 b0r register [15:0] $end
 $var wire 16 b0x level1_registers [15:0] $end
 $var wire 16 b0y level2_registers [15:0] $end
+$var wire 16 b0q asked [15:0] $end
+$var wire 16 b0s supplied [15:0] $end
+$var wire 32 b0d level1_dirty [31:0] $end
+$var wire 32 b0w level2_dirty [31:0] $end
 $var wire 32 b0h0 level1_register0 [31:0] $end
 $var wire 16 b0t0 level1_targets0 [15:0] $end
 $var wire 32 b0h1 level1_register1 [31:0] $end
@@ -73,6 +78,10 @@ b0 p0o
 s b0e
 b0 b0x
 b0 b0y
+b0 b0q
+b0 b0s
+b0 b0d
+b0 b0w
 bz b0h0
 b0 b0t0
 bz b0h1
@@ -88,6 +97,10 @@ b1 p0o
 b11 b0h2
 b1 b0t2
 b1 b0x
+b1 b0q
+b0 b0s
+b0 b0d
+b0 b0w
 sprimary b0e
 b1 b0n
 b0 b0p
@@ -96,6 +109,7 @@ b10 b0r
 b11 b0h2
 b1 b0t2
 b1 b0x
+b1 b0q
 #19
 s b0e
 #20
@@ -151,6 +165,14 @@ score.bank0.level1_registers[15:0]
 @24
 score.bank0.level2_registers[15:0]
 @24
+score.bank0.asked[15:0]
+@24
+score.bank0.supplied[15:0]
+@24
+score.bank0.level1_dirty[31:0]
+@24
+score.bank0.level2_dirty[31:0]
+@24
 score.bank0.level1_register0[31:0]
 @24
 score.bank0.level1_targets0[15:0]
@@ -173,6 +195,7 @@ const FILLS: View = View {
     from: 3,
     to: u64::MAX,
     tags: 0,
+    banks: 1,
     level1_registers: 3,
     level2_registers: 2,
     block: 8,
@@ -187,6 +210,10 @@ b10 p0o
 b11 b0h2
 b10 b0t2
 b1 b0x
+b1 b0q
+b0 b0s
+b0 b0d
+b0 b0w
 smerge b0e
 b11 b0n
 b0 b0p
@@ -205,6 +232,7 @@ b0 b0r
 b1 b0k0
 b1 b0u0
 b1 b0y
+b0 b0q
 #49
 s b0e
 #50
@@ -214,6 +242,8 @@ sfill2 b0e
 b101 b0n
 b1 b0b
 b0 b0y
+b1 b0s
+b0 b0w
 #59
 s b0e
 #60
@@ -223,6 +253,8 @@ sfill1 b0e
 b110 b0n
 b11 b0b
 b0 b0x
+b0 b0s
+b0 b0d
 #69
 s b0e
 ";
@@ -339,6 +371,7 @@ fn signals_of_a_shape(rt: HostRuntime) -> Result<(), Fail> {
         from: 0,
         to: u64::MAX,
         tags: 3,
+        banks: 1,
         level1_registers: 6,
         level2_registers: 64,
         block: 8,

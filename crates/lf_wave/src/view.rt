@@ -28,9 +28,11 @@ pub struct View {
     pub to: u64,
     /// How many tags of each port have a signal of their own, from tag 0 on.
     pub tags: u16,
+    /// How many banks the trace has.
+    pub banks: u8,
     /// How many registers of level one of each bank have signals of their own, from register 0 on.
     pub level1_registers: u16,
-    /// The same of level two.
+    /// How many registers of level two of each bank have signals of their own, from register 0 on.
     pub level2_registers: u16,
     /// The bytes of a block of the trace.
     pub block: u32,
@@ -70,6 +72,7 @@ impl View {
             from: 0,
             to: u64::MAX,
             tags: u16::try_from(shape.tags).unwrap_or(u16::MAX),
+            banks: u8::try_from(shape.banks).unwrap_or(u8::MAX),
             level1_registers: at_most(level1),
             level2_registers: at_most(level2),
             block: shape.block,

@@ -11,11 +11,12 @@ use crate::registers::{HeldRegister, apply_level1, apply_level2};
 use crate::view::View;
 use lf_codec::Header;
 use lf_rules::Record;
+use lf_traffic::Traffic;
 use std::alloc::{AllocError, Global};
 use std::marker::Model;
 
-/// What the wave of a record rests on: how many records stand before it, and which tags are busy and which
-/// registers are held after them.
+/// What the wave of a record rests on: how many records stand before it, which tags are busy and which
+/// registers are held after them, and what goes between the levels.
 #[derive(Drop)]
 pub struct Wave {
     view: View,
@@ -23,6 +24,7 @@ pub struct Wave {
     busy: Vec<BusyTag>,
     level1: Vec<HeldRegister>,
     level2: Vec<HeldRegister>,
+    traffic: Traffic,
 }
 
 impl Model for Wave {
@@ -36,6 +38,7 @@ impl Model for Wave {
       busy = w.busy.items;
       level1 = w.level1.items;
       level2 = w.level2.items;
+      flows = w.traffic;
     } };
 }
 
@@ -50,6 +53,7 @@ impl Wave {
             busy: Vec::new(alloc),
             level1: Vec::new(alloc),
             level2: Vec::new(alloc),
+            traffic: Traffic::new(alloc, view.block, view.factor),
         }
     }
 
@@ -89,7 +93,7 @@ impl Wave {
     fn show(&self, item: &Record, text: &mut String) -> Result<(), AllocError>
         ensures { OnOk result (string_bytes text.new ≡
             string_bytes text.old ++ shown self.now.view self.now.place self.now.busy
-            self.now.level1 self.now.level2 item.now) }
+            self.now.level1 self.now.level2 self.now.flows item.now) }
     {
         if self.view.shows(self.place) {
             let moment = Moment {
@@ -98,6 +102,7 @@ impl Wave {
                 busy: &self.busy,
                 level1: &self.level1,
                 level2: &self.level2,
+                traffic: &self.traffic,
                 item,
             };
             write!(text, "{moment}")
@@ -116,6 +121,7 @@ impl Wave {
         apply_level1(&mut self.level1, self.view.block, &self.busy, item)?;
         apply_level2(&mut self.level2, self.view.factor, item)?;
         apply(&mut self.busy, item)?;
+        self.traffic.take(item)?;
         self.show(item, text)?;
         self.place += 1;
         Ok(())

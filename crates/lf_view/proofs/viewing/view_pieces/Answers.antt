@@ -14,7 +14,8 @@ returns-in-Ok-eq0-clause-all g c =
     let none : piece ≡ [] = search rules in
     let size : length c.pull.new.buffer ≡ piece_len = search rules in
     let one_read : length piece ≤ piece_len = omega (arith, size, length-take c.in-Ok-eq0.field-0 c.pull.new.buffer) in
-    told_at_end _ _ _ _ _ _ _ _ t piece read.pieces read.known.0 one_read none (read.known.1 c.in-Ok-eq0.field-0-test (search rules))
+    told_at_end _ _ _ _ _ _ _ _ t piece read.pieces read.known.0 one_read none
+    (read.known.1 c.in-Ok-eq0.field-0-test (search rules))
 
 pub returns-in-Ok-true-clause-all : goal.returns-in-Ok-true-clause-all
 returns-in-Ok-true-clause-all g c =
@@ -23,7 +24,8 @@ returns-in-Ok-true-clause-all g c =
     let read = c.in-Ok.ensures.read in
     let size : length c.pull.new.buffer ≡ piece_len = search rules in
     let one_read : length piece ≤ piece_len = omega (arith, size, length-take c.in-Ok.n c.pull.new.buffer) in
-    told_last _ _ _ _ _ _ _ _ t piece read.pieces read.known.0 one_read _ _ c.in-Ok-true.field-0 (search rules) (c.in-Ok-true.ensures.shown _ t.bytes t.drawn)
+    told_last _ _ _ _ _ _ _ _ t piece read.pieces read.known.0 one_read _ _ c.in-Ok-true.field-0 (search rules)
+    (c.in-Ok-true.ensures.shown _ t.bytes t.drawn)
 
 pub returns-in-Err-show-clause-stopped : goal.returns-in-Err-show-clause-stopped
 returns-in-Err-show-clause-stopped g c =
@@ -32,7 +34,8 @@ returns-in-Err-show-clause-stopped g c =
     let read = c.in-Ok.ensures.read in
     let size : length c.pull.new.buffer ≡ piece_len = search rules in
     let one_read : length piece ≤ piece_len = omega (arith, size, length-take c.in-Ok.n c.pull.new.buffer) in
-    stopped_by _ _ _ _ _ _ _ _ t piece read.pieces read.known.0 one_read _ c.show.new.drawer c.in-Err-show.fault (c.in-Err-show.ensures.shown _ t.bytes t.drawn)
+    stopped_by _ _ _ _ _ _ _ _ t piece read.pieces read.known.0 one_read _ c.show.new.drawer c.in-Err-show.fault
+    (c.in-Err-show.ensures.shown _ t.bytes t.drawn)
 
 pub loop-turn-preserved : goal.loop-turn-preserved
 loop-turn-preserved g c =
@@ -48,7 +51,9 @@ loop-turn-preserved g c =
             failures = read.failures ∙ so_far.failures;
             room = search rules;
             writes = search (rules, w.in-Ok-false.ensures.write);
-            telling = telling_more _ _ _ _ _ _ _ _ so_far.telling piece read.pieces read.known.0 one_read _ _ w.in-Ok-false.field-0 (λ is. let bad : IsTrue w.in-Ok-false.field-0 = is in cc) (w.in-Ok-false.ensures.shown _ so_far.telling.bytes so_far.telling.drawn);
+            telling = telling_more _ _ _ _ _ _ _ _ so_far.telling piece read.pieces read.known.0 one_read _ _
+                w.in-Ok-false.field-0 (λ is. let bad : IsTrue w.in-Ok-false.field-0 = is in cc)
+                (w.in-Ok-false.ensures.shown _ so_far.telling.bytes so_far.telling.drawn);
           })
       | in-Err+else-ne w ↦
           let read = w.in-Err.ensures.read in

@@ -4,4 +4,5 @@ use Rattle.lf_wave.specs.Registers.{is_of_other_block}
 use Rattle.lf_wave.proofs.registers.fill.Goals as goal
 
 pub returns : goal.returns
-returns c = filter_same _ (is_of_other_block c.args.bank c.args.block) _ (λ x b f' k. search rules) _ _ c.retain.ensures.filtered
+returns c = filter_same _ (is_of_other_block c.args.bank c.args.block) _ (λ x b f' k. search rules) _ _
+    c.retain.ensures.filtered

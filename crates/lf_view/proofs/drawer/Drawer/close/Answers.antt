@@ -7,4 +7,5 @@ use Rattle.lf_view.proofs.drawer.Drawer.close.Goals as goal
 pub returns-in-Err : goal.returns-in-Err
 returns-in-Err c view bytes drawn =
     ap (λ (f : CodecFault). Some f) c.fault.ensures
-    ∙ sym (ends_badly bytes _ c.in-Err.told (sym (c.in-Err.ensures.ends bytes (reading_of bytes).memory (reading_of bytes).records drawn.read)))
+    ∙ sym (ends_badly bytes _ c.in-Err.told (sym (c.in-Err.ensures.ends bytes (reading_of bytes).memory
+    (reading_of bytes).records drawn.read)))

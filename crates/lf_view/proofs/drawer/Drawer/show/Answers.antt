@@ -6,7 +6,13 @@ use Rattle.lf_view.proofs.drawer.Drawer.show.Goals as goal
 
 pub draw-requires : goal.draw-requires
 draw-requires c =
-    let mid : Drawer = record { reader = c.feed.new.reader; wave = c.args.self.now.wave; text = c.clear.new.self; begun = c.args.self.now.begun } in
+    let mid : Drawer = record {
+      reader = c.feed.new.reader;
+      wave = c.args.self.now.wave;
+      text =
+          c.clear.new.self;
+      begun = c.args.self.now.begun;
+    } in
     let view = c.requires.0 in
     let bytes = c.requires.1 in
     let drawn = c.requires.2 in
@@ -15,12 +21,25 @@ draw-requires c =
 
 pub returns-clause-drawn : goal.returns-clause-drawn
 returns-clause-drawn c view bytes drawn =
-    let mid : Drawer = record { reader = c.feed.new.reader; wave = c.args.self.now.wave; text = c.clear.new.self; begun = c.args.self.now.begun } in
+    let mid : Drawer = record {
+      reader = c.feed.new.reader;
+      wave = c.args.self.now.wave;
+      text =
+          c.clear.new.self;
+      begun = c.args.self.now.begun;
+    } in
     let has = c.in_ok-enough.ensures.read bytes (reading_of bytes).memory (reading_of bytes).records drawn.read in
     drawn_now view bytes c.args.piece.now c.args.self.now mid drawn has refl refl c.draw.new.self c.in_ok-draw.ensures
 
 pub returns-clause-wave : goal.returns-clause-wave
 returns-clause-wave c view bytes drawn =
-    let mid : Drawer = record { reader = c.feed.new.reader; wave = c.args.self.now.wave; text = c.clear.new.self; begun = c.args.self.now.begun } in
+    let mid : Drawer = record {
+      reader = c.feed.new.reader;
+      wave = c.args.self.now.wave;
+      text =
+          c.clear.new.self;
+      begun = c.args.self.now.begun;
+    } in
     let has = c.in_ok-enough.ensures.read bytes (reading_of bytes).memory (reading_of bytes).records drawn.read in
-    wave_now view bytes c.args.piece.now c.args.self.now mid drawn has refl refl c.draw.new.self c.in_ok-draw.ensures c.clear.ensures.bytes
+    wave_now view bytes c.args.piece.now c.args.self.now mid drawn has refl refl c.draw.new.self c.in_ok-draw.ensures
+    c.clear.ensures.bytes

@@ -7,5 +7,6 @@ use Rattle.lf_wave.proofs.head.PortScopesDisplay.fmt.Goals as goal
 pub loop-port-preserved : goal.loop-port-preserved
 loop-port-preserved g c plain =
     let so_far = c.loop-port.invariant plain in
-    put_two g.W.Write.write_str_gives c.args.f.now c.loop-port.f c.write.new.self _ _ _ so_far (c.in_ok-write.ensures.writes so_far.plain (refl {a = true}))
+    put_two g.W.Write.write_str_gives c.args.f.now c.loop-port.f c.write.new.self _ _ _ so_far
+    (c.in_ok-write.ensures.writes so_far.plain (refl {a = true}))
     (each_more (port_scope c.args.self.now.tags) c.loop-port.port)

@@ -5,4 +5,6 @@ use Rattle.lf_wave.specs.Signals.{free_change}
 use Rattle.lf_wave.proofs.head.RegisterStartsDisplay.fmt.Given as goal
 
 abbrev pub invariant-loop-register : goal.invariant-loop-register
-invariant-loop-register g l = IsPlainFormatter l.initial.f → HasWritten g.W.Write.write_str_gives l.initial.f (flat_map (free_change l.self.level l.self.bank) (range_with_len 0 l.register)) l.f
+invariant-loop-register g l = IsPlainFormatter l.initial.f →
+    HasWritten g.W.Write.write_str_gives l.initial.f (flat_map (free_change l.self.level l.self.bank)
+    (range_with_len 0 l.register)) l.f

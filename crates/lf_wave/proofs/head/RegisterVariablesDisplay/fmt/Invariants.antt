@@ -5,4 +5,6 @@ use Rattle.lf_wave.specs.Head.{register_variable}
 use Rattle.lf_wave.proofs.head.RegisterVariablesDisplay.fmt.Given as goal
 
 abbrev pub invariant-loop-register : goal.invariant-loop-register
-invariant-loop-register g l = IsPlainFormatter l.initial.f → HasWritten g.W.Write.write_str_gives l.initial.f (flat_map (register_variable l.self.level l.self.bank) (range_with_len 0 l.register)) l.f
+invariant-loop-register g l = IsPlainFormatter l.initial.f →
+    HasWritten g.W.Write.write_str_gives l.initial.f (flat_map (register_variable l.self.level l.self.bank)
+    (range_with_len 0 l.register)) l.f

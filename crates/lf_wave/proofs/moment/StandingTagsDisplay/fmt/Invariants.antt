@@ -7,4 +7,5 @@ use Rattle.lf_wave.proofs.moment.StandingTagsDisplay.fmt.Given as goal
 
 abbrev pub invariant-loop-entry : goal.invariant-loop-entry
 invariant-loop-entry g l =
-    IsPlainFormatter l.initial.f → HasWritten g.W.Write.write_str_gives l.initial.f (flat_map (standing_tag l.self.tags l.self.busy.now) (take l.entry-index l.self.busy.now)) l.f
+    IsPlainFormatter l.initial.f → HasWritten g.W.Write.write_str_gives l.initial.f
+    (flat_map (standing_tag l.self.tags l.self.busy.now) (take l.entry-index l.self.busy.now)) l.f

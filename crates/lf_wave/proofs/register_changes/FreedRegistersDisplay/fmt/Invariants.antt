@@ -7,4 +7,6 @@ use Rattle.lf_wave.proofs.register_changes.FreedRegistersDisplay.fmt.Given as go
 
 abbrev pub invariant-loop-entry : goal.invariant-loop-entry
 invariant-loop-entry g l =
-    IsPlainFormatter l.initial.f → HasWritten g.W.Write.write_str_gives l.initial.f (flat_map (freed_by l.self.registers l.self.level l.self.bank l.self.block) (take l.entry-index l.self.held.now)) l.f
+    IsPlainFormatter l.initial.f → HasWritten g.W.Write.write_str_gives l.initial.f
+    (flat_map (freed_by l.self.registers l.self.level l.self.bank l.self.block)
+    (take l.entry-index l.self.held.now)) l.f

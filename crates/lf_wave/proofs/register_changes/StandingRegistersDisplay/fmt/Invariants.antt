@@ -7,4 +7,6 @@ use Rattle.lf_wave.proofs.register_changes.StandingRegistersDisplay.fmt.Given as
 
 abbrev pub invariant-loop-entry : goal.invariant-loop-entry
 invariant-loop-entry g l =
-    IsPlainFormatter l.initial.f → HasWritten g.W.Write.write_str_gives l.initial.f (flat_map (standing_register l.self.registers l.self.level l.self.held.now) (take l.entry-index l.self.held.now)) l.f
+    IsPlainFormatter l.initial.f → HasWritten g.W.Write.write_str_gives l.initial.f
+    (flat_map (standing_register l.self.registers l.self.level l.self.held.now)
+    (take l.entry-index l.self.held.now)) l.f

@@ -5,4 +5,5 @@ use Rattle.lf_wave.specs.Save.{bank_rows}
 use Rattle.lf_wave.proofs.save.AllBankRowsDisplay.fmt.Given as goal
 
 abbrev pub invariant-loop-bank : goal.invariant-loop-bank
-invariant-loop-bank g l = IsPlainFormatter l.initial.f → HasWritten g.W.Write.write_str_gives l.initial.f (flat_map (bank_rows l.self.view.now) (range_with_len 0 l.bank)) l.f
+invariant-loop-bank g l = IsPlainFormatter l.initial.f → HasWritten g.W.Write.write_str_gives l.initial.f
+    (flat_map (bank_rows l.self.view.now) (range_with_len 0 l.bank)) l.f

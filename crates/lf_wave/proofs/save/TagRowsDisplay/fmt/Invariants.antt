@@ -5,4 +5,5 @@ use Rattle.lf_wave.specs.Save.{tag_row}
 use Rattle.lf_wave.proofs.save.TagRowsDisplay.fmt.Given as goal
 
 abbrev pub invariant-loop-tag : goal.invariant-loop-tag
-invariant-loop-tag g l = IsPlainFormatter l.initial.f → HasWritten g.W.Write.write_str_gives l.initial.f (flat_map (tag_row l.self.port) (range_with_len 0 l.tag)) l.f
+invariant-loop-tag g l = IsPlainFormatter l.initial.f → HasWritten g.W.Write.write_str_gives l.initial.f
+    (flat_map (tag_row l.self.port) (range_with_len 0 l.tag)) l.f

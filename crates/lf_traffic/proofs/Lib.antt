@@ -1,0 +1,4 @@
+pub mod Queues
+pub mod Dirty
+pub mod Stores
+pub mod Rules
