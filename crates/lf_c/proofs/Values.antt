@@ -1,4 +1,5 @@
--- How the machine keeps an `Unboxed` and a `Held`: an address and a handle. `_out` takes what one owns apart, `_in` puts
+-- How the machine keeps an `Unboxed` and a `Held`: an address and a handle. `_out` takes what one owns apart, `_in`
+-- puts
 -- it together again, and `_good` says that its machine value has the type.
 use Rattle.std.proofs.Common.{◌≡◌, ℕ, List, [], ◌∷◌, ◌++◌, refl, subst}
 use mathlib.Core.Bool.{true, ◌&&◌}
@@ -38,7 +39,8 @@ abbrev pub word : Val → Val → Val
 word at handle = vstruct (vcons at (vcons handle vnil))
 
 -- a word's parts are those that its fields were stored as
-pub word_is : {at ats : List Val} {h : Val} {hs vs : List Val} → vs ≡ vstruct (of_list (ats ++ (hs ++ []))) ∷ [] → ats ≡ at → hs ≡ h ∷ []
+pub word_is : {at ats : List Val} {h : Val} {hs vs : List Val} → vs ≡ vstruct (of_list (ats ++ (hs ++ []))) ∷ [] →
+    ats ≡ at → hs ≡ h ∷ []
     → vs ≡ vstruct (of_list (at ++ (h ∷ []))) ∷ []
 word_is {at} {ats} {h} {hs} {vs} whole first second =
     subst (λ (xs : List Val). vs ≡ vstruct (of_list (xs ++ (h ∷ []))) ∷ []) first
@@ -60,7 +62,8 @@ module _ (R Z : RattleType) (L : Laws Z) (g : Ghosts Z.Denot) where
     -- nothing lies at null, so the address is that of a block
     pub unboxed_out : K → (u : Unboxed.Denot) (vs : List Val)
         → ((b o : ℕ) (h : Val) → u.at ≡ block_ptr b o → vs ≡ word (vptr b o) h ∷ [] → Good (layout Z) h
-        → Seq K 𝓛 (‵ (box_owns (g.dealloc_token u.alloc) R (block_ptr b o) u.value) ∷ ‵ (Z.own_val u.alloc (h ∷ [])) ∷ Γ) G)
+        → Seq K 𝓛 (‵ (box_owns (g.dealloc_token u.alloc) R (block_ptr b o) u.value) ∷ ‵ (Z.own_val u.alloc (h ∷ []))
+        ∷ Γ) G)
         → Seq K 𝓛 (‵ (Unboxed.own_val u vs) ∷ Γ) G
     unboxed_out t u vs next =
         fsplit t $ fpick t (λ parts. fsplit t $ feq_l t (λ whole. fsplit t $ feq_l t (λ first. fsplit t $
@@ -71,7 +74,8 @@ module _ (R Z : RattleType) (L : Laws Z) (g : Ghosts Z.Denot) where
         (subst (λ (p : Ptr). vs ≡ word (ptr_val p) h ∷ []) is (word_is whole first second)) good)))))
 
     pub unboxed_in : K → (b o : ℕ) (h : Val) (a : Z.Denot) (x : R.Denot)
-        → Step K 𝓛 (‵ (Unboxed.own_val (record { at = block_ptr b o; alloc = a; value = x }) (word (vptr b o) h ∷ [])) ∷ Γ) G
+        → Step K 𝓛 (‵ (Unboxed.own_val (record { at = block_ptr b o; alloc = a; value = x }) (word (vptr b o) h ∷ []))
+        ∷ Γ) G
         (‵ (box_owns (g.dealloc_token a) R (block_ptr b o) x) ∷ ‵ (Z.own_val a (h ∷ [])) ∷ Γ) G
     unboxed_in t b o h a x = step (λ rest.
         let w : Val = word (vptr b o) h in
@@ -105,7 +109,8 @@ held_good null_ptr h good = (and_tt (has_ty (layout Z) h) good.0, (record { fits
 module _ {M : Type 1} {𝓤 : Ura M} {𝓛 : Logic 𝓤} {K : Type 0} {Γ : List (Item 𝓤)} {G : Goal 𝓤 𝓛.H} where
   pub held_out : K → (d : Held.Denot) (vs : List Val) (x : Row.Denot) → d.session ≡ Some x
       → ((b o : ℕ) (h : Val) → d.at ≡ block_ptr b o → vs ≡ word (vptr b o) h ∷ [] → Good (layout Z) h
-      → Seq K 𝓛 (‵ (box_owns (ghosts.dealloc_token d.alloc) Row (block_ptr b o) x) ∷ ‵ (Z.own_val d.alloc (h ∷ [])) ∷ Γ) G)
+      → Seq K 𝓛 (‵ (box_owns (ghosts.dealloc_token d.alloc) Row (block_ptr b o) x) ∷ ‵ (Z.own_val d.alloc (h ∷ []))
+      ∷ Γ) G)
       → Seq K 𝓛 (‵ (Held.own_val d vs) ∷ Γ) G
   held_out t d vs x there next =
       fsplit t $ fpick t (λ parts. fsplit t $ feq_l t (λ whole. fsplit t $ feq_l t (λ first. fsplit t $
@@ -124,5 +129,6 @@ module _ {M : Type 1} {𝓤 : Ura M} {𝓛 : Logic 𝓤} {K : Type 0} {Γ : List
       nothing t $ move t (2 ∷ 0 ∷ []) $ fjoin t $
       feq_i t (List Val) (ptr_val p ∷ []) (ptr_val p ∷ []) refl $ fjoin t $
       feq_i t (List Val) (w ∷ []) (w ∷ []) refl $ fjoin t $
-      fpack t (Valss (RawPtr ∷ Z ∷ [])) (within (shape held.the_type) (to held.the_type (record { at = p; alloc = a; session = y })) (w ∷ []))
+      fpack t (Valss (RawPtr ∷ Z ∷ [])) (within (shape held.the_type)
+      (to held.the_type (record { at = p; alloc = a; session = y })) (w ∷ []))
       (ptr_val p ∷ [], (h ∷ [], tt)) $ fjoin t $ rest)

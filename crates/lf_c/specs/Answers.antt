@@ -1,12 +1,13 @@
 -- What the calls answer.
-use Rattle.std.specs.Prelude.{◌≡◌, ◌⊎◌, ℕ, List, [], ◌++◌, length, take, drop, min, codes, Option, Some, None, Ok, IfSome, IsUtf8}
+use Rattle.std.specs.Prelude.{◌≡◌, ◌⊎◌, ℕ, List, [], ◌++◌, length, take, drop, min, codes, Option, Some, None, Ok}
+use Rattle.std.specs.Prelude.{IfSome, IsUtf8}
 use Rattle.lf_config.specs.Configuration.{configuration_of}
 use Rattle.lf_config.specs.declared.fault.ConfigFault.TheVariants.{NotToml}
 use Rattle.lf_codec.specs.Reading.{fault_so_far}
-use Rattle.lf_verdict.specs.declared.intake.Intake.{Intake}
-use Rattle.lf_verdict.specs.declared.intake.Stop.{Stop}
-use Rattle.lf_verdict.specs.declared.breaking.Broken.{Broken}
-use Rattle.lf_verdict.specs.declared.breaking.Broken.TheVariants as broken
+use Rattle.lf_verdict.specs.declared.session.intake.Intake.{Intake}
+use Rattle.lf_verdict.specs.declared.session.intake.Stop.{Stop}
+use Rattle.lf_verdict.specs.declared.session.breaking.Broken.{Broken}
+use Rattle.lf_verdict.specs.declared.session.breaking.Broken.TheVariants as broken
 use Rattle.lf_verdict.specs.declared.answer.Verdict.{Verdict}
 use Rattle.lf_verdict.specs.declared.answer.Verdict.TheVariants.{Yes, No, Refused}
 use Rattle.lf_verdict.specs.declared.answer.Refusal.{Refusal}
@@ -52,13 +53,15 @@ pub record IsOpened (text : List ℕ) (session : Intake) : Type 0 where
 
 -- The bytes are no text, or no configuration, or memory ran out.
 abbrev pub IsNoConfiguration : List ℕ → Refusal → Type 0
-IsNoConfiguration text refusal = (¬ IsUtf8 text × (refusal ≡ Config NotToml)) ⊎ (IsUtf8 text × IsConfigRefusal text refusal)
+IsNoConfiguration text refusal = (¬ IsUtf8 text × (refusal ≡ Config NotToml))
+    ⊎ (IsUtf8 text × IsConfigRefusal text refusal)
 
 -- A board that is open stays as it is: 3. Another is open then: 0. Or it is not, and the line says why: 2.
 abbrev pub IsOpening : List ℕ → Option Intake → Option Intake → Answer → List ℕ → List ℕ → Type 0
 IsOpening text (Some s) now answer line line' = (now ≡ Some s) × IsSilent 3 answer line line'
 IsOpening text None (Some s) answer line line' = IsOpened text s × IsSilent 0 answer line line'
-IsOpening text None None answer line line' = (refusal : Refusal) × IsNoConfiguration text refusal × IsLine 2 (verdict_text (Refused refusal)) answer line line'
+IsOpening text None None answer line line' = (refusal : Refusal) × IsNoConfiguration text refusal ×
+    IsLine 2 (verdict_text (Refused refusal)) answer line line'
 
 -- ---- feeding
 
@@ -89,7 +92,8 @@ abbrev pub broken_status : Broken → ℕ
 broken_status (broken.Header field) = 2
 broken_status (broken.Part fault upon) = 1
 
--- Whatever bytes follow those that the session was fed, no yes does; and the record that is named is the first upon which a part broke.
+-- Whatever bytes follow those that the session was fed, no yes does; and the record that is named is the first upon
+-- which a part broke.
 pub record IsBroken (s : Intake) (found : Broken) : Type 0 where
   pub final : (bytes : List ℕ) → HasFed s bytes → IsFinal s.shape bytes found
   pub earliest : (bytes : List ℕ) → HasFed s bytes → IsEarliest s.shape bytes found
@@ -119,4 +123,5 @@ pub record IsJudged (s : Intake) (v : Verdict) : Type 0 where
 
 abbrev pub IsFinishing : Option Intake → Answer → List ℕ → List ℕ → Type 0
 IsFinishing None answer line line' = IsSilent 3 answer line line'
-IsFinishing (Some s) answer line line' = (v : Verdict) × IsJudged s v × IsLine (status_of v) (verdict_text v) answer line line'
+IsFinishing (Some s) answer line line' = (v : Verdict) × IsJudged s v ×
+    IsLine (status_of v) (verdict_text v) answer line line'

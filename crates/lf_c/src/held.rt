@@ -1,7 +1,7 @@
 //! A session on the heap, as its address alone.
 
 ghost use Rattle.std.specs.Prelude.{◌≡◌, Option, Some, None, IsSome};
-ghost use Rattle.lf_verdict.specs.declared.intake.Intake.{Intake};
+ghost use Rattle.lf_verdict.specs.declared.session.intake.Intake.{Intake};
 
 use crate::unboxed::Unboxed;
 use lf_verdict::Session;

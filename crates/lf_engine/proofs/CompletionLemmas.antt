@@ -14,28 +14,33 @@ use Rattle.lf_verdict.specs.Verdict.{IsDecided}
 use Rattle.lf_stream.specs.Account.{Account}
 use Rattle.lf_engine.specs.declared.complete.Completion.{Completion}
 use Rattle.lf_engine.specs.declared.fault.RunFault.{RunFault}
-use Rattle.lf_engine.specs.Complete.{IsIncompleteIn, IsCompletion, IsCompletionFor, IsCompletionDue, FollowsCompletion, verdict_of, judged_alone, completion_line}
-use Rattle.lf_engine.specs.Report.{IsCountable, IsYesVerdict}
+use Rattle.lf_engine.specs.Complete.{IsIncompleteIn, IsCompletion, IsCompletionFor, IsCompletionDue}
+use Rattle.lf_engine.specs.Complete.{FollowsCompletion, verdict_of, judged_alone, completion_line}
+use Rattle.lf_contents.specs.Logs.{AreLogsIn}
+use Rattle.lf_engine.specs.Report.{IsYesVerdict}
 use Rattle.lf_engine.specs.Run.{Reads, Follows, outcome_line}
 
-pub found_in : (shape : Shape) (bytes : List ℕ) (c : IsCountable shape bytes) (logs : Vec (Vec Record)) (found : Option Incomplete)
-    → lists_of logs ≡ c.logs → IsFirstIncomplete shape.ports (lists_of logs) found → IsIncompleteIn shape bytes found
-found_in shape bytes c logs found e is =
-    record { memory = c.memory; logs = c.logs; trace = c.trace; first = subst (λ (ls : List (List Record)). IsFirstIncomplete shape.ports ls found) e is }
+pub found_in : (shape : Shape) (bytes : List ℕ) (logs : Vec (Vec Record)) (found : Option Incomplete)
+    → AreLogsIn shape bytes logs → IsFirstIncomplete shape.ports (lists_of logs) found → IsIncompleteIn shape bytes found
+found_in shape bytes logs found x is =
+    record { memory = x.memory; logs = lists_of logs; trace = x.trace; first = is }
 
-pub none_looked_for : (shape : Shape) (bytes : List ℕ) (v : Verdict) → ¬ IsYesVerdict v → IsCompletionFor shape bytes v None
+pub none_looked_for : (shape : Shape) (bytes : List ℕ) (v : Verdict) → ¬ IsYesVerdict v →
+    IsCompletionFor shape bytes v None
 none_looked_for shape bytes (Yes events order) other = absurd (other tt)
 none_looked_for shape bytes (No f) other = refl
 none_looked_for shape bytes (Refused f) other = refl
 
-pub looked_for : (shape : Shape) (bytes : List ℕ) (v : Verdict) (found : Option Incomplete) → IsYesVerdict v → IsIncompleteIn shape bytes found
+pub looked_for : (shape : Shape) (bytes : List ℕ) (v : Verdict) (found : Option Incomplete) → IsYesVerdict v →
+    IsIncompleteIn shape bytes found
     → IsCompletionFor shape bytes v found
 looked_for shape bytes (Yes events order) found is h = h
 looked_for shape bytes (No f) found is h = absurd is
 looked_for shape bytes (Refused f) found is h = absurd is
 
 -- What is found in the bytes is found in those that the reader answered.
-pub found_read : (old new : Account) (config : List ℕ) (shape : Shape) (bytes : List ℕ) (judged v : Verdict) (found : Option Incomplete)
+pub found_read : (old new : Account) (config : List ℕ) (shape : Shape) (bytes : List ℕ) (judged v : Verdict)
+    (found : Option Incomplete)
     → configuration_of config ≡ Ok shape → (IsDecided judged → Reads old new bytes) → Follows (Ok judged) (Ok v)
     → IsCompletionFor shape bytes v found → IsCompletion old new config v found
 found_read old new config shape bytes judged (Yes events order) found e reads (inl same) h =
@@ -47,9 +52,12 @@ found_read old new config shape bytes judged (Refused f) found e reads follows h
 -- ---- what is told
 
 -- What is told of it is told of its verdict.
-pub follows_verdict : (out said : Result Completion RunFault) → FollowsCompletion out said → Follows (verdict_of out) (verdict_of said)
-follows_verdict (Ok c) said (inl same) = subst (λ (r : Result Completion RunFault). Follows (Ok c.verdict) (verdict_of r)) (sym same) (inl refl)
-follows_verdict (Ok c) said (inr memory) = subst (λ (r : Result Completion RunFault). Follows (Ok c.verdict) (verdict_of r)) (sym memory) (inr refl)
+pub follows_verdict : (out said : Result Completion RunFault) → FollowsCompletion out said →
+    Follows (verdict_of out) (verdict_of said)
+follows_verdict (Ok c) said (inl same) = subst (λ (r : Result Completion RunFault). Follows (Ok c.verdict)
+    (verdict_of r)) (sym same) (inl refl)
+follows_verdict (Ok c) said (inr memory) = subst (λ (r : Result Completion RunFault). Follows (Ok c.verdict)
+    (verdict_of r)) (sym memory) (inr refl)
 follows_verdict (Err fault) said h = ap verdict_of h
 
 -- What was looked for is told too.
@@ -57,21 +65,28 @@ pub told_too : (old new : Account) (config : List ℕ) (out said : Result Comple
     → IfOk out (λ c. IsCompletion old new config c.verdict c.incomplete) → FollowsCompletion out said
     → IfOk said (λ c. IsCompletion old new config c.verdict c.incomplete)
 told_too old new config (Ok c) said h (inl same) =
-    subst (λ (r : Result Completion RunFault). IfOk r (λ c. IsCompletion old new config c.verdict c.incomplete)) (sym same) h
+    subst (λ (r : Result Completion RunFault). IfOk r (λ c. IsCompletion old new config c.verdict c.incomplete))
+    (sym same) h
 told_too old new config (Ok c) said h (inr memory) =
-    subst (λ (r : Result Completion RunFault). IfOk r (λ c. IsCompletion old new config c.verdict c.incomplete)) (sym memory) refl
+    subst (λ (r : Result Completion RunFault). IfOk r (λ c. IsCompletion old new config c.verdict c.incomplete))
+    (sym memory) refl
 told_too old new config (Err fault) said h e =
-    subst (λ (r : Result Completion RunFault). IfOk r (λ c. IsCompletion old new config c.verdict c.incomplete)) (sym e) tt
+    subst (λ (r : Result Completion RunFault). IfOk r (λ c. IsCompletion old new config c.verdict c.incomplete))
+    (sym e) tt
 
-due_of : (old new : Account) (config : List ℕ) (v : Verdict) (found : Option Incomplete) → IsCompletion old new config v found
+due_of : (old new : Account) (config : List ℕ) (v : Verdict) (found : Option Incomplete) →
+    IsCompletion old new config v found
     → IsCompletionDue old new config (Ok v) (completion_line (Ok (record { verdict = v; incomplete = found })))
 due_of old new config (Yes events order) found h = (found, h, refl)
-due_of old new config (No f) found h = subst (λ (o : Option Incomplete). completion_line (Ok (record { verdict = No f; incomplete = o })) ≡ outcome_line (Ok (No f))) (sym h) refl
+due_of old new config (No f) found h = subst (λ (o : Option Incomplete). completion_line
+    (Ok (record { verdict = No f; incomplete = o })) ≡ outcome_line (Ok (No f))) (sym h) refl
 due_of old new config (Refused f) found h =
-    subst (λ (o : Option Incomplete). completion_line (Ok (record { verdict = Refused f; incomplete = o })) ≡ outcome_line (Ok (Refused f))) (sym h) refl
+    subst (λ (o : Option Incomplete). completion_line (Ok (record { verdict = Refused f; incomplete = o }))
+    ≡ outcome_line (Ok (Refused f))) (sym h) refl
 
 -- The line is what is due.
-pub due : (old new : Account) (config : List ℕ) (said : Result Completion RunFault) → IfOk said (λ c. IsCompletion old new config c.verdict c.incomplete)
+pub due : (old new : Account) (config : List ℕ) (said : Result Completion RunFault) →
+    IfOk said (λ c. IsCompletion old new config c.verdict c.incomplete)
     → IsCompletionDue old new config (verdict_of said) (completion_line said)
 due old new config (Ok c) h = due_of old new config c.verdict c.incomplete h
 due old new config (Err fault) h = refl
@@ -80,7 +95,8 @@ pub err_back : (r : Result Verdict RunFault) (e : RunFault) → judged_alone r �
 err_back (Ok v) e is = absurd (cc)
 err_back (Err f) e is = let one : f ≡ e = cc in ap Err one
 
-pub follows_too : (outcome told : Result Verdict RunFault) → Follows outcome told → FollowsCompletion (judged_alone outcome) (judged_alone told)
+pub follows_too : (outcome told : Result Verdict RunFault) → Follows outcome told →
+    FollowsCompletion (judged_alone outcome) (judged_alone told)
 follows_too (Ok v) (Ok t) (inl same) = inl (ap (λ (w : Verdict). judged_alone (Ok w)) same)
 follows_too (Ok v) (Ok t) (inr memory) = inr (ap (λ (w : Verdict). judged_alone (Ok w)) memory)
 follows_too (Ok v) (Err e) h = absurd h
@@ -96,5 +112,6 @@ pub err_of : (said : Result Completion RunFault) (e : RunFault) → verdict_of s
 err_of (Ok c) e is = absurd (cc)
 err_of (Err f) e is = let one : f ≡ e = cc in ap Err one
 
-pub write_of : (said : Result Completion RunFault) (e : RunFault) (P : Type 0) → (IsErrOf said e ↔ P) → (IsErrOf (verdict_of said) e ↔ P)
+pub write_of : (said : Result Completion RunFault) (e : RunFault) (P : Type 0) → (IsErrOf said e ↔ P) →
+    (IsErrOf (verdict_of said) e ↔ P)
 write_of said e P h = (λ is. h.0 (err_of said e is), λ p. ap verdict_of (h.1 p))

@@ -5,7 +5,7 @@ use Rattle.lf_codec.specs.Laws.{AreBytes, FaultsSoFarAreNotTruncated}
 use Rattle.lf_codec.specs.Reading.{fault_so_far}
 use Rattle.lf_verdict.specs.declared.answer.Refusal.{Refusal}
 use Rattle.lf_verdict.specs.declared.answer.Refusal.TheVariants.{Workers, Config, Format, Header, Memory, Thread}
-use Rattle.lf_verdict.specs.declared.intake.Intake.{Intake}
+use Rattle.lf_verdict.specs.declared.session.intake.Intake.{Intake}
 use Rattle.lf_verdict.specs.Session.{HasFed, IsRefusalSoFar}
 use Rattle.lf_stream.specs.Account.{Account}
 use Rattle.lf_stream.specs.Gathered.{IsPartRead}
@@ -18,11 +18,14 @@ on_ok (Err e) p = tt
 
 -- Where no fault so far stands in the bytes, none stands whatever comes after them.
 pub none_stands : FaultsSoFarAreNotTruncated → (bytes : List ℕ) → fault_so_far bytes ≡ None → ¬ HasFault bytes
-none_stands so_far bytes none (fault, is, other) = let bad : None ≡ Some fault = sym none ∙ (so_far bytes fault).1 (is, other) in cc
+none_stands so_far bytes none (fault, is, other) = let bad : None ≡ Some fault =
+    sym none ∙ (so_far bytes fault).1 (is, other) in cc
 
 -- a refusal other than out of memory is a fault that stands
-pub refused_stands : FaultsSoFarAreNotTruncated → (bytes : List ℕ) (r : Refusal) → r ≢ Memory → IsRefusalSoFar bytes r → HasFault bytes
-refused_stands so_far bytes (Format fault) other is = let (whole, not) = (so_far bytes fault).0 is in (fault, whole, not)
+pub refused_stands : FaultsSoFarAreNotTruncated → (bytes : List ℕ) (r : Refusal) → r ≢ Memory →
+    IsRefusalSoFar bytes r → HasFault bytes
+refused_stands so_far bytes (Format fault) other is = let (whole, not) = (so_far bytes fault).0 is in
+    (fault, whole, not)
 refused_stands so_far bytes (Workers n) other is = absurd is
 refused_stands so_far bytes (Config f) other is = absurd is
 refused_stands so_far bytes (Header f) other is = absurd is

@@ -1,5 +1,6 @@
 -- Laws of the verdicts for a shape and for a configuration.
-use Rattle.std.proofs.Common.{◌≡◌, ◌≢◌, ℕ, ◌<◌, ◌≤◌, List, None, Some, Result, Ok, Err, sym, ◌∙◌, subst, refl, inl, inr, [], arith}
+use Rattle.std.proofs.Common.{◌≡◌, ◌≢◌, ℕ, ◌<◌, ◌≤◌, List, None, Some, Result, Ok, Err, sym, ◌∙◌, subst, refl, inl}
+use Rattle.std.proofs.Common.{inr, [], arith}
 use Rattle.lf_rules.specs.declared.shape.Shape.{Shape}
 use Rattle.lf_rules.specs.Fits.{Bytes}
 use Rattle.lf_rules.specs.declared.event.Record.{Record}
@@ -12,11 +13,12 @@ use Rattle.lf_config.specs.Configuration.{configuration_of}
 use Rattle.lf_verdict.specs.declared.answer.Verdict.{Verdict}
 use Rattle.lf_verdict.specs.declared.answer.Verdict.TheVariants.{Yes, No, Refused}
 use Rattle.lf_verdict.specs.declared.answer.Refusal.{Refusal}
-use Rattle.lf_verdict.specs.declared.answer.Refusal.TheVariants.{Workers, Config, Format, Header as OtherHeader, Memory, Thread}
+use Rattle.lf_verdict.specs.declared.answer.Refusal.TheVariants.{Workers, Config, Format, Header as OtherHeader}
+use Rattle.lf_verdict.specs.declared.answer.Refusal.TheVariants.{Memory, Thread}
 use Rattle.lf_verdict.specs.Legal.{IsLegal}
 use Rattle.lf_verdict.specs.Laws.{NoHasNoRun, IsRunlessNo}
 use Rattle.lf_verdict.specs.Verdict.{IsWorkerCount, IsDecided, IsTraceVerdict, IsVerdictOf, IsLegalYes}
-use Rattle.lf_verdict.specs.declared.intake.Intake.{Intake}
+use Rattle.lf_verdict.specs.declared.session.intake.Intake.{Intake}
 use Rattle.lf_verdict.specs.Session.{HasFed}
 use Rattle.lf_verdict.specs.Configured.{IsConfigFault, IsConfiguredVerdict, IsVerdictFor, IsLegalFor, IsRunlessNoFor}
 use Rattle.lf_verdict.proofs.One.{any_workers}
@@ -24,11 +26,13 @@ use Rattle.lf_stream.specs.Account.{Account}
 use Rattle.lf_stream.specs.Gathered.{IsAllRead}
 use Rattle.lf_engine.specs.declared.fault.RunFault.{RunFault}
 use Rattle.lf_engine.specs.Gathered.{HasFault}
-use Rattle.lf_engine.specs.Run.{IsAsked, IsRefusedFirst, IsVerdictOfRead, IsLegalRead, IfYes, IsOutcome, Reads, piece_len}
+use Rattle.lf_engine.specs.Run.{IsAsked, IsRefusedFirst, IsVerdictOfRead, IsLegalRead, IfYes, IsOutcome, Reads}
+use Rattle.lf_engine.specs.Run.{piece_len}
 use Rattle.lf_engine.proofs.RunLemmas.{IsKept, IsFreeUnless, HasNoFault, MeansOfNo, MeansNothingElse}
 
 -- A trace has no fault.
-trace_has_none : ReadingIsExact → (bytes : List ℕ) (h : Header) (memory : List (ℕ × Bytes)) (records : List Record) → AreBytes bytes
+trace_has_none : ReadingIsExact → (bytes : List ℕ) (h : Header) (memory : List (ℕ × Bytes)) (records : List Record) →
+    AreBytes bytes
     → IsTrace bytes h memory records → ¬ HasFault bytes
 trace_has_none exact bytes h memory records are trace (fault, is, other) =
     let none = ((exact bytes h memory records are).1 trace).0 in
@@ -38,7 +42,8 @@ trace_has_none exact bytes h memory records are trace (fault, is, other) =
 -- ---- for a shape
 
 pub shape_no_fault : ReadingIsExact → (shape : Shape) → HasNoFault (IsLegal shape)
-shape_no_fault exact shape bytes order are h = trace_has_none exact bytes h.trace.header h.memory h.trace.records are h.trace.trace
+shape_no_fault exact shape bytes order are h = trace_has_none exact bytes h.trace.header h.memory h.trace.records are
+    h.trace.trace
 
 trace_kept : ReadingIsExact → FaultsSoFarAreNotTruncated → FaultsStand → (shape : Shape) → IsKept (IsTraceVerdict shape)
 trace_kept exact so_far stand shape bytes more (Refused (Format f)) are (fault, is, other) h =
@@ -55,7 +60,8 @@ trace_kept exact so_far stand shape bytes more (No wrong) are fault h =
 trace_kept exact so_far stand shape bytes more (Yes events order) are fault h =
     absurd (trace_has_none exact bytes h.trace.header h.memory h.trace.records are h.trace.trace fault)
 
-pub shape_kept : ReadingIsExact → FaultsSoFarAreNotTruncated → FaultsStand → (shape : Shape) (workers : ℕ) → IsKept (IsVerdictOf shape workers)
+pub shape_kept : ReadingIsExact → FaultsSoFarAreNotTruncated → FaultsStand → (shape : Shape) (workers : ℕ) →
+    IsKept (IsVerdictOf shape workers)
 shape_kept exact so_far stand shape workers bytes more (Refused (Workers n)) are fault h = h
 shape_kept exact so_far stand shape workers bytes more (Refused (Config f)) are fault h = absurd h.1
 shape_kept exact so_far stand shape workers bytes more (Refused (Format f)) are fault h =
@@ -64,7 +70,8 @@ shape_kept exact so_far stand shape workers bytes more (Refused (OtherHeader f))
     (h.0, trace_kept exact so_far stand shape bytes more (Refused (OtherHeader f)) are fault h.1)
 shape_kept exact so_far stand shape workers bytes more (Refused Memory) are fault h = absurd h.1
 shape_kept exact so_far stand shape workers bytes more (Refused Thread) are fault h = absurd h.1
-shape_kept exact so_far stand shape workers bytes more (No f) are fault h = (h.0, trace_kept exact so_far stand shape bytes more (No f) are fault h.1)
+shape_kept exact so_far stand shape workers bytes more (No f) are fault h =
+    (h.0, trace_kept exact so_far stand shape bytes more (No f) are fault h.1)
 shape_kept exact so_far stand shape workers bytes more (Yes events order) are fault h =
     (h.0, trace_kept exact so_far stand shape bytes more (Yes events order) are fault h.1)
 
@@ -78,7 +85,8 @@ shape_free shape workers bytes all (Refused Thread) h = absurd h.1
 shape_free shape workers bytes all (No f) h = inl h.0
 shape_free shape workers bytes all (Yes events order) h = inl h.0
 
-pub shape_runless : NoHasNoRun → (shape : Shape) (workers : ℕ) → MeansOfNo (IsWorkerCount workers) (IsVerdictOf shape workers) (IsRunlessNo shape)
+pub shape_runless : NoHasNoRun → (shape : Shape) (workers : ℕ) →
+    MeansOfNo (IsWorkerCount workers) (IsVerdictOf shape workers) (IsRunlessNo shape)
 shape_runless law shape workers bytes (No f) h = (h.0, law shape bytes f h.1)
 shape_runless law shape workers bytes (Yes events order) h = tt
 shape_runless law shape workers bytes (Refused f) h = tt
@@ -88,16 +96,22 @@ shape_nothing shape bytes (No f) h = absurd h
 shape_nothing shape bytes (Yes events order) h = tt
 shape_nothing shape bytes (Refused f) h = tt
 
-legal_read : (old new : Account) (shape : Shape) (v : Verdict) (bytes : List ℕ) → Reads old new bytes → IsLegalYes shape bytes v
+legal_read : (old new : Account) (shape : Shape) (v : Verdict) (bytes : List ℕ) → Reads old new bytes →
+    IsLegalYes shape bytes v
     → IfYes v (IsLegalRead old new (IsLegal shape))
 legal_read old new shape (Yes events order) bytes reads h = record { bytes = bytes; reads = reads; legal = h.0 }
 legal_read old new shape (No f) bytes reads h = tt
 legal_read old new shape (Refused f) bytes reads h = tt
 
 -- All that was read, by pieces of so many bytes.
-pub all_read : (old new : Account) (most : ℕ) (bytes : List ℕ) → most ≡ piece_len → AreBytes bytes → IsAllRead HasFault most old new bytes
+pub all_read : (old new : Account) (most : ℕ) (bytes : List ℕ) → most ≡ piece_len → AreBytes bytes →
+    IsAllRead HasFault most old new bytes
     → Reads old new bytes
-all_read old new most bytes len are all = record { are_bytes = are; all = subst (λ (m : ℕ). IsAllRead HasFault m old new bytes) len all }
+all_read old new most bytes len are all = record {
+  are_bytes = are;
+  all =
+      subst (λ (m : ℕ). IsAllRead HasFault m old new bytes) len all;
+}
 
 -- What a session says of all that was read is what the run came to.
 pub finished : (old new : Account) (shape : Shape) (workers turns : ℕ) (session : Intake) (v : Verdict)
@@ -126,7 +140,8 @@ finished old new shape workers turns session v same count few none bytes fed rea
 
 -- ---- for a configuration
 
-pub text_runless : NoHasNoRun → (text : List ℕ) (workers : ℕ) → MeansOfNo (IsAsked text workers) (IsVerdictFor text workers) (IsRunlessNoFor text)
+pub text_runless : NoHasNoRun → (text : List ℕ) (workers : ℕ) →
+    MeansOfNo (IsAsked text workers) (IsVerdictFor text workers) (IsRunlessNoFor text)
 text_runless law text workers bytes (No f) h = (
   (h.0, (h.1.shape, h.1.configured)),
   λ shape configured.
@@ -145,14 +160,16 @@ text_nothing text bytes (Refused f) h = λ shape configured. tt
 pub text_no_fault : ReadingIsExact → (text : List ℕ) → HasNoFault (IsLegalFor text)
 text_no_fault exact text bytes order are h = shape_no_fault exact h.shape bytes order are h.legal
 
-configured_kept : ReadingIsExact → FaultsSoFarAreNotTruncated → FaultsStand → (text : List ℕ) → IsKept (IsConfiguredVerdict text)
+configured_kept : ReadingIsExact → FaultsSoFarAreNotTruncated → FaultsStand → (text : List ℕ) →
+    IsKept (IsConfiguredVerdict text)
 configured_kept exact so_far stand text bytes more v are fault h = record {
   shape = h.shape;
   configured = h.configured;
   verdict = trace_kept exact so_far stand h.shape bytes more v are fault h.verdict;
 }
 
-pub text_kept : ReadingIsExact → FaultsSoFarAreNotTruncated → FaultsStand → (text : List ℕ) (workers : ℕ) → IsKept (IsVerdictFor text workers)
+pub text_kept : ReadingIsExact → FaultsSoFarAreNotTruncated → FaultsStand → (text : List ℕ) (workers : ℕ) →
+    IsKept (IsVerdictFor text workers)
 text_kept exact so_far stand text workers bytes more (Refused (Workers n)) are fault h = h
 text_kept exact so_far stand text workers bytes more (Refused (Config f)) are fault h = h
 text_kept exact so_far stand text workers bytes more (Refused (Format f)) are fault h =
@@ -161,7 +178,8 @@ text_kept exact so_far stand text workers bytes more (Refused (OtherHeader f)) a
     (h.0, configured_kept exact so_far stand text bytes more (Refused (OtherHeader f)) are fault h.1)
 text_kept exact so_far stand text workers bytes more (Refused Memory) are fault h = absurd h.1.verdict
 text_kept exact so_far stand text workers bytes more (Refused Thread) are fault h = absurd h.1.verdict
-text_kept exact so_far stand text workers bytes more (No f) are fault h = (h.0, configured_kept exact so_far stand text bytes more (No f) are fault h.1)
+text_kept exact so_far stand text workers bytes more (No f) are fault h =
+    (h.0, configured_kept exact so_far stand text bytes more (No f) are fault h.1)
 text_kept exact so_far stand text workers bytes more (Yes events order) are fault h =
     (h.0, configured_kept exact so_far stand text bytes more (Yes events order) are fault h.1)
 
@@ -176,16 +194,20 @@ text_free text workers bytes all (No f) h = inl (h.0, (h.1.shape, h.1.configured
 text_free text workers bytes all (Yes events order) h = inl (h.0, (h.1.shape, h.1.configured))
 
 -- The verdict for a shape is that for each text that says it.
-verdict_for : (text : List ℕ) (shape : Shape) (workers : ℕ) (bytes : List ℕ) (v : Verdict) → configuration_of text ≡ Ok shape
+verdict_for : (text : List ℕ) (shape : Shape) (workers : ℕ) (bytes : List ℕ) (v : Verdict) →
+    configuration_of text ≡ Ok shape
     → IsVerdictOf shape workers bytes v → IsVerdictFor text workers bytes v
 verdict_for text shape workers bytes (Refused (Workers n)) e h = h
 verdict_for text shape workers bytes (Refused (Config f)) e h = absurd h.1
-verdict_for text shape workers bytes (Refused (Format f)) e h = (h.0, record { shape = shape; configured = e; verdict = h.1 })
-verdict_for text shape workers bytes (Refused (OtherHeader f)) e h = (h.0, record { shape = shape; configured = e; verdict = h.1 })
+verdict_for text shape workers bytes (Refused (Format f)) e h =
+    (h.0, record { shape = shape; configured = e; verdict = h.1 })
+verdict_for text shape workers bytes (Refused (OtherHeader f)) e h =
+    (h.0, record { shape = shape; configured = e; verdict = h.1 })
 verdict_for text shape workers bytes (Refused Memory) e h = absurd h.1
 verdict_for text shape workers bytes (Refused Thread) e h = absurd h.1
 verdict_for text shape workers bytes (No f) e h = (h.0, record { shape = shape; configured = e; verdict = h.1 })
-verdict_for text shape workers bytes (Yes events order) e h = (h.0, record { shape = shape; configured = e; verdict = h.1 })
+verdict_for text shape workers bytes (Yes events order) e h =
+    (h.0, record { shape = shape; configured = e; verdict = h.1 })
 
 legal_for : (old new : Account) (text : List ℕ) (shape : Shape) (v : Verdict) → configuration_of text ≡ Ok shape
     → IfYes v (IsLegalRead old new (IsLegal shape)) → IfYes v (IsLegalRead old new (IsLegalFor text))
@@ -231,7 +253,8 @@ outcome_for old new text shape workers turns (Err f) e count h = record {
 }
 
 -- A fault of the text leaves no shape.
-fault_is_none : (text : List ℕ) (shape : Shape) (f : ConfigFault) → IsConfigFault text f → configuration_of text ≡ Ok shape → ⊥
+fault_is_none : (text : List ℕ) (shape : Shape) (f : ConfigFault) → IsConfigFault text f →
+    configuration_of text ≡ Ok shape → ⊥
 fault_is_none text shape told.NotToml h e = cc
 fault_is_none text shape (told.Unknown name) h e = cc
 fault_is_none text shape (told.Missing key) h e = cc
@@ -243,9 +266,15 @@ fault_is_none text shape told.NoMemory h e = h
 refused_verdict : (old new : Account) (text : List ℕ) (workers : ℕ) (r : Refusal) → IsRefusedFirst text workers r
     → IsDecided (Refused r)
     → IsVerdictOfRead old new (IsAsked text workers) (IsVerdictFor text workers) (Refused r)
-refused_verdict old new text workers (Workers n) h judged = record { bytes = []; reads = λ yes_asked. absurd (h.1 yes_asked.0); verdict = h }
+refused_verdict old new text workers (Workers n) h judged =
+    record { bytes = []; reads = λ yes_asked. absurd (h.1 yes_asked.0); verdict = h }
 refused_verdict old new text workers (Config f) h judged =
-    record { bytes = []; reads = λ yes_asked. absurd (fault_is_none text yes_asked.1.0 f h.1 yes_asked.1.1); verdict = h }
+    record {
+      bytes = [];
+      reads = λ yes_asked. absurd (fault_is_none text yes_asked.1.0 f h.1 yes_asked.1.1);
+      verdict =
+          h;
+    }
 refused_verdict old new text workers (Format f) h judged = absurd h
 refused_verdict old new text workers (OtherHeader f) h judged = absurd h
 refused_verdict old new text workers Memory h judged = absurd judged

@@ -6,3 +6,4 @@ pub mod TellingLemmas
 pub mod ProgramLemmas
 pub mod CompletionLemmas
 pub mod ExplainLemmas
+pub mod JsonLemmas

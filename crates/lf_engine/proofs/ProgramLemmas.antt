@@ -12,7 +12,8 @@ use Rattle.lf_engine.proofs.RunLemmas.{IsKept, IsFreeUnless, HasNoFault, MeansOf
 use Rattle.lf_engine.proofs.RunLemmas.{told_whole, told_legal, told_runless, whole_runless}
 
 -- a fault that is told is the fault of the outcome
-same_fault : (outcome said : Result Verdict RunFault) (e : RunFault) → Follows outcome said → said ≡ Err e → outcome ≡ Err e
+same_fault : (outcome said : Result Verdict RunFault) (e : RunFault) → Follows outcome said → said ≡ Err e →
+    outcome ≡ Err e
 same_fault (Ok v) (Ok w) e follows is = absurd (cc)
 same_fault (Ok v) (Err x) e follows is = absurd follows
 same_fault (Err x) said e follows is = sym follows ∙ is
@@ -21,7 +22,8 @@ none_of : (n : ℕ) → ¬ (0 < n) → n ≡ 0
 none_of n none = omega (arith, none)
 
 module _ (old new writer writer' : Account)
-    (asked : Type 0) (L : List ℕ → List ℕ → Type 0) (N V : List ℕ → Verdict → Type 0) (D : Result Verdict RunFault → List ℕ → Type 0) (turns : ℕ)
+    (asked : Type 0) (L : List ℕ → List ℕ → Type 0) (N V : List ℕ → Verdict → Type 0)
+    (D : Result Verdict RunFault → List ℕ → Type 0) (turns : ℕ)
     (outcome said : Result Verdict RunFault)
     (h : IsOutcome old new asked L V turns outcome) (write : IsErrOf said Write ↔ (0 < writer'.failures))
     (follows : said ≢ Err Write → Follows outcome said) where
@@ -30,8 +32,11 @@ module _ (old new writer writer' : Account)
 
   read_told : IsErrOf said Read → (0 < new.failures) × (writer'.failures ≡ 0)
   read_told is =
-      let other : said ≢ Err Write = λ w. cc in
-      (h.read.0 (same_fault outcome said Read (follows other) is), none_of (writer'.failures) (λ failed. other (write.1 failed)))
+      let other : said ≢ Err Write = λ w. cc in (
+        h.read.0 (same_fault outcome said Read (follows other) is),
+        none_of (writer'.failures)
+            (λ failed. other (write.1 failed)),
+      )
 
   told_read : (0 < new.failures) × (writer'.failures ≡ 0) → IsErrOf said Read
   told_read failed =
@@ -39,7 +44,8 @@ module _ (old new writer writer' : Account)
       let is : outcome ≡ Err Read = h.read.1 failed.0 in
       subst (λ (o : Result Verdict RunFault). Follows o said) is (follows other)
 
-  pub run_of_program : FaultsSoFarAreNotTruncated → IsKept V → IsFreeUnless asked V → HasNoFault L → MeansOfNo asked V N → MeansNothingElse N
+  pub run_of_program : FaultsSoFarAreNotTruncated → IsKept V → IsFreeUnless asked V → HasNoFault L →
+      MeansOfNo asked V N → MeansNothingElse N
       → (said ≢ Err Write → (text : List ℕ) × D said text × WentOut writer writer' text)
       → (said ≡ Err Write → (told : Result Verdict RunFault) × Follows outcome told
       × ((text : List ℕ) × D told text × ((n : ℕ) × WentOut writer writer' (take n text))))

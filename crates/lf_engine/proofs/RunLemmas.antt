@@ -1,5 +1,6 @@
 -- Laws of what a run comes to and tells.
-use Rattle.std.proofs.Common.{◌≡◌, ◌≢◌, ℕ, List, ◌++◌, Option, None, Some, IfSome, Result, Ok, Err, IfOk, sym, ap, ◌∙◌, subst, append-nil, refl, inl, inr, ◌⊎◌}
+use Rattle.std.proofs.Common.{◌≡◌, ◌≢◌, ℕ, List, ◌++◌, Option, None, Some, IfSome, Result, Ok, Err, IfOk, sym, ap}
+use Rattle.std.proofs.Common.{◌∙◌, subst, append-nil, refl, inl, inr, ◌⊎◌}
 use Rattle.std.specs.Io.KnownBytes.{Consumes, IsAtEnd}
 use Rattle.lf_codec.specs.declared.fault.CodecFault.{CodecFault}
 use Rattle.lf_codec.specs.Reading.{fault_so_far}
@@ -18,7 +19,8 @@ use Rattle.lf_engine.specs.Run.{IsVerdictOfRead, IsLegalRead, IsRunlessRead, IfY
 pub outcome_told : (old new : Account) (asked : Type 0) (L : List ℕ → List ℕ → Type 0)
     (V : List ℕ → Verdict → Type 0) (turns : ℕ) (outcome said : Result Verdict RunFault)
     → IsOutcome old new asked L V turns outcome → Follows outcome said → IsOutcome old new asked L V turns said
-outcome_told old new asked L V turns (Ok v) (Ok w) h (inl e) = subst (λ x. IsOutcome old new asked L V turns (Ok x)) (sym e) h
+outcome_told old new asked L V turns (Ok v) (Ok w) h (inl e) =
+    subst (λ x. IsOutcome old new asked L V turns (Ok x)) (sym e) h
 outcome_told old new asked L V turns (Ok v) (Ok w) h (inr e) = rw e (record {
   reads = h.reads;
   unread = h.unread;
@@ -50,7 +52,8 @@ HasNoFault L = (bytes order : List ℕ) → AreBytes bytes → L bytes order →
 -- ---- all that the reader had
 
 -- The verdict of what a reader gave is that of all that it had: it was at its end, or a fault stands in what it gave.
-verdict_of_all : FaultsSoFarAreNotTruncated → (V : List ℕ → Verdict → Type 0) → IsKept V → (v : Verdict) (all left bytes : List ℕ)
+verdict_of_all : FaultsSoFarAreNotTruncated → (V : List ℕ → Verdict → Type 0) → IsKept V →
+    (v : Verdict) (all left bytes : List ℕ)
     → AreBytes bytes → all ≡ bytes ++ left → (¬ HasFault bytes → IsAtEnd (Some left)) → V bytes v → V all v
 verdict_of_all so_far V kept v all left bytes are p q h = go (fault_so_far bytes) refl
   where
@@ -62,14 +65,17 @@ verdict_of_all so_far V kept v all left bytes are p q h = go (fault_so_far bytes
         let same : all ≡ bytes = p ∙ ap (λ l. bytes ++ l) (q (none_stands so_far bytes e)) ∙ append-nil bytes in
         subst (λ x. V x v) (sym same) h
 
-asked_whole : FaultsSoFarAreNotTruncated → (V : List ℕ → Verdict → Type 0) → IsKept V → (v : Verdict) (a b : Option (List ℕ)) (bytes : List ℕ)
+asked_whole : FaultsSoFarAreNotTruncated → (V : List ℕ → Verdict → Type 0) → IsKept V →
+    (v : Verdict) (a b : Option (List ℕ)) (bytes : List ℕ)
     → AreBytes bytes → Consumes a b bytes → (¬ HasFault bytes → IsAtEnd b) → V bytes v → IfSome a (λ all. V all v)
 asked_whole so_far V kept v None b bytes are p q h = tt
 asked_whole so_far V kept v (Some all) None bytes are p q h = absurd p
-asked_whole so_far V kept v (Some all) (Some left) bytes are p q h = verdict_of_all so_far V kept v all left bytes are p q h
+asked_whole so_far V kept v (Some all) (Some left) bytes are p q h =
+    verdict_of_all so_far V kept v all left bytes are p q h
 
 judged_whole : FaultsSoFarAreNotTruncated → (old new : Account) (asked : Type 0) (V : List ℕ → Verdict → Type 0)
-    → IsKept V → IsFreeUnless asked V → (v : Verdict) → IsVerdictOfRead old new asked V v → IfSome old.known (λ all. V all v)
+    → IsKept V → IsFreeUnless asked V → (v : Verdict) → IsVerdictOfRead old new asked V v →
+    IfSome old.known (λ all. V all v)
 judged_whole so_far old new asked V kept free v is = go old.known refl
   where
     go : (a : Option (List ℕ)) → old.known ≡ a → IfSome a (λ all. V all v)
@@ -77,7 +83,8 @@ judged_whole so_far old new asked V kept free v is = go old.known refl
     go (Some all) e = elim (free is.bytes all v is.verdict) [
       | inl yes_asked ↦
           let r = is.reads yes_asked in
-          rw e at (asked_whole so_far V kept v old.known new.known is.bytes r.are_bytes r.all.given r.all.at_end is.verdict)
+          rw e at (asked_whole so_far V kept v old.known new.known is.bytes r.are_bytes r.all.given r.all.at_end
+          is.verdict)
       | inr h ↦ h
     ]
 
@@ -93,7 +100,8 @@ told_whole so_far old new asked L V kept free turns outcome (Err e) h follows = 
 
 -- Legal bytes that a reader gave are all that it had.
 legal_of_all : (L : List ℕ → List ℕ → Type 0) → HasNoFault L → (order : List ℕ) (a b : Option (List ℕ)) (bytes : List ℕ)
-    → AreBytes bytes → Consumes a b bytes → (¬ HasFault bytes → IsAtEnd b) → L bytes order → IfSome a (λ all. L all order)
+    → AreBytes bytes → Consumes a b bytes → (¬ HasFault bytes → IsAtEnd b) → L bytes order →
+    IfSome a (λ all. L all order)
 legal_of_all L sound order None b bytes are p q h = tt
 legal_of_all L sound order (Some all) None bytes are p q h = absurd p
 legal_of_all L sound order (Some all) (Some left) bytes are p q h =
@@ -107,7 +115,8 @@ nothing_of_all (Some all) = tt
 yes_whole : (old new : Account) (L : List ℕ → List ℕ → Type 0) → HasNoFault L → (v : Verdict)
     → IfYes v (IsLegalRead old new L) → IfSome old.known (λ all. IfYes v (L all))
 yes_whole old new L sound (Yes events order) h =
-    legal_of_all L sound order.items old.known new.known h.bytes h.reads.are_bytes h.reads.all.given h.reads.all.at_end h.legal
+    legal_of_all L sound order.items old.known new.known h.bytes h.reads.are_bytes h.reads.all.given
+    h.reads.all.at_end h.legal
 yes_whole old new L sound (No f) h = nothing_of_all old.known
 yes_whole old new L sound (Refused f) h = nothing_of_all old.known
 
@@ -150,7 +159,8 @@ told_runless old new asked L V N means turns outcome (Ok v) h follows =
     (outcome_told old new asked L V turns outcome (Ok v) h (follows (λ e. cc))).verdict
 told_runless old new asked L V N means turns outcome (Err e) h follows = tt
 
-all_runless : (asked : Type 0) (V N : List ℕ → Verdict → Type 0) → MeansOfNo asked V N → MeansNothingElse N → (a : Option (List ℕ)) (v : Verdict)
+all_runless : (asked : Type 0) (V N : List ℕ → Verdict → Type 0) → MeansOfNo asked V N → MeansNothingElse N →
+    (a : Option (List ℕ)) (v : Verdict)
     → (IsDecided v → IfSome a (λ all. V all v)) → IfSome a (λ all. N all v)
 all_runless asked V N means other None v h = tt
 all_runless asked V N means other (Some all) (No f) h = (means all (No f) (h tt)).1

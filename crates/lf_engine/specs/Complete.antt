@@ -52,7 +52,8 @@ completion_line (Err fault) = not_read_line
 -- The line is due for this answer.
 abbrev pub IsCompletionDue : Account → Account → List ℕ → Result Verdict RunFault → List ℕ → Type 0
 IsCompletionDue old new config (Ok (Yes events order)) text =
-    (found : Option Incomplete) × IsIncompleteRead old new config found × (text ≡ completion_text (Yes events order) found)
+    (found : Option Incomplete) × IsIncompleteRead old new config found ×
+    (text ≡ completion_text (Yes events order) found)
 IsCompletionDue old new config answer text = text ≡ outcome_line answer
 
 -- ---- before it is written

@@ -1,10 +1,9 @@
--- What a run for statistics, for the coverage or for the usage answers and writes.
-use Rattle.std.specs.Prelude.{◌≡◌, ℕ, ◌<◌, List, Option, Some, None, Result, Ok, Err, String, string_bytes}
+-- What a run for statistics or for the coverage answers and writes.
+use Rattle.std.specs.Prelude.{◌≡◌, ℕ, List, Option, Some, None, Result, Ok, Err, String, string_bytes}
 use Rattle.std.specs.Global.{Global}
 use Rattle.lf_rules.specs.declared.shape.Shape.{Shape}
 use Rattle.lf_rules.specs.declared.event.Record.{Record}
 use Rattle.lf_rules.specs.Fits.{Bytes}
-use Rattle.lf_rules.specs.Numbers.{bank_numbers, IsWhole}
 use Rattle.lf_config.specs.Configuration.{configuration_of}
 use Rattle.lf_stats.specs.declared.counts.Stats.{Stats}
 use Rattle.lf_stats.specs.Answer.{AreStats}
@@ -13,9 +12,6 @@ use Rattle.lf_coverage.specs.declared.coverage.Coverage.{Coverage}
 use Rattle.lf_coverage.specs.Coverage.{IsCoverage}
 use Rattle.lf_coverage.specs.Text.{coverage_text}
 use Rattle.lf_coverage.specs.Data.{data_text}
-use Rattle.lf_usage.specs.declared.usage.Usage.{Usage}
-use Rattle.lf_usage.specs.Usage.{IsUsage}
-use Rattle.lf_usage.specs.Text.{usage_text}
 use Rattle.lf_verdict.specs.declared.answer.Verdict.{Verdict}
 use Rattle.lf_verdict.specs.declared.answer.Verdict.TheVariants.{Yes}
 use Rattle.lf_verdict.specs.Legal.{IsTraceFor}
@@ -26,13 +22,6 @@ use Rattle.lf_engine.specs.declared.report.Report.{Report}
 use Rattle.lf_engine.specs.declared.report.Wanted.{Wanted}
 use Rattle.lf_engine.specs.declared.report.Wanted.TheVariants as wants
 use Rattle.lf_engine.specs.Run.{Reads, Follows, outcome_line}
-
--- The bytes are a trace for the shape, whose banks' numbers are whole.
-pub record IsCountable (shape : Shape) (bytes : List ℕ) : Type 0 where
-  pub memory : List (ℕ × Bytes)
-  pub logs : List (List Record)
-  pub trace : IsTraceFor shape bytes memory logs
-  pub whole : (bank : ℕ) → bank < shape.banks → IsWhole (bank_numbers logs bank)
 
 -- These are the statistics of the logs of the trace in the bytes.
 pub record AreStatisticsOf (shape : Shape) (bytes : List ℕ) (stats : Stats) : Type 0 where
@@ -47,13 +36,6 @@ pub record IsCoverageOf (shape : Shape) (bytes : List ℕ) (coverage : Coverage)
   pub logs : List (List Record)
   pub trace : IsTraceFor shape bytes memory logs
   pub counts : IsCoverage shape logs coverage
-
--- This is what the logs of the trace in the bytes use at most.
-pub record IsUsageOf (shape : Shape) (bytes : List ℕ) (usage : Usage) : Type 0 where
-  pub memory : List (ℕ × Bytes)
-  pub logs : List (List Record)
-  pub trace : IsTraceFor shape bytes memory logs
-  pub is : IsUsage shape logs usage
 
 -- The text has the lines of those statistics, or of that coverage, or is Verilator's file of that coverage.
 pub record AreStatisticsLines (shape : Shape) (bytes text : List ℕ) : Type 0 where
@@ -75,12 +57,6 @@ abbrev pub ArePrintedFor : Wanted → Shape → List ℕ → List ℕ → Type 0
 ArePrintedFor wants.Statistics shape bytes text = AreStatisticsLines shape bytes text
 ArePrintedFor wants.Coverage shape bytes text = AreCoverageLines shape bytes text
 ArePrintedFor wants.Data shape bytes text = AreDataLines shape bytes text
-
--- The text has the lines of that usage.
-pub record AreUsageLines (shape : Shape) (bytes text : List ℕ) : Type 0 where
-  pub usage : Usage
-  pub used : IsUsageOf shape bytes usage
-  pub lines : text ≡ usage_text shape usage
 
 -- The text has the lines that are wanted of the bytes that the reader answered, for the shape that the
 -- configuration says.
@@ -104,12 +80,14 @@ IsYesVerdict _ = ⊥
 
 -- The lines of the bytes are there exactly where the verdict is a yes.
 abbrev pub HasLinesFor : Wanted → Shape → List ℕ → Verdict → Option (String Global) → Type 0
-HasLinesFor wanted shape bytes verdict (Some text) = IsYesVerdict verdict × ArePrintedFor wanted shape bytes (string_bytes text)
+HasLinesFor wanted shape bytes verdict (Some text) = IsYesVerdict verdict ×
+    ArePrintedFor wanted shape bytes (string_bytes text)
 HasLinesFor wanted shape bytes verdict None = ¬ IsYesVerdict verdict
 
 -- Of the bytes that the reader answered the lines are there exactly where the verdict is a yes.
 abbrev pub HasLinesIfYes : Wanted → Account → Account → List ℕ → Verdict → Option (String Global) → Type 0
-HasLinesIfYes wanted old new config verdict (Some text) = IsYesVerdict verdict × ArePrinted wanted old new config (string_bytes text)
+HasLinesIfYes wanted old new config verdict (Some text) = IsYesVerdict verdict ×
+    ArePrinted wanted old new config (string_bytes text)
 HasLinesIfYes wanted old new config verdict None = ¬ IsYesVerdict verdict
 
 -- the verdict that a run came to

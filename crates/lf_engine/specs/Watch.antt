@@ -1,13 +1,14 @@
 -- What a run that watches reads, answers and writes.
-use Rattle.std.specs.Prelude.{◌≡◌, ◌≢◌, ◌⊎◌, ◌↔◌, ℕ, ◌<◌, ◌≤◌, List, [], ◌∷◌, ◌++◌, take, codes, Option, Some, None, Result, Ok, Err, IsErrOf}
+use Rattle.std.specs.Prelude.{◌≡◌, ◌≢◌, ◌⊎◌, ◌↔◌, ℕ, ◌<◌, ◌≤◌, List, [], ◌∷◌, ◌++◌, take, codes, Option, Some, None}
+use Rattle.std.specs.Prelude.{Result, Ok, Err, IsErrOf}
 use Rattle.lf_rules.specs.declared.shape.Shape.{Shape}
 use Rattle.lf_codec.specs.Laws.{AreBytes}
 use Rattle.lf_config.specs.Configuration.{configuration_of}
 use Rattle.lf_verdict.specs.declared.answer.Verdict.{Verdict}
 use Rattle.lf_verdict.specs.declared.answer.Verdict.TheVariants.{Refused}
 use Rattle.lf_verdict.specs.declared.answer.Refusal.TheVariants.{Memory}
-use Rattle.lf_verdict.specs.declared.breaking.Broken.{Broken}
-use Rattle.lf_verdict.specs.declared.intake.Intake.{Intake}
+use Rattle.lf_verdict.specs.declared.session.breaking.Broken.{Broken}
+use Rattle.lf_verdict.specs.declared.session.intake.Intake.{Intake}
 use Rattle.lf_verdict.specs.Configured.{IsVerdictFor, IsLegalFor}
 use Rattle.lf_verdict.specs.Final.{IsFinal, IsEarliest}
 use Rattle.lf_verdict.specs.Legal.{IsLegal}
@@ -67,15 +68,20 @@ pub record IsBrokenWithin (old new : Account) (shape : Shape) (turns : ℕ) (fou
 
 -- What a run for a shape came to: a verdict as that of a run which reads to the end, or what broke.
 abbrev pub IsWatchOf : Account → Account → Shape → ℕ → Result Watched RunFault → Type 0
-IsWatchOf old new shape turns (Ok (watched.Judged v)) = IsOutcome old new (IsWorkerCount 1) (IsLegal shape) (IsVerdictOf shape 1) turns (Ok v)
+IsWatchOf old new shape turns (Ok (watched.Judged v)) = IsOutcome old new (IsWorkerCount 1) (IsLegal shape)
+    (IsVerdictOf shape 1) turns (Ok v)
 IsWatchOf old new shape turns (Ok (watched.Broken found)) = IsBrokenWithin old new shape turns found
-IsWatchOf old new shape turns (Err e) = IsOutcome old new (IsWorkerCount 1) (IsLegal shape) (IsVerdictOf shape 1) turns (Err e)
+IsWatchOf old new shape turns (Err e) = IsOutcome old new (IsWorkerCount 1) (IsLegal shape) (IsVerdictOf shape 1)
+    turns (Err e)
 
 -- The same for the shape that the configuration says.
 abbrev pub IsWatchFor : Account → Account → List ℕ → ℕ → Result Watched RunFault → Type 0
-IsWatchFor old new config turns (Ok (watched.Judged v)) = IsOutcome old new (IsAsked config 1) (IsLegalFor config) (IsVerdictFor config 1) turns (Ok v)
-IsWatchFor old new config turns (Ok (watched.Broken found)) = (shape : Shape) × (configuration_of config ≡ Ok shape) × IsBrokenWithin old new shape turns found
-IsWatchFor old new config turns (Err e) = IsOutcome old new (IsAsked config 1) (IsLegalFor config) (IsVerdictFor config 1) turns (Err e)
+IsWatchFor old new config turns (Ok (watched.Judged v)) = IsOutcome old new (IsAsked config 1) (IsLegalFor config)
+    (IsVerdictFor config 1) turns (Ok v)
+IsWatchFor old new config turns (Ok (watched.Broken found)) = (shape : Shape) × (configuration_of config ≡ Ok shape) ×
+    IsBrokenWithin old new shape turns found
+IsWatchFor old new config turns (Err e) = IsOutcome old new (IsAsked config 1) (IsLegalFor config)
+    (IsVerdictFor config 1) turns (Err e)
 
 -- a verdict, as what a run that watches came to
 abbrev pub watched_in : Result Verdict RunFault → Result Watched RunFault
@@ -99,11 +105,13 @@ watch_line (Ok (watched.Broken found)) = broken_line found
 watch_line (Err e) = not_read_line
 
 -- A run of the program: it came to this, told it, and wrote its line.
-pub record IsRunOfWatch (reader reader' writer writer' : Account) (config : List ℕ) (turns : ℕ) (answer : Result Watched RunFault) : Type 0 where
+pub record IsRunOfWatch (reader reader' writer writer' : Account) (config : List ℕ) (turns : ℕ)
+    (answer : Result Watched RunFault) : Type 0 where
   pub came_to : Result Watched RunFault
   pub outcome : IsWatchFor reader reader' config turns came_to
   pub follows : answer ≢ Err Write → FollowsWatch came_to answer
   pub written : answer ≢ Err Write → WentOut writer writer' (watch_line answer)
   pub write : IsErrOf answer Write ↔ (0 < writer'.failures)
   -- Where a write failed, what went out is the beginning of the line.
-  pub prefix : answer ≡ Err Write → (told : Result Watched RunFault) × FollowsWatch came_to told × ((n : ℕ) × WentOut writer writer' (take n (watch_line told)))
+  pub prefix : answer ≡ Err Write → (told : Result Watched RunFault) × FollowsWatch came_to told ×
+      ((n : ℕ) × WentOut writer writer' (take n (watch_line told)))

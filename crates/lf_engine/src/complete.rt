@@ -13,17 +13,18 @@ ghost use Rattle.lf_stream.specs.Account.{WentOut};
 ghost use Rattle.lf_stream.specs.Counted.{calls_of, failures_of, account_of};
 ghost use Rattle.lf_engine.specs.declared.fault.RunFault.{RunFault};
 ghost use Rattle.lf_engine.specs.Complete.{IsIncompleteIn, IsCompletion, IsCompletionFor, IsCompletionDue};
-ghost use Rattle.lf_engine.specs.Complete.{incomplete_line, completion_line, verdict_of, judged_alone, FollowsCompletion};
-ghost use Rattle.lf_engine.specs.Report.{IsCountable};
+ghost use Rattle.lf_engine.specs.Complete.{incomplete_line, completion_line, verdict_of, judged_alone};
+ghost use Rattle.lf_engine.specs.Complete.{FollowsCompletion};
+ghost use Rattle.lf_contents.specs.Logs.{IsCountable};
 ghost use Rattle.lf_engine.specs.Run.{IsAsked, IsOutcome, Follows, IsRunWriting};
 
 use crate::engine::{shape_for, tell};
 use crate::fault::RunFault;
 use crate::line::no_memory;
-use crate::report::{Judged, records_in};
+use crate::report::Judged;
 use crate::statistics::judge_and_keep;
 use lf_codec::{exact_reading, fault_so_far, faults_stand};
-use lf_logs::split;
+use lf_contents::logs_in;
 use lf_rules::{NoMemory, Shape};
 use lf_stats::{Incomplete, first_incomplete};
 use lf_stream::{Counted, Source, put};
@@ -57,9 +58,7 @@ fn incomplete_in(alloc: Global, shape: &Shape, bytes: &[u8]) -> Result<Option<In
     requires countable { IsCountable shape.now bytes.now }
     ensures { IfOk result (IsIncompleteIn shape.now bytes.now) }
 {
-    exact_reading();
-    let records = records_in(alloc, bytes)?;
-    let logs = split(alloc, shape.ports, shape.banks, records)?;
+    let logs = logs_in(alloc, shape, bytes)?;
     Ok(first_incomplete(shape.ports, &logs))
 }
 

@@ -4,8 +4,9 @@
 //! `run` judges for the text of a configuration, `run_shape` for a shape. `run_stats` also counts over
 //! a trace that is legal, and writes the lines of its statistics, `run_cover` those of its coverage, and
 //! `run_cover_data` the coverage as a file of Verilator.
-//! `run_complete` asks whether each request of a legal trace has a reply. `run_explain` also writes why a
-//! trace is not legal. `run_watch` reads no further than to the piece with which a trace broke for good.
+//! `run_complete` asks whether each request of a legal trace has a reply. `run_explain` also writes why the
+//! verdict is what it is, and `run_explain_json` the same as JSON. `run_watch` reads no further than to the piece with
+//! which a trace broke for good.
 //! Both streams are `Counted`, so that
 //! the contracts can say how often they were called, when a call failed, and which bytes the reads
 //! answered and the writes took. `Line` is each line that a program over the engine prints.
@@ -14,22 +15,23 @@
 mod complete;
 mod engine;
 mod explain;
+mod explain_json;
 mod fault;
 mod gathering;
 mod keeping;
 mod line;
-mod parts;
 mod report;
 mod statistics;
 mod watch;
 mod watching;
-mod why;
 
 pub use complete::{Completion, run_complete};
 pub use engine::{are_workers, run, run_shape, shape_for};
 pub use explain::run_explain;
+pub use explain_json::run_explain_json;
 pub use fault::RunFault;
 pub use lf_stream::Counted;
+pub use lf_why::Asked;
 pub use line::{InputFault, Line};
 pub use report::Judged;
 pub use statistics::{judge_and_keep, run_cover, run_cover_data, run_stats};

@@ -1,23 +1,18 @@
-//! The statistics, the coverage and the usage of a trace that was kept.
+//! The statistics and the coverage of a trace that was kept.
 
-ghost use Rattle.std.specs.Prelude.{◌≡◌, IfOk, OnOk, string_bytes};
-ghost use Rattle.lf_codec.specs.Laws.{AreBytes};
-ghost use Rattle.lf_codec.specs.Reading.{reading_of};
+ghost use Rattle.std.specs.Prelude.{◌≡◌, IfOk, string_bytes};
 ghost use Rattle.lf_rules.specs.InRange.{IsShape};
 ghost use Rattle.lf_stats.specs.Text.{stats_text};
 ghost use Rattle.lf_coverage.specs.Text.{coverage_text};
 ghost use Rattle.lf_coverage.specs.Data.{data_text};
-ghost use Rattle.lf_usage.specs.Text.{usage_text};
-ghost use Rattle.lf_engine.specs.Report.{IsCountable, AreStatisticsOf, AreStatisticsLines, IsCoverageOf, AreCoverageLines};
-ghost use Rattle.lf_engine.specs.Report.{AreDataLines, IsUsageOf, AreUsageLines, ArePrintedFor};
+ghost use Rattle.lf_contents.specs.Logs.{IsCountable};
+ghost use Rattle.lf_engine.specs.Report.{AreStatisticsOf, AreStatisticsLines, IsCoverageOf, AreCoverageLines};
+ghost use Rattle.lf_engine.specs.Report.{AreDataLines, ArePrintedFor};
 
-use crate::parts::{Parts, parts_in};
-use lf_codec::exact_reading;
+use lf_contents::logs_in;
 use lf_coverage::{Coverage, CoverageData, cover};
-use lf_logs::split;
-use lf_rules::{NoMemory, Record, Shape};
+use lf_rules::{NoMemory, Shape};
 use lf_stats::{Stats, stats};
-use lf_usage::{Usage, UsageText, usage_of};
 use lf_verdict::{Broken, Verdict};
 use std::alloc::{AllocError, Global};
 
@@ -45,24 +40,13 @@ pub struct Report {
     pub lines: Option<String>,
 }
 
-/// The records that stand in the bytes.
-pub fn records_in(alloc: Global, bytes: &[u8]) -> Result<Vec<Record>, NoMemory>
-    ensures read { IfOk result (λ records. records.items ≡ (reading_of bytes.now).records) }
-    ensures are_bytes { OnOk result (AreBytes bytes.now) }
-{
-    let Parts { records, .. } = parts_in(alloc, bytes)?;
-    Ok(records)
-}
-
 /// The statistics of the trace in these bytes.
 fn statistics_of(alloc: Global, shape: &Shape, bytes: &[u8]) -> Result<Stats, NoMemory>
     requires in_range { IsShape shape.now }
     requires countable { IsCountable shape.now bytes.now }
     ensures { IfOk result (AreStatisticsOf shape.now bytes.now) }
 {
-    exact_reading();
-    let records = records_in(alloc, bytes)?;
-    let logs = split(alloc, shape.ports, shape.banks, records)?;
+    let logs = logs_in(alloc, shape, bytes)?;
     stats(alloc, shape, &logs)
 }
 
@@ -72,22 +56,8 @@ fn coverage_of(alloc: Global, shape: &Shape, bytes: &[u8]) -> Result<Coverage, N
     requires countable { IsCountable shape.now bytes.now }
     ensures { IfOk result (IsCoverageOf shape.now bytes.now) }
 {
-    exact_reading();
-    let records = records_in(alloc, bytes)?;
-    let logs = split(alloc, shape.ports, shape.banks, records)?;
+    let logs = logs_in(alloc, shape, bytes)?;
     cover(alloc, shape, &logs)
-}
-
-/// What the trace in these bytes uses at most.
-fn usage_in(alloc: Global, shape: &Shape, bytes: &[u8]) -> Result<Usage, NoMemory>
-    requires in_range { IsShape shape.now }
-    requires countable { IsCountable shape.now bytes.now }
-    ensures { IfOk result (IsUsageOf shape.now bytes.now) }
-{
-    exact_reading();
-    let records = records_in(alloc, bytes)?;
-    let logs = split(alloc, shape.ports, shape.banks, records)?;
-    usage_of(alloc, shape, &logs)
 }
 
 fn text_of(alloc: Global, counts: &Stats) -> Result<String, AllocError>
@@ -106,13 +76,6 @@ fn text_of_data(alloc: Global, coverage: &Coverage) -> Result<String, AllocError
     ensures { IfOk result (λ text. string_bytes text ≡ data_text coverage.now) }
 {
     let shown = CoverageData(coverage);
-    format!(in alloc; "{shown}")
-}
-
-fn text_of_usage(alloc: Global, shape: &Shape, usage: &Usage) -> Result<String, AllocError>
-    ensures { IfOk result (λ text. string_bytes text ≡ usage_text shape.now usage.now) }
-{
-    let shown = UsageText { usage, shape };
     format!(in alloc; "{shown}")
 }
 
@@ -150,19 +113,6 @@ fn data_lines(alloc: Global, shape: &Shape, bytes: &[u8]) -> Result<String, NoMe
 {
     let coverage = coverage_of(alloc, shape, bytes)?;
     match text_of_data(alloc, &coverage) {
-        Ok(text) => Ok(text),
-        Err(_) => Err(NoMemory),
-    }
-}
-
-/// The lines of what the trace in these bytes uses at most of what its configuration has.
-pub fn usage_lines(alloc: Global, shape: &Shape, bytes: &[u8]) -> Result<String, NoMemory>
-    requires in_range { IsShape shape.now }
-    requires countable { IsCountable shape.now bytes.now }
-    ensures { IfOk result (λ text. AreUsageLines shape.now bytes.now (string_bytes text)) }
-{
-    let usage = usage_in(alloc, shape, bytes)?;
-    match text_of_usage(alloc, shape, &usage) {
         Ok(text) => Ok(text),
         Err(_) => Err(NoMemory),
     }

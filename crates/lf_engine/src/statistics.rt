@@ -11,7 +11,7 @@ ghost use Rattle.lf_verdict.specs.Configured.{IsVerdictFor, IsLegalFor, IsRunles
 ghost use Rattle.lf_stream.specs.Account.{WentOut};
 ghost use Rattle.lf_stream.specs.Counted.{calls_of, failures_of, account_of};
 ghost use Rattle.lf_engine.specs.declared.fault.RunFault.{RunFault};
-ghost use Rattle.lf_engine.specs.Explain.{IsEarliestIf};
+ghost use Rattle.lf_why.specs.NotLegal.{IsEarliestIf};
 ghost use Rattle.lf_engine.specs.Report.{HasLinesFor, HasLinesIfYes, IsWritten};
 ghost use Rattle.lf_engine.specs.Report.{judged_in, verdict_in, FollowsReport, report_text};
 ghost use Rattle.lf_engine.specs.Run.{IsAsked, IsOutcome, Reads, Follows, IsRunWriting};
@@ -194,7 +194,8 @@ fn run_report<T: AllocGlobal, R: Read, W: Write>(
     ensures run { IsRunWriting (account_of R.remaining reader.old) (account_of R.remaining reader.new)
         (account_of W.contents writer.old) (account_of W.contents writer.new)
         (IsAsked config.now 1) (IsLegalFor config.now) (IsRunlessNoFor config.now) (IsVerdictFor config.now 1)
-        (IsWritten wanted (account_of R.remaining reader.old) (account_of R.remaining reader.new) config.now) turns result }
+        (IsWritten wanted (account_of R.remaining reader.old) (account_of R.remaining reader.new) config.now) turns
+        result }
 {
     exact_reading();
     fault_so_far();
@@ -227,7 +228,8 @@ pub fn run_stats<T: AllocGlobal, R: Read, W: Write>(
     ensures run { IsRunWriting (account_of R.remaining reader.old) (account_of R.remaining reader.new)
         (account_of W.contents writer.old) (account_of W.contents writer.new)
         (IsAsked config.now 1) (IsLegalFor config.now) (IsRunlessNoFor config.now) (IsVerdictFor config.now 1)
-        (IsWritten Wanted.Statistics (account_of R.remaining reader.old) (account_of R.remaining reader.new) config.now) turns result }
+        (IsWritten Wanted.Statistics (account_of R.remaining reader.old) (account_of R.remaining reader.new)
+        config.now) turns result }
 {
     run_report(rt, reader, writer, config, turns, Wanted::Statistics)
 }
@@ -248,12 +250,14 @@ pub fn run_cover<T: AllocGlobal, R: Read, W: Write>(
     ensures run { IsRunWriting (account_of R.remaining reader.old) (account_of R.remaining reader.new)
         (account_of W.contents writer.old) (account_of W.contents writer.new)
         (IsAsked config.now 1) (IsLegalFor config.now) (IsRunlessNoFor config.now) (IsVerdictFor config.now 1)
-        (IsWritten Wanted.Coverage (account_of R.remaining reader.old) (account_of R.remaining reader.new) config.now) turns result }
+        (IsWritten Wanted.Coverage (account_of R.remaining reader.old) (account_of R.remaining reader.new) config.now)
+        turns result }
 {
     run_report(rt, reader, writer, config, turns, Wanted::Coverage)
 }
 
-/// As `run_stats`, but writes the coverage of a trace that is legal as Verilator's file `coverage.dat` has it: its first
+/// As `run_stats`, but writes the coverage of a trace that is legal as Verilator's file `coverage.dat` has it: its
+/// first
 /// line, and one for each point.
 pub fn run_cover_data<T: AllocGlobal, R: Read, W: Write>(
     rt: &T,
@@ -269,7 +273,8 @@ pub fn run_cover_data<T: AllocGlobal, R: Read, W: Write>(
     ensures run { IsRunWriting (account_of R.remaining reader.old) (account_of R.remaining reader.new)
         (account_of W.contents writer.old) (account_of W.contents writer.new)
         (IsAsked config.now 1) (IsLegalFor config.now) (IsRunlessNoFor config.now) (IsVerdictFor config.now 1)
-        (IsWritten Wanted.Data (account_of R.remaining reader.old) (account_of R.remaining reader.new) config.now) turns result }
+        (IsWritten Wanted.Data (account_of R.remaining reader.old) (account_of R.remaining reader.new) config.now)
+        turns result }
 {
     run_report(rt, reader, writer, config, turns, Wanted::Data)
 }

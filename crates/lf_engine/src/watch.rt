@@ -8,7 +8,8 @@ ghost use Rattle.lf_stream.specs.Account.{WentOut};
 ghost use Rattle.lf_stream.specs.Counted.{calls_of, failures_of, account_of};
 ghost use Rattle.lf_engine.specs.declared.fault.RunFault.{RunFault};
 ghost use Rattle.lf_engine.specs.Run.{IsAsked};
-ghost use Rattle.lf_engine.specs.Watch.{IsWatchOf, IsWatchFor, FollowsWatch, broken_line, watch_line, watched_in, IsRunOfWatch};
+ghost use Rattle.lf_engine.specs.Watch.{IsWatchOf, IsWatchFor, FollowsWatch, broken_line, watch_line, watched_in};
+ghost use Rattle.lf_engine.specs.Watch.{IsRunOfWatch};
 
 use crate::engine::{PIECE, shape_for, tell};
 use crate::fault::RunFault;

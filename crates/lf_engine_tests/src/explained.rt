@@ -2,7 +2,8 @@
 
 use crate::streams::Pieces;
 use crate::traces::loads_numbered;
-use lf_engine::{Counted, run_explain};
+use lf_engine::{Asked, Counted, run_explain};
+use lf_rules::Shape;
 use lf_samples::{C1, C1_TEXT, LOAD, LOADED, STORE, trace_of};
 use std::process::Abort;
 use std::test::Fail;
@@ -16,13 +17,14 @@ fn assert_written<T: Abort + AllocGlobal>(
 ) -> Result<(), Fail> {
     let mut reader = Counted::new(Pieces::new(bytes, 50));
     let mut writer = Counted::new(Vec::new(rt.alloc()));
-    let answer = run_explain(rt, &mut reader, &mut writer, C1_TEXT, most, 1000);
+    let asked = Asked { most, times: None };
+    let answer = run_explain(rt, &mut reader, &mut writer, C1_TEXT, &asked, 1000);
     assert!(rt; answer.is_ok());
     assert_eq!(rt; std::str::from_utf8(writer.inner()), Ok(text));
     Ok(())
 }
 
-/// The same of the trace of these events of port 0 and bank 0.
+/// Asserts what is told of the trace of these events of port 0 and bank 0.
 fn assert_explained<T: Abort + AllocGlobal>(
     rt: &T,
     parts: &[&str],
@@ -33,7 +35,7 @@ fn assert_explained<T: Abort + AllocGlobal>(
     assert_written(rt, &bytes, most, text)
 }
 
-/// The same of a trace of loads with these numbers of bank 0.
+/// Asserts what is told of a trace of loads with these numbers of bank 0.
 fn assert_numbered<T: Abort + AllocGlobal>(
     rt: &T,
     numbers: &[u32],
@@ -207,4 +209,29 @@ load port=0 bank=0 number=0 tag=1 size=8 address=0x0 ; at 36
 load port=0 bank=0 number=1 tag=0 size=8 address=0x0 ; at 16
 ";
     assert_numbered(&rt, &[1, 0], text)
+}
+
+#[test]
+fn bytes_that_are_no_trace(rt: HostRuntime) -> Result<(), Fail> {
+    let mut bytes = trace_of(rt.alloc(), &C1, &["L 0 8@0"])?;
+    bytes.truncate(20);
+    let text = "\
+refused format Truncated at=16
+
+the record at 16 has these bytes: 01 00 00 00
+  bytes there: 4, bytes due: 8; the trace ends within the head of the record
+";
+    assert_written(&rt, &bytes, 15, text)
+}
+
+#[test]
+fn trace_of_another_hierarchy(rt: HostRuntime) -> Result<(), Fail> {
+    let shape = Shape { banks: 2, ..C1 };
+    let bytes = trace_of(rt.alloc(), &shape, &["L 0 8@0"])?;
+    let text = "\
+refused header Banks
+
+the header of the trace says banks=2, the configuration says banks=1
+";
+    assert_written(&rt, &bytes, 15, text)
 }

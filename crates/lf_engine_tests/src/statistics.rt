@@ -30,7 +30,7 @@ fn assert_written<T: Abort + AllocGlobal>(
     Ok(())
 }
 
-/// The same for the trace of these events of port 0 and bank 0.
+/// Asserts the statistics of the trace of these events of port 0 and bank 0.
 fn assert_counted<T: Abort + AllocGlobal>(
     rt: &T,
     config: &str,

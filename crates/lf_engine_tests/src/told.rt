@@ -40,7 +40,7 @@ pub fn assert_line<T: Abort + AllocGlobal + Threads + Sync + Send + Copy + 'stat
     assert_line_by(rt, shape, bytes, 1, line)
 }
 
-/// The same for the trace of these events of port 0 and bank 0.
+/// Asserts the line for the trace of these events of port 0 and bank 0.
 pub fn assert_told<T: Abort + AllocGlobal + Threads + Sync + Send + Copy + 'static>(
     rt: &T,
     shape: &Shape,

@@ -13,8 +13,10 @@ use Rattle.lf_shrink.specs.declared.shrink.Shrinking.TheVariants as shrinkings
 use Rattle.lf_shrink.specs.Broken.{fault_of}
 use Rattle.lf_shrink.specs.Shrunk.{IsShrinking, IsShrinkingFor, verdict_of}
 
-pub found_of_read : (old new : Account) (config : List ℕ) (shape : Shape) (bytes : List ℕ) (most : ℕ) (judged : Verdict) (found : Shrinking)
-    → configuration_of config ≡ Ok shape → (IsDecided judged → Reads old new bytes) → Follows (Ok judged) (verdict_of (Ok found))
+pub found_of_read : (old new : Account) (config : List ℕ) (shape : Shape) (bytes : List ℕ) (most : ℕ)
+    (judged : Verdict) (found : Shrinking)
+    → configuration_of config ≡ Ok shape → (IsDecided judged → Reads old new bytes) →
+    Follows (Ok judged) (verdict_of (Ok found))
     → IsShrinkingFor shape bytes most found → IsShrinking old new config most found
 found_of_read old new config shape bytes most judged (shrinkings.Judged v) e reads follows h = h
 found_of_read old new config shape bytes most judged (shrinkings.Shrunk s) e reads (inl same) h =

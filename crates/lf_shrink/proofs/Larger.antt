@@ -14,7 +14,8 @@ fewer_still : (first best kept : List ℕ) → (best ≡ first) ⊎ (length best
 fewer_still first best kept (inl same) h = inr (omega (arith, ap length same, h))
 fewer_still first best kept (inr fewer) h = inr (omega (arith, fewer, h))
 
-pub smaller_still : (first best kept : Kept) → IsNoLargerThan first best → IsSmallerThan best kept → IsNoLargerThan first kept
+pub smaller_still : (first best kept : Kept) → IsNoLargerThan first best → IsSmallerThan best kept →
+    IsNoLargerThan first kept
 smaller_still first best kept so_far h = record {
   records = omega (arith, so_far.records, h.records);
   bytes = fewer_still first.bytes.items best.bytes.items kept.bytes.items so_far.bytes h.bytes;

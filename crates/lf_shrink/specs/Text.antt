@@ -11,7 +11,8 @@ use Rattle.lf_shrink.specs.Broken.{fault_of}
 -- what was searched for: how many events there were, how many are left, and how many traces were judged
 abbrev pub search_text : Shrunk → List ℕ
 search_text shrunk =
-    codes "shrunk events=" ++ decimal shrunk.events ++ codes " to=" ++ decimal shrunk.left ++ codes " checks=" ++ decimal shrunk.checks
+    codes "shrunk events=" ++ decimal shrunk.events ++ codes " to=" ++ decimal shrunk.left ++ codes " checks="
+    ++ decimal shrunk.checks
 
 -- the line of the verdict of the smallest trace, and that of the search
 abbrev pub shrunk_text : Shrunk → List ℕ

@@ -2,7 +2,8 @@
 
 ghost use Rattle.std.specs.Prelude.{◌≡◌, ◌↔◌, IsTrue, IfSome, IfNone};
 ghost use Rattle.lf_codec.specs.Layout.{code_of, kind_of};
-ghost use Rattle.lf_shrink.specs.Broken.{IsRuleFault, fault_of, rule_of, kind_in_log, kind_of_number, broken_kind, IsWanted};
+ghost use Rattle.lf_shrink.specs.Broken.{IsRuleFault, fault_of, rule_of, kind_in_log, kind_of_number, broken_kind};
+ghost use Rattle.lf_shrink.specs.Broken.{IsWanted};
 
 use lf_rules::{Event, Record, Rule};
 use lf_verdict::Fault;

@@ -48,7 +48,8 @@ fn wanted_fault(
     bytes: &[u8],
 ) -> Result<Option<RuleFault>, NoMemory>
     requires { IsShape shape.now }
-    ensures verdict { IfOk result (λ found. IfSome found (λ fault. IsVerdictOf shape.now 1 bytes.now (Verdict.No (fault_of fault)))) }
+    ensures verdict { IfOk result (λ found. IfSome found (λ fault. IsVerdictOf shape.now 1 bytes.now
+        (Verdict.No (fault_of fault)))) }
     ensures wanted { IfOk result (λ found. IfSome found (λ fault. IsWanted wanted records.now fault)) }
 {
     let fault = match verdict_of(alloc, shape, bytes) {

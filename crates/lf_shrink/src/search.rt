@@ -61,7 +61,8 @@ fn judge(
     requires shape { IsShape shape.now }
     requires kept { IsKept shape.now wanted best }
     ensures kept { IfOk result (λ tried. IsKept shape.now wanted tried.best) }
-    ensures smaller { IfOk result (λ tried. (first : Kept) → IsNoLargerThan first best → IsNoLargerThan first tried.best) }
+    ensures smaller { IfOk result (λ tried. (first : Kept) → IsNoLargerThan first best →
+        IsNoLargerThan first tried.best) }
     ensures unchanged { IfErr result (λ last. last ≡ best) }
 {
     match kept_if(alloc, shape, header, wanted, candidate, &best) {

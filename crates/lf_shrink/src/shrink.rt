@@ -2,7 +2,6 @@
 
 ghost use Rattle.std.specs.Prelude.{◌≡◌, ◌↔◌, ℕ, List, Ok, IfOk, IfSome, IfNone};
 ghost use Rattle.lf_rules.specs.InRange.{IsShape};
-ghost use Rattle.lf_codec.specs.Trace.{IsTrace};
 ghost use Rattle.lf_config.specs.Configuration.{configuration_of};
 ghost use Rattle.lf_verdict.specs.declared.answer.Verdict.{Verdict};
 ghost use Rattle.lf_verdict.specs.Verdict.{IsWorkerCount, IsDecided, IsVerdictOf};
@@ -17,9 +16,9 @@ ghost use Rattle.lf_shrink.specs.Shrunk.{IsRuleNo, IsShrunk, IsShrinkingFor, IsS
 use crate::broken::{RuleFault, Wanted};
 use crate::candidate::Kept;
 use crate::search::{Found, Limits, Observer, smallest};
-use lf_codec::{Header, Reader};
+use lf_contents::{Trace, trace_in};
 use lf_engine::{Counted, Judged, RunFault, judge_and_keep, shape_for};
-use lf_rules::{Memory, NoMemory, Record, Shape};
+use lf_rules::{NoMemory, Shape};
 use lf_stream::Source;
 use lf_verdict::{Refusal, Verdict};
 use std::alloc::Global;
@@ -62,58 +61,6 @@ fn rule_fault(verdict: &Verdict) -> Option<RuleFault>
     }
 }
 
-/// The memory that a reader still has.
-fn memory_of(alloc: Global, reader: &mut Reader) -> Result<Memory, NoMemory>
-    ensures memory { IfOk result (λ memory. memory.items ≡ reader.old.memory) }
-    ensures records { reader.new.records ≡ reader.old.records }
-{
-    let mut memory = Vec::new(alloc);
-    while let Some(block) = reader.take_memory() {
-        memory.push(block)?;
-    }
-    Ok(memory)
-}
-
-/// The records that a reader still has.
-fn records_of(alloc: Global, reader: &mut Reader) -> Result<Vec<Record>, NoMemory>
-    ensures { IfOk result (λ records. records.items ≡ reader.old.records) }
-{
-    let mut records = Vec::new(alloc);
-    while let Some(item) = reader.take() {
-        records.push(item)?;
-    }
-    Ok(records)
-}
-
-/// What a trace has.
-#[derive(Drop)]
-struct Parts {
-    header: Header,
-    memory: Memory,
-    records: Vec<Record>,
-}
-
-/// The header, the memory and the records of a trace. A trace has no fault, so a reader refuses it where there is
-/// no memory.
-fn parts_of(alloc: Global, bytes: &[u8]) -> Result<Parts, NoMemory>
-    ensures { IfOk result (λ parts. IsTrace bytes.now parts.header parts.memory.items parts.records.items) }
-{
-    let mut reader = Reader::new(alloc);
-    let Ok(()) = reader.feed(bytes) else {
-        return Err(NoMemory);
-    };
-    let Ok(header) = reader.finish() else {
-        return Err(NoMemory);
-    };
-    let memory = memory_of(alloc, &mut reader)?;
-    let records = records_of(alloc, &mut reader)?;
-    Ok(Parts {
-        header,
-        memory,
-        records,
-    })
-}
-
 /// The smallest trace that is found for a trace whose verdict has this fault.
 fn shrunk_of<O: Observer>(
     alloc: Global,
@@ -127,11 +74,11 @@ fn shrunk_of<O: Observer>(
     ensures shrunk { IfOk result (IsShrunk shape.now bytes.items limits.entry.most) }
     ensures first { IfOk result (λ s. s.first ≡ fault) }
 {
-    let Parts {
+    let Trace {
         header,
         memory,
         records,
-    } = parts_of(alloc, &bytes)?;
+    } = trace_in(alloc, &bytes)?;
     let wanted = Wanted {
         rule: fault.rule(),
         kind: fault.kind(&records),
@@ -210,7 +157,8 @@ fn shrink_configured<T: AllocGlobal, S: Source, O: Observer>(
     ensures unread { ¬ IsAsked config.now 1 → source.new ≡ source.old }
     ensures outcome { IsOutcome (S.account source.old) (S.account source.new)
         (IsAsked config.now 1) (IsLegalFor config.now) (IsVerdictFor config.now 1) turns (verdict_of result) }
-    ensures shrunk { IfOk result (IsShrinking (S.account source.old) (S.account source.new) config.now limits.entry.most) }
+    ensures shrunk { IfOk result (IsShrinking (S.account source.old) (S.account source.new) config.now
+        limits.entry.most) }
 {
     match shape_for(rt.alloc(), config, 1) {
         Ok(shape) => shrink_for(rt, source, &shape, limits, turns),

@@ -1,6 +1,6 @@
 use Rattle.std.specs.Prelude.{ℕ, List, Option, Some, None, IfSome}
-use Rattle.lf_verdict.specs.declared.breaking.Broken.{Broken}
-use Rattle.lf_verdict.specs.declared.intake.Intake.{Intake}
+use Rattle.lf_verdict.specs.declared.session.breaking.Broken.{Broken}
+use Rattle.lf_verdict.specs.declared.session.intake.Intake.{Intake}
 use Rattle.lf_verdict.specs.Final.{IsFinal, IsEarliest}
 use Rattle.lf_verdict.specs.Session.{HasFed}
 use Rattle.lf_c.specs.Answers.{IsBroken}

@@ -7,6 +7,7 @@ pub incomplete_in-requires-clause-countable : goal.incomplete_in-requires-clause
 incomplete_in-requires-clause-countable c = elim c.match-matches.branch [
   | in-Yes w ↦
       let yes : IsYesVerdict c.args.verdict = rw w.in-Yes.is tt in
-      countable_yes c.args.shape.now c.args.bytes.now c.args.verdict yes (c.requires.judged (judged_yes c.args.verdict yes))
+      countable_yes c.args.shape.now c.args.bytes.now c.args.verdict yes
+      (c.requires.judged (judged_yes c.args.verdict yes))
   | in_default w ↦ let bad = rw w.matches-is at c.if-not-matches.false in cc
 ]

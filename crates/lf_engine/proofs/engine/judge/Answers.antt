@@ -6,7 +6,8 @@ pub returns-in-Ok-gathered : goal.returns-in-Ok-gathered
 returns-in-Ok-gathered g c =
     let got = c.in-Ok-gathered.ensures in
     let (bytes, fed, are, all) = got.all in
-    finished _ _ _ _ _ c.gather_by-gathered.new.session c.finish-verdict.result (got.shape ∙ c.for_shape-session.ensures.shape)
+    finished _ _ _ _ _ c.gather_by-gathered.new.session c.finish-verdict.result
+    (got.shape ∙ c.for_shape-session.ensures.shape)
     c.requires.workers got.reads (λ failed. let bad = got.read.1 failed in cc)
     bytes fed (all_read _ _ _ bytes (search rules) are all)
     c.finish-verdict.ensures.legal c.finish-verdict.ensures.verdict c.finish-verdict.ensures.thread

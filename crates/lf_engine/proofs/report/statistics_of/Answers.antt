@@ -1,31 +1,14 @@
-use Rattle.lf_engine.proofs.ReportLemmas.{records_below, split_logs, logs_count, logs_short, logs_whole, counted_if}
+use Rattle.lf_engine.proofs.ReportLemmas.{counted_if}
 use Rattle.lf_engine.proofs.report.statistics_of.Goals as goal
 
-pub split-requires-clause-logs : goal.split-requires-clause-logs
-split-requires-clause-logs c =
-    records_below c.exact_reading.ensures c.args.shape.now c.args.bytes.now c.requires.countable c.in_ok-records.records.items c.in_ok-records.ensures.are_bytes
-    c.in_ok-records.ensures.read
-
 pub stats-requires-clause-logs : goal.stats-requires-clause-logs
-stats-requires-clause-logs c =
-    logs_count _ _ c.requires.countable c.in_ok-logs.logs
-    (split_logs c.exact_reading.ensures _ _ c.requires.countable c.in_ok-records.records.items c.in_ok-logs.logs c.in_ok-records.ensures.are_bytes
-    c.in_ok-records.ensures.read c.in_ok-logs.ensures)
+stats-requires-clause-logs c = c.in_ok-logs.ensures.count
 
 pub stats-requires-clause-short : goal.stats-requires-clause-short
-stats-requires-clause-short c =
-    logs_short _ _ c.requires.countable c.in_ok-logs.logs
-    (split_logs c.exact_reading.ensures _ _ c.requires.countable c.in_ok-records.records.items c.in_ok-logs.logs c.in_ok-records.ensures.are_bytes
-    c.in_ok-records.ensures.read c.in_ok-logs.ensures)
+stats-requires-clause-short c = c.in_ok-logs.ensures.short
 
 pub stats-requires-clause-whole : goal.stats-requires-clause-whole
-stats-requires-clause-whole c =
-    logs_whole _ _ c.requires.countable c.in_ok-logs.logs
-    (split_logs c.exact_reading.ensures _ _ c.requires.countable c.in_ok-records.records.items c.in_ok-logs.logs c.in_ok-records.ensures.are_bytes
-    c.in_ok-records.ensures.read c.in_ok-logs.ensures)
+stats-requires-clause-whole c = c.in_ok-logs.ensures.whole
 
 pub returns : goal.returns
-returns c =
-    counted_if _ _ c.requires.countable c.in_ok-logs.logs c.stats.result
-    (split_logs c.exact_reading.ensures _ _ c.requires.countable c.in_ok-records.records.items c.in_ok-logs.logs c.in_ok-records.ensures.are_bytes
-    c.in_ok-records.ensures.read c.in_ok-logs.ensures) c.stats.ensures
+returns c = counted_if _ _ c.in_ok-logs.logs c.stats.result c.in_ok-logs.ensures c.stats.ensures

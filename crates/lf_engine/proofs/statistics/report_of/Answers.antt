@@ -8,7 +8,8 @@ pub lines_of-requires-clause-countable : goal.lines_of-requires-clause-countable
 lines_of-requires-clause-countable c = elim c.match-matches.branch [
   | in-Yes w ↦
       let yes : IsYesVerdict c.args.verdict = rw w.in-Yes.is tt in
-      countable_yes c.args.shape.now c.args.bytes.now c.args.verdict yes (c.requires.judged (judged_yes c.args.verdict yes))
+      countable_yes c.args.shape.now c.args.bytes.now c.args.verdict yes
+      (c.requires.judged (judged_yes c.args.verdict yes))
   | in_default w ↦ let bad = rw w.matches-is at c.if-not-matches.false in cc
 ]
 

@@ -11,7 +11,8 @@ returns-in_err-put-in-Some-clause-prefix g c = λ _.
     let due = lines_text c.args.outcome report c.in-Some.text (Ok report.verdict) c.in-Ok.is c.in-Some.is in (
       Ok report.verdict,
       lines_follow c.args.outcome report c.in-Some.text c.in-Ok.is c.in-Some.is,
-      subst (λ (t : List ℕ). (n : ℕ) × WentOut (account_of g.W.Write.contents c.args.writer.now) (account_of g.W.Write.contents c.put.new.writer) (take n t))
+      subst (λ (t : List ℕ). (n : ℕ) × WentOut (account_of g.W.Write.contents c.args.writer.now)
+          (account_of g.W.Write.contents c.put.new.writer) (take n t))
           (text ∙ sym due)
           c.in_err-put-in-Some.ensures.prefix,
     )

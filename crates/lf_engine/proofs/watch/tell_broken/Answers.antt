@@ -11,7 +11,12 @@ returns-in_err-put-in-Ok-clause-prefix g c = λ _.
     (Ok (Broken c.args.found), inl refl, rw text at c.in_err-put-in-Ok.ensures.prefix)
 
 pub returns-in_err-put-in-Err-clause-prefix : goal.returns-in_err-put-in-Err-clause-prefix
-returns-in_err-put-in-Err-clause-prefix g c = λ _. (Ok (Judged (Refused Memory)), inr refl, rw c.no_memory.ensures at c.in_err-put-in-Err.ensures.prefix)
+returns-in_err-put-in-Err-clause-prefix g c = λ _. (
+  Ok (Judged (Refused Memory)),
+  inr refl,
+  rw c.no_memory.ensures at
+      c.in_err-put-in-Err.ensures.prefix,
+)
 
 pub returns-in_ok-put-in-Err-clause-whole : goal.returns-in_ok-put-in-Err-clause-whole
 returns-in_ok-put-in-Err-clause-whole g c = λ _. rw c.no_memory.ensures at c.in_ok-put-in-Err.ensures.whole

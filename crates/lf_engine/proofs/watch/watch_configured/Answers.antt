@@ -10,14 +10,18 @@ use Rattle.lf_engine.specs.Watch.{IsWatchOf, IsWatchFor}
 use Rattle.lf_engine.proofs.JudgingLemmas.{outcome_for, refused_outcome}
 use Rattle.lf_engine.proofs.watch.watch_configured.Goals as goal
 
-watch_for : (old new : Account) (text : List ℕ) (shape : Shape) (turns : ℕ) (outcome : Result Watched RunFault) → configuration_of text ≡ Ok shape → IsWorkerCount 1
+watch_for : (old new : Account) (text : List ℕ) (shape : Shape) (turns : ℕ) (outcome : Result Watched RunFault) →
+    configuration_of text ≡ Ok shape → IsWorkerCount 1
     → IsWatchOf old new shape turns outcome → IsWatchFor old new text turns outcome
-watch_for old new text shape turns (Ok (watched.Judged v)) says count h = outcome_for old new text shape 1 turns (Ok v) says count h
+watch_for old new text shape turns (Ok (watched.Judged v)) says count h =
+    outcome_for old new text shape 1 turns (Ok v) says count h
 watch_for old new text shape turns (Ok (watched.Broken found)) says count h = (shape, says, h)
 watch_for old new text shape turns (Err e) says count h = outcome_for old new text shape 1 turns (Err e) says count h
 
 pub returns-in-Ok-clause-outcome : goal.returns-in-Ok-clause-outcome
-returns-in-Ok-clause-outcome g c = watch_for _ _ _ _ _ _ c.in-Ok.ensures.configured c.in-Ok.ensures.workers c.watch_shape.ensures
+returns-in-Ok-clause-outcome g c = watch_for _ _ _ _ _ _ c.in-Ok.ensures.configured c.in-Ok.ensures.workers
+    c.watch_shape.ensures
 
 pub returns-in-Err-clause-outcome : goal.returns-in-Err-clause-outcome
-returns-in-Err-clause-outcome g c = refused_outcome _ _ _ _ _ c.in-Err.ensures.refused c.requires.calls c.requires.failures
+returns-in-Err-clause-outcome g c = refused_outcome _ _ _ _ _ c.in-Err.ensures.refused c.requires.calls
+    c.requires.failures

@@ -43,7 +43,8 @@ returns-in-Ok-Fault-clause-all g c =
     let so_far = c.loop-turn.invariant.gathered in
     let piece = take c.in-Ok.n c.pull.new.buffer in
     let read = c.in-Ok.ensures.read in
-    let stands : HasFault (so_far.bytes ++ piece) = rw c.in-Ok-Fault.field-0-is at (c.in-Ok-Fault.ensures.told so_far.bytes so_far.fed) in
+    let stands : HasFault (so_far.bytes ++ piece) = rw c.in-Ok-Fault.field-0-is at
+    (c.in-Ok-Fault.ensures.told so_far.bytes so_far.fed) in
     record {
       bytes = so_far.bytes ++ piece;
       fed = c.in-Ok-Fault.ensures.fed so_far.bytes so_far.fed;
@@ -57,7 +58,8 @@ returns-in-Ok-Broken-clause-all g c =
     let so_far = c.loop-turn.invariant.gathered in
     let piece = take c.in-Ok.n c.pull.new.buffer in
     let read = c.in-Ok.ensures.read in
-    let told : IsBrokenFor c.feed.new.session.shape (so_far.bytes ++ piece) c.in-Ok-Broken.found = rw c.in-Ok-Broken.field-0-is at (c.in-Ok-Broken.ensures.told so_far.bytes so_far.fed) in
+    let told : IsBrokenFor c.feed.new.session.shape (so_far.bytes ++ piece) c.in-Ok-Broken.found =
+    rw c.in-Ok-Broken.field-0-is at (c.in-Ok-Broken.ensures.told so_far.bytes so_far.fed) in
     record {
       bytes = so_far.bytes ++ piece;
       are_bytes = c.in-Ok-Broken.ensures.are_bytes so_far.bytes so_far.are_bytes;
@@ -90,7 +92,8 @@ loop-turn-preserved g c = record {
               bytes = so_far.bytes ++ piece;
               fed = w.in-Ok-More.ensures.fed so_far.bytes so_far.fed;
               are_bytes = w.in-Ok-More.ensures.are_bytes so_far.bytes so_far.are_bytes;
-              part = more_part _ _ _ _ so_far.bytes so_far.part piece read.pieces read.known.0 (rw w.in-Ok-More.field-0-is at (w.in-Ok-More.ensures.told so_far.bytes so_far.fed));
+              part = more_part _ _ _ _ so_far.bytes so_far.part piece read.pieces read.known.0
+                  (rw w.in-Ok-More.field-0-is at (w.in-Ok-More.ensures.told so_far.bytes so_far.fed));
             })
         | in-Err+else-ne w ↦
             let read = w.in-Err.ensures.read in

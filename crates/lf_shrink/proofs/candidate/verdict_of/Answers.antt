@@ -5,5 +5,6 @@ use Rattle.lf_shrink.proofs.candidate.verdict_of.Goals as goal
 
 pub returns : goal.returns
 returns c = λ judged.
-    subst (λ (s : Shape). IsVerdictOf s 1 c.args.bytes.now c.finish.result) (c.feed.ensures.shape ∙ c.for_shape-session.ensures.shape)
+    subst (λ (s : Shape). IsVerdictOf s 1 c.args.bytes.now c.finish.result)
+    (c.feed.ensures.shape ∙ c.for_shape-session.ensures.shape)
     (c.finish.ensures.verdict c.args.bytes.now (c.feed.ensures.fed [] c.for_shape-session.ensures.fed) judged)

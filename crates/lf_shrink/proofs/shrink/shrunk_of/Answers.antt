@@ -23,7 +23,8 @@ returns-clause-shrunk g c =
         verdict = c.requires.verdict;
         is_wanted = record { rule = search rules; kind = search rules };
       };
-      after = subst (λ (n : ℕ). Breaks shape wanted best.bytes.items best.fault n) (sym left) (breaks shape wanted best c.smallest-best.ensures.kept);
+      after = subst (λ (n : ℕ). Breaks shape wanted best.bytes.items best.fault n) (sym left)
+          (breaks shape wanted best c.smallest-best.ensures.kept);
       few = omega (arith, events, left, smaller.records);
       smaller = smaller.bytes;
       checks = c.smallest-best.ensures.checks;

@@ -40,11 +40,13 @@ show_spec 𝓤 𝓛 𝓜 𝓡 wired =
     let held = z.0.3.0 in
     let Post : Val → SProp 𝓤 = (walk_of 𝓛 ended stayed c).post z in
     let Runs : List Val → SProp 𝓤 = λ ws. WpFn 𝓤 𝓛.H 𝓣.C 𝓣.Λ code.function ws Post in
-    qed 𝓛 ((‵ ftrue ⊛ ‵ (owns (types_at (ended.signature).params z.0.0) z.0.3 z.0.4)) ∷ raw (fact 𝓤 (IsSome held.session)) ∷ []) ∵
+    qed 𝓛 ((‵ ftrue ⊛ ‵ (owns (types_at (ended.signature).params z.0.0) z.0.3 z.0.4))
+    ∷ raw (fact 𝓤 (IsSome held.session)) ∷ []) ∵
     move ! (1 ∷ []) $ heard ! (IsSome held.session) (λ there. let x = the_value held.session there in
     split ! $ move ! (1 ∷ []) $ fsplit ! $ held_out ! held z.0.4.0 x.0 x.1 (λ b o h at is good.
     let w : Val = word (vptr b o) h in let fits = unboxed_good Row Z LZ ghosts b o h good in
-    suffices ! (Runs (w ∷ [])) (subst (λ (us : List Val). ent 𝓤 (Runs (w ∷ [])) (Runs us)) (sym (λ i. is i ++ [])) (id⊢ 𝓤 (Runs (w ∷ [])))) $
+    suffices ! (Runs (w ∷ [])) (subst (λ (us : List Val). ent 𝓤 (Runs (w ∷ [])) (Runs us)) (sym (λ i. is i ++ []))
+    (id⊢ 𝓤 (Runs (w ∷ [])))) $
     enter ! 𝓣.C 𝓣.Λ code.function (w ∷ []) Post $ alloc_all ! (λ l. pass_all ! refl (fits, tt) $
     sets ! (of_opd ! (get_in ! (fld ! refl (stop !)) (sub ! 0 refl (whole !)))) refl (tt, tt) $
     sets ! (of_opd ! (get_in ! (fld ! refl (stop !)) (sub ! 1 refl (whole !)))) refl good $
@@ -54,4 +56,5 @@ show_spec 𝓤 𝓛 𝓜 𝓡 wired =
     use0 𝓛 (raw (fact 𝓤 (Some x.0 ≡ held.session))) (fact_i 𝓤 (Some x.0 ≡ held.session) (emp 𝓤) (sym x.1)) $
     nothing ! $ nothing ! $ fjoin ! $
     returns ! (look_at ! 0 refl) $ free_all ! refl $ keep ! (4 ∷ 0 ∷ 2 ∷ 1 ∷ []) $
-    by ! (leaves 𝓛 ended stayed c z w (record { at = block_ptr b o; alloc = held.alloc; value = x.0 }) (tt, tt) (tt, tt))))))
+    by ! (leaves 𝓛 ended stayed c z w (record { at = block_ptr b o; alloc = held.alloc; value = x.0 }) (tt, tt)
+    (tt, tt))))))

@@ -8,7 +8,8 @@ use base.Logic.{SProp, ent, emp, never, id⊢, fst∗}
 use base.Fml.{ftrue, fsep, flft}
 use prog.Wp.{WpFn}
 use types.Logic.{sem}
-use types.Kit.{Item, ‵, raw, ◌⊛◌, some, later, ◌$◌, ◌∵◌, !, qed, by, move, keep, drop, split, split3, join, fsplit, fjoin, fpick, pick, suffices, use0, use1, await, rewrite, feq_l}
+use types.Kit.{Item, ‵, raw, ◌⊛◌, some, later, ◌$◌, ◌∵◌, !, qed, by, move, keep, drop, split, split3, join, fsplit}
+use types.Kit.{fjoin, fpick, pick, suffices, use0, use1, await, rewrite, feq_l}
 use types.Run.{stop, fld, of_opd, no_more, and_then, returns, enter}
 use types.ByLocal.{alloc_all, pass_all, free_all, look_at, get, get_in, sets, lands_as}
 use types.Part.{agg, sub, whole}
@@ -73,20 +74,24 @@ of_spec 𝓤 𝓛 𝓜 𝓡 wired T A L LA g d dx dd allocator glue glued =
     let y : callee_is.Ghost = ((κs, qs, tt, (x, tt), (w ∷ [], tt)), tt) in
     -- [the box; nothing; the tokens; what is asked]
     fjoin ! $ move ! (1 ∷ 0 ∷ []) $ join ! $ join ! $ use1 𝓛 (raw (callee_is.pre y)) (id⊢ 𝓤 _) $
-    suffices ! (Runs (w ∷ [])) (subst (λ (us : List Val). ent 𝓤 (Runs (w ∷ [])) (Runs us)) (sym (λ i. is i ++ [])) (id⊢ 𝓤 (Runs (w ∷ [])))) $
+    suffices ! (Runs (w ∷ [])) (subst (λ (us : List Val). ent 𝓤 (Runs (w ∷ [])) (Runs us)) (sym (λ i. is i ++ []))
+    (id⊢ 𝓤 (Runs (w ∷ [])))) $
     enter ! 𝓣.C 𝓣.Λ fn (w ∷ []) Post $ alloc_all ! (λ l. pass_all ! refl (fits, tt) $
     sets ! (of_opd ! (get ! refl)) refl fits $
     calls_at ! (fm 𝓛 𝓜 𝓡) callee_is
-    (met 𝓤 𝓛 𝓜 𝓡 (code.calls-std_alloc::boxed::Box::into_raw_with_allocator 𝓡.env wired) T A L LA g d dd dx allocator glued glue) y
+    (met 𝓤 𝓛 𝓜 𝓡 (code.calls-std_alloc::boxed::Box::into_raw_with_allocator 𝓡.env wired) T A L LA g d dd dx allocator
+    glued glue) y
     (and_then ! (get ! refl) (no_more !)) (λ v.
     use1 𝓛 (later (some (λ (r : Ptr × A.Denot). (alive ⊛ ‵ (Pair.own_val r (v ∷ [])))
     ⊛ some (λ (ls : Last). ‵ (lasts (callee.ended T A g d dd dx) κs (x, tt) ls)
     ⊛ (raw (fact 𝓤 (r.1 ≡ a)) ⊛ ‵ (box_owns (g.dealloc_token a) R r.0 x.value)))))) (id⊢ 𝓤 (callee_is.post y v)) $
-    await ! tt $ pick ! (λ r. split ! $ move ! (1 ∷ []) $ pick ! (λ _. split3 ! $ drop ! $ heard ! (r.1 ≡ a) (λ handle_is.
+    await ! tt $ pick ! (λ r. split ! $ move ! (1 ∷ []) $ pick !
+    (λ _. split3 ! $ drop ! $ heard ! (r.1 ≡ a) (λ handle_is.
     -- [what a box owns at the address; the tokens with the pair; ..]
     in_a_block ! r.0 (λ p. box_owns (g.dealloc_token a) R p x.value)
     (fst∗ 𝓤 (never 𝓤) (sem 𝓛 (g.dealloc_token a (bare (layout T)) null_ptr))) (λ b' o' at'.
-    move ! (1 ∷ []) $ split ! $ move ! (1 ∷ []) $ fpick ! (λ parts. fsplit ! $ feq_l ! (λ pair_is. fsplit ! $ feq_l ! (λ first. fsplit ! $
+    move ! (1 ∷ []) $ split ! $ move ! (1 ∷ []) $ fpick ! (λ parts. fsplit ! $ feq_l !
+    (λ pair_is. fsplit ! $ feq_l ! (λ first. fsplit ! $
     rewrite ! 0 (λ (s : A.Denot). ‵ (A.own_val s parts.1.0)) handle_is refl $
     handle_tells boxed.al ! a parts.1.0 (λ h' second good'.
     let made = unboxed_good R Z LZ g b' o' h' good' in
