@@ -11,8 +11,7 @@ use std::rt::Files;
 use std::thread::Threads;
 
 /// What the help says of `check`.
-pub const ABOUT: &str =
-    "Judges a trace for the hierarchy that a configuration says, and prints one line";
+pub const ABOUT: &str = "Judges a trace for the hierarchy of a configuration, and prints one line";
 
 /// What the help says after the arguments.
 pub const HELP: &str = "\
@@ -27,25 +26,26 @@ Answers:
   no cycle logs=0,1                  the logs wait for one another
   no incomplete port=0 tag=3         with --complete alone: the tag's last
                                      request has no reply in the trace
-  refused format Truncated at=16     the bytes are no trace from this one on
+  refused format Truncated at=16     the record or header at byte 16 is wrong
   refused header Ports               the trace is one of another hierarchy
-  refused config Missing tags        the configuration says no hierarchy
+  refused config Missing tags        the configuration is not valid
   refused read trace                 the file cannot be read
-  refused read config                the file cannot be read
+  refused read config                the file cannot be read, or has more
+                                     than 1 MiB
   refused workers 17                 there are 1 to 16
-  refused usage                      the words are none of a command
+  refused usage                      the command line is wrong
   refused memory                     there is not enough memory
 
 Places, numbers, ports, banks and logs count from 0. docs/RULES.md has
 each rule, docs/GUIDE.md what usually breaks it.
 
-A trace may end anywhere, so one of a design that hangs can be legal. With
---complete, a legal trace is also asked for a reply to each request, and
-the lowest tag of the lowest port that has none is told. One thread judges
-it then.
+A trace may end anywhere, so the trace of a design that hangs can be legal.
+With --complete, each request of a legal trace must also have a reply. The
+line names the lowest port and its lowest tag without one. One thread judges
+the trace then.
 
-With --progress, standard error has a line for each twentieth of a file,
-and for each 64 MiB of a TRACE whose size is not known. Without it nothing
+With --progress, standard error gets a line for each twentieth of a file,
+or for each 64 MiB of a TRACE whose size is not known. Without it nothing
 is written there.
 
 Exit status:

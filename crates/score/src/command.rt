@@ -1,6 +1,7 @@
 //! What the command line asks for.
 
 use crate::check::CheckOptions;
+use crate::explain::ExplainOptions;
 use crate::trace::STANDARD_INPUT;
 use crate::view::Window;
 use crate::{
@@ -30,12 +31,11 @@ pub enum Request<'a> {
         trace: &'a str,
         progress: bool,
     },
-    /// Judge the trace in a file for the configuration in a file, and tell why a record breaks a rule, with so
-    /// many records before it.
+    /// Judge the trace in a file for the configuration in a file, and tell why the verdict is what it is.
     Explain {
         config: &'a str,
         trace: &'a str,
-        events: u16,
+        options: ExplainOptions<'a>,
     },
     /// Count what the trace in a file reached, judged for the configuration in a file, and write Verilator's file where
     /// it is asked for.
@@ -152,13 +152,20 @@ fn explain_command<'a>(alloc: Global) -> Result<Command<'a>, AllocError> {
         .value_name("N")
         .value_parser(value_parser!(u16))
         .default_value("15")
-        .help("How many records before it are told");
+        .help("How many records before it are printed at most");
+    let json = Arg::new(alloc, "json")
+        .long("json")
+        .action(ArgAction::SetTrue)
+        .help("Prints the answer as JSON");
     Command::new(alloc, "explain")
         .about(explain::ABOUT)
         .after_help(explain::HELP)
         .arg(config_arg(alloc))?
         .arg(trace_arg(alloc))?
-        .arg(events)
+        .arg(events)?
+        .arg(value_arg(alloc, "map", "FILE").help("The times of the records"))?
+        .arg(json)?
+        .arg(progress_arg(alloc))
 }
 
 fn cover_command<'a>(alloc: Global) -> Result<Command<'a>, AllocError> {
@@ -223,7 +230,7 @@ fn dump_command<'a>(alloc: Global) -> Result<Command<'a>, AllocError> {
         .arg(
             value_arg(alloc, "last", "N")
                 .value_parser(value_parser!(u32))
-                .help("Only the last so many of the records"),
+                .help("Only the last N of these records"),
         )
 }
 
@@ -344,7 +351,12 @@ fn explain_request<'a>(matches: &ArgMatches<'a>) -> Option<Request<'a>> {
     Some(Request::Explain {
         config,
         trace,
-        events: matches.get_one::<u16>("events")?,
+        options: ExplainOptions {
+            events: matches.get_one::<u16>("events")?,
+            map: matches.get_str("map"),
+            json: matches.get_flag("json"),
+            progress: matches.get_flag("progress"),
+        },
     })
 }
 

@@ -32,7 +32,8 @@ each level:
                                           much of the line is dirty
   evict2_dirty_N    evictions of level two with N dirty blocks
   hit_under_miss    hits while a register of level one is held
-  registers_N       misses after which N registers of level one are held
+  registers_N       misses that took a free register of level one, after
+                    which N are held
   stall_no_register stall_no_entry stall_field    stalls by their cause
   second_stall_no_register second_stall_no_entry  the same of level two
   targets_N second_targets_N    merges after which N misses wait
@@ -41,7 +42,8 @@ each level:
   merge_port_N                  merges of port N
   load_behind_load store_behind_load      merges by the kind of their
   load_behind_store store_behind_store    request and of the one before
-  refetched second_refetched    misses of a block that was written back
+  refetched second_refetched    primary misses of a block that was written
+                                back
   fill1_out_of_order            blocks before one asked for earlier
   fill1_over_stores             blocks for which a store waits
 
@@ -58,8 +60,8 @@ traces and of the design. TRACE is then kept in memory, and has less than
 4 GiB. FILE is written beside its place first and then renamed, and only
 then come the lines. A FILE of - is refused.
 
-Where check says no or refused, cover prints that line, and writes no FILE;
-see score help check. --progress is that of check.
+If check says no or refused, cover prints that line, and writes no FILE; see
+score help check. --progress is that of check.
 
 Exit status:
   0  the trace is legal

@@ -24,12 +24,12 @@ A line for the header, for each memory record, for each event record and
 for the end, with the offset of its first byte. Numbers are decimal,
 addresses and masks hexadecimal, and bytes stand in the order of the trace.
 
-With an option, only the lines of the records that agree with all options
-are printed, beside those of the header and of the end. The line of the
-header ends with the word part then, and assemble refuses such a text.
-With --last, nothing is printed before the trace ends.
+With an option, only the lines of the records that meet all options are
+printed, with those of the header and of the end. The line of the header
+ends with the word part then, and assemble refuses such a text. With --last,
+nothing is printed before the trace ends.
 
-Where the bytes are no trace, the last line says so, behind what was read:
+If the bytes are not a trace, the last line says so, after what was read:
   refused format Truncated at=48
   refused read trace
   refused memory

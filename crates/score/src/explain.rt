@@ -1,17 +1,21 @@
-//! `score explain`: judges a trace, and prints why it is not legal.
+//! `score explain`: judges a trace, and prints why the verdict is what it is.
 
 use crate::configuration::{bytes_at, text_in};
-use crate::trace::Trace;
-use crate::{refused, status_of};
-use lf_engine::{Counted, run_explain};
+use crate::map::times_if;
+use crate::progress::reader_of;
+use crate::{REFUSED, status_of};
+use lf_engine::{Asked, Counted, run_explain, run_explain_json};
+use lf_json::{no_memory_json, refused_json};
 use lf_refusal::ConfigRefusal;
+use lf_rules::NoMemory;
 use lf_verdict::{Refusal, Verdict};
-use std::io;
+use std::alloc::Global;
 use std::process::ExitCode;
 use std::rt::Files;
+use std::{fmt, io};
 
 /// What the help says of `explain`.
-pub const ABOUT: &str = "Judges a trace, and prints why it is not legal";
+pub const ABOUT: &str = "Judges a trace, and prints why the answer is what it is";
 
 /// What the help says after the arguments.
 pub const HELP: &str = "\
@@ -35,36 +39,56 @@ Answers:
   before it:
   load port=0 bank=0 number=0 tag=0 size=1 address=0x0 ; at 16
 
-The first line is that of check; see score help check. What follows stands
-behind an empty line. Each record is told as dump tells it, with the offset
-of its first byte in the trace.
+The first line is that of check; see score help check. The rest comes after
+an empty line. Each record is printed as dump prints it, with the offset of
+its first byte in the trace.
 
-Where a record of a port or of a bank breaks a rule, that record is told,
-what the rule asks, what a bank has of the block that the record names, and
-the last records before it that matter, the latest last. Of ReplyData,
-FillData and EvictData it tells which bytes were expected and which were
-found. Bytes of a fill that waiting stores write are not judged, and are
-told as they were found. Of EvictMask it tells the masks.
+If a record of a port or of a bank breaks a rule, explain prints the record,
+what the rule asks, the state of the blocks that a bank's record names, the
+records that this state comes from, and the last records before it that
+matter, the latest last. For ReplyData, FillData and EvictData it prints the
+expected bytes and those that were found; bytes of a fill that waiting stores
+write are not judged, and are printed as they were found. For EvictMask it
+prints the masks.
 
-Of a bank's rule it tells the state of each block that the record names,
-before that record: the line of each level with its dirty masks, whether a
-register of each level holds it, which bytes its waiting stores write,
-whether level one asks level two for it, whether level two has supplied it
-and level one has not got it yet, and its bytes in memory.
+The state of a block is that before the record: the line of each level with
+its dirty masks, whether a register of each level holds the block, the bytes
+that its waiting stores write, whether level one asks level two for it,
+whether level two has supplied it and level one has not got it yet, and its
+bytes in memory.
 
-Before a record of a port, those of its log matter. Before a record of a
-bank, those of the bank that touch the same second-level block do, in the
-order of their numbers: from all logs, and no others. A record that names
-a port and a tag touches the block of the port's last request with it.
+Before a record of a port, the records of its log matter. Before a record of
+a bank, those of the bank that touch the same second-level block do, from all
+logs, in the order of their numbers. A record that names a port and a tag
+touches the block of the port's last request with that tag.
 
-Where a number is missing or double, the records beside it are told, and
-where logs wait for one another, which record waits for which. Where
-something broke before in the trace, that is told last, in the same way.
+If a number is missing or double, explain prints the records beside it, and
+if logs wait for one another, which record waits for which. If something else
+broke earlier in the trace, it prints that last, in the same way.
 
-Of a yes it tells what the trace used at most of what the configuration
-has. A configuration that is larger than the design hides faults. Of a
-configuration that is refused it tells what the key may have, and the line
-of the file.
+For a yes it prints what the trace used at most of what the configuration
+has. A configuration that is larger than the design hides faults. For bytes
+that are not a trace it prints the part that is wrong, its field, the value
+and what is allowed; for a trace of another hierarchy, each number that
+differs; for a configuration that is refused, what the key may have, and its
+line.
+
+With --map FILE each record is printed with its time. FILE is the time map
+that a recorder wrote beside the trace. It has a line for each record: its
+log (the ports' logs come first), its place in that log from 0 on, and its
+time.
+
+  0 0 45
+  2 0 55
+
+A map that cannot be read is refused before the trace is read:
+
+  refused read map
+  refused map NotText
+  refused map line=2 expected the number of a log, 0 to 255
+
+With --json the answer is one object; docs/JSON.md lists its fields.
+--progress is that of check.
 
 Exit status:
   0  yes
@@ -74,6 +98,8 @@ Exit status:
 Examples:
   score explain small.toml run.lfts
   score explain --events 40 small.toml run.lfts
+  score explain --map run.map small.toml run.lfts
+  score explain --json small.toml run.lfts | jq .fault.record
   zstd -dc run.lfts.zst | score explain small.toml -";
 
 /// Tells what the key of a configuration that is refused may have.
@@ -85,12 +111,50 @@ fn tell_config<T: Print>(rt: &T, verdict: &Verdict, text: &str) -> io::Result<()
     print!(rt; "\n{why}")
 }
 
-/// Judges the configuration before the trace is read.
-pub fn explain<T: Print + Input + Files + AllocGlobal>(
+/// The JSON of a trace that is not judged.
+fn json_of<D: fmt::Display>(alloc: Global, why: &D) -> Result<String, NoMemory> {
+    let line = format!(in alloc; "refused {why}")?;
+    refused_json(alloc, line.as_str())
+}
+
+/// Prints why the trace is not judged.
+fn not_judged<T: Print + AllocGlobal, D: fmt::Display>(
+    rt: &T,
+    why: &D,
+    json: bool,
+) -> io::Result<ExitCode> {
+    if json {
+        let answer = json_of(rt.alloc(), why);
+        let text = match &answer {
+            Ok(text) => text.as_str(),
+            Err(NoMemory) => no_memory_json(),
+        };
+        print!(rt; "{text}")?;
+    } else {
+        println!(rt; "refused {why}")?;
+    }
+    Ok(ExitCode::from(REFUSED))
+}
+
+/// What `explain` is asked for beside the verdict.
+#[derive(Clone, Copy, Debug, PartialEq, Eq)]
+pub struct ExplainOptions<'a> {
+    /// How many records before one that breaks a rule are told.
+    pub events: u16,
+    /// The file in which a recorder wrote the time of each record.
+    pub map: Option<&'a str>,
+    /// The answer is printed as JSON.
+    pub json: bool,
+    /// Standard error shows how far the trace is read.
+    pub progress: bool,
+}
+
+/// Judges the configuration and reads the map before the trace is read.
+pub fn explain<T: Print + Eprint + Input + Files + AllocGlobal>(
     rt: &T,
     config: &str,
     trace: &str,
-    events: u16,
+    options: ExplainOptions<'_>,
 ) -> io::Result<ExitCode>
 where
     T::File: Drop,
@@ -98,11 +162,23 @@ where
     let read = bytes_at(rt, config);
     let text = match text_in(&read) {
         Ok(text) => text,
-        Err(why) => return refused(rt, why),
+        Err(why) => return not_judged(rt, &why, options.json),
     };
-    let mut reader = Counted::new(Trace::open(rt, trace));
+    let times = match times_if(rt, options.map) {
+        Ok(times) => times,
+        Err(why) => return not_judged(rt, &why, options.json),
+    };
+    let asked = Asked {
+        most: options.events,
+        times: times.as_ref(),
+    };
+    let mut reader = Counted::new(reader_of(rt, trace, options.progress));
     let mut writer = Counted::new(io::writer(rt));
-    let answer = run_explain(rt, &mut reader, &mut writer, text, events, u32::MAX);
+    if options.json {
+        let answer = run_explain_json(rt, &mut reader, &mut writer, text, &asked, u32::MAX);
+        return Ok(status_of(&answer));
+    }
+    let answer = run_explain(rt, &mut reader, &mut writer, text, &asked, u32::MAX);
     if let Ok(verdict) = &answer {
         tell_config(rt, verdict, text)?;
     }

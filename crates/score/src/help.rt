@@ -10,7 +10,7 @@ score help COMMAND has the answers of a command, its exit status and
 examples.
 
 Standard input:
-A CONFIG, a TRACE or a TEXT of - is standard input. A file of that name
+A CONFIG, a TRACE or a TEXT of - is standard input. A file that is called -
 is ./-.
 
 Exit status:
@@ -34,8 +34,9 @@ and the tables level1 and level2, each with the keys
   registers     how many registers each bank has; not for inverted
   entries       how many targets a register has; only for explicit
 
-level2 may have the key blocks: of how many first-level blocks its blocks
-are, 1, 2 or 4. Without it that is 1.
+level2 may have the key blocks: how many first-level blocks make one block
+of level two, 1, 2 or 4. Without it that is 1. docs/RULES.md has the limits
+of each key.
 
 Traces:
 TRACE is of version 1, 2 or 3 of the format LFTS. Version 2 adds fences

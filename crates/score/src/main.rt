@@ -16,6 +16,7 @@ mod demonstration;
 mod dump;
 mod explain;
 mod help;
+mod map;
 mod output;
 mod progress;
 mod shrink;
@@ -125,8 +126,8 @@ where
         Request::Explain {
             config,
             trace,
-            events,
-        } => explain(rt, config, trace, events),
+            options,
+        } => explain(rt, config, trace, options),
         Request::Cover {
             config,
             trace,

@@ -17,28 +17,27 @@ pub const ABOUT: &str = "Searches for a smaller trace with the same rule broken,
 pub const HELP: &str = "\
 Answers:
   no bank=0 number=2 rule=ReplyData       what check says of OUT
-  shrunk events=20000 to=9 checks=312     TRACE has so many events, OUT has
-                                          so many, and so many were tried
+  shrunk events=20000 to=9 checks=312     TRACE has 20000 events, OUT has 9,
+                                          and 312 traces were tried
   yes events=6                            there is nothing to search for
   refused write                           OUT cannot be written
 
-Where a port or a bank breaks a rule, OUT breaks the same rule, by an
-event of the same kind: a reply, say, as in TRACE. The search leaves out
-what stands behind the fault, then banks, ports, blocks and requests, then
-replies, and at last single events. It numbers the events of each bank
-anew, gives requests other tags where that lets a reply be left out, and
-keeps what check says no to for the same reason. Of a bank's event, the
-last 8 before it at its second-level block stay, since they show why, and
-fewer of them where 30 events or more would be left. What is left need not
-be the smallest trace there is. Where nothing smaller is found, OUT is
-TRACE.
+If a port or a bank breaks a rule, OUT breaks the same rule by an event of
+the same kind, for example a reply as in TRACE. The search leaves out what
+comes after the fault, then banks, ports, blocks and requests, then replies,
+and at last single events. It numbers the events of each bank again, gives
+requests other tags if a reply can be left out then, and keeps each trace to
+which check says no for the same reason. The last 8 events before a bank's
+event at its second-level block stay, since they show why; fewer of them
+stay if 30 events or more would be left. OUT need not be the smallest such
+trace. If nothing smaller is found, OUT is TRACE.
 
-For all else the line is that of check, and nothing is written; see score
-help check.
+For any other answer the line is that of check, and nothing is written; see
+score help check.
 
-OUT is written beside its place first and then renamed. An OUT of - is
-standard output: then the lines go to standard error. Where standard error
-is a terminal, it shows how far the search is.
+OUT is written beside its place first and then renamed. If OUT is -, it is
+standard output, and the lines go to standard error. If standard error is a
+terminal, it shows how far the search is.
 
 Exit status:
   0  yes: there is nothing to search for

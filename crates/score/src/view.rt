@@ -23,26 +23,28 @@ pub const ABOUT: &str = "Writes a waveform of a trace, which GTKWave shows";
 /// What the help says after the arguments.
 pub const HELP: &str = "\
 The line is that of check; see score help check. For a yes or a no, OUT is
-written, in the text form VCD. Beside it stands a file that has GTKWave show
-all signals: OUT with .gtkw in the place of .vcd.
+written, in the text form VCD. A second file makes GTKWave show all signals:
+its name is that of OUT with .gtkw instead of .vcd.
 
 The record at place N of TRACE, from 0, stands at N nanoseconds. A port has
 its record (event), with tag and address, how many of its requests have no
 reply (outstanding), and whether each tag is busy. A bank has its record, its
 number, its block, the port and the tag of its request, its register, how many
-registers of each level are held, and for each of the first 64 registers of a
-level the block that it holds (z: none) and how many targets wait in it.
-Where a record of a port or of a bank breaks a rule, fault rises at that
-record, and rule is the name of the rule.
+registers of each level are held, how many blocks level one asks level two for
+(asked), how many level two has supplied that are not filled in (supplied),
+how many lines of each level are dirty, and for each of the first 64 registers
+of a level the block that it holds (z: none) and how many targets wait in it.
+If a record of a port or of a bank breaks a rule, fault rises at that record,
+and rule is the name of the rule.
 
 Without --from, the waveform begins 200 records before the one that breaks a
 rule, and without --to it ends with that one. Otherwise it is that of the
 whole trace.
 
-A TRACE that is no regular file is kept in memory. OUT is written beside its
-place first and then renamed. An OUT of - is standard output: then the line
-goes to standard error, and there is no second file. Where standard error is
-a terminal, it shows how far a long TRACE is read.
+A TRACE that is a pipe or a FIFO is kept in memory. OUT is written beside its
+place first and then renamed. If OUT is -, it is standard output, the line
+goes to standard error, and there is no second file. If standard error is a
+terminal, it shows how far a long TRACE is read.
 
 Answers:
   no bank=0 number=5 rule=ReplyData  what check says; OUT is written

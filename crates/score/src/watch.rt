@@ -10,8 +10,7 @@ use std::process::ExitCode;
 use std::rt::Files;
 
 /// What the help says of `watch`.
-pub const ABOUT: &str =
-    "Judges a trace while it comes, and ends at the first fault that no bytes behind it can undo";
+pub const ABOUT: &str = "Judges a trace while it comes, and stops at the first fault that is final";
 
 /// What the help says after the arguments.
 pub const HELP: &str = "\
@@ -23,15 +22,15 @@ Answers:
 
 The first three name the fault as check does, and the event of the trace
 upon which a port or a bank broke first: here the one at place 1 of log 0,
-which begins at byte 104 of the trace. The line comes within the read that
-completes that record. The last one says that the trace is one of another
-hierarchy.
+which begins at byte 104 of the trace. The line is printed as soon as that
+record is read. The last one says that the trace is one of another
+hierarchy. No bytes that follow can make such a trace legal.
 
-Where nothing broke before the end of the trace, the line is that of
-check; see score help check.
+If nothing broke before the end of the trace, the line is that of check;
+see score help check.
 
-So a simulation ends by a closed pipe as soon as its trace cannot become a
-legal one. TRACE may be a FIFO too.
+The pipe is closed then, which ends a simulation that writes its trace into
+it. TRACE may be a FIFO too.
 
 Exit status:
   0  yes

@@ -3,6 +3,7 @@
 use crate::check::CheckOptions;
 use crate::command::{CommandFault, Request, asked};
 use crate::configuration::{MOST_BYTES, bytes_at, bytes_within, text_in};
+use crate::explain::ExplainOptions;
 use crate::progress::{Progress, line_of};
 use crate::tests::demonstration::SMALL_TEXT;
 use crate::trace::Trace;
@@ -145,7 +146,7 @@ fn help_is_asked_for(rt: HostRuntime) -> Result<(), Fail> {
     }
     let demo = ["demo events=200", "refused turns", "Examples:"];
     has_help(&rt, "score help demo", demo.as_slice())?;
-    let watch = ["broken header Ports", "closed pipe", "Examples:"];
+    let watch = ["broken header Ports", "simulate | score watch", "Examples:"];
     has_help(&rt, "score help watch", watch.as_slice())?;
     let explain = ["before it:", "--events <N>", "[default: 15]", "Examples:"];
     has_help(&rt, "score help explain", explain.as_slice())?;
@@ -250,13 +251,25 @@ fn configuration_that_never_ends(rt: HostRuntime) -> Result<(), Fail> {
     assert_text(&rt, &endless, Err(InputFault::ReadConfig))
 }
 
-/// Fails where the words ask for another explanation than one with so many records.
-fn is_explain<T: Abort + AllocGlobal>(rt: &T, line: &str, events: u16) -> Result<(), Fail> {
+/// What `explain` is asked for where nothing is said.
+const EXPLAIN: ExplainOptions<'static> = ExplainOptions {
+    events: 15,
+    map: None,
+    json: false,
+    progress: false,
+};
+
+/// Fails where the words ask for another explanation.
+fn is_explain<T: Abort + AllocGlobal>(
+    rt: &T,
+    line: &str,
+    options: ExplainOptions<'static>,
+) -> Result<(), Fail> {
     let words = words_of(rt.alloc(), line)?;
     let explain = Request::Explain {
         config: "c.toml",
         trace: "a.lfts",
-        events,
+        options,
     };
     assert_eq!(rt;
         asked(rt.alloc(), words.as_slice()).ok(),
@@ -268,9 +281,20 @@ fn is_explain<T: Abort + AllocGlobal>(rt: &T, line: &str, events: u16) -> Result
 
 #[test]
 fn words_of_explain(rt: HostRuntime) -> Result<(), Fail> {
-    is_explain(&rt, "score explain c.toml a.lfts", 15)?;
-    is_explain(&rt, "score explain --events 0 c.toml a.lfts", 0)?;
-    is_explain(&rt, "score explain c.toml a.lfts --events=65535", 65535)?;
+    is_explain(&rt, "score explain c.toml a.lfts", EXPLAIN)?;
+    let none = ExplainOptions {
+        events: 0,
+        ..EXPLAIN
+    };
+    is_explain(&rt, "score explain --events 0 c.toml a.lfts", none)?;
+    let all = ExplainOptions {
+        events: 65535,
+        map: Some("a.map"),
+        json: true,
+        progress: true,
+    };
+    let line = "score explain c.toml a.lfts --events=65535 --map a.map --json --progress";
+    is_explain(&rt, line, all)?;
     for line in [
         "score explain",
         "score explain c.toml",
