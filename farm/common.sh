@@ -1,8 +1,8 @@
 # shellcheck shell=bash
-# What parallel.sh and slurm/run.sh share: the folder of a run, and its table. The folder has
-#   of          the sums of the configuration and of the list, and the version of the program
+# Shared by parallel.sh and slurm/run.sh: the folder of a run, and its table. The folder has
+#   of          the checksums of the configuration and of the list, and the version of the program
 #   list        the traces, one in each line
-#   rows/N      the row of the trace in line N, once there is one
+#   rows/N      the row of the trace in line N, when it was judged
 #   table.tsv   the rows of all traces, in the order of the list
 
 die() {
@@ -10,7 +10,7 @@ die() {
   exit 64
 }
 
-# begin CONFIG LIST OUT: makes the folder, or goes on with what is there. Sets SCORE, config and out.
+# begin CONFIG LIST OUT: makes the folder, or continues the run in it. Sets SCORE, config and out.
 begin() {
   SCORE=$(command -v "${SCORE:-score}") || die "there is no program score: name it by SCORE"
   config=$(realpath -e -- "$1") || exit 64
@@ -32,7 +32,7 @@ begin() {
   fi
 }
 
-# The traces that have no answer yet, each with its line in the list. A refusal for out of memory is none.
+# The traces that have no answer yet, each with its line in the list. `refused memory` is not an answer.
 todo() {
   awk -v OFS='\t' -v rows="$out/rows/" '{
     row = ""; file = rows NR; getline row < file; close(file)

@@ -1,12 +1,12 @@
 #!/usr/bin/env bash
 # Judges one trace, and prints its row of the table: status, microseconds, trace, line, host, restarts (docs/FARM.md).
-#   judge_one.sh CONFIG TRACE [ROW]      with ROW the row is written to that file, whole or not at all
+#   judge_one.sh CONFIG TRACE [ROW]      with ROW the row is written to that file, completely or not at all
 # From the environment: SCORE, the program (score); LIMIT, the seconds that it may take (600); TRIES, how often it is
-# run where no answer comes (3); BEGUN, how often others began this trace before (0).
-# The status is 0 where the row is an answer, and 3 where the trace has to be judged again.
+# run if it gives no answer (3); BEGUN, how often this trace was begun before (0).
+# The exit status is 0 if the row is an answer, and 3 if the trace must be judged again.
 set -uo pipefail
 export LC_ALL=C
-exec 9>&- # the lock of a run: those hold it that hand out traces
+exec 9>&- # the lock of a run: only the scripts that hand out traces hold it
 
 if [ $# -lt 2 ]; then
   echo "usage: judge_one.sh CONFIG TRACE [ROW]" >&2
@@ -30,7 +30,7 @@ for ((restarts = ${BEGUN:-0}, try = 1; ; restarts++, try++)); do
   if is_answer "$status" "$line" || ((try >= ${TRIES:-3})); then
     break
   fi
-  sleep "$try" # what had no memory may have some when others have ended
+  sleep "$try" # memory may be free when other programs have ended
 done
 
 answered=0

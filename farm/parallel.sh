@@ -1,9 +1,10 @@
 #!/usr/bin/env bash
-# Judges the traces of a list on this machine, by GNU parallel.
-#   parallel.sh CONFIG LIST OUT [JOBS]      LIST has the path of a trace in each line; JOBS at once, one a processor
-# Writes OUT/table.tsv (docs/FARM.md). Called again it goes on where it was, and judges only what has no answer; another
-# list, configuration or program is refused. The status is 0 where all answers are yes, 1 where one is no, 2 where one
-# is refused, 3 where a trace has no answer. From the environment: SCORE, LIMIT and TRIES, as judge_one.sh says.
+# Judges the traces of a list on this machine, with GNU parallel.
+#   parallel.sh CONFIG LIST OUT [JOBS]      LIST has the path of a trace in each line; JOBS run at once, by default one
+#                                           for each processor
+# Writes OUT/table.tsv (docs/FARM.md). Called again, it judges only the traces without an answer; another list,
+# configuration or program is refused. The exit status is 3 if a trace has no answer, else 2 if one is refused, else 1
+# if one gets a no, else 0. From the environment: SCORE, LIMIT and TRIES, as judge_one.sh says.
 set -uo pipefail
 here=$(cd "$(dirname "$0")" && pwd) || exit 64
 # shellcheck source-path=SCRIPTDIR source=common.sh

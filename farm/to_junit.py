@@ -3,11 +3,11 @@
 
     to_junit.py [--due DUE] [--out REPORT] [NAME=]TABLE ..
 
-A table is as docs/FARM.md says. A trace passes where its answer is yes. A no is a failure, whose type is the rule that
-was broken. A refusal and a trace without answer are an error. DUE has lines `TRACE<tab>WORD` or
-`TRACE<tab>WORD<tab>RULE` for traces whose answer has to be another one, as of a design with a known fault: such a trace
-passes where its answer has that word and, if a rule is named, that rule. One that no table has is an error. The status
-is 0 where all pass, and 1 otherwise."""
+A table has the form of docs/FARM.md. A trace passes if its answer is yes. A no is a failure, and its type is the rule
+that was broken. A refusal and a trace without an answer are errors. DUE has lines `TRACE<tab>WORD` or
+`TRACE<tab>WORD<tab>RULE` for traces that must have another answer, for example those of a design with a known fault.
+Such a trace passes if its answer has that word and, if a rule is named, that rule. If it is in no table, that is an
+error. The exit status is 0 if all pass, and 1 otherwise."""
 
 from __future__ import annotations
 

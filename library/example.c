@@ -1,4 +1,4 @@
-// Judges a trace as a simulator would: piece by piece, and no further than to what broke.
+// Judges a trace as a simulator would: piece by piece, and only up to the first final fault.
 //
 //     cc -o judge example.c $(pkg-config --cflags --libs wudzark) && ./judge CONFIG TRACE
 
@@ -6,7 +6,7 @@
 
 #include <stdio.h>
 
-// The last line and status. What broke is the last word of a simulation that stops there.
+// The last answer, with its line. After a final fault no more is read.
 static wudzark_answer judge(wudzark_board *board, FILE *trace, char *line) {
     char piece[64];
     size_t length;
@@ -15,7 +15,7 @@ static wudzark_answer judge(wudzark_board *board, FILE *trace, char *line) {
         if (wudzark_feed(board, piece, length) != WUDZARK_FINE) break;
         answer = wudzark_broken(board, line, WUDZARK_LINE_BYTES);
         if (answer.status != WUDZARK_FINE) {
-            wudzark_finish(board, line, 0); // closes the board, and leaves the line
+            wudzark_finish(board, line, 0); // closes the board, and keeps the line
             return answer;
         }
     }

@@ -3,8 +3,8 @@
 // For C99 and C++11; a class for C++17 stands at the end. Link libwudzark.a. Its calls are proved: what each of them
 // answers is a contract that the code was checked against, and docs/TRUST.md says what that means for a caller in C.
 //
-// A board judges one trace. Open it for a hierarchy, feed it the bytes of the trace in pieces of any length, ask after
-// each whether something broke for good, and finish it for the verdict:
+// A board judges one trace. Open it for a hierarchy, and feed it the bytes of the trace in pieces of any length. Ask
+// after each piece whether there is a final fault. Finish the board for the verdict:
 //
 //     wudzark_board board = WUDZARK_BOARD;
 //     char line[WUDZARK_LINE_BYTES];
@@ -16,24 +16,24 @@
 //     answer = wudzark_finish(&board, line, sizeof line);
 //
 // A line is what `score` prints for the same bytes, without a newline and without a zero at its end. `length` is that
-// of the whole line. As many bytes of it are written as there is room for, and none behind them. A length of 0 says
-// that there is no line, or that memory ran out while it was made: the status holds all the same.
+// of the whole line. Only as many bytes of it are written as there is room for. A length of 0 says that there is no
+// line, or that memory ran out while the line was made; the status is right in both cases.
 //
-// Boards share nothing, so a program may have as many as it likes, one on each of its threads for example. The library
-// keeps nothing itself: it reads no file, starts no thread, prints nothing, and never ends the process. Where memory
-// runs out it answers so.
+// Boards share nothing, so a program may have any number of them, for example one on each thread. The library keeps
+// nothing itself: it reads no file, starts no thread, prints nothing, and never ends the process. If memory runs out,
+// the call says so.
 //
-// What a caller must keep to, since nothing checks code in C:
+// A caller must keep these conditions, since nothing checks code in C:
 //
-//     | of             | what                                                                                       |
-//     |----------------|--------------------------------------------------------------------------------------------|
+//     | about          | condition                                                                                   |
+//     |----------------|---------------------------------------------------------------------------------------------|
 //     | a board        | it is made by WUDZARK_BOARD, or of zeros, and after that only the calls write to it         |
 //     | a board        | while it is open it stays where it is: it is not copied, and not freed                      |
-//     | a board        | it is used by one thread alone, from its opening on, and by one call at a time              |
-//     | a board        | it is finished, or what it keeps is never freed                                             |
-//     | a pointer      | it is no NULL, not even for 0 bytes, and that many bytes can be read there, or written      |
+//     | a board        | from its opening on only one thread uses it, with one call at a time                        |
+//     | a board        | it is finished; otherwise its memory is never freed                                         |
+//     | a pointer      | it is not NULL, not even for 0 bytes, and that many bytes can be read or written there      |
 //     | a call         | none of its arguments overlap: the board, the bytes that are read, the line                 |
-//     | a call         | none in a signal handler, or in the child that a process with threads forked                |
+//     | a call         | not in a signal handler, and not in the forked child of a process with threads              |
 //     | the C library  | malloc, realloc and free are one allocator, and align blocks as C says, up to 16 bytes      |
 
 #ifndef WUDZARK_H
@@ -50,12 +50,12 @@ extern "C" {
 // The status of an answer: that of `score` for the same bytes.
 enum {
     WUDZARK_FINE = 0,    // opened, taken, nothing broke so far, or a yes
-    WUDZARK_BROKEN = 1,  // a no, or what broke leads to one or to no trace
+    WUDZARK_BROKEN = 1,  // a no, or a final fault
     WUDZARK_REFUSED = 2, // the input cannot be judged, or memory ran out
     WUDZARK_MISUSED = 3  // the board is not open, or wudzark_open found it open: nothing was done
 };
 
-// Room for each line, but for the refusal of a configuration with a very long name.
+// Enough room for every line, except the refusal of a configuration with a very long key.
 #define WUDZARK_LINE_BYTES 256
 
 typedef struct wudzark_board {
@@ -75,18 +75,18 @@ typedef struct wudzark_answer {
 // the line says why: `refused config ..` or `refused memory`.
 wudzark_answer wudzark_open(wudzark_board *board, const void *config, size_t config_length, char *line, size_t room);
 
-// Feeds the next bytes of the trace. With WUDZARK_REFUSED they are no trace, or memory ran out: nothing is taken from
-// then on, and wudzark_finish says which.
+// Feeds the next bytes of the trace. WUDZARK_REFUSED says that the bytes are not a trace, or that memory ran out.
+// Later bytes are then ignored, and wudzark_finish says which of the two it was.
 uint32_t wudzark_feed(wudzark_board *board, const void *bytes, size_t length);
 
-// Whether something broke for good, so that whatever bytes follow there is no yes: then the line says what, as
+// Whether there is a final fault: no bytes that follow can lead to a yes. Then the line says what broke, for example
 // `broken bank=0 number=5 rule=ReplyData upon log=0 event=1 at=104`. The status is WUDZARK_BROKEN, or WUDZARK_REFUSED
-// where the trace is one of another hierarchy. WUDZARK_FINE says that no record so far is at fault, unless a feed was
-// refused. Numbers that are missing and logs that wait for one another are only known in the end.
+// if the trace is of another hierarchy. WUDZARK_FINE says that no record so far is at fault, unless a feed was
+// refused. Missing numbers, and logs that wait for one another, are only known at the end.
 wudzark_answer wudzark_broken(wudzark_board *board, char *line, size_t room);
 
-// The verdict of all bytes that were fed, with its line: WUDZARK_FINE for a yes, WUDZARK_BROKEN for a no. The board is
-// closed then, and may be opened again.
+// The verdict on all bytes that were fed, with its line: WUDZARK_FINE for a yes, WUDZARK_BROKEN for a no. The board is
+// then closed, and may be opened again.
 wudzark_answer wudzark_finish(wudzark_board *board, char *line, size_t room);
 
 #ifdef __cplusplus
@@ -108,11 +108,11 @@ enum class status : std::uint32_t {
 
 struct answer {
     wudzark::status status;
-    std::string_view line; // until the next call of this scoreboard; cut off behind WUDZARK_LINE_BYTES
+    std::string_view line; // valid until the next call of this scoreboard; cut off after WUDZARK_LINE_BYTES
     explicit operator bool() const { return status == wudzark::status::fine; }
 };
 
-// A board that is finished at its end.
+// A board that its destructor finishes.
 class scoreboard {
   public:
     scoreboard() = default;

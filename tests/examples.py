@@ -5,8 +5,8 @@
 
 A row is a configuration, a trace and what is printed of them: one line for `check`, several for `stats`. Beside
 the text, the status must be that of the answer and standard error must be empty. `check` has the same answer for
-1, 2, 4 and 16 workers, and with `--complete` too, but for a yes where a reply is missing. Where that is a
-yes or a no of NAME.lfts, or NAME.toml is refused, `explain` prints what stands in examples/NAME.explained, or in
+1, 2, 4 and 16 workers, and with `--complete` too, but for a yes where a reply is missing. `explain` prints what
+stands in examples/NAME.explained, where NAME.lfts is the trace, or NAME.toml where that is refused. It stands in
 examples/NAME.CONFIG.explained where CONFIG.toml has another answer of the same trace. What `dump`
 prints of a trace gives its bytes back by `assemble`. Each trace and each configuration of examples/ must stand in a
 row. The status is 1 where anything differs. PROGRAM is crates/score/out/score where it is left out."""
@@ -63,7 +63,7 @@ def explanation_of(config: str, trace: str, text: str) -> Optional[pathlib.Path]
     too."""
     if text.startswith("refused config "):
         return (EXAMPLES / config).with_suffix(".explained")
-    if not text.startswith(("yes ", "no ")):
+    if not text.startswith(("yes ", "no ", "refused format ", "refused header ")):
         return None
     of_both = EXAMPLES / f"{pathlib.Path(trace).stem}.{pathlib.Path(config).stem}.explained"
     return of_both if of_both.exists() else (EXAMPLES / trace).with_suffix(".explained")

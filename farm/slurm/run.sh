@@ -1,11 +1,12 @@
 #!/usr/bin/env bash
-# Judges the traces of a list by Slurm: an array of tasks, each with many traces.
-#   slurm/run.sh CONFIG LIST OUT [TASKS]      LIST has the path of a trace in each line; a task for 100 traces
-# All paths must be the same on each node. Writes OUT/table.tsv (docs/FARM.md). What a node that died left unanswered is
-# submitted again, up to ROUNDS (3) times. Called again it goes on where it was, and judges only what has no answer;
-# another list, configuration or program is refused. The status is 0 where all answers are yes, 1 where one is no, 2
-# where one is refused, 3 where a trace has no answer. From the environment: SCORE, LIMIT and TRIES, as judge_one.sh
-# says; POLL, the seconds between two looks at the queue (2); and what sbatch reads, as SBATCH_PARTITION.
+# Judges the traces of a list with Slurm: an array of tasks, each with many traces.
+#   slurm/run.sh CONFIG LIST OUT [TASKS]      LIST has the path of a trace in each line; by default a task for 100 traces
+# All paths must be the same on each node. Writes OUT/table.tsv (docs/FARM.md). Traces without an answer, for example
+# after a node died, are submitted again: in all at most ROUNDS (3) times. Called again, it judges only the traces
+# without an answer; another list, configuration or program is refused. The exit status is 3 if a trace has no answer,
+# else 2 if one is refused, else 1 if one gets a no, else 0. From the environment: SCORE, LIMIT and TRIES, as
+# judge_one.sh says; POLL, the seconds between two looks at the queue (2); and what sbatch reads, such as
+# SBATCH_PARTITION.
 set -uo pipefail
 here=$(cd "$(dirname "$0")" && pwd) || exit 64
 # shellcheck source-path=SCRIPTDIR source=../common.sh
@@ -29,7 +30,7 @@ wait_for() {
 [ $# -ge 3 ] || die "usage: run.sh CONFIG LIST OUT [TASKS]"
 command -v sbatch >/dev/null || die "Slurm is not installed"
 begin "$1" "$2" "$3"
-mkdir -p "$out/log" || exit 64 # a task whose log is in no folder fails without a word
+mkdir -p "$out/log" || exit 64 # a task whose log has no folder fails without a message
 export SCORE CONFIG=$config ROWS=$out/rows JUDGE=${here%/*}/judge_one.sh TODO STRIDE BEGUN
 for ((BEGUN = 0; BEGUN < ${ROUNDS:-3}; BEGUN++)); do
   TODO=$out/todo.$BEGUN

@@ -1,0 +1,160 @@
+"""The text of `score explain`, made from what `score explain --json` prints. So a test can compare the two: where they
+are the same, the JSON has each fact that the text has.
+
+    text_of(json.loads(line))"""
+
+from __future__ import annotations
+
+from typing import Any, Dict, List, Optional
+
+Object = Dict[str, Any]
+
+# the fields of a record's line between its place and its bytes
+FIELDS = ("port", "tag", "size", "address", "block", "register")
+# the events of a port's log
+OF_PORTS = ("load", "store", "reply", "fence")
+
+
+def line_of(record: Optional[Object]) -> List[str]:
+    """The line of a record, where there is one."""
+    if record is None:
+        return []
+    names = (["port"] if record["event"] in OF_PORTS else []) + ["bank", "number"]
+    names += [name for name in FIELDS if name not in names]
+    fields = "".join(f" {name}={record[name]}" for name in names if name in record)
+    time = "" if record["time"] is None else f", time {record['time']}"
+    carried = masks(record.get("masks", [])) + data(record.get("bytes", ""))
+    return [f"{record['event']}{fields}{carried} ; at {record['offset']}{time}"]
+
+
+def lines_of(records: List[Optional[Object]]) -> List[str]:
+    """The lines of records."""
+    return [line for record in records for line in line_of(record)]
+
+
+def masks(bits: List[str]) -> str:
+    """A field for each mask."""
+    return "".join(f" mask={mask}" for mask in bits)
+
+
+def data(digits: str) -> str:
+    """The field of bytes, where there are any."""
+    return f" bytes={digits}" if digits else ""
+
+
+def carried(fault: Object) -> List[str]:
+    """What the record has to carry and carries."""
+    due, found, first = fault["expected"], fault["found"], fault["first_different"]
+    if due is None:
+        return []
+    if "masks" in due:
+        names = ("expected", "found   ", "too many", "too few ")
+        bits = (due["masks"], found["masks"], fault["too_many"], fault["too_few"])
+        return [f"  {name}{masks(told)}" for name, told in zip(names, bits)]
+    address = "" if first["address"] is None else f", address {first['address']}"
+    return [
+        f"  expected{data(due['bytes'])}",
+        f"  found   {data(found['bytes'])}, first different at byte {first['byte']}{address}",
+    ]
+
+
+def block_lines(block: Object) -> List[str]:
+    """What a bank has of a block."""
+    lines = [line and "dirty" + masks(line["dirty"]) for line in (block["level_one_line"], block["level_two_line"])]
+    one = block["level_one_register"]
+    held = one and f"holds the block, waiting stores mask={one['waiting_stores']}"
+    yes_or_no = {True: "yes", False: "no"}
+    return [
+        "",
+        f"block={block['block']} address={block['address']} before it:",
+        f"  level-one line        {lines[0] or 'none'}",
+        f"  level-two line        {lines[1] or 'none'}",
+        f"  level-one register    {held or 'none'}",
+        f"  level-two register    {'holds the second-level block' if block['level_two_register'] else 'none'}",
+        f"  asked of level two    {yes_or_no[block['asked_of_level_two']]}",
+        f"  supplied by level two {yes_or_no[block['supplied_by_level_two']]}",
+        f"  memory               {data(block['memory'])}",
+    ]
+
+
+def origins_lines(origins: Optional[Object]) -> List[str]:
+    """Where the state comes from that the rule is about."""
+    if origins is None:
+        return []
+    if not origins["records"]:
+        return ["", f"{origins['heading']}: none"]
+    return ["", f"{origins['heading']}:", *lines_of(origins["records"])]
+
+
+def rule_lines(fault: Object) -> List[str]:
+    """Why a record breaks a rule."""
+    return [
+        *line_of(fault["record"]),
+        f"  {fault['rule']} asks that {fault['asks']}",
+        *carried(fault),
+        *(line for block in fault["blocks"] for line in block_lines(block)),
+        *origins_lines(fault["origins"]),
+        *(["", "before it:", *lines_of(fault["before"])] if fault["before"] else []),
+    ]
+
+
+def nearest(side: str, records: List[Optional[Object]]) -> List[str]:
+    """The records with the nearest number, where there are any."""
+    return ["", f"the nearest number {side} it:", *lines_of(records)] if records else []
+
+
+def cycle_lines(waits: List[Object]) -> List[str]:
+    """The ring of records, and the first once more. What one comes after is the next."""
+    for one, other in zip(waits, waits[1:] + waits[:1]):
+        assert one["comes_after"] == other["record"]
+    ring = [line for wait in waits for line in (*line_of(wait["record"]), f"  by {wait['by']} it comes after")]
+    return [
+        "these records wait for one another, and none can come first:",
+        *ring,
+        *(line_of(waits[0]["record"]) if waits else []),
+    ]
+
+
+def fault_lines(fault: Object) -> List[str]:
+    """Why a fault stands in the trace."""
+    if fault["kind"] == "rule":
+        return rule_lines(fault)
+    if fault["kind"] == "cycle":
+        return cycle_lines(fault["waits"])
+    name = f"number {fault['number']} of bank {fault['bank']}"
+    if fault["kind"] == "double":
+        return [f"these records all have {name}:", *lines_of(fault["records"])]
+    assert fault["kind"] == "missing"
+    return [f"no record has {name}", *nearest("below", fault["below"]), *nearest("above", fault["above"])]
+
+
+def share(of: Object) -> str:
+    """So many of so many."""
+    return f"{of['used']} of {of['granted']}" + ("" if of["used"] else ", never used")
+
+
+def usage_lines(used: Object) -> List[str]:
+    """What the trace uses at most."""
+    lines = ["used at once, at most:"]
+    for bank, levels in enumerate(used["banks"]):
+        for number in (1, 2):
+            level = levels[f"level{number}"]
+            line = f"bank {bank} level {number}: ways of a set {share(level['ways'])}"
+            if level["registers"] is not None:
+                line += f"; registers {share(level['registers'])}; targets of a register {share(level['targets'])}"
+            lines.append(line)
+    return lines + [f"port {port}: tags {share(of['tags'])}" for port, of in enumerate(used["ports"])]
+
+
+def text_of(answer: Object) -> str:
+    """The text."""
+    lines: List[str] = []
+    if answer["verdict"] == "no":
+        lines = fault_lines(answer["fault"])
+        if answer["first"] is not None:
+            lines += ["", "the first record of the trace upon which something broke:", *fault_lines(answer["first"])]
+    elif answer["verdict"] == "yes":
+        lines = usage_lines(answer["used"])
+    elif "explanation" in answer:
+        lines = answer["explanation"]
+    return "\n".join([answer["line"], *([""] if lines else []), *lines, ""])
