@@ -8,7 +8,7 @@ use Rattle.std.specs.BTreeMap.{is_at}
 use Rattle.std.specs.Ordering.{nat_cmp, match_ordering, is_eq}
 use Rattle.std.specs.Cmp.{unsigned_tied, ranked, nat_cmp_is}
 use Rattle.lf_rules.specs.Lines.{Lines, with_line, without_line, dirty_mask}
-use Rattle.lf_traffic.specs.Flow.{soil, clean}
+use Rattle.lf_traffic.specs.Flow.{make_dirty, make_clean}
 use Rattle.lf_traffic.specs.Laws.{dirty_blocks}
 
 -- ---- lines by rising blocks
@@ -75,41 +75,42 @@ dirty_above (l ∷ lines) low h =
 
 -- ---- sets by rising keys
 
-soil_front : (ks : List ℕ) (b : ℕ) → Above b ks → soil ks b ≡ b ∷ ks
-soil_front [] b h = refl
-soil_front (k ∷ ks) b h = ap (λ o. match_ordering o (b ∷ k ∷ ks) (k ∷ ks) (k ∷ soil ks b))
+make_dirty_front : (ks : List ℕ) (b : ℕ) → Above b ks → make_dirty ks b ≡ b ∷ ks
+make_dirty_front [] b h = refl
+make_dirty_front (k ∷ ks) b h = ap (λ o. match_ordering o (b ∷ k ∷ ks) (k ∷ ks) (k ∷ make_dirty ks b))
     (sym (nat_cmp_is b k Less h.0))
 
-clean_absent : (ks : List ℕ) (b : ℕ) → Above b ks → clean ks b ≡ ks
-clean_absent [] b h = refl
-clean_absent (k ∷ ks) b h =
-    ap (λ o. cond (is_eq o) ks (k ∷ clean ks b)) (sym (nat_cmp_is b k Less h.0))
-    ∙ ap (λ (l : List ℕ). k ∷ l) (clean_absent ks b h.1)
+make_clean_absent : (ks : List ℕ) (b : ℕ) → Above b ks → make_clean ks b ≡ ks
+make_clean_absent [] b h = refl
+make_clean_absent (k ∷ ks) b h =
+    ap (λ o. cond (is_eq o) ks (k ∷ make_clean ks b)) (sym (nat_cmp_is b k Less h.0))
+    ∙ ap (λ (l : List ℕ). k ∷ l) (make_clean_absent ks b h.1)
 
-soil_first : (ks : List ℕ) (b : ℕ) → soil (b ∷ ks) b ≡ b ∷ ks
-soil_first ks b = ap (λ o. match_ordering o (b ∷ b ∷ ks) (b ∷ ks) (b ∷ soil ks b)) (sym (nat_cmp_is b b Equal refl))
+make_dirty_first : (ks : List ℕ) (b : ℕ) → make_dirty (b ∷ ks) b ≡ b ∷ ks
+make_dirty_first ks b =
+    ap (λ o. match_ordering o (b ∷ b ∷ ks) (b ∷ ks) (b ∷ make_dirty ks b)) (sym (nat_cmp_is b b Equal refl))
 
-clean_first : (ks : List ℕ) (b : ℕ) → clean (b ∷ ks) b ≡ ks
-clean_first ks b = ap (λ o. cond (is_eq o) ks (b ∷ clean ks b)) (sym (nat_cmp_is b b Equal refl))
+make_clean_first : (ks : List ℕ) (b : ℕ) → make_clean (b ∷ ks) b ≡ ks
+make_clean_first ks b = ap (λ o. cond (is_eq o) ks (b ∷ make_clean ks b)) (sym (nat_cmp_is b b Equal refl))
 
-soil_later : (ks : List ℕ) (k b : ℕ) → Greater ≡ nat_cmp b k → soil (k ∷ ks) b ≡ k ∷ soil ks b
-soil_later ks k b e = ap (λ o. match_ordering o (b ∷ k ∷ ks) (k ∷ ks) (k ∷ soil ks b)) (sym e)
+make_dirty_later : (ks : List ℕ) (k b : ℕ) → Greater ≡ nat_cmp b k → make_dirty (k ∷ ks) b ≡ k ∷ make_dirty ks b
+make_dirty_later ks k b e = ap (λ o. match_ordering o (b ∷ k ∷ ks) (k ∷ ks) (k ∷ make_dirty ks b)) (sym e)
 
-clean_later : (ks : List ℕ) (k b : ℕ) → (k == b) ≡ false → clean (k ∷ ks) b ≡ k ∷ clean ks b
-clean_later ks k b other =
+make_clean_later : (ks : List ℕ) (k b : ℕ) → (k == b) ≡ false → make_clean (k ∷ ks) b ≡ k ∷ make_clean ks b
+make_clean_later ks k b other =
     let apart : is_eq (nat_cmp b k) ≡ false = unsigned_tied b k
     ∙ ne_eqb b k (λ same. eqb-false k b other (sym same)) in
-    ap (λ c. cond c ks (k ∷ clean ks b)) apart
+    ap (λ c. cond c ks (k ∷ make_clean ks b)) apart
 
 -- ---- a line gets a mask, or leaves
 
 -- the set of dirty blocks once the block's line has the mask
 abbrev pub with_mask : ℕ → List ℕ → ℕ → List ℕ
-with_mask mask ks b = cond (mask == 0) (clean ks b) (soil ks b)
+with_mask mask ks b = cond (mask == 0) (make_clean ks b) (make_dirty ks b)
 
 pub put_dirty : (lines : Lines) (b m : ℕ) → Rising lines →
     dirty_blocks (with_line lines b m) ≡ with_mask m (dirty_blocks lines) b
-put_dirty [] b m h = elim (m == 0) as (λ z. cond z [] (b ∷ []) ≡ cond z (clean [] b) (soil [] b)) [
+put_dirty [] b m h = elim (m == 0) as (λ z. cond z [] (b ∷ []) ≡ cond z (make_clean [] b) (make_dirty [] b)) [
   | true ↦ refl
   | false ↦ refl
 ]
@@ -124,23 +125,23 @@ put_dirty (l ∷ lines) b m h = go (nat_cmp b l.0) refl (put_dirty lines b m h.1
     above : Above l.0 rest
     above = dirty_above lines l.0 h.0
 
-    in_place : (z d : Bool) → cond z rest (l.0 ∷ rest) ≡ cond z (clean (cond d rest (l.0 ∷ rest)) l.0)
-        (soil (cond d rest (l.0 ∷ rest)) l.0)
-    in_place true true = sym (clean_absent rest l.0 above)
-    in_place true false = sym (clean_first rest l.0)
-    in_place false true = sym (soil_front rest l.0 above)
-    in_place false false = sym (soil_first rest l.0)
+    in_place : (z d : Bool) → cond z rest (l.0 ∷ rest) ≡ cond z (make_clean (cond d rest (l.0 ∷ rest)) l.0)
+        (make_dirty (cond d rest (l.0 ∷ rest)) l.0)
+    in_place true true = sym (make_clean_absent rest l.0 above)
+    in_place true false = sym (make_clean_first rest l.0)
+    in_place false true = sym (make_dirty_front rest l.0 above)
+    in_place false false = sym (make_dirty_first rest l.0)
 
     later : Greater ≡ nat_cmp b l.0 → (z d : Bool) →
-        dirty_blocks (with_line lines b m) ≡ cond z (clean rest b) (soil rest b)
+        dirty_blocks (with_line lines b m) ≡ cond z (make_clean rest b) (make_dirty rest b)
         → cond d (dirty_blocks (with_line lines b m)) (l.0 ∷ dirty_blocks (with_line lines b m))
-        ≡ cond z (clean (cond d rest (l.0 ∷ rest)) b) (soil (cond d rest (l.0 ∷ rest)) b)
+        ≡ cond z (make_clean (cond d rest (l.0 ∷ rest)) b) (make_dirty (cond d rest (l.0 ∷ rest)) b)
     later e z true same = same
     later e true false same =
         let less : l.0 < b = ranked b l.0 Greater e in
         ap (λ (ks : List ℕ). l.0 ∷ ks) same
-        ∙ sym (clean_later rest l.0 b (ne_eqb l.0 b (λ is. omega (arith, is, less))))
-    later e false false same = ap (λ (ks : List ℕ). l.0 ∷ ks) same ∙ sym (soil_later rest l.0 b e)
+        ∙ sym (make_clean_later rest l.0 b (ne_eqb l.0 b (λ is. omega (arith, is, less))))
+    later e false false same = ap (λ (ks : List ℕ). l.0 ∷ ks) same ∙ sym (make_dirty_later rest l.0 b e)
 
     go : (o : Ordering) → o ≡ nat_cmp b l.0 → dirty_blocks (with_line lines b m) ≡ with_mask m rest b →
         dirty_blocks (match_ordering o ((b, m) ∷ l ∷ lines) ((l.0, m) ∷ lines) (l ∷ with_line lines b m))
@@ -148,16 +149,16 @@ put_dirty (l ∷ lines) b m h = go (nat_cmp b l.0) refl (put_dirty lines b m h.1
     go Less e more =
         let less : b < l.0 = ranked b l.0 Less e in
         let front : Above b all = dirty_above (l ∷ lines) b (less, lower lines b l.0 less h.0) in
-        elim (m == 0) as (λ z. cond z all (b ∷ all) ≡ cond z (clean all b) (soil all b)) [
-          | true ↦ sym (clean_absent all b front)
-          | false ↦ sym (soil_front all b front)
+        elim (m == 0) as (λ z. cond z all (b ∷ all) ≡ cond z (make_clean all b) (make_dirty all b)) [
+          | true ↦ sym (make_clean_absent all b front)
+          | false ↦ sym (make_dirty_front all b front)
         ]
     go Equal e more = subst (λ n. cond (m == 0) rest (l.0 ∷ rest) ≡ with_mask m all n) (sym (ranked b l.0 Equal e))
         (in_place (m == 0) (l.1 == 0))
     go Greater e more = later e (m == 0) (l.1 == 0) more
 
 pub drop_dirty : (lines : Lines) (b : ℕ) → Rising lines →
-    dirty_blocks (without_line lines b) ≡ clean (dirty_blocks lines) b
+    dirty_blocks (without_line lines b) ≡ make_clean (dirty_blocks lines) b
 drop_dirty [] b h = refl
 drop_dirty (l ∷ lines) b h = go (l.0 == b) refl (drop_dirty lines b h.1)
   where
@@ -167,21 +168,21 @@ drop_dirty (l ∷ lines) b h = go (l.0 == b) refl (drop_dirty lines b h.1)
     left : Lines
     left = without_line lines b
 
-    gone : (l.0 == b) ≡ true → (d : Bool) → dirty_blocks left ≡ clean rest b →
-        dirty_blocks left ≡ clean (cond d rest (l.0 ∷ rest)) b
+    gone : (l.0 == b) ≡ true → (d : Bool) → dirty_blocks left ≡ make_clean rest b →
+        dirty_blocks left ≡ make_clean (cond d rest (l.0 ∷ rest)) b
     gone e true same = same
     gone e false same =
         let is : l.0 ≡ b = eqb-true l.0 b e in
-        same ∙ clean_absent rest b (subst (λ n. Above n rest) is (dirty_above lines l.0 h.0))
-        ∙ sym (subst (λ n. clean (n ∷ rest) b ≡ rest) (sym is) (clean_first rest b))
+        same ∙ make_clean_absent rest b (subst (λ n. Above n rest) is (dirty_above lines l.0 h.0))
+        ∙ sym (subst (λ n. make_clean (n ∷ rest) b ≡ rest) (sym is) (make_clean_first rest b))
 
-    stays : (l.0 == b) ≡ false → (d : Bool) → dirty_blocks left ≡ clean rest b →
-        cond d (dirty_blocks left) (l.0 ∷ dirty_blocks left) ≡ clean (cond d rest (l.0 ∷ rest)) b
+    stays : (l.0 == b) ≡ false → (d : Bool) → dirty_blocks left ≡ make_clean rest b →
+        cond d (dirty_blocks left) (l.0 ∷ dirty_blocks left) ≡ make_clean (cond d rest (l.0 ∷ rest)) b
     stays e true same = same
-    stays e false same = ap (λ (ks : List ℕ). l.0 ∷ ks) same ∙ sym (clean_later rest l.0 b e)
+    stays e false same = ap (λ (ks : List ℕ). l.0 ∷ ks) same ∙ sym (make_clean_later rest l.0 b e)
 
-    go : (c : Bool) → (l.0 == b) ≡ c → dirty_blocks left ≡ clean rest b →
-        dirty_blocks (cond (not c) (l ∷ left) left) ≡ clean (dirty_blocks (l ∷ lines)) b
+    go : (c : Bool) → (l.0 == b) ≡ c → dirty_blocks left ≡ make_clean rest b →
+        dirty_blocks (cond (not c) (l ∷ left) left) ≡ make_clean (dirty_blocks (l ∷ lines)) b
     go true e same = gone e (l.1 == 0) same
     go false e same = stays e (l.1 == 0) same
 

@@ -29,7 +29,7 @@ use Rattle.lf_traffic.specs.declared.bank.Fetched.{Fetched}
 use Rattle.lf_traffic.specs.declared.queue.Queued.{Queued}
 use Rattle.lf_traffic.specs.Flow.{quotient, is_store, request_of, nobody, oldest, without_oldest}
 use Rattle.lf_traffic.specs.Flow.{is_second, Flow, empty_flow, flow_after, Flows, flows_after, flows_after_all}
-use Rattle.lf_traffic.specs.Flow.{with_if, soil, clean, soil_if, come, flow_at, grown, with_flow}
+use Rattle.lf_traffic.specs.Flow.{with_if, make_dirty, make_clean, make_dirty_if, after_fill, flow_at, grown, with_flow}
 use Rattle.lf_traffic.specs.Laws.{states_after, dirty_blocks, FlowsAreOfTheRules}
 use Rattle.lf_traffic.proofs.Dirty.{Rising, put_rising, drop_rising, put_dirty, drop_dirty, kept_dirty}
 use Rattle.lf_traffic.proofs.Queues.{of_port, first_or, pushed, oldest_is_first, dropped}
@@ -250,7 +250,7 @@ module _ (flow : Flow) (slice : Slice) (alike : Alike flow slice) where
 
 -- ---- the dirty lines of a bank
 
-pub record Soiled (flow : Flow) (slice : Slice) : Type 0 where
+pub record DirtyAlike (flow : Flow) (slice : Slice) : Type 0 where
   pub stored : flow.stored ≡ stored_blocks slice.waiting
   pub dirty1 : flow.dirty1 ≡ dirty_blocks slice.lines1
   pub rising : Rising slice.lines1
@@ -261,25 +261,25 @@ some_size_of : (size : ℕ) → is_size size ≡ true → 0 < size
 some_size_of zero is = absurd (both_ways false refl is)
 some_size_of (suc n) is = omega arith
 
-module _ (flow : Flow) (slice : Slice) (alike : Alike flow slice) (soiled : Soiled flow slice) where
+module _ (flow : Flow) (slice : Slice) (alike : Alike flow slice) (dirty_alike : DirtyAlike flow slice) where
   abbrev head : ℕ → Request
   head port = rules.oldest (slice.queue port)
 
   queues_left : (port k : ℕ) → AllSized (update slice.queue port (drop 1 (slice.queue port)) k)
   queues_left port k = elim (port == k) as (λ c. AllSized (cond c (drop 1 (slice.queue port)) (slice.queue k))) [
-    | true ↦ sized_drop (slice.queue port) (soiled.queues port)
-    | false ↦ soiled.queues k
+    | true ↦ sized_drop (slice.queue port) (dirty_alike.queues port)
+    | false ↦ dirty_alike.queues k
   ]
 
   queues_more : (log : ℕ) (r : Request) → 0 < r.size → (k : ℕ) →
       AllSized (update slice.queue log (slice.queue log ++ r ∷ []) k)
   queues_more log r some k = elim (log == k) as (λ c. AllSized (cond c (slice.queue log ++ r ∷ []) (slice.queue k))) [
-    | true ↦ sized_push (slice.queue log) r (soiled.queues log) some
-    | false ↦ soiled.queues k
+    | true ↦ sized_push (slice.queue log) r (dirty_alike.queues log) some
+    | false ↦ dirty_alike.queues k
   ]
 
   hit_line : (r : Request) → (is_store r.op ≡ true → 0 < r.size) →
-      soil_if (is_store r.op) (dirty_blocks slice.lines1) r.block
+      make_dirty_if (is_store r.op) (dirty_blocks slice.lines1) r.block
       ≡ dirty_blocks (mark slice.lines1 r.block (rules.store_mask r))
   hit_line r some = go (is_store r.op) refl
     where
@@ -289,46 +289,48 @@ module _ (flow : Flow) (slice : Slice) (alike : Alike flow slice) (soiled : Soil
       new : ℕ
       new = bit_or old (rules.store_mask r)
 
-      go : (s : Bool) → is_store r.op ≡ s → soil_if s (dirty_blocks slice.lines1) r.block
+      go : (s : Bool) → is_store r.op ≡ s → make_dirty_if s (dirty_blocks slice.lines1) r.block
           ≡ dirty_blocks (with_line slice.lines1 r.block new)
-      go true is = sym (put_dirty slice.lines1 r.block new soiled.rising
-          ∙ ap (λ c. cond c (clean (dirty_blocks slice.lines1) r.block) (soil (dirty_blocks slice.lines1) r.block))
+      go true is = sym (put_dirty slice.lines1 r.block new dirty_alike.rising
+          ∙ ap (λ c. cond c (make_clean (dirty_blocks slice.lines1) r.block)
+          (make_dirty (dirty_blocks slice.lines1) r.block))
           (some_of_both old (rules.store_mask r) (writes r is (some is))))
       go false is = sym (ap (λ m. dirty_blocks (with_line slice.lines1 r.block m))
           (ap (bit_or old) (reads r is) ∙ or_zero_r old)
-          ∙ kept_dirty slice.lines1 r.block soiled.rising)
+          ∙ kept_dirty slice.lines1 r.block dirty_alike.rising)
 
-  hit_dirty : (port : ℕ) → soil_if (oldest port flow.queue).is_store flow.dirty1 (oldest port flow.queue).block
+  hit_dirty : (port : ℕ) → make_dirty_if (oldest port flow.queue).is_store flow.dirty1 (oldest port flow.queue).block
       ≡ dirty_blocks (mark slice.lines1 (head port).block (rules.store_mask (head port)))
   hit_dirty port =
-      ap (λ (q : Queued). soil_if q.is_store flow.dirty1 q.block) (oldest_is flow slice alike port)
-      ∙ ap (λ (ks : List ℕ). soil_if (is_store (head port).op) ks (head port).block) soiled.dirty1
-      ∙ hit_line (head port) (oldest_sized (slice.queue port) (soiled.queues port))
+      ap (λ (q : Queued). make_dirty_if q.is_store flow.dirty1 q.block) (oldest_is flow slice alike port)
+      ∙ ap (λ (ks : List ℕ). make_dirty_if (is_store (head port).op) ks (head port).block) dirty_alike.dirty1
+      ∙ hit_line (head port) (oldest_sized (slice.queue port) (dirty_alike.queues port))
 
   miss_stored : (port register : ℕ) (value : List ℕ) →
       with_if (oldest port flow.queue).is_store flow.stored (oldest port flow.queue).block
       ≡ stored_blocks (slice.waiting ++ rules.miss slice port register value ∷ [])
   miss_stored port register value =
       ap (λ (q : Queued). with_if q.is_store flow.stored q.block) (oldest_is flow slice alike port)
-      ∙ ap (λ (ks : List ℕ). with_if (is_store (head port).op) ks (head port).block) soiled.stored
+      ∙ ap (λ (ks : List ℕ). with_if (is_store (head port).op) ks (head port).block) dirty_alike.stored
       ∙ stored_push slice.waiting (rules.miss slice port register value)
 
   miss_stores : (port register : ℕ) (value : List ℕ) →
       StoresSized (slice.waiting ++ rules.miss slice port register value ∷ [])
-  miss_stores port register value = stores_push slice.waiting (rules.miss slice port register value) soiled.stores
-      (oldest_sized (slice.queue port) (soiled.queues port))
+  miss_stores port register value = stores_push slice.waiting (rules.miss slice port register value) dirty_alike.stores
+      (oldest_sized (slice.queue port) (dirty_alike.queues port))
 
-  fill_dirty : (block : ℕ) → come (rules.is_among flow.stored block) flow.dirty1 block
+  fill_dirty : (block : ℕ) → after_fill (rules.is_among flow.stored block) flow.dirty1 block
       ≡ dirty_blocks (with_line slice.lines1 block (rules.store_bytes slice.waiting block))
   fill_dirty block =
-      ap (λ (ks : List ℕ). come (rules.is_among ks block) flow.dirty1 block) soiled.stored
-      ∙ ap (λ (ks : List ℕ). come waits ks block) soiled.dirty1
-      ∙ elim waits as (λ b. come b dirty block ≡ cond (not b) (clean dirty block) (soil dirty block)) [
+      ap (λ (ks : List ℕ). after_fill (rules.is_among ks block) flow.dirty1 block) dirty_alike.stored
+      ∙ ap (λ (ks : List ℕ). after_fill waits ks block) dirty_alike.dirty1
+      ∙ elim waits as (λ b. after_fill b dirty block ≡ cond (not b) (make_clean dirty block) (make_dirty dirty block)) [
         | true ↦ refl
         | false ↦ refl
       ]
-      ∙ sym (put_dirty slice.lines1 block (rules.store_bytes slice.waiting block) soiled.rising
-      ∙ ap (λ c. cond c (clean dirty block) (soil dirty block)) (none_stored slice.waiting block soiled.stores))
+      ∙ sym (put_dirty slice.lines1 block (rules.store_bytes slice.waiting block) dirty_alike.rising
+      ∙ ap (λ c. cond c (make_clean dirty block) (make_dirty dirty block))
+      (none_stored slice.waiting block dirty_alike.stores))
     where
       waits : Bool
       waits = rules.is_among (stored_blocks slice.waiting) block
@@ -338,98 +340,98 @@ module _ (flow : Flow) (slice : Slice) (alike : Alike flow slice) (soiled : Soil
 
   module _ (shape : Shape) (value : List ℕ) (replies : List Ready) (log : ℕ) where
     pub dirty_more : (bank : ℕ) (event : Event) → FitsEvent shape.banks shape.block shape.factor bank event →
-        Soiled (flow_after shape.block shape.factor flow log event)
+        DirtyAlike (flow_after shape.block shape.factor flow log event)
         (rules.slice_after shape value replies slice log event)
     dirty_more bank (Issue op tag size address bytes) fits = record {
-      stored = soiled.stored;
-      dirty1 = soiled.dirty1;
-      rising = soiled.rising;
+      stored = dirty_alike.stored;
+      dirty1 = dirty_alike.dirty1;
+      rising = dirty_alike.rising;
       queues = queues_more log (rules.request_of shape tag op size address bytes.items)
           (some_size_of size fits.size_is);
-      stores = soiled.stores;
+      stores = dirty_alike.stores;
     }
     dirty_more bank (Reply tag size bytes) fits = record {
-      stored = soiled.stored;
-      dirty1 = soiled.dirty1;
-      rising = soiled.rising;
-      queues = soiled.queues;
-      stores = soiled.stores;
+      stored = dirty_alike.stored;
+      dirty1 = dirty_alike.dirty1;
+      rising = dirty_alike.rising;
+      queues = dirty_alike.queues;
+      stores = dirty_alike.stores;
     }
     dirty_more bank (Hit port tag) fits = record {
-      stored = soiled.stored;
+      stored = dirty_alike.stored;
       dirty1 = hit_dirty port;
       rising = put_rising slice.lines1 (head port).block
-          (bit_or (dirty_mask slice.lines1 (head port).block) (rules.store_mask (head port))) soiled.rising;
+          (bit_or (dirty_mask slice.lines1 (head port).block) (rules.store_mask (head port))) dirty_alike.rising;
       queues = queues_left port;
-      stores = soiled.stores;
+      stores = dirty_alike.stores;
     }
     dirty_more bank (Primary port tag register) fits = record {
       stored = miss_stored port register value;
-      dirty1 = soiled.dirty1;
-      rising = soiled.rising;
+      dirty1 = dirty_alike.dirty1;
+      rising = dirty_alike.rising;
       queues = queues_left port;
       stores = miss_stores port register value;
     }
     dirty_more bank (Merge port tag register) fits = record {
       stored = miss_stored port register value;
-      dirty1 = soiled.dirty1;
-      rising = soiled.rising;
+      dirty1 = dirty_alike.dirty1;
+      rising = dirty_alike.rising;
       queues = queues_left port;
       stores = miss_stores port register value;
     }
-    dirty_more bank (Stall port tag) fits = soiled
+    dirty_more bank (Stall port tag) fits = dirty_alike
     dirty_more bank (Fill1 block bytes) fits = record {
-      stored = ap (λ (ks : List ℕ). rules.without ks block) soiled.stored ∙ stored_left slice.waiting block;
+      stored = ap (λ (ks : List ℕ). rules.without ks block) dirty_alike.stored ∙ stored_left slice.waiting block;
       dirty1 = fill_dirty block;
-      rising = put_rising slice.lines1 block (rules.store_bytes slice.waiting block) soiled.rising;
-      queues = soiled.queues;
-      stores = stores_left slice.waiting block soiled.stores;
+      rising = put_rising slice.lines1 block (rules.store_bytes slice.waiting block) dirty_alike.rising;
+      queues = dirty_alike.queues;
+      stores = stores_left slice.waiting block dirty_alike.stores;
     }
     dirty_more bank (Evict1 block mask bytes) fits = record {
-      stored = soiled.stored;
-      dirty1 = ap (λ (ks : List ℕ). clean ks block) soiled.dirty1
-          ∙ sym (drop_dirty slice.lines1 block soiled.rising);
-      rising = drop_rising slice.lines1 block soiled.rising;
-      queues = soiled.queues;
-      stores = soiled.stores;
+      stored = dirty_alike.stored;
+      dirty1 = ap (λ (ks : List ℕ). make_clean ks block) dirty_alike.dirty1
+          ∙ sym (drop_dirty slice.lines1 block dirty_alike.rising);
+      rising = drop_rising slice.lines1 block dirty_alike.rising;
+      queues = dirty_alike.queues;
+      stores = dirty_alike.stores;
     }
     dirty_more bank (SecondHit block) fits = record {
-      stored = soiled.stored;
-      dirty1 = soiled.dirty1;
-      rising = soiled.rising;
-      queues = soiled.queues;
-      stores = soiled.stores;
+      stored = dirty_alike.stored;
+      dirty1 = dirty_alike.dirty1;
+      rising = dirty_alike.rising;
+      queues = dirty_alike.queues;
+      stores = dirty_alike.stores;
     }
     dirty_more bank (SecondPrimary block register) fits = record {
-      stored = soiled.stored;
-      dirty1 = soiled.dirty1;
-      rising = soiled.rising;
-      queues = soiled.queues;
-      stores = soiled.stores;
+      stored = dirty_alike.stored;
+      dirty1 = dirty_alike.dirty1;
+      rising = dirty_alike.rising;
+      queues = dirty_alike.queues;
+      stores = dirty_alike.stores;
     }
     dirty_more bank (SecondMerge block register) fits = record {
-      stored = soiled.stored;
-      dirty1 = soiled.dirty1;
-      rising = soiled.rising;
-      queues = soiled.queues;
-      stores = soiled.stores;
+      stored = dirty_alike.stored;
+      dirty1 = dirty_alike.dirty1;
+      rising = dirty_alike.rising;
+      queues = dirty_alike.queues;
+      stores = dirty_alike.stores;
     }
-    dirty_more bank (SecondStall block) fits = soiled
+    dirty_more bank (SecondStall block) fits = dirty_alike
     dirty_more bank (Fill2 second bytes) fits = record {
-      stored = soiled.stored;
-      dirty1 = soiled.dirty1;
-      rising = soiled.rising;
-      queues = soiled.queues;
-      stores = soiled.stores;
+      stored = dirty_alike.stored;
+      dirty1 = dirty_alike.dirty1;
+      rising = dirty_alike.rising;
+      queues = dirty_alike.queues;
+      stores = dirty_alike.stores;
     }
     dirty_more bank (Evict2 second masks bytes) fits = record {
-      stored = soiled.stored;
-      dirty1 = soiled.dirty1;
-      rising = soiled.rising;
-      queues = soiled.queues;
-      stores = soiled.stores;
+      stored = dirty_alike.stored;
+      dirty1 = dirty_alike.dirty1;
+      rising = dirty_alike.rising;
+      queues = dirty_alike.queues;
+      stores = dirty_alike.stores;
     }
-    dirty_more bank Fence fits = soiled
+    dirty_more bank Fence fits = dirty_alike
 
 -- ---- all banks
 
@@ -479,7 +481,8 @@ module _ (shape : Shape) (some_size : 0 < shape.block) (some_factor : 0 < shape.
   all_of banks = record { size = shape.block; factor = shape.factor; banks = banks }
 
   abbrev AllFollow : List Flow → State → Type 0
-  AllFollow banks state = (b : ℕ) → Alike (flow_at banks b) (state.slice b) × Soiled (flow_at banks b) (state.slice b)
+  AllFollow banks state = (b : ℕ) →
+      Alike (flow_at banks b) (state.slice b) × DirtyAlike (flow_at banks b) (state.slice b)
 
   step : (banks : List Flow) (state : State) → AllFollow banks state → (r : Record) → Fits shape r →
       AllFollow (flows_after (all_of banks) r).banks (state_after shape state r)
@@ -490,13 +493,13 @@ module _ (shape : Shape) (some_size : 0 < shape.block) (some_factor : 0 < shape.
       let two = dirty_more (flow_at banks r.bank) (state.slice r.bank) was.0 was.1 shape
       (value r state) (replies r state) r.log r.bank r.event fits.event in
       let new : Slice = (state_after shape state r).slice b in
-      subst (λ (f : Flow). Alike f new × Soiled f new)
+      subst (λ (f : Flow). Alike f new × DirtyAlike f new)
       (sym (flow_set banks r.bank (flow_after shape.block shape.factor (flow_at banks r.bank) r.log r.event) b))
       (elim (r.bank == b) as (λ c.
       Alike (cond c (flow_after shape.block shape.factor (flow_at banks r.bank) r.log r.event) (flow_at banks b))
       (cond c (rules.slice_after shape (value r state) (replies r state) (state.slice r.bank) r.log r.event)
       (state.slice b))
-      × Soiled (cond c (flow_after shape.block shape.factor (flow_at banks r.bank) r.log r.event) (flow_at banks b))
+      × DirtyAlike (cond c (flow_after shape.block shape.factor (flow_at banks r.bank) r.log r.event) (flow_at banks b))
       (cond c (rules.slice_after shape (value r state) (replies r state) (state.slice r.bank) r.log r.event)
       (state.slice b))) [ true ↦ (one, two) | false ↦ follow b ])
 
@@ -516,12 +519,12 @@ flows_are_of_the_rules shape memory rs bank some_size some_factor fit =
       fetched = refl;
       supplied = refl;
     } in
-    let soiled : Soiled empty_flow empty_slice = record {
+    let dirty_alike : DirtyAlike empty_flow empty_slice = record {
       stored = refl;
       dirty1 = refl;
       rising = tt;
       queues = λ _. tt;
       stores = tt;
     } in
-    let is = all_follow shape some_size some_factor rs [] (opening memory) (λ _. (alike, soiled)) fit bank in
+    let is = all_follow shape some_size some_factor rs [] (opening memory) (λ _. (alike, dirty_alike)) fit bank in
     record { asked = is.0.asked; supplied = is.0.supplied; dirty1 = is.1.dirty1 }

@@ -53,21 +53,21 @@ with_if true blocks block = blocks ++ block ∷ []
 with_if false blocks block = blocks
 
 -- the block's line is dirty from now on
-abbrev pub soil : List ℕ → ℕ → List ℕ
-soil dirty block = insert_key nat_cmp dirty block
+abbrev pub make_dirty : List ℕ → ℕ → List ℕ
+make_dirty dirty block = insert_key nat_cmp dirty block
 
 -- it is clean or gone
-abbrev pub clean : List ℕ → ℕ → List ℕ
-clean dirty block = remove_key (is_at (nat_cmp block)) dirty
+abbrev pub make_clean : List ℕ → ℕ → List ℕ
+make_clean dirty block = remove_key (is_at (nat_cmp block)) dirty
 
-abbrev pub soil_if : Bool → List ℕ → ℕ → List ℕ
-soil_if true dirty block = soil dirty block
-soil_if false dirty block = dirty
+abbrev pub make_dirty_if : Bool → List ℕ → ℕ → List ℕ
+make_dirty_if true dirty block = make_dirty dirty block
+make_dirty_if false dirty block = dirty
 
--- a line comes, dirty or clean
-abbrev pub come : Bool → List ℕ → ℕ → List ℕ
-come true dirty block = soil dirty block
-come false dirty block = clean dirty block
+-- a fill brings a line, dirty or clean
+abbrev pub after_fill : Bool → List ℕ → ℕ → List ℕ
+after_fill true dirty block = make_dirty dirty block
+after_fill false dirty block = make_clean dirty block
 
 abbrev pub is_second : ℕ → Fetched → Bool
 is_second second f = f.second == second
@@ -98,7 +98,7 @@ empty_flow = record {
 abbrev pub after_hit : Flow → ℕ → Flow
 after_hit flow port =
     let q = oldest port flow.queue in
-    record flow { queue = without_oldest port flow.queue; dirty1 = soil_if q.is_store flow.dirty1 q.block }
+    record flow { queue = without_oldest port flow.queue; dirty1 = make_dirty_if q.is_store flow.dirty1 q.block }
 
 -- it is a primary miss
 abbrev pub after_primary : Flow → ℕ → Flow
@@ -122,15 +122,15 @@ after_fill1 flow block =
     record flow {
       stored = without flow.stored block;
       supplied = without flow.supplied block;
-      dirty1 = come (is_among flow.stored block) flow.dirty1 block;
+      dirty1 = after_fill (is_among flow.stored block) flow.dirty1 block;
     }
 
 -- what is dirty of a line that leaves level one is dirty in level two
 abbrev pub after_evict1 : ℕ → Flow → ℕ → ℕ → Flow
 after_evict1 factor flow block mask =
     record flow {
-      dirty1 = clean flow.dirty1 block;
-      dirty2 = soil_if (not (mask == 0)) flow.dirty2 (quotient factor block);
+      dirty1 = make_clean flow.dirty1 block;
+      dirty2 = make_dirty_if (not (mask == 0)) flow.dirty2 (quotient factor block);
     }
 
 abbrev pub after_second_hit : Flow → ℕ → Flow
@@ -150,7 +150,7 @@ after_fill2 flow second =
     record flow {
       fetched = filter (λ f. not (is_second second f)) flow.fetched;
       supplied = flow.supplied ++ map (λ f. f.block) (filter (is_second second) flow.fetched);
-      dirty2 = clean flow.dirty2 second;
+      dirty2 = make_clean flow.dirty2 second;
     }
 
 -- where blocks have so many bytes and second-level blocks so many blocks
@@ -166,7 +166,7 @@ flow_after size factor flow log (SecondHit block) = after_second_hit flow block
 flow_after size factor flow log (SecondPrimary block register) = after_second_miss factor flow block
 flow_after size factor flow log (SecondMerge block register) = after_second_miss factor flow block
 flow_after size factor flow log (Fill2 second bytes) = after_fill2 flow second
-flow_after size factor flow log (Evict2 second masks bytes) = record flow { dirty2 = clean flow.dirty2 second }
+flow_after size factor flow log (Evict2 second masks bytes) = record flow { dirty2 = make_clean flow.dirty2 second }
 flow_after size factor flow log _ = flow
 
 -- how many of each there are

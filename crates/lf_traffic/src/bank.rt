@@ -3,7 +3,8 @@
 ghost use Rattle.std.specs.Prelude.{◌≡◌, ◌∷◌, ◌++◌, [], not, map, OnOk};
 ghost use Rattle.std.specs.List.{filter};
 ghost use Rattle.lf_rules.specs.Table.{is_among, without};
-ghost use Rattle.lf_traffic.specs.Flow.{with_if, soil, clean, soil_if, come, is_second, flow_after, counts_of};
+ghost use Rattle.lf_traffic.specs.Flow.{with_if, make_dirty, make_clean, make_dirty_if, after_fill};
+ghost use Rattle.lf_traffic.specs.Flow.{is_second, flow_after, counts_of};
 ghost use Rattle.lf_traffic.specs.Flow.{empty_flow, after_hit, after_primary, after_merge, after_fill1, after_evict1};
 ghost use Rattle.lf_traffic.specs.Flow.{after_second_hit, after_second_miss, after_fill2};
 
@@ -77,37 +78,37 @@ fn is_among(blocks: &[u64], block: u64) -> bool
 }
 
 /// The block's line is dirty from now on.
-fn soil(dirty: &mut BTreeSet<u64>, block: u64) -> Result<(), AllocError>
-    ensures { OnOk result (dirty.new.keys ≡ soil dirty.old.keys block) }
+fn make_dirty(dirty: &mut BTreeSet<u64>, block: u64) -> Result<(), AllocError>
+    ensures { OnOk result (dirty.new.keys ≡ make_dirty dirty.old.keys block) }
 {
     dirty.insert(block)?;
     Ok(())
 }
 
 /// It is clean or gone.
-fn clean(dirty: &mut BTreeSet<u64>, block: u64)
-    ensures { dirty.new.keys ≡ clean dirty.old.keys block }
+fn make_clean(dirty: &mut BTreeSet<u64>, block: u64)
+    ensures { dirty.new.keys ≡ make_clean dirty.old.keys block }
 {
     dirty.remove(&block);
 }
 
-fn soil_if(holds: bool, dirty: &mut BTreeSet<u64>, block: u64) -> Result<(), AllocError>
-    ensures { OnOk result (dirty.new.keys ≡ soil_if holds dirty.old.keys block) }
+fn make_dirty_if(holds: bool, dirty: &mut BTreeSet<u64>, block: u64) -> Result<(), AllocError>
+    ensures { OnOk result (dirty.new.keys ≡ make_dirty_if holds dirty.old.keys block) }
 {
     if holds {
-        soil(dirty, block)?;
+        make_dirty(dirty, block)?;
     }
     Ok(())
 }
 
-/// A line comes, dirty or clean.
-fn come(is_dirty: bool, dirty: &mut BTreeSet<u64>, block: u64) -> Result<(), AllocError>
-    ensures { OnOk result (dirty.new.keys ≡ come is_dirty dirty.old.keys block) }
+/// A fill brings a line, dirty or clean.
+fn after_fill(is_dirty: bool, dirty: &mut BTreeSet<u64>, block: u64) -> Result<(), AllocError>
+    ensures { OnOk result (dirty.new.keys ≡ after_fill is_dirty dirty.old.keys block) }
 {
     if is_dirty {
-        soil(dirty, block)?;
+        make_dirty(dirty, block)?;
     } else {
-        clean(dirty, block);
+        make_clean(dirty, block);
     }
     Ok(())
 }
@@ -152,7 +153,7 @@ impl BankFlow {
         ensures { OnOk result (self.new ≡ after_hit self.old port) }
     {
         let request = accept(&mut self.queue, port);
-        soil_if(request.is_store, &mut self.dirty1, request.block)
+        make_dirty_if(request.is_store, &mut self.dirty1, request.block)
     }
 
     fn primary(&mut self, port: u8) -> Result<(), AllocError>
@@ -175,7 +176,7 @@ impl BankFlow {
         ensures { OnOk result (self.new ≡ after_fill1 self.old block) }
     {
         let is_dirty = is_among(&self.stored, block);
-        come(is_dirty, &mut self.dirty1, block)?;
+        after_fill(is_dirty, &mut self.dirty1, block)?;
         drop_block(&mut self.stored, block);
         drop_block(&mut self.supplied, block);
         Ok(())
@@ -184,8 +185,8 @@ impl BankFlow {
     fn evict1(&mut self, factor: u32, block: u64, mask: u64) -> Result<(), AllocError>
         ensures { OnOk result (self.new ≡ after_evict1 factor self.old block mask) }
     {
-        clean(&mut self.dirty1, block);
-        soil_if(mask != 0, &mut self.dirty2, quotient(factor, block))
+        make_clean(&mut self.dirty1, block);
+        make_dirty_if(mask != 0, &mut self.dirty2, quotient(factor, block))
     }
 
     fn second_hit(&mut self, block: u64) -> Result<(), AllocError>
@@ -210,14 +211,14 @@ impl BankFlow {
     {
         supply(&mut self.supplied, &self.fetched, second)?;
         drop_second(&mut self.fetched, second);
-        clean(&mut self.dirty2, second);
+        make_clean(&mut self.dirty2, second);
         Ok(())
     }
 
     fn evict2(&mut self, second: u64)
-        ensures { self.new ≡ record self.old { dirty2 = clean self.old.dirty2 second } }
+        ensures { self.new ≡ record self.old { dirty2 = make_clean self.old.dirty2 second } }
     {
-        clean(&mut self.dirty2, second);
+        make_clean(&mut self.dirty2, second);
     }
 
     fn issue(&mut self, request: Queued) -> Result<(), AllocError>
