@@ -68,7 +68,8 @@ same_counts counts f g same are = record {
 }
 
 module _ (shape : Shape) (rs : List Record) (n : ℕ) where
-  pub few_reached : (counts : Counts) → n < 2 ^ 29 → AreCounts counts (λ point. reached shape rs point n) → AreFew counts
+  pub few_reached : (counts : Counts) → n < 2 ^ 29 → AreCounts counts (λ point. reached shape rs point n) →
+      AreFew counts
   few_reached counts small are = record {
     of_kinds = λ k below. omega (arith, are.of_kinds k below, reached_le shape rs (kind_at k) n);
     of_numbers = λ measure k below.

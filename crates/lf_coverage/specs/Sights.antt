@@ -1,7 +1,6 @@
 -- What the records of a bank before an event say of it.
 use Rattle.std.specs.Prelude.{ℕ, ◌+◌, Bool, true, false, not}
-use Rattle.std.specs.Prelude.{List, map, length, slice_get, Option, Some, None}
-use Rattle.std.specs.List.{range_with_len}
+use Rattle.std.specs.Prelude.{List, slice_get, Option, Some, None}
 use Rattle.lf_rules.specs.declared.shape.Shape.{Shape}
 use Rattle.lf_rules.specs.declared.event.Op.{Op}
 use Rattle.lf_rules.specs.declared.event.Op.TheVariants.{Load, Store}
@@ -59,12 +58,9 @@ abbrev pub sight_if : Shape → Standing → Option Record → Sight
 sight_if shape s None = Plain
 sight_if shape s (Some r) = sight_by shape s r.event
 
--- of the record behind the first n, in the order of their numbers, and of each
+-- of the record behind the first n, in the order of their numbers
 abbrev pub sight : Shape → List Record → ℕ → Sight
 sight shape rs n = sight_if shape (standing shape rs n) (slice_get rs n)
-
-abbrev pub sights : Shape → List Record → List Sight
-sights shape rs = map (sight shape rs) (range_with_len 0 (length rs))
 
 -- ---- kinds
 

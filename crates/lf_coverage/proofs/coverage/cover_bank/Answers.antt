@@ -89,6 +89,13 @@ returns c =
     c.in-Ok.ensures.order.numbered in
     let step = λ (pushed : (count : BankPoint → ℕ) → AreCounts c.in_ok-counts.counts count
     → new ≡ old ++ map (tally_of bank count) (bank_points shape)) (before : AreOfBanks shape lists bank old).
-    subst (λ (n : ℕ). AreOfBanks shape lists n new) (sym (add-one bank))
-    (old, before, (order, numbered, pushed (λ point. reached shape order point (length order)) c.in_ok-counts.ensures)) in
+    subst (λ (n : ℕ). AreOfBanks shape lists n new) (sym (add-one bank)) (
+      old,
+      before,
+      (
+        order,
+        numbered,
+        pushed (λ point. reached shape order point (length order)) c.in_ok-counts.ensures,
+      ),
+    ) in
     on_ok c.add_bank.result step c.add_bank.ensures
