@@ -22,15 +22,15 @@ Answers:
 
 The first three name the fault as check does, and the event of the trace
 upon which a port or a bank broke first: here the one at place 1 of log 0,
-which begins at byte 104 of the trace. The line is printed as soon as that
-record is read. The last one says that the trace is one of another
-hierarchy. No bytes that follow can make such a trace legal.
+which begins at byte 104 of the trace. The last one says that the trace is
+one of another hierarchy. No bytes that follow can make such a trace legal.
+
+The line is printed as soon as that record or header is read, and watch
+ends. That closes the pipe, which ends a simulation that writes its trace
+into it. TRACE may be a FIFO too.
 
 If nothing broke before the end of the trace, the line is that of check;
 see score help check.
-
-The pipe is closed then, which ends a simulation that writes its trace into
-it. TRACE may be a FIFO too.
 
 Exit status:
   0  yes

@@ -146,7 +146,7 @@ fn help_is_asked_for(rt: HostRuntime) -> Result<(), Fail> {
     }
     let demo = ["demo events=200", "refused turns", "Examples:"];
     has_help(&rt, "score help demo", demo.as_slice())?;
-    let watch = ["broken header Ports", "simulate | score watch", "Examples:"];
+    let watch = ["broken header Ports", "closes the pipe", "Examples:"];
     has_help(&rt, "score help watch", watch.as_slice())?;
     let explain = ["before it:", "--events <N>", "[default: 15]", "Examples:"];
     has_help(&rt, "score help explain", explain.as_slice())?;
