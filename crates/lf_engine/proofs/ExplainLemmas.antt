@@ -1,6 +1,7 @@
 -- Laws of what a run that explains comes to and tells.
 use Rattle.std.proofs.Common.{◌≡◌, ℕ, Bool, true, false, List, Option, None, Some, Result, Ok, Err, IfOk}
 use Rattle.std.proofs.Common.{String, string_bytes, sym, ap, ◌∙◌, subst, refl, inl, inr}
+use Rattle.std.specs.Prelude.{IfErr}
 use Rattle.std.specs.Global.{Global}
 use Rattle.lf_rules.specs.declared.shape.Shape.{Shape}
 use Rattle.lf_config.specs.Configuration.{configuration_of}
@@ -33,6 +34,20 @@ decided : (v : Verdict) → is_told v ≡ true → IsDecided v
 decided (Yes events order) told = tt
 decided (No f) told = tt
 decided (Refused f) told = told_refusal f told
+
+-- Lines that memory sufficed for are those of the report, and otherwise memory is what it refuses.
+pub lines_of_report : {E : Type 0} (shape : Shape) (bytes : List ℕ) (time : Times) (most : ℕ) (v : Verdict)
+    (lines : Result (Option (String Global)) E) (r : Report) → IfOk lines (HasWhyLines shape bytes time most v)
+    → IfOk lines (λ told. (r.verdict ≡ v) × (r.lines ≡ told))
+    → IfErr lines (λ _. (r.verdict ≡ Refused refusals.Memory) × (r.lines ≡ None))
+    → HasWhyLines shape bytes time most r.verdict r.lines
+lines_of_report shape bytes time most v (Ok told) r has same memory =
+    subst (λ (w : Verdict). HasWhyLines shape bytes time most w r.lines) (sym same.0)
+    (subst (λ (lines : Option (String Global)). HasWhyLines shape bytes time most v lines) (sym same.1) has)
+lines_of_report shape bytes time most v (Err e) r has same memory =
+    subst (λ (w : Verdict). HasWhyLines shape bytes time most w r.lines) (sym memory.0)
+    (subst (λ (lines : Option (String Global)). HasWhyLines shape bytes time most (Refused refusals.Memory) lines)
+    (sym memory.1) refl)
 
 -- What is told of the bytes is told of those that the reader answered.
 pub why_read : (old new : Account) (config : List ℕ) (shape : Shape) (bytes : List ℕ) (time : Times) (most : ℕ) (judged v : Verdict)

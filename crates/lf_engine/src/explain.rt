@@ -23,7 +23,7 @@ use crate::statistics::{judge_and_keep, tell_report};
 use lf_codec::{exact_reading, fault_so_far, faults_stand};
 use lf_rules::{NoMemory, Shape};
 use lf_stream::{Counted, Source};
-use lf_verdict::{Refusal, Verdict, no_has_no_run};
+use lf_verdict::{Verdict, no_has_no_run};
 use lf_why::{Asked, WhyText, why_of};
 use std::alloc::Global;
 use std::io::{Read, Write};
@@ -79,16 +79,8 @@ fn explained(alloc: Global, shape: &Shape, judged: Judged, asked: &Asked<'_>) ->
     ensures why { HasWhyLines shape.now judged.bytes.items (told_by asked.now.times) asked.now.most result.verdict
         result.lines }
 {
-    match lines_for(alloc, shape, &judged, asked) {
-        Ok(lines) => Report {
-            verdict: judged.verdict,
-            lines,
-        },
-        Err(NoMemory) => Report {
-            verdict: Verdict::Refused(Refusal::Memory),
-            lines: None,
-        },
-    }
+    let lines = lines_for(alloc, shape, &judged, asked);
+    Report::of(judged.verdict, lines)
 }
 
 /// Reads, judges and explains for the shape.

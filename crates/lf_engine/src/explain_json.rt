@@ -11,7 +11,7 @@ ghost use Rattle.lf_stream.specs.Counted.{calls_of, failures_of, account_of};
 ghost use Rattle.lf_why.specs.NotLegal.{IsEarliestIf};
 ghost use Rattle.lf_engine.specs.declared.fault.RunFault.{RunFault};
 ghost use Rattle.lf_engine.specs.Report.{verdict_in};
-ghost use Rattle.lf_engine.specs.Run.{IsAsked, IsOutcome, Follows, IsRunWriting};
+ghost use Rattle.lf_engine.specs.Run.{IsAsked, IsOutcome, IsRunWriting};
 
 use crate::engine::shape_for;
 use crate::fault::RunFault;
@@ -22,7 +22,7 @@ use lf_codec::{exact_reading, fault_so_far, faults_stand};
 use lf_json::{Answer, Told, explained_json, no_memory_json, not_read_json};
 use lf_rules::{NoMemory, Shape};
 use lf_stream::{Counted, Source, put};
-use lf_verdict::{Refusal, Verdict, no_has_no_run};
+use lf_verdict::{Verdict, no_has_no_run};
 use lf_why::{Asked, why_of};
 use std::alloc::Global;
 use std::io::{Read, Write};
@@ -33,7 +33,7 @@ fn text_of(
     verdict: &Verdict,
     config: &str,
     told: Option<Told<'_>>,
-) -> Result<String, NoMemory> {
+) -> Result<Option<String>, NoMemory> {
     let line = Line::Judged(verdict);
     let line = format!(in alloc; "{line}")?;
     let answer = Answer {
@@ -42,7 +42,7 @@ fn text_of(
         config,
         told,
     };
-    explained_json(alloc, &answer)
+    Ok(Some(explained_json(alloc, &answer)?))
 }
 
 /// The text of the verdict on these bytes.
@@ -52,7 +52,7 @@ fn text_for(
     config: &str,
     judged: &Judged,
     asked: &Asked<'_>,
-) -> Result<String, NoMemory>
+) -> Result<Option<String>, NoMemory>
     requires in_range { IsShape shape.now }
     requires judged { IsDecided judged.now.verdict → IsVerdictOf shape.now 1 judged.now.bytes.items judged.now.verdict }
     requires earliest { IsEarliestIf shape.now judged.now.bytes.items judged.now.earliest }
@@ -78,22 +78,6 @@ fn text_for(
     }
 }
 
-/// The text goes with the verdict. Where memory ran out, that is the verdict.
-fn with_text(verdict: Verdict, text: Result<String, NoMemory>) -> Report
-    ensures { Follows (Ok verdict) (Ok result.verdict) }
-{
-    match text {
-        Ok(text) => Report {
-            verdict,
-            lines: Some(text),
-        },
-        Err(NoMemory) => Report {
-            verdict: Verdict::Refused(Refusal::Memory),
-            lines: None,
-        },
-    }
-}
-
 /// Reads, judges and explains for the shape.
 fn json_for<T: AllocGlobal, S: Source>(
     rt: &T,
@@ -111,7 +95,7 @@ fn json_for<T: AllocGlobal, S: Source>(
 {
     let judged = judge_and_keep(rt, source, shape, turns)?;
     let text = text_for(rt.alloc(), shape, config, &judged, asked);
-    Ok(with_text(judged.verdict, text))
+    Ok(Report::of(judged.verdict, text))
 }
 
 /// Judges the configuration, and only then reads.
@@ -133,7 +117,7 @@ fn json_configured<T: AllocGlobal, S: Source>(
         Err(refusal) => {
             let verdict = Verdict::Refused(refusal);
             let text = text_of(rt.alloc(), &verdict, config, None);
-            Ok(with_text(verdict, text))
+            Ok(Report::of(verdict, text))
         }
     }
 }

@@ -1,11 +1,14 @@
 //! The statistics and the coverage of a trace that was kept.
 
-ghost use Rattle.std.specs.Prelude.{◌≡◌, IfOk, string_bytes};
+ghost use Rattle.std.specs.Prelude.{◌≡◌, None, Ok, IfOk, IfErr, string_bytes};
 ghost use Rattle.lf_rules.specs.InRange.{IsShape};
 ghost use Rattle.lf_stats.specs.Text.{stats_text};
 ghost use Rattle.lf_coverage.specs.Text.{coverage_text};
 ghost use Rattle.lf_coverage.specs.Data.{data_text};
 ghost use Rattle.lf_contents.specs.Logs.{IsCountable};
+ghost use Rattle.lf_verdict.specs.declared.answer.Verdict.{Verdict};
+ghost use Rattle.lf_verdict.specs.declared.answer.Refusal.{Refusal};
+ghost use Rattle.lf_engine.specs.Run.{Follows};
 ghost use Rattle.lf_engine.specs.Report.{AreStatisticsOf, AreStatisticsLines, IsCoverageOf, AreCoverageLines};
 ghost use Rattle.lf_engine.specs.Report.{AreDataLines, ArePrintedFor};
 
@@ -13,7 +16,7 @@ use lf_contents::logs_in;
 use lf_coverage::{Coverage, CoverageData, cover};
 use lf_rules::{NoMemory, Shape};
 use lf_stats::{Stats, stats};
-use lf_verdict::{Broken, Verdict};
+use lf_verdict::{Broken, Refusal, Verdict};
 use std::alloc::{AllocError, Global};
 
 /// Which lines are wanted of a trace that is legal.
@@ -33,11 +36,29 @@ pub struct Judged {
     pub earliest: Option<Broken>,
 }
 
-/// What a run came to: a verdict, and after a yes the lines that are wanted.
+/// What a run came to: a verdict, and the lines that are told of it, where there are any.
 #[derive(Drop)]
 pub struct Report {
     pub verdict: Verdict,
     pub lines: Option<String>,
+}
+
+impl Report {
+    /// The lines go with the verdict. Where memory ran out for them, that is the verdict, and there are none.
+    pub fn of(verdict: Verdict, lines: Result<Option<String>, NoMemory>) -> Report
+        ensures follows { Follows (Ok verdict) (Ok result.verdict) }
+        ensures lines { IfOk lines (λ told. (result.verdict ≡ verdict) × (result.lines ≡ told)) }
+        ensures memory { IfErr lines (λ _. (result.verdict ≡ Verdict.Refused Refusal.Memory) ×
+            (result.lines ≡ None)) }
+    {
+        match lines {
+            Ok(lines) => Report { verdict, lines },
+            Err(NoMemory) => Report {
+                verdict: Verdict::Refused(Refusal::Memory),
+                lines: None,
+            },
+        }
+    }
 }
 
 /// The statistics of the trace in these bytes.

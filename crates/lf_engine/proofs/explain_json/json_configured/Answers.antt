@@ -9,4 +9,4 @@ returns-in-Ok-clause-outcome g c = outcome_for _ _ _ _ _ _ _ c.in-Ok.ensures.con
 pub returns-in-Err-clause-outcome : goal.returns-in-Err-clause-outcome
 returns-in-Err-clause-outcome g c =
     outcome_told _ _ _ _ _ _ _ _
-    (refused_outcome _ _ _ _ _ c.in-Err.ensures.refused c.requires.calls c.requires.failures) c.with_text.ensures
+    (refused_outcome _ _ _ _ _ c.in-Err.ensures.refused c.requires.calls c.requires.failures) c.of.ensures.follows
