@@ -8,7 +8,6 @@ pub mod Final
 pub mod Laws
 pub mod ConfiguredLaws
 pub mod Collected
-pub mod Rechecked
 pub mod Text
 -- What a session was fed, and how its parts stand then.
 pub mod Session

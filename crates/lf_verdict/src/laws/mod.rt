@@ -5,7 +5,6 @@ ghost use Rattle.lf_verdict.specs.Laws.{YesIsLegal, NoHasNoRun, VerdictsAreOne, 
 
 mod collected;
 mod configured;
-mod rechecked;
 
 pub use collected::collected_logs_are_in_order;
 pub use configured::{mixtures_are_alike_for, verdicts_for_are_one};
@@ -16,7 +15,6 @@ use lf_rules::{
     orders_interleave, outcomes_are_one, rings_admit_none, runs_are_right, runs_by_parts,
     skeletons_follow,
 };
-pub use rechecked::yes_is_rechecked;
 
 /// Where each part of a trace runs and its logs have an order, the trace is legal by that order.
 pub fn yes_is_legal()

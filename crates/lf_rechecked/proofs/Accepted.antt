@@ -11,7 +11,7 @@ use Rattle.lf_codec.specs.Laws.{BytesAreOfOneTrace}
 use Rattle.lf_logs.specs.Lists.{logs_of}
 use Rattle.lf_verdict.specs.Laws.{YesIsLegal}
 use Rattle.lf_verdict.specs.Legal.{IsTraceFor, IsLegal}
-use Rattle.lf_verdict.specs.Rechecked.{YesIsRechecked}
+use Rattle.lf_rechecked.specs.Rechecked.{YesIsRechecked}
 use Rattle.lf_verdict.proofs.Traces.{trace_names}
 
 module _ (legal : YesIsLegal) (interleave : OrdersInterleave) (one_answer : RechecksAreOne)

@@ -1,0 +1,2 @@
+-- What the plain machine answers to the order of a yes.
+pub mod Rechecked
