@@ -46,7 +46,8 @@ fn lines_for(
 ) -> Result<Option<String>, NoMemory>
     requires in_range { IsShape shape.now }
     requires judged { IsDecided judged.now.verdict → IsVerdictOf shape.now 1 judged.now.bytes.items judged.now.verdict }
-    requires earliest { IsEarliestIf shape.now judged.now.bytes.items judged.now.earliest }
+    requires earliest { IsDecided judged.now.verdict →
+        IsEarliestIf shape.now judged.now.bytes.items judged.now.earliest }
     ensures { IfOk result (HasWhyLines shape.now judged.now.bytes.items (told_by asked.now.times) asked.now.most
         judged.now.verdict) }
 {
@@ -74,7 +75,7 @@ fn lines_for(
 fn explained(alloc: Global, shape: &Shape, judged: Judged, asked: &Asked<'_>) -> Report
     requires shape { IsShape shape.now }
     requires judged { IsDecided judged.verdict → IsVerdictOf shape.now 1 judged.bytes.items judged.verdict }
-    requires earliest { IsEarliestIf shape.now judged.bytes.items judged.earliest }
+    requires earliest { IsDecided judged.verdict → IsEarliestIf shape.now judged.bytes.items judged.earliest }
     ensures follows { Follows (Ok judged.verdict) (Ok result.verdict) }
     ensures why { HasWhyLines shape.now judged.bytes.items (told_by asked.now.times) asked.now.most result.verdict
         result.lines }

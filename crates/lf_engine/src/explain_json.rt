@@ -55,7 +55,8 @@ fn text_for(
 ) -> Result<Option<String>, NoMemory>
     requires in_range { IsShape shape.now }
     requires judged { IsDecided judged.now.verdict → IsVerdictOf shape.now 1 judged.now.bytes.items judged.now.verdict }
-    requires earliest { IsEarliestIf shape.now judged.now.bytes.items judged.now.earliest }
+    requires earliest { IsDecided judged.now.verdict →
+        IsEarliestIf shape.now judged.now.bytes.items judged.now.earliest }
 {
     let bytes = judged.bytes.as_slice();
     match why_of(

@@ -53,7 +53,7 @@ pub fn judge_and_keep<T: AllocGlobal, S: Source>(
     ensures kept { IfOk result (λ j. IsDecided j.verdict →
         Reads (S.account source.old) (S.account source.new) j.bytes.items) }
     ensures verdict { IfOk result (λ j. IsDecided j.verdict → IsVerdictOf shape.now 1 j.bytes.items j.verdict) }
-    ensures earliest { IfOk result (λ j. IsEarliestIf shape.now j.bytes.items j.earliest) }
+    ensures earliest { IfOk result (λ j. IsDecided j.verdict → IsEarliestIf shape.now j.bytes.items j.earliest) }
 {
     fault_so_far();
     let mut keeping = Keeping {
@@ -66,11 +66,11 @@ pub fn judge_and_keep<T: AllocGlobal, S: Source>(
     match gather(source, buffer.as_mut_slice(), &mut keeping, turns) {
         Ok(()) => {
             let Keeping { session, bytes } = keeping;
-            let earliest = session.broken();
+            let end = session.conclude();
             Ok(Judged {
-                verdict: session.finish(),
+                verdict: end.verdict,
                 bytes,
-                earliest,
+                earliest: end.broken,
             })
         }
         Err(Stop::Sink(NoMemory)) => Ok(out_of_memory(keeping.bytes)),

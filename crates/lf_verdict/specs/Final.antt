@@ -14,11 +14,11 @@ use Rattle.lf_verdict.specs.declared.session.breaking.Broken.{Broken}
 use Rattle.lf_verdict.specs.declared.session.breaking.Broken.TheVariants as broken
 use Rattle.lf_verdict.specs.declared.answer.HeaderField.{HeaderField}
 use Rattle.lf_verdict.specs.Breaking.{first_offset, IsFaultOfPart, NoneBroke, IsFirstBreak}
-use Rattle.lf_verdict.specs.Legal.{Agrees}
+use Rattle.lf_verdict.specs.Legal.{Agrees, IsTraceFor}
 use Rattle.lf_verdict.specs.declared.session.intake.Intake.{Intake}
 use Rattle.lf_verdict.specs.declared.session.intake.Judging.{Judging}
 use Rattle.lf_verdict.specs.declared.session.intake.Judging.TheVariants.{Waiting, Running, Another}
-use Rattle.lf_verdict.specs.Session.{HasJudged}
+use Rattle.lf_verdict.specs.Session.{HasJudged, IsOfAnotherHeader}
 use Rattle.lf_verdict.specs.declared.answer.Fault.{Fault}
 use Rattle.lf_verdict.specs.declared.answer.Fault.TheVariants.{Missing, Double, Port, Bank}
 use Rattle.lf_verdict.specs.declared.answer.Verdict.{Verdict}
@@ -86,9 +86,9 @@ pub record IsFirstOf (shape : Shape) (bytes : List ℕ) (fault : PartFault) (upo
   pub begins : Begins shape bytes memory records
   pub first : IsFirstBreak (first_offset begins.header memory) shape (flat_memory memory) records fault upon
 
--- Where a part broke a record is named, and it is that one.
+-- Where a part broke a record is named, and it is that one. A header is named by the first field that differs.
 abbrev pub IsEarliest : Shape → List ℕ → Broken → Type 0
-IsEarliest shape bytes (broken.Header field) = Unit {0}
+IsEarliest shape bytes (broken.Header field) = IsOfAnotherHeader shape bytes field
 IsEarliest shape bytes (broken.Part fault None) = ⊥
 IsEarliest shape bytes (broken.Part fault (Some upon)) = IsFirstOf shape bytes fault upon
 
@@ -102,3 +102,8 @@ IsUnbrokenSoFar s (Another field) records = ⊥
 abbrev pub IsUnbroken : Intake → List ℕ → Type 0
 IsUnbroken s bytes = s.stop ≡ None → (records : List Record) → HasJudged s bytes records →
     IsUnbrokenSoFar s s.judging records
+
+-- Where the bytes are a trace for the shape, no part of its records is at fault.
+abbrev pub NoneBrokeInTrace : Shape → List ℕ → Type 0
+NoneBrokeInTrace shape bytes = (memory : List (ℕ × Bytes)) (logs : List (List Record))
+    (trace : IsTraceFor shape bytes memory logs) → NoneBroke shape (flat_memory memory) trace.records

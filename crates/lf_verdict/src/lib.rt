@@ -26,4 +26,4 @@ pub use laws::{
 pub use lf_pool::{Gate, NoGate, is_worker_count};
 pub use lf_rules::Ring;
 pub use pool::{check, check_shape};
-pub use session::{Broken, ParallelSession, PartFault, Session, Upon};
+pub use session::{Broken, Conclusion, ParallelSession, PartFault, Session, Upon};

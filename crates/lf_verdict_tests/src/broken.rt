@@ -5,7 +5,7 @@ ghost use Rattle.lf_rules.specs.InRange.{IsShape};
 
 use lf_rules::{Rule, Shape};
 use lf_samples::{C1, LOAD_MISSES_BOTH_LEVELS, TWO_PORTS_TWO_BANKS, records_at, trace};
-use lf_verdict::{Broken, HeaderField, PartFault, Session, Upon};
+use lf_verdict::{Broken, Conclusion, Fault, HeaderField, PartFault, Session, Upon, Verdict};
 use std::process::Abort;
 use std::test::Fail;
 
@@ -29,6 +29,15 @@ fn told_after<T: AllocGlobal>(
         }
     }
     None
+}
+
+/// What a session answers that ends after these bytes.
+fn end_after<T: AllocGlobal>(rt: &T, shape: &Shape, bytes: &[u8]) -> Conclusion
+    requires { IsShape shape.now }
+{
+    let mut session = Session::for_shape(rt.alloc(), shape);
+    let _ = session.feed(bytes);
+    session.conclude()
 }
 
 fn part(fault: PartFault, upon: Upon) -> Broken {
@@ -56,6 +65,9 @@ fn assert_broken<T: Abort + AllocGlobal>(
 fn a_legal_trace_breaks_nowhere(rt: HostRuntime) -> Result<(), Fail> {
     let told = told_after(&rt, &C1, &LOAD_MISSES_BOTH_LEVELS, 1);
     assert_eq!(&rt; told, None);
+    let end = end_after(&rt, &C1, &LOAD_MISSES_BOTH_LEVELS);
+    assert!(&rt; matches!(&end.verdict, Verdict::Yes { .. }));
+    assert_eq!(&rt; end.broken, None);
     Ok(())
 }
 
@@ -70,7 +82,16 @@ fn a_wrong_byte_is_told_with_its_record(rt: HostRuntime) -> Result<(), Fail> {
     };
     let (log, at, offset) = (0, 1, 104);
     let due = part(fault, Upon { log, at, offset });
-    assert_broken(&rt, &C1, &bytes[..124], 124, due)
+    assert_broken(&rt, &C1, &bytes[..124], 124, due)?;
+    let end = end_after(&rt, &C1, &bytes);
+    let verdict = Verdict::No(Fault::Bank {
+        bank: 0,
+        number: 5,
+        rule: Rule::ReplyData,
+    });
+    assert_eq!(rt; end.verdict, verdict);
+    assert_eq!(rt; end.broken, Some(due));
+    Ok(())
 }
 
 #[test]

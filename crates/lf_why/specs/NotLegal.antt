@@ -1,6 +1,5 @@
 -- Why a trace is not legal.
 use Rattle.std.specs.Prelude.{◌≡◌, ℕ, Bool, true, false, ◌&&◌, ◌==◌, List, [], ◌∷◌, ◌++◌, codes, Option, Some, None}
-use Rattle.std.specs.Prelude.{IfSome}
 use Rattle.lf_rules.specs.declared.shape.Shape.{Shape}
 use Rattle.lf_rules.specs.declared.event.Record.{Record}
 use Rattle.lf_rules.specs.Fits.{Bytes}
@@ -13,7 +12,7 @@ use Rattle.lf_verdict.specs.declared.session.breaking.PartFault.TheVariants as p
 use Rattle.lf_verdict.specs.declared.session.breaking.Broken.{Broken}
 use Rattle.lf_verdict.specs.declared.session.breaking.Broken.TheVariants as broken
 use Rattle.lf_verdict.specs.Breaking.{first_offset}
-use Rattle.lf_verdict.specs.Final.{IsEarliest}
+use Rattle.lf_verdict.specs.Final.{IsEarliest, NoneBrokeInTrace}
 use Rattle.lf_verdict.specs.Legal.{IsTraceFor}
 use Rattle.lf_why.specs.declared.cause.Cause.{Cause}
 use Rattle.lf_why.specs.declared.not_legal.NotLegal.{NotLegal}
@@ -39,9 +38,10 @@ abbrev pub HasBankOfFirst : Shape → Option Broken → Type 0
 HasBankOfFirst shape (Some (broken.Part part upon)) = HasBankOf shape (as_fault part)
 HasBankOfFirst shape _ = Unit {0}
 
--- It is what broke first in the bytes.
+-- It is what broke first in the bytes, or where nothing is told, no part of a trace in them is at fault.
 abbrev pub IsEarliestIf : Shape → List ℕ → Option Broken → Type 0
-IsEarliestIf shape bytes earliest = IfSome earliest (IsEarliest shape bytes)
+IsEarliestIf shape bytes (Some found) = IsEarliest shape bytes found
+IsEarliestIf shape bytes None = NoneBrokeInTrace shape bytes
 
 abbrev pub IsSomeCause : Shape → List (ℕ × Bytes) → List Record → ℕ → Fault → Option Cause → Type 0
 IsSomeCause shape memory rs most fault (Some cause) = IsCause shape memory rs most fault cause

@@ -21,10 +21,9 @@ fn told<T: AllocGlobal>(
 {
     let mut session = Session::for_shape(rt.alloc(), shape);
     let _ = session.feed(bytes);
-    let earliest = session.broken();
-    let verdict = session.finish();
+    let end = session.conclude();
     let asked = Asked { most: 1, times };
-    let Some(why) = why_of(rt.alloc(), shape, bytes, &verdict, &earliest, &asked)? else {
+    let Some(why) = why_of(rt.alloc(), shape, bytes, &end.verdict, &end.broken, &asked)? else {
         return Ok(String::new(rt.alloc()));
     };
     let text = WhyText {

@@ -70,7 +70,7 @@ pub fn why_of(
 ) -> Result<Option<Why>, NoMemory>
     requires in_range { IsShape shape.now }
     requires judged { IsDecided verdict.now → IsVerdictOf shape.now 1 bytes.now verdict.now }
-    requires earliest { IsEarliestIf shape.now bytes.now earliest.now }
+    requires earliest { IsDecided verdict.now → IsEarliestIf shape.now bytes.now earliest.now }
     ensures { IfOk result (HasWhy shape.now bytes.now (told_by asked.now.times) asked.now.most verdict.now) }
 {
     match verdict {

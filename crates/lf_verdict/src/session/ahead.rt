@@ -285,7 +285,7 @@ impl<G: Gate + Sync + Send + Copy + 'static> Ahead<G> {
             return Verdict::Refused(refusal_of(stop));
         }
         match self.settle(rt) {
-            Ok(()) => self.intake.answer(),
+            Ok(()) => self.intake.conclude().verdict,
             Err(NoMemory) => Verdict::Refused(Refusal::Memory),
         }
     }

@@ -1,6 +1,6 @@
 //! What broke for good, whatever bytes follow.
 
-use crate::answer::HeaderField;
+use crate::answer::{HeaderField, Verdict};
 use lf_rules::Rule;
 
 /// A fault of one part of a trace. It stands whatever records follow.
@@ -36,6 +36,14 @@ pub enum Broken {
         fault: PartFault,
         upon: Option<Upon>,
     },
+}
+
+/// What a session answers when it ends.
+#[derive(Debug, Drop)]
+pub struct Conclusion {
+    pub verdict: Verdict,
+    /// What broke first, where something did.
+    pub broken: Option<Broken>,
 }
 
 /// The first record of a trace upon which a part broke, and a fault that broke upon it.

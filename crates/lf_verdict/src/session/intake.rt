@@ -6,7 +6,8 @@ ghost use Rattle.lf_rules.specs.InRange.{IsShape};
 ghost use Rattle.lf_verdict.specs.inner.Ending.{IsVerdictOrWant};
 ghost use Rattle.lf_verdict.specs.Standing.{IsWatch, IsKnown, StandsAfterAll};
 ghost use Rattle.lf_verdict.specs.inner.Noting.{EndsInRange};
-ghost use Rattle.lf_verdict.specs.Final.{IsFinal, IsEarliest, IsUnbroken};
+ghost use Rattle.lf_verdict.specs.Verdict.{IsDecided};
+ghost use Rattle.lf_verdict.specs.Final.{IsFinal, IsEarliest, IsUnbroken, NoneBrokeInTrace};
 ghost use Rattle.lf_verdict.specs.Session.{refusal_of, stop_told, IsRunning, HasTaken, IsRunningNow, IsInTurn, HasFed};
 ghost use Rattle.lf_verdict.specs.inner.Taking.{IsStopOf, IsLackingIf, IsDrained, CanJudge};
 ghost use Rattle.lf_codec.specs.Reader.{fault_in, answer_of, bytes_taken, with_record, TakesSome};
@@ -22,7 +23,7 @@ ghost use Rattle.lf_verdict.specs.inner.Coming.{MayAllCome};
 use crate::answer::{HeaderField, Refusal, Verdict};
 use crate::header::{differing, first_offset};
 use crate::laws::{other_headers_are_final, part_faults_are_final};
-use crate::session::breaking::Broken;
+use crate::session::breaking::{Broken, Conclusion};
 use crate::session::standing::Standing;
 use lf_codec::{
     CodecCause, CodecFault, Reader, Told, exact_reading, faults_stand, header_of_bytes, read_so_far,
@@ -364,19 +365,13 @@ impl Intake {
         }
     }
 
-    /// The verdict of the bytes that were fed.
-    pub fn answer(&mut self) -> Verdict
-        requires { (bytes : List ℕ) × HasFed self.old bytes }
-        ensures answer { (bytes : List ℕ) → HasFed self.old bytes → IsVerdictOrWant self.old.shape bytes result }
-        ensures stopped { IfSome self.old.stop (λ stop. result ≡ Verdict.Refused (refusal_of stop)) }
+    /// The verdict of the bytes that were fed, once what came is judged.
+    fn verdict(&mut self) -> Verdict
+        requires taken { (bytes : List ℕ) × HasTaken self.old bytes }
+        requires drained { IsDrained self.old.judging self.old.reader self.old.memory.items }
+        ensures { (bytes : List ℕ) → HasTaken self.old bytes → IsVerdictOrWant self.old.shape bytes result }
     {
         exact_reading();
-        if let Some(stop) = self.stop {
-            return Verdict::Refused(refusal_of(stop));
-        }
-        if let Err(NoMemory) = self.take_all() {
-            return Verdict::Refused(Refusal::Memory);
-        }
         if let Err(told) = self.reader.finish() {
             return Verdict::Refused(refusal_of(stop_of(told)));
         }
@@ -384,6 +379,43 @@ impl Intake {
             Judging::Waiting => unreachable!(),
             Judging::Another(field) => Verdict::Refused(Refusal::Header(*field)),
             Judging::Running(standing) => standing.verdict(self.alloc),
+        }
+    }
+
+    /// The verdict of the bytes that were fed, and what broke first in them. Where they are judged and nothing is told,
+    /// no part of a trace in them is at fault.
+    pub fn conclude(&mut self) -> Conclusion
+        requires { (bytes : List ℕ) × HasFed self.old bytes }
+        ensures answer { (bytes : List ℕ) → HasFed self.old bytes →
+            IsVerdictOrWant self.old.shape bytes result.verdict }
+        ensures stopped { IfSome self.old.stop (λ stop. result.verdict ≡ Verdict.Refused (refusal_of stop)) }
+        ensures stands { (bytes : List ℕ) → HasFed self.old bytes →
+            IfSome result.broken (IsFinal self.old.shape bytes) }
+        ensures earliest { IsInTurn self.old.judging → (bytes : List ℕ) → HasFed self.old bytes
+            → IfSome result.broken (IsEarliest self.old.shape bytes) }
+        ensures none { IsDecided result.verdict → (bytes : List ℕ) → HasFed self.old bytes
+            → IfNone result.broken (NoneBrokeInTrace self.old.shape bytes) }
+    {
+        exact_reading();
+        read_so_far();
+        if let Some(stop) = self.stop {
+            let verdict = Verdict::Refused(refusal_of(stop));
+            return Conclusion {
+                verdict,
+                broken: None,
+            };
+        }
+        if let Err(NoMemory) = self.take_all() {
+            let verdict = Verdict::Refused(Refusal::Memory);
+            return Conclusion {
+                verdict,
+                broken: None,
+            };
+        }
+        let found = self.broken();
+        Conclusion {
+            verdict: self.verdict(),
+            broken: found,
         }
     }
 

@@ -9,7 +9,7 @@ ghost use Rattle.lf_verdict.specs.declared.answer.Verdict.{Verdict};
 ghost use Rattle.lf_verdict.specs.declared.answer.Refusal.{Refusal};
 ghost use Rattle.lf_verdict.specs.Verdict.{IsDecided, IsVerdictOf, IsLegalYes};
 ghost use Rattle.lf_verdict.specs.Laws.{IsRunlessNo};
-ghost use Rattle.lf_verdict.specs.Final.{IsFinal, IsEarliest, IsUnbroken};
+ghost use Rattle.lf_verdict.specs.Final.{IsFinal, IsEarliest, IsUnbroken, NoneBrokeInTrace};
 ghost use Rattle.lf_verdict.specs.Session.{IsConfigRefusal, refusal_of, stop_told, IsRefusalSoFar, HasFed};
 
 mod ahead;
@@ -22,7 +22,7 @@ mod standing;
 use crate::answer::{Refusal, Verdict};
 use crate::laws::{no_has_no_run, yes_is_legal};
 use crate::session::intake::Intake;
-pub use breaking::{Broken, PartFault, Upon};
+pub use breaking::{Broken, Conclusion, PartFault, Upon};
 use lf_codec::Told;
 use lf_config::{ConfigFault, read};
 use lf_rules::Shape;
@@ -99,6 +99,28 @@ impl Session {
         self.intake.broken()
     }
 
+    /// The verdict of the bytes that were fed, as that of `finish`, and what broke first in them, as `broken` tells it
+    /// once all of them are judged. So where the verdict is a yes or a no and nothing is told, no part of the trace is
+    /// at fault. After a refused `feed`, and where memory ran out, nothing is told.
+    pub fn conclude(self) -> Conclusion
+        ensures legal { (bytes : List ℕ) → HasFed self bytes → IsLegalYes self.shape bytes result.verdict }
+        ensures runless { (bytes : List ℕ) → HasFed self bytes → IsRunlessNo self.shape bytes result.verdict }
+        ensures verdict { (bytes : List ℕ) → HasFed self bytes → IsDecided result.verdict →
+            IsVerdictOf self.shape 1 bytes result.verdict }
+        ensures stopped { IfSome self.stop (λ stop. result.verdict ≡ Verdict.Refused (refusal_of stop)) }
+        ensures thread { ¬ (result.verdict ≡ Verdict.Refused Refusal.Thread) }
+        // What broke.
+        ensures stands { (bytes : List ℕ) → HasFed self bytes → IfSome result.broken (IsFinal self.shape bytes) }
+        ensures earliest { (bytes : List ℕ) → HasFed self bytes → IfSome result.broken (IsEarliest self.shape bytes) }
+        ensures none { IsDecided result.verdict → (bytes : List ℕ) → HasFed self bytes →
+            IfNone result.broken (NoneBrokeInTrace self.shape bytes) }
+    {
+        yes_is_legal();
+        no_has_no_run();
+        let mut intake = self.intake;
+        intake.conclude()
+    }
+
     /// The verdict of the bytes that were fed: that of `check_shape`. After a refused
     /// `feed` it is that refusal.
     pub fn finish(self) -> Verdict
@@ -109,9 +131,6 @@ impl Session {
         ensures stopped { IfSome self.stop (λ stop. result ≡ Verdict.Refused (refusal_of stop)) }
         ensures thread { ¬ (result ≡ Verdict.Refused Refusal.Thread) }
     {
-        yes_is_legal();
-        no_has_no_run();
-        let mut intake = self.intake;
-        intake.answer()
+        self.conclude().verdict
     }
 }

@@ -10,5 +10,5 @@ pub returns-in-Ok-clause-answer : goal.returns-in-Ok-clause-answer
 returns-in-Ok-clause-answer g c bytes fed =
     let s = c.settle.new.self.intake in
     let taken = c.in-Ok.ensures.taken bytes (going (session_of c.args.self.now) bytes c.in_default.is fed) in
-    subst (λ (shape : Shape). IsVerdictOrWant shape bytes c.answer.result) c.in-Ok.ensures.shape
-    (c.answer.ensures.answer bytes (still_going s bytes (c.in-Ok.ensures.stop ∙ c.in_default.is) taken))
+    subst (λ (shape : Shape). IsVerdictOrWant shape bytes c.conclude.result.verdict) c.in-Ok.ensures.shape
+    (c.conclude.ensures.answer bytes (still_going s bytes (c.in-Ok.ensures.stop ∙ c.in_default.is) taken))

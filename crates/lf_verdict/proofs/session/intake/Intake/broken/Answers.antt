@@ -46,6 +46,12 @@ returns-in-Another-clause-stands c bytes fed =
     c.other_headers_are_final.ensures s.shape bytes other.header c.in-Another.field m.1.read.are_bytes other.read
     other.differs
 
+pub returns-in-Another-clause-earliest : goal.returns-in-Another-clause-earliest
+returns-in-Another-clause-earliest c turn bytes fed =
+    let s = c.args.self.now in
+    let m = going s bytes (none_of s.stop (sym c.is_some.ensures ∙ c.if-is_some.false)) fed in
+    subst (λ (j : Judging). IsJudging s.shape bytes s.memory.items m.0 j) c.in-Another.is m.1.judging
+
 pub returns-in-Running-clause-stands : goal.returns-in-Running-clause-stands
 returns-in-Running-clause-stands c bytes fed =
     let s = c.args.self.now in

@@ -1,0 +1,71 @@
+use Rattle.std.proofs.Common.{Option, ◌∙◌, subst}
+use Rattle.std.specs.Prelude.{IfSome}
+use Rattle.lf_rules.specs.declared.shape.Shape.{Shape}
+use Rattle.lf_verdict.specs.declared.answer.Refusal.{Refusal}
+use Rattle.lf_verdict.specs.declared.answer.Verdict.TheVariants.{Refused}
+use Rattle.lf_verdict.specs.declared.session.intake.Stop.{Stop}
+use Rattle.lf_verdict.specs.inner.Ending.{IsVerdictOrWant}
+use Rattle.lf_verdict.specs.Final.{IsFinal, IsEarliest, NoneBrokeInTrace}
+use Rattle.lf_verdict.specs.Session.{HasFedUntil}
+use Rattle.lf_verdict.specs.Verdict.{IsDecided}
+use Rattle.lf_verdict.proofs.Aheads.{still_going}
+use Rattle.lf_verdict.proofs.Breaks.{if_none}
+use Rattle.lf_verdict.proofs.Concluded.{none_in_trace, none_stopped}
+use Rattle.lf_verdict.proofs.Sessions.{going}
+use Rattle.lf_verdict.proofs.session.intake.Intake.conclude.Goals as goal
+
+pub returns-in-Some-clause-none : goal.returns-in-Some-clause-none
+returns-in-Some-clause-none c decided bytes fed =
+    let s = c.args.self.now in
+    none_stopped c.exact_reading.ensures s bytes c.in-Some.stop
+    (subst (λ (stop : Option Stop). HasFedUntil s bytes stop) c.in-Some.is fed)
+    (subst (λ (r : Refusal). IsDecided (Refused r)) c.refusal_of.ensures decided)
+
+pub broken-found-requires : goal.broken-found-requires
+broken-found-requires c =
+    let s = c.args.self.now in
+    let t = c.take_all.new.self in
+    let bytes = c.requires.0 in (
+      bytes,
+      still_going t bytes (c.in_default-take_all.ensures.stop ∙ c.in_default.is)
+          (c.in_default-take_all.ensures.taken bytes (going s bytes c.in_default.is c.requires.1)),
+    )
+
+pub verdict-requires-clause-taken : goal.verdict-requires-clause-taken
+verdict-requires-clause-taken c =
+    let s = c.args.self.now in
+    let bytes = c.requires.0 in
+    (bytes, c.in_default-take_all.ensures.taken bytes (going s bytes c.in_default.is c.requires.1))
+
+pub returns-clause-answer : goal.returns-clause-answer
+returns-clause-answer c bytes fed =
+    subst (λ (shape : Shape). IsVerdictOrWant shape bytes c.verdict.result) c.in_default-take_all.ensures.shape
+    (c.verdict.ensures bytes
+    (c.in_default-take_all.ensures.taken bytes (going c.args.self.now bytes c.in_default.is fed)))
+
+pub returns-clause-stands : goal.returns-clause-stands
+returns-clause-stands c bytes fed =
+    let s = c.args.self.now in
+    let t = c.take_all.new.self in
+    subst (λ (shape : Shape). IfSome c.broken-found.result (IsFinal shape bytes)) c.in_default-take_all.ensures.shape
+    (c.broken-found.ensures.stands bytes (still_going t bytes (c.in_default-take_all.ensures.stop ∙ c.in_default.is)
+    (c.in_default-take_all.ensures.taken bytes (going s bytes c.in_default.is fed))))
+
+pub returns-clause-earliest : goal.returns-clause-earliest
+returns-clause-earliest c turn bytes fed =
+    let s = c.args.self.now in
+    let t = c.take_all.new.self in
+    subst (λ (shape : Shape). IfSome c.broken-found.result (IsEarliest shape bytes)) c.in_default-take_all.ensures.shape
+    (c.broken-found.ensures.earliest (c.in_default-take_all.ensures.in_turn turn) bytes
+    (still_going t bytes (c.in_default-take_all.ensures.stop ∙ c.in_default.is)
+    (c.in_default-take_all.ensures.taken bytes (going s bytes c.in_default.is fed))))
+
+pub returns-clause-none : goal.returns-clause-none
+returns-clause-none c decided bytes fed =
+    let s = c.args.self.now in
+    let t = c.take_all.new.self in
+    let m = c.in_default-take_all.ensures.taken bytes (going s bytes c.in_default.is fed) in
+    if_none c.broken-found.result (c.broken-found.ensures.none bytes) (λ unbroken.
+    subst (λ (shape : Shape). NoneBrokeInTrace shape bytes) c.in_default-take_all.ensures.shape
+    (none_in_trace c.exact_reading.ensures c.read_so_far.ensures t bytes m.0 m.1 c.in_default-take_all.ensures.drained
+    (unbroken (c.in_default-take_all.ensures.stop ∙ c.in_default.is) m.0 m.1)))
