@@ -23,7 +23,7 @@ use Rattle.lf_replay.proofs.Runs.{outcome_same}
 use Rattle.lf_verdict.specs.declared.session.standing.port_judge.PortJudge.{PortJudge}
 use Rattle.lf_verdict.specs.declared.session.standing.bank_judge.BankJudge.{BankJudge}
 use Rattle.lf_verdict.specs.Breaking.{AreFirst, BankBreaks, IsFaultOfPart, NoneBroke}
-use Rattle.lf_verdict.specs.inner.Noting.{IsPortWhole, IsBankWhole}
+use Rattle.lf_verdict.specs.inner.Noting.{IsPortWhole, IsBankWhole, IsFirstOfBank}
 use Rattle.lf_logs.proofs.Splitting.{of_key-push_other}
 use Rattle.lf_verdict.specs.declared.session.breaking.Watch.{Watch}
 use Rattle.lf_rules.specs.declared.outcome.Outcome.{Outcome}
@@ -251,6 +251,20 @@ module _ (shape : Shape) (memory : FlatMemory) (records : List Record) (s : Stan
       (breaks_more OfBank shape (first_local memory) is.gave whole.0 number rule is.breaks)) run
   no_rule (outcomes.Broken n rule') number rule run fine had is = fine n rule' refl
   no_rule outcomes.NoMemory number rule run fine had is = had refl
+
+  -- a number that came twice is the first of the bank where no rule is broken
+  pub first_double : (found : Option ℕ) (k : ℕ) → ((put gave : List Record) → HasOrdered judge.order put gave →
+      IsLeastDouble (numbers_of put) found) → found ≡ Some k
+      → ((n : ℕ) (rule : Rule) → judge.outcome ≡ outcomes.Broken n rule → ⊥)
+      → IsFirstOfBank shape memory records bank (parts.Double bank k)
+  first_double found k least is fine = (
+    refl,
+    λ number rule is. no_rule judge.outcome number rule bank_judged fine
+        (bank_outcome shape (bank_part shape bank memory) bank gave judge.step judge.outcome
+        bank_is.bank_judged.judged).1 is,
+    λ k' lt is'. (subst (IsLeastDouble (numbers_of (of_bank bank records))) is
+        (least (of_bank bank records) gave bank_is.bank_judged.ordered)).1 k' lt is'.1,
+  )
 
   pub bank_whole_now : (found : Option ℕ) → ((put gave : List Record) → HasOrdered judge.order put gave →
       IsLeastDouble (numbers_of put) found) → found ≡ None

@@ -260,7 +260,7 @@ module _ (exact : ReadingIsExact) (law : HeaderIsOfItsBytes) (bytes more : List 
             ∙ append_assoc records rest later.records;
       }
 
-agrees_or_differs : (shape : Shape) (h : Header) (field : HeaderField) → Agrees shape h → Differs shape h field → ⊥
+pub agrees_or_differs : (shape : Shape) (h : Header) (field : HeaderField) → Agrees shape h → Differs shape h field → ⊥
 agrees_or_differs shape h fields.Ports agrees differs = differs agrees.ports
 agrees_or_differs shape h fields.Banks agrees differs = differs.1 agrees.banks
 agrees_or_differs shape h fields.Block agrees differs = differs.2 agrees.block
@@ -333,7 +333,7 @@ final exact law shape bytes memory records fault upon are begins is more verdict
 
 -- ---- another hierarchy
 
-one_field : (shape : Shape) (h : Header) (a b : HeaderField) → Differs shape h a → Differs shape h b → b ≡ a
+pub one_field : (shape : Shape) (h : Header) (a b : HeaderField) → Differs shape h a → Differs shape h b → b ≡ a
 one_field shape h fields.Ports fields.Ports x y = refl
 one_field shape h fields.Ports fields.Banks x y = absurd (x y.0)
 one_field shape h fields.Ports fields.Block x y = absurd (x y.0)

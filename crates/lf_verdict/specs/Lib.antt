@@ -5,6 +5,7 @@ pub mod Verdict
 pub mod Configured
 pub mod Breaking
 pub mod Final
+pub mod Named
 pub mod Laws
 pub mod ConfiguredLaws
 pub mod Collected

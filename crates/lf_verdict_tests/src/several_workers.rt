@@ -7,7 +7,7 @@ use lf_codec::CodecCause;
 use lf_engine::{Counted, run_shape};
 use lf_rules::{Rule, Shape};
 use lf_samples::{C1, FOUR_BANKS, LOAD, LOADED, trace_of};
-use lf_verdict::{Fault, Gate, NoGate, ParallelSession, Verdict};
+use lf_verdict::{Broken, Fault, Gate, NoGate, ParallelSession, PartFault, Verdict};
 use std::alloc::Global;
 use std::process::Abort;
 use std::sync::atomic::{AtomicU64, Ordering};
@@ -95,6 +95,63 @@ fn faults_by_several_workers(rt: HostRuntime) -> Result<(), Fail> {
     let _ = cut.pop();
     let start = (cut.len() as u64).saturating_sub(7);
     assert_by_workers(&rt, &cut, &format_fault(CodecCause::Truncated, start))
+}
+
+/// What is told by so many workers, which judge so many records at a time, after the last piece, and then the verdict.
+fn broken_by<T: AllocGlobal + Threads + Sync + Send + Copy + 'static>(
+    rt: &T,
+    bytes: &[u8],
+    workers: u32,
+    batch: usize,
+) -> (Option<Broken>, Verdict) {
+    let mut session = ParallelSession::in_batches(rt.alloc(), &C1, workers, batch, NoGate);
+    let mut broken = None;
+    for piece in bytes.chunks(PIECE) {
+        let _ = session.feed(rt, piece);
+        broken = session.broken(rt);
+    }
+    (broken, session.finish(rt))
+}
+
+/// Fails where workers tell something else, or come to another verdict, whatever records they judge at a time.
+fn assert_broken_by<T: Abort + AllocGlobal + Threads + Sync + Send + Copy + 'static>(
+    rt: &T,
+    bytes: &[u8],
+    due: Option<Broken>,
+) -> Result<(), Fail> {
+    let verdict = by_workers(rt, &C1, bytes, 1);
+    for workers in [1u32, 2, 4] {
+        for batch in [1usize, BATCH, 10_000] {
+            let (broken, answer) = broken_by(rt, bytes, workers, batch);
+            assert_eq!(rt; broken, due);
+            assert_eq!(rt; answer, verdict);
+        }
+    }
+    Ok(())
+}
+
+#[test]
+fn what_broke_by_several_workers(rt: HostRuntime) -> Result<(), Fail> {
+    let wrong_reply = hits_and(rt.alloc(), 300, "L 0 8@0, H 0, R 0=0000000000000001")?;
+    let fault = PartFault::Bank {
+        bank: 0,
+        number: 908,
+        rule: Rule::ReplyData,
+    };
+    assert_broken_by(&rt, &wrong_reply, Some(Broken::Part { fault, upon: None }))?;
+    let both = hits_and(
+        rt.alloc(),
+        300,
+        "L 0 8@0, H 0, R 0=0000000000000001, L 0 8@0, L 0 8@0",
+    )?;
+    let fault = PartFault::Port {
+        port: 0,
+        at: 605,
+        rule: Rule::TagBusy,
+    };
+    assert_broken_by(&rt, &both, Some(Broken::Part { fault, upon: None }))?;
+    let legal = hits_and(rt.alloc(), 300, HIT)?;
+    assert_broken_by(&rt, &legal, None)
 }
 
 /// Fails where the engine writes another line by a number of workers.

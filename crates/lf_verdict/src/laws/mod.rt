@@ -1,6 +1,7 @@
 //! The laws about verdicts. Each function only calls the laws from which its own follows.
 
 ghost use Rattle.lf_verdict.specs.Final.{PartFaultsAreFinal, OtherHeadersAreFinal};
+ghost use Rattle.lf_verdict.specs.Named.{OneIsNamed};
 ghost use Rattle.lf_verdict.specs.Laws.{YesIsLegal, NoHasNoRun, VerdictsAreOne, MixturesAreAlike, WorkersAreAlike};
 
 mod collected;
@@ -88,3 +89,8 @@ pub fn other_headers_are_final()
     exact_reading();
     header_of_bytes();
 }
+
+/// What is named without a record depends on the bytes alone.
+pub fn one_is_named()
+    ensures { OneIsNamed }
+{}

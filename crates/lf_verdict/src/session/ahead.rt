@@ -1,17 +1,21 @@
 //! What a session keeps that reads ahead of its judges.
 
 ghost use Rattle.std.specs.Prelude.{◌≡◌, ◌<◌, ◌↔◌, ◌++◌, ℕ, List, [], Some, None, IsSome, IfSome, IfOk, OnOk, IfErr};
-ghost use Rattle.std.specs.Prelude.{IsTrue};
+ghost use Rattle.std.specs.Prelude.{IsTrue, IfNone};
 ghost use Rattle.lf_rules.specs.InRange.{IsShape};
 ghost use Rattle.lf_codec.specs.declared.fault.Told.TheVariants as tolds;
 ghost use Rattle.lf_verdict.specs.declared.answer.Verdict.{Verdict};
 ghost use Rattle.lf_verdict.specs.inner.Ending.{IsVerdictOrWant};
 ghost use Rattle.lf_verdict.specs.Session.{refusal_of, stop_told, HasTaken, HasFed, HasFedUntil, IsRunningNow};
 ghost use Rattle.lf_verdict.specs.Ahead.{session_of, IsAhead};
+ghost use Rattle.lf_verdict.specs.Final.{IsFinal};
+ghost use Rattle.lf_verdict.specs.Named.{IsNamed, NoneBrokeSoFar};
+ghost use Rattle.lf_verdict.specs.declared.session.intake.Stop.TheVariants as stops;
 ghost use Rattle.lf_verdict.specs.inner.Taking.{running_before};
 
 use crate::answer::{Refusal, Verdict};
 use crate::session::batch::{Batch, Judged, Lent, lend};
+use crate::session::breaking::Broken;
 use crate::session::intake::{Intake, Judging, Stop, refusal_of, stop_of};
 use lf_codec::{Packed, Told, faults_stand, header_of_bytes, read_so_far};
 use lf_pool::Gate;
@@ -287,6 +291,58 @@ impl<G: Gate + Sync + Send + Copy + 'static> Ahead<G> {
         match self.settle(rt) {
             Ok(()) => self.intake.conclude().verdict,
             Err(NoMemory) => Verdict::Refused(Refusal::Memory),
+        }
+    }
+
+    /// What is final once all that was read is judged.
+    fn named<R: Threads + Sync>(&mut self, rt: &R) -> Result<Option<Broken>, NoMemory>
+        requires ahead { IsAhead self.old }
+        requires going { self.old.intake.stop ≡ None }
+        requires taken { (bytes : List ℕ) × HasTaken (session_of self.old) bytes }
+        ensures shape { self.new.intake.shape ≡ self.old.intake.shape }
+        ensures stop { self.new.intake.stop ≡ self.old.intake.stop }
+        ensures alone { self.new.lent ≡ None }
+        ensures ready { OnOk result (self.new.records.records ≡ []) }
+        ensures taken { (bytes : List ℕ) → HasTaken (session_of self.old) bytes →
+            OnOk result (HasTaken self.new.intake bytes) }
+        ensures stands { (bytes : List ℕ) → HasTaken (session_of self.old) bytes
+            → IfOk result (λ found. IfSome found (IsFinal self.old.intake.shape bytes)) }
+        ensures named { (bytes : List ℕ) → HasTaken (session_of self.old) bytes
+            → IfOk result (λ found. IfSome found (IsNamed self.old.intake.shape bytes)) }
+        ensures none { (bytes : List ℕ) → HasTaken (session_of self.old) bytes
+            → IfOk result (λ found. IfNone found (NoneBrokeSoFar self.old.intake.shape bytes)) }
+    {
+        self.settle(rt)?;
+        self.intake.named()
+    }
+
+    /// What is final for the bytes that were fed, once all of them are judged. Where memory runs out, it stops for
+    /// good. Nothing is told where it was stopped.
+    pub fn broken<R: Threads + Sync>(&mut self, rt: &R) -> Option<Broken>
+        requires fed { (bytes : List ℕ) × HasFed (session_of self.old) bytes }
+        requires ahead { IsAhead self.old }
+        ensures ahead { IsAhead self.new }
+        ensures shape { self.new.intake.shape ≡ self.old.intake.shape }
+        ensures fed { (bytes : List ℕ) → HasFed (session_of self.old) bytes → HasFed (session_of self.new) bytes }
+        ensures failed { IsSome self.old.intake.stop → self.new ≡ self.old }
+        ensures memory { self.old.intake.stop ≡ None → IfSome self.new.intake.stop (λ stop. stop ≡ stops.Memory) }
+        ensures stopped { IsSome self.new.intake.stop → result ≡ None }
+        ensures stands { (bytes : List ℕ) → HasFed (session_of self.old) bytes
+            → IfSome result (IsFinal self.old.intake.shape bytes) }
+        ensures named { (bytes : List ℕ) → HasFed (session_of self.old) bytes
+            → IfSome result (IsNamed self.old.intake.shape bytes) }
+        ensures none { self.new.intake.stop ≡ None → (bytes : List ℕ) → HasFed (session_of self.old) bytes
+            → IfNone result (NoneBrokeSoFar self.old.intake.shape bytes) }
+    {
+        let None = self.intake.stop else {
+            return None;
+        };
+        match self.named(rt) {
+            Ok(found) => found,
+            Err(NoMemory) => {
+                let _ = self.stop_with(rt, Stop::Memory);
+                None
+            }
         }
     }
 

@@ -6,6 +6,7 @@ ghost use Rattle.lf_rules.specs.InRange.{IsShape};
 ghost use Rattle.lf_verdict.specs.inner.Ending.{IsVerdictOrWant};
 ghost use Rattle.lf_verdict.specs.Standing.{IsWatch, IsKnown, StandsAfterAll};
 ghost use Rattle.lf_verdict.specs.inner.Noting.{EndsInRange};
+ghost use Rattle.lf_verdict.specs.Named.{IsNamed, NoneBrokeSoFar};
 ghost use Rattle.lf_verdict.specs.Verdict.{IsDecided};
 ghost use Rattle.lf_verdict.specs.Final.{IsFinal, IsEarliest, IsUnbroken, NoneBrokeInTrace};
 ghost use Rattle.lf_verdict.specs.Session.{refusal_of, stop_told, IsRunning, HasTaken, IsRunningNow, IsInTurn, HasFed};
@@ -439,5 +440,45 @@ impl Intake {
             Judging::Another(field) => Some(Broken::Header(*field)),
             Judging::Running(standing) => standing.broken(),
         }
+    }
+
+    /// What is final for the bytes that were fed, where all of them are judged and something is. It is named without a
+    /// record.
+    fn at_fault(&self) -> Option<Broken>
+        requires taken { (bytes : List ℕ) × HasTaken self.now bytes }
+        requires drained { IsDrained self.now.judging self.now.reader self.now.memory.items }
+        ensures stands { (bytes : List ℕ) → HasTaken self.now bytes → IfSome result (IsFinal self.now.shape bytes) }
+        ensures named { (bytes : List ℕ) → HasTaken self.now bytes → IfSome result (IsNamed self.now.shape bytes) }
+        ensures none { (bytes : List ℕ) → HasTaken self.now bytes →
+            IfNone result (NoneBrokeSoFar self.now.shape bytes) }
+    {
+        read_so_far();
+        part_faults_are_final();
+        other_headers_are_final();
+        match &self.judging {
+            Judging::Waiting => None,
+            Judging::Another(other) => Some(Broken::Header(*other)),
+            Judging::Running(standing) => match standing.at_fault() {
+                Some(fault) => Some(Broken::Part { fault, upon: None }),
+                None => None,
+            },
+        }
+    }
+
+    /// What is final for the bytes that were fed, once all of them are judged. It is named without a record.
+    pub fn named(&mut self) -> Result<Option<Broken>, NoMemory>
+        requires { (bytes : List ℕ) × HasTaken self.old bytes }
+        ensures shape { self.new.shape ≡ self.old.shape }
+        ensures stop { self.new.stop ≡ self.old.stop }
+        ensures taken { (bytes : List ℕ) → HasTaken self.old bytes → OnOk result (HasTaken self.new bytes) }
+        ensures stands { (bytes : List ℕ) → HasTaken self.old bytes
+            → IfOk result (λ found. IfSome found (IsFinal self.old.shape bytes)) }
+        ensures named { (bytes : List ℕ) → HasTaken self.old bytes
+            → IfOk result (λ found. IfSome found (IsNamed self.old.shape bytes)) }
+        ensures none { (bytes : List ℕ) → HasTaken self.old bytes
+            → IfOk result (λ found. IfNone found (NoneBrokeSoFar self.old.shape bytes)) }
+    {
+        self.take_all()?;
+        Ok(self.at_fault())
     }
 }

@@ -1,6 +1,6 @@
 //! The verdict of a trace, judged by several workers while its bytes come.
 
-ghost use Rattle.std.specs.Prelude.{◌≡◌, ◌++◌, ℕ, List, [], None, IfErr, IfSome, IsSome, OnOk};
+ghost use Rattle.std.specs.Prelude.{◌≡◌, ◌++◌, ℕ, List, [], None, IfErr, IfSome, IfNone, IsSome, OnOk};
 ghost use Rattle.lf_rules.specs.InRange.{IsShape};
 ghost use Rattle.lf_codec.specs.Reader.{fault_in};
 ghost use Rattle.lf_codec.specs.Reading.{fault_so_far};
@@ -8,11 +8,15 @@ ghost use Rattle.lf_verdict.specs.declared.answer.Verdict.{Verdict};
 ghost use Rattle.lf_verdict.specs.declared.answer.Refusal.{Refusal};
 ghost use Rattle.lf_verdict.specs.Verdict.{IsDecided, IsVerdictOf, IsLegalYes};
 ghost use Rattle.lf_verdict.specs.Laws.{IsRunlessNo};
+ghost use Rattle.lf_verdict.specs.Final.{IsFinal};
+ghost use Rattle.lf_verdict.specs.Named.{IsNamed, NoneBrokeSoFar};
 ghost use Rattle.lf_verdict.specs.Session.{refusal_of, stop_told, IsRefusalSoFar, HasFed};
+ghost use Rattle.lf_verdict.specs.declared.session.intake.Stop.TheVariants as stops;
 
 use crate::answer::{Refusal, Verdict};
 use crate::laws::{no_has_no_run, yes_is_legal};
 use crate::session::ahead::Ahead;
+use crate::session::breaking::Broken;
 use lf_codec::Told;
 use lf_pool::{Gate, NoGate};
 use lf_rules::Shape;
@@ -95,6 +99,26 @@ impl<G: Gate + Sync + Send + Copy + 'static> ParallelSession<G> {
             IsRefusalSoFar (bytes ++ piece.now) (fault_in t)) }
     {
         self.ahead.feed(rt, piece)
+    }
+
+    /// What broke, where something did for which no bytes that follow lead to a yes, as `Session::broken` tells it. It
+    /// waits for the threads at work, and judges what waits. A part is told without a record, and of several that are
+    /// at fault the lowest port, or otherwise the lowest bank: so what is told depends on the bytes that were fed alone
+    /// (`one_is_named`), and not on the pieces in which they came or on the records that were judged together. Where
+    /// memory runs out, the session stops as after a refused `feed`. Once it is stopped nothing is told.
+    pub fn broken<R: Threads + Sync>(&mut self, rt: &R) -> Option<Broken>
+        ensures shape { self.new.shape ≡ self.old.shape }
+        ensures fed { (bytes : List ℕ) → HasFed self.old bytes → HasFed self.new bytes }
+        ensures failed { IsSome self.old.stop → self.new ≡ self.old }
+        ensures memory { self.old.stop ≡ None → IfSome self.new.stop (λ stop. stop ≡ stops.Memory) }
+        // What is told.
+        ensures stopped { IsSome self.new.stop → result ≡ None }
+        ensures stands { (bytes : List ℕ) → HasFed self.old bytes → IfSome result (IsFinal self.old.shape bytes) }
+        ensures named { (bytes : List ℕ) → HasFed self.old bytes → IfSome result (IsNamed self.old.shape bytes) }
+        ensures none { self.new.stop ≡ None → (bytes : List ℕ) → HasFed self.old bytes →
+            IfNone result (NoneBrokeSoFar self.old.shape bytes) }
+    {
+        self.ahead.broken(rt)
     }
 
     /// The verdict of the bytes that were fed: that of `check_shape`. After a refused `feed` it is that

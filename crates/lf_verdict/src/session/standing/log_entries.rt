@@ -6,7 +6,7 @@ ghost use Rattle.lf_rules.specs.declared.event.Record.{Record};
 ghost use Rattle.lf_rules.specs.Address.{FlatMemory};
 ghost use Rattle.lf_rules.specs.Run.{of_log};
 ghost use Rattle.lf_verdict.specs.Breaking.{IsFaultOfPart};
-ghost use Rattle.lf_verdict.specs.inner.Noting.{IsPortWhole};
+ghost use Rattle.lf_verdict.specs.inner.Noting.{IsPortWhole, IsOfPort};
 ghost use Rattle.lf_verdict.specs.inner.Coming.{MayCome, CanEnterAll, EntersAll, CanEnter};
 ghost use Rattle.lf_verdict.specs.Standing.{AreEntered};
 
@@ -41,6 +41,7 @@ impl Entries {
             → IfSome result (λ fault. (memory : FlatMemory) → IsFaultOfPart shape memory records fault) }
         ensures none { (shape : Shape) (records : List Record) → AreEntered shape records self.now
             → IfNone result ((memory : FlatMemory) → IsPortWhole shape memory records log) }
+        ensures port { IfSome result (IsOfPort log) }
     {
         let port = usize::from(log);
         if port >= self.ports.len() {

@@ -6,7 +6,7 @@ ghost use Rattle.lf_rules.specs.declared.event.Record.{Record};
 ghost use Rattle.lf_rules.specs.Address.{FlatMemory};
 ghost use Rattle.lf_rules.specs.Run.{of_log};
 ghost use Rattle.lf_verdict.specs.Breaking.{IsFaultOfPart, NoneBroke};
-ghost use Rattle.lf_verdict.specs.inner.Noting.{IsBankWhole, EndsInRange};
+ghost use Rattle.lf_verdict.specs.inner.Noting.{IsBankWhole, IsFirstOfBank, EndsInRange};
 ghost use Rattle.lf_verdict.specs.Standing.{IsWatch, IsKnown, StandsAfterAll};
 ghost use Rattle.lf_verdict.specs.inner.Coming.{MayCome, CanStand};
 
@@ -76,6 +76,9 @@ impl Standing {
         ensures none { (shape : Shape) (memory : FlatMemory) (records : List Record) →
             StandsAfterAll shape memory records self.now
             → IfNone result (IsBankWhole shape memory records bank) }
+        ensures first { (shape : Shape) (memory : FlatMemory) (records : List Record) →
+            StandsAfterAll shape memory records self.now
+            → IfSome result (IsFirstOfBank shape memory records bank) }
     {
         let at = usize::from(bank);
         if at >= self.banks.len() {

@@ -9,7 +9,8 @@ ghost use Rattle.lf_verdict.specs.inner.Ending.{IsEnding, AreWholeBelow, IsOrder
 ghost use Rattle.lf_verdict.specs.inner.Coming.{logs_so_far, IsShort, CanEnd};
 ghost use Rattle.lf_verdict.specs.Standing.{StandsAfterAll, IsWatch, IsKnown};
 ghost use Rattle.lf_verdict.specs.Breaking.{IsFaultOfPart, NoneBroke};
-ghost use Rattle.lf_verdict.specs.inner.Noting.{IsPortWhole, IsBankWhole, IsPartBroken, NamesRecord};
+ghost use Rattle.lf_verdict.specs.Named.{IsNamedFault};
+ghost use Rattle.lf_verdict.specs.inner.Noting.{IsPortWhole, IsBankWhole, IsOfLowestBank, IsPartBroken, NamesRecord};
 
 use crate::answer::{Fault, Refusal, Verdict};
 use crate::broken_part::{BrokenPart, first_broken};
@@ -104,6 +105,9 @@ impl Standing {
         ensures none { (shape : Shape) (memory : FlatMemory) (records : List Record) →
             StandsAfterAll shape memory records self.now
             → IfNone result ((port : ℕ) → port < shape.ports → IsPortWhole shape memory records port) }
+        ensures named { (shape : Shape) (memory : FlatMemory) (records : List Record) →
+            StandsAfterAll shape memory records self.now
+            → IfSome result (IsNamedFault shape memory records) }
     {
         for port in 0..self.entries.ports.len() {
             if let Some(fault) = self.entries.port_fault(port as u8) {
@@ -122,6 +126,9 @@ impl Standing {
         ensures none { (shape : Shape) (memory : FlatMemory) (records : List Record) →
             StandsAfterAll shape memory records self.now
             → IfNone result ((bank : ℕ) → bank < shape.banks → IsBankWhole shape memory records bank) }
+        ensures lowest { (shape : Shape) (memory : FlatMemory) (records : List Record) →
+            StandsAfterAll shape memory records self.now
+            → IfSome result (IsOfLowestBank shape memory records) }
     {
         for bank in 0..self.banks.len() {
             if let Some(fault) = self.bank_fault(bank as u8) {
@@ -131,8 +138,8 @@ impl Standing {
         None
     }
 
-    /// A part that is at fault, where there is one.
-    fn at_fault(&self) -> Option<PartFault>
+    /// The lowest port that is at fault, or otherwise the lowest bank.
+    pub fn at_fault(&self) -> Option<PartFault>
         requires ports { length self.now.entries.ports.items ≤ 16 }
         requires banks { length self.now.banks.items ≤ 16 }
         ensures some { (shape : Shape) (memory : FlatMemory) (records : List Record) →
@@ -141,6 +148,9 @@ impl Standing {
         ensures none { (shape : Shape) (memory : FlatMemory) (records : List Record) →
             StandsAfterAll shape memory records self.now
             → IfNone result (NoneBroke shape memory records) }
+        ensures named { (shape : Shape) (memory : FlatMemory) (records : List Record) →
+            StandsAfterAll shape memory records self.now
+            → IfSome result (IsNamedFault shape memory records) }
     {
         match self.port_at_fault() {
             Some(fault) => Some(fault),

@@ -14,3 +14,10 @@ pub returns-clause-none : goal.returns-clause-none
 returns-clause-none c shape memory records stands bank lt =
     c.loop-bank.invariant shape memory records stands bank (omega
     (arith, c.loop-bank-test.false, c.len-bank-end.ensures, stands.count_banks, lt))
+
+pub returns-in-Some-clause-lowest : goal.returns-in-Some-clause-lowest
+returns-in-Some-clause-lowest c shape memory records stands = record {
+  bank = c.loop-bank.bank;
+  of_bank = c.in-Some.ensures.first shape memory records stands;
+  below = c.loop-bank.invariant shape memory records stands;
+}

@@ -1,5 +1,5 @@
 use Rattle.std.proofs.Common.{get_or, ap, ◌∙◌, arith}
-use Rattle.lf_verdict.proofs.Breaks.{bank_found, bank_whole_now}
+use Rattle.lf_verdict.proofs.Breaks.{bank_found, bank_whole_now, first_double}
 use Rattle.lf_verdict.proofs.session.standing.Standing.bank_fault.Goals as goal
 
 pub returns-in-Broken-clause-some : goal.returns-in-Broken-clause-some
@@ -21,4 +21,14 @@ returns-in-None c = record {
       (c.index-judge.ensures ∙ ap (λ n. get_or s.banks.items n judge) c.from-at.ensures)
       (omega (arith, c.from-at.ensures, c.len.ensures, stands.count_banks, c.if-at-len.false)) c.double.result
       c.double.ensures c.in-None.is c.in_default.not-Broken;
+  first = λ shape memory records stands. tt;
 }
+
+pub returns-in-Some-clause-first : goal.returns-in-Some-clause-first
+returns-in-Some-clause-first c shape memory records stands =
+    let s = c.args.self.now in
+    let judge = c.index-judge.result.now in
+    first_double shape memory records s stands c.args.bank judge
+    (c.index-judge.ensures ∙ ap (λ n. get_or s.banks.items n judge) c.from-at.ensures)
+    (omega (arith, c.from-at.ensures, c.len.ensures, stands.count_banks, c.if-at-len.false)) c.double.result
+    c.in-Some.k c.double.ensures c.in-Some.is c.in_default.not-Broken

@@ -12,4 +12,5 @@ returns-in_default c = record {
       ∙ ap (λ n. get_or e.ports.items n judge) c.from-port.ensures)
       (omega (arith, c.from-port.ensures, c.len.ensures, entered.count_ports, c.if-port-len.false)) memory
       c.in_default.not-Broken;
+  port = tt;
 }

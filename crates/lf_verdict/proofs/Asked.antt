@@ -1,0 +1,57 @@
+-- What a session says once all that it was fed is judged.
+use Rattle.std.proofs.Common.{◌≡◌, ℕ, List, [], ◌++◌, length, Some, sym, ap, ◌∙◌, subst}
+use Rattle.std.proofs.lemmas.List.{append-nil}
+use Rattle.lf_rules.specs.declared.event.Record.{Record}
+use Rattle.lf_rules.specs.Address.{flat_memory}
+use Rattle.lf_rules.specs.Fits.{Bytes}
+use Rattle.lf_codec.specs.Laws.{WhatIsReadFits}
+use Rattle.lf_codec.specs.Reading.{Reading, reading_of, header_now}
+use Rattle.lf_verdict.specs.declared.session.breaking.PartFault.{PartFault}
+use Rattle.lf_verdict.specs.declared.session.intake.Intake.{Intake}
+use Rattle.lf_verdict.specs.declared.session.standing.Standing.{Standing}
+use Rattle.lf_verdict.specs.Breaking.{NoneBroke}
+use Rattle.lf_verdict.specs.Named.{IsNamedFault, IsNamedSoFar, NoneBrokeSoFar}
+use Rattle.lf_verdict.specs.Session.{HasJudged, IsRunning}
+use Rattle.lf_verdict.specs.inner.Taking.{IsLacking}
+use Rattle.lf_verdict.proofs.Finals.{begins_fed}
+
+module _ (s : Intake) (bytes : List ℕ) (records : List Record) (judged : HasJudged s bytes records) where
+  -- a trace whose memory is not whole has not begun
+  pub none_yet : IsLacking s.reader s.memory.items → NoneBrokeSoFar s.shape bytes
+  none_yet lacking begun =
+      let here : header_now s.reader ≡ Some begun.header = sym (ap header_now judged.read.same) ∙ begun.read in
+      let all : s.memory.items ++ s.reader.memory ≡ (reading_of bytes).memory =
+      sym (ap (λ (q : Reading). q.memory) judged.read.same) in
+      let own : s.memory.items ≡ (reading_of bytes).memory = sym (append-nil s.memory.items)
+      ∙ sym (ap (λ (left : List (ℕ × Bytes)). s.memory.items ++ left) lacking.none) ∙ all in
+      absurd (lacking.lacks begun.header here (ap (λ (m : List (ℕ × Bytes)). length m) own ∙ begun.whole))
+
+  module _ (fits : WhatIsReadFits) (running : Standing)
+      (run : IsRunning s.shape bytes s.memory.items records running) (empty : s.reader.records ≡ []) where
+    memory_is : s.memory.items ≡ (reading_of bytes).memory
+    memory_is = sym (begins_fed fits s bytes records running judged run).memory_is
+
+    records_are : records ≡ (reading_of bytes).records
+    records_are = sym (append-nil records) ∙ sym (ap (λ (rs : List Record). records ++ rs) empty)
+        ∙ sym (ap (λ (q : Reading). q.records) judged.read.same)
+
+    -- what is named of the records that were judged is named of all
+    pub named_of_all : (fault : PartFault) → IsNamedFault s.shape (flat_memory s.memory.items) records fault →
+        IsNamedSoFar s.shape bytes fault
+    named_of_all fault named = record {
+      begun = record {
+        header = run.header;
+        read = run.read;
+        agrees = run.agrees;
+        whole = sym (ap (λ (m : List (ℕ × Bytes)). length m) memory_is) ∙ run.whole;
+      };
+      named = subst (λ (m : List (ℕ × Bytes)). IsNamedFault s.shape (flat_memory m) (reading_of bytes).records fault)
+          memory_is
+          (subst (λ (rs : List Record). IsNamedFault s.shape (flat_memory s.memory.items) rs fault) records_are named);
+    }
+
+    -- ... and so it is where nothing is named
+    pub none_of_all : NoneBroke s.shape (flat_memory s.memory.items) records → NoneBrokeSoFar s.shape bytes
+    none_of_all none begun =
+        subst (λ (m : List (ℕ × Bytes)). NoneBroke s.shape (flat_memory m) (reading_of bytes).records) memory_is
+        (subst (λ (rs : List Record). NoneBroke s.shape (flat_memory s.memory.items) rs) records_are none)

@@ -1,0 +1,59 @@
+-- Which of several faults is named, where none is known to be the first.
+use Rattle.std.specs.Prelude.{◌≡◌, ◌⊎◌, ℕ, ◌<◌, ◌≤◌, List, length, Some, None}
+use Rattle.lf_rules.specs.declared.shape.Shape.{Shape}
+use Rattle.lf_rules.specs.declared.event.Record.{Record}
+use Rattle.lf_rules.specs.Address.{FlatMemory, flat_memory}
+use Rattle.lf_codec.specs.declared.header.Header.{Header}
+use Rattle.lf_codec.specs.Reading.{reading_of, header_of}
+use Rattle.lf_verdict.specs.declared.session.breaking.PartFault.{PartFault}
+use Rattle.lf_verdict.specs.declared.session.breaking.PartFault.TheVariants.{Double, Port, Bank}
+use Rattle.lf_verdict.specs.declared.session.breaking.Broken.{Broken}
+use Rattle.lf_verdict.specs.declared.session.breaking.Broken.TheVariants as broken
+use Rattle.lf_verdict.specs.Breaking.{IsFaultOfPart, NoneBroke}
+use Rattle.lf_verdict.specs.Legal.{Agrees}
+use Rattle.lf_verdict.specs.Session.{IsOfAnotherHeader}
+
+-- Ports are named before banks, and lower ones first; of a bank a rule before a double number, and the least number.
+abbrev pub IsNamedBefore : PartFault → PartFault → Type 0
+IsNamedBefore (Port port at rule) (Port port' at' rule') = port < port'
+IsNamedBefore (Port port at rule) (Bank bank number rule') = Unit {0}
+IsNamedBefore (Port port at rule) (Double bank k) = Unit {0}
+IsNamedBefore (Bank bank number rule) (Port port at rule') = ⊥
+IsNamedBefore (Bank bank number rule) (Bank bank' number' rule') = bank < bank'
+IsNamedBefore (Bank bank number rule) (Double bank' k) = bank ≤ bank'
+IsNamedBefore (Double bank k) (Port port at rule) = ⊥
+IsNamedBefore (Double bank k) (Bank bank' number rule) = bank < bank'
+IsNamedBefore (Double bank k) (Double bank' k') = (bank < bank') ⊎ ((bank ≡ bank') × (k < k'))
+
+-- The fault is one of a part, and none that is named before it is.
+pub record IsNamedFault (shape : Shape) (memory : FlatMemory) (records : List Record) (fault : PartFault) : Type 0 where
+  pub is : IsFaultOfPart shape memory records fault
+  pub first : (other : PartFault) → IsNamedBefore other fault → ¬ IsFaultOfPart shape memory records other
+
+-- The header is there and agrees with the shape, and the memory is whole.
+pub record HasBegun (shape : Shape) (bytes : List ℕ) : Type 0 where
+  pub header : Header
+  pub read : header_of bytes ≡ Some header
+  pub agrees : Agrees shape header
+  pub whole : length (reading_of bytes).memory ≡ header.memory_count
+
+-- It is named of all records so far.
+pub record IsNamedSoFar (shape : Shape) (bytes : List ℕ) (fault : PartFault) : Type 0 where
+  pub begun : HasBegun shape bytes
+  pub named : IsNamedFault shape (flat_memory (reading_of bytes).memory) (reading_of bytes).records fault
+
+-- A header is named by the first field that differs, and a part without a record.
+abbrev pub IsNamed : Shape → List ℕ → Broken → Type 0
+IsNamed shape bytes (broken.Header field) = IsOfAnotherHeader shape bytes field
+IsNamed shape bytes (broken.Part fault None) = IsNamedSoFar shape bytes fault
+IsNamed shape bytes (broken.Part fault (Some upon)) = ⊥
+
+-- No part is at fault in the records so far.
+abbrev pub NoneBrokeSoFar : Shape → List ℕ → Type 0
+NoneBrokeSoFar shape bytes = HasBegun shape bytes →
+    NoneBroke shape (flat_memory (reading_of bytes).memory) (reading_of bytes).records
+
+-- Of the same bytes one thing at most is named.
+abbrev pub OneIsNamed : Type 0
+OneIsNamed = (shape : Shape) (bytes : List ℕ) (found other : Broken) → IsNamed shape bytes found →
+    IsNamed shape bytes other → found ≡ other
