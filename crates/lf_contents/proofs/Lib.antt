@@ -1,2 +1,3 @@
+mod Excerpting
 mod Split
 mod Taken

@@ -13,7 +13,7 @@ use lf_rules::{Memory, NoMemory, Record};
 use std::alloc::Global;
 
 /// So many bytes are handed to the reader at once, so that few records wait in it.
-const PIECE: usize = 1 << 16;
+pub(crate) const PIECE: usize = 1 << 16;
 
 /// The memory and the records of a trace.
 #[derive(Drop)]
@@ -23,9 +23,10 @@ pub struct Parts {
 }
 
 /// Takes the memory that the reader has found.
-fn take_memory(reader: &mut Reader, memory: &mut Memory) -> Result<(), NoMemory>
+pub(crate) fn take_memory(reader: &mut Reader, memory: &mut Memory) -> Result<(), NoMemory>
     ensures taken { (fed : List ℕ) (records : List Record) → HasRead reader.old fed memory.old.items records →
         OnOk result (HasRead reader.new fed memory.new.items records) }
+    ensures records { reader.new.records ≡ reader.old.records }
     ensures none { OnOk result (reader.new.memory ≡ []) }
 {
     while let Some(block) = reader.take_memory() {

@@ -1,6 +1,6 @@
 //! A trace of one record, taken apart.
 
-use crate::{Parts, Trace, parts_in, records_in, trace_in};
+use crate::{Choice, Excerpt, Part, Parts, Trace, excerpt_in, parts_in, records_in, trace_in};
 use lf_codec::Header;
 use std::test::Fail;
 
@@ -31,5 +31,23 @@ fn trace_with_its_header(rt: HostRuntime) -> Result<(), Fail> {
     assert_eq!(rt; (ports, banks), (1, 1));
     assert_eq!(rt; memory.len(), 1);
     assert_eq!(rt; records.len(), 1);
+    Ok(())
+}
+
+#[test]
+fn excerpt_of_a_trace(rt: HostRuntime) -> Result<(), Fail> {
+    let _ = trace_in(rt.alloc(), &TRACE)?;
+    let choice = Choice {
+        part: Part::Port(0),
+        other: Part::Bank(1),
+    };
+    let Excerpt {
+        memory,
+        records,
+        marks,
+    } = excerpt_in(rt.alloc(), &TRACE, choice, None)?;
+    assert_eq!(rt; memory.len(), 1);
+    assert_eq!(rt; records.len(), 1);
+    assert_eq!(rt; marks.len(), 1);
     Ok(())
 }

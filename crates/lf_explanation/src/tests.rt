@@ -7,7 +7,7 @@ ghost use Rattle.lf_rules.specs.InRange.{IsShape};
 ghost use Rattle.lf_explanation.specs.Explanation.{HasBank};
 
 use crate::{Breach, Explained, Explanation, explain};
-use lf_listing::{Listing, Mark, marks_of};
+use lf_listing::{Listing, Mark};
 use lf_rules::{Block, Event, Level, Op, OrgShape, Record, Rule, Shape, fits};
 use std::alloc::{AllocError, Global};
 use std::process::Abort;
@@ -79,9 +79,10 @@ fn assert_explained<T: Abort + AllocGlobal>(
     let Ok(why) = explain(rt.alloc(), &SHAPE, &memory, records, &breach, most) else {
         return Err(Fail::from("out of memory"));
     };
-    let Ok(marks) = marks_of(rt.alloc(), records, &[16, 24, 32, 40], None) else {
-        return Err(Fail::from("out of memory"));
-    };
+    let mut marks = Vec::new(rt.alloc());
+    for offset in [16, 24, 32, 40] {
+        marks.push(Mark { offset, time: None })?;
+    }
     let text = text_of(rt.alloc(), records, marks.as_slice(), &why)?;
     assert_eq!(rt; text.as_str(), due);
     Ok(())

@@ -1,3 +1,2 @@
-pub mod MarksAlike
-mod Marking
+pub mod Marking
 mod Placed

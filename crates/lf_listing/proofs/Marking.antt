@@ -1,81 +1,72 @@
--- The marks that a loop makes, one record after another.
-use Rattle.std.proofs.Common.{◌≡◌, ℕ, suc, ◌+◌, ◌<◌, ◌≤◌, ◌⊎◌, inl, inr, true, false, ◌==◌, List, [], ◌∷◌, ◌++◌}
-use Rattle.std.proofs.Common.{length, take, drop, get_or, set, refl, ap, sym, ◌∙◌, arith, Option, eqb-true}
+-- What stands beside records that come one after another.
+use Rattle.std.proofs.Common.{◌≡◌, ℕ, ◌+◌, ◌<◌, ◌≤◌, Bool, true, false, cond, ◌==◌, List, [], ◌∷◌, ◌++◌, length, filter}
+use Rattle.std.proofs.Common.{get_or, set, refl, sym, ap, ◌∙◌, arith, Option, eqb-true}
 use Rattle.std.proofs.lemmas.Bool.{eqb-false}
-use Rattle.std.proofs.Math.Seq.{take-suc}
-use Rattle.std.proofs.Math.ListN.{drop_of_length-le}
-use Rattle.std.proofs.lemmas.List.{append-nil, append_assoc, drop_more, get_or-set_same, get_or-set_other}
-use Rattle.std.proofs.lemmas.List.Sums.{count_by_more_no, count_by_more_yes}
+use Rattle.std.proofs.lemmas.List.{append-nil, append_assoc, length-append, get_or-set_same, get_or-set_other}
+use Rattle.std.proofs.lemmas.List.Elements.{filter-append}
+use Rattle.std.proofs.lemmas.List.Sums.{length-filter, count_by-le-length}
 use Rattle.lf_rules.specs.declared.event.Record.{Record}
-use Rattle.lf_listing.specs.Marks.{Beside, count_in, besides_from}
+use Rattle.lf_history.specs.Offsets.{bytes_len}
+use Rattle.lf_listing.specs.Marks.{Beside, count_in, beside_of, besides_from}
 
-module _ (told : ℕ → ℕ → Option (List ℕ)) (rs : List Record) (offsets : List ℕ) where
-  -- the marks from a place on
-  abbrev from : ℕ → List Beside
-  from n = besides_from told (take n rs) (drop n rs) (drop n offsets)
+-- ---- offsets
 
-  -- the mark of the record at a place
-  abbrev mark_at : ℕ → Record → Beside
-  mark_at n r = record { offset = get_or offsets n 0; time = told r.log (count_in (take n rs) r.log) }
+pub bytes_len-append : (xs ys : List Record) → bytes_len (xs ++ ys) ≡ bytes_len xs + bytes_len ys
+bytes_len-append [] ys = omega arith
+bytes_len-append (x ∷ xs) ys = omega (arith, bytes_len-append xs ys)
 
-  from_here : (n : ℕ) (r : Record) → r ≡ get_or rs n r → n < length rs → n < length offsets
-      → from n ≡ mark_at n r ∷ from (n + 1)
-  from_here n r is short few =
-      let next : suc n ≡ n + 1 = omega arith in
-      let more : take n rs ++ r ∷ [] ≡ take (n + 1) rs = ap (λ (x : Record). take n rs ++ x ∷ []) is
-      ∙ sym (take-suc rs n r short) ∙ ap (λ (k : ℕ). take k rs) next in
-      let here : drop n rs ≡ r ∷ drop (n + 1) rs = drop_more rs n r short
-      ∙ ap (λ (x : Record). x ∷ drop (n + 1) rs) (sym is) in
-      ap (λ (xs : List Record). besides_from told (take n rs) xs (drop n offsets)) here
-      ∙ ap (besides_from told (take n rs) (r ∷ drop (n + 1) rs)) (drop_more offsets n 0 few)
-      ∙ ap (λ (xs : List Record). mark_at n r ∷ besides_from told xs (drop (n + 1) rs) (drop (n + 1) offsets)) more
+-- a record has a byte at least
+few : (rs : List Record) → length rs ≤ bytes_len rs
+few [] = omega arith
+few (r ∷ rs) = omega (arith, few rs)
 
-  -- one more mark
-  pub marks_more : (n : ℕ) (r : Record) (marks total : List Beside) → r ≡ get_or rs n r → n < length rs
-      → n < length offsets → marks ++ from n ≡ total → (marks ++ mark_at n r ∷ []) ++ from (n + 1) ≡ total
-  marks_more n r marks total is short few so_far =
-      append_assoc marks (mark_at n r ∷ []) (from (n + 1))
-      ∙ ap (λ (rest : List Beside). marks ++ rest) (sym (from_here n r is short few)) ∙ so_far
-
-  no_offset : (before xs : List Record) → besides_from told before xs [] ≡ []
-  no_offset before [] = refl
-  no_offset before (r ∷ xs) = refl
-
-  -- no mark is left where there is no record or no offset
-  pub none_left : (n : ℕ) (marks total : List Beside) → (length rs ≤ n) ⊎ (length offsets ≤ n)
-      → marks ++ from n ≡ total → marks ≡ total
-  none_left n marks total (inl le) so_far =
-      sym (append-nil marks)
-      ∙ sym (ap (λ (xs : List Record). marks ++ besides_from told (take n rs) xs (drop n offsets))
-      (drop_of_length-le rs le))
-      ∙ so_far
-  none_left n marks total (inr le) so_far =
-      sym (append-nil marks)
-      ∙ sym (ap (λ (xs : List Beside). marks ++ xs) (ap (besides_from told (take n rs) (drop n rs))
-      (drop_of_length-le offsets le) ∙ no_offset (take n rs) (drop n rs)))
-      ∙ so_far
+pub few_in : (rs : List Record) (log : ℕ) → count_in rs log ≤ bytes_len rs
+few_in rs log = omega (arith, few rs, count_by-le-length (λ (x : Record). x.log == log) rs)
 
 -- ---- counts
 
+count_more : (rs : List Record) (r : Record) (log : ℕ)
+    → count_in (rs ++ r ∷ []) log ≡ count_in rs log + length (filter (λ (x : Record). x.log == log) (r ∷ []))
+count_more rs r log =
+    let own : Record → Bool = λ (x : Record). x.log == log in
+    sym (length-filter own (rs ++ r ∷ [])) ∙ ap length (filter-append own rs (r ∷ []))
+    ∙ length-append (filter own rs) (filter own (r ∷ []))
+    ∙ ap (λ (n : ℕ). n + length (filter own (r ∷ []))) (length-filter own rs)
+
 -- one more record of a log
-pub counts_more : (rs : List Record) (n : ℕ) (r : Record) (counts : List ℕ) → r ≡ get_or rs n r → n < length rs
-    → length counts ≡ 256 → r.log < 256
-    → ((log : ℕ) → log < 256 → get_or counts log 0 ≡ count_in (take n rs) log)
-    → (log : ℕ) → log < 256
-    → get_or (set counts r.log (get_or counts r.log 0 + 1)) log 0 ≡ count_in (take (n + 1) rs) log
-counts_more rs n r counts is short len within so_far log lt =
+pub counts_more : (rs : List Record) (r : Record) (counts : List ℕ) → length counts ≡ 256 → r.log < 256
+    → ((log : ℕ) → log < 256 → get_or counts log 0 ≡ count_in rs log) → (log : ℕ) → log < 256
+    → get_or (set counts r.log (get_or counts r.log 0 + 1)) log 0 ≡ count_in (rs ++ r ∷ []) log
+counts_more rs r counts len within so_far log lt =
     let others : List ℕ = set counts r.log (get_or counts r.log 0 + 1) in
-    elim (r.log == log) as (λ b. (r.log == log) ≡ b → get_or others log 0 ≡ count_in (take (n + 1) rs) log) [
+    elim (r.log == log) as (λ b. (r.log == log) ≡ b → get_or others log 0 ≡ count_in (rs ++ r ∷ []) log) [
       | true ↦ λ e.
           let same : r.log ≡ log = eqb-true r.log log e in
-          let named : ((get_or rs n r).log == log) ≡ true = ap (λ (x : Record). x.log == log) (sym is) ∙ e in
+          let one = ap (λ (b : Bool). length (cond b (r ∷ []) [])) e in
           ap (λ (k : ℕ). get_or others k 0) (sym same)
           ∙ get_or-set_same counts r.log (get_or counts r.log 0 + 1) 0 (omega (arith, len, within))
-          ∙ ap (λ (k : ℕ). k + 1) (so_far r.log within)
-          ∙ ap (λ (k : ℕ). count_in (take n rs) k + 1) same
-          ∙ sym (count_by_more_yes (λ (x : Record). x.log == log) rs n r short named)
+          ∙ ap (λ (k : ℕ). k + 1) (so_far r.log within ∙ ap (count_in rs) same)
+          ∙ ap (λ (k : ℕ). count_in rs log + k) (sym one) ∙ sym (count_more rs r log)
       | false ↦ λ e.
-          let other : ((get_or rs n r).log == log) ≡ false = ap (λ (x : Record). x.log == log) (sym is) ∙ e in
+          let none = ap (λ (b : Bool). length (cond b (r ∷ []) [])) e in
           get_or-set_other counts r.log log (get_or counts r.log 0 + 1) 0 (λ same. eqb-false r.log log e (sym same))
-          ∙ so_far log lt ∙ sym (count_by_more_no (λ (x : Record). x.log == log) rs n r short other)
+          ∙ so_far log lt ∙ omega (arith, none, count_more rs r log)
     ] refl
+
+-- ---- what stands beside them
+
+module _ (holds : Record → Bool) (told : ℕ → ℕ → Option (List ℕ)) (start : ℕ) where
+  -- what stands beside a record, where it is one of those
+  abbrev one : List Record → Record → List Beside
+  one before r = cond (holds r) (beside_of told start before r ∷ []) []
+
+  pub besides_more : (before rs : List Record) (r : Record)
+      → besides_from holds told start before (rs ++ r ∷ [])
+      ≡ besides_from holds told start before rs ++ cond (holds r) (beside_of told start (before ++ rs) r ∷ []) []
+  besides_more before [] r =
+      append-nil (one before r) ∙ ap (λ (bs : List Record). one bs r) (sym (append-nil before))
+  besides_more before (x ∷ rs) r =
+      let rest : List Beside = besides_from holds told start (before ++ x ∷ []) rs in
+      ap (λ (bs : List Beside). one before x ++ bs) (besides_more (before ++ x ∷ []) rs r)
+      ∙ ap (λ (bs : List Record). one before x ++ (rest ++ one bs r)) (append_assoc before (x ∷ []) rs)
+      ∙ sym (append_assoc (one before x) rest (one (before ++ x ∷ rs) r))

@@ -1,11 +1,14 @@
 -- What stands beside the line of a record.
-use Rattle.std.specs.Prelude.{ℕ, ◌==◌, List, [], ◌∷◌, ◌++◌, map, count_by, Option, Some, None, string_bytes}
+use Rattle.std.specs.Prelude.{◌≡◌, ℕ, ◌+◌, ◌<◌, Bool, ◌==◌, List, [], ◌∷◌, ◌++◌, map, count_by, length, Option, Some}
+use Rattle.std.specs.Prelude.{None, slice_index, string_bytes, if◌then◌else◌}
 use Rattle.std.specs.Borrow.{Bor}
 use Rattle.std.specs.Option.{option_map}
 use Rattle.lf_rules.specs.declared.event.Record.{Record}
+use Rattle.lf_history.specs.Offsets.{bytes_len}
 use Rattle.lf_map.specs.declared.times.Times.{Times}
 use Rattle.lf_map.specs.Map.{time_of}
 use Rattle.lf_listing.specs.declared.mark.Mark.{Mark}
+use Rattle.lf_listing.specs.declared.mark.Marker.{Marker}
 
 -- the offset of a record's first byte, and its time where a map tells it
 pub record Beside : Type 0 where
@@ -25,17 +28,26 @@ besides marks = map beside marks
 abbrev pub count_in : List Record → ℕ → ℕ
 count_in rs log = count_by (λ r. r.log == log) rs
 
--- The offset of each record, and the time that is told of its log and of its place there, before which these stand.
-abbrev pub besides_from : (ℕ → ℕ → Option (List ℕ)) → List Record → List Record → List ℕ → List Beside
-besides_from told before (r ∷ rs) (offset ∷ offsets) =
-    record { offset = offset; time = told r.log (count_in before r.log) }
-    ∷ besides_from told (before ++ r ∷ []) rs offsets
-besides_from told before (r ∷ rs) [] = []
-besides_from told before [] offsets = []
+-- What stands beside a record that comes behind these, of which the first begins at `start`: the offset of its first
+-- byte, and the time that is told of its log and of its place there.
+abbrev pub beside_of : (ℕ → ℕ → Option (List ℕ)) → ℕ → List Record → Record → Beside
+beside_of told start before r =
+    record { offset = start + bytes_len before; time = told r.log (count_in before r.log) }
 
--- the offset of each record, and the time that is told of its log and of its place there
-abbrev pub besides_of : (ℕ → ℕ → Option (List ℕ)) → List Record → List ℕ → List Beside
-besides_of told rs offsets = besides_from told [] rs offsets
+-- what stands beside each record for which this holds, of those that come behind `before`
+abbrev pub besides_from : (Record → Bool) → (ℕ → ℕ → Option (List ℕ)) → ℕ → List Record → List Record → List Beside
+besides_from holds told start before [] = []
+besides_from holds told start before (r ∷ rs) =
+    (if holds r then beside_of told start before r ∷ [] else []) ++ besides_from holds told start (before ++ r ∷ []) rs
+
+-- the same for the records of a trace of which the first begins at `start`
+abbrev pub besides_of : (Record → Bool) → (ℕ → ℕ → Option (List ℕ)) → ℕ → List Record → List Beside
+besides_of holds told start rs = besides_from holds told start [] rs
+
+-- These records came, of which the first began at `start`.
+pub record StandsBehind (start : ℕ) (before : List Record) (marker : Marker) : Type 0 where
+  pub offset : marker.offset ≡ start + bytes_len before
+  pub counts : (log : ℕ) → log < 256 → slice_index marker.counts log ≡ count_in before log
 
 -- where there is no map
 abbrev pub untold : ℕ → ℕ → Option (List ℕ)

@@ -1,9 +1,10 @@
 //! What stands beside the line of a record.
 
-ghost use Rattle.std.specs.Prelude.{◌≡◌, ◌+◌, ◌-◌, ◌<◌, ◌^◌, IfOk, slice_index, slice_set, replicate, string_bytes};
+ghost use Rattle.std.specs.Prelude.{◌≡◌, IfOk, string_bytes};
 ghost use Rattle.std.specs.Option.{option_map};
-ghost use Rattle.lf_listing.specs.Marks.{told_by, besides, besides_of};
+ghost use Rattle.lf_listing.specs.Marks.{told_by};
 
+use lf_history::record_len;
 use lf_map::Times;
 use lf_rules::{NoMemory, Record};
 use std::alloc::Global;
@@ -15,30 +16,6 @@ pub struct Mark {
     pub offset: u64,
     /// The record's time, where a map tells it.
     pub time: Option<String>,
-}
-
-/// How many records of each log came so far.
-#[derive(Drop)]
-struct Counts([u64; 256]);
-
-impl Counts {
-    /// Before the first record.
-    fn new() -> Counts
-        ensures { result.0 ≡ replicate 256 0 }
-    {
-        Counts([0; 256])
-    }
-
-    /// One more record of the log came. Answers how many came before it.
-    fn pass(&mut self, log: u8) -> u64
-        requires { slice_index self.old.0 log < 2 ^ 64 - 1 }
-        ensures before { result ≡ slice_index self.old.0 log }
-        ensures after { self.new.0 ≡ slice_set self.old.0 log (slice_index self.old.0 log + 1) }
-    {
-        let before = self.0[log as usize];
-        self.0[log as usize] = before + 1;
-        before
-    }
 }
 
 /// The time of the record at a place of a log, where a map tells it.
@@ -59,25 +36,56 @@ fn time_of(
     }
 }
 
-/// The mark of each record that has an offset. Its time is the map's for the record's log and its place there.
-pub fn marks_of(
-    alloc: Global,
-    records: &[Record],
-    offsets: &[u64],
-    times: Option<&Times>,
-) -> Result<Vec<Mark>, NoMemory>
-    ensures { IfOk result (λ marks. besides marks.items ≡ besides_of (told_by times.entry) records.now offsets.now) }
-{
-    let mut counts = Counts::new();
-    let mut marks = Vec::new(alloc);
-    for at in 0..records.len().min(offsets.len()) {
-        let item = &records[at];
-        let place = counts.pass(item.log);
-        let time = time_of(alloc, times, item.log, place)?;
-        marks.push(Mark {
-            offset: offsets[at],
-            time,
-        })?;
+/// Says what stands beside each record of a trace, while its records come one after another.
+#[derive(Drop)]
+pub struct Marker {
+    /// The offset of the first byte of the record that comes next.
+    pub offset: u64,
+    /// How many records of each log came.
+    pub counts: [u64; 256],
+}
+
+impl Marker {
+    ghost use Rattle.std.specs.Prelude.{◌≡◌, ℕ, ◌+◌, ◌<◌, ◌^◌, ◌∷◌, ◌++◌, [], List, IfOk};
+    ghost use Rattle.lf_rules.specs.declared.event.Record.{Record};
+    ghost use Rattle.lf_history.specs.Offsets.{bytes_len};
+    ghost use Rattle.lf_listing.specs.Marks.{told_by, beside, beside_of, StandsBehind};
+
+    /// No record came yet. The first begins at this offset.
+    pub fn new(start: u64) -> Marker
+        ensures { StandsBehind start [] result }
+    {
+        Marker {
+            offset: start,
+            counts: [0; 256],
+        }
     }
-    Ok(marks)
+
+    /// What stands beside the record that comes next.
+    pub fn mark(
+        &self,
+        alloc: Global,
+        times: Option<&Times>,
+        item: &Record,
+    ) -> Result<Mark, NoMemory>
+        ensures { (start : ℕ) (before : List Record) → StandsBehind start before self.now
+            → IfOk result (λ mark. beside mark ≡ beside_of (told_by times.entry) start before item.now) }
+    {
+        let place = self.counts[usize::from(item.log)];
+        Ok(Mark {
+            offset: self.offset,
+            time: time_of(alloc, times, item.log, place)?,
+        })
+    }
+
+    /// The record came. No trace has 2^64 bytes.
+    pub fn pass(&mut self, item: &Record)
+        ensures { (start : ℕ) (before : List Record) → StandsBehind start before self.old
+            → start + bytes_len (before ++ item.now ∷ []) < 2 ^ 64
+            → StandsBehind start (before ++ item.now ∷ []) self.new }
+    {
+        let log = usize::from(item.log);
+        self.offset = self.offset.saturating_add(record_len(item));
+        self.counts[log] = self.counts[log].saturating_add(1);
+    }
 }

@@ -1,8 +1,9 @@
 //! The lines of records, with their texts written out.
 
-use crate::{Listing, Mark, RecordLine, RecordLines, marks_of};
+use crate::{Listing, Mark, Marker, NoMemory, RecordLine, RecordLines};
 use lf_map::Times;
 use lf_rules::{Block, Event, Op, Record};
+use std::alloc::Global;
 use std::test::Fail;
 
 fn load(port: u8, number: u32, tag: u8) -> Record {
@@ -29,6 +30,17 @@ fn second_hit(number: u32) -> Record {
     }
 }
 
+/// The mark of each record, of which the first begins at 16.
+fn marks_of(alloc: Global, records: &[Record], times: &Times) -> Result<Vec<Mark>, NoMemory> {
+    let mut marker = Marker::new(16);
+    let mut marks = Vec::new(alloc);
+    for item in records {
+        marks.push(marker.mark(alloc, Some(times), item)?)?;
+        marker.pass(item);
+    }
+    Ok(marks)
+}
+
 /// The second record of port 1 is the third of the trace.
 #[test]
 fn lines_with_times(rt: HostRuntime) -> Result<(), Fail> {
@@ -36,7 +48,7 @@ fn lines_with_times(rt: HostRuntime) -> Result<(), Fail> {
     let Ok(times) = Times::parse(rt.alloc(), "1 1 1250 ns\n2 0 7\n3 0 8\n") else {
         return Err(Fail::from("the map is refused"));
     };
-    let Ok(marks) = marks_of(rt.alloc(), &records, &[16, 36, 48], Some(&times)) else {
+    let Ok(marks) = marks_of(rt.alloc(), &records, &times) else {
         return Err(Fail::from("out of memory"));
     };
     let lines = RecordLines {

@@ -8,24 +8,20 @@ ghost use Rattle.lf_listing.specs.Marks.{told_by};
 ghost use Rattle.lf_verdict.specs.Verdict.{IsNo};
 ghost use Rattle.lf_why.specs.Cause.{HasBankOf};
 ghost use Rattle.lf_why.specs.NotLegal.{as_fault, names_place, HasBankOfFirst, IsEarliestIf, IsFirstCause, IsNotLegal};
+ghost use Rattle.lf_why.specs.NotLegal.{part_of, told_of};
 
 use crate::cause::{Cause, Contents, cause_of};
 use crate::why::Asked;
-use lf_codec::exact_reading;
-use lf_contents::{Parts, parts_in};
-use lf_history::record_offsets;
-use lf_listing::{Mark, marks_of};
+use lf_contents::{Choice, Excerpt, Part, excerpt_in};
+use lf_listing::Mark;
 use lf_rules::{NoMemory, Record, Shape};
 use lf_verdict::{Broken, Fault, PartFault};
 use std::alloc::Global;
 
-/// How many bytes the end of a trace takes.
-const END: u64 = 8;
-
 /// Why a trace is not legal.
 #[derive(Debug, Drop)]
 pub struct NotLegal {
-    /// The records of the trace, in the order of the file.
+    /// The records of the trace that the faults are about, in the order of the file. Places are told among these.
     pub records: Vec<Record>,
     /// What stands beside each record.
     pub marks: Vec<Mark>,
@@ -67,6 +63,31 @@ fn names_place(fault: &Fault, part: &PartFault) -> bool
     }
 }
 
+/// The part of a trace that a fault is about.
+fn part_of(fault: &Fault) -> Part
+    ensures { result ≡ part_of fault.now }
+{
+    match fault {
+        Fault::Port { port, .. } => Part::Port(*port),
+        Fault::Bank { bank, .. } | Fault::Missing { bank, .. } | Fault::Double { bank, .. } => {
+            Part::Bank(*bank)
+        }
+        Fault::Cycle(_) => Part::Whole,
+    }
+}
+
+/// What the fault and what broke first are about.
+fn told_of(fault: &Fault, earliest: &Option<Broken>) -> Choice
+    ensures { result ≡ told_of fault.now earliest.now }
+{
+    let part = part_of(fault);
+    let other = match earliest {
+        Some(Broken::Part { fault: first, .. }) => part_of(&as_fault(first)),
+        _ => part,
+    };
+    Choice { part, other }
+}
+
 /// Why what broke first stands, where the verdict does not name its place.
 fn first_cause(
     alloc: Global,
@@ -104,11 +125,13 @@ pub(crate) fn not_legal(
     requires earliest { IsEarliestIf shape.now bytes.now earliest.now }
     ensures { IfOk result (IsNotLegal shape.now bytes.now (told_by asked.now.times) asked.now.most fault.now) }
 {
-    exact_reading();
     let Asked { most, times } = *asked;
-    let Parts { memory, records } = parts_in(alloc, bytes)?;
-    let offsets = record_offsets(alloc, bytes.len() as u64 - END, &records)?;
-    let marks = marks_of(alloc, &records, &offsets, times)?;
+    let choice = told_of(fault, earliest);
+    let Excerpt {
+        memory,
+        records,
+        marks,
+    } = excerpt_in(alloc, bytes, choice, times)?;
     let contents = Contents {
         memory: &memory,
         records: &records,
