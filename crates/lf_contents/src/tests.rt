@@ -36,7 +36,7 @@ fn trace_with_its_header(rt: HostRuntime) -> Result<(), Fail> {
 
 #[test]
 fn excerpt_of_a_trace(rt: HostRuntime) -> Result<(), Fail> {
-    let _ = trace_in(rt.alloc(), &TRACE)?;
+    let trace = trace_in(rt.alloc(), &TRACE)?;
     let choice = Choice {
         part: Part::Port(0),
         other: Part::Bank(1),
@@ -47,7 +47,7 @@ fn excerpt_of_a_trace(rt: HostRuntime) -> Result<(), Fail> {
         marks,
     } = excerpt_in(rt.alloc(), &TRACE, choice, None)?;
     assert_eq!(rt; memory.len(), 1);
-    assert_eq!(rt; records.len(), 1);
+    assert_eq!(rt; records.as_slice(), trace.records.as_slice());
     assert_eq!(rt; marks.len(), 1);
     Ok(())
 }
