@@ -1,3 +1,4 @@
 pub mod Pieces
 pub mod Places
 pub mod Telling
+pub mod Viewed

@@ -1,6 +1,5 @@
 -- What one more piece adds to a search.
 use Rattle.std.proofs.Common.{◌≡◌, ℕ, List, [], ◌∷◌, ◌++◌, refl, sym, ap, subst, ◌∙◌}
-use Rattle.lf_rules.specs.Fits.{Bytes}
 use Rattle.lf_rules.specs.declared.event.Record.{Record}
 use Rattle.lf_codec.specs.declared.reader.Reader.{Reader}
 use Rattle.lf_codec.specs.Reader.{HasRead}

@@ -1,5 +1,5 @@
 -- What a view read and wrote so far.
-use Rattle.std.proofs.Common.{◌≡◌, ℕ, zero, suc, ◌+◌, ◌*◌, ◌≤◌, List, [], ◌∷◌, ◌++◌, length, take, Bool, Ok, Err}
+use Rattle.std.proofs.Common.{◌≡◌, ℕ, suc, ◌+◌, ◌*◌, ◌≤◌, List, [], ◌∷◌, ◌++◌, length, take, Bool, Ok, Err}
 use Rattle.std.proofs.Common.{refl, sym, ap, subst, ◌∙◌, append-nil, arith}
 use Rattle.std.specs.Prelude.{IsTrue}
 use Rattle.std.proofs.lemmas.List.{length-append}
@@ -12,7 +12,7 @@ use Rattle.lf_codec.specs.Laws.{FaultsSoFarAreNotTruncated}
 use Rattle.lf_dump.specs.Dump.{HasFault, IsNone, piece_len}
 use Rattle.lf_dump.proofs.Faults.{none_stands}
 use Rattle.lf_dump.proofs.Telling.{out_on, any_part}
-use Rattle.lf_wave.specs.declared.view.View.{View}
+use Rattle.lf_view.specs.declared.drawing.Drawing.{Drawing}
 use Rattle.lf_view.specs.declared.fault.ViewFault.{ViewFault}
 use Rattle.lf_view.specs.declared.fault.ViewFault.TheVariants.{Read, Turns, Memory, Write}
 use Rattle.lf_view.specs.declared.drawer.Drawer.{Drawer}
@@ -29,26 +29,26 @@ none_more : (a b : Account) (bytes : List ℕ) → IsPartRead IsNone a b bytes �
 none_more a b bytes part = subst (IsPartRead IsNone a b) (sym (append-nil bytes)) part
 
 -- The wave of the bytes went out that the reads answered, so many reads of a piece each.
-pub record IsTelling (view : View) (old new writer writer' : Account) (turn : ℕ) (drawer : Drawer) : Type 0 where
+pub record IsTelling (drawing : Drawing) (old new writer writer' : Account) (turn : ℕ) (drawer : Drawer) : Type 0 where
   pub bytes : List ℕ
-  pub drawn : IsDrawn view bytes drawer
+  pub drawn : IsDrawn drawing bytes drawer
   pub part : IsPartRead HasFault old new bytes
-  pub out : WentOut writer writer' (wave_of view bytes)
+  pub out : WentOut writer writer' (wave_of drawing bytes)
   pub size : length bytes ≤ turn * piece_len
 
-pub stops_here : (view : View) (a b w x : Account) (turn : ℕ) (drawer : Drawer) → IsTelling view a b w x turn drawer →
-    IsViewedSoFar view a b w x
-stops_here view a b w x turn drawer t = record { bytes = t.bytes; part = t.part; out = t.out }
+pub stops_here : (drawing : Drawing) (a b w x : Account) (turn : ℕ) (drawer : Drawer) →
+    IsTelling drawing a b w x turn drawer → IsViewedSoFar drawing a b w x
+stops_here drawing a b w x turn drawer t = record { bytes = t.bytes; part = t.part; out = t.out }
 
 -- no byte was read, and nothing went out
-pub nothing_viewed : (view : View) (a w : Account) → IsViewedInPart view a a w w
-nothing_viewed view a w = record { bytes = []; more = []; part = begun IsNone a (λ bad. bad); out = nothing_out w }
+pub nothing_viewed : (drawing : Drawing) (a w : Account) → IsViewedInPart drawing a a w w
+nothing_viewed drawing a w = record { bytes = []; more = []; part = begun IsNone a (λ bad. bad); out = nothing_out w }
 
 -- ---- one more read
 
-pub telling_start : FaultsSoFarAreNotTruncated → (view : View) (a w : Account) (drawer : Drawer) →
-    IsDrawn view [] drawer → IsTelling view a a w w 0 drawer
-telling_start so_far view a w drawer drawn =
+pub telling_start : FaultsSoFarAreNotTruncated → (drawing : Drawing) (a w : Account) (drawer : Drawer) →
+    IsDrawn drawing [] drawer → IsTelling drawing a a w w 0 drawer
+telling_start so_far drawing a w drawer drawn =
     record {
       bytes = [];
       drawn = drawn;
@@ -59,10 +59,10 @@ telling_start so_far view a w drawer drawn =
     }
 
 -- A read that failed answered nothing.
-pub telling_same : (view : View) (a b c w x : Account) (turn : ℕ) (drawer : Drawer) →
-    IsTelling view a b w x turn drawer → c.pieces ≡ b.pieces → Keeps b.known c.known
-    → IsTelling view a c w x (turn + 1) drawer
-telling_same view a b c w x turn drawer t pieces known = record {
+pub telling_same : (drawing : Drawing) (a b c w x : Account) (turn : ℕ) (drawer : Drawer) →
+    IsTelling drawing a b w x turn drawer → c.pieces ≡ b.pieces → Keeps b.known c.known
+    → IsTelling drawing a c w x (turn + 1) drawer
+telling_same drawing a b c w x turn drawer t pieces known = record {
   bytes = t.bytes;
   drawn = t.drawn;
   part = same_part HasFault a b c t.bytes t.part pieces known;
@@ -71,35 +71,35 @@ telling_same view a b c w x turn drawer t pieces known = record {
 }
 
 -- All bytes that were to be read were, and their wave went out.
-abbrev pub IsWhollyTold : View → Account → Account → Account → Account → Drawer → Type 0
-IsWhollyTold view old new writer writer' drawer =
-    (bytes : List ℕ) × IsDrawn view bytes drawer × IsAllRead HasFault piece_len old new bytes ×
-    WentOut writer writer' (wave_of view bytes)
+abbrev pub IsWhollyTold : Drawing → Account → Account → Account → Account → Drawer → Type 0
+IsWhollyTold drawing old new writer writer' drawer =
+    (bytes : List ℕ) × IsDrawn drawing bytes drawer × IsAllRead HasFault piece_len old new bytes ×
+    WentOut writer writer' (wave_of drawing bytes)
 
-module _ (view : View) (a b c w x : Account) (turn : ℕ) (old : Drawer) (t : IsTelling view a b w x turn old)
+module _ (drawing : Drawing) (a b c w x : Account) (turn : ℕ) (old : Drawer) (t : IsTelling drawing a b w x turn old)
     (piece : List ℕ)
     (pieces : c.pieces ≡ b.pieces ++ piece ∷ []) (known : Consumes b.known c.known piece)
     (one_read : length piece ≤ piece_len) where
   -- A read answered no bytes.
-  pub told_at_end : piece ≡ [] → IsAtEnd c.known → IsWhollyTold view a c w x old
+  pub told_at_end : piece ≡ [] → IsAtEnd c.known → IsWhollyTold drawing a c w x old
   told_at_end none at_end =
       let same : t.bytes ≡ t.bytes ++ piece = sym (ap (λ (p : List ℕ). t.bytes ++ p) none ∙ append-nil t.bytes) in (
         t.bytes ++ piece,
-        subst (λ (bs : List ℕ). IsDrawn view bs old) same t.drawn,
+        subst (λ (bs : List ℕ). IsDrawn drawing bs old) same t.drawn,
         last_part HasFault a b c t.bytes t.part piece pieces known piece_len one_read (λ _. none) (λ _. at_end),
-        subst (λ (bs : List ℕ). WentOut w x (wave_of view bs)) same t.out,
+        subst (λ (bs : List ℕ). WentOut w x (wave_of drawing bs)) same t.out,
       )
 
   part_read : IsPartRead IsNone a c (t.bytes ++ piece)
   part_read = more_part IsNone a b c t.bytes (any_part a b t.bytes t.part) piece pieces known (λ bad. bad)
 
   module _ (y : Account) (new : Drawer) where
-    wave_out : (wave : List ℕ) → wave_of view (t.bytes ++ piece) ≡ wave_of view t.bytes ++ wave → WentOut x y wave →
-        WentOut w y (wave_of view (t.bytes ++ piece))
-    wave_out wave same out = subst (WentOut w y) (sym same) (out_on w x y (wave_of view t.bytes) wave t.out out)
+    wave_out : (wave : List ℕ) → wave_of drawing (t.bytes ++ piece) ≡ wave_of drawing t.bytes ++ wave →
+        WentOut x y wave → WentOut w y (wave_of drawing (t.bytes ++ piece))
+    wave_out wave same out = subst (WentOut w y) (sym same) (out_on w x y (wave_of drawing t.bytes) wave t.out out)
 
-    pub told_last : (enough : Bool) → IsTrue enough → Shows view x y new t.bytes piece (Ok enough) →
-        IsWhollyTold view a c w y new
+    pub told_last : (enough : Bool) → IsTrue enough → Shows drawing x y new t.bytes piece (Ok enough) →
+        IsWhollyTold drawing a c w y new
     told_last enough is h =
         let fault = h.1.0 is in (
           t.bytes ++ piece,
@@ -109,8 +109,8 @@ module _ (view : View) (a b c w x : Account) (turn : ℕ) (old : Drawer) (t : Is
           wave_out h.2.0 h.2.1 h.2.2,
         )
 
-    pub telling_more : (enough : Bool) → ¬ IsTrue enough → Shows view x y new t.bytes piece (Ok enough) →
-        IsTelling view a c w y (turn + 1) new
+    pub telling_more : (enough : Bool) → ¬ IsTrue enough → Shows drawing x y new t.bytes piece (Ok enough) →
+        IsTelling drawing a c w y (turn + 1) new
     telling_more enough not h = record {
       bytes = t.bytes ++ piece;
       drawn = h.0;
@@ -120,20 +120,21 @@ module _ (view : View) (a b c w x : Account) (turn : ℕ) (old : Drawer) (t : Is
     }
 
     -- The wave of the piece went out as far as the writer took it.
-    cut_in_wave : (wave : List ℕ) (n : ℕ) → wave_of view (t.bytes ++ piece) ≡ wave_of view t.bytes ++ wave →
-        WentOut x y (take n wave) → IsCutOff view a c w y
+    cut_in_wave : (wave : List ℕ) (n : ℕ) → wave_of drawing (t.bytes ++ piece) ≡ wave_of drawing t.bytes ++ wave →
+        WentOut x y (take n wave) → IsCutOff drawing a c w y
     cut_in_wave wave n same out =
-        let count : ℕ = length (wave_of view t.bytes) + n in
-        let whole : take count (wave_of view (t.bytes ++ piece)) ≡ wave_of view t.bytes ++ take n wave =
-        ap (take count) same ∙ front (wave_of view t.bytes) wave n in
+        let count : ℕ = length (wave_of drawing t.bytes) + n in
+        let whole : take count (wave_of drawing (t.bytes ++ piece)) ≡ wave_of drawing t.bytes ++ take n wave =
+        ap (take count) same ∙ front (wave_of drawing t.bytes) wave n in
         record {
           bytes = t.bytes ++ piece;
           part = part_read;
           count = count;
-          out = subst (WentOut w y) (sym whole) (out_on w x y (wave_of view t.bytes) (take n wave) t.out out);
+          out = subst (WentOut w y) (sym whole) (out_on w x y (wave_of drawing t.bytes) (take n wave) t.out out);
         }
 
-    pub stopped_by : (fault : ViewFault) → Shows view x y new t.bytes piece (Err fault) → IsStopped view a c w y fault
+    pub stopped_by : (fault : ViewFault) → Shows drawing x y new t.bytes piece (Err fault) →
+        IsStopped drawing a c w y fault
     stopped_by Read h = absurd h
     stopped_by Turns h = absurd h
     stopped_by Memory same =
@@ -142,6 +143,6 @@ module _ (view : View) (a b c w x : Account) (turn : ℕ) (old : Drawer) (t : Is
           more = piece;
           part = part_read;
           out =
-              subst (λ (z : Account). WentOut w z (wave_of view t.bytes)) (sym same) t.out;
+              subst (λ (z : Account). WentOut w z (wave_of drawing t.bytes)) (sym same) t.out;
         }
     stopped_by Write h = cut_in_wave h.0 h.2.0 h.1 h.2.1

@@ -1,8 +1,7 @@
 -- The place of a record in a trace: how many records stand before it in the file.
 use Rattle.std.specs.Prelude.{◌≡◌, ℕ, ◌+◌, ◌^◌, ◌-◌, ◌==◌, ◌&&◌, ◌≤◌, min, Bool, List, [], ◌∷◌, if◌then◌else◌, Option}
-use Rattle.std.specs.Prelude.{Some, None, Result, Ok, Err, IfOk, IsErrOf, ◌↔◌, ◌<◌}
+use Rattle.std.specs.Prelude.{Some, None, Result, IfOk, IsErrOf, ◌↔◌, ◌<◌}
 use Rattle.lf_rules.specs.declared.event.Record.{Record}
-use Rattle.lf_codec.specs.Laws.{AreBytes}
 use Rattle.lf_codec.specs.Reader.{HasRead}
 use Rattle.lf_codec.specs.Reading.{reading_of}
 use Rattle.lf_stream.specs.Account.{Account}

@@ -4,19 +4,22 @@ ghost use Rattle.std.specs.Prelude.{◌≡◌, ◌<◌, ◌+◌, ◌^◌, ◌++�
 ghost use Rattle.std.specs.Prelude.{IsTrue};
 ghost use Rattle.lf_codec.specs.Reading.{header_now, trace_fault};
 ghost use Rattle.lf_dump.specs.Dump.{HasFault};
-ghost use Rattle.lf_wave.specs.declared.view.View.{View};
-ghost use Rattle.lf_view.specs.Viewing.{IsDrawn, wave_of, head_due, or_header, DrawsAll};
+ghost use Rattle.lf_view.specs.declared.drawing.Drawing.{Drawing};
+ghost use Rattle.lf_view.specs.Viewing.{IsDrawn, wave_of, drawing_of, head_due, or_header, DrawsAll};
 
+use crate::drawing::Drawing;
 use crate::records::{drop_memory, feed, put_records};
 use lf_codec::{CodecFault, Reader};
+use lf_map::Times;
 use lf_rules::NoMemory;
-use lf_wave::{View, Wave};
+use lf_wave::Wave;
 use std::alloc::{AllocError, Global};
 
 /// Reads a trace that comes in pieces, and has the wave of the last piece.
 #[derive(Drop)]
 pub struct Drawer {
     reader: Reader,
+    times: Option<Times>,
     wave: Wave,
     text: String,
     /// The head was put.
@@ -25,12 +28,13 @@ pub struct Drawer {
 
 impl Drawer {
     /// A drawer that was shown nothing.
-    pub fn new(alloc: Global, view: View) -> Drawer
-        ensures { IsDrawn view [] result }
+    pub fn new(alloc: Global, drawing: Drawing) -> Drawer
+        ensures { IsDrawn drawing [] result }
     {
         Drawer {
             reader: Reader::new(alloc),
-            wave: Wave::new(alloc, view),
+            times: drawing.times,
+            wave: Wave::new(alloc, drawing.view),
             text: String::new(alloc),
             begun: false,
         }
@@ -46,16 +50,18 @@ impl Drawer {
     /// Puts the head, where the header is there and the head was not put yet.
     fn put_head(&mut self) -> Result<(), AllocError>
         ensures text { OnOk result (string_bytes self.new.text ≡ string_bytes self.old.text
-            ++ head_due self.old.begun self.old.wave.view (header_now self.old.reader)) }
+            ++ head_due self.old.begun (drawing_of self.old) (header_now self.old.reader)) }
         ensures begun { OnOk result (self.new.begun ≡ or_header self.old.begun (header_now self.old.reader)) }
         ensures reader { self.new.reader ≡ self.old.reader }
+        ensures times { self.new.times ≡ self.old.times }
         ensures wave { self.new.wave ≡ self.old.wave }
     {
         if self.begun {
             return Ok(());
         }
         if let Some(header) = self.reader.header() {
-            self.wave.put_head(&header, &mut self.text)?;
+            let times = self.times.is_some();
+            self.wave.put_head(times, &header, &mut self.text)?;
             self.begun = true;
         }
         Ok(())
@@ -68,19 +74,24 @@ impl Drawer {
     {
         self.put_head()?;
         drop_memory(&mut self.reader);
-        put_records(&mut self.reader, &mut self.wave, &mut self.text)
+        put_records(
+            &mut self.reader,
+            &self.times,
+            &mut self.wave,
+            &mut self.text,
+        )
     }
 
     /// Takes a piece and draws its wave, and tells whether a fault stands in what came so far. `NoMemory`
     /// says that a growth was refused.
     pub fn show(&mut self, piece: &[u8]) -> Result<bool, NoMemory>
-        requires { (view : View) × (bytes : List ℕ) × IsDrawn view bytes self.old ×
+        requires { (drawing : Drawing) × (bytes : List ℕ) × IsDrawn drawing bytes self.old ×
             (length bytes + length piece.now < 2 ^ 63) }
-        ensures drawn { (view : View) (bytes : List ℕ) → IsDrawn view bytes self.old →
-            OnOk result (IsDrawn view (bytes ++ piece.now) self.new) }
-        ensures wave { (view : View) (bytes : List ℕ) → IsDrawn view bytes self.old →
-            OnOk result (wave_of view (bytes ++ piece.now) ≡ wave_of view bytes ++ string_bytes self.new.text) }
-        ensures enough { (view : View) (bytes : List ℕ) → IsDrawn view bytes self.old →
+        ensures drawn { (drawing : Drawing) (bytes : List ℕ) → IsDrawn drawing bytes self.old →
+            OnOk result (IsDrawn drawing (bytes ++ piece.now) self.new) }
+        ensures wave { (drawing : Drawing) (bytes : List ℕ) → IsDrawn drawing bytes self.old →
+            OnOk result (wave_of drawing (bytes ++ piece.now) ≡ wave_of drawing bytes ++ string_bytes self.new.text) }
+        ensures enough { (drawing : Drawing) (bytes : List ℕ) → IsDrawn drawing bytes self.old →
             IfOk result (λ enough. IsTrue enough ↔ HasFault (bytes ++ piece.now)) }
     {
         let enough = feed(&mut self.reader, piece)?;
@@ -91,7 +102,7 @@ impl Drawer {
 
     /// The fault of a trace that ends here.
     pub fn close(&mut self) -> Option<CodecFault>
-        ensures { (view : View) (bytes : List ℕ) → IsDrawn view bytes self.old → result ≡ trace_fault bytes }
+        ensures { (drawing : Drawing) (bytes : List ℕ) → IsDrawn drawing bytes self.old → result ≡ trace_fault bytes }
     {
         match self.reader.finish() {
             Ok(_) => None,

@@ -7,6 +7,7 @@
 #![tactic(auto)]
 
 mod drawer;
+mod drawing;
 mod fault;
 mod place;
 mod records;
@@ -14,6 +15,7 @@ mod records;
 mod tests;
 mod viewing;
 
+pub use drawing::Drawing;
 pub use fault::ViewFault;
 pub use place::{Sought, place_of};
 pub use viewing::view;

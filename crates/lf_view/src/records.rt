@@ -9,6 +9,7 @@ ghost use Rattle.lf_dump.specs.Dump.{HasFault};
 ghost use Rattle.lf_wave.specs.Wave.{drawn_after, wave_from};
 
 use lf_codec::{CodecCause, Reader, fault_so_far};
+use lf_map::Times;
 use lf_rules::NoMemory;
 use lf_wave::Wave;
 use std::alloc::AllocError;
@@ -42,17 +43,18 @@ pub fn drop_memory(reader: &mut Reader)
 /// Takes all event records, and puts what is shown of them behind the text.
 pub fn put_records(
     reader: &mut Reader,
+    times: &Option<Times>,
     wave: &mut Wave,
     text: &mut String,
 ) -> Result<(), AllocError>
     requires { wave.old.place + length reader.old.records < 2 ^ 63 }
     ensures taken { OnOk result (reader.new ≡ record reader.old { records = [] }) }
     ensures shown { OnOk result (string_bytes text.new ≡ string_bytes text.old
-        ++ wave_from wave.old reader.old.records) }
+        ++ wave_from times.now wave.old reader.old.records) }
     ensures wave { OnOk result (wave.new ≡ drawn_after wave.old reader.old.records) }
 {
     while let Some(item) = reader.take() {
-        wave.put(&item, text)?;
+        wave.put(times, &item, text)?;
     }
     Ok(())
 }

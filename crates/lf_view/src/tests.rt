@@ -1,6 +1,6 @@
 //! A trace with its wave written out.
 
-use crate::{Sought, place_of, view};
+use crate::{Drawing, Sought, place_of, view};
 use lf_stream::Counted;
 use lf_wave::View;
 use std::test::Fail;
@@ -90,7 +90,11 @@ s p0e
 fn wave_of_a_trace(rt: HostRuntime) -> Result<(), Fail> {
     let mut reader = Counted::new(&TRACE[..]);
     let mut writer = Counted::new(Vec::new(rt.alloc()));
-    let answer = view(&rt, &mut reader, &mut writer, VIEW, 10);
+    let drawing = Drawing {
+        view: VIEW,
+        times: None,
+    };
+    let answer = view(&rt, &mut reader, &mut writer, drawing, 10);
     assert_eq!(rt; answer, Ok(None));
     assert_eq!(rt; std::str::from_utf8(writer.inner()), Ok(WAVE));
     Ok(())

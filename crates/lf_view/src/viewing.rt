@@ -6,15 +6,15 @@ ghost use Rattle.lf_stream.specs.Account.{WentOut};
 ghost use Rattle.lf_stream.specs.Counted.{calls_of, failures_of, account_of};
 ghost use Rattle.lf_stream.specs.Gathered.{IsAllRead};
 ghost use Rattle.lf_dump.specs.Dump.{HasFault, piece_len};
-ghost use Rattle.lf_wave.specs.declared.view.View.{View};
+ghost use Rattle.lf_view.specs.declared.drawing.Drawing.{Drawing};
 ghost use Rattle.lf_view.specs.declared.fault.ViewFault.{ViewFault};
-ghost use Rattle.lf_view.specs.Viewing.{IsDrawn, Shows, IsStopped, IsViewed, wave_of};
+ghost use Rattle.lf_view.specs.Viewing.{IsDrawn, Shows, IsStopped, IsViewed, wave_of, drawing_of};
 
 use crate::drawer::Drawer;
+use crate::drawing::Drawing;
 use crate::fault::ViewFault;
 use lf_codec::{CodecFault, fault_so_far};
 use lf_stream::{Counted, Source, put, zeros};
-use lf_wave::View;
 use std::io::{ErrorKind, Read, Write};
 
 /// The most bytes that one read asks for.
@@ -26,12 +26,12 @@ fn show<W: Write>(
     writer: &mut Counted<W>,
     piece: &[u8],
 ) -> Result<bool, ViewFault>
-    requires ready { (view : View) × (bytes : List ℕ) × IsDrawn view bytes drawer.old ×
+    requires ready { (drawing : Drawing) × (bytes : List ℕ) × IsDrawn drawing bytes drawer.old ×
         (length bytes + length piece.now < 2 ^ 63) }
     requires writes { failures_of writer.old ≡ 0 }
     ensures write { IsErrOf result ViewFault.Write ↔ (0 < failures_of writer.new) }
-    ensures shown { (view : View) (bytes : List ℕ) → IsDrawn view bytes drawer.old →
-        Shows view (account_of W.contents writer.old) (account_of W.contents writer.new) drawer.new bytes piece.now
+    ensures shown { (drawing : Drawing) (bytes : List ℕ) → IsDrawn drawing bytes drawer.old →
+        Shows drawing (account_of W.contents writer.old) (account_of W.contents writer.new) drawer.new bytes piece.now
         result }
 {
     let enough = drawer.show(piece)?;
@@ -51,14 +51,14 @@ fn view_pieces<S: Source, W: Write>(
     requires calls { (S.account source.old).calls ≡ 0 }
     requires failures { (S.account source.old).failures ≡ 0 }
     requires room { length buffer.old ≡ piece_len }
-    requires fresh { IsDrawn drawer.old.wave.view [] drawer.old }
+    requires fresh { IsDrawn (drawing_of drawer.old) [] drawer.old }
     requires writes { failures_of writer.old ≡ 0 }
     ensures reads { (S.account source.new).calls ≤ turns }
-    ensures all { OnOk result ((bytes : List ℕ) × IsDrawn drawer.old.wave.view bytes drawer.new
+    ensures all { OnOk result ((bytes : List ℕ) × IsDrawn (drawing_of drawer.old) bytes drawer.new
         × IsAllRead HasFault piece_len (S.account source.old) (S.account source.new) bytes
         × WentOut (account_of W.contents writer.old) (account_of W.contents writer.new)
-        (wave_of drawer.old.wave.view bytes)) }
-    ensures stopped { IfErr result (IsStopped drawer.old.wave.view (S.account source.old) (S.account source.new)
+        (wave_of (drawing_of drawer.old) bytes)) }
+    ensures stopped { IfErr result (IsStopped (drawing_of drawer.old) (S.account source.old) (S.account source.new)
         (account_of W.contents writer.old) (account_of W.contents writer.new)) }
     ensures read { IsErrOf result ViewFault.Read ↔ (0 < (S.account source.new).failures) }
     ensures turns { IsErrOf result ViewFault.Turns → (S.account source.new).calls ≡ turns }
@@ -94,19 +94,21 @@ pub fn view<T: AllocGlobal, R: Read, W: Write>(
     rt: &T,
     reader: &mut Counted<R>,
     writer: &mut Counted<W>,
-    view: View,
+    drawing: Drawing,
     turns: u32,
 ) -> Result<Option<CodecFault>, ViewFault>
     requires calls { calls_of reader.old ≡ 0 }
     requires failures { failures_of reader.old ≡ 0 }
     requires writes { failures_of writer.old ≡ 0 }
-    ensures { IsViewed view (account_of R.remaining reader.old) (account_of R.remaining reader.new)
+    ensures { IsViewed drawing (account_of R.remaining reader.old) (account_of R.remaining reader.new)
         (account_of W.contents writer.old) (account_of W.contents writer.new) turns result }
 {
     let Ok(mut buffer) = zeros(rt.alloc(), PIECE) else {
         return Err(ViewFault::Memory);
     };
-    let mut drawer = Drawer::new(rt.alloc(), view);
-    view_pieces(reader, buffer.as_mut_slice(), &mut drawer, writer, turns)?;
-    Ok(drawer.close())
+    let mut drawer = Drawer::new(rt.alloc(), drawing);
+    match view_pieces(reader, buffer.as_mut_slice(), &mut drawer, writer, turns) {
+        Ok(()) => Ok(drawer.close()),
+        Err(fault) => Err(fault),
+    }
 }

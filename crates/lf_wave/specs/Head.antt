@@ -1,5 +1,5 @@
 -- The head of a wave: the scopes with their signals, and the values before the first record that is shown.
-use Rattle.std.specs.Prelude.{ℕ, false, List, [], ◌++◌, codes, flat_map}
+use Rattle.std.specs.Prelude.{ℕ, Bool, true, false, List, [], ◌++◌, codes, flat_map}
 use Rattle.std.specs.List.{range_with_len}
 use Rattle.std.specs.Fmt.{decimal}
 use Rattle.lf_wave.specs.declared.registers.Level.{Level}
@@ -105,14 +105,23 @@ bank_scope view bank =
 abbrev pub bank_scopes : View → ℕ → List ℕ
 bank_scopes view banks = flat_map (bank_scope view) (range_with_len 0 banks)
 
-abbrev pub scopes : View → ℕ → ℕ → List ℕ
-scopes view ports banks =
-    line (codes "$scope module score $end") ++ (number_variable 1 signals.Fault (codes "fault")
-    ++ (text_variable signals.Rule (codes "rule")
-    ++ (port_scopes view.tags ports ++ (bank_scopes view banks ++ scope_end))))
+-- the time of each record, where a map tells times
+abbrev pub time_variable : Bool → List ℕ
+time_variable true = text_variable signals.Time (codes "time")
+time_variable false = []
 
--- ---- the first values: no fault, no word, no tag is busy, no register is held, no block goes between the levels, and
--- no line is dirty
+abbrev pub scopes : Bool → View → ℕ → ℕ → List ℕ
+scopes times view ports banks =
+    line (codes "$scope module score $end") ++ (time_variable times
+    ++ (number_variable 1 signals.Fault (codes "fault") ++ (text_variable signals.Rule (codes "rule")
+    ++ (port_scopes view.tags ports ++ (bank_scopes view banks ++ scope_end)))))
+
+-- ---- the first values: no time, no fault, no word, no tag is busy, no register is held, no block goes between the
+-- levels, and no line is dirty
+
+abbrev pub time_start : Bool → List ℕ
+time_start true = text_change [] signals.Time
+time_start false = []
 
 abbrev pub tag_start : ℕ → ℕ → List ℕ
 tag_start port tag = bit_change false (signals.Busy port tag)
@@ -143,14 +152,14 @@ bank_start view bank =
 abbrev pub bank_starts : View → ℕ → List ℕ
 bank_starts view banks = flat_map (bank_start view) (range_with_len 0 banks)
 
-abbrev pub start : View → ℕ → ℕ → List ℕ
-start view ports banks =
+abbrev pub start : Bool → View → ℕ → ℕ → List ℕ
+start times view ports banks =
     time view.from (codes "0") ++ (line (codes "$dumpvars")
-    ++ (bit_change false signals.Fault ++ (text_change [] signals.Rule
-    ++ (port_starts view.tags ports ++ (bank_starts view banks ++ line (codes "$end"))))))
+    ++ (time_start times ++ (bit_change false signals.Fault ++ (text_change [] signals.Rule
+    ++ (port_starts view.tags ports ++ (bank_starts view banks ++ line (codes "$end")))))))
 
 -- The head. A time is counted in tenths of a nanosecond.
-abbrev pub head_text : View → ℕ → ℕ → List ℕ
-head_text view ports banks =
-    line (codes "$timescale 100 ps $end") ++ (scopes view ports banks
-    ++ (line (codes "$enddefinitions $end") ++ start view ports banks))
+abbrev pub head_text : Bool → View → ℕ → ℕ → List ℕ
+head_text times view ports banks =
+    line (codes "$timescale 100 ps $end") ++ (scopes times view ports banks
+    ++ (line (codes "$enddefinitions $end") ++ start times view ports banks))

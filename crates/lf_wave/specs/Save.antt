@@ -1,6 +1,6 @@
 -- The file of signals that GTKWave opens beside a wave: a line of flags before each signal says how its values are
 -- shown.
-use Rattle.std.specs.Prelude.{ℕ, ◌-◌, max, List, [], ◌++◌, codes, flat_map, Option, Some, None}
+use Rattle.std.specs.Prelude.{ℕ, ◌-◌, max, Bool, true, false, List, [], ◌++◌, codes, flat_map, Option, Some, None}
 use Rattle.std.specs.List.{range_with_len}
 use Rattle.std.specs.Fmt.{decimal}
 use Rattle.lf_wave.specs.declared.registers.Level.{Level}
@@ -24,6 +24,11 @@ abbrev pub as_text : List ℕ
 as_text = codes "820"
 
 -- ---- signals
+
+-- the times of the records, where the wave has them
+abbrev pub time_row : Bool → List ℕ
+time_row true = codes "@820\nscore.time\n"
+time_row false = []
 
 abbrev pub port_row : ℕ → List ℕ → List ℕ → List ℕ
 port_row port flags name = codes "@" ++ (flags ++ (codes "\nscore.port" ++ (decimal port ++ (codes "." ++ line name))))
@@ -104,8 +109,8 @@ marked_at (Some m) = decimal m.place ++ codes "000"
 marked_at None = codes "-1"
 
 -- where GTKWave begins, how much it shows at once, its marker, and the signals
-abbrev pub save_text : View → ℕ → ℕ → List ℕ
-save_text view ports banks =
+abbrev pub save_text : Bool → View → ℕ → ℕ → List ℕ
+save_text times view ports banks =
     codes "[timestart] " ++ (decimal (opens_at view) ++ (codes "000\n[size] 1600 900\n*-10.5 " ++ (marked_at view.marker
-    ++ (codes "\n[signals_width] 210\n@28\nscore.fault\n@820\nscore.rule\n"
-    ++ (all_port_rows view.tags ports ++ all_bank_rows view banks)))))
+    ++ (codes "\n[signals_width] 210\n" ++ (time_row times ++ (codes "@28\nscore.fault\n@820\nscore.rule\n"
+    ++ (all_port_rows view.tags ports ++ all_bank_rows view banks)))))))

@@ -29,6 +29,7 @@ target_letter levels.Two = codes "u"
 abbrev pub identifier : Signal → List ℕ
 identifier signals.Fault = codes "f"
 identifier signals.Rule = codes "r"
+identifier signals.Time = codes "t"
 identifier (signals.PortEvent port) = of_port port (codes "e")
 identifier (signals.PortTag port) = of_port port (codes "i")
 identifier (signals.Address port) = of_port port (codes "a")

@@ -8,6 +8,7 @@ use Rattle.lf_rules.specs.declared.event.Event.{Event}
 use Rattle.lf_rules.specs.declared.event.Event.TheVariants as events
 use Rattle.lf_rules.specs.declared.event.Record.{Record}
 use Rattle.lf_rules.specs.declared.rule.Rule.{Rule}
+use Rattle.lf_map.specs.declared.times.Times.{Times}
 use Rattle.lf_text.specs.Text.{word_of}
 use Rattle.lf_traffic.specs.declared.counts.Counts.{Counts}
 use Rattle.lf_traffic.specs.Flow.{Flows, flow_at, counts_of, flows_after, no_flow}
@@ -21,6 +22,7 @@ use Rattle.lf_wave.specs.declared.view.Marker.{Marker}
 use Rattle.lf_wave.specs.declared.view.View.{View}
 use Rattle.lf_wave.specs.Registers.{is_of_block, register_of, in_use, level1_after, level2_after}
 use Rattle.lf_wave.specs.Signals.{line, bit_change, number_change, text_change, busy_change, held_change, freed_change}
+use Rattle.lf_wave.specs.Times.{none_came, came_of, one_more_of, told_time}
 
 -- ---- busy tags: an issue makes its tag busy, and a reply frees it
 
@@ -219,9 +221,10 @@ abbrev pub mark : Option Marker → ℕ → List ℕ
 mark (Some m) place = if place == m.place then bit_change true signals.Fault ++ rule_named m.rule else []
 mark None place = []
 
--- A record begins at its place, where these registers of each level are held before it.
-abbrev pub beginning : View → ℕ → List HeldRegister → List HeldRegister → Record → List ℕ
-beginning view place level1 level2 r = time place (codes "0") ++ fill_changes view level1 level2 r.bank r.event
+-- A record begins at its place, with what is told of its time, where these registers of each level are held before it.
+abbrev pub beginning : View → ℕ → List ℕ → List HeldRegister → List HeldRegister → Record → List ℕ
+beginning view place told level1 level2 r =
+    time place (codes "0") ++ (told ++ fill_changes view level1 level2 r.bank r.event)
 
 -- The rest of it, where these tags are busy, these registers are held and this goes between the levels after it. It
 -- has one nanosecond, and its word is taken away before the next one.
@@ -236,18 +239,19 @@ moment view place busy level1 level2 flows r =
 abbrev pub is_shown : View → ℕ → Bool
 is_shown view place = nat_le view.from place && nat_le place view.to
 
-abbrev pub begun : View → ℕ → List HeldRegister → List HeldRegister → Record → List ℕ
-begun view place level1 level2 r = if is_shown view place then beginning view place level1 level2 r else []
+abbrev pub begun : View → ℕ → List ℕ → List HeldRegister → List HeldRegister → Record → List ℕ
+begun view place told level1 level2 r = if is_shown view place then beginning view place told level1 level2 r else []
 
 abbrev pub shown : View → ℕ → List BusyTag → List HeldRegister → List HeldRegister → Flows → Record → List ℕ
 shown view place busy level1 level2 flows r =
     if is_shown view place then moment view place busy level1 level2 flows r else []
 
--- how far a wave is drawn: what it shows, how many records there were, and after them the tags that are busy, the
--- registers of each level that are held, and what goes between the levels
+-- how far a wave is drawn: what it shows, how many records there were, how many of each log, and after them the tags
+-- that are busy, the registers of each level that are held, and what goes between the levels
 pub record Drawn : Type 0 where
   pub view : View
   pub place : ℕ
+  pub counts : List ℕ
   pub busy : List BusyTag
   pub level1 : List HeldRegister
   pub level2 : List HeldRegister
@@ -257,6 +261,7 @@ abbrev pub undrawn : View → Drawn
 undrawn view = record {
   view = view;
   place = 0;
+  counts = none_came;
   busy = [];
   level1 = [];
   level2 = [];
@@ -268,6 +273,7 @@ abbrev pub next : Drawn → Record → Drawn
 next wave r = record {
   view = wave.view;
   place = wave.place + 1;
+  counts = one_more_of wave.counts r.log;
   busy = busy_after wave.busy r;
   level1 = level1_after wave.view.block wave.busy r.bank r.event wave.level1;
   level2 = level2_after wave.view.factor r.bank r.event wave.level2;
@@ -278,13 +284,18 @@ abbrev pub drawn_after : Drawn → List Record → Drawn
 drawn_after wave [] = wave
 drawn_after wave (r ∷ records) = drawn_after (next wave r) records
 
+-- what is told of the time of the record that comes next
+abbrev pub next_told : Option Times → Drawn → Record → List ℕ
+next_told times wave r = told_time times r.log (came_of wave.counts r.log)
+
 -- the wave of the record that comes next
-abbrev pub next_shown : Drawn → Record → List ℕ
-next_shown wave r =
-    begun wave.view wave.place wave.level1 wave.level2 r ++ shown wave.view wave.place (next wave r).busy
+abbrev pub next_shown : Option Times → Drawn → Record → List ℕ
+next_shown times wave r =
+    begun wave.view wave.place (next_told times wave r) wave.level1 wave.level2 r
+    ++ shown wave.view wave.place (next wave r).busy
     (next wave r).level1 (next wave r).level2 (next wave r).flows r
 
--- the wave of these records, from here on
-abbrev pub wave_from : Drawn → List Record → List ℕ
-wave_from wave [] = []
-wave_from wave (r ∷ records) = next_shown wave r ++ wave_from (next wave r) records
+-- the wave of these records, from here on, with these times
+abbrev pub wave_from : Option Times → Drawn → List Record → List ℕ
+wave_from times wave [] = []
+wave_from times wave (r ∷ records) = next_shown times wave r ++ wave_from times (next wave r) records

@@ -6,7 +6,7 @@ ghost use Rattle.lf_wave.specs.Head.{tag_starts, port_start, port_starts, bank_s
 ghost use Rattle.lf_wave.specs.Head.{port_values, bank_values, register_values, traffic_values};
 ghost use Rattle.lf_wave.specs.Head.{held_variable, targets_variable, register_variable, register_variables};
 ghost use Rattle.lf_wave.specs.Head.{no_counts, register_starts, bank_start};
-ghost use Rattle.lf_wave.specs.Head.{tag_variable, tag_variables};
+ghost use Rattle.lf_wave.specs.Head.{tag_variable, tag_variables, time_variable, time_start};
 
 use crate::change::{BitChange, FreeChange, NumberChange, TextChange};
 use crate::moment::Time;
@@ -449,19 +449,47 @@ impl fmt::Display for BankScopes<'_> {
     }
 }
 
+/// The line of the signal of the times, where the wave has it.
+#[derive(Clone, Copy)]
+struct TimeVariable {
+    shown: bool,
+}
+
+impl fmt::Display for TimeVariable {
+    ghost output = { λ v. Some (time_variable v.shown) };
+
+    fn fmt<W: fmt::Write>(&self, f: &mut fmt::Formatter<W>) -> fmt::Result {
+        if !self.shown {
+            return Ok(());
+        }
+        let time = TextVariable {
+            signal: Signal::Time,
+            name: "time",
+        };
+        write!(f, "{time}")
+    }
+}
+
 /// All scopes.
 #[derive(Clone, Copy)]
 struct Scopes<'a> {
+    times: bool,
     view: &'a View,
     ports: u8,
     banks: u8,
 }
 
 impl fmt::Display for Scopes<'_> {
-    ghost output = { λ s. Some (scopes s.view.now s.ports s.banks) };
+    ghost output = { λ s. Some (scopes s.times s.view.now s.ports s.banks) };
 
     fn fmt<W: fmt::Write>(&self, f: &mut fmt::Formatter<W>) -> fmt::Result {
-        let Scopes { view, ports, banks } = *self;
+        let Scopes {
+            times,
+            view,
+            ports,
+            banks,
+        } = *self;
+        let time = TimeVariable { shown: times };
         let fault = NumberVariable {
             width: 1,
             signal: Signal::Fault,
@@ -479,7 +507,7 @@ impl fmt::Display for Scopes<'_> {
         let end = ScopeEnd;
         write!(
             f,
-            "$scope module score $end\n{fault}{rule}{ports}{banks}{end}"
+            "$scope module score $end\n{time}{fault}{rule}{ports}{banks}{end}"
         )
     }
 }
@@ -649,22 +677,45 @@ impl fmt::Display for BankStarts<'_> {
     }
 }
 
+/// The signal of the times before the first record, where the wave has it.
+#[derive(Clone, Copy)]
+struct TimeStart {
+    shown: bool,
+}
+
+impl fmt::Display for TimeStart {
+    ghost output = { λ s. Some (time_start s.shown) };
+
+    fn fmt<W: fmt::Write>(&self, f: &mut fmt::Formatter<W>) -> fmt::Result {
+        if !self.shown {
+            return Ok(());
+        }
+        let none = TextChange {
+            text: "",
+            signal: Signal::Time,
+        };
+        write!(f, "{none}")
+    }
+}
+
 /// The values before the first record that is shown.
 #[derive(Clone, Copy)]
 struct Start<'a> {
+    times: bool,
     view: &'a View,
     ports: u8,
     banks: u8,
 }
 
 impl fmt::Display for Start<'_> {
-    ghost output = { λ s. Some (start s.view.now s.ports s.banks) };
+    ghost output = { λ s. Some (start s.times s.view.now s.ports s.banks) };
 
     fn fmt<W: fmt::Write>(&self, f: &mut fmt::Formatter<W>) -> fmt::Result {
-        let time = Time {
+        let begin = Time {
             place: self.view.from,
             tenth: "0",
         };
+        let time = TimeStart { shown: self.times };
         let fine = BitChange {
             up: false,
             signal: Signal::Fault,
@@ -681,25 +732,45 @@ impl fmt::Display for Start<'_> {
             view: self.view,
             banks: self.banks,
         };
-        write!(f, "{time}$dumpvars\n{fine}{rule}{ports}{banks}$end\n")
+        write!(
+            f,
+            "{begin}$dumpvars\n{time}{fine}{rule}{ports}{banks}$end\n"
+        )
     }
 }
 
 /// The head of the wave of a trace with so many ports and banks.
 #[derive(Clone, Copy)]
 pub struct Head<'a> {
+    /// The wave has the times of the records.
+    pub times: bool,
     pub view: &'a View,
     pub ports: u8,
     pub banks: u8,
 }
 
 impl fmt::Display for Head<'_> {
-    ghost output = { λ head. Some (head_text head.view.now head.ports head.banks) };
+    ghost output = { λ head. Some (head_text head.times head.view.now head.ports head.banks) };
 
     fn fmt<W: fmt::Write>(&self, f: &mut fmt::Formatter<W>) -> fmt::Result {
-        let Head { view, ports, banks } = *self;
-        let scopes = Scopes { view, ports, banks };
-        let start = Start { view, ports, banks };
+        let Head {
+            times,
+            view,
+            ports,
+            banks,
+        } = *self;
+        let scopes = Scopes {
+            times,
+            view,
+            ports,
+            banks,
+        };
+        let start = Start {
+            times,
+            view,
+            ports,
+            banks,
+        };
         write!(
             f,
             "$timescale 100 ps $end\n{scopes}$enddefinitions $end\n{start}"

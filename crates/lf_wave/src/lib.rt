@@ -3,12 +3,14 @@
 //! The records of a trace stand at one nanosecond each, in the order of the file. A port and a bank each
 //! have a scope, with the word of their record, what it names, and for a port its busy tags, for a bank the
 //! block that each register holds and how many targets wait in it, how many blocks go between the levels, and how many
-//! lines are dirty. `specs/Wave` says the text exactly: what stands at the head, and what each record changes.
+//! lines are dirty. The time of a record is shown too, where a map tells it. `specs/Wave` says the text exactly: what
+//! stands at the head, and what each record changes.
 #![tactic(auto)]
 
 mod busy;
 mod change;
 mod changes;
+mod counts;
 mod event;
 mod head;
 mod moment;
@@ -18,6 +20,7 @@ mod save;
 mod signal;
 #[cfg(test)]
 mod tests;
+mod told;
 mod traffic_changes;
 mod variable;
 mod view;

@@ -1,6 +1,7 @@
 //! A record at its place.
 
 ghost use Rattle.std.specs.Prelude.{Some};
+ghost use Rattle.lf_wave.specs.Times.{told_time};
 ghost use Rattle.lf_wave.specs.Wave.{time, standing_tag, standing_tags, standing, rule_named, mark, beginning, moment};
 
 use crate::busy::{BusyTag, outstanding};
@@ -10,6 +11,7 @@ use crate::event::event_signal;
 use crate::register_changes::{FillChanges, RegisterChanges, StandingRegisters};
 use crate::registers::{HeldRegister, Level};
 use crate::signal::Signal;
+use crate::told::ToldTime;
 use crate::traffic_changes::{StandingCounts, TrafficChanges};
 use crate::view::{Marker, View};
 use lf_rules::{Record, Rule};
@@ -171,18 +173,21 @@ impl fmt::Display for Mark {
 pub struct Beginning<'a> {
     pub view: &'a View,
     pub place: u64,
+    pub told: ToldTime<'a>,
     pub level1: &'a [HeldRegister],
     pub level2: &'a [HeldRegister],
     pub item: &'a Record,
 }
 
 impl fmt::Display for Beginning<'_> {
-    ghost output = { λ b. Some (beginning b.view.now b.place b.level1.now b.level2.now b.item.now) };
+    ghost output = { λ b. Some (beginning b.view.now b.place (told_time b.told.times.now b.told.log b.told.place)
+        b.level1.now b.level2.now b.item.now) };
 
     fn fmt<W: fmt::Write>(&self, f: &mut fmt::Formatter<W>) -> fmt::Result {
         let Beginning {
             view,
             place,
+            told,
             level1,
             level2,
             item,
@@ -194,7 +199,7 @@ impl fmt::Display for Beginning<'_> {
             level2,
             item,
         };
-        write!(f, "{begin}{freed}")
+        write!(f, "{begin}{told}{freed}")
     }
 }
 

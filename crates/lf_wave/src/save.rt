@@ -4,7 +4,7 @@ ghost use Rattle.std.specs.Prelude.{◌≡◌, Some};
 ghost use Rattle.lf_wave.specs.Save.{port_row, bank_row, title, tag_row, tag_rows, port_rows, all_port_rows};
 ghost use Rattle.lf_wave.specs.Save.{bank_rows, bank_request_rows, bank_register_rows, bank_traffic_rows};
 ghost use Rattle.lf_wave.specs.Save.{register_row, register_rows, level_rows};
-ghost use Rattle.lf_wave.specs.Save.{all_bank_rows, opens_at, marked_at, save_text};
+ghost use Rattle.lf_wave.specs.Save.{all_bank_rows, time_row, opens_at, marked_at, save_text};
 
 use crate::registers::Level;
 use crate::view::{Marker, View};
@@ -417,21 +417,47 @@ impl fmt::Display for MarkedAt {
     }
 }
 
+/// The signal of the times, where the wave has it.
+#[derive(Clone, Copy)]
+struct TimeRow {
+    shown: bool,
+}
+
+impl fmt::Display for TimeRow {
+    ghost output = { λ r. Some (time_row r.shown) };
+
+    fn fmt<W: fmt::Write>(&self, f: &mut fmt::Formatter<W>) -> fmt::Result {
+        if self.shown {
+            write!(f, "@820\nscore.time\n")
+        } else {
+            Ok(())
+        }
+    }
+}
+
 /// The file of signals for the wave of a trace with so many ports and banks: where GTKWave begins, its
 /// marker, and the signals that it shows.
 #[derive(Clone, Copy)]
 pub struct SaveFile<'a> {
+    /// The wave has the times of the records.
+    pub times: bool,
     pub view: &'a View,
     pub ports: u8,
     pub banks: u8,
 }
 
 impl fmt::Display for SaveFile<'_> {
-    ghost output = { λ s. Some (save_text s.view.now s.ports s.banks) };
+    ghost output = { λ s. Some (save_text s.times s.view.now s.ports s.banks) };
 
     fn fmt<W: fmt::Write>(&self, f: &mut fmt::Formatter<W>) -> fmt::Result {
-        let SaveFile { view, ports, banks } = *self;
+        let SaveFile {
+            times,
+            view,
+            ports,
+            banks,
+        } = *self;
         let opens = opens_at(view);
+        let time = TimeRow { shown: times };
         let marked = MarkedAt {
             marker: view.marker,
         };
@@ -442,7 +468,7 @@ impl fmt::Display for SaveFile<'_> {
         let banks = AllBankRows { view, banks };
         write!(
             f,
-            "[timestart] {opens}000\n[size] 1600 900\n*-10.5 {marked}\n[signals_width] 210\n@28\nscore.fault\n@820\nscore.rule\n{ports}{banks}"
+            "[timestart] {opens}000\n[size] 1600 900\n*-10.5 {marked}\n[signals_width] 210\n{time}@28\nscore.fault\n@820\nscore.rule\n{ports}{banks}"
         )
     }
 }

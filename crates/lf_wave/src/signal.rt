@@ -13,6 +13,8 @@ pub enum Signal {
     Fault,
     /// The rule that it breaks.
     Rule,
+    /// The time of the record.
+    Time,
     /// The word of the port's record.
     PortEvent {
         port: u8,
@@ -117,6 +119,7 @@ impl fmt::Display for Signal {
         match self {
             Signal::Fault => write!(f, "f"),
             Signal::Rule => write!(f, "r"),
+            Signal::Time => write!(f, "t"),
             Signal::PortEvent { port } => write!(f, "p{port}e"),
             Signal::PortTag { port } => write!(f, "p{port}i"),
             Signal::Address { port } => write!(f, "p{port}a"),

@@ -2,6 +2,7 @@
 
 use crate::{Marker, SaveFile, View, Wave};
 use lf_codec::Header;
+use lf_map::Times;
 use lf_rules::{Block, Event, Level, Op, OrgShape, Record, Rule, Shape, WideBlock};
 use std::test::Fail;
 
@@ -287,13 +288,14 @@ fn wave_of_a_miss(rt: HostRuntime) -> Result<(), Fail> {
         size: 8,
         bytes: Block::new(),
     };
+    let times = None;
     let mut text = String::new(rt.alloc());
     let mut wave = Wave::new(rt.alloc(), VIEW);
-    wave.put_head(&HEADER, &mut text)?;
-    wave.put(&record(0, 0, issue), &mut text)?;
-    wave.put(&record(1, 1, primary), &mut text)?;
-    wave.put(&record(0, 2, reply), &mut text)?;
-    wave.put(&record(0, 0, Event::Fence), &mut text)?;
+    wave.put_head(false, &HEADER, &mut text)?;
+    wave.put(&times, &record(0, 0, issue), &mut text)?;
+    wave.put(&times, &record(1, 1, primary), &mut text)?;
+    wave.put(&times, &record(0, 2, reply), &mut text)?;
+    wave.put(&times, &record(0, 0, Event::Fence), &mut text)?;
     assert_eq!(rt; text.as_str(), WAVE);
     Ok(())
 }
@@ -333,15 +335,16 @@ fn registers_until_their_fills(rt: HostRuntime) -> Result<(), Fail> {
         block: 3,
         bytes: Block::new(),
     };
+    let times = None;
     let mut text = String::new(rt.alloc());
     let mut wave = Wave::new(rt.alloc(), FILLS);
-    wave.put(&record(0, 0, load(1, 24)), &mut text)?;
-    wave.put(&record(0, 1, load(2, 28)), &mut text)?;
-    wave.put(&record(1, 2, primary), &mut text)?;
-    wave.put(&record(1, 3, merge), &mut text)?;
-    wave.put(&record(1, 4, asked), &mut text)?;
-    wave.put(&record(1, 5, wide_fill), &mut text)?;
-    wave.put(&record(1, 6, fill), &mut text)?;
+    wave.put(&times, &record(0, 0, load(1, 24)), &mut text)?;
+    wave.put(&times, &record(0, 1, load(2, 28)), &mut text)?;
+    wave.put(&times, &record(1, 2, primary), &mut text)?;
+    wave.put(&times, &record(1, 3, merge), &mut text)?;
+    wave.put(&times, &record(1, 4, asked), &mut text)?;
+    wave.put(&times, &record(1, 5, wide_fill), &mut text)?;
+    wave.put(&times, &record(1, 6, fill), &mut text)?;
     assert_eq!(rt; text.as_str(), FILLED);
     Ok(())
 }
@@ -382,9 +385,92 @@ fn signals_of_a_shape(rt: HostRuntime) -> Result<(), Fail> {
     Ok(())
 }
 
+/// A trace with two logs and with no signal but the words of its records and their times.
+const FENCES: View = View {
+    from: 1,
+    to: 3,
+    tags: 0,
+    banks: 0,
+    level1_registers: 0,
+    level2_registers: 0,
+    block: 8,
+    factor: 1,
+    marker: None,
+};
+
+const TIMED: &str = "\
+$timescale 100 ps $end
+$scope module score $end
+$var string 1 t time $end
+$var wire 1 f fault $end
+$var string 1 r rule $end
+$scope module port0 $end
+$var string 1 p0e event $end
+$var wire 8 p0i tag [7:0] $end
+$var wire 64 p0a address [63:0] $end
+$var wire 16 p0o outstanding [15:0] $end
+$upscope $end
+$scope module port1 $end
+$var string 1 p1e event $end
+$var wire 8 p1i tag [7:0] $end
+$var wire 64 p1a address [63:0] $end
+$var wire 16 p1o outstanding [15:0] $end
+$upscope $end
+$upscope $end
+$enddefinitions $end
+#10
+$dumpvars
+s t
+0f
+s r
+s p0e
+b0 p0o
+s p1e
+b0 p1o
+$end
+#10
+s1250\\040ns t
+sfence p1e
+#19
+s p1e
+#20
+s t
+sfence p0e
+#29
+s p0e
+#30
+s2\\134\\302\\265s t
+sfence p1e
+#39
+s p1e
+";
+
+#[test]
+fn times_of_records(rt: HostRuntime) -> Result<(), Fail> {
+    let Ok(times) = Times::parse(rt.alloc(), "1 0 1250 ns\n1 1 2\\\u{b5}s\n0 0 7\n0 2 8\n") else {
+        return Err(Fail::from("the map is refused"));
+    };
+    let header = Header {
+        ports: 2,
+        banks: 0,
+        ..HEADER
+    };
+    let times = Some(times);
+    let mut text = String::new(rt.alloc());
+    let mut wave = Wave::new(rt.alloc(), FENCES);
+    wave.put_head(true, &header, &mut text)?;
+    wave.put(&times, &record(0, 0, Event::Fence), &mut text)?;
+    wave.put(&times, &record(1, 0, Event::Fence), &mut text)?;
+    wave.put(&times, &record(0, 0, Event::Fence), &mut text)?;
+    wave.put(&times, &record(1, 0, Event::Fence), &mut text)?;
+    assert_eq!(rt; text.as_str(), TIMED);
+    Ok(())
+}
+
 #[test]
 fn signals_beside_it(rt: HostRuntime) -> Result<(), Fail> {
     let save = SaveFile {
+        times: false,
         view: &VIEW,
         ports: 1,
         banks: 1,

@@ -3,7 +3,7 @@
 use crate::check::CheckOptions;
 use crate::explain::ExplainOptions;
 use crate::trace::STANDARD_INPUT;
-use crate::view::Window;
+use crate::view::{ViewOptions, Window};
 use crate::{
     assemble, check, cover, demonstration, dump, explain, help, shrink, stats, view, watch,
 };
@@ -77,7 +77,7 @@ pub enum Request<'a> {
         config: &'a str,
         trace: &'a str,
         out: &'a str,
-        window: Window,
+        options: ViewOptions<'a>,
     },
 }
 
@@ -284,7 +284,8 @@ fn view_command<'a>(alloc: Global) -> Result<Command<'a>, AllocError> {
         .arg(trace_arg(alloc))?
         .arg(out)?
         .arg(from)?
-        .arg(to)
+        .arg(to)?
+        .arg(value_arg(alloc, "map", "FILE").help("The times of the records"))
 }
 
 fn program<'a>(alloc: Global) -> Result<Command<'a>, AllocError> {
@@ -424,9 +425,12 @@ fn view_request<'a>(matches: &ArgMatches<'a>) -> Option<Request<'a>> {
         config,
         trace,
         out: matches.get_str("OUT")?,
-        window: Window {
-            from: matches.get_one::<u64>("from"),
-            to: matches.get_one::<u64>("to"),
+        options: ViewOptions {
+            window: Window {
+                from: matches.get_one::<u64>("from"),
+                to: matches.get_one::<u64>("to"),
+            },
+            map: matches.get_str("map"),
         },
     })
 }

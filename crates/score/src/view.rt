@@ -1,14 +1,16 @@
 //! `score view`: writes a waveform of a trace.
 
 use crate::configuration::{bytes_at, bytes_within, text_in};
+use crate::map::times_if;
 use crate::output::{Target, finish, part_of, put, target_of, tell};
 use crate::progress::reader_by_itself;
 use crate::trace::{Trace, size_of_file};
 use crate::{REFUSED, refused, status_of};
 use lf_engine::{Counted, InputFault, Line, run, shape_for};
+use lf_map::Times;
 use lf_rules::{Rule, Shape};
 use lf_verdict::{Fault, Verdict};
-use lf_view::{Sought, ViewFault, place_of, view as draw};
+use lf_view::{Drawing, Sought, ViewFault, place_of, view as draw};
 use lf_wave::{Marker, SaveFile, View};
 use std::alloc::AllocError;
 use std::io;
@@ -41,6 +43,10 @@ Without --from, the waveform begins 200 records before the one that breaks a
 rule, and without --to it ends with that one. Otherwise it is that of the
 whole trace.
 
+With --map FILE, time is the time of each record, and the empty text for a
+record that FILE does not name. FILE is the time map that a recorder wrote
+beside the trace; see score help explain. GTKWave shows time first.
+
 A TRACE that is a pipe or a FIFO is kept in memory. OUT is written beside its
 place first and then renamed. If OUT is -, it is standard output, the line
 goes to standard error, and there is no second file. If standard error is a
@@ -49,6 +55,7 @@ terminal, it shows how far a long TRACE is read.
 Answers:
   no bank=0 number=5 rule=ReplyData  what check says; OUT is written
   refused write                      OUT cannot be written
+  refused read map                   FILE cannot be read
 
 Exit status:
   0  yes
@@ -58,6 +65,7 @@ Exit status:
 Examples:
   score view small.toml run.lfts run.vcd && gtkwave run.vcd run.gtkw
   score view --from 0 --to 999 small.toml run.lfts run.vcd
+  score view --map run.map small.toml run.lfts run.vcd
   score view small.toml run.lfts - | vcd2fst - run.fst";
 
 /// So many records before the one that breaks a rule are shown, where nothing else is asked for.
@@ -82,6 +90,22 @@ impl Window {
             ..View::whole(shape)
         }
     }
+}
+
+/// What `view` is asked for.
+#[derive(Clone, Copy, Debug, PartialEq, Eq)]
+pub struct ViewOptions<'a> {
+    pub window: Window,
+    /// The file in which a recorder wrote the time of each record.
+    pub map: Option<&'a str>,
+}
+
+/// Where the wave goes, and what it shows.
+#[derive(Drop)]
+struct Output<'a> {
+    out: &'a str,
+    window: Window,
+    times: Option<Times>,
 }
 
 /// Three readers of one trace.
@@ -133,13 +157,13 @@ fn marker_of<T: AllocGlobal, R: Read + Drop>(
 /// Writes the wave of the trace. A trace that is none any more was changed while it was read.
 fn write_wave<T: AllocGlobal, R: Read + Drop, W: Write + Drop>(
     rt: &T,
-    view: View,
+    drawing: Drawing,
     reader: R,
     writer: W,
 ) -> io::Result<()> {
     let mut reader = Counted::new(reader);
     let mut writer = Counted::new(writer);
-    match draw(rt, &mut reader, &mut writer, view, u32::MAX) {
+    match draw(rt, &mut reader, &mut writer, drawing, u32::MAX) {
         Ok(None) => Ok(()),
         _ => Err(io::Error::from(ErrorKind::Other)),
     }
@@ -155,14 +179,8 @@ fn save_name<T: AllocGlobal>(rt: &T, out: &str) -> Result<String, AllocError> {
 fn put_save<T: Print + Files + AllocGlobal>(
     rt: &T,
     out: &str,
-    view: &View,
-    shape: &Shape,
+    save: SaveFile<'_>,
 ) -> io::Result<()> {
-    let save = SaveFile {
-        view,
-        ports: u8::try_from(shape.ports).unwrap_or(u8::MAX),
-        banks: u8::try_from(shape.banks).unwrap_or(u8::MAX),
-    };
     let text = format!(in rt.alloc(); "{save}")?;
     let name = save_name(rt, out)?;
     put(rt, name.as_str(), text.as_bytes())
@@ -172,7 +190,7 @@ fn put_save<T: Print + Files + AllocGlobal>(
 fn put_wave<T: Print + Files + AllocGlobal, R: Read + Drop>(
     rt: &T,
     out: &str,
-    view: View,
+    drawing: Drawing,
     shape: &Shape,
     reader: R,
 ) -> io::Result<()>
@@ -180,14 +198,21 @@ where
     T::File: Drop,
 {
     match target_of(rt, out) {
-        Target::StandardOutput => write_wave(rt, view, reader, io::writer(rt)),
-        Target::Special => write_wave(rt, view, reader, std::fs::create(rt, out)?),
+        Target::StandardOutput => write_wave(rt, drawing, reader, io::writer(rt)),
+        Target::Special => write_wave(rt, drawing, reader, std::fs::create(rt, out)?),
         Target::File => {
+            let view = drawing.view;
+            let save = SaveFile {
+                times: drawing.times.is_some(),
+                view: &view,
+                ports: u8::try_from(shape.ports).unwrap_or(u8::MAX),
+                banks: u8::try_from(shape.banks).unwrap_or(u8::MAX),
+            };
             let part = part_of(rt, out)?;
             let file = std::fs::create(rt, part.as_str())?;
-            let written = write_wave(rt, view, reader, file);
+            let written = write_wave(rt, drawing, reader, file);
             finish(rt, part.as_str(), out, written)?;
-            put_save(rt, out, &view, shape)
+            put_save(rt, out, save)
         }
     }
 }
@@ -196,8 +221,7 @@ where
 fn hand_out<T: Print + Eprint + Files + AllocGlobal, R: Read + Drop>(
     rt: &T,
     shape: &Shape,
-    out: &str,
-    window: Window,
+    output: Output<'_>,
     verdict: Verdict,
     searched: R,
     shown: R,
@@ -205,12 +229,16 @@ fn hand_out<T: Print + Eprint + Files + AllocGlobal, R: Read + Drop>(
 where
     T::File: Drop,
 {
+    let Output { out, window, times } = output;
     let Ok(marker) = marker_of(rt, &verdict, searched) else {
         tell(rt, out, "refused read trace")?;
         return Ok(ExitCode::from(REFUSED));
     };
-    let view = window.view(shape, marker);
-    if put_wave(rt, out, view, shape, shown).is_err() {
+    let drawing = Drawing {
+        view: window.view(shape, marker),
+        times,
+    };
+    if put_wave(rt, out, drawing, shape, shown).is_err() {
         tell(rt, out, "refused write")?;
         return Ok(ExitCode::from(REFUSED));
     }
@@ -222,10 +250,11 @@ where
 fn view_of<
     T: Print + Eprint + Files + AllocGlobal + Threads + Sync + Send + Copy + 'static,
     R: Read + Drop,
->(rt: &T, text: &str, out: &str, window: Window, readers: Readers<R>) -> io::Result<ExitCode>
+>(rt: &T, text: &str, output: Output<'_>, readers: Readers<R>) -> io::Result<ExitCode>
 where
     T::File: Drop,
 {
+    let out = output.out;
     let Readers {
         judged,
         searched,
@@ -239,7 +268,7 @@ where
     };
     match (shape_for(rt.alloc(), text, 1), verdict) {
         (Ok(shape), verdict @ (Verdict::Yes { .. } | Verdict::No(_))) => {
-            hand_out(rt, &shape, out, window, verdict, searched, shown)
+            hand_out(rt, &shape, output, verdict, searched, shown)
         }
         (_, verdict) => {
             tell(rt, out, Line::Judged(&verdict))?;
@@ -248,8 +277,8 @@ where
     }
 }
 
-/// Judges the configuration before the trace is read. A trace that is no regular file is kept, since it can be read
-/// once alone.
+/// Judges the configuration and reads the map before the trace is read. A trace that is no regular file is kept, since
+/// it can be read once alone.
 pub fn view<
     T: Print + Eprint + Input + Files + AllocGlobal + Threads + Sync + Send + Copy + 'static,
 >(
@@ -257,7 +286,7 @@ pub fn view<
     config: &str,
     trace: &str,
     out: &str,
-    window: Window,
+    options: ViewOptions<'_>,
     on_terminal: bool,
 ) -> io::Result<ExitCode>
 where
@@ -268,13 +297,25 @@ where
         Ok(text) => text,
         Err(why) => return refused(rt, why),
     };
+    let times = match times_if(rt, options.map) {
+        Ok(times) => times,
+        Err(why) => {
+            tell(rt, out, format_args!("refused {why}"))?;
+            return Ok(ExitCode::from(REFUSED));
+        }
+    };
+    let output = Output {
+        out,
+        window: options.window,
+        times,
+    };
     if size_of_file(rt, trace).is_some() {
         let readers = Readers {
             judged: reader_by_itself(rt, trace, "judged", on_terminal),
             searched: reader_by_itself(rt, trace, "searched", on_terminal),
             shown: reader_by_itself(rt, trace, "drawn", on_terminal),
         };
-        return view_of(rt, text, out, window, readers);
+        return view_of(rt, text, output, readers);
     }
     let kept = match bytes_within(rt.alloc(), Trace::open(rt, trace), u32::MAX) {
         Ok(kept) => kept,
@@ -289,5 +330,5 @@ where
         searched: kept.as_slice(),
         shown: kept.as_slice(),
     };
-    view_of(rt, text, out, window, readers)
+    view_of(rt, text, output, readers)
 }

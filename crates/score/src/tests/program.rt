@@ -7,7 +7,7 @@ use crate::explain::ExplainOptions;
 use crate::progress::{Progress, line_of};
 use crate::tests::demonstration::SMALL_TEXT;
 use crate::trace::Trace;
-use crate::view::Window;
+use crate::view::{ViewOptions, Window};
 use lf_dump::Choice;
 use lf_engine::{Counted, InputFault, RunFault, run};
 use std::alloc::{AllocError, Global};
@@ -485,12 +485,13 @@ fn choices_of_dump(rt: HostRuntime) -> Result<(), Fail> {
 #[test]
 fn words_of_view(rt: HostRuntime) -> Result<(), Fail> {
     let (config, trace, out) = ("c.toml", "a.lfts", "a.vcd");
-    for (line, from, to) in [
-        ("score view c.toml a.lfts a.vcd", None, None),
+    for (line, from, to, map) in [
+        ("score view c.toml a.lfts a.vcd", None, None, None),
         (
-            "score view --from 3 --to 9 c.toml a.lfts a.vcd",
+            "score view --from 3 --to 9 --map a.map c.toml a.lfts a.vcd",
             Some(3),
             Some(9),
+            Some("a.map"),
         ),
     ] {
         let words = words_of(rt.alloc(), line)?;
@@ -498,7 +499,10 @@ fn words_of_view(rt: HostRuntime) -> Result<(), Fail> {
             config,
             trace,
             out,
-            window: Window { from, to },
+            options: ViewOptions {
+                window: Window { from, to },
+                map,
+            },
         };
         assert_eq!(rt; asked(rt.alloc(), words.as_slice()).ok(), Some(view));
     }

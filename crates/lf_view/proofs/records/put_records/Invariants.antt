@@ -6,8 +6,8 @@ use Rattle.lf_view.proofs.records.put_records.Given as goal
 abbrev pub invariant-loop-item : goal.invariant-loop-item
 invariant-loop-item l = record {
   reader : l.reader ≡ record l.initial.reader { records = l.reader.records };
-  shown : string_bytes l.text ++ wave_from l.wave l.reader.records ≡ string_bytes l.initial.text
-      ++ wave_from l.initial.wave l.initial.reader.records;
+  shown : string_bytes l.text ++ wave_from l.times l.wave l.reader.records ≡ string_bytes l.initial.text
+      ++ wave_from l.times l.initial.wave l.initial.reader.records;
   wave : drawn_after l.wave l.reader.records ≡ drawn_after l.initial.wave l.initial.reader.records;
   place : l.wave.place + length l.reader.records ≡ l.initial.wave.place + length l.initial.reader.records;
 }

@@ -3,6 +3,10 @@ use Rattle.std.specs.Prelude.{IsTrue}
 use Rattle.std.proofs.lemmas.List.{length-take}
 use Rattle.lf_dump.specs.Dump.{piece_len}
 use Rattle.lf_view.proofs.Telling.{telling_same, telling_more, told_at_end, told_last, stopped_by}
+use Rattle.lf_view.specs.declared.fault.ViewFault.TheVariants.{Read, Turns}
+use Rattle.lf_stream.specs.Counted.{account_of}
+use Rattle.lf_view.specs.Viewing.{drawing_of}
+use Rattle.lf_view.proofs.Viewed.{never_read, never_turns}
 use Rattle.lf_view.proofs.viewing.view_pieces.Goals as goal
 use Rattle.lf_view.proofs.viewing.view_pieces.Goals.{in-Ok+in-Ok-false, in-Err+else-ne}
 
@@ -36,6 +40,27 @@ returns-in-Err-show-clause-stopped g c =
     let one_read : length piece ≤ piece_len = omega (arith, size, length-take c.in-Ok.n c.pull.new.buffer) in
     stopped_by _ _ _ _ _ _ _ _ t piece read.pieces read.known.0 one_read _ c.show.new.drawer c.in-Err-show.fault
     (c.in-Err-show.ensures.shown _ t.bytes t.drawn)
+
+pub returns-in-Err-show-clause-read : goal.returns-in-Err-show-clause-read
+returns-in-Err-show-clause-read g c =
+    let t = c.loop-turn.invariant.telling in
+    let none : (g.S.Source.account c.pull.new.self).failures ≡ 0 =
+    c.in-Ok.ensures.read.failures ∙ c.loop-turn.invariant.failures in (
+      λ is.
+          let same : c.in-Err-show.fault ≡ Read = cc in
+          absurd (never_read (drawing_of c.args.drawer.now) (account_of g.W.Write.contents c.loop-turn.writer)
+          (account_of g.W.Write.contents c.show.new.writer) c.show.new.drawer t.bytes
+          (take c.in-Ok.n c.pull.new.buffer) c.in-Err-show.fault (c.in-Err-show.ensures.shown _ t.bytes t.drawn) same),
+      λ some. absurd (omega (arith, some, none)),
+    )
+
+pub returns-in-Err-show-clause-turns : goal.returns-in-Err-show-clause-turns
+returns-in-Err-show-clause-turns g c is =
+    let t = c.loop-turn.invariant.telling in
+    let same : c.in-Err-show.fault ≡ Turns = cc in
+    absurd (never_turns (drawing_of c.args.drawer.now) (account_of g.W.Write.contents c.loop-turn.writer)
+    (account_of g.W.Write.contents c.show.new.writer) c.show.new.drawer t.bytes
+    (take c.in-Ok.n c.pull.new.buffer) c.in-Err-show.fault (c.in-Err-show.ensures.shown _ t.bytes t.drawn) same)
 
 pub loop-turn-preserved : goal.loop-turn-preserved
 loop-turn-preserved g c =

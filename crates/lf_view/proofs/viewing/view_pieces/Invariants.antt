@@ -2,6 +2,7 @@
 use Rattle.std.proofs.Common.{◌≡◌, length}
 use Rattle.lf_stream.specs.Counted.{failures_of, account_of}
 use Rattle.lf_dump.specs.Dump.{piece_len}
+use Rattle.lf_view.specs.Viewing.{drawing_of}
 use Rattle.lf_view.proofs.Telling.{IsTelling}
 use Rattle.lf_view.proofs.viewing.view_pieces.Given as goal
 
@@ -12,7 +13,7 @@ invariant-loop-turn g l = record {
   room : length l.buffer ≡ piece_len;
   writes : failures_of l.writer ≡ 0;
   telling : IsTelling
-      l.initial.drawer.wave.view
+      (drawing_of l.initial.drawer)
       (g.S.Source.account l.initial.source)
       (g.S.Source.account l.source)
       (account_of g.W.Write.contents l.initial.writer)

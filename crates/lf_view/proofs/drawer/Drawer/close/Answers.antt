@@ -5,7 +5,7 @@ use Rattle.lf_dump.proofs.Faults.{ends_badly}
 use Rattle.lf_view.proofs.drawer.Drawer.close.Goals as goal
 
 pub returns-in-Err : goal.returns-in-Err
-returns-in-Err c view bytes drawn =
+returns-in-Err c drawing bytes drawn =
     ap (λ (f : CodecFault). Some f) c.fault.ensures
     ∙ sym (ends_badly bytes _ c.in-Err.told (sym (c.in-Err.ensures.ends bytes (reading_of bytes).memory
     (reading_of bytes).records drawn.read)))

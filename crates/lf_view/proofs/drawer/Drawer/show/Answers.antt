@@ -8,38 +8,42 @@ pub draw-requires : goal.draw-requires
 draw-requires c =
     let mid : Drawer = record {
       reader = c.feed.new.reader;
+      times = c.args.self.now.times;
       wave = c.args.self.now.wave;
       text =
           c.clear.new.self;
       begun = c.args.self.now.begun;
     } in
-    let view = c.requires.0 in
+    let drawing = c.requires.0 in
     let bytes = c.requires.1 in
     let drawn = c.requires.2 in
     let has = c.in_ok-enough.ensures.read bytes (reading_of bytes).memory (reading_of bytes).records drawn.read in
-    omega (arith, few_now view bytes c.args.piece.now c.args.self.now mid drawn has refl refl, c.requires.3)
+    omega (arith, few_now drawing bytes c.args.piece.now c.args.self.now mid drawn has refl refl refl, c.requires.3)
 
 pub returns-clause-drawn : goal.returns-clause-drawn
-returns-clause-drawn c view bytes drawn =
+returns-clause-drawn c drawing bytes drawn =
     let mid : Drawer = record {
       reader = c.feed.new.reader;
+      times = c.args.self.now.times;
       wave = c.args.self.now.wave;
       text =
           c.clear.new.self;
       begun = c.args.self.now.begun;
     } in
     let has = c.in_ok-enough.ensures.read bytes (reading_of bytes).memory (reading_of bytes).records drawn.read in
-    drawn_now view bytes c.args.piece.now c.args.self.now mid drawn has refl refl c.draw.new.self c.in_ok-draw.ensures
+    drawn_now drawing bytes c.args.piece.now c.args.self.now mid drawn has refl refl refl c.draw.new.self
+    c.in_ok-draw.ensures
 
 pub returns-clause-wave : goal.returns-clause-wave
-returns-clause-wave c view bytes drawn =
+returns-clause-wave c drawing bytes drawn =
     let mid : Drawer = record {
       reader = c.feed.new.reader;
+      times = c.args.self.now.times;
       wave = c.args.self.now.wave;
       text =
           c.clear.new.self;
       begun = c.args.self.now.begun;
     } in
     let has = c.in_ok-enough.ensures.read bytes (reading_of bytes).memory (reading_of bytes).records drawn.read in
-    wave_now view bytes c.args.piece.now c.args.self.now mid drawn has refl refl c.draw.new.self c.in_ok-draw.ensures
-    c.clear.ensures.bytes
+    wave_now drawing bytes c.args.piece.now c.args.self.now mid drawn has refl refl refl c.draw.new.self
+    c.in_ok-draw.ensures c.clear.ensures.bytes

@@ -1,5 +1,4 @@
 use Rattle.std.proofs.Common.{◌≡◌, List, [], rules, ap, ◌∙◌}
-use Rattle.lf_codec.specs.declared.reader.Reader.{Reader}
 use Rattle.lf_codec.specs.Reading.{reading_of}
 use Rattle.lf_rules.specs.declared.event.Record.{Record}
 use Rattle.lf_view.specs.declared.place.Search.{Search}

@@ -1,0 +1,12 @@
+//! What is drawn of a trace.
+
+use lf_map::Times;
+use lf_wave::View;
+
+/// What is drawn of a trace.
+#[derive(Drop)]
+pub struct Drawing {
+    pub view: View,
+    /// The times of the records, where a map tells them.
+    pub times: Option<Times>,
+}
