@@ -16,7 +16,7 @@ use Rattle.lf_codec.proofs.Bytes.{read_on-append}
 use Rattle.lf_codec.proofs.Forward.{header_again}
 use Rattle.lf_codec.proofs.Pieces.{kept_on}
 use Rattle.lf_codec.proofs.TraceLaws.{trace_is_read}
-use Rattle.lf_history.specs.Offsets.{bytes_len}
+use Rattle.lf_lengths.specs.Lengths.{bytes_len}
 use Rattle.lf_listing.specs.declared.mark.Mark.{Mark}
 use Rattle.lf_listing.specs.declared.mark.Marker.{Marker}
 use Rattle.lf_listing.specs.Marks.{Beside, beside, besides, besides_of, beside_of, StandsBehind}

@@ -3,7 +3,7 @@
 ghost use Rattle.std.specs.Prelude.{◌≡◌, ℕ, ◌+◌, ◌<◌, ◌^◌, ◌++◌, ◌∷◌, [], List, IfOk, OnOk};
 ghost use Rattle.lf_rules.specs.declared.event.Record.{Record};
 ghost use Rattle.lf_rules.specs.Fits.{Bytes};
-ghost use Rattle.lf_history.specs.Offsets.{bytes_len};
+ghost use Rattle.lf_lengths.specs.Lengths.{bytes_len};
 ghost use Rattle.lf_codec.specs.declared.header.Header.{Header};
 ghost use Rattle.lf_codec.specs.Laws.{IsSomeTrace};
 ghost use Rattle.lf_codec.specs.Trace.{IsTrace};
@@ -95,7 +95,7 @@ fn push_copy(records: &mut Vec<Record>, item: &Record) -> Result<(), NoMemory>
 impl Kept {
     ghost use Rattle.std.specs.Prelude.{◌≡◌, ℕ, ◌+◌, ◌<◌, ◌^◌, ◌++◌, ◌∷◌, [], List, OnOk, Option};
     ghost use Rattle.lf_rules.specs.declared.event.Record.{Record};
-    ghost use Rattle.lf_history.specs.Offsets.{bytes_len};
+    ghost use Rattle.lf_lengths.specs.Lengths.{bytes_len};
     ghost use Rattle.lf_listing.specs.Marks.{told_by};
     ghost use Rattle.lf_contents.specs.Keeping.{IsKept, HasChosen};
 

@@ -2,7 +2,6 @@ pub mod Order
 pub mod Lengths
 pub mod Pieces
 pub mod Telling
-pub mod Fixed
 pub mod Faults
 pub mod Printed
 pub mod Placing

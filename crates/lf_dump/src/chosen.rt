@@ -11,9 +11,9 @@ ghost use Rattle.lf_dump.specs.Lines.{placed_line, len_of, memory_part, record_p
 ghost use Rattle.lf_dump.specs.Chosen.{is_late, last_of, marked_line, memory_candidate, record_candidate, taken_from};
 
 use crate::choice::Choice;
-use crate::len::record_len;
 use crate::lines::put_line;
 use lf_codec::{Header, Reader};
+use lf_lengths::record_len;
 use lf_rules::NoMemory;
 use lf_stream::{Counted, NotWritten, put};
 use lf_text::{PlacedLine, TextLine};

@@ -13,7 +13,6 @@ mod choosing;
 mod chosen;
 mod dumping;
 mod fault;
-mod len;
 mod lines;
 mod printer;
 #[cfg(test)]

@@ -4,8 +4,8 @@ ghost use Rattle.std.specs.Prelude.{◌≡◌, ◌≤◌, ◌<◌, ◌+◌, ◌^
 ghost use Rattle.lf_text.specs.Text.{line_text};
 ghost use Rattle.lf_dump.specs.Lines.{placed_line, lines_from, len_of, memory_part, record_part};
 
-use crate::len::record_len;
 use lf_codec::Reader;
+use lf_lengths::record_len;
 use lf_text::{PlacedLine, TextLine};
 use std::alloc::AllocError;
 

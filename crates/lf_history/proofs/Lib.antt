@@ -1,4 +1,3 @@
 mod Touched
 mod Numbered
-mod FixedParts
 mod NamedRecords

@@ -2,6 +2,5 @@
 pub mod Asked
 pub mod BankOrder
 pub mod History
-pub mod Offsets
 pub mod Places
 pub mod Touching

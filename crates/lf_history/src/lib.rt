@@ -1,13 +1,12 @@
 //! The history of a record: which records of a trace came before it.
 //!
-//! A place is a record's number in the trace, from 0, and an offset is that of its first byte. Before a
-//! record of a port stand those of its log. Before a record of a bank stand the bank's records with lower
-//! numbers; those that touch the same second-level block are told.
+//! A place is a record's number in the trace, from 0. Before a record of a port stand those of its log. Before
+//! a record of a bank stand the bank's records with lower numbers; those that touch the same second-level block
+//! are told.
 #![tactic(auto)]
 
 mod bank_order;
 mod history;
-mod offsets;
 mod places;
 mod requests;
 mod touching;
@@ -15,5 +14,4 @@ mod touching;
 pub use bank_order::places_in_order;
 pub use history::{History, history_in_bank, history_in_log};
 pub use lf_rules::NoMemory;
-pub use offsets::{record_len, record_offsets};
 pub use places::record_at;

@@ -1,6 +1,7 @@
 //! What came before a record.
 
-use lf_history::{NoMemory, history_in_bank, history_in_log, record_len, record_offsets};
+use lf_history::{NoMemory, history_in_bank, history_in_log};
+use lf_lengths::record_len;
 use lf_rules::Record;
 use lf_samples::{C1, LOAD, LOADED, memory_ran_out, records};
 use std::alloc::Global;
@@ -64,15 +65,6 @@ fn at_most_so_many(rt: HostRuntime) -> Result<(), Fail> {
 #[test]
 fn before_a_request_that_never_came(rt: HostRuntime) -> Result<(), Fail> {
     assert_before(&rt, &[LOAD, "H 3"], 5, 2, &[3, 4])
-}
-
-#[test]
-fn offsets_of_no_record(rt: HostRuntime) -> Result<(), Fail> {
-    let Ok(offsets) = record_offsets(rt.alloc(), 16, &[]) else {
-        return Err(memory_ran_out());
-    };
-    assert!(rt; offsets.is_empty());
-    Ok(())
 }
 
 #[test]

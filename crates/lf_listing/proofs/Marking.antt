@@ -6,7 +6,7 @@ use Rattle.std.proofs.lemmas.List.{append-nil, append_assoc, length-append, get_
 use Rattle.std.proofs.lemmas.List.Elements.{filter-append}
 use Rattle.std.proofs.lemmas.List.Sums.{length-filter, count_by-le-length}
 use Rattle.lf_rules.specs.declared.event.Record.{Record}
-use Rattle.lf_history.specs.Offsets.{bytes_len}
+use Rattle.lf_lengths.specs.Lengths.{bytes_len}
 use Rattle.lf_listing.specs.Marks.{Beside, count_in, beside_of, besides_from}
 
 -- ---- offsets

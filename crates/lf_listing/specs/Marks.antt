@@ -4,7 +4,7 @@ use Rattle.std.specs.Prelude.{None, slice_index, string_bytes, if◌then◌else�
 use Rattle.std.specs.Borrow.{Bor}
 use Rattle.std.specs.Option.{option_map}
 use Rattle.lf_rules.specs.declared.event.Record.{Record}
-use Rattle.lf_history.specs.Offsets.{bytes_len}
+use Rattle.lf_lengths.specs.Lengths.{bytes_len}
 use Rattle.lf_map.specs.declared.times.Times.{Times}
 use Rattle.lf_map.specs.Map.{time_of}
 use Rattle.lf_listing.specs.declared.mark.Mark.{Mark}

@@ -4,7 +4,7 @@ ghost use Rattle.std.specs.Prelude.{◌≡◌, IfOk, string_bytes};
 ghost use Rattle.std.specs.Option.{option_map};
 ghost use Rattle.lf_listing.specs.Marks.{told_by};
 
-use lf_history::record_len;
+use lf_lengths::record_len;
 use lf_map::Times;
 use lf_rules::{NoMemory, Record};
 use std::alloc::Global;
@@ -48,7 +48,7 @@ pub struct Marker {
 impl Marker {
     ghost use Rattle.std.specs.Prelude.{◌≡◌, ℕ, ◌+◌, ◌<◌, ◌^◌, ◌∷◌, ◌++◌, [], List, IfOk};
     ghost use Rattle.lf_rules.specs.declared.event.Record.{Record};
-    ghost use Rattle.lf_history.specs.Offsets.{bytes_len};
+    ghost use Rattle.lf_lengths.specs.Lengths.{bytes_len};
     ghost use Rattle.lf_listing.specs.Marks.{told_by, beside, beside_of, StandsBehind};
 
     /// No record came yet. The first begins at this offset.

@@ -3,7 +3,7 @@ use Rattle.std.proofs.lemmas.List.{take_all}
 use Rattle.lf_rules.specs.Fits.{Bytes}
 use Rattle.lf_codec.specs.Reading.{Reading}
 use Rattle.lf_codec.specs.Reader.{HasRead}
-use Rattle.lf_history.specs.Offsets.{bytes_len}
+use Rattle.lf_lengths.specs.Lengths.{bytes_len}
 use Rattle.lf_listing.specs.Marks.{told_by}
 use Rattle.lf_contents.specs.Excerpt.{is_chosen}
 use Rattle.lf_contents.specs.Taken.{HasTakenAll}

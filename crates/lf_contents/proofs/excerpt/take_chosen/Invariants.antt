@@ -1,7 +1,7 @@
 -- Some of the records were taken, and the others are still with the reader.
 use Rattle.std.proofs.Common.{◌≡◌, ℕ, ◌+◌, ◌<◌, ◌^◌, ◌++◌, List, length}
 use Rattle.lf_rules.specs.declared.event.Record.{Record}
-use Rattle.lf_history.specs.Offsets.{bytes_len}
+use Rattle.lf_lengths.specs.Lengths.{bytes_len}
 use Rattle.lf_listing.specs.Marks.{told_by}
 use Rattle.lf_contents.specs.Keeping.{IsKept}
 use Rattle.lf_contents.proofs.excerpt.take_chosen.Given as goal

@@ -19,7 +19,7 @@ mod verdict;
 
 use crate::session::breaking::{FirstBreak, PartFault, Upon, Watch};
 pub use bank_judge::BankJudge;
-use lf_history::record_len;
+use lf_lengths::record_len;
 use lf_rules::{NoMemory, Outcome, Record};
 pub use log_entries::Entries;
 

@@ -1,6 +1,6 @@
 use Rattle.std.proofs.Common.{◌≡◌, ℕ, ◌+◌, ◌<◌, ◌∙◌, List, Option, get_or, ap, string_bytes, rules}
 use Rattle.std.specs.Option.{option_map}
-use Rattle.lf_history.specs.Offsets.{bytes_len}
+use Rattle.lf_lengths.specs.Lengths.{bytes_len}
 use Rattle.lf_listing.specs.Marks.{Beside, told_by}
 use Rattle.lf_listing.proofs.mark.Marker.mark.Goals as goal
 

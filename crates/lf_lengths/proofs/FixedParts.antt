@@ -7,7 +7,7 @@ use Rattle.lf_rules.specs.declared.event.Event.TheVariants as events
 use Rattle.lf_codec.specs.Layout.{u16_bytes, u32_bytes, u64_bytes, mask_bytes, fixed_bytes}
 use Rattle.lf_codec.proofs.Numbers.{length-u32_bytes}
 use Rattle.lf_codec.proofs.MaskBytes.{length-mask_bytes}
-use Rattle.lf_history.specs.Offsets.{fixed_len}
+use Rattle.lf_lengths.specs.Lengths.{fixed_len}
 
 pub fixed_bytes_len : (event : Event) → length (fixed_bytes event) ≡ fixed_len event
 unfolding u16_bytes u32_bytes u64_bytes

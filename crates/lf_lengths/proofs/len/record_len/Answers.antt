@@ -2,8 +2,8 @@ use Rattle.std.proofs.Common.{◌++◌, arith}
 use Rattle.std.proofs.lemmas.List.{length-append}
 use Rattle.lf_codec.specs.Layout.{u32_bytes, fixed_bytes, data_of}
 use Rattle.lf_codec.proofs.Numbers.{length-u32_bytes}
-use Rattle.lf_history.proofs.FixedParts.{fixed_bytes_len}
-use Rattle.lf_history.proofs.offsets.record_len.Goals as goal
+use Rattle.lf_lengths.proofs.FixedParts.{fixed_bytes_len}
+use Rattle.lf_lengths.proofs.len.record_len.Goals as goal
 
 pub returns-clause-len : goal.returns-clause-len
 returns-clause-len c =

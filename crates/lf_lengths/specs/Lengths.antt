@@ -1,4 +1,4 @@
--- Where records begin in the bytes of a trace.
+-- How many bytes records take in a trace.
 use Rattle.std.specs.Prelude.{ℕ, ◌+◌, ◌*◌, List, [], ◌∷◌, length}
 use Rattle.lf_rules.specs.declared.event.Record.{Record}
 use Rattle.lf_rules.specs.declared.event.Event.{Event}
@@ -14,11 +14,6 @@ fixed_len (SecondMerge block register) = 8
 fixed_len (Evict2 second masks bytes) = 4 + 8 * length masks.items
 fixed_len Fence = 0
 fixed_len _ = 4
-
--- Each record begins where the one before it ends.
-abbrev pub offsets_from : ℕ → List Record → List ℕ
-offsets_from offset [] = []
-offsets_from offset (r ∷ rs) = offset ∷ offsets_from (offset + length (record_bytes r)) rs
 
 -- how many bytes the records take
 abbrev pub bytes_len : List Record → ℕ

@@ -1,11 +1,10 @@
-//! Where records begin in the bytes of a trace.
+//! How many bytes a record takes in a trace.
 
-ghost use Rattle.std.specs.Prelude.{◌≡◌, ◌-◌, ◌<◌, ◌≤◌, ◌^◌, length, IfOk};
+ghost use Rattle.std.specs.Prelude.{◌≡◌, ◌≤◌, length};
 ghost use Rattle.lf_codec.specs.Layout.{data_of, record_bytes};
-ghost use Rattle.lf_history.specs.Offsets.{fixed_len, offsets_from, bytes_len};
+ghost use Rattle.lf_lengths.specs.Lengths.{fixed_len};
 
-use lf_rules::{Event, NoMemory, Record};
-use std::alloc::Global;
+use lf_rules::{Event, Record};
 
 /// How many bytes the fixed part of an event takes.
 fn fixed_len(event: &Event) -> usize
@@ -50,30 +49,4 @@ pub fn record_len(item: &Record) -> u64
     ensures few { result ≤ 300 }
 {
     8 + fixed_len(&item.event) as u64 + data_len(&item.event) as u64
-}
-
-/// How many bytes the records take.
-fn total_len(records: &[Record]) -> u64
-    requires { bytes_len records.now < 2 ^ 64 }
-    ensures { result ≡ bytes_len records.now }
-{
-    let mut total = 0;
-    for item in records {
-        total += record_len(item);
-    }
-    total
-}
-
-/// The offset of the first byte of each record, where the last ends at this offset.
-pub fn record_offsets(alloc: Global, end: u64, records: &[Record]) -> Result<Vec<u64>, NoMemory>
-    requires { bytes_len records.now ≤ end }
-    ensures { IfOk result (λ offsets. offsets.items ≡ offsets_from (end - bytes_len records.now) records.now) }
-{
-    let mut offsets = Vec::new(alloc);
-    let mut offset = end - total_len(records);
-    for item in records {
-        offsets.push(offset)?;
-        offset += record_len(item);
-    }
-    Ok(offsets)
 }
