@@ -1,8 +1,7 @@
 //! `score assemble`: writes the trace of a text.
 
-use crate::REFUSED;
 use crate::configuration::bytes_within;
-use crate::output::{put, tell};
+use crate::output::{put, refuse};
 use crate::trace::Trace;
 use std::io::ErrorKind;
 use std::process::ExitCode;
@@ -92,12 +91,6 @@ where
         Ok(bytes) => put(rt, out, bytes.as_slice()).map_err(|_| Refusal::Write),
         Err(fault) => Err(Refusal::Text(lf_assemble::Refusal { fault, text })),
     }
-}
-
-/// Prints why there is no trace.
-fn refuse<T: Print + Eprint>(rt: &T, out: &str, refusal: Refusal<'_>) -> io::Result<ExitCode> {
-    tell(rt, out, refusal)?;
-    Ok(ExitCode::from(REFUSED))
 }
 
 /// Writes the trace of the text, or prints why there is none.

@@ -1,9 +1,11 @@
 //! The file that a command writes, and where its line goes.
 
+use crate::REFUSED;
 use std::alloc::AllocError;
 use std::fmt::Display;
 use std::io;
 use std::io::Write;
+use std::process::ExitCode;
 use std::rt::Files;
 
 /// The word of the command line that stands for standard output where a file is written.
@@ -41,6 +43,16 @@ pub fn tell<T: Print + Eprint>(rt: &T, out: &str, line: impl Display + Drop) -> 
     } else {
         println!(rt; "{line}")
     }
+}
+
+/// Tells why nothing was written, as `tell` does.
+pub fn refuse<T: Print + Eprint>(
+    rt: &T,
+    out: &str,
+    line: impl Display + Drop,
+) -> io::Result<ExitCode> {
+    tell(rt, out, line)?;
+    Ok(ExitCode::from(REFUSED))
 }
 
 /// The name of a file until it is whole.

@@ -1,9 +1,9 @@
 //! `score shrink`: searches for a smaller trace with the same rule broken.
 
 use crate::configuration::{bytes_at, text_in};
-use crate::output::{put, tell};
+use crate::output::{put, refuse, tell};
 use crate::progress::reader_by_itself;
-use crate::{NO, REFUSED, refused, status_of};
+use crate::{NO, status_of};
 use lf_engine::{Counted, Line};
 use lf_shrink::{Observer, Shrinking, Shrunk, run_shrink};
 use std::io;
@@ -79,8 +79,7 @@ fn hand_out<T: Print + Eprint + Files + AllocGlobal>(
     shrunk: &Shrunk,
 ) -> io::Result<ExitCode> {
     if put(rt, out, shrunk.bytes.as_slice()).is_err() {
-        tell(rt, out, "refused write")?;
-        return Ok(ExitCode::from(REFUSED));
+        return refuse(rt, out, "refused write");
     }
     tell(rt, out, shrunk)?;
     Ok(ExitCode::from(NO))
@@ -101,7 +100,7 @@ where
     let read = bytes_at(rt, config);
     let text = match text_in(&read) {
         Ok(text) => text,
-        Err(why) => return refused(rt, why),
+        Err(why) => return refuse(rt, out, Line::Refused(why)),
     };
     let mut reader = Counted::new(reader_by_itself(rt, trace, "read", on_terminal));
     let line = SearchLine { rt, on_terminal };
@@ -113,9 +112,6 @@ where
             tell(rt, out, Line::Judged(&verdict))?;
             Ok(status_of(&Ok(verdict)))
         }
-        Err(_) => {
-            tell(rt, out, "refused read trace")?;
-            Ok(ExitCode::from(REFUSED))
-        }
+        Err(_) => refuse(rt, out, "refused read trace"),
     }
 }

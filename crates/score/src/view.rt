@@ -2,10 +2,10 @@
 
 use crate::configuration::{bytes_at, bytes_within, text_in};
 use crate::map::times_if;
-use crate::output::{Target, finish, part_of, put, target_of, tell};
+use crate::output::{Target, finish, part_of, put, refuse, target_of, tell};
 use crate::progress::reader_by_itself;
 use crate::trace::{Trace, size_of_file};
-use crate::{REFUSED, refused, status_of};
+use crate::status_of;
 use lf_engine::{Counted, InputFault, Line, run, shape_for};
 use lf_map::Times;
 use lf_rules::{Rule, Shape};
@@ -231,16 +231,14 @@ where
 {
     let Output { out, window, times } = output;
     let Ok(marker) = marker_of(rt, &verdict, searched) else {
-        tell(rt, out, "refused read trace")?;
-        return Ok(ExitCode::from(REFUSED));
+        return refuse(rt, out, "refused read trace");
     };
     let drawing = Drawing {
         view: window.view(shape, marker),
         times,
     };
     if put_wave(rt, out, drawing, shape, shown).is_err() {
-        tell(rt, out, "refused write")?;
-        return Ok(ExitCode::from(REFUSED));
+        return refuse(rt, out, "refused write");
     }
     tell(rt, out, Line::Judged(&verdict))?;
     Ok(status_of(&Ok(verdict)))
@@ -263,8 +261,7 @@ where
     let mut reader = Counted::new(judged);
     let mut line = Counted::new(Vec::new(rt.alloc()));
     let Ok(verdict) = run(rt, &mut reader, &mut line, text, 1, u32::MAX) else {
-        tell(rt, out, "refused read trace")?;
-        return Ok(ExitCode::from(REFUSED));
+        return refuse(rt, out, "refused read trace");
     };
     match (shape_for(rt.alloc(), text, 1), verdict) {
         (Ok(shape), verdict @ (Verdict::Yes { .. } | Verdict::No(_))) => {
@@ -295,14 +292,11 @@ where
     let read = bytes_at(rt, config);
     let text = match text_in(&read) {
         Ok(text) => text,
-        Err(why) => return refused(rt, why),
+        Err(why) => return refuse(rt, out, Line::Refused(why)),
     };
     let times = match times_if(rt, options.map) {
         Ok(times) => times,
-        Err(why) => {
-            tell(rt, out, format_args!("refused {why}"))?;
-            return Ok(ExitCode::from(REFUSED));
-        }
+        Err(why) => return refuse(rt, out, format_args!("refused {why}")),
     };
     let output = Output {
         out,
@@ -319,11 +313,10 @@ where
     }
     let kept = match bytes_within(rt.alloc(), Trace::open(rt, trace), u32::MAX) {
         Ok(kept) => kept,
-        Err(e) if e.kind() == ErrorKind::OutOfMemory => return refused(rt, InputFault::Memory),
-        Err(_) => {
-            tell(rt, out, "refused read trace")?;
-            return Ok(ExitCode::from(REFUSED));
+        Err(e) if e.kind() == ErrorKind::OutOfMemory => {
+            return refuse(rt, out, Line::Refused(InputFault::Memory));
         }
+        Err(_) => return refuse(rt, out, "refused read trace"),
     };
     let readers = Readers {
         judged: kept.as_slice(),
