@@ -21,7 +21,8 @@ use Rattle.lf_engine.specs.Report.{IsYesVerdict}
 use Rattle.lf_engine.specs.Run.{Reads, Follows, outcome_line}
 
 pub found_in : (shape : Shape) (bytes : List ℕ) (logs : Vec (Vec Record)) (found : Option Incomplete)
-    → AreLogsIn shape bytes logs → IsFirstIncomplete shape.ports (lists_of logs) found → IsIncompleteIn shape bytes found
+    → AreLogsIn shape bytes logs → IsFirstIncomplete shape.ports (lists_of logs) found →
+    IsIncompleteIn shape bytes found
 found_in shape bytes logs found x is =
     record { memory = x.memory; logs = lists_of logs; trace = x.trace; first = is }
 

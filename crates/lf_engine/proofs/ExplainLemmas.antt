@@ -50,8 +50,8 @@ lines_of_report shape bytes time most v (Err e) r has same memory =
     (sym memory.1) refl)
 
 -- What is told of the bytes is told of those that the reader answered.
-pub why_read : (old new : Account) (config : List ℕ) (shape : Shape) (bytes : List ℕ) (time : Times) (most : ℕ) (judged v : Verdict)
-    (lines : Option (String Global))
+pub why_read : (old new : Account) (config : List ℕ) (shape : Shape) (bytes : List ℕ) (time : Times) (most : ℕ)
+    (judged v : Verdict) (lines : Option (String Global))
     → configuration_of config ≡ Ok shape → (IsDecided judged → Reads old new bytes) → Follows (Ok judged) (Ok v)
     → HasWhyLines shape bytes time most v lines → HasWhyLinesRead old new config time most v lines
 why_read old new config shape bytes time most judged v (Some text) e reads (inl same) (told, tells) = (
@@ -69,8 +69,8 @@ why_read old new config shape bytes time most judged v (Some text) e reads (inr 
     never (sym (ap is_told memory) ∙ told)
 why_read old new config shape bytes time most judged v None e reads follows h = h
 
-lines_written : (old new : Account) (config : List ℕ) (time : Times) (most : ℕ) (lines : Option (String Global)) (v : Verdict)
-    (said : Result Verdict RunFault)
+lines_written : (old new : Account) (config : List ℕ) (time : Times) (most : ℕ) (lines : Option (String Global))
+    (v : Verdict) (said : Result Verdict RunFault)
     → HasWhyLinesRead old new config time most v lines → FollowsLines lines v said →
     IsExplained old new config time most said (lines_or lines said)
 lines_written old new config time most (Some text) v said (told, tells) e =
@@ -87,7 +87,7 @@ pub written : (old new : Account) (config : List ℕ) (time : Times) (most : ℕ
     (said : Result Verdict RunFault)
     → IfOk out (λ r. HasWhyLinesRead old new config time most r.verdict r.lines) → FollowsReport out said
     → IsExplained old new config time most said (report_text out said)
-written old new config time most (Ok report) said h follows = lines_written old new config time most report.lines report.verdict
-    said h follows
+written old new config time most (Ok report) said h follows =
+    lines_written old new config time most report.lines report.verdict said h follows
 written old new config time most (Err fault) said h e =
     subst (λ (r : Result Verdict RunFault). IsExplained old new config time most r (outcome_line r)) (sym e) refl

@@ -4,27 +4,33 @@ use Rattle.std.proofs.lemmas.List.{append-nil}
 use Rattle.lf_rules.specs.declared.event.Record.{Record}
 use Rattle.lf_rules.specs.Address.{flat_memory}
 use Rattle.lf_rules.specs.Fits.{Bytes}
+use Rattle.lf_codec.specs.declared.header.Header.{Header}
 use Rattle.lf_codec.specs.Laws.{WhatIsReadFits}
 use Rattle.lf_codec.specs.Reading.{Reading, reading_of, header_now}
 use Rattle.lf_verdict.specs.declared.session.breaking.PartFault.{PartFault}
 use Rattle.lf_verdict.specs.declared.session.intake.Intake.{Intake}
 use Rattle.lf_verdict.specs.declared.session.standing.Standing.{Standing}
 use Rattle.lf_verdict.specs.Breaking.{NoneBroke}
-use Rattle.lf_verdict.specs.Named.{IsNamedFault, IsNamedSoFar, NoneBrokeSoFar}
-use Rattle.lf_verdict.specs.Session.{HasJudged, IsRunning}
+use Rattle.lf_verdict.specs.Legal.{Agrees}
+use Rattle.lf_verdict.specs.Named.{IsNamedFault, IsNamedSoFar, HasBegun, NoneBrokeSoFar}
+use Rattle.lf_verdict.specs.Session.{HasJudged, IsRunning, HeaderAgrees}
 use Rattle.lf_verdict.specs.inner.Taking.{IsLacking}
 use Rattle.lf_verdict.proofs.Finals.{begins_fed}
+use Rattle.lf_verdict.proofs.Named.{same_header}
 
 module _ (s : Intake) (bytes : List ℕ) (records : List Record) (judged : HasJudged s bytes records) where
   -- a trace whose memory is not whole has not begun
-  pub none_yet : IsLacking s.reader s.memory.items → NoneBrokeSoFar s.shape bytes
-  none_yet lacking begun =
+  not_begun : IsLacking s.reader s.memory.items → HasBegun s.shape bytes → ⊥
+  not_begun lacking begun =
       let here : header_now s.reader ≡ Some begun.header = sym (ap header_now judged.read.same) ∙ begun.read in
       let all : s.memory.items ++ s.reader.memory ≡ (reading_of bytes).memory =
       sym (ap (λ (q : Reading). q.memory) judged.read.same) in
       let own : s.memory.items ≡ (reading_of bytes).memory = sym (append-nil s.memory.items)
       ∙ sym (ap (λ (left : List (ℕ × Bytes)). s.memory.items ++ left) lacking.none) ∙ all in
-      absurd (lacking.lacks begun.header here (ap (λ (m : List (ℕ × Bytes)). length m) own ∙ begun.whole))
+      lacking.lacks begun.header here (ap (λ (m : List (ℕ × Bytes)). length m) own ∙ begun.whole)
+
+  pub none_yet : IsLacking s.reader s.memory.items → HeaderAgrees s.shape bytes → NoneBrokeSoFar s.shape bytes
+  none_yet lacking agrees = record { header = agrees; parts = λ begun. absurd (not_begun lacking begun) }
 
   module _ (fits : WhatIsReadFits) (running : Standing)
       (run : IsRunning s.shape bytes s.memory.items records running) (empty : s.reader.records ≡ []) where
@@ -52,6 +58,10 @@ module _ (s : Intake) (bytes : List ℕ) (records : List Record) (judged : HasJu
 
     -- ... and so it is where nothing is named
     pub none_of_all : NoneBroke s.shape (flat_memory s.memory.items) records → NoneBrokeSoFar s.shape bytes
-    none_of_all none begun =
-        subst (λ (m : List (ℕ × Bytes)). NoneBroke s.shape (flat_memory m) (reading_of bytes).records) memory_is
-        (subst (λ (rs : List Record). NoneBroke s.shape (flat_memory s.memory.items) rs) records_are none)
+    none_of_all none = record {
+      header = λ header read. subst (λ (h : Header). Agrees s.shape h)
+          (same_header bytes run.header header run.read read) run.agrees;
+      parts = λ _. subst (λ (m : List (ℕ × Bytes)). NoneBroke s.shape (flat_memory m) (reading_of bytes).records)
+          memory_is
+          (subst (λ (rs : List Record). NoneBroke s.shape (flat_memory s.memory.items) rs) records_are none);
+    }

@@ -24,7 +24,7 @@ use Rattle.lf_verdict.proofs.Sessions.{waits_no_more}
 
 -- Where no part is at fault in what was judged of a whole trace, none is in the trace.
 pub none_in_trace : ReadingIsExact → WhatIsReadFits → (s : Intake) (bytes : List ℕ) (records : List Record) →
-    HasJudged s bytes records → IsDrained s.judging s.reader s.memory.items → IsUnbrokenSoFar s s.judging records
+    HasJudged s bytes records → IsDrained s.judging s.reader s.memory.items → IsUnbrokenSoFar s bytes s.judging records
     → NoneBrokeInTrace s.shape bytes
 none_in_trace exact fits s bytes records judged drained unbroken memory logs t =
     go s.judging judged.judging drained unbroken
@@ -44,7 +44,7 @@ none_in_trace exact fits s bytes records judged drained unbroken memory logs t =
         (subst (λ (m : List (ℕ × Bytes)). IsTrace bytes t.header m t.records) (sym read_as.2 ∙ all_memory) t.trace)
 
     go : (j : Judging) → IsJudging s.shape bytes s.memory.items records j → IsDrained j s.reader s.memory.items →
-        IsUnbrokenSoFar s j records → NoneBroke s.shape (flat_memory memory) t.records
+        IsUnbrokenSoFar s bytes j records → NoneBroke s.shape (flat_memory memory) t.records
     go Waiting judging lacking none =
         absurd (waits_no_more exact bytes s.reader t.header s.memory.items records judged.read whole lacking)
     go (Running running) run empty none =

@@ -134,7 +134,7 @@ module _ (shape : Shape) (memory : FlatMemory) (records : List Record) where
       (λ lt. a.first (Double q k') (inr (sym same, lt)) b.is) in cc
 
 -- the header that was read is one
-same_header : (bytes : List ℕ) (h h' : Header) → header_of bytes ≡ Some h → header_of bytes ≡ Some h' → h ≡ h'
+pub same_header : (bytes : List ℕ) (h h' : Header) → header_of bytes ≡ Some h → header_of bytes ≡ Some h' → h ≡ h'
 same_header bytes h h' e e' = let one : Some h ≡ Some h' = sym e ∙ e' in cc
 
 begun_or_other : (shape : Shape) (bytes : List ℕ) (field : HeaderField) → HasBegun shape bytes →

@@ -11,7 +11,7 @@ use Rattle.lf_verdict.specs.declared.session.breaking.Broken.{Broken}
 use Rattle.lf_verdict.specs.declared.session.breaking.Broken.TheVariants as broken
 use Rattle.lf_verdict.specs.Breaking.{IsFaultOfPart, NoneBroke}
 use Rattle.lf_verdict.specs.Legal.{Agrees}
-use Rattle.lf_verdict.specs.Session.{IsOfAnotherHeader}
+use Rattle.lf_verdict.specs.Session.{IsOfAnotherHeader, HeaderAgrees}
 
 -- Ports are named before banks, and lower ones first; of a bank a rule before a double number, and the least number.
 abbrev pub IsNamedBefore : PartFault → PartFault → Type 0
@@ -48,10 +48,10 @@ IsNamed shape bytes (broken.Header field) = IsOfAnotherHeader shape bytes field
 IsNamed shape bytes (broken.Part fault None) = IsNamedSoFar shape bytes fault
 IsNamed shape bytes (broken.Part fault (Some upon)) = ⊥
 
--- No part is at fault in the records so far.
-abbrev pub NoneBrokeSoFar : Shape → List ℕ → Type 0
-NoneBrokeSoFar shape bytes = HasBegun shape bytes →
-    NoneBroke shape (flat_memory (reading_of bytes).memory) (reading_of bytes).records
+-- The trace is of no other hierarchy, and no part is at fault in the records so far.
+pub record NoneBrokeSoFar (shape : Shape) (bytes : List ℕ) : Type 0 where
+  pub header : HeaderAgrees shape bytes
+  pub parts : HasBegun shape bytes → NoneBroke shape (flat_memory (reading_of bytes).memory) (reading_of bytes).records
 
 -- Of the same bytes one thing at most is named.
 abbrev pub OneIsNamed : Type 0

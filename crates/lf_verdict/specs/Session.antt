@@ -43,6 +43,10 @@ pub record IsOfAnotherHeader (shape : Shape) (bytes : List ℕ) (field : HeaderF
   pub read : header_of bytes ≡ Some header
   pub differs : Differs shape header field
 
+-- Where the header is there it agrees with the shape.
+abbrev pub HeaderAgrees : Shape → List ℕ → Type 0
+HeaderAgrees shape bytes = (header : Header) → header_of bytes ≡ Some header → Agrees shape header
+
 -- No record was taken before the memory is whole; from then on each is judged, unless the header is of another
 -- hierarchy.
 abbrev pub IsJudging : Shape → List ℕ → List (ℕ × Bytes) → List Record → Judging → Type 0

@@ -10,6 +10,7 @@ ghost use Rattle.lf_verdict.specs.Named.{IsNamed, NoneBrokeSoFar};
 ghost use Rattle.lf_verdict.specs.Verdict.{IsDecided};
 ghost use Rattle.lf_verdict.specs.Final.{IsFinal, IsEarliest, IsUnbroken, NoneBrokeInTrace};
 ghost use Rattle.lf_verdict.specs.Session.{refusal_of, stop_told, IsRunning, HasTaken, IsRunningNow, IsInTurn, HasFed};
+ghost use Rattle.lf_verdict.specs.Session.{IsOfAnotherHeader, HeaderAgrees};
 ghost use Rattle.lf_verdict.specs.inner.Taking.{IsStopOf, IsLackingIf, IsDrained, CanJudge};
 ghost use Rattle.lf_codec.specs.Reader.{fault_in, answer_of, bytes_taken, with_record, TakesSome};
 ghost use Rattle.lf_verdict.specs.declared.session.intake.Judging.TheVariants.{Waiting};
@@ -420,6 +421,18 @@ impl Intake {
         }
     }
 
+    /// In which field the header differs, where it is there and of another hierarchy.
+    fn other_header(&self) -> Option<HeaderField>
+        ensures other { (bytes : List ℕ) → HasTaken self.now bytes →
+            IfSome result (IsOfAnotherHeader self.now.shape bytes) }
+        ensures none { (bytes : List ℕ) → HasTaken self.now bytes → IfNone result (HeaderAgrees self.now.shape bytes) }
+    {
+        match self.reader.header() {
+            Some(header) => differing(&self.shape, header),
+            None => None,
+        }
+    }
+
     /// What is final for the bytes that were fed, where something is. Where the records were judged one after another
     /// the record is named.
     pub fn broken(&self) -> Option<Broken>
@@ -436,7 +449,7 @@ impl Intake {
             return None;
         }
         match &self.judging {
-            Judging::Waiting => None,
+            Judging::Waiting => Some(Broken::Header(self.other_header()?)),
             Judging::Another(field) => Some(Broken::Header(*field)),
             Judging::Running(standing) => standing.broken(),
         }
@@ -456,7 +469,7 @@ impl Intake {
         part_faults_are_final();
         other_headers_are_final();
         match &self.judging {
-            Judging::Waiting => None,
+            Judging::Waiting => Some(Broken::Header(self.other_header()?)),
             Judging::Another(other) => Some(Broken::Header(*other)),
             Judging::Running(standing) => match standing.at_fault() {
                 Some(fault) => Some(Broken::Part { fault, upon: None }),

@@ -90,7 +90,8 @@ impl Session {
 
     /// What broke, where something did for which no bytes that follow lead to a yes: a header of another hierarchy, or
     /// a part of the records so far, always with the first record upon which one was at fault. The verdict is then
-    /// that fault, one that is named before it, or that the bytes are no trace. After a refused `feed` nothing is told.
+    /// that fault, one that is named before it, or that the bytes are no trace. The header is told as soon as it is
+    /// there. After a refused `feed` nothing is told.
     pub fn broken(&self) -> Option<Broken>
         ensures stands { (bytes : List ℕ) → HasFed self.now bytes → IfSome result (IsFinal self.now.shape bytes) }
         ensures earliest { (bytes : List ℕ) → HasFed self.now bytes → IfSome result (IsEarliest self.now.shape bytes) }

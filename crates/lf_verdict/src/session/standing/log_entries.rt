@@ -76,7 +76,8 @@ impl Entries {
     /// Enters the record at this place. It is built in `place` only where a port judges it.
     fn enter_at(&mut self, records: &Packed, at: usize, place: &mut Record) -> Result<(), NoMemory>
         requires within { at < length records.now.records }
-        requires next { (item : Record) × ((item ≡ slice_index_or records.now.records at item) × CanEnter item self.old) }
+        requires next { (item : Record) ×
+            ((item ≡ slice_index_or records.now.records at item) × CanEnter item self.old) }
         ensures { (shape : Shape) (before : List Record) (item : Record) →
             item ≡ slice_index_or records.now.records at item
             → MayCome shape before item → AreEntered shape before self.old

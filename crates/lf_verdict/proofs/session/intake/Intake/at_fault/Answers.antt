@@ -3,15 +3,15 @@ use Rattle.lf_rules.specs.Address.{flat_memory}
 use Rattle.lf_verdict.specs.declared.session.intake.Judging.{Judging}
 use Rattle.lf_verdict.specs.Session.{IsJudging}
 use Rattle.lf_verdict.specs.inner.Taking.{IsDrained}
-use Rattle.lf_verdict.proofs.Asked.{none_yet, named_of_all, none_of_all}
+use Rattle.lf_verdict.proofs.Asked.{named_of_all, none_of_all}
 use Rattle.lf_verdict.proofs.Finals.{begins_fed}
 use Rattle.lf_verdict.proofs.session.intake.Intake.at_fault.Goals as goal
 
-pub returns-in-Waiting-clause-none : goal.returns-in-Waiting-clause-none
-returns-in-Waiting-clause-none c bytes m =
-    let s = c.args.self.now in
-    none_yet s bytes m.0 m.1
-    (subst (λ (j : Judging). IsDrained j s.reader s.memory.items) c.in-Waiting.is c.requires.drained)
+pub returns-in_ok-other_header-in-Waiting-clause-stands : goal.returns-in_ok-other_header-in-Waiting-clause-stands
+returns-in_ok-other_header-in-Waiting-clause-stands c bytes m =
+    let other = c.in_ok-other_header-in-Waiting.ensures.other bytes m in
+    c.other_headers_are_final.ensures c.args.self.now.shape bytes other.header c.in_ok-other_header-in-Waiting.field-0
+    m.1.read.are_bytes other.read other.differs
 
 pub returns-in-Another-clause-stands : goal.returns-in-Another-clause-stands
 returns-in-Another-clause-stands c bytes m =

@@ -26,7 +26,7 @@ not_none (Some stop) e is = absurd (cc)
 
 unbroken_if : (s : Intake) (bytes : List ℕ) (found : Option Broken)
     → (s.stop ≡ None → (records : List Record) → HasJudged s bytes records →
-    IfNone found (IsUnbrokenSoFar s s.judging records)) → IfNone found (IsUnbroken s bytes)
+    IfNone found (IsUnbrokenSoFar s bytes s.judging records)) → IfNone found (IsUnbroken s bytes)
 unbroken_if s bytes None f = f
 unbroken_if s bytes (Some found) f = tt
 
@@ -34,9 +34,13 @@ pub returns-then-is_some-clause-none : goal.returns-then-is_some-clause-none
 returns-then-is_some-clause-none c bytes on records judged =
     absurd (not_none c.args.self.now.stop (sym c.is_some.ensures ∙ c.if-is_some.true) on)
 
-pub returns-in-Waiting-clause-none : goal.returns-in-Waiting-clause-none
-returns-in-Waiting-clause-none c bytes on records judged = subst
-    (λ (j : Judging). IsUnbrokenSoFar c.args.self.now j records) (sym c.in-Waiting.is) tt
+pub returns-in_ok-other_header-in-Waiting-clause-stands : goal.returns-in_ok-other_header-in-Waiting-clause-stands
+returns-in_ok-other_header-in-Waiting-clause-stands c bytes fed =
+    let s = c.args.self.now in
+    let m = going s bytes (none_of s.stop (sym c.is_some.ensures ∙ c.if-is_some.false)) fed in
+    let other = c.in_ok-other_header-in-Waiting.ensures.other bytes m in
+    c.other_headers_are_final.ensures s.shape bytes other.header c.in_ok-other_header-in-Waiting.field-0
+    m.1.read.are_bytes other.read other.differs
 
 pub returns-in-Another-clause-stands : goal.returns-in-Another-clause-stands
 returns-in-Another-clause-stands c bytes fed =
@@ -85,4 +89,4 @@ returns-in-Running-clause-none c bytes =
     in
     if_none c.broken.result (c.broken.ensures.none (first_offset run.header s.memory.items) s.shape
     (flat_memory s.memory.items) records run.stands run.watched)
-    (λ none. subst (λ (j : Judging). IsUnbrokenSoFar s j records) (sym c.in-Running.is) none))
+    (λ none. subst (λ (j : Judging). IsUnbrokenSoFar s bytes j records) (sym c.in-Running.is) none))
