@@ -1,4 +1,8 @@
+pub mod Ordered
 pub mod Pieces
 pub mod Places
 pub mod Telling
+pub mod Turns
 pub mod Viewed
+pub mod Waiting
+pub mod Yes

@@ -12,11 +12,13 @@ use Rattle.lf_codec.specs.Laws.{FaultsSoFarAreNotTruncated}
 use Rattle.lf_dump.specs.Dump.{HasFault, IsNone, piece_len}
 use Rattle.lf_dump.proofs.Faults.{none_stands}
 use Rattle.lf_dump.proofs.Telling.{out_on, any_part}
+use Rattle.lf_wave.specs.Wave.{undrawn, wave_from}
 use Rattle.lf_view.specs.declared.drawing.Drawing.{Drawing}
 use Rattle.lf_view.specs.declared.fault.ViewFault.{ViewFault}
-use Rattle.lf_view.specs.declared.fault.ViewFault.TheVariants.{Read, Turns, Memory, Write}
+use Rattle.lf_view.specs.declared.fault.ViewFault.TheVariants.{Read, Turns, Memory, Write, Order}
 use Rattle.lf_view.specs.declared.drawer.Drawer.{Drawer}
 use Rattle.lf_view.specs.Viewing.{wave_of, IsDrawn, IsViewedSoFar, IsViewedInPart, IsCutOff, IsStopped, Shows}
+use Rattle.lf_view.proofs.Ordered.{none_drawn}
 
 -- a front of the bytes behind others
 front : (xs ys : List ℕ) (n : ℕ) → take (length xs + n) (xs ++ ys) ≡ xs ++ take n ys
@@ -40,9 +42,17 @@ pub stops_here : (drawing : Drawing) (a b w x : Account) (turn : ℕ) (drawer : 
     IsTelling drawing a b w x turn drawer → IsViewedSoFar drawing a b w x
 stops_here drawing a b w x turn drawer t = record { bytes = t.bytes; part = t.part; out = t.out }
 
+-- no byte has a wave
+no_wave : (drawing : Drawing) → wave_of drawing [] ≡ []
+no_wave drawing = ap (wave_from drawing.times (undrawn drawing.view)) (none_drawn drawing.order [] refl)
+
+no_wave_out : (drawing : Drawing) (w : Account) → WentOut w w (wave_of drawing [])
+no_wave_out drawing w = subst (WentOut w w) (sym (no_wave drawing)) (nothing_out w)
+
 -- no byte was read, and nothing went out
 pub nothing_viewed : (drawing : Drawing) (a w : Account) → IsViewedInPart drawing a a w w
-nothing_viewed drawing a w = record { bytes = []; more = []; part = begun IsNone a (λ bad. bad); out = nothing_out w }
+nothing_viewed drawing a w =
+    record { bytes = []; more = []; part = begun IsNone a (λ bad. bad); out = no_wave_out drawing w }
 
 -- ---- one more read
 
@@ -53,8 +63,7 @@ telling_start so_far drawing a w drawer drawn =
       bytes = [];
       drawn = drawn;
       part = begun HasFault a (none_stands so_far [] refl);
-      out =
-          nothing_out w;
+      out = no_wave_out drawing w;
       size = omega arith;
     }
 
@@ -146,3 +155,4 @@ module _ (drawing : Drawing) (a b c w x : Account) (turn : ℕ) (old : Drawer) (
               subst (λ (z : Account). WentOut w z (wave_of drawing t.bytes)) (sym same) t.out;
         }
     stopped_by Write h = cut_in_wave h.0 h.2.0 h.1 h.2.1
+    stopped_by Order h = absurd h

@@ -1,16 +1,17 @@
 -- What a view of a drawing comes to, from what the drawer did.
-use Rattle.std.proofs.Common.{◌≡◌, ◌≢◌, ℕ, ◌<◌, ◌≤◌, List, Option, Err, ap, subst, ◌∙◌}
-use mathlib.Core.Path.{ap₂}
+use Rattle.std.proofs.Common.{◌≡◌, ◌≢◌, ℕ, ◌<◌, ◌≤◌, List, Option, Result, Ok, Err, sym, ap, subst, arith}
 use Rattle.std.specs.Prelude.{IsErrOf, ◌↔◌}
-use Rattle.lf_map.specs.declared.times.Times.{Times}
-use Rattle.lf_stream.specs.Account.{Account}
-use Rattle.lf_wave.specs.declared.view.View.{View}
-use Rattle.lf_wave.specs.Wave.{Drawn}
+use Rattle.lf_stream.specs.Account.{Account, WentOut}
+use Rattle.lf_stream.specs.Gathered.{IsAllRead}
+use Rattle.lf_codec.specs.declared.fault.CodecFault.{CodecFault}
+use Rattle.lf_codec.specs.Laws.{AreBytes}
+use Rattle.lf_dump.specs.Dump.{HasFault, piece_len}
 use Rattle.lf_view.specs.declared.drawer.Drawer.{Drawer}
 use Rattle.lf_view.specs.declared.drawing.Drawing.{Drawing}
 use Rattle.lf_view.specs.declared.fault.ViewFault.{ViewFault}
-use Rattle.lf_view.specs.declared.fault.ViewFault.TheVariants.{Read, Turns, Memory, Write}
-use Rattle.lf_view.specs.Viewing.{drawing_of, IsStopped, IsViewed, Shows}
+use Rattle.lf_view.specs.declared.fault.ViewFault.TheVariants.{Read, Turns, Memory, Write, Order}
+use Rattle.lf_view.specs.Viewing.{wave_of, Closes, IsStopped, IsViewed, Shows}
+use Rattle.lf_view.proofs.Telling.{nothing_viewed}
 
 -- ---- faults
 
@@ -21,6 +22,7 @@ never_read drawing x y drawer bytes piece Read h is = h
 never_read drawing x y drawer bytes piece Turns h is = h
 never_read drawing x y drawer bytes piece Memory h is = absurd cc
 never_read drawing x y drawer bytes piece Write h is = absurd cc
+never_read drawing x y drawer bytes piece Order h is = h
 
 pub never_turns : (drawing : Drawing) (x y : Account) (drawer : Drawer) (bytes piece : List ℕ) (fault : ViewFault) →
     Shows drawing x y drawer bytes piece (Err fault) → fault ≢ Turns
@@ -28,13 +30,9 @@ never_turns drawing x y drawer bytes piece Read h is = h
 never_turns drawing x y drawer bytes piece Turns h is = h
 never_turns drawing x y drawer bytes piece Memory h is = absurd cc
 never_turns drawing x y drawer bytes piece Write h is = absurd cc
+never_turns drawing x y drawer bytes piece Order h is = h
 
 -- ---- views
-
-pub drawing_same : (drawer : Drawer) (drawing : Drawing) (wave : Drawn) → drawer.wave ≡ wave →
-    wave.view ≡ drawing.view → drawer.times ≡ drawing.times → drawing_of drawer ≡ drawing
-drawing_same drawer drawing wave is view times =
-    ap₂ (λ (v : View) (t : Option Times). record { view = v; times = t }) (ap (λ (w : Drawn). w.view) is ∙ view) times
 
 -- an error is one whatever a success is
 same_err : {T U : Type 0} (e f : ViewFault) → IsErrOf {T = T} (Err e) f → IsErrOf {T = U} (Err e) f
@@ -56,3 +54,63 @@ module _ (drawing other : Drawing) (same : other ≡ drawing) (old new writer wr
     turns_ran_out = λ is. ran_out (same_err fault Turns is);
     write = (λ is. write.0 (same_err fault Write is), λ some. same_err fault Write (write.1 some));
   }
+
+-- no room for a piece
+pub no_room : (drawing : Drawing) (a w : Account) (turns : ℕ) → a.calls ≡ 0 → a.failures ≡ 0 → w.failures ≡ 0 →
+    IsViewed drawing a a w w turns (Err Memory)
+no_room drawing a w turns calls failures writes = record {
+  reads = omega (arith, calls);
+  whole = tt;
+  stopped = nothing_viewed drawing a w;
+  read = (λ is. absurd cc, λ some. absurd (omega (arith, some, failures)));
+  turns_ran_out = λ is. absurd cc;
+  write = (λ is. absurd cc, λ some. absurd (omega (arith, some, writes)));
+}
+
+-- ---- to the end
+
+module _ (drawing : Drawing) (old new writer writer' : Account) (turns : ℕ) (reads : new.calls ≤ turns)
+    (read : IsErrOf {T = Unit {0}} (Ok tt) Read ↔ (0 < new.failures))
+    (write : IsErrOf {T = Unit {0}} (Ok tt) Write ↔ (0 < writer'.failures)) (bytes : List ℕ)
+    (are_bytes : AreBytes bytes) (all : IsAllRead HasFault piece_len old new bytes)
+    (out : WentOut writer writer' (wave_of drawing bytes)) where
+  no_read : ¬ (0 < new.failures)
+  no_read some = let bad : IsErrOf {T = Unit {0}} (Ok tt) Read = read.1 some in cc
+
+  no_write : ¬ (0 < writer'.failures)
+  no_write some = let bad : IsErrOf {T = Unit {0}} (Ok tt) Write = write.1 some in cc
+
+  pub viewed_to_end : (answer : Result (Option CodecFault) ViewFault) → Closes drawing bytes answer →
+      IsViewed drawing old new writer writer' turns answer
+  viewed_to_end (Ok fault) closes = record {
+    reads = reads;
+    whole = record {
+      bytes = bytes;
+      are_bytes = are_bytes;
+      all = all;
+      is_fault = closes.0;
+      each = closes.1;
+      out = out;
+    };
+    stopped = tt;
+    read = (λ is. absurd cc, λ some. absurd (no_read some));
+    turns_ran_out = λ is. absurd cc;
+    write = (λ is. absurd cc, λ some. absurd (no_write some));
+  }
+  viewed_to_end (Err fault) closes =
+      let order = closes.0 in
+      record {
+        reads = reads;
+        whole = tt;
+        stopped = subst (IsStopped drawing old new writer writer') (sym order) (record {
+          bytes = bytes;
+          are_bytes = are_bytes;
+          all = all;
+          no_fault = closes.1;
+          other = closes.2;
+          out = out;
+        });
+        read = (λ is. absurd cc, λ some. absurd (no_read some));
+        turns_ran_out = λ is. absurd cc;
+        write = (λ is. absurd cc, λ some. absurd (no_write some));
+      }

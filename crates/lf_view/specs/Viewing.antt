@@ -2,6 +2,7 @@
 use Rattle.std.specs.Prelude.{◌≡◌, ◌↔◌, ℕ, ◌<◌, ◌≤◌, Bool, true, false, List, [], ◌++◌, take, string_bytes, Option}
 use Rattle.std.specs.Prelude.{Some, None, is_some, Result, Ok, Err}
 use Rattle.std.specs.Prelude.{IfOk, IfErr, IsErrOf, IsTrue}
+use Rattle.lf_rules.specs.declared.event.Record.{Record}
 use Rattle.lf_codec.specs.declared.header.Header.{Header}
 use Rattle.lf_codec.specs.declared.fault.CodecFault.{CodecFault}
 use Rattle.lf_codec.specs.Laws.{AreBytes}
@@ -13,9 +14,11 @@ use Rattle.lf_dump.specs.Dump.{HasFault, IsNone, piece_len}
 use Rattle.lf_wave.specs.Head.{head_text}
 use Rattle.lf_wave.specs.Wave.{undrawn, drawn_after, wave_from}
 use Rattle.lf_view.specs.declared.fault.ViewFault.{ViewFault}
-use Rattle.lf_view.specs.declared.fault.ViewFault.TheVariants.{Read, Turns, Memory, Write}
+use Rattle.lf_view.specs.declared.fault.ViewFault.TheVariants.{Read, Turns, Memory, Write, Order}
 use Rattle.lf_view.specs.declared.drawer.Drawer.{Drawer}
 use Rattle.lf_view.specs.declared.drawing.Drawing.{Drawing}
+use Rattle.lf_view.specs.Ordered.{drawn_of, DrawsEach}
+use Rattle.lf_view.specs.Turns.{order_of, HasComeTo}
 
 -- ---- the wave of some bytes
 
@@ -23,23 +26,25 @@ abbrev pub head_in : Drawing → Option Header → List ℕ
 head_in drawing None = []
 head_in drawing (Some h) = head_text (is_some drawing.times) drawing.view h.ports h.banks
 
--- the head, and what is shown of the records that the format reads from these bytes
+-- the head, and what is shown of the records that the format reads from these bytes, with an order in that order
 abbrev pub wave_of : Drawing → List ℕ → List ℕ
 wave_of drawing bytes = head_in drawing (header_of bytes)
-    ++ wave_from drawing.times (undrawn drawing.view) (reading_of bytes).records
+    ++ wave_from drawing.times (undrawn drawing.view) (drawn_of drawing.order (reading_of bytes).records)
 
--- The drawer was shown these bytes, and the wave of all that stands in them was drawn.
+-- The drawer was shown these bytes, and the wave of all that is due of them was drawn.
 pub record IsDrawn (drawing : Drawing) (bytes : List ℕ) (drawer : Drawer) : Type 0 where
   pub read : HasRead drawer.reader bytes (reading_of bytes).memory (reading_of bytes).records
   pub no_memory : drawer.reader.memory ≡ []
   pub no_records : drawer.reader.records ≡ []
   pub begun : drawer.begun ≡ is_some (header_of bytes)
   pub times : drawer.times ≡ drawing.times
-  pub wave : drawer.wave ≡ drawn_after (undrawn drawing.view) (reading_of bytes).records
+  pub order : order_of drawer.order ≡ drawing.order
+  pub come : HasComeTo drawer.order (reading_of bytes).records
+  pub wave : drawer.wave ≡ drawn_after (undrawn drawing.view) (drawn_of drawing.order (reading_of bytes).records)
 
 -- what a drawer draws
 abbrev pub drawing_of : Drawer → Drawing
-drawing_of drawer = record { view = drawer.wave.view; times = drawer.times }
+drawing_of drawer = record { view = drawer.wave.view; times = drawer.times; order = order_of drawer.order }
 
 -- the head, where it was not put yet
 abbrev pub head_due : Bool → Drawing → Option Header → List ℕ
@@ -51,15 +56,26 @@ abbrev pub or_header : Bool → Option Header → Bool
 or_header true h = true
 or_header false h = is_some h
 
--- All that the reader has to give was taken and drawn.
-pub record DrawsAll (old new : Drawer) : Type 0 where
+-- All that the reader has to give was taken after these records, and what is due was drawn.
+pub record DrawsAll (old new : Drawer) (records : List Record) : Type 0 where
   pub reader : new.reader ≡ record old.reader { memory = []; records = [] }
   pub times : new.times ≡ old.times
-  pub wave : new.wave ≡ drawn_after old.wave old.reader.records
+  pub order : order_of new.order ≡ order_of old.order
+  pub come : HasComeTo new.order (records ++ old.reader.records)
+  pub due : List Record
+  pub drawn : drawn_of (order_of old.order) (records ++ old.reader.records)
+      ≡ drawn_of (order_of old.order) records ++ due
+  pub wave : new.wave ≡ drawn_after old.wave due
   pub begun : new.begun ≡ or_header old.begun (header_now old.reader)
   pub text : string_bytes new.text ≡ string_bytes old.text
-      ++ (head_due old.begun (drawing_of old) (header_now old.reader)
-      ++ wave_from old.times old.wave old.reader.records)
+      ++ (head_due old.begun (drawing_of old) (header_now old.reader) ++ wave_from old.times old.wave due)
+
+-- What a drawer answers at the end of these bytes.
+abbrev pub Closes : Drawing → List ℕ → Result (Option CodecFault) ViewFault → Type 0
+Closes drawing bytes (Ok fault) = (fault ≡ trace_fault bytes) ×
+    (fault ≡ None → DrawsEach drawing.order (reading_of bytes).records)
+Closes drawing bytes (Err fault) = (fault ≡ Order) × (trace_fault bytes ≡ None) ×
+    ¬ DrawsEach drawing.order (reading_of bytes).records
 
 -- ---- what was read and what went out, from readers and writers at two moments
 
@@ -83,13 +99,24 @@ pub record IsCutOff (drawing : Drawing) (old new writer writer' : Account) : Typ
   pub count : ℕ
   pub out : WentOut writer writer' (take count (wave_of drawing bytes))
 
--- The whole wave went out of all bytes that were to be read, which have this fault.
+-- The whole wave went out of all bytes that were to be read, which have this fault. Where they are a trace, each record
+-- was drawn.
 pub record IsViewedWhole (drawing : Drawing) (old new writer writer' : Account) (fault : Option CodecFault) : Type
     0 where
   pub bytes : List ℕ
   pub are_bytes : AreBytes bytes
   pub all : IsAllRead HasFault piece_len old new bytes
   pub is_fault : fault ≡ trace_fault bytes
+  pub each : fault ≡ None → DrawsEach drawing.order (reading_of bytes).records
+  pub out : WentOut writer writer' (wave_of drawing bytes)
+
+-- All bytes were read, they are a trace, and their whole wave went out, but the order does not name the records.
+pub record IsOutOfOrder (drawing : Drawing) (old new writer writer' : Account) : Type 0 where
+  pub bytes : List ℕ
+  pub are_bytes : AreBytes bytes
+  pub all : IsAllRead HasFault piece_len old new bytes
+  pub no_fault : trace_fault bytes ≡ None
+  pub other : ¬ DrawsEach drawing.order (reading_of bytes).records
   pub out : WentOut writer writer' (wave_of drawing bytes)
 
 -- What went out where a view stopped.
@@ -98,6 +125,7 @@ IsStopped drawing old new writer writer' Read = IsViewedSoFar drawing old new wr
 IsStopped drawing old new writer writer' Turns = IsViewedSoFar drawing old new writer writer'
 IsStopped drawing old new writer writer' Memory = IsViewedInPart drawing old new writer writer'
 IsStopped drawing old new writer writer' Write = IsCutOff drawing old new writer writer'
+IsStopped drawing old new writer writer' Order = IsOutOfOrder drawing old new writer writer'
 
 -- A trace was viewed within so many reads.
 pub record IsViewed (drawing : Drawing) (old new writer writer' : Account) (turns : ℕ)

@@ -9,4 +9,6 @@ pub struct Drawing {
     pub view: View,
     /// The times of the records, where a map tells them.
     pub times: Option<Times>,
+    /// The log whose next record comes at each place. Without an order, the records come as in the file.
+    pub order: Option<Vec<u8>>,
 }

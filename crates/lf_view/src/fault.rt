@@ -19,6 +19,9 @@ pub enum ViewFault {
     /// A write failed, or took nothing.
     #[error("the wave could not be written")]
     Write,
+    /// The order does not name the records of the trace.
+    #[error("the order is not that of the trace")]
+    Order,
 }
 
 impl From<NotWritten> for ViewFault {

@@ -12,7 +12,6 @@ use lf_codec::{CodecCause, Reader, fault_so_far};
 use lf_map::Times;
 use lf_rules::NoMemory;
 use lf_wave::Wave;
-use std::alloc::AllocError;
 
 /// Hands the reader a piece, and tells whether a fault stands in what it was fed so far. `NoMemory` says
 /// that a growth was refused.
@@ -46,7 +45,7 @@ pub fn put_records(
     times: &Option<Times>,
     wave: &mut Wave,
     text: &mut String,
-) -> Result<(), AllocError>
+) -> Result<(), NoMemory>
     requires { wave.old.place + length reader.old.records < 2 ^ 63 }
     ensures taken { OnOk result (reader.new ≡ record reader.old { records = [] }) }
     ensures shown { OnOk result (string_bytes text.new ≡ string_bytes text.old

@@ -1,6 +1,7 @@
 //! A trace with its wave written out.
 
-use crate::{Drawing, Sought, place_of, view};
+use crate::{Drawing, Sought, ViewFault, place_of, view, yes_is_drawn_in_its_order};
+use lf_codec::CodecFault;
 use lf_stream::Counted;
 use lf_wave::View;
 use std::test::Fail;
@@ -93,6 +94,7 @@ fn wave_of_a_trace(rt: HostRuntime) -> Result<(), Fail> {
     let drawing = Drawing {
         view: VIEW,
         times: None,
+        order: None,
     };
     let answer = view(&rt, &mut reader, &mut writer, drawing, 10);
     assert_eq!(rt; answer, Ok(None));
@@ -109,6 +111,85 @@ fn places_in_a_trace(rt: HostRuntime) -> Result<(), Fail> {
     ] {
         let mut reader = Counted::new(&TRACE[..]);
         assert_eq!(rt; place_of(&rt, &mut reader, sought, 10), Ok(due));
+    }
+    Ok(())
+}
+
+/// The load of port 1 stands before that of port 0.
+const TWO_PORTS: [u8; 64] = [
+    0x4c, 0x46, 0x54, 0x53, 1, 0, 2, 1, 8, 0, 0, 0, 0, 0, 0, 0, 1, 1, 0, 0, 1, 0, 0, 0, 0, 0, 8, 0,
+    8, 0, 0, 0, 0, 0, 0, 0, 1, 0, 0, 0, 0, 0, 0, 0, 0, 0, 8, 0, 0, 0, 0, 0, 0, 0, 0, 0, 0, 0, 0, 0,
+    2, 0, 0, 0,
+];
+
+/// No bank and no tag has a signal.
+const PORTS: View = View {
+    from: 0,
+    to: u64::MAX,
+    tags: 0,
+    banks: 0,
+    level1_registers: 0,
+    level2_registers: 0,
+    block: 8,
+    factor: 1,
+    marker: None,
+};
+
+/// What is shown of the load of port 0, and then of that of port 1.
+const IN_ORDER: &str = "\
+sload p0e
+b0 p0i
+b0 p0a
+b1 p0o
+#09
+s p0e
+#10
+sload p1e
+b0 p1i
+b1000 p1a
+b1 p1o
+#19
+s p1e
+";
+
+/// The wave of the trace of two ports, in an order.
+fn drawn(
+    rt: &HostRuntime,
+    order: Option<&[u8]>,
+) -> Result<(Result<Option<CodecFault>, ViewFault>, Vec<u8>), Fail> {
+    let mut reader = Counted::new(&TWO_PORTS[..]);
+    let mut writer = Counted::new(Vec::new(rt.alloc()));
+    let order = match order {
+        Some(logs) => Some(Vec::from_slice(rt.alloc(), logs)?),
+        None => None,
+    };
+    let drawing = Drawing {
+        view: PORTS,
+        times: None,
+        order,
+    };
+    let answer = view(rt, &mut reader, &mut writer, drawing, 10);
+    let wave = Vec::from_slice(rt.alloc(), writer.inner().as_slice())?;
+    Ok((answer, wave))
+}
+
+#[test]
+fn wave_in_an_order(rt: HostRuntime) -> Result<(), Fail> {
+    yes_is_drawn_in_its_order();
+    let (answer, wave) = drawn(&rt, Some(&[0, 1]))?;
+    assert_eq!(rt; answer, Ok(None));
+    assert!(rt; wave.ends_with(IN_ORDER.as_bytes()));
+    let (answer, wave) = drawn(&rt, None)?;
+    assert_eq!(rt; answer, Ok(None));
+    assert!(rt; !wave.ends_with(IN_ORDER.as_bytes()));
+    Ok(())
+}
+
+#[test]
+fn orders_of_other_traces(rt: HostRuntime) -> Result<(), Fail> {
+    for order in [&[0][..], &[0, 0][..], &[0, 2][..], &[0, 1, 1][..], &[][..]] {
+        let (answer, _) = drawn(&rt, Some(order))?;
+        assert_eq!(rt; answer, Err(ViewFault::Order));
     }
     Ok(())
 }

@@ -85,11 +85,12 @@ fn view_pieces<S: Source, W: Write>(
 
 /// Reads the trace until the reader is at its end or a fault stands in what it gave, and writes its wave:
 /// the head once its header is there, and what is shown of each record as soon as the bytes of a read
-/// complete it. The fault that the bytes have, where they are no trace, is the answer. Each read is a turn,
+/// complete it, or, with an order, as soon as its turn has come too. The fault that the bytes have, where they are no trace, is the answer. Each read is a turn,
 /// and there are at most so many turns.
 ///
 /// `ViewFault::Read` says that a read failed, `ViewFault::Turns` that the turns were used up before the
-/// trace was read, `ViewFault::Memory` that a growth was refused, and `ViewFault::Write` that a write failed.
+/// trace was read, `ViewFault::Memory` that a growth was refused, `ViewFault::Write` that a write failed, and
+/// `ViewFault::Order` that the bytes are a trace and the order does not name its records.
 pub fn view<T: AllocGlobal, R: Read, W: Write>(
     rt: &T,
     reader: &mut Counted<R>,
@@ -108,7 +109,7 @@ pub fn view<T: AllocGlobal, R: Read, W: Write>(
     };
     let mut drawer = Drawer::new(rt.alloc(), drawing);
     match view_pieces(reader, buffer.as_mut_slice(), &mut drawer, writer, turns) {
-        Ok(()) => Ok(drawer.close()),
+        Ok(()) => drawer.close(),
         Err(fault) => Err(fault),
     }
 }

@@ -12,12 +12,12 @@ use lf_rules::{Rule, Shape};
 use lf_verdict::{Fault, Verdict};
 use lf_view::{Drawing, Sought, ViewFault, place_of, view as draw};
 use lf_wave::{Marker, SaveFile, View};
-use std::alloc::AllocError;
-use std::io;
+use std::alloc::{AllocError, Global};
 use std::io::{ErrorKind, Read, Write};
 use std::process::ExitCode;
 use std::rt::Files;
 use std::thread::Threads;
+use std::{io, mem};
 
 /// What the help says of `view`.
 pub const ABOUT: &str = "Writes a waveform of a trace, which GTKWave shows";
@@ -28,8 +28,10 @@ The line is that of check; see score help check. For a yes or a no, OUT is
 written, in the text form VCD. A second file makes GTKWave show all signals:
 its name is that of OUT with .gtkw instead of .vcd.
 
-The record at place N of TRACE, from 0, stands at N nanoseconds. A port has
-its record (event), with tag and address, how many of its requests have no
+For a yes, the records stand in an order of all events that is a legal run:
+the order of the yes, see docs/RULES.md. For a no, they stand in the order of
+TRACE. The record at place N of the order, from 0, is at N nanoseconds. A port
+has its record (event), with tag and address, how many of its requests have no
 reply (outstanding), and whether each tag is busy. A bank has its record, its
 number, its block, the port and the tag of its request, its register, how many
 registers of each level are held, how many blocks level one asks level two for
@@ -47,10 +49,12 @@ With --map FILE, time is the time of each record, and the empty text for a
 record that FILE does not name. FILE is the time map that a recorder wrote
 beside the trace; see score help explain. GTKWave shows time first.
 
-A TRACE that is a pipe or a FIFO is kept in memory. OUT is written beside its
-place first and then renamed. If OUT is -, it is standard output, the line
-goes to standard error, and there is no second file. If standard error is a
-terminal, it shows how far a long TRACE is read.
+A TRACE that is a pipe or a FIFO is kept in memory. For a yes, the order is
+kept too, a byte for each record, and the records that stand in TRACE before
+their turn. OUT is written beside its place first and then renamed. If OUT is
+-, it is standard output, the line goes to standard error, and there is no
+second file. If standard error is a terminal, it shows how far a long TRACE is
+read.
 
 Answers:
   no bank=0 number=5 rule=ReplyData  what check says; OUT is written
@@ -137,6 +141,14 @@ fn sought_in(verdict: &Verdict) -> Option<(Sought, Rule)> {
     }
 }
 
+/// Takes the order of a yes out of the verdict.
+fn take_order(alloc: Global, verdict: &mut Verdict) -> Option<Vec<u8>> {
+    match verdict {
+        Verdict::Yes { order, .. } => Some(mem::replace(order, Vec::new(alloc))),
+        _ => None,
+    }
+}
+
 /// Finds the record that the verdict names, so that it can be marked.
 fn marker_of<T: AllocGlobal, R: Read + Drop>(
     rt: &T,
@@ -154,7 +166,8 @@ fn marker_of<T: AllocGlobal, R: Read + Drop>(
     }))
 }
 
-/// Writes the wave of the trace. A trace that is none any more was changed while it was read.
+/// Writes the wave of the trace. A trace that is none any more, or is not that of the order, was changed while it was
+/// read.
 fn write_wave<T: AllocGlobal, R: Read + Drop, W: Write + Drop>(
     rt: &T,
     drawing: Drawing,
@@ -217,12 +230,12 @@ where
     }
 }
 
-/// Writes the wave of a trace with a yes or a no, and tells the line of the verdict.
+/// Writes the wave of a trace, that of a yes in its order, and tells the line of the verdict.
 fn hand_out<T: Print + Eprint + Files + AllocGlobal, R: Read + Drop>(
     rt: &T,
     shape: &Shape,
     output: Output<'_>,
-    verdict: Verdict,
+    mut verdict: Verdict,
     searched: R,
     shown: R,
 ) -> io::Result<ExitCode>
@@ -236,6 +249,7 @@ where
     let drawing = Drawing {
         view: window.view(shape, marker),
         times,
+        order: take_order(rt.alloc(), &mut verdict),
     };
     if put_wave(rt, out, drawing, shape, shown).is_err() {
         return refuse(rt, out, "refused write");

@@ -2,13 +2,24 @@ use Rattle.std.proofs.Common.{◌≡◌, ◌≤◌, [], take, length, rules, ari
 use Rattle.std.specs.Prelude.{IsTrue}
 use Rattle.std.proofs.lemmas.List.{length-take}
 use Rattle.lf_dump.specs.Dump.{piece_len}
-use Rattle.lf_view.proofs.Telling.{telling_same, telling_more, told_at_end, told_last, stopped_by}
+use Rattle.lf_view.proofs.Telling.{telling_start, telling_same, telling_more, told_at_end, told_last, stopped_by}
 use Rattle.lf_view.specs.declared.fault.ViewFault.TheVariants.{Read, Turns}
 use Rattle.lf_stream.specs.Counted.{account_of}
 use Rattle.lf_view.specs.Viewing.{drawing_of}
 use Rattle.lf_view.proofs.Viewed.{never_read, never_turns}
 use Rattle.lf_view.proofs.viewing.view_pieces.Goals as goal
 use Rattle.lf_view.proofs.viewing.view_pieces.Goals.{in-Ok+in-Ok-false, in-Err+else-ne}
+
+pub loop-turn-init : goal.loop-turn-init
+loop-turn-init g c = record {
+  calls = c.requires.calls;
+  failures = c.requires.failures;
+  room = c.requires.room;
+  writes = c.requires.writes;
+  telling = telling_start c.fault_so_far.ensures.other (drawing_of c.args.drawer.now)
+      (g.S.Source.account c.args.source.now) (account_of g.W.Write.contents c.args.writer.now) c.args.drawer.now
+      c.requires.fresh;
+}
 
 pub returns-in-Ok-eq0-clause-all : goal.returns-in-Ok-eq0-clause-all
 returns-in-Ok-eq0-clause-all g c =

@@ -6,6 +6,7 @@ use Rattle.lf_view.proofs.drawer.Drawer.close.Goals as goal
 
 pub returns-in-Err : goal.returns-in-Err
 returns-in-Err c drawing bytes drawn =
-    ap (λ (f : CodecFault). Some f) c.fault.ensures
+    let is = ap (λ (f : CodecFault). Some f) c.fault.ensures
     ∙ sym (ends_badly bytes _ c.in-Err.told (sym (c.in-Err.ensures.ends bytes (reading_of bytes).memory
-    (reading_of bytes).records drawn.read)))
+    (reading_of bytes).records drawn.read))) in
+    (is, λ none. absurd cc)

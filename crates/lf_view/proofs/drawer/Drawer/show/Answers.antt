@@ -1,7 +1,7 @@
-use Rattle.std.proofs.Common.{arith, refl}
+use Rattle.std.proofs.Common.{refl}
 use Rattle.lf_codec.specs.Reading.{reading_of}
 use Rattle.lf_view.specs.declared.drawer.Drawer.{Drawer}
-use Rattle.lf_view.proofs.Pieces.{few_now, drawn_now, wave_now}
+use Rattle.lf_view.proofs.Pieces.{room_now, drawn_now, wave_now}
 use Rattle.lf_view.proofs.drawer.Drawer.show.Goals as goal
 
 pub draw-requires : goal.draw-requires
@@ -9,6 +9,7 @@ draw-requires c =
     let mid : Drawer = record {
       reader = c.feed.new.reader;
       times = c.args.self.now.times;
+      order = c.args.self.now.order;
       wave = c.args.self.now.wave;
       text =
           c.clear.new.self;
@@ -18,32 +19,34 @@ draw-requires c =
     let bytes = c.requires.1 in
     let drawn = c.requires.2 in
     let has = c.in_ok-enough.ensures.read bytes (reading_of bytes).memory (reading_of bytes).records drawn.read in
-    omega (arith, few_now drawing bytes c.args.piece.now c.args.self.now mid drawn has refl refl refl, c.requires.3)
+    room_now drawing bytes c.args.piece.now c.args.self.now mid drawn has refl refl refl refl c.requires.3
 
 pub returns-clause-drawn : goal.returns-clause-drawn
 returns-clause-drawn c drawing bytes drawn =
     let mid : Drawer = record {
       reader = c.feed.new.reader;
       times = c.args.self.now.times;
+      order = c.args.self.now.order;
       wave = c.args.self.now.wave;
       text =
           c.clear.new.self;
       begun = c.args.self.now.begun;
     } in
     let has = c.in_ok-enough.ensures.read bytes (reading_of bytes).memory (reading_of bytes).records drawn.read in
-    drawn_now drawing bytes c.args.piece.now c.args.self.now mid drawn has refl refl refl c.draw.new.self
-    c.in_ok-draw.ensures
+    drawn_now drawing bytes c.args.piece.now c.args.self.now mid drawn has refl refl refl refl c.draw.new.self
+    (c.in_ok-draw.ensures (reading_of bytes).records drawn.come)
 
 pub returns-clause-wave : goal.returns-clause-wave
 returns-clause-wave c drawing bytes drawn =
     let mid : Drawer = record {
       reader = c.feed.new.reader;
       times = c.args.self.now.times;
+      order = c.args.self.now.order;
       wave = c.args.self.now.wave;
       text =
           c.clear.new.self;
       begun = c.args.self.now.begun;
     } in
     let has = c.in_ok-enough.ensures.read bytes (reading_of bytes).memory (reading_of bytes).records drawn.read in
-    wave_now drawing bytes c.args.piece.now c.args.self.now mid drawn has refl refl refl c.draw.new.self
-    c.in_ok-draw.ensures c.clear.ensures.bytes
+    wave_now drawing bytes c.args.piece.now c.args.self.now mid drawn has refl refl refl refl c.draw.new.self
+    (c.in_ok-draw.ensures (reading_of bytes).records drawn.come) c.clear.ensures.bytes
