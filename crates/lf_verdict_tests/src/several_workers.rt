@@ -7,7 +7,7 @@ use lf_codec::CodecCause;
 use lf_engine::{Counted, run_shape};
 use lf_rules::{Rule, Shape};
 use lf_samples::{C1, FOUR_BANKS, LOAD, LOADED, trace_of};
-use lf_verdict::{Broken, Fault, Gate, NoGate, ParallelSession, PartFault, Verdict};
+use lf_verdict::{Broken, Fault, Gate, HeaderField, NoGate, ParallelSession, PartFault, Verdict};
 use std::alloc::Global;
 use std::process::Abort;
 use std::sync::atomic::{AtomicU64, Ordering};
@@ -151,7 +151,9 @@ fn what_broke_by_several_workers(rt: HostRuntime) -> Result<(), Fail> {
     };
     assert_broken_by(&rt, &both, Some(Broken::Part { fault, upon: None }))?;
     let legal = hits_and(rt.alloc(), 300, HIT)?;
-    assert_broken_by(&rt, &legal, None)
+    assert_broken_by(&rt, &legal, None)?;
+    let other = trace_of(rt.alloc(), &FOUR_BANKS, &[LOAD])?;
+    assert_broken_by(&rt, &other, Some(Broken::Header(HeaderField::Banks)))
 }
 
 /// Fails where the engine writes another line by a number of workers.
