@@ -53,7 +53,7 @@ drop-map : {X Y : Type 0} (f : X → Y) (xs : List X) → drop 1 (map f xs) ≡ 
 drop-map f [] = refl
 drop-map f (x ∷ xs) = refl
 
-quotient_is : (size n : ℕ) → 0 < size → quotient size n ≡ n / size
+pub quotient_is : (size n : ℕ) → 0 < size → quotient size n ≡ n / size
 quotient_is size n some = go (size == 0) refl
   where
     go : (b : Bool) → (size == 0) ≡ b → cond b 0 (n / size) ≡ n / size
@@ -453,7 +453,7 @@ flow_grown flows bank k = elim (cases_lt k (length flows)) [
           (omega (arith, past, length-replicate n empty_flow))
     ]
 
-flow_set : (flows : List Flow) (bank : ℕ) (flow : Flow) (k : ℕ) →
+pub flow_set : (flows : List Flow) (bank : ℕ) (flow : Flow) (k : ℕ) →
     flow_at (with_flow flows bank flow) k ≡ cond (bank == k) flow (flow_at flows k)
 flow_set flows bank flow k = go (bank == k) refl
   where

@@ -1,12 +1,12 @@
 -- What is kept of a bank is that of the rules, for each list of records.
-use Rattle.std.specs.Prelude.{◌≡◌, ℕ, ◌<◌, ◌==◌, List, [], ◌∷◌, map, if◌then◌else◌}
-use Rattle.std.specs.List.{fold, AllByRecursion}
+use Rattle.std.specs.Prelude.{◌≡◌, ℕ, ◌<◌, ◌==◌, not, Bool, List, [], ◌∷◌, map, if◌then◌else◌}
+use Rattle.std.specs.List.{fold, list_any, AllByRecursion}
 use Rattle.lf_rules.specs.declared.event.Record.{Record}
 use Rattle.lf_rules.specs.declared.shape.Shape.{Shape}
-use Rattle.lf_rules.specs.Address.{FlatMemory}
+use Rattle.lf_rules.specs.Address.{FlatMemory, Masks}
 use Rattle.lf_rules.specs.Fits.{Fits}
-use Rattle.lf_rules.specs.Lines.{Lines}
-use Rattle.lf_rules.specs.Run.{state_after}
+use Rattle.lf_rules.specs.Lines.{Lines, WideLines}
+use Rattle.lf_rules.specs.Run.{state_after, IsRun}
 use Rattle.lf_rules.specs.State.{Slice, State, opening}
 use Rattle.lf_traffic.specs.Flow.{Flow, flow_at, no_flow, flows_after_all}
 
@@ -30,3 +30,19 @@ FlowsAreOfTheRules = (shape : Shape) (memory : FlatMemory) (rs : List Record) (b
     0 < shape.block → 0 < shape.factor → AllByRecursion (Fits shape) rs →
     IsOfSlice (flow_at (flows_after_all (no_flow shape.block shape.factor) rs).banks bank)
     ((states_after shape (opening memory) rs).slice bank)
+
+-- is a byte of one of the masks dirty?
+abbrev pub is_dirty : Masks → Bool
+is_dirty masks = list_any (λ mask. not (mask.0 == 0)) masks.items
+
+-- the second-level blocks whose lines of level two are dirty
+abbrev pub dirty_seconds : WideLines → List ℕ
+dirty_seconds [] = []
+dirty_seconds (l ∷ lines) = if is_dirty l.1 then l.0 ∷ dirty_seconds lines else dirty_seconds lines
+
+-- After a run, as after each front of the interleaving of a yes, the dirty lines of level two are those of the rules.
+abbrev pub DirtySecondsAreOfTheRules : Type 0
+DirtySecondsAreOfTheRules = (shape : Shape) (memory : FlatMemory) (rs : List Record) (bank : ℕ) →
+    0 < shape.factor → AllByRecursion (Fits shape) rs → IsRun shape memory rs →
+    (flow_at (flows_after_all (no_flow shape.block shape.factor) rs).banks bank).dirty2
+    ≡ dirty_seconds ((states_after shape (opening memory) rs).slice bank).lines2

@@ -14,5 +14,5 @@ mod tests;
 mod traffic;
 
 pub use counts::Counts;
-pub use laws::flows_are_of_the_rules;
+pub use laws::{dirty_seconds_are_of_the_rules, flows_are_of_the_rules};
 pub use traffic::Traffic;

@@ -1,6 +1,6 @@
 //! The blocks and the dirty lines of a few records.
 
-use crate::{Counts, Traffic, flows_are_of_the_rules};
+use crate::{Counts, Traffic, dirty_seconds_are_of_the_rules, flows_are_of_the_rules};
 use lf_rules::{Block, Event, Mask, Op, Record, WideBlock};
 use std::test::Fail;
 
@@ -73,6 +73,7 @@ fn dirty_line(rt: HostRuntime) -> Result<(), Fail> {
     assert_eq!(rt; traffic.counts(1), counts(0, 0, 0, 1));
     assert_eq!(rt; traffic.counts(0), counts(0, 0, 0, 0));
     flows_are_of_the_rules();
+    dirty_seconds_are_of_the_rules();
     Ok(())
 }
 
