@@ -6,9 +6,10 @@
 
 mod listing;
 mod mark;
+mod room;
 #[cfg(test)]
 mod tests;
 
 pub use lf_rules::NoMemory;
 pub use listing::{Listing, RecordLine, RecordLines};
-pub use mark::{Mark, Marker};
+pub use mark::{Mark, marks_of};

@@ -1,11 +1,13 @@
 //! The lines of records.
 
-ghost use Rattle.std.specs.Prelude.{Some, string_bytes};
+ghost use Rattle.std.specs.Prelude.{◌≡◌, Some, None, string_bytes, slice_get, MatchOption};
 ghost use Rattle.std.specs.Option.{option_map};
 ghost use Rattle.lf_listing.specs.Marks.{beside, besides};
 ghost use Rattle.lf_listing.specs.Lines.{time_text, line_if, line_at, lines_text};
 
 use crate::mark::Mark;
+use crate::room::room;
+use lf_codec::Packed;
 use lf_rules::Record;
 use lf_text::{PlacedLine, TextLine};
 use std::fmt;
@@ -13,7 +15,7 @@ use std::fmt;
 /// The records of a trace, and the mark of each.
 #[derive(Clone, Copy)]
 pub struct Listing<'a> {
-    pub records: &'a [Record],
+    pub records: &'a Packed,
     pub marks: &'a [Mark],
 }
 
@@ -52,6 +54,17 @@ impl fmt::Display for MarkedLine<'_> {
     }
 }
 
+/// The record at a place, where there is one. It may be built in `room`.
+fn record_at<'a>(records: &'a Packed, place: usize, room: &'a mut Record) -> Option<&'a Record>
+    ensures { MatchOption result (slice_get records.now.records place ≡ None)
+        (λ item. slice_get records.now.records place ≡ Some item.now) }
+{
+    if place >= records.len() {
+        return None;
+    }
+    Some(records.lend(place, room))
+}
+
 /// The line of the record at a place, with its newline, where there is one.
 #[derive(Clone, Copy)]
 pub struct RecordLine<'a> {
@@ -61,14 +74,15 @@ pub struct RecordLine<'a> {
 
 impl fmt::Display for RecordLine<'_> {
     ghost output = { λ line. Some
-        (line_at line.listing.records.now (besides line.listing.marks.now) line.place) };
+        (line_at line.listing.records.now.records (besides line.listing.marks.now) line.place) };
 
     #[tactic(auto, using(crate::proofs::Placed::beside_at))]
     fn fmt<W: fmt::Write>(&self, f: &mut fmt::Formatter<W>) -> fmt::Result {
         let Some(place) = self.place else {
             return Ok(());
         };
-        let Some(item) = self.listing.records.get(place) else {
+        let mut room = room();
+        let Some(item) = record_at(self.listing.records, place, &mut room) else {
             return Ok(());
         };
         let Some(mark) = self.listing.marks.get(place) else {
@@ -88,7 +102,7 @@ pub struct RecordLines<'a> {
 
 impl fmt::Display for RecordLines<'_> {
     ghost output = { λ lines. Some
-        (lines_text lines.listing.records.now (besides lines.listing.marks.now) lines.places.now) };
+        (lines_text lines.listing.records.now.records (besides lines.listing.marks.now) lines.places.now) };
 
     fn fmt<W: fmt::Write>(&self, f: &mut fmt::Formatter<W>) -> fmt::Result {
         for place in self.places {
