@@ -6,7 +6,6 @@
 
 mod listing;
 mod mark;
-mod room;
 #[cfg(test)]
 mod tests;
 

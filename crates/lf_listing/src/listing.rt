@@ -1,13 +1,13 @@
 //! The lines of records.
 
-ghost use Rattle.std.specs.Prelude.{◌≡◌, Some, None, string_bytes, slice_get, MatchOption};
+ghost use Rattle.std.specs.Prelude.{Some, string_bytes};
 ghost use Rattle.std.specs.Option.{option_map};
 ghost use Rattle.lf_listing.specs.Marks.{beside, besides};
 ghost use Rattle.lf_listing.specs.Lines.{time_text, line_if, line_at, lines_text};
 
 use crate::mark::Mark;
-use crate::room::room;
 use lf_codec::Packed;
+use lf_history::{record_at, room};
 use lf_rules::Record;
 use lf_text::{PlacedLine, TextLine};
 use std::fmt;
@@ -54,17 +54,6 @@ impl fmt::Display for MarkedLine<'_> {
     }
 }
 
-/// The record at a place, where there is one. It may be built in `room`.
-fn record_at<'a>(records: &'a Packed, place: usize, room: &'a mut Record) -> Option<&'a Record>
-    ensures { MatchOption result (slice_get records.now.records place ≡ None)
-        (λ item. slice_get records.now.records place ≡ Some item.now) }
-{
-    if place >= records.len() {
-        return None;
-    }
-    Some(records.lend(place, room))
-}
-
 /// The line of the record at a place, with its newline, where there is one.
 #[derive(Clone, Copy)]
 pub struct RecordLine<'a> {
@@ -82,7 +71,7 @@ impl fmt::Display for RecordLine<'_> {
             return Ok(());
         };
         let mut room = room();
-        let Some(item) = record_at(self.listing.records, place, &mut room) else {
+        let Some(item) = record_at(self.listing.records, self.place, &mut room) else {
             return Ok(());
         };
         let Some(mark) = self.listing.marks.get(place) else {

@@ -5,8 +5,8 @@ ghost use Rattle.std.specs.Option.{option_map};
 ghost use Rattle.lf_lengths.specs.Lengths.{bytes_len};
 ghost use Rattle.lf_listing.specs.Marks.{told_by, besides, besides_of};
 
-use crate::room::room;
 use lf_codec::Packed;
+use lf_history::room;
 use lf_lengths::record_len;
 use lf_map::Times;
 use lf_rules::{NoMemory, Record};
