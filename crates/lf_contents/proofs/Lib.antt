@@ -1,3 +1,3 @@
-mod Excerpting
 mod Split
 mod Taken
+mod Within

@@ -13,7 +13,7 @@ use lf_rules::{Memory, NoMemory, Record};
 use std::alloc::Global;
 
 /// So many bytes are handed to the reader at once, so that few records wait in it.
-pub(crate) const PIECE: usize = 1 << 16;
+const PIECE: usize = 1 << 16;
 
 /// The memory and the records of a trace.
 #[derive(Drop)]

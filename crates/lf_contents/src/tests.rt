@@ -1,6 +1,6 @@
 //! A trace of one record, taken apart.
 
-use crate::{Choice, Excerpt, Part, Parts, Trace, excerpt_in, parts_in, records_in, trace_in};
+use crate::{Packing, Parts, Trace, packed_in, parts_in, records_in, trace_in};
 use lf_codec::Header;
 use std::test::Fail;
 
@@ -35,19 +35,14 @@ fn trace_with_its_header(rt: HostRuntime) -> Result<(), Fail> {
 }
 
 #[test]
-fn excerpt_of_a_trace(rt: HostRuntime) -> Result<(), Fail> {
-    let trace = trace_in(rt.alloc(), &TRACE)?;
-    let choice = Choice {
-        part: Part::Port(0),
-        other: Part::Bank(1),
-    };
-    let Excerpt {
+fn trace_that_is_packed(rt: HostRuntime) -> Result<(), Fail> {
+    let Packing {
         memory,
         records,
-        marks,
-    } = excerpt_in(rt.alloc(), &TRACE, choice, None)?;
+        start,
+    } = packed_in(rt.alloc(), &TRACE)?;
     assert_eq!(rt; memory.len(), 1);
-    assert_eq!(rt; records.as_slice(), trace.records.as_slice());
-    assert_eq!(rt; marks.len(), 1);
+    assert_eq!(rt; records.len(), 1);
+    assert_eq!(rt; start, 28);
     Ok(())
 }

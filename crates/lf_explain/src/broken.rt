@@ -15,7 +15,8 @@ use crate::addresses::addresses_of;
 use crate::expected::{Expected, expected_of};
 use crate::named::{NamedBlock, blocks_of, named_blocks};
 use crate::request::requested;
-use lf_history::record_at;
+use lf_codec::Packed;
+use lf_history::{record_at, room};
 use lf_replay::{BankFault, Step};
 use lf_rules::{Memory, NoMemory, Record, Rule, Shape};
 use std::alloc::Global;
@@ -70,19 +71,20 @@ pub fn first_broken(
     shape: &Shape,
     memory: &Memory,
     bank: u32,
-    records: &[Record],
+    records: &Packed,
     places: &[Option<usize>],
 ) -> Result<Option<Broken>, NoMemory>
     requires in_range { IsShape shape.now }
     requires bank { bank < shape.now.banks }
-    requires fit { AllByRecursion (Fits shape.now) (records_at records.now places.now) }
-    requires named { AllByRecursion (λ r. r.bank ≡ bank) (records_at records.now places.now) }
+    requires fit { AllByRecursion (Fits shape.now) (records_at records.now.records places.now) }
+    requires named { AllByRecursion (λ r. r.bank ≡ bank) (records_at records.now.records places.now) }
     ensures { IfOk result (IsFirstBroken shape.now (bank_part shape.now bank (flat_memory memory.now.items))
-        (records_at records.now places.now)) }
+        (records_at records.now.records places.now)) }
 {
     let mut step = Step::new(alloc, shape, memory, bank)?;
+    let mut room = room();
     for (i, place) in places.iter().enumerate() {
-        let Some(item) = record_at(records, *place) else {
+        let Some(item) = record_at(records, *place, &mut room) else {
             continue;
         };
         match step.apply(item) {

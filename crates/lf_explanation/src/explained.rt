@@ -10,7 +10,7 @@ use crate::carried::Carried;
 use crate::explanation::Explanation;
 use crate::sentence::sentence_of;
 use crate::state::State;
-use lf_history::record_at;
+use lf_history::{record_at, room};
 use lf_listing::{Listing, RecordLine, RecordLines};
 use lf_origins::{Origins, OriginsText};
 use lf_rules::Rule;
@@ -39,10 +39,12 @@ struct RecordCarries<'a> {
 
 impl fmt::Display for RecordCarries<'_> {
     ghost output = { λ it. Some
-        (carried_text (record_at it.listing.records.now it.why.now.history.place) it.why.now.broken) };
+        (carried_text (record_at it.listing.records.now.records it.why.now.history.place) it.why.now.broken) };
 
     fn fmt<W: fmt::Write>(&self, f: &mut fmt::Formatter<W>) -> fmt::Result {
-        let Some(item) = record_at(self.listing.records, self.why.history.place) else {
+        let mut room = room();
+        let place = self.why.history.place;
+        let Some(item) = record_at(self.listing.records, place, &mut room) else {
             return Ok(());
         };
         let carried = Carried {
@@ -61,7 +63,8 @@ struct Before<'a> {
 }
 
 impl fmt::Display for Before<'_> {
-    ghost output = { λ before. Some (before_text before.listing.records.now (besides before.listing.marks.now) before.places.now) };
+    ghost output = { λ before. Some (before_text before.listing.records.now.records
+        (besides before.listing.marks.now) before.places.now) };
 
     fn fmt<W: fmt::Write>(&self, f: &mut fmt::Formatter<W>) -> fmt::Result {
         if self.places.is_empty() {
@@ -83,7 +86,8 @@ struct OriginsLines<'a> {
 }
 
 impl fmt::Display for OriginsLines<'_> {
-    ghost output = { λ it. Some (origins_text it.listing.records.now (besides it.listing.marks.now) it.origins.now) };
+    ghost output = { λ it. Some
+        (origins_text it.listing.records.now.records (besides it.listing.marks.now) it.origins.now) };
 
     fn fmt<W: fmt::Write>(&self, f: &mut fmt::Formatter<W>) -> fmt::Result {
         let Some(origins) = self.origins else {
@@ -107,7 +111,8 @@ pub struct Explained<'a> {
 }
 
 impl fmt::Display for Explained<'_> {
-    ghost output = { λ it. Some (explained_text it.listing.records.now (besides it.listing.marks.now) it.why.now) };
+    ghost output = { λ it. Some
+        (explained_text it.listing.records.now.records (besides it.listing.marks.now) it.why.now) };
 
     fn fmt<W: fmt::Write>(&self, f: &mut fmt::Formatter<W>) -> fmt::Result {
         let listing = self.listing;

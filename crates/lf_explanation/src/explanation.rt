@@ -8,10 +8,11 @@ ghost use Rattle.lf_explanation.specs.Breach.{rule_of};
 ghost use Rattle.lf_explanation.specs.Explanation.{HasBank, IsHistoryOf, IsBrokenBy, IsExplanation};
 
 use crate::origins::origins_of_breach;
+use lf_codec::Packed;
 use lf_explain::{Broken, first_broken};
 use lf_history::{History, history_in_bank, history_in_log, places_in_order};
 use lf_origins::Origins;
-use lf_rules::{Memory, NoMemory, Record, Rule, Shape};
+use lf_rules::{Memory, NoMemory, Rule, Shape};
 use std::alloc::Global;
 
 /// Which record breaks a rule, and which rule.
@@ -51,13 +52,13 @@ pub struct Explanation {
 fn history_of(
     alloc: Global,
     shape: &Shape,
-    records: &[Record],
+    records: &Packed,
     breach: &Breach,
     most: usize,
 ) -> Result<History, NoMemory>
     requires block { 0 < shape.now.block }
     requires factor { 0 < shape.now.factor }
-    ensures { IfOk result (IsHistoryOf shape.now records.now breach.now most) }
+    ensures { IfOk result (IsHistoryOf shape.now records.now.records breach.now most) }
 {
     match breach {
         Breach::Port { port, at, .. } => history_in_log(alloc, records, *port, *at as usize, most),
@@ -73,13 +74,13 @@ fn broken_by(
     alloc: Global,
     shape: &Shape,
     memory: &Memory,
-    records: &[Record],
+    records: &Packed,
     breach: &Breach,
 ) -> Result<Option<Broken>, NoMemory>
     requires in_range { IsShape shape.now }
     requires bank { HasBank shape.now breach.now }
-    requires fit { AllByRecursion (Fits shape.now) records.now }
-    ensures { IfOk result (IsBrokenBy shape.now memory.now.items records.now breach.now) }
+    requires fit { AllByRecursion (Fits shape.now) records.now.records }
+    ensures { IfOk result (IsBrokenBy shape.now memory.now.items records.now.records breach.now) }
 {
     let Breach::Bank { bank, number, .. } = breach else {
         return Ok(None);
@@ -96,14 +97,14 @@ pub fn explain(
     alloc: Global,
     shape: &Shape,
     memory: &Memory,
-    records: &[Record],
+    records: &Packed,
     breach: &Breach,
     most: usize,
 ) -> Result<Explanation, NoMemory>
     requires in_range { IsShape shape.now }
     requires bank { HasBank shape.now breach.now }
-    requires fit { AllByRecursion (Fits shape.now) records.now }
-    ensures { IfOk result (IsExplanation shape.now memory.now.items records.now breach.now most) }
+    requires fit { AllByRecursion (Fits shape.now) records.now.records }
+    ensures { IfOk result (IsExplanation shape.now memory.now.items records.now.records breach.now most) }
 {
     let history = history_of(alloc, shape, records, breach, most)?;
     let broken = broken_by(alloc, shape, memory, records, breach)?;

@@ -8,10 +8,11 @@ ghost use Rattle.lf_explanation.specs.Origins.{wrong_byte, wrong_address, AreOri
 
 use crate::carried::first_difference;
 use crate::explanation::Breach;
+use lf_codec::Packed;
 use lf_explain::{Broken, Expected};
-use lf_history::{history_in_log, places_in_order, record_at};
+use lf_history::{history_in_log, places_in_order, record_at, room};
 use lf_origins::{BrokenRule, Origins, origins_of};
-use lf_rules::{Event, NoMemory, Record, Rule, Shape};
+use lf_rules::{Event, NoMemory, Rule, Shape};
 use lf_text::data_of;
 use std::alloc::Global;
 
@@ -41,11 +42,11 @@ fn wrong_address(broken: &Option<Broken>, event: &Event) -> Option<u64>
 /// The places of the first records of a port's log, so many.
 fn places_in_log(
     alloc: Global,
-    records: &[Record],
+    records: &Packed,
     port: u8,
     count: usize,
 ) -> Result<Vec<Option<usize>>, NoMemory>
-    ensures { IfOk result (λ places. places.items ≡ map Some (take count (places_of_log port records.now))) }
+    ensures { IfOk result (λ places. places.items ≡ map Some (take count (places_of_log port records.now.records))) }
 {
     let history = history_in_log(alloc, records, port, count, count)?;
     let mut places = Vec::new(alloc);
@@ -59,10 +60,10 @@ fn places_in_log(
 /// with lower numbers.
 fn places_before(
     alloc: Global,
-    records: &[Record],
+    records: &Packed,
     breach: &Breach,
 ) -> Result<Vec<Option<usize>>, NoMemory>
-    ensures { IfOk result (λ places. AreBefore records.now breach.now places.items) }
+    ensures { IfOk result (λ places. AreBefore records.now.records breach.now places.items) }
 {
     match breach {
         Breach::Port { port, at, .. } => places_in_log(alloc, records, *port, *at as usize),
@@ -76,7 +77,7 @@ fn places_before(
 fn origins_at(
     alloc: Global,
     shape: &Shape,
-    records: &[Record],
+    records: &Packed,
     before: &[Option<usize>],
     rule: Rule,
     broken: &Option<Broken>,
@@ -84,9 +85,10 @@ fn origins_at(
 ) -> Result<Option<Origins>, NoMemory>
     requires { IsShape shape.now }
     ensures { IfOk result
-        (AreOriginsAt shape.now records.now before.now rule broken.now (record_at records.now place)) }
+        (AreOriginsAt shape.now records.now.records before.now rule broken.now (record_at records.now.records place)) }
 {
-    let Some(item) = record_at(records, place) else {
+    let mut room = room();
+    let Some(item) = record_at(records, place, &mut room) else {
         return Ok(None);
     };
     let address = wrong_address(broken, &item.event);
@@ -102,13 +104,14 @@ fn origins_at(
 pub(crate) fn origins_of_breach(
     alloc: Global,
     shape: &Shape,
-    records: &[Record],
+    records: &Packed,
     breach: &Breach,
     broken: &Option<Broken>,
     place: Option<usize>,
 ) -> Result<Option<Origins>, NoMemory>
     requires { IsShape shape.now }
-    ensures { IfOk result (ComeFrom shape.now records.now breach.now broken.now (record_at records.now place)) }
+    ensures { IfOk result (ComeFrom shape.now records.now.records breach.now broken.now
+        (record_at records.now.records place)) }
 {
     let before = places_before(alloc, records, breach)?;
     let origins = origins_at(alloc, shape, records, &before, breach.rule(), broken, place)?;

@@ -1,14 +1,15 @@
 //! Explanations, with their texts written out.
 
-ghost use Rattle.std.specs.Prelude.{◌≡◌, true};
+ghost use Rattle.std.specs.Prelude.{◌≡◌, ◌++◌, ◌∷◌, [], true, IfOk, OnOk};
 ghost use Rattle.std.specs.List.{AllByRecursion};
 ghost use Rattle.lf_rules.specs.Fits.{Fits};
 ghost use Rattle.lf_rules.specs.InRange.{IsShape};
 ghost use Rattle.lf_explanation.specs.Explanation.{HasBank};
 
 use crate::{Breach, Explained, Explanation, explain};
+use lf_codec::Packed;
 use lf_listing::{Listing, Mark};
-use lf_rules::{Block, Event, Level, Op, OrgShape, Record, Rule, Shape, fits};
+use lf_rules::{Block, Event, Level, NoMemory, Op, OrgShape, Record, Rule, Shape, fits};
 use std::alloc::{AllocError, Global};
 use std::process::Abort;
 use std::test::Fail;
@@ -52,10 +53,29 @@ fn has_bank(shape: &Shape, breach: &Breach) -> bool
     }
 }
 
+/// Packs a copy of the record behind the others.
+fn pack(packed: &mut Packed, item: &Record) -> Result<(), NoMemory>
+    ensures { OnOk result (packed.new.records ≡ packed.old.records ++ item.now ∷ []) }
+{
+    packed.push(item.clone()?)?;
+    Ok(())
+}
+
+/// The records, packed.
+fn packed(alloc: Global, records: &[Record]) -> Result<Packed, NoMemory>
+    ensures { IfOk result (λ packed. packed.records ≡ records.now) }
+{
+    let mut packed = Packed::new(alloc);
+    for item in records {
+        pack(&mut packed, item)?;
+    }
+    Ok(packed)
+}
+
 /// The text of an explanation over records with these marks.
 fn text_of<'a>(
     alloc: Global,
-    records: &'a [Record],
+    records: &'a Packed,
     marks: &'a [Mark],
     why: &'a Explanation,
 ) -> Result<String, AllocError> {
@@ -75,15 +95,18 @@ fn assert_explained<T: Abort + AllocGlobal>(
     if !all_fit(&SHAPE, records) || !has_bank(&SHAPE, &breach) {
         return Err(Fail::from("these are no records of a trace"));
     }
+    let Ok(packed) = packed(rt.alloc(), records) else {
+        return Err(Fail::from("out of memory"));
+    };
     let memory = Vec::new(rt.alloc());
-    let Ok(why) = explain(rt.alloc(), &SHAPE, &memory, records, &breach, most) else {
+    let Ok(why) = explain(rt.alloc(), &SHAPE, &memory, &packed, &breach, most) else {
         return Err(Fail::from("out of memory"));
     };
     let mut marks = Vec::new(rt.alloc());
     for offset in [16, 24, 32, 40] {
         marks.push(Mark { offset, time: None })?;
     }
-    let text = text_of(rt.alloc(), records, marks.as_slice(), &why)?;
+    let text = text_of(rt.alloc(), &packed, marks.as_slice(), &why)?;
     assert_eq!(rt; text.as_str(), due);
     Ok(())
 }

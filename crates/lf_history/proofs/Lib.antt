@@ -1,3 +1,4 @@
 mod Touched
 mod Numbered
 mod NamedRecords
+mod Records

@@ -12,6 +12,6 @@ mod requests;
 mod touching;
 
 pub use bank_order::places_in_order;
-pub use history::{History, history_in_bank, history_in_log};
+pub use history::{History, history_in_bank, history_in_log, history_in_order};
 pub use lf_rules::NoMemory;
-pub use places::record_at;
+pub use places::{record_at, room};

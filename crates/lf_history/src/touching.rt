@@ -4,8 +4,10 @@ ghost use Rattle.std.specs.Prelude.{◌≡◌, ◌<◌, [], IfOk, OnOk};
 ghost use Rattle.lf_history.specs.Asked.{IsLatest};
 ghost use Rattle.lf_history.specs.Touching.{all_before, touches};
 
+use crate::places::{record_at, room};
 use crate::requests::Requests;
-use lf_rules::{NoMemory, Record, Shape};
+use lf_codec::Packed;
+use lf_rules::{NoMemory, Shape};
 use std::alloc::Global;
 
 /// The place of a record, and the second-level block that it touches.
@@ -20,21 +22,22 @@ pub(crate) fn touches(
     alloc: Global,
     shape: &Shape,
     requests: &mut Requests,
-    records: &[Record],
+    records: &Packed,
     places: &[Option<usize>],
 ) -> Result<Vec<Touch>, NoMemory>
     requires block { 0 < shape.now.block }
     requires factor { 0 < shape.now.factor }
     requires fresh { IsLatest shape.now [] requests.old }
-    ensures touches { IfOk result (λ found. found.items ≡ touches shape.now [] records.now places.now) }
-    ensures latest { OnOk result (IsLatest shape.now (all_before [] records.now places.now) requests.new) }
+    ensures touches { IfOk result (λ found. found.items ≡ touches shape.now [] records.now.records places.now) }
+    ensures latest { OnOk result (IsLatest shape.now (all_before [] records.now.records places.now) requests.new) }
 {
     let mut found = Vec::new(alloc);
+    let mut room = room();
     for at in places {
         let Some(place) = *at else {
             continue;
         };
-        let Some(item) = records.get(place) else {
+        let Some(item) = record_at(records, Some(place), &mut room) else {
             continue;
         };
         found.push(Touch {

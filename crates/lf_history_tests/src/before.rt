@@ -1,8 +1,10 @@
 //! What came before a record.
 
-use lf_history::{NoMemory, history_in_bank, history_in_log};
+use lf_codec::Packed;
+use lf_history::{
+    NoMemory, history_in_bank, history_in_log, history_in_order, places_in_order, record_at, room,
+};
 use lf_lengths::record_len;
-use lf_rules::Record;
 use lf_samples::{C1, LOAD, LOADED, memory_ran_out, records};
 use std::alloc::Global;
 use std::process::Abort;
@@ -11,9 +13,20 @@ use std::test::Fail;
 /// A load of block 0, and one of block 1 between its events.
 const TWO_BLOCKS: &str = "L 0 8@0, L 1 8@8, P 0 0, X 1, SP 0 0, F2 0, F1 0, R 0=0000000000000000";
 
+/// The records of these events, packed.
+fn packed(alloc: Global, parts: &[&str]) -> Result<Packed, Fail> {
+    let mut packed = Packed::new(alloc);
+    for item in records(alloc, &C1, parts)? {
+        let Ok(()) = packed.push(item) else {
+            return Err(memory_ran_out());
+        };
+    }
+    Ok(packed)
+}
+
 fn in_bank(
     alloc: Global,
-    records: &[Record],
+    records: &Packed,
     number: u32,
     most: usize,
 ) -> Result<(Option<usize>, Vec<usize>), Fail> {
@@ -31,7 +44,7 @@ fn assert_before<T: Abort + AllocGlobal>(
     most: usize,
     due: &[usize],
 ) -> Result<(), Fail> {
-    let records = records(rt.alloc(), &C1, parts)?;
+    let records = packed(rt.alloc(), parts)?;
     let (place, before) = in_bank(rt.alloc(), &records, number, most)?;
     assert_eq!(rt; place, Some(number as usize));
     assert_eq!(rt; before.as_slice(), due);
@@ -40,7 +53,7 @@ fn assert_before<T: Abort + AllocGlobal>(
 
 #[test]
 fn before_a_record_of_a_port(rt: HostRuntime) -> Result<(), Fail> {
-    let records = records(rt.alloc(), &C1, &[LOAD, LOADED])?;
+    let records = packed(rt.alloc(), &[LOAD, LOADED])?;
     let Ok(history) = history_in_log(rt.alloc(), &records, 0, 1, 15) else {
         return Err(memory_ran_out());
     };
@@ -56,6 +69,24 @@ fn before_a_record_of_a_bank(rt: HostRuntime) -> Result<(), Fail> {
     assert_before(&rt, &[TWO_BLOCKS], 3, 15, &[1])
 }
 
+/// By places that are known the history is the same.
+#[test]
+fn before_a_record_at_known_places(rt: HostRuntime) -> Result<(), Fail> {
+    let records = packed(rt.alloc(), &[TWO_BLOCKS])?;
+    let Ok(places) = places_in_order(rt.alloc(), &records, 0, 8) else {
+        return Err(memory_ran_out());
+    };
+    if places.len() < 8 {
+        return Err(Fail::from("there are too few places"));
+    }
+    let Ok(history) = history_in_order(rt.alloc(), &C1, &records, &places, 7, 15) else {
+        return Err(memory_ran_out());
+    };
+    assert_eq!(&rt; history.place, Some(7));
+    assert_eq!(&rt; history.before.as_slice(), [0, 2, 4, 5, 6].as_slice());
+    Ok(())
+}
+
 #[test]
 fn at_most_so_many(rt: HostRuntime) -> Result<(), Fail> {
     assert_before(&rt, &[LOAD, LOADED], 5, 2, &[3, 4])
@@ -65,6 +96,17 @@ fn at_most_so_many(rt: HostRuntime) -> Result<(), Fail> {
 #[test]
 fn before_a_request_that_never_came(rt: HostRuntime) -> Result<(), Fail> {
     assert_before(&rt, &[LOAD, "H 3"], 5, 2, &[3, 4])
+}
+
+#[test]
+fn record_at_a_place(rt: HostRuntime) -> Result<(), Fail> {
+    let records = packed(rt.alloc(), &[LOAD, LOADED])?;
+    let mut room = room();
+    let found = record_at(&records, Some(5), &mut room);
+    assert_eq!(rt; found.map(|item| item.number), Some(5));
+    assert!(rt; record_at(&records, Some(6), &mut room).is_none());
+    assert!(rt; record_at(&records, None, &mut room).is_none());
+    Ok(())
 }
 
 #[test]

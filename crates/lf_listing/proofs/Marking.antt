@@ -1,19 +1,25 @@
 -- What stands beside records that come one after another.
 use Rattle.std.proofs.Common.{◌≡◌, ℕ, ◌+◌, ◌<◌, ◌≤◌, Bool, true, false, cond, ◌==◌, List, [], ◌∷◌, ◌++◌, length, filter}
-use Rattle.std.proofs.Common.{get_or, set, refl, sym, ap, ◌∙◌, arith, Option, eqb-true}
+use Rattle.std.proofs.Common.{get_or, set, take, drop, refl, sym, ap, ◌∙◌, arith, Option, eqb-true}
 use Rattle.std.proofs.lemmas.Bool.{eqb-false}
 use Rattle.std.proofs.lemmas.List.{append-nil, append_assoc, length-append, get_or-set_same, get_or-set_other}
+use Rattle.std.proofs.lemmas.List.{map-append, take-append-drop, take_more}
 use Rattle.std.proofs.lemmas.List.Elements.{filter-append}
 use Rattle.std.proofs.lemmas.List.Sums.{length-filter, count_by-le-length}
 use Rattle.lf_rules.specs.declared.event.Record.{Record}
 use Rattle.lf_lengths.specs.Lengths.{bytes_len}
-use Rattle.lf_listing.specs.Marks.{Beside, count_in, beside_of, besides_from}
+use Rattle.lf_listing.specs.declared.mark.Mark.{Mark}
+use Rattle.lf_listing.specs.Marks.{Beside, count_in, beside, besides, beside_of, besides_from, besides_of}
 
 -- ---- offsets
 
 pub bytes_len-append : (xs ys : List Record) → bytes_len (xs ++ ys) ≡ bytes_len xs + bytes_len ys
 bytes_len-append [] ys = omega arith
 bytes_len-append (x ∷ xs) ys = omega (arith, bytes_len-append xs ys)
+
+-- the first of the records take no more bytes than all
+pub first_bytes : (rs : List Record) (n : ℕ) → bytes_len (take n rs) ≤ bytes_len rs
+first_bytes rs n = omega (arith, bytes_len-append (take n rs) (drop n rs), ap bytes_len (take-append-drop n rs))
 
 -- a record has a byte at least
 few : (rs : List Record) → length rs ≤ bytes_len rs
@@ -55,18 +61,29 @@ counts_more rs r counts len within so_far log lt =
 
 -- ---- what stands beside them
 
-module _ (holds : Record → Bool) (told : ℕ → ℕ → Option (List ℕ)) (start : ℕ) where
-  -- what stands beside a record, where it is one of those
-  abbrev one : List Record → Record → List Beside
-  one before r = cond (holds r) (beside_of told start before r ∷ []) []
+-- one more record
+pub besides_more : (told : ℕ → ℕ → Option (List ℕ)) (start : ℕ) (before rs : List Record) (r : Record)
+    → besides_from told start before (rs ++ r ∷ [])
+    ≡ besides_from told start before rs ++ beside_of told start (before ++ rs) r ∷ []
+besides_more told start before [] r =
+    ap (λ (bs : List Record). beside_of told start bs r ∷ []) (sym (append-nil before))
+besides_more told start before (x ∷ rs) r =
+    ap (λ (bs : List Beside). beside_of told start before x ∷ bs)
+    (besides_more told start (before ++ x ∷ []) rs r
+    ∙ ap (λ (bs : List Record). besides_from told start (before ++ x ∷ []) rs ++ beside_of told start bs r ∷ [])
+    (append_assoc before (x ∷ []) rs))
 
-  pub besides_more : (before rs : List Record) (r : Record)
-      → besides_from holds told start before (rs ++ r ∷ [])
-      ≡ besides_from holds told start before rs ++ cond (holds r) (beside_of told start (before ++ rs) r ∷ []) []
-  besides_more before [] r =
-      append-nil (one before r) ∙ ap (λ (bs : List Record). one bs r) (sym (append-nil before))
-  besides_more before (x ∷ rs) r =
-      let rest : List Beside = besides_from holds told start (before ++ x ∷ []) rs in
-      ap (λ (bs : List Beside). one before x ++ bs) (besides_more (before ++ x ∷ []) rs r)
-      ∙ ap (λ (bs : List Record). one before x ++ (rest ++ one bs r)) (append_assoc before (x ∷ []) rs)
-      ∙ sym (append_assoc (one before x) rest (one (before ++ x ∷ rs) r))
+-- ... and its mark
+pub marks_more : (told : ℕ → ℕ → Option (List ℕ)) (start : ℕ) (before : List Record) (r : Record) (marks : List Mark)
+    (mark : Mark) → besides marks ≡ besides_of told start before → beside mark ≡ beside_of told start before r
+    → besides (marks ++ mark ∷ []) ≡ besides_of told start (before ++ r ∷ [])
+marks_more told start before r marks mark are is =
+    map-append beside marks (mark ∷ [])
+    ∙ ap (λ (b : Beside). besides marks ++ b ∷ []) is
+    ∙ ap (λ (bs : List Beside). bs ++ beside_of told start before r ∷ []) are
+    ∙ sym (besides_more told start [] before r)
+
+-- the first records, and the one behind them
+pub first_more : (rs : List Record) (k : ℕ) (r : Record) → k < length rs → r ≡ get_or rs k r
+    → take (k + 1) rs ≡ take k rs ++ r ∷ []
+first_more rs k r lt is = take_more rs k r lt ∙ ap (λ (x : Record). take k rs ++ x ∷ []) (sym is)

@@ -1,6 +1,6 @@
 -- What stands beside the line of a record.
-use Rattle.std.specs.Prelude.{◌≡◌, ℕ, ◌+◌, ◌<◌, Bool, ◌==◌, List, [], ◌∷◌, ◌++◌, map, count_by, length, Option, Some}
-use Rattle.std.specs.Prelude.{None, slice_index, string_bytes, if◌then◌else◌}
+use Rattle.std.specs.Prelude.{◌≡◌, ℕ, ◌+◌, ◌<◌, ◌==◌, List, [], ◌∷◌, ◌++◌, map, count_by, Option, Some, None}
+use Rattle.std.specs.Prelude.{slice_index, string_bytes}
 use Rattle.std.specs.Borrow.{Bor}
 use Rattle.std.specs.Option.{option_map}
 use Rattle.lf_rules.specs.declared.event.Record.{Record}
@@ -34,15 +34,15 @@ abbrev pub beside_of : (ℕ → ℕ → Option (List ℕ)) → ℕ → List Reco
 beside_of told start before r =
     record { offset = start + bytes_len before; time = told r.log (count_in before r.log) }
 
--- what stands beside each record for which this holds, of those that come behind `before`
-abbrev pub besides_from : (Record → Bool) → (ℕ → ℕ → Option (List ℕ)) → ℕ → List Record → List Record → List Beside
-besides_from holds told start before [] = []
-besides_from holds told start before (r ∷ rs) =
-    (if holds r then beside_of told start before r ∷ [] else []) ++ besides_from holds told start (before ++ r ∷ []) rs
+-- what stands beside each of the records that come behind `before`
+abbrev pub besides_from : (ℕ → ℕ → Option (List ℕ)) → ℕ → List Record → List Record → List Beside
+besides_from told start before [] = []
+besides_from told start before (r ∷ rs) =
+    beside_of told start before r ∷ besides_from told start (before ++ r ∷ []) rs
 
 -- the same for the records of a trace of which the first begins at `start`
-abbrev pub besides_of : (Record → Bool) → (ℕ → ℕ → Option (List ℕ)) → ℕ → List Record → List Beside
-besides_of holds told start rs = besides_from holds told start [] rs
+abbrev pub besides_of : (ℕ → ℕ → Option (List ℕ)) → ℕ → List Record → List Beside
+besides_of told start rs = besides_from told start [] rs
 
 -- These records came, of which the first began at `start`.
 pub record StandsBehind (start : ℕ) (before : List Record) (marker : Marker) : Type 0 where

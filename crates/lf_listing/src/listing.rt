@@ -6,6 +6,8 @@ ghost use Rattle.lf_listing.specs.Marks.{beside, besides};
 ghost use Rattle.lf_listing.specs.Lines.{time_text, line_if, line_at, lines_text};
 
 use crate::mark::Mark;
+use lf_codec::Packed;
+use lf_history::{record_at, room};
 use lf_rules::Record;
 use lf_text::{PlacedLine, TextLine};
 use std::fmt;
@@ -13,7 +15,7 @@ use std::fmt;
 /// The records of a trace, and the mark of each.
 #[derive(Clone, Copy)]
 pub struct Listing<'a> {
-    pub records: &'a [Record],
+    pub records: &'a Packed,
     pub marks: &'a [Mark],
 }
 
@@ -61,14 +63,15 @@ pub struct RecordLine<'a> {
 
 impl fmt::Display for RecordLine<'_> {
     ghost output = { λ line. Some
-        (line_at line.listing.records.now (besides line.listing.marks.now) line.place) };
+        (line_at line.listing.records.now.records (besides line.listing.marks.now) line.place) };
 
     #[tactic(auto, using(crate::proofs::Placed::beside_at))]
     fn fmt<W: fmt::Write>(&self, f: &mut fmt::Formatter<W>) -> fmt::Result {
         let Some(place) = self.place else {
             return Ok(());
         };
-        let Some(item) = self.listing.records.get(place) else {
+        let mut room = room();
+        let Some(item) = record_at(self.listing.records, self.place, &mut room) else {
             return Ok(());
         };
         let Some(mark) = self.listing.marks.get(place) else {
@@ -88,7 +91,7 @@ pub struct RecordLines<'a> {
 
 impl fmt::Display for RecordLines<'_> {
     ghost output = { λ lines. Some
-        (lines_text lines.listing.records.now (besides lines.listing.marks.now) lines.places.now) };
+        (lines_text lines.listing.records.now.records (besides lines.listing.marks.now) lines.places.now) };
 
     fn fmt<W: fmt::Write>(&self, f: &mut fmt::Formatter<W>) -> fmt::Result {
         for place in self.places {

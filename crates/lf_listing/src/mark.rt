@@ -1,9 +1,12 @@
 //! What stands beside the line of a record.
 
-ghost use Rattle.std.specs.Prelude.{◌≡◌, IfOk, string_bytes};
+ghost use Rattle.std.specs.Prelude.{◌≡◌, ◌+◌, ◌<◌, ◌^◌, IfOk, string_bytes};
 ghost use Rattle.std.specs.Option.{option_map};
-ghost use Rattle.lf_listing.specs.Marks.{told_by};
+ghost use Rattle.lf_lengths.specs.Lengths.{bytes_len};
+ghost use Rattle.lf_listing.specs.Marks.{told_by, besides, besides_of};
 
+use lf_codec::Packed;
+use lf_history::room;
 use lf_lengths::record_len;
 use lf_map::Times;
 use lf_rules::{NoMemory, Record};
@@ -38,11 +41,11 @@ fn time_of(
 
 /// Says what stands beside each record of a trace, while its records come one after another.
 #[derive(Drop)]
-pub struct Marker {
+struct Marker {
     /// The offset of the first byte of the record that comes next.
-    pub offset: u64,
+    offset: u64,
     /// How many records of each log came.
-    pub counts: [u64; 256],
+    counts: [u64; 256],
 }
 
 impl Marker {
@@ -52,7 +55,7 @@ impl Marker {
     ghost use Rattle.lf_listing.specs.Marks.{told_by, beside, beside_of, StandsBehind};
 
     /// No record came yet. The first begins at this offset.
-    pub fn new(start: u64) -> Marker
+    fn new(start: u64) -> Marker
         ensures { StandsBehind start [] result }
     {
         Marker {
@@ -62,12 +65,7 @@ impl Marker {
     }
 
     /// What stands beside the record that comes next.
-    pub fn mark(
-        &self,
-        alloc: Global,
-        times: Option<&Times>,
-        item: &Record,
-    ) -> Result<Mark, NoMemory>
+    fn mark(&self, alloc: Global, times: Option<&Times>, item: &Record) -> Result<Mark, NoMemory>
         ensures { (start : ℕ) (before : List Record) → StandsBehind start before self.now
             → IfOk result (λ mark. beside mark ≡ beside_of (told_by times.entry) start before item.now) }
     {
@@ -79,7 +77,7 @@ impl Marker {
     }
 
     /// The record came. No trace has 2^64 bytes.
-    pub fn pass(&mut self, item: &Record)
+    fn pass(&mut self, item: &Record)
         ensures { (start : ℕ) (before : List Record) → StandsBehind start before self.old
             → start + bytes_len (before ++ item.now ∷ []) < 2 ^ 64
             → StandsBehind start (before ++ item.now ∷ []) self.new }
@@ -88,4 +86,25 @@ impl Marker {
         self.offset = self.offset.saturating_add(record_len(item));
         self.counts[log] = self.counts[log].saturating_add(1);
     }
+}
+
+/// What stands beside each record of a trace, of which the first begins at `start`. No trace has 2^64 bytes.
+pub fn marks_of(
+    alloc: Global,
+    records: &Packed,
+    start: u64,
+    times: Option<&Times>,
+) -> Result<Vec<Mark>, NoMemory>
+    ensures { start + bytes_len records.now.records < 2 ^ 64
+        → IfOk result (λ marks. besides marks.items ≡ besides_of (told_by times.entry) start records.now.records) }
+{
+    let mut marker = Marker::new(start);
+    let mut marks = Vec::with_capacity(alloc, records.len())?;
+    let mut room = room();
+    for place in 0..records.len() {
+        let item = records.lend(place, &mut room);
+        marks.push(marker.mark(alloc, times, item)?)?;
+        marker.pass(item);
+    }
+    Ok(marks)
 }

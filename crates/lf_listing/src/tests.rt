@@ -1,6 +1,7 @@
 //! The lines of records, with their texts written out.
 
-use crate::{Listing, Mark, Marker, NoMemory, RecordLine, RecordLines};
+use crate::{Listing, Mark, NoMemory, RecordLine, RecordLines, marks_of};
+use lf_codec::Packed;
 use lf_map::Times;
 use lf_rules::{Block, Event, Op, Record};
 use std::alloc::Global;
@@ -30,27 +31,23 @@ fn second_hit(number: u32) -> Record {
     }
 }
 
-/// The mark of each record, of which the first begins at 16.
-fn marks_of(alloc: Global, records: &[Record], times: &Times) -> Result<Vec<Mark>, NoMemory> {
-    let mut marker = Marker::new(16);
-    let mut marks = Vec::new(alloc);
+/// The records, packed.
+fn packed(alloc: Global, records: &[Record]) -> Result<Packed, NoMemory> {
+    let mut packed = Packed::new(alloc);
     for item in records {
-        marks.push(marker.mark(alloc, Some(times), item)?)?;
-        marker.pass(item);
+        packed.push(item.clone()?)?;
     }
-    Ok(marks)
+    Ok(packed)
 }
 
 /// The second record of port 1 is the third of the trace.
 #[test]
 fn lines_with_times(rt: HostRuntime) -> Result<(), Fail> {
-    let records = [load(1, 0, 0), second_hit(1), load(1, 2, 1)];
+    let records = packed(rt.alloc(), &[load(1, 0, 0), second_hit(1), load(1, 2, 1)])?;
     let Ok(times) = Times::parse(rt.alloc(), "1 1 1250 ns\n2 0 7\n3 0 8\n") else {
         return Err(Fail::from("the map is refused"));
     };
-    let Ok(marks) = marks_of(rt.alloc(), &records, &times) else {
-        return Err(Fail::from("out of memory"));
-    };
+    let marks = marks_of(rt.alloc(), &records, 16, Some(&times))?;
     let lines = RecordLines {
         listing: Listing {
             records: &records,
@@ -70,7 +67,7 @@ load port=1 bank=0 number=2 tag=1 size=8 address=0x0 ; at 48, time 1250 ns
 
 #[test]
 fn line_without_a_time(rt: HostRuntime) -> Result<(), Fail> {
-    let records = [second_hit(5)];
+    let records = packed(rt.alloc(), &[second_hit(5)])?;
     let marks = [Mark {
         offset: 16,
         time: None,

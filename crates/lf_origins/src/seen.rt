@@ -5,16 +5,16 @@ ghost use Rattle.lf_history.specs.Touching.{record_at};
 ghost use Rattle.lf_origins.specs.Seen.{accepts, before_last, before_acceptance, before_reply, seen_by};
 
 use crate::events::accepted_tag;
+use lf_codec::Packed;
+use lf_history::{record_at, room};
 use lf_rules::{Event, Record, Rule};
 
 /// Whether the record at the place accepts the port's request with this tag.
-fn accepts(records: &[Record], place: Option<usize>, port: u8, tag: u8) -> bool
-    ensures { result ≡ accepts port tag (record_at records.now place) }
+fn accepts(records: &Packed, place: Option<usize>, port: u8, tag: u8) -> bool
+    ensures { result ≡ accepts port tag (record_at records.now.records place) }
 {
-    let Some(place) = place else {
-        return false;
-    };
-    let Some(item) = records.get(place) else {
+    let mut room = room();
+    let Some(item) = record_at(records, place, &mut room) else {
         return false;
     };
     match accepted_tag(port, &item.event) {
@@ -26,12 +26,12 @@ fn accepts(records: &[Record], place: Option<usize>, port: u8, tag: u8) -> bool
 /// The places before that of the last record which accepts the port's request with this tag. All of them where
 /// none does.
 fn before_acceptance<'a>(
-    records: &[Record],
+    records: &Packed,
     before: &'a [Option<usize>],
     port: u8,
     tag: u8,
 ) -> &'a [Option<usize>]
-    ensures { result.now ≡ before_acceptance records.now port tag before.now }
+    ensures { result.now ≡ before_acceptance records.now.records port tag before.now }
 {
     let mut end = before.len();
     while end > 0 {
@@ -45,11 +45,11 @@ fn before_acceptance<'a>(
 
 /// The places before the acceptance of the request that is replied to.
 fn before_reply<'a>(
-    records: &[Record],
+    records: &Packed,
     before: &'a [Option<usize>],
     item: &Record,
 ) -> &'a [Option<usize>]
-    ensures { result.now ≡ before_reply records.now item.now.log item.now.event before.now }
+    ensures { result.now ≡ before_reply records.now.records item.now.log item.now.event before.now }
 {
     match &item.event {
         Event::Reply { tag, .. } => before_acceptance(records, before, item.log, *tag),
@@ -59,12 +59,12 @@ fn before_reply<'a>(
 
 /// The places, of these before, of the records that the rule looks at where this record breaks it.
 pub(crate) fn seen_by<'a>(
-    records: &[Record],
+    records: &Packed,
     before: &'a [Option<usize>],
     rule: Rule,
     item: &Record,
 ) -> &'a [Option<usize>]
-    ensures { result.now ≡ seen_by records.now rule item.now before.now }
+    ensures { result.now ≡ seen_by records.now.records rule item.now before.now }
 {
     match rule {
         Rule::ReplyData => before_reply(records, before, item),

@@ -1,9 +1,12 @@
 //! What the state of a rule comes from, with the texts written out.
 
 use crate::{BrokenRule, Origins, OriginsText, origins_of};
+use lf_codec::Packed;
 use lf_history::places_in_order;
 use lf_listing::{Listing, Mark};
-use lf_rules::{Block, Event, Level, Mask, Masks, Op, OrgShape, Record, Rule, Shape, WideBlock};
+use lf_rules::{
+    Block, Event, Level, Mask, Masks, NoMemory, Op, OrgShape, Record, Rule, Shape, WideBlock,
+};
 use std::alloc::{AllocError, Global};
 use std::process::Abort;
 use std::test::Fail;
@@ -24,10 +27,19 @@ const SHAPE: Shape = Shape {
     level2: LEVEL,
 };
 
+/// The records, packed.
+fn packed(alloc: Global, records: &[Record]) -> Result<Packed, NoMemory> {
+    let mut packed = Packed::new(alloc);
+    for item in records {
+        packed.push(item.clone()?)?;
+    }
+    Ok(packed)
+}
+
 /// The text of origins over records with these marks.
 fn text_of<'a>(
     alloc: Global,
-    records: &'a [Record],
+    records: &'a Packed,
     marks: &'a [Mark],
     origins: &'a Origins,
 ) -> Result<String, AllocError> {
@@ -48,7 +60,10 @@ fn assert_origins<T: Abort + AllocGlobal>(
     let Some((item, before)) = records.split_last() else {
         return Err(Fail::from("there is no record"));
     };
-    let Ok(places) = places_in_order(rt.alloc(), records, 0, before.len()) else {
+    let Ok(packed) = packed(rt.alloc(), records) else {
+        return Err(Fail::from("out of memory"));
+    };
+    let Ok(places) = places_in_order(rt.alloc(), &packed, 0, before.len()) else {
         return Err(Fail::from("out of memory"));
     };
     let broken = BrokenRule {
@@ -56,14 +71,14 @@ fn assert_origins<T: Abort + AllocGlobal>(
         item,
         address,
     };
-    let Ok(Some(origins)) = origins_of(rt.alloc(), &SHAPE, records, &places, broken) else {
+    let Ok(Some(origins)) = origins_of(rt.alloc(), &SHAPE, &packed, &places, broken) else {
         return Err(Fail::from("the rule has no such state"));
     };
     let mut marks = Vec::new(rt.alloc());
     for offset in [16, 24, 32, 40, 48, 56, 64, 72] {
         marks.push(Mark { offset, time: None })?;
     }
-    let found = text_of(rt.alloc(), records, marks.as_slice(), &origins)?;
+    let found = text_of(rt.alloc(), &packed, marks.as_slice(), &origins)?;
     assert_eq!(rt; found.as_str(), due);
     Ok(())
 }

@@ -45,7 +45,8 @@ pub struct OriginsText<'a> {
 }
 
 impl fmt::Display for OriginsText<'_> {
-    ghost output = { λ it. Some (origins_text it.listing.records.now (besides it.listing.marks.now) it.origins.now) };
+    ghost output = { λ it. Some
+        (origins_text it.listing.records.now.records (besides it.listing.marks.now) it.origins.now) };
 
     fn fmt<W: fmt::Write>(&self, f: &mut fmt::Formatter<W>) -> fmt::Result {
         let heading = self.origins.part.heading();

@@ -1,13 +1,11 @@
 -- What is told of the records of a trace.
-use Rattle.std.proofs.Common.{◌≡◌, ℕ, Bool, List, Option, None, Some, filter, sym, ap, ◌∙◌, subst}
+use Rattle.std.proofs.Common.{◌≡◌, ℕ, List, Option, None, Some, sym, ap, ◌∙◌, subst}
 use Rattle.std.specs.List.{AllByRecursion}
 use Rattle.lf_rules.specs.declared.shape.Shape.{Shape}
 use Rattle.lf_rules.specs.declared.event.Record.{Record}
 use Rattle.lf_rules.specs.Address.{FlatMemory, flat_memory}
 use Rattle.lf_rules.specs.Fits.{Bytes, Fits}
-use Rattle.lf_rules.proofs.CopyStep.{filter_all}
 use Rattle.lf_codec.specs.declared.header.Header.{Header}
-use Rattle.lf_codec.specs.Laws.{IsSomeTrace}
 use Rattle.lf_codec.proofs.TraceLaws.{bytes_are_of_one_trace}
 use Rattle.lf_verdict.specs.declared.session.breaking.PartFault.{PartFault}
 use Rattle.lf_verdict.specs.declared.session.breaking.PartFault.TheVariants as parts
@@ -20,26 +18,17 @@ use Rattle.lf_verdict.specs.Verdict.{IsFaultOfLogs, IsNo}
 use Rattle.lf_verdict.proofs.Traces.{records_fit}
 use Rattle.std.specs.Global.{Vec}
 use Rattle.lf_contents.specs.Logs.{IsCountable}
-use Rattle.lf_contents.specs.declared.excerpt.Excerpt.{Excerpt}
-use Rattle.lf_contents.specs.Excerpt.{is_chosen, IsExcerpt}
+use Rattle.lf_contents.specs.declared.packing.Packing.{Packing}
+use Rattle.lf_contents.specs.Packing.{IsPacking}
 use Rattle.lf_verdict.specs.declared.answer.Verdict.{Verdict}
 use Rattle.lf_verdict.specs.declared.answer.Verdict.TheVariants.{Yes}
 use Rattle.lf_verdict.specs.Verdict.{IsDecided, IsVerdictOf}
 use Rattle.lf_listing.specs.Marks.{besides, besides_of}
 use Rattle.lf_why.specs.declared.not_legal.NotLegal.{NotLegal}
 use Rattle.lf_why.specs.Cause.{HasBankOf, IsCause}
-use Rattle.lf_why.specs.NotLegal.{HasBankOfFirst, IsEarliestIf, as_fault, told_of, IsFirstCause, IsNotLegal}
+use Rattle.lf_why.specs.NotLegal.{HasBankOfFirst, IsEarliestIf, as_fault, IsFirstCause, IsNotLegal}
 
 -- ---- what is told
-
--- A no is of a trace.
-pub some_trace : (shape : Shape) (bytes : List ℕ) (fault : Fault) → IsNo shape bytes fault → IsSomeTrace bytes
-some_trace shape bytes fault is = record {
-  header = is.trace.header;
-  memory = is.memory;
-  records = is.trace.records;
-  trace = is.trace.trace;
-}
 
 fault_bank : (shape : Shape) (memory : FlatMemory) (logs : List (List Record)) (fault : Fault) →
     IsFaultOfLogs shape memory logs fault
@@ -82,43 +71,39 @@ countable shape bytes v events order is judged =
 
 -- ---- a no
 
-module _ (shape : Shape) (bytes : List ℕ) (fault : Fault) (is : IsNo shape bytes fault) (earliest : Option Broken)
-    (time : ℕ → ℕ → Option (List ℕ)) (excerpt : Excerpt)
-    (has : IsExcerpt bytes (told_of fault earliest) time excerpt) where
-  abbrev holds : Record → Bool
-  holds = is_chosen (told_of fault earliest)
-
-  -- The excerpt is of the trace that the no is of.
-  same : (has.header ≡ is.trace.header) × (excerpt.memory.items ≡ is.memory) × (has.all ≡ is.trace.records)
-  same = bytes_are_of_one_trace bytes has.header is.trace.header excerpt.memory.items is.memory has.all
-      is.trace.records has.trace is.trace.trace
+module _ (shape : Shape) (bytes : List ℕ) (fault : Fault) (is : IsNo shape bytes fault) (packing : Packing)
+    (has : IsPacking bytes packing) where
+  -- The packing is of the trace that the no is of.
+  same : (has.header ≡ is.trace.header) × (packing.memory.items ≡ is.memory)
+      × (packing.records.records ≡ is.trace.records)
+  same = bytes_are_of_one_trace bytes has.header is.trace.header packing.memory.items is.memory
+      packing.records.records is.trace.records has.trace is.trace.trace
 
   -- Its records fit the shape.
-  pub excerpt_fits : AllByRecursion (Fits shape) excerpt.records.items
-  excerpt_fits =
-      let fit = records_fit shape is.trace.header is.memory is.trace.records is.trace.trace.fits is.trace.agrees in
-      subst (λ (rs : List Record). AllByRecursion (Fits shape) rs)
-      (sym (has.records ∙ ap (filter holds) same.2))
-      (filter_all (Fits shape) holds is.trace.records fit)
+  pub packing_fits : AllByRecursion (Fits shape) packing.records.records
+  packing_fits =
+      subst (λ (rs : List Record). AllByRecursion (Fits shape) rs) (sym same.2)
+      (records_fit shape is.trace.header is.memory is.trace.records is.trace.trace.fits is.trace.agrees)
 
   -- What was found in it is why the trace is not legal.
-  pub is_not_legal : (most : ℕ) (why : NotLegal) → IsEarliestIf shape bytes earliest
-      → why.records.items ≡ excerpt.records.items → why.marks.items ≡ excerpt.marks.items
-      → IsCause shape excerpt.memory.items why.records.items most fault why.fault
-      → IsFirstCause shape excerpt.memory.items why.records.items most fault earliest why.first
+  pub is_not_legal : (time : ℕ → ℕ → Option (List ℕ)) (most : ℕ) (earliest : Option Broken) (why : NotLegal)
+      → IsEarliestIf shape bytes earliest → why.records.records ≡ packing.records.records
+      → besides why.marks.items ≡ besides_of time packing.start packing.records.records
+      → IsCause shape packing.memory.items why.records.records most fault why.fault
+      → IsFirstCause shape packing.memory.items why.records.records most fault earliest why.first
       → IsNotLegal shape bytes time most fault why
-  is_not_legal most why first_is records marks cause first = record {
+  is_not_legal time most earliest why first_is records marks cause first = record {
     memory = is.memory;
     logs = is.logs;
     trace = is.trace;
     earliest = earliest;
     is_earliest = first_is;
-    records = records ∙ has.records ∙ ap (filter holds) same.2;
-    marks = ap besides marks ∙ has.marks
-        ∙ ap (λ (h : Header). besides_of holds time (first_offset h excerpt.memory.items) has.all) same.0
-        ∙ ap (λ (m : List (ℕ × Bytes)). besides_of holds time (first_offset is.trace.header m) has.all) same.1
-        ∙ ap (besides_of holds time (first_offset is.trace.header is.memory)) same.2;
-    cause = subst (λ (m : List (ℕ × Bytes)). IsCause shape m why.records.items most fault why.fault) same.1 cause;
-    first = subst (λ (m : List (ℕ × Bytes)). IsFirstCause shape m why.records.items most fault earliest why.first)
+    records = records ∙ same.2;
+    marks = marks ∙ ap (λ (start : ℕ). besides_of time start packing.records.records) has.first
+        ∙ ap (λ (h : Header). besides_of time (first_offset h packing.memory.items) packing.records.records) same.0
+        ∙ ap (λ (m : List (ℕ × Bytes)). besides_of time (first_offset is.trace.header m) packing.records.records) same.1
+        ∙ ap (besides_of time (first_offset is.trace.header is.memory)) same.2;
+    cause = subst (λ (m : List (ℕ × Bytes)). IsCause shape m why.records.records most fault why.fault) same.1 cause;
+    first = subst (λ (m : List (ℕ × Bytes)). IsFirstCause shape m why.records.records most fault earliest why.first)
         same.1 first;
   }

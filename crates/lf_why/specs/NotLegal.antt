@@ -1,14 +1,9 @@
 -- Why a trace is not legal.
 use Rattle.std.specs.Prelude.{◌≡◌, ℕ, Bool, true, false, ◌&&◌, ◌==◌, List, [], ◌∷◌, ◌++◌, codes, Option, Some, None}
-use Rattle.std.specs.Prelude.{filter}
 use Rattle.lf_rules.specs.declared.shape.Shape.{Shape}
 use Rattle.lf_rules.specs.declared.event.Record.{Record}
 use Rattle.lf_rules.specs.Fits.{Bytes}
 use Rattle.lf_listing.specs.Marks.{Beside, besides, besides_of}
-use Rattle.lf_contents.specs.declared.excerpt.Part.{Part}
-use Rattle.lf_contents.specs.declared.excerpt.Part.TheVariants as told
-use Rattle.lf_contents.specs.declared.excerpt.Choice.{Choice}
-use Rattle.lf_contents.specs.Excerpt.{is_chosen}
 use Rattle.lf_verdict.specs.declared.answer.Fault.{Fault}
 use Rattle.lf_verdict.specs.declared.answer.Fault.TheVariants as faults
 use Rattle.lf_verdict.specs.declared.session.breaking.PartFault.{PartFault}
@@ -63,21 +58,8 @@ IsFirstCause shape memory rs most fault _ cause = cause ≡ None
 
 -- ---- why a trace is not legal
 
--- the part of a trace that a fault is about: the log of a port, the records that name a bank, or all of it
-abbrev pub part_of : Fault → Part
-part_of (faults.Port port at rule) = told.Port port
-part_of (faults.Bank bank number rule) = told.Bank bank
-part_of (faults.Missing bank k) = told.Bank bank
-part_of (faults.Double bank k) = told.Bank bank
-part_of (faults.Cycle ring) = told.Whole
-
--- what the fault and what broke first are about
-abbrev pub told_of : Fault → Option Broken → Choice
-told_of fault (Some (broken.Part part upon)) = record { part = part_of fault; other = part_of (as_fault part) }
-told_of fault _ = record { part = part_of fault; other = part_of fault }
-
--- It has those records of the trace in the bytes that the faults are about, the offset and the time of each, why the
--- fault stands among them, and what broke first. A time is told by a log and a place in it.
+-- It has the records of the trace in the bytes, the offset and the time of each, why the fault stands among them, and
+-- what broke first. A time is told by a log and a place in it.
 pub record IsNotLegal (shape : Shape) (bytes : List ℕ) (time : ℕ → ℕ → Option (List ℕ)) (most : ℕ) (fault : Fault)
     (why : NotLegal) : Type 0 where
   pub memory : List (ℕ × Bytes)
@@ -85,11 +67,10 @@ pub record IsNotLegal (shape : Shape) (bytes : List ℕ) (time : ℕ → ℕ →
   pub trace : IsTraceFor shape bytes memory logs
   pub earliest : Option Broken
   pub is_earliest : IsEarliestIf shape bytes earliest
-  pub records : why.records.items ≡ filter (is_chosen (told_of fault earliest)) trace.records
-  pub marks : besides why.marks.items
-      ≡ besides_of (is_chosen (told_of fault earliest)) time (first_offset trace.header memory) trace.records
-  pub cause : IsCause shape memory why.records.items most fault why.fault
-  pub first : IsFirstCause shape memory why.records.items most fault earliest why.first
+  pub records : why.records.records ≡ trace.records
+  pub marks : besides why.marks.items ≡ besides_of time (first_offset trace.header memory) trace.records
+  pub cause : IsCause shape memory why.records.records most fault why.fault
+  pub first : IsFirstCause shape memory why.records.records most fault earliest why.first
 
 -- what broke first, behind a heading of its own
 abbrev pub first_text : List Record → List Beside → Option Cause → List ℕ
@@ -100,4 +81,4 @@ first_text rs marks (Some cause) =
 abbrev pub not_legal_text : NotLegal → List ℕ
 not_legal_text why =
     let marks = besides why.marks.items in
-    cause_text why.records.items marks why.fault ++ first_text why.records.items marks why.first
+    cause_text why.records.records marks why.fault ++ first_text why.records.records marks why.first

@@ -7,10 +7,11 @@ ghost use Rattle.lf_rules.specs.InRange.{IsShape};
 ghost use Rattle.lf_listing.specs.Marks.{besides};
 ghost use Rattle.lf_why.specs.Cause.{HasBankOf, IsCause, cause_text};
 
+use lf_codec::Packed;
 use lf_explanation::{Breach, Explained, Explanation, explain};
 use lf_listing::Listing;
 use lf_numbering::{Reason, Reasoned};
-use lf_rules::{Memory, NoMemory, Record, Shape};
+use lf_rules::{Memory, NoMemory, Shape};
 use lf_verdict::Fault;
 use std::alloc::Global;
 use std::fmt;
@@ -28,7 +29,7 @@ pub enum Cause {
 #[derive(Clone, Copy)]
 pub(crate) struct Contents<'a> {
     pub memory: &'a Memory,
-    pub records: &'a [Record],
+    pub records: &'a Packed,
 }
 
 /// Why the fault stands in the trace, with at most so many records before the one that breaks a rule.
@@ -41,8 +42,9 @@ pub(crate) fn cause_of(
 ) -> Result<Cause, NoMemory>
     requires in_range { IsShape shape.now }
     requires bank { HasBankOf shape.now fault.now }
-    requires fit { AllByRecursion (Fits shape.now) contents.now.records.now }
-    ensures { IfOk result (IsCause shape.now contents.now.memory.now.items contents.now.records.now most fault.now) }
+    requires fit { AllByRecursion (Fits shape.now) contents.now.records.now.records }
+    ensures { IfOk result (IsCause shape.now contents.now.memory.now.items contents.now.records.now.records most
+        fault.now) }
 {
     let Contents { memory, records } = *contents;
     let most = most as usize;
@@ -79,7 +81,8 @@ pub struct CauseText<'a> {
 }
 
 impl fmt::Display for CauseText<'_> {
-    ghost output = { λ it. Some (cause_text it.listing.records.now (besides it.listing.marks.now) it.cause.now) };
+    ghost output = { λ it. Some
+        (cause_text it.listing.records.now.records (besides it.listing.marks.now) it.cause.now) };
 
     fn fmt<W: fmt::Write>(&self, f: &mut fmt::Formatter<W>) -> fmt::Result {
         let listing = self.listing;

@@ -8,21 +8,21 @@ ghost use Rattle.lf_listing.specs.Marks.{told_by};
 ghost use Rattle.lf_verdict.specs.Verdict.{IsNo};
 ghost use Rattle.lf_why.specs.Cause.{HasBankOf};
 ghost use Rattle.lf_why.specs.NotLegal.{as_fault, names_place, HasBankOfFirst, IsEarliestIf, IsFirstCause, IsNotLegal};
-ghost use Rattle.lf_why.specs.NotLegal.{part_of, told_of};
 
 use crate::cause::{Cause, Contents, cause_of};
 use crate::why::Asked;
-use lf_contents::{Choice, Excerpt, Part, excerpt_in};
-use lf_listing::Mark;
-use lf_rules::{NoMemory, Record, Shape};
+use lf_codec::Packed;
+use lf_contents::{Packing, packed_in};
+use lf_listing::{Mark, marks_of};
+use lf_rules::{NoMemory, Shape};
 use lf_verdict::{Broken, Fault, PartFault};
 use std::alloc::Global;
 
 /// Why a trace is not legal.
-#[derive(Debug, Drop)]
+#[derive(Drop)]
 pub struct NotLegal {
-    /// The records of the trace that the faults are about, in the order of the file. Places are told among these.
-    pub records: Vec<Record>,
+    /// The records of the trace. Places are told among these.
+    pub records: Packed,
     /// What stands beside each record.
     pub marks: Vec<Mark>,
     /// Why the fault stands that the verdict names.
@@ -63,31 +63,6 @@ fn names_place(fault: &Fault, part: &PartFault) -> bool
     }
 }
 
-/// The part of a trace that a fault is about.
-fn part_of(fault: &Fault) -> Part
-    ensures { result ≡ part_of fault.now }
-{
-    match fault {
-        Fault::Port { port, .. } => Part::Port(*port),
-        Fault::Bank { bank, .. } | Fault::Missing { bank, .. } | Fault::Double { bank, .. } => {
-            Part::Bank(*bank)
-        }
-        Fault::Cycle(_) => Part::Whole,
-    }
-}
-
-/// What the fault and what broke first are about.
-fn told_of(fault: &Fault, earliest: &Option<Broken>) -> Choice
-    ensures { result ≡ told_of fault.now earliest.now }
-{
-    let part = part_of(fault);
-    let other = match earliest {
-        Some(Broken::Part { fault: first, .. }) => part_of(&as_fault(first)),
-        _ => part,
-    };
-    Choice { part, other }
-}
-
 /// Why what broke first stands, where the verdict does not name its place.
 fn first_cause(
     alloc: Global,
@@ -99,9 +74,9 @@ fn first_cause(
 ) -> Result<Option<Cause>, NoMemory>
     requires in_range { IsShape shape.now }
     requires bank { HasBankOfFirst shape.now earliest.now }
-    requires fit { AllByRecursion (Fits shape.now) contents.now.records.now }
-    ensures { IfOk result (IsFirstCause shape.now contents.now.memory.now.items contents.now.records.now most fault.now
-        earliest.now) }
+    requires fit { AllByRecursion (Fits shape.now) contents.now.records.now.records }
+    ensures { IfOk result (IsFirstCause shape.now contents.now.memory.now.items contents.now.records.now.records most
+        fault.now earliest.now) }
 {
     match earliest {
         Some(Broken::Part { fault: part, .. }) if !names_place(fault, part) => {
@@ -126,18 +101,18 @@ pub(crate) fn not_legal(
     ensures { IfOk result (IsNotLegal shape.now bytes.now (told_by asked.now.times) asked.now.most fault.now) }
 {
     let Asked { most, times } = *asked;
-    let choice = told_of(fault, earliest);
-    let Excerpt {
+    let Packing {
         memory,
         records,
-        marks,
-    } = excerpt_in(alloc, bytes, choice, times)?;
+        start,
+    } = packed_in(alloc, bytes)?;
     let contents = Contents {
         memory: &memory,
         records: &records,
     };
     let first = first_cause(alloc, shape, &contents, fault, earliest, most)?;
     let fault = cause_of(alloc, shape, &contents, fault, most)?;
+    let marks = marks_of(alloc, &records, start, times)?;
     Ok(NotLegal {
         records,
         marks,

@@ -23,7 +23,7 @@ struct First<'a> {
 
 impl fmt::Display for First<'_> {
     ghost output = { λ first. Some
-        (first_text first.listing.records.now (besides first.listing.marks.now) first.cause.now) };
+        (first_text first.listing.records.now.records (besides first.listing.marks.now) first.cause.now) };
 
     fn fmt<W: fmt::Write>(&self, f: &mut fmt::Formatter<W>) -> fmt::Result {
         let Some(cause) = self.cause else {

@@ -19,7 +19,7 @@ use lf_verdict::{Broken, Refusal, Verdict};
 use std::alloc::Global;
 
 /// Why a verdict is what it is.
-#[derive(Debug, Drop)]
+#[derive(Drop)]
 pub enum Why {
     /// Why a trace is not legal.
     No(NotLegal),

@@ -20,7 +20,7 @@ use Rattle.lf_explain.proofs.broken.first_broken.Goals as goal
 
 pub loop-i-preserved-in_default : goal.loop-i-preserved-in_default
 loop-i-preserved-in_default c =
-    let rs = c.args.records.now in
+    let rs = c.args.records.now.records in
     let places = c.args.places.now in
     let i = c.loop-i.i in
     let shape = c.args.shape.now in
@@ -38,7 +38,7 @@ loop-i-preserved-in_default c =
 
 pub loop-i-preserved : goal.loop-i-preserved
 loop-i-preserved c =
-    let rs = c.args.records.now in
+    let rs = c.args.records.now.records in
     let places = c.args.places.now in
     let i = c.loop-i.i in
     let shape = c.args.shape.now in
@@ -58,7 +58,7 @@ loop-i-preserved c =
 
 pub told-requires-clause-request : goal.told-requires-clause-request
 told-requires-clause-request c =
-    let rs = c.args.records.now in
+    let rs = c.args.records.now.records in
     let places = c.args.places.now in
     let i = c.loop-i.i in
     let shape = c.args.shape.now in
@@ -76,7 +76,7 @@ told-requires-clause-request c =
 
 pub returns-in-Err-Rule : goal.returns-in-Err-Rule
 returns-in-Err-Rule c =
-    let rs = c.args.records.now in
+    let rs = c.args.records.now.records in
     let places = c.args.places.now in
     let i = c.loop-i.i in
     let shape = c.args.shape.now in

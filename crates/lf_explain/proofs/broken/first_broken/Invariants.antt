@@ -10,7 +10,7 @@ use Rattle.lf_explain.proofs.broken.first_broken.Given as goal
 abbrev pub invariant-loop-i : goal.invariant-loop-i
 invariant-loop-i l = record {
   stands : IsStepAfter l.step l.shape (bank_part l.shape l.bank (flat_memory l.memory.items)) l.bank
-      (records_at l.records (take l.i l.places));
-  fit : AllByRecursion (Fits l.shape) (records_at l.records (drop l.i l.places));
-  named : AllByRecursion (λ r. r.bank ≡ l.bank) (records_at l.records (drop l.i l.places));
+      (records_at l.records.records (take l.i l.places));
+  fit : AllByRecursion (Fits l.shape) (records_at l.records.records (drop l.i l.places));
+  named : AllByRecursion (λ r. r.bank ≡ l.bank) (records_at l.records.records (drop l.i l.places));
 }

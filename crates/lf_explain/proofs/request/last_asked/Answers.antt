@@ -9,7 +9,7 @@ use Rattle.lf_explain.proofs.request.last_asked.Goals as goal
 
 pub loop-place-preserved-in_default : goal.loop-place-preserved-in_default
 loop-place-preserved-in_default c =
-    let rs = c.args.records.now in
+    let rs = c.args.records.now.records in
     let places = c.args.places.now in
     let i = c.loop-place.place-index in
     let lt : i < length places = c.loop-place-test.true in
@@ -19,7 +19,7 @@ loop-place-preserved-in_default c =
 
 pub loop-place-preserved : goal.loop-place-preserved
 loop-place-preserved c =
-    let rs = c.args.records.now in
+    let rs = c.args.records.now.records in
     let places = c.args.places.now in
     let i = c.loop-place.place-index in
     let lt : i < length places = c.loop-place-test.true in

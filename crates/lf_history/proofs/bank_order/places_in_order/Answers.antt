@@ -12,11 +12,12 @@ if_ok P Q (Err e) f h = tt
 
 pub returns : goal.returns
 returns c =
-    let rs = c.args.records.now in
+    let rs = c.args.records.now.records in
     let bank = c.args.bank in
     let count = c.args.count in
     let Are = λ (places : Vec (Option ℕ)). places.items ≡ places_of_numbers bank rs count in
     record {
+      places = c.places_of_numbers.ensures;
       records = if_ok Are (λ places. records_at rs places.items ≡ in_order bank rs count) c.places_of_numbers.result
           (λ places e. ap (records_at rs) e)
           c.places_of_numbers.ensures;

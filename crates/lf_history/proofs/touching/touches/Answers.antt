@@ -1,20 +1,19 @@
-use Rattle.std.proofs.Common.{◌≡◌, ◌+◌, List, [], ◌∷◌, ◌++◌, Option, ℕ, Some, None, drop, ◌<◌, ◌≤◌, length, rules}
-use Rattle.std.proofs.Common.{refl, arith, sym, ap, ◌∙◌, append_assoc}
+use Rattle.std.proofs.Common.{◌≡◌, ◌+◌, List, [], ◌∷◌, ◌++◌, Option, ℕ, Some, None, drop}
+use Rattle.std.proofs.Common.{arith, sym, ap, ◌∙◌, append_assoc}
 use Rattle.std.proofs.lemmas.List.{drop_more}
-use Rattle.std.proofs.lemmas.Option.{slice_get_past, slice_get_read}
+use Rattle.std.specs.Prelude.{slice_get}
 use Rattle.lf_history.specs.declared.touching.Touch.{Touch}
 use Rattle.lf_history.specs.Touching.{touches, all_before}
 use Rattle.lf_history.proofs.Touched.{touches_none, all_before_none, touches_some, all_before_some}
 use Rattle.lf_history.proofs.touching.touches.Goals as goal
 
-pub loop-at-preserved-in_default-get : goal.loop-at-preserved-in_default-get
-loop-at-preserved-in_default-get c =
+pub loop-at-preserved-in_default-record_at : goal.loop-at-preserved-in_default-record_at
+loop-at-preserved-in_default-record_at c =
     let shape = c.args.shape.now in
-    let rs = c.args.records.now in
+    let rs = c.args.records.now.records in
     let before = c.loop-at.invariant.before in
     let next = drop (c.loop-at.at-index + 1) c.args.places.now in
-    let past : length rs ≤ c.in-Some.place = search rules in
-    let none = slice_get_past rs c.in-Some.place past in
+    let none : slice_get rs c.in-Some.place ≡ None = c.in_default-record_at.ensures in
     let here : drop c.loop-at.at-index c.args.places.now ≡ Some c.in-Some.place ∷ next =
     drop_more c.args.places.now c.loop-at.at-index None (omega (arith, c.loop-at-test.true))
     ∙ ap (λ (at : Option ℕ). at ∷ next) c.in-Some.is in
@@ -32,12 +31,11 @@ loop-at-preserved-in_default-get c =
 pub loop-at-preserved : goal.loop-at-preserved
 loop-at-preserved c =
     let shape = c.args.shape.now in
-    let rs = c.args.records.now in
+    let rs = c.args.records.now.records in
     let before = c.loop-at.invariant.before in
-    let r = c.in-Some-get.item.now in
+    let r = c.in-Some-record_at.item.now in
     let next = drop (c.loop-at.at-index + 1) c.args.places.now in
-    let inside : c.in-Some.place < length rs = search rules in
-    let item = slice_get_read rs (length rs) c.in-Some.place r refl inside c.in-Some-get.ensures.lookup.1 in
+    let item : slice_get rs c.in-Some.place ≡ Some r = c.in-Some-record_at.ensures in
     let here : drop c.loop-at.at-index c.args.places.now ≡ Some c.in-Some.place ∷ next =
     drop_more c.args.places.now c.loop-at.at-index None (omega (arith, c.loop-at-test.true))
     ∙ ap (λ (at : Option ℕ). at ∷ next) c.in-Some.is in

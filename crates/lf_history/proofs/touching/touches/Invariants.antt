@@ -8,7 +8,7 @@ abbrev pub invariant-loop-at : goal.invariant-loop-at
 invariant-loop-at l = record {
   before : List Record;
   latest : IsLatest l.shape before l.requests;
-  found : l.found.items ++ touches l.shape before l.records (drop l.at-index l.places)
-      ≡ touches l.shape [] l.records l.places;
-  rest : all_before before l.records (drop l.at-index l.places) ≡ all_before [] l.records l.places;
+  found : l.found.items ++ touches l.shape before l.records.records (drop l.at-index l.places)
+      ≡ touches l.shape [] l.records.records l.places;
+  rest : all_before before l.records.records (drop l.at-index l.places) ≡ all_before [] l.records.records l.places;
 }

@@ -3,4 +3,4 @@ use Rattle.lf_numbering.specs.Cycle.{place_of_knot}
 use Rattle.lf_numbering.proofs.cycle.places_of_knots.Given as goal
 
 abbrev pub invariant-loop-knot : goal.invariant-loop-knot
-invariant-loop-knot l = l.places.items ≡ map (place_of_knot l.records) (take l.knot-index l.ring)
+invariant-loop-knot l = l.places.items ≡ map (place_of_knot l.records.records) (take l.knot-index l.ring)

@@ -9,5 +9,6 @@ abbrev pub invariant-loop-place : goal.invariant-loop-place
 invariant-loop-place g l =
     IsPlainFormatter l.initial.f
     → HasWritten g.W.Write.write_str_gives l.initial.f
-    (lines_text l.self.listing.records.now (besides l.self.listing.marks.now) (take l.place-index l.self.places.now))
+    (lines_text l.self.listing.records.now.records (besides l.self.listing.marks.now)
+    (take l.place-index l.self.places.now))
     l.f

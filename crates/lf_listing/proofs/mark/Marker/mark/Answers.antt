@@ -1,4 +1,4 @@
-use Rattle.std.proofs.Common.{◌≡◌, ℕ, ◌+◌, ◌<◌, ◌∙◌, List, Option, get_or, ap, string_bytes, rules}
+use Rattle.std.proofs.Common.{ℕ, ◌+◌, ◌<◌, ◌∙◌, List, Option, get_or, ap, string_bytes, rules}
 use Rattle.std.specs.Option.{option_map}
 use Rattle.lf_lengths.specs.Lengths.{bytes_len}
 use Rattle.lf_listing.specs.Marks.{Beside, told_by}

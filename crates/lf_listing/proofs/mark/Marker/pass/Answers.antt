@@ -1,5 +1,4 @@
-use Rattle.std.proofs.Common.{◌≡◌, ℕ, ◌+◌, ◌<◌, ◌∷◌, [], ◌++◌, List, length, get_or, set, ap, ◌∙◌, arith, rules}
-use Rattle.lf_lengths.specs.Lengths.{bytes_len}
+use Rattle.std.proofs.Common.{◌≡◌, ℕ, ◌+◌, ◌<◌, ◌∷◌, [], List, length, get_or, set, ap, ◌∙◌, arith, rules}
 use Rattle.lf_listing.proofs.Marking.{bytes_len-append, few_in, counts_more}
 use Rattle.lf_listing.proofs.mark.Marker.pass.Goals as goal
 
