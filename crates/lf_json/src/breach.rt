@@ -1,20 +1,32 @@
 //! A rule that a record breaks.
 
+ghost use Rattle.std.specs.Prelude.{◌≤◌, length};
+
 use crate::carried::set_carried;
 use crate::object::Object;
 use crate::record::{record_at_json, records_json};
 use crate::state::blocks_json;
+use lf_codec::Packed;
 use lf_explain::Broken;
 use lf_explanation::{Explanation, sentence_of};
+use lf_history::{record_at, room};
 use lf_listing::Listing;
 use lf_origins::Origins;
-use lf_rules::{NoMemory, Record, Rule};
+use lf_rules::{NoMemory, Rule};
 use serde_json::{Value, json};
 use std::alloc::Global;
 
-/// How many records of a log these are.
-fn count_in(records: &[Record], log: u8) -> usize {
-    records.iter().filter(|item| item.log == log).count()
+/// How many records of the log stand before this place.
+fn count_before(records: &Packed, log: u8, place: usize) -> usize
+    requires { place ≤ length records.now.records }
+{
+    let mut count = 0;
+    for at in 0..place {
+        if records.log(at) == log {
+            count += 1;
+        }
+    }
+    count
 }
 
 /// Where the record stands, as the line of the verdict says it: a record that breaks a rule of a bank by its number
@@ -25,16 +37,17 @@ fn set_place(
     place: usize,
     broken: &Option<Broken>,
 ) -> Result<(), NoMemory> {
-    let Some(item) = listing.records.get(place) else {
+    let records = listing.records;
+    if place >= records.len() {
         return Ok(());
-    };
+    }
     if let Some(broken) = broken {
-        object.set("bank", Value::from(item.bank))?;
+        object.set("bank", Value::from(records.bank(place)))?;
         return object.set("number", Value::from(broken.number));
     }
-    let event = count_in(&listing.records[..place], item.log);
-    object.set("port", Value::from(item.log))?;
-    object.set("event", Value::from(event))
+    let log = records.log(place);
+    object.set("port", Value::from(log))?;
+    object.set("event", Value::from(count_before(records, log, place)))
 }
 
 /// The rule, and what it asks.
@@ -78,7 +91,8 @@ fn set_broken(
         return object.set("blocks", Value::Array(Vec::new(alloc)));
     };
     object.set("blocks", blocks_json(alloc, &broken.blocks)?)?;
-    match lf_history::record_at(listing.records, why.history.place) {
+    let mut room = room();
+    match record_at(listing.records, why.history.place, &mut room) {
         Some(item) => set_carried(object, broken, &item.event),
         None => Ok(()),
     }

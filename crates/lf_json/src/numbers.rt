@@ -1,7 +1,7 @@
 //! Numbers of records that give no order.
 
 use crate::record::{record_at_json, records_json};
-use lf_history::record_at;
+use lf_history::{record_at, room};
 use lf_listing::Listing;
 use lf_numbering::{Reason, Wait};
 use lf_rules::{Event, NoMemory, Record};
@@ -42,15 +42,16 @@ fn wait_json(
 /// their log.
 fn waits_json(alloc: Global, listing: &Listing<'_>, waits: &[Wait]) -> Result<Value, NoMemory> {
     let mut list = Vec::new(alloc);
+    let mut room = room();
     for (at, wait) in waits.iter().enumerate() {
         let Wait { waiting, earlier } = *wait;
         let next = waits[(at + 1) % waits.len()].waiting;
-        let numbers = match record_at(listing.records, waiting) {
+        let numbers = match record_at(listing.records, waiting, &mut room) {
             Some(item) => Some(by_numbers(alloc, item)?),
             None => None,
         };
         list.push(wait_json(alloc, listing, waiting, earlier, numbers)?)?;
-        let log = match record_at(listing.records, earlier) {
+        let log = match record_at(listing.records, earlier, &mut room) {
             Some(item) => Some(by_log(alloc, item)?),
             None => None,
         };

@@ -1,6 +1,7 @@
 //! A record of a trace as an object.
 
 use crate::object::{Object, digits, hexadecimal, masks_json};
+use lf_history::{record_at, room};
 use lf_listing::{Listing, Mark};
 use lf_rules::{Event, NoMemory, Record};
 use lf_text::{data_of, word_of};
@@ -122,7 +123,8 @@ pub(crate) fn record_at_json(
     let Some(place) = place else {
         return Ok(Value::Null);
     };
-    let Some(item) = listing.records.get(place) else {
+    let mut room = room();
+    let Some(item) = record_at(listing.records, Some(place), &mut room) else {
         return Ok(Value::Null);
     };
     let Some(mark) = listing.marks.get(place) else {

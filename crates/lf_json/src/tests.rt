@@ -1,6 +1,7 @@
 //! Answers, with their texts written out.
 
 use crate::{Answer, Told, explained_json, refused_json};
+use lf_codec::Packed;
 use lf_explain::{BlockState, Broken, Expected, NamedBlock};
 use lf_explanation::Explanation;
 use lf_history::History;
@@ -103,7 +104,7 @@ fn not_legal(alloc: Global, fault: Cause) -> Result<Why, Fail> {
         offset: 36,
         time: None,
     };
-    let mut records = Vec::new(alloc);
+    let mut records = Packed::new(alloc);
     records.push(load())?;
     records.push(reply(0xff))?;
     let mut marks = Vec::new(alloc);
