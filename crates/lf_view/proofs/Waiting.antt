@@ -3,7 +3,7 @@ use Rattle.std.proofs.Common.{◌≡◌, ℕ, zero, suc, ◌<◌, ◌≤◌, fal
 use Rattle.std.proofs.Common.{drop, map, set, get_or, Global, refl, sym, ap, ◌∙◌, subst, eq-eqb, eqb-true, inl, inr, arith}
 use Rattle.std.specs.List.{All}
 use Rattle.std.proofs.lemmas.Bool.{cases_Bool, cond-true, cond-false, eqb-false}
-use Rattle.std.proofs.lemmas.List.{get_or-set_same, get_or-set_other, get_or_past, append-nil, map-set, get_or-map}
+use Rattle.std.proofs.lemmas.List.{get_or-set_same, get_or-set_other, get_or_past, append-nil, map-set, get_or-map, length-map}
 use Rattle.std.specs.declared.collections.VecDeque.{VecDeque}
 use Rattle.lf_rules.specs.declared.event.Record.{Record}
 use Rattle.lf_rules.specs.Run.{of_log, Interleaves}
@@ -20,7 +20,7 @@ other_set : (logs : List (List Record)) (log k : ℕ) (queue : List Record) → 
 other_set logs log k queue apart = get_or-set_other logs log k queue [] (λ same. eqb-false log k apart (sym same))
 
 -- one more record
-pub one_behind : (logs : List (List Record)) (records : List Record) (r : Record) (queue : List Record) →
+one_behind : (logs : List (List Record)) (records : List Record) (r : Record) (queue : List Record) →
     r.log < length logs → queue ≡ log_at logs r.log ++ r ∷ [] → Interleaves logs records →
     Interleaves (set logs r.log queue) (records ++ r ∷ [])
 one_behind logs records r queue within behind are = record {
@@ -92,18 +92,42 @@ none_left logs (r ∷ records) empty are =
 abbrev pub Queue : Type 0
 Queue = VecDeque Record Global
 
-module _ (queues : List (Queue)) (log i : ℕ) (same : i ≡ log) where
-  pub set_queue : (queue : Queue) →
+module _ (queues : List Queue) (log i : ℕ) (same : i ≡ log) where
+  set_queue : (queue : Queue) →
       map (λ q. q.items) (set queues i queue) ≡ set (map (λ q. q.items) queues) log queue.items
   set_queue queue = map-set (λ q. q.items) queues i queue
       ∙ ap (λ (k : ℕ). set (map (λ q. q.items) queues) k queue.items) same
 
-  pub queue_at : (queue : Queue) → queue ≡ get_or queues i queue → i < length queues →
+  queue_at : (queue : Queue) → queue ≡ get_or queues i queue → i < length queues →
       log_at (map (λ q. q.items) queues) log ≡ queue.items
   queue_at queue is within =
       ap (λ (k : ℕ). log_at (map (λ q. q.items) queues) k) (sym same)
       ∙ get_or-map (λ (q : Queue). q.items) queues i queue [] within
       ∙ ap (λ (q : Queue). q.items) (sym is)
+
+  module _ (records : List Record) (old new : Queue) (is : old ≡ get_or queues i old) (within : i < length queues)
+      (are : Interleaves (map (λ q. q.items) queues) records) where
+    there : log < length (map (λ q. q.items) queues)
+    there = omega (arith, length-map queues (λ (q : Queue). q.items), same, within)
+
+    -- the first of them goes
+    pub one_goes : new.items ≡ drop 1 old.items →
+        Interleaves (map (λ q. q.items) (set queues i new)) (without_next log records)
+    one_goes rest =
+        subst (λ (logs : List (List Record)). Interleaves logs (without_next log records)) (sym (set_queue new))
+        (one_less (map (λ q. q.items) queues) records log new.items there
+        (rest ∙ ap (drop 1) (sym (queue_at old is within))) are)
+
+    -- one comes behind them
+    pub one_comes : (r : Record) → r.log ≡ log → new.items ≡ old.items ++ r ∷ [] →
+        Interleaves (map (λ q. q.items) (set queues i new)) (records ++ r ∷ [])
+    one_comes r own behind =
+        let logs = map (λ (q : Queue). q.items) queues in
+        subst (λ (logs : List (List Record)). Interleaves logs (records ++ r ∷ []))
+        (sym (set_queue new ∙ ap (λ (k : ℕ). set logs k new.items) (sym own)))
+        (one_behind logs records r new.items (omega (arith, own, there))
+        (behind ∙ ap (λ (l : List Record). l ++ r ∷ []) (sym (queue_at old is within))
+        ∙ ap (λ (k : ℕ). log_at logs k ++ r ∷ []) (sym own)) are)
 
 pub each_empty : (queues : List Queue) → All (λ q. q.items ≡ []) queues → (log : ℕ) →
     log_at (map (λ q. q.items) queues) log ≡ []
