@@ -192,7 +192,8 @@ module _ (shape : Shape) (some : 0 < shape.factor) (memory : FlatMemory) (bank :
             ap (λ (n : ℕ). make_dirty_if (not (mask.0 == 0)) flow.dirty2 n) (quotient_is shape.factor x some)
             ∙ ap (λ (ks : List ℕ). make_dirty_if (not (mask.0 == 0)) ks second) two.dirty2
             ∙ evicted_dirty slice.lines2 two.rising second place mask.0
-            (inside_masks shape was.copies memory bank busy slice log was.blocks home some was.regs right x fit holds.0);
+            (inside_masks shape was.copies memory bank busy slice log was.blocks home some was.regs right x fit
+            holds.0);
         rising = fill_rising slice.lines2 two.rising second (marked (dirty_masks slice.lines2 second) place mask.0);
       }
   dirty_two_more (Fill2 second bytes) fit holds = record {

@@ -1,6 +1,7 @@
 -- The dirty lines of level two, as flags of their lines.
 use Rattle.std.proofs.Common.{◌≡◌, ℕ, ◌<◌, ◌==◌, Bool, true, false, cond, not, List, [], ◌∷◌, length, set, Option}
-use Rattle.std.proofs.Common.{Some, None, refl, sym, ap, subst, ◌∙◌, eqb-true, zero, suc, arith, Ordering, Less, Equal, Greater}
+use Rattle.std.proofs.Common.{Some, None, refl, sym, ap, subst, ◌∙◌, eqb-true, zero, suc, arith}
+use Rattle.std.proofs.Common.{Ordering, Less, Equal, Greater}
 use Rattle.std.proofs.lemmas.Bool.{eqb-false, or_right}
 use Rattle.std.proofs.lemmas.List.{set-get_or}
 use Rattle.std.specs.Prelude.{unwrap_or, option_map, bit_or}

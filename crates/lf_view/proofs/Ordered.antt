@@ -100,7 +100,8 @@ begins log order rs x rest some =
 
 pub leaves : (log : ℕ) (order : List ℕ) (rs : List Record) (x : Record) (rest : List Record) → of_log log rs ≡ x ∷ rest
     → left_by (log ∷ order) rs ≡ left_by order (without_next log rs)
-leaves log order rs x rest some = ap (λ (l : List Record). others_or_all l (left_by order (without_next log rs)) rs) some
+leaves log order rs x rest some =
+    ap (λ (l : List Record). others_or_all l (left_by order (without_next log rs)) rs) some
 
 pub in_order-append : (order : List ℕ) (xs ys : List Record) →
     in_order order (xs ++ ys) ≡ in_order order xs ++ in_order (rest_of order xs) (left_by order xs ++ ys)

@@ -1,9 +1,11 @@
 -- The logs of records, as one comes, one goes or none is left.
 use Rattle.std.proofs.Common.{◌≡◌, ℕ, zero, suc, ◌<◌, ◌≤◌, false, ◌==◌, List, [], ◌∷◌, ◌++◌, length}
-use Rattle.std.proofs.Common.{drop, map, set, get_or, Global, refl, sym, ap, ◌∙◌, subst, eq-eqb, eqb-true, inl, inr, arith}
+use Rattle.std.proofs.Common.{drop, map, set, get_or, Global, refl, sym, ap, ◌∙◌, subst, eq-eqb, eqb-true, inl, inr}
+use Rattle.std.proofs.Common.{arith}
 use Rattle.std.specs.List.{All}
 use Rattle.std.proofs.lemmas.Bool.{cases_Bool, cond-true, cond-false, eqb-false}
-use Rattle.std.proofs.lemmas.List.{get_or-set_same, get_or-set_other, get_or_past, append-nil, map-set, get_or-map, length-map}
+use Rattle.std.proofs.lemmas.List.{get_or-set_same, get_or-set_other, get_or_past, append-nil, map-set, get_or-map}
+use Rattle.std.proofs.lemmas.List.{length-map}
 use Rattle.std.specs.declared.collections.VecDeque.{VecDeque}
 use Rattle.lf_rules.specs.declared.event.Record.{Record}
 use Rattle.lf_rules.specs.Run.{of_log, Interleaves}

@@ -1,6 +1,6 @@
 -- What an order takes from the logs of some records is what it has of the records.
-use Rattle.std.proofs.Common.{◌≡◌, ℕ, ◌+◌, ◌<◌, ◌≤◌, ◌==◌, List, [], ◌∷◌, ◌++◌, drop, length, Option, Some, refl, sym, ap}
-use Rattle.std.proofs.Common.{◌∙◌, eqb-true, inl, inr, arith}
+use Rattle.std.proofs.Common.{◌≡◌, ℕ, ◌+◌, ◌<◌, ◌≤◌, ◌==◌, List, [], ◌∷◌, ◌++◌, drop, length, Option, Some, refl}
+use Rattle.std.proofs.Common.{sym, ap, ◌∙◌, eqb-true, inl, inr, arith}
 use Rattle.std.specs.Global.{Vec}
 use Rattle.std.specs.List.{AllByRecursion}
 use Rattle.std.proofs.lemmas.Bool.{cases_Bool, cases_lt, cond-false}
@@ -79,7 +79,8 @@ logs_have h records fit = record {
   each = λ log.
       elim (cases_lt log (h.ports + h.banks)) [
         | inl within ↦
-            sym (get_or-map-range_with_len (λ l. of_log l records) 0 (h.ports + h.banks) log log [] within (omega arith))
+            sym (get_or-map-range_with_len (λ l. of_log l records) 0 (h.ports + h.banks) log log [] within
+            (omega arith))
         | inr beyond ↦
             let few : length (logs_of (h.ports + h.banks) records) ≤ log =
             omega (arith, length-map-range_with_len (λ l. of_log l records) 0 (h.ports + h.banks)) in

@@ -20,8 +20,8 @@ abbrev pub OrdersTakeInOrder : Type 0
 OrdersTakeInOrder = (logs : List (List Record)) (records : List Record) (order : List ℕ) (taken : List Record) →
     Interleaves logs records → Takes logs order taken → (in_order order records ≡ taken) × Names order records
 
--- The wave of a trace in the order of a yes, which takes an interleaving from the logs of the ports and of the banks, is
--- that of the interleaving.
+-- The wave of a trace in the order of a yes, which takes an interleaving from the logs of the ports and of the banks,
+-- is that of the interleaving.
 abbrev pub YesIsDrawnInItsOrder : Type 0
 YesIsDrawnInItsOrder = (drawing : Drawing) (order : Vec ℕ) (bytes : List ℕ) (h : Header) (memory : List (ℕ × Bytes))
     (records interleaving : List Record) → drawing.order ≡ Some order → IsTrace bytes h memory records

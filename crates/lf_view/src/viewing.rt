@@ -85,8 +85,8 @@ fn view_pieces<S: Source, W: Write>(
 
 /// Reads the trace until the reader is at its end or a fault stands in what it gave, and writes its wave:
 /// the head once its header is there, and what is shown of each record as soon as the bytes of a read
-/// complete it, or, with an order, as soon as its turn has come too. The fault that the bytes have, where they
-/// are no trace, is the answer. Each read is a turn, and there are at most so many turns.
+/// complete it and, with an order, its turn has come. The fault that the bytes have, where they are no trace,
+/// is the answer. Each read is a turn, and there are at most so many turns.
 ///
 /// `ViewFault::Read` says that a read failed, `ViewFault::Turns` that the turns were used up before the
 /// trace was read, `ViewFault::Memory` that a growth was refused, `ViewFault::Write` that a write failed, and
