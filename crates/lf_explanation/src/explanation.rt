@@ -5,12 +5,13 @@ ghost use Rattle.std.specs.List.{AllByRecursion};
 ghost use Rattle.lf_rules.specs.Fits.{Fits};
 ghost use Rattle.lf_rules.specs.InRange.{IsShape};
 ghost use Rattle.lf_explanation.specs.Breach.{rule_of};
-ghost use Rattle.lf_explanation.specs.Explanation.{HasBank, IsHistoryOf, IsBrokenBy, IsExplanation};
+ghost use Rattle.lf_explanation.specs.Explanation.{HasBank, IsExplanation};
 
-use crate::origins::origins_of_breach;
+use crate::found::{Found, find};
+use crate::origins::origins_at;
 use lf_codec::Packed;
-use lf_explain::{Broken, first_broken};
-use lf_history::{History, history_in_bank, history_in_log, places_in_order};
+use lf_explain::Broken;
+use lf_history::History;
 use lf_origins::Origins;
 use lf_rules::{Memory, NoMemory, Rule, Shape};
 use std::alloc::Global;
@@ -48,47 +49,6 @@ pub struct Explanation {
     pub origins: Option<Origins>,
 }
 
-/// The record, and the last before it that matter, at most so many.
-fn history_of(
-    alloc: Global,
-    shape: &Shape,
-    records: &Packed,
-    breach: &Breach,
-    most: usize,
-) -> Result<History, NoMemory>
-    requires block { 0 < shape.now.block }
-    requires factor { 0 < shape.now.factor }
-    ensures { IfOk result (IsHistoryOf shape.now records.now.records breach.now most) }
-{
-    match breach {
-        Breach::Port { port, at, .. } => history_in_log(alloc, records, *port, *at as usize, most),
-        Breach::Bank { bank, number, .. } => {
-            history_in_bank(alloc, shape, records, *bank, *number, most)
-        }
-    }
-}
-
-/// What is told of the record that breaks a rule of a bank. For that the bank's records up to it are judged once
-/// more.
-fn broken_by(
-    alloc: Global,
-    shape: &Shape,
-    memory: &Memory,
-    records: &Packed,
-    breach: &Breach,
-) -> Result<Option<Broken>, NoMemory>
-    requires in_range { IsShape shape.now }
-    requires bank { HasBank shape.now breach.now }
-    requires fit { AllByRecursion (Fits shape.now) records.now.records }
-    ensures { IfOk result (IsBrokenBy shape.now memory.now.items records.now.records breach.now) }
-{
-    let Breach::Bank { bank, number, .. } = breach else {
-        return Ok(None);
-    };
-    let places = places_in_order(alloc, records, *bank, *number as usize + 1)?;
-    first_broken(alloc, shape, memory, u32::from(*bank), records, &places)
-}
-
 /// Why the trace with this memory and these records is not legal: the record that breaks the rule, what the
 /// rule asks that it carries, what the bank has of its blocks, the records that the state of the rule comes from,
 /// and the last records before it that matter, at most so many. Before a record of a port those of its log matter,
@@ -106,11 +66,15 @@ pub fn explain(
     requires fit { AllByRecursion (Fits shape.now) records.now.records }
     ensures { IfOk result (IsExplanation shape.now memory.now.items records.now.records breach.now most) }
 {
-    let history = history_of(alloc, shape, records, breach, most)?;
-    let broken = broken_by(alloc, shape, memory, records, breach)?;
-    let origins = origins_of_breach(alloc, shape, records, breach, &broken, history.place)?;
+    let rule = breach.rule();
+    let Found {
+        history,
+        broken,
+        before,
+    } = find(alloc, shape, memory, records, breach, most)?;
+    let origins = origins_at(alloc, shape, records, &before, rule, &broken, history.place)?;
     Ok(Explanation {
-        rule: breach.rule(),
+        rule,
         history,
         broken,
         origins,

@@ -9,6 +9,7 @@
 mod carried;
 mod explained;
 mod explanation;
+mod found;
 mod origins;
 mod sentence;
 mod state;

@@ -1,16 +1,14 @@
 //! Which records the state comes from that the broken rule is about.
 
-ghost use Rattle.std.specs.Prelude.{◌≡◌, Some, None, List, map, take, IfOk};
+ghost use Rattle.std.specs.Prelude.{◌≡◌, IfOk};
 ghost use Rattle.lf_rules.specs.InRange.{IsShape};
-ghost use Rattle.lf_history.specs.Places.{places_of_log};
 ghost use Rattle.lf_history.specs.Touching.{record_at};
-ghost use Rattle.lf_explanation.specs.Origins.{wrong_byte, wrong_address, AreOriginsAt, AreBefore, ComeFrom};
+ghost use Rattle.lf_explanation.specs.Origins.{wrong_byte, wrong_address, AreOriginsAt};
 
 use crate::carried::first_difference;
-use crate::explanation::Breach;
 use lf_codec::Packed;
 use lf_explain::{Broken, Expected};
-use lf_history::{history_in_log, places_in_order, record_at, room};
+use lf_history::{record_at, room};
 use lf_origins::{BrokenRule, Origins, origins_of};
 use lf_rules::{Event, NoMemory, Rule, Shape};
 use lf_text::data_of;
@@ -39,42 +37,8 @@ fn wrong_address(broken: &Option<Broken>, event: &Event) -> Option<u64>
     }
 }
 
-/// The places of the first records of a port's log, so many.
-fn places_in_log(
-    alloc: Global,
-    records: &Packed,
-    port: u8,
-    count: usize,
-) -> Result<Vec<Option<usize>>, NoMemory>
-    ensures { IfOk result (λ places. places.items ≡ map Some (take count (places_of_log port records.now.records))) }
-{
-    let history = history_in_log(alloc, records, port, count, count)?;
-    let mut places = Vec::new(alloc);
-    for place in history.before.iter() {
-        places.push(Some(*place))?;
-    }
-    Ok(places)
-}
-
-/// The places of the records before the one that breaks the rule: those of the port's log, or those of the bank
-/// with lower numbers.
-fn places_before(
-    alloc: Global,
-    records: &Packed,
-    breach: &Breach,
-) -> Result<Vec<Option<usize>>, NoMemory>
-    ensures { IfOk result (λ places. AreBefore records.now.records breach.now places.items) }
-{
-    match breach {
-        Breach::Port { port, at, .. } => places_in_log(alloc, records, *port, *at as usize),
-        Breach::Bank { bank, number, .. } => {
-            places_in_order(alloc, records, *bank, *number as usize)
-        }
-    }
-}
-
 /// Which of the records at the places before the state comes from that the rule is about, where a record breaks it.
-fn origins_at(
+pub(crate) fn origins_at(
     alloc: Global,
     shape: &Shape,
     records: &Packed,
@@ -98,22 +62,4 @@ fn origins_at(
         address,
     };
     origins_of(alloc, shape, records, before, told)
-}
-
-/// Which records the state comes from that the rule is about, where the record at the place breaks it.
-pub(crate) fn origins_of_breach(
-    alloc: Global,
-    shape: &Shape,
-    records: &Packed,
-    breach: &Breach,
-    broken: &Option<Broken>,
-    place: Option<usize>,
-) -> Result<Option<Origins>, NoMemory>
-    requires { IsShape shape.now }
-    ensures { IfOk result (ComeFrom shape.now records.now.records breach.now broken.now
-        (record_at records.now.records place)) }
-{
-    let before = places_before(alloc, records, breach)?;
-    let origins = origins_at(alloc, shape, records, &before, breach.rule(), broken, place)?;
-    Ok(origins)
 }

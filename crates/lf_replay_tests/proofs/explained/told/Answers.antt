@@ -9,14 +9,11 @@ use Rattle.lf_replay_tests.proofs.explained.told.Goals as goal
 pub first_broken-requires-clause-fit : goal.first_broken-requires-clause-fit
 first_broken-requires-clause-fit c =
     let order = c.is_bank_order.ensures c.if-not-is_bank_order.false in
-    all_at_places (Fits c.args.shape.now) c.deref-3.result.now c.deref-4.result.now
+    all_at_places (Fits c.args.shape.now) c.in-Ok.packed.records c.deref-3.result.now
     (subst (λ (rs : List Record). AllByRecursion (Fits c.args.shape.now) rs)
-    (c.deref.ensures.value ∙ sym c.deref-3.ensures.value) order.fit)
+    (c.deref.ensures.value ∙ sym c.deref-2.ensures.value ∙ sym c.in-Ok.ensures) order.fit)
 
 pub first_broken-requires-clause-named : goal.first_broken-requires-clause-named
 first_broken-requires-clause-named c =
-    subst (λ (rs : List Record). AllByRecursion (λ r. r.bank ≡ 0) (records_at rs c.deref-4.result.now))
-    (c.deref-2.ensures.value ∙ sym c.deref-3.ensures.value)
-    (subst (λ (ps : List (Option ℕ)). AllByRecursion (λ r. r.bank ≡ 0) (records_at c.deref-2.result.now ps))
-    (sym c.deref-4.ensures.value)
-    c.in-Ok.ensures.named)
+    subst (λ (ps : List (Option ℕ)). AllByRecursion (λ r. r.bank ≡ 0) (records_at c.in-Ok.packed.records ps))
+    (sym c.deref-3.ensures.value) c.in-Ok-places_in_order.ensures.named
