@@ -2,3 +2,8 @@ mod Touched
 mod Numbered
 mod NamedRecords
 mod Records
+mod Counted
+mod Waited
+pub mod RecordsAt
+mod LastAddress
+pub mod NearLemmas

@@ -3,10 +3,10 @@ use Rattle.std.specs.Prelude.{◌≡◌, ℕ, ◌-◌, Bool, true, false, ◌==�
 use Rattle.std.specs.Prelude.{Some, None, slice_get}
 use Rattle.lf_rules.specs.declared.event.Record.{Record}
 use Rattle.lf_rules.specs.declared.shape.Shape.{Shape}
+use Rattle.lf_rules.specs.Run.{of_bank}
 use Rattle.lf_history.specs.declared.history.History.{History}
-use Rattle.lf_history.specs.declared.touching.Touch.{Touch}
 use Rattle.lf_history.specs.Places.{places_of_log, place_of_number, places_of_numbers}
-use Rattle.lf_history.specs.Touching.{touched, record_at, all_before, touches}
+use Rattle.lf_history.specs.Touching.{Touch, touched, record_at, all_before, touches}
 
 -- the last of a list, at most so many
 abbrev pub last : {T : Type 0} → ℕ → List T → List T
@@ -42,3 +42,13 @@ pub record IsHistoryInBank (shape : Shape) (rs : List Record) (bank number most 
   pub place : history.place ≡ place_of_number bank rs number
   pub before : history.before.items
       ≡ last most (about (touched_at shape rs bank number) (touches shape [] rs (places_of_numbers bank rs number)))
+
+-- the places of all records of the bank, in the order of their numbers
+abbrev pub places_of_bank : ℕ → List Record → List (Option ℕ)
+places_of_bank bank rs = places_of_numbers bank rs (length (of_bank bank rs))
+
+-- the last records of a request's bank that touch the second-level block that it asks for
+abbrev pub last_at_request : Shape → List Record → ℕ → Record → List ℕ
+last_at_request shape rs most request =
+    last most (about (touched shape [] request.log request.event)
+    (touches shape [] rs (places_of_bank request.bank rs)))

@@ -2,5 +2,8 @@
 pub mod Asked
 pub mod BankOrder
 pub mod History
+pub mod Near
 pub mod Places
+pub mod Request
 pub mod Touching
+pub mod Waiting

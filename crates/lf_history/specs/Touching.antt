@@ -8,7 +8,6 @@ use Rattle.lf_rules.specs.declared.event.Event.TheVariants.{Evict2}
 use Rattle.lf_rules.specs.declared.event.Record.{Record}
 use Rattle.lf_rules.specs.declared.shape.Shape.{Shape}
 use Rattle.lf_rules.specs.Address.{block_of, second_of}
-use Rattle.lf_history.specs.declared.touching.Touch.{Touch}
 
 -- the second-level block that the request of a port and tag asks for, where this event is that request
 abbrev pub asked_by : Shape → ℕ → ℕ → ℕ → Event → Option ℕ → Option ℕ
@@ -53,6 +52,11 @@ and_then (Some r) before = r ∷ before
 abbrev pub all_before : List Record → List Record → List (Option ℕ) → List Record
 all_before before rs [] = before
 all_before before rs (at ∷ places) = all_before (and_then (record_at rs at) before) rs places
+
+-- the place of a record, and the second-level block that it touches
+pub record Touch : Type 0 where
+  pub place : ℕ
+  pub second : Option ℕ
 
 abbrev pub touch_at : Shape → List Record → Option ℕ → Option Record → List Touch
 touch_at shape before (Some place) (Some r) = record { place = place; second = touched shape before r.log r.event } ∷ []

@@ -1,15 +1,14 @@
 //! What came before a record.
 
-ghost use Rattle.std.specs.Prelude.{◌≡◌, ℕ, ◌+◌, ◌<◌, IfOk, List, length};
-ghost use Rattle.lf_rules.specs.declared.event.Record.{Record};
-ghost use Rattle.lf_history.specs.Asked.{IsLatest};
+ghost use Rattle.std.specs.Prelude.{◌≡◌, ℕ, ◌+◌, ◌<◌, [], IfOk, length, slice_index_or};
 ghost use Rattle.lf_history.specs.Places.{places_of_numbers};
-ghost use Rattle.lf_history.specs.Touching.{record_at};
-ghost use Rattle.lf_history.specs.History.{last, is_about, about, touched_by, IsHistoryInLog, IsHistoryInBank};
+ghost use Rattle.lf_history.specs.Touching.{touches};
+ghost use Rattle.lf_history.specs.History.{last, about, last_at_request, IsHistoryInLog, IsHistoryInBank};
+ghost use Rattle.lf_rules.specs.declared.event.Record.{Record};
+ghost use Rattle.lf_rules.specs.Run.{of_bank};
 
-use crate::places::{places_of_log, places_of_numbers, record_at, room};
-use crate::requests::Requests;
-use crate::touching::{Touch, touches};
+use crate::places::{places_of_log, places_of_numbers};
+use crate::touching::{about, about_near, touched_at};
 use lf_codec::Packed;
 use lf_rules::{NoMemory, Shape};
 use std::alloc::Global;
@@ -32,45 +31,35 @@ fn last(alloc: Global, places: &[usize], most: usize) -> Result<Vec<usize>, NoMe
     Ok(few)
 }
 
-/// Whether what a record touches is the block that was asked about, where that is known.
-fn is_about(wanted: Option<u64>, second: Option<u64>) -> bool
-    ensures { result ≡ is_about wanted second }
-{
-    match wanted {
-        Some(_) => second == wanted,
-        None => true,
-    }
-}
+/// How many of the last records of a bank are looked at first.
+const NEAR: usize = 16384;
 
-/// The places of those that touch this block.
-fn about(alloc: Global, wanted: Option<u64>, all: &[Touch]) -> Result<Vec<usize>, NoMemory>
-    ensures { IfOk result (λ places. places.items ≡ about wanted all.now) }
-{
-    let mut places = Vec::new(alloc);
-    for touch in all {
-        if is_about(wanted, touch.second) {
-            places.push(touch.place)?;
-        }
-    }
-    Ok(places)
-}
-
-/// The second-level block that the record at the place touches.
-fn touched_at(
-    requests: &Requests,
+/// The last of the places of the records that touch this block, at most so many. Mostly they are found among few
+/// records, and so more and more of the last records are looked at.
+fn last_about(
+    alloc: Global,
     shape: &Shape,
     records: &Packed,
-    place: Option<usize>,
-) -> Option<u64>
-    requires len { length requests.now.seconds.items ≡ 65536 }
+    places: &[Option<usize>],
+    wanted: Option<u64>,
+    most: usize,
+) -> Result<Vec<usize>, NoMemory>
     requires block { 0 < shape.now.block }
     requires factor { 0 < shape.now.factor }
-    ensures { (before : List Record) → IsLatest shape.now before requests.now
-        → result ≡ touched_by shape.now before (record_at records.now.records place) }
+    ensures { IfOk result (λ few. few.items
+        ≡ last most (about wanted (touches shape.now [] records.now.records places.now))) }
 {
-    let mut room = room();
-    let item = record_at(records, place, &mut room)?;
-    requests.touched(shape, item)
+    let mut size = NEAR;
+    while size < places.len() {
+        let near = &places[places.len() - size..];
+        let found = about_near(alloc, shape, records, near, wanted)?;
+        if found.len() >= most {
+            return last(alloc, &found, most);
+        }
+        size = size.saturating_mul(4);
+    }
+    let found = about(alloc, shape, records, places, wanted)?;
+    last(alloc, &found, most)
 }
 
 /// The record at the place `at` of a log, and the last before it in that log, at most so many.
@@ -92,7 +81,8 @@ pub fn history_in_log(
 }
 
 /// The record at the place of a bank's number, where these are the places of its numbers up to that one, and the
-/// last of those before it that touch its second-level block, at most so many.
+/// last of those before it that touch its second-level block, at most so many. Where the record names a request that
+/// never came, its block is not known, and all before it count.
 pub fn history_in_order(
     alloc: Global,
     shape: &Shape,
@@ -109,31 +99,44 @@ pub fn history_in_order(
 {
     let count = number as usize;
     let place = places[count];
-    let mut requests = Requests::new(alloc)?;
-    let all = touches(alloc, shape, &mut requests, records, &places[..count])?;
-    let wanted = touched_at(&requests, shape, records, place);
-    let before = about(alloc, wanted, &all)?;
+    let earlier = &places[..count];
+    let wanted = touched_at(shape, records, earlier, place);
     Ok(History {
         place,
-        before: last(alloc, &before, most)?,
+        before: last_about(alloc, shape, records, earlier, wanted, most)?,
     })
 }
 
-/// The record that has this number of a bank, and the last of those with lower numbers that touch its
-/// second-level block, at most so many. Where it names a request that never came, its block is not known,
-/// and all with lower numbers count.
-pub fn history_in_bank(
+/// How many records name the bank.
+fn bank_len(records: &Packed, bank: u8) -> usize
+    ensures { result ≡ length (of_bank bank records.now.records) }
+{
+    let mut len = 0;
+    for place in 0..records.len() {
+        if records.bank(place) == bank {
+            len += 1;
+        }
+    }
+    len
+}
+
+/// The last records of the bank of the request at this place that touch the second-level block that it asks for, in the
+/// order of their numbers, at most so many. The request is one of them.
+pub fn last_at_request(
     alloc: Global,
     shape: &Shape,
     records: &Packed,
-    bank: u8,
-    number: u32,
+    request: usize,
     most: usize,
-) -> Result<History, NoMemory>
+) -> Result<Vec<usize>, NoMemory>
     requires block { 0 < shape.now.block }
     requires factor { 0 < shape.now.factor }
-    ensures { IfOk result (IsHistoryInBank shape.now records.now.records bank number most) }
+    requires request { request < length records.now.records }
+    ensures { (d : Record) → IfOk result (λ places. places.items
+        ≡ last_at_request shape.now records.now.records most (slice_index_or records.now.records request d)) }
 {
-    let places = places_of_numbers(alloc, records, bank, number as usize + 1)?;
-    history_in_order(alloc, shape, records, &places, number, most)
+    let wanted = touched_at(shape, records, &[], Some(request));
+    let bank = records.bank(request);
+    let places = places_of_numbers(alloc, records, bank, bank_len(records, bank))?;
+    last_about(alloc, shape, records, &places, wanted, most)
 }

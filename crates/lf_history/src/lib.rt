@@ -7,11 +7,17 @@
 
 mod bank_order;
 mod history;
+mod packing;
 mod places;
+mod request;
 mod requests;
 mod touching;
+mod waiting;
 
 pub use bank_order::places_in_order;
-pub use history::{History, history_in_bank, history_in_log, history_in_order};
+pub use history::{History, history_in_log, history_in_order, last_at_request};
 pub use lf_rules::NoMemory;
+pub use packing::packed;
 pub use places::{record_at, room};
+pub use request::last_address;
+pub use waiting::waiting_request;

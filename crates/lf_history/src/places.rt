@@ -1,6 +1,8 @@
 //! The places of records in a trace.
 
 ghost use Rattle.std.specs.Prelude.{◌≡◌, Some, None, IfOk, MatchOption};
+ghost use Rattle.lf_rules.specs.Address.{no_bank};
+ghost use Rattle.lf_rules.specs.declared.event.Event.TheVariants as Event;
 ghost use Rattle.lf_history.specs.Places.{places_of_log, places_of_numbers};
 ghost use Rattle.lf_history.specs.Touching.{record_at};
 
@@ -8,8 +10,10 @@ use lf_codec::Packed;
 use lf_rules::{Event, NO_BANK, NoMemory, Record};
 use std::alloc::Global;
 
-/// Room for a record that is built when it is looked at. It holds a record that no trace has.
-pub fn room() -> Record {
+/// Room for a record that is built when it is looked at. Until then it holds a fence.
+pub fn room() -> Record
+    ensures { result ≡ record { log = 0; bank = no_bank; number = 0; event = Event.Fence } }
+{
     Record {
         log: 0,
         bank: NO_BANK,

@@ -1,6 +1,9 @@
 //! The second-level blocks that requests ask for.
 
-ghost use Rattle.std.specs.Prelude.{◌≡◌, ◌+◌, ◌*◌, ◌<◌, ◌/◌, None, replicate, IfOk};
+ghost use Rattle.std.specs.Prelude.{◌≡◌, ◌+◌, ◌*◌, ◌<◌, ◌/◌, None, List, replicate, IfOk};
+ghost use Rattle.lf_rules.specs.declared.event.Record.{Record};
+ghost use Rattle.lf_history.specs.Asked.{block_named};
+ghost use Rattle.lf_history.specs.Touching.{touched};
 ghost use Rattle.lf_rules.specs.Address.{block_of, second_of};
 
 use lf_rules::{Event, NoMemory, Record, Shape};
@@ -29,7 +32,7 @@ fn index_of(port: u8, tag: u8) -> usize
 }
 
 /// The second-level block of an address.
-fn second_at(shape: &Shape, address: u64) -> u64
+pub(crate) fn second_at(shape: &Shape, address: u64) -> u64
     requires block { 0 < shape.now.block }
     requires factor { 0 < shape.now.factor }
     ensures { result ≡ second_of shape.now (block_of shape.now address) }
@@ -43,6 +46,50 @@ fn second_of(shape: &Shape, block: u32) -> u64
     ensures { result ≡ second_of shape.now block }
 {
     u64::from(block / shape.factor)
+}
+
+/// How a record names the second-level block that it touches.
+#[derive(Clone, Copy)]
+pub(crate) enum Named {
+    /// It touches none.
+    Nothing,
+    /// By the block itself, or by one of level one.
+    Second(u64),
+    /// By a request.
+    Request { port: u8, tag: u8 },
+}
+
+/// How the record names the second-level block that it touches.
+pub(crate) fn name_of(shape: &Shape, item: &Record) -> Named
+    requires block { 0 < shape.now.block }
+    requires factor { 0 < shape.now.factor }
+    ensures { (before : List Record) → touched shape.now before item.now.log item.now.event
+        ≡ block_named shape.now before result }
+{
+    match &item.event {
+        Event::Issue { address, .. } => Named::Second(second_at(shape, *address)),
+        Event::Reply { tag, .. } => Named::Request {
+            port: item.log,
+            tag: *tag,
+        },
+        Event::Hit { port, tag }
+        | Event::Primary { port, tag, .. }
+        | Event::Merge { port, tag, .. }
+        | Event::Stall { port, tag } => Named::Request {
+            port: *port,
+            tag: *tag,
+        },
+        Event::Fill1 { block, .. }
+        | Event::Evict1 { block, .. }
+        | Event::SecondHit { block }
+        | Event::SecondPrimary { block, .. }
+        | Event::SecondMerge { block, .. }
+        | Event::SecondStall { block } => Named::Second(second_of(shape, *block)),
+        Event::Fill2 { block, .. } | Event::Evict2 { block, .. } => {
+            Named::Second(u64::from(*block))
+        }
+        Event::Fence => Named::Nothing,
+    }
 }
 
 impl Requests {
@@ -77,21 +124,10 @@ impl Requests {
         ensures { (before : List Record) → IsLatest shape.now before self.now
             → result ≡ touched shape.now before item.now.log item.now.event }
     {
-        match &item.event {
-            Event::Issue { address, .. } => Some(second_at(shape, *address)),
-            Event::Reply { tag, .. } => self.asked(item.log, *tag),
-            Event::Hit { port, tag }
-            | Event::Primary { port, tag, .. }
-            | Event::Merge { port, tag, .. }
-            | Event::Stall { port, tag } => self.asked(*port, *tag),
-            Event::Fill1 { block, .. }
-            | Event::Evict1 { block, .. }
-            | Event::SecondHit { block }
-            | Event::SecondPrimary { block, .. }
-            | Event::SecondMerge { block, .. }
-            | Event::SecondStall { block } => Some(second_of(shape, *block)),
-            Event::Fill2 { block, .. } | Event::Evict2 { block, .. } => Some(u64::from(*block)),
-            Event::Fence => None,
+        match name_of(shape, item) {
+            Named::Nothing => None,
+            Named::Second(second) => Some(second),
+            Named::Request { port, tag } => self.asked(port, tag),
         }
     }
 

@@ -10,22 +10,20 @@ returns c = λ bank are.
     let shape = c.args.shape.now in
     let rs = c.args.records.now.records in
     let number = c.args.number in
+    let most = c.args.most in
     let fronts = ap (take number) are ∙ places_before bank rs number in
     let at = get_or c.args.places.now number None in
     let place : at ≡ place_of_number bank rs number =
     ap (λ (ps : List (Option ℕ)). get_or ps number None) are ∙ place_at bank rs number in
-    let all = c.deref.ensures.value ∙ c.in_ok-all.ensures.touches ∙ ap (touches shape [] rs) fronts in
     let wanted =
-    c.touched_at-wanted.ensures _ c.in_ok-all.ensures.latest
-    ∙ ap (λ (ps : List (Option ℕ)). touched_by shape (all_before [] rs ps) (record_at rs at))
-    fronts
+    c.touched_at-wanted.ensures
+    ∙ ap (λ (ps : List (Option ℕ)). touched_by shape (all_before [] rs ps) (record_at rs at)) fronts
     ∙ ap (λ (p : Option ℕ). touched_by shape (all_before [] rs (places_of_numbers bank rs number)) (record_at rs p))
     place in
     record {
       place = place;
       before =
-          c.in_ok-last.ensures
-          ∙ ap (last c.args.most) (c.deref-2.ensures.value ∙ c.in_ok-before.ensures
-          ∙ ap (about c.touched_at-wanted.result) all
-          ∙ ap (λ (w : Option ℕ). about w (touches shape [] rs (places_of_numbers bank rs number))) wanted);
+          c.in_ok-last_about.ensures
+          ∙ ap (λ (ps : List (Option ℕ)). last most (about c.touched_at-wanted.result (touches shape [] rs ps))) fronts
+          ∙ ap (λ (w : Option ℕ). last most (about w (touches shape [] rs (places_of_numbers bank rs number)))) wanted;
     }
