@@ -7,6 +7,8 @@ mod logs_of_traces;
 #[cfg(test)]
 mod orders;
 #[cfg(test)]
+mod packed_logs;
+#[cfg(test)]
 mod ports;
 #[cfg(test)]
 mod reordering;

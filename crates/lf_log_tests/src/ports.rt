@@ -1,6 +1,6 @@
 //! The rules of a port.
 
-use lf_logs::{PortStep, port_replay};
+use lf_logs::{Incomplete, PortStep, port_replay};
 use lf_rules::{Outcome, Rule};
 use lf_samples::{C1, record, records};
 use std::alloc::Global;
@@ -89,5 +89,35 @@ fn bank_that_owes_a_reply(rt: HostRuntime) -> Result<(), Fail> {
     let reply = record(rt.alloc(), &C1, 0, 0, 0, REPLY)?;
     assert_eq!(rt; step.apply(&reply), Ok(()));
     assert_eq!(rt; step.owing_bank(0), None);
+    Ok(())
+}
+
+/// The lowest tag that waits after these events of port 0.
+fn waiting_after(alloc: Global, events: &[&str]) -> Result<Option<u8>, Fail> {
+    let mut step = PortStep::new(&C1, 0);
+    for text in events {
+        let item = record(alloc, &C1, 0, 0, 0, text)?;
+        let _ = step.apply(&item);
+    }
+    Ok(step.lowest_waiting())
+}
+
+#[test]
+fn lowest_tag_that_waits(rt: HostRuntime) -> Result<(), Fail> {
+    for (events, waiting) in [
+        ([LOAD, REPLY], None),
+        ([LOAD, "L 1 8@0"], Some(0)),
+        (["L 3 8@0", "L 2 8@0"], Some(2)),
+    ] {
+        assert_eq!(&rt; waiting_after(rt.alloc(), &events)?, waiting);
+    }
+    Ok(())
+}
+
+#[test]
+fn text_of_an_incomplete_request(rt: HostRuntime) -> Result<(), Fail> {
+    let found = Incomplete { port: 2, tag: 13 };
+    let text = format!(in rt.alloc(); "{found}")?;
+    assert_eq!(rt; text.as_str(), "incomplete port=2 tag=13");
     Ok(())
 }

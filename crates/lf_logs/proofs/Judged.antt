@@ -6,8 +6,8 @@ use Rattle.lf_rules.specs.Run.{of_bank}
 use Rattle.lf_rules.specs.Numbers.{all_records}
 use Rattle.lf_logs.specs.declared.order.Place.{Place}
 use Rattle.lf_logs.specs.declared.order.Tally.{Tally}
-use Rattle.lf_logs.specs.Places.{ArePlacesOfBank}
-use Rattle.lf_logs.specs.Tallies.{Names, AreTallies, AreOnceBelow}
+use Rattle.lf_logs.specs.Places.{Names, ArePlacesOfBank}
+use Rattle.lf_logs.specs.Tallies.{AreTallies, AreOnceBelow}
 use Rattle.lf_logs.proofs.Ordered.{ArePlacesOfBank-from}
 
 pub ArePlacesOfBank-from_tallies : (logs : List (List Record)) (bank : ℕ) (tallies : List Tally) (places : List Place) →

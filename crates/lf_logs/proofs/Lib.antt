@@ -1,13 +1,16 @@
 mod BankLists
+mod BusyWaits
 mod Counting
 mod EarlyLookups
+pub mod Found
 pub mod GivenOut
-mod Joined
+pub mod Joined
 mod Judged
 mod Members
 mod Mixed
 mod NoneBusy
 mod Ordered
+mod PackedPlaces
 mod Placing
 mod PortRun
 mod PortSteps

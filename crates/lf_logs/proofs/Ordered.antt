@@ -18,8 +18,7 @@ use Rattle.lf_rules.specs.declared.event.Record.{Record}
 use Rattle.lf_rules.specs.Run.{of_bank, names}
 use Rattle.lf_rules.specs.Numbers.{all_records, numbers_of, bank_numbers, times}
 use Rattle.lf_logs.specs.declared.order.Place.{Place}
-use Rattle.lf_logs.specs.Places.{record_at, records_at, ArePlacesOfBank}
-use Rattle.lf_logs.specs.Tallies.{Names}
+use Rattle.lf_logs.specs.Places.{Names, record_at, records_at, ArePlacesOfBank}
 use Rattle.lf_logs.proofs.Counting.{counts, count_by-cons, once_below, filter-all, times-cons}
 use Rattle.lf_logs.proofs.Members.{IsIn-get, IsIn-joined, IsIn-filter, only_one}
 

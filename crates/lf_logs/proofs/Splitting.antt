@@ -80,25 +80,31 @@ module _ (key : Record → ℕ) where
       ∙ sym (of_key-push_other k rs r (λ e. absurd (omega (arith, e))))
       ∙ sym (get_or-parts_of count (rs ++ r ∷ []) k d inside))
 
-  -- the same at the vectors that hold the parts
+  -- the same at what holds the parts
+  pub placed_in : {V : Type 0} (items : V → List Record) (xs : List V) (count : ℕ) (rs : List Record) (r : Record)
+      (i : ℕ) (v w : V) → i ≡ key r → key r < count →
+      map items xs ≡ parts_of key count rs → v ≡ get_or xs i v → items w ≡ items v ++ r ∷ [] →
+      map items (set xs i w) ≡ parts_of key count (rs ++ r ∷ [])
+  placed_in items xs count rs r i v w at inside before read pushed =
+      let long : length xs ≡ count = sym (length-map xs items) ∙ ap length before ∙ length-parts_of count rs in
+      let was : items v ≡ of_key key (key r) rs =
+      ap items read
+      ∙ sym (get_or-map items xs i v [] (omega arith))
+      ∙ ap (λ ys. get_or ys i []) before
+      ∙ ap (λ n. get_or (parts_of key count rs) n []) at
+      ∙ get_or-parts_of count rs (key r) [] inside in
+      map-set items xs i w
+      ∙ ap (λ ys. set ys i (items w)) before
+      ∙ ap (λ n. set (parts_of key count rs) n (items w)) at
+      ∙ ap (λ ys. set (parts_of key count rs) (key r) ys) (pushed ∙ ap (λ ys. ys ++ r ∷ []) was)
+      ∙ parts_of-push count rs r inside
+
+  -- and at vectors that hold them
   pub placed : (xs : List (Vec Record)) (count : ℕ) (rs : List Record) (r : Record) (i : ℕ) (v w : Vec Record) →
       i ≡ key r → key r < count →
       map (λ v. v.items) xs ≡ parts_of key count rs → v ≡ get_or xs i v → w.items ≡ v.items ++ r ∷ [] →
       map (λ v. v.items) (set xs i w) ≡ parts_of key count (rs ++ r ∷ [])
-  placed xs count rs r i v w at inside before read pushed =
-      let long : length xs ≡ count = sym (length-map xs (λ (v : Vec Record). v.items)) ∙ ap length before
-      ∙ length-parts_of count rs in
-      let was : v.items ≡ of_key key (key r) rs =
-      ap (λ (v : Vec Record). v.items) read
-      ∙ sym (get_or-map (λ (v : Vec Record). v.items) xs i v [] (omega arith))
-      ∙ ap (λ ys. get_or ys i []) before
-      ∙ ap (λ n. get_or (parts_of key count rs) n []) at
-      ∙ get_or-parts_of count rs (key r) [] inside in
-      map-set (λ (v : Vec Record). v.items) xs i w
-      ∙ ap (λ ys. set ys i w.items) before
-      ∙ ap (λ n. set (parts_of key count rs) n w.items) at
-      ∙ ap (λ ys. set (parts_of key count rs) (key r) ys) (pushed ∙ ap (λ ys. ys ++ r ∷ []) was)
-      ∙ parts_of-push count rs r inside
+  placed = placed_in (λ (v : Vec Record). v.items)
 
 -- what holds of each element holds of the one between two parts
 pub All-between : {X : Type 0} (P : X → Type 0) (xs : List X) (x : X) (ys zs : List X) → xs ++ x ∷ ys ≡ zs →

@@ -1,9 +1,10 @@
 -- One more record in the tallies, and what tallies tell of the numbers.
 use Rattle.std.proofs.Common.{◌≡◌, ℕ, ◌+◌, ◌<◌, ◌≤◌, eqb, List, [], ◌∷◌, ◌++◌, length, get_or, set, take, ◌^◌, Some}
-use Rattle.std.proofs.Common.{refl, sym, ap, ◌∙◌, subst, ⊎_elim, arith}
+use Rattle.std.proofs.Common.{sym, ap, ◌∙◌, subst, ⊎_elim, arith}
 use Rattle.std.specs.List.{All, slice_get}
-use Rattle.std.proofs.lemmas.Option.{slice_get_read}
-use Rattle.std.proofs.lemmas.List.{append-nil, map_push, length-map, length-set, get_or-set_same, get_or-set_other}
+use Rattle.std.proofs.lemmas.Option.{slice_get_within, get_or_from_slice_get}
+use Rattle.std.proofs.lemmas.List.{append-nil, length-append, map_push, length-map, length-set, get_or-set_same}
+use Rattle.std.proofs.lemmas.List.{get_or-set_other}
 use Rattle.std.proofs.lemmas.List.{get_or_default, take_more, take_all, append_assoc}
 use Rattle.std.proofs.lemmas.List.Elements.{filter-append}
 use Rattle.std.proofs.lemmas.List.Sums.{sum_by_push, count_by-le-length}
@@ -128,7 +129,13 @@ front_more seen rs at r inside read =
     ∙ sym (append_assoc seen (take at rs) (r ∷ []))
 
 module _ (bank log : ℕ) (rs : List Record) (start now next : List Tally) (at : ℕ) (r : Record)
-    (inside : at < length rs) (read : r ≡ get_or rs at r) (before : Counted bank log rs start now at) where
+    (is : slice_get rs at ≡ Some r) (before : Counted bank log rs start now at) where
+  inside : at < length rs
+  inside = slice_get_within rs at r is
+
+  read : r ≡ get_or rs at r
+  read = sym (get_or_from_slice_get rs at r r is)
+
   -- the record at `at` is left out
   pub Counted-kept : (r.bank ≡ bank → length now ≤ r.number) → next ≡ now → Counted bank log rs start next (at + 1)
   Counted-kept other same = record {
@@ -136,10 +143,10 @@ module _ (bank log : ℕ) (rs : List Record) (start now next : List Tally) (at :
         let within : k < length now = omega (arith, ap length same) in
         let tally : get_or next k d ≡ get_or now k d = ap (λ ts. get_or ts k d) same in
         omega (arith, ap (λ (t : Tally). t.times) tally, before.small k d within);
-    counted = λ logs seen is was.
+    counted = λ logs seen log_is was.
         subst (λ ts. AreTallies logs bank (seen ++ take (at + 1) rs) ts) (sym same)
         (subst (λ xs. AreTallies logs bank xs now) (sym (front_more seen rs at r inside read))
-        (AreTallies-kept logs bank (seen ++ take at rs) now r other (before.counted logs seen is was)));
+        (AreTallies-kept logs bank (seen ++ take at rs) now r other (before.counted logs seen log_is was)));
   }
 
   -- it is counted
@@ -164,17 +171,42 @@ module _ (bank log : ℕ) (rs : List Record) (start now next : List Tally) (at :
         ap (λ (t : Tally). t.times) (get_or-set_other now r.number k new e other) in
         omega (arith, time, there, before.small k e within))
         (cases_eq k r.number);
-    counted = λ logs seen is was.
+    counted = λ logs seen log_is was.
         let place : Place = record { log = log; at = at } in
         let same : new.last ≡ place = λ i. record { log = its_log i; at = its_at i } in
-        let found : record_at logs place ≡ Some r = ap (λ xs. slice_get xs at) is ∙ slice_get_read rs (length rs) at r
-        refl inside read in
+        let found : record_at logs place ≡ Some r = ap (λ xs. slice_get xs at) log_is ∙ is in
         let old = get_or now r.number d in
         subst (λ ts. AreTallies logs bank (seen ++ take (at + 1) rs) ts) (sym changed)
         (subst (λ xs. AreTallies logs bank xs (set now r.number new)) (sym (front_more seen rs at r inside read))
         (AreTallies-set logs bank (seen ++ take at rs) now r place old new own fits
-        (get_or_default now r.number d old fits) one_more same found (before.counted logs seen is was)));
+        (get_or_default now r.number d old fits) one_more same found (before.counted logs seen log_is was)));
   }
+
+  -- the same under the number that was read
+  pub Counted-set_at : (d : Tally) (new : Tally) (number : ℕ) → r.number ≡ number → r.bank ≡ bank →
+      number < length now → new.times ≡ (get_or now number d).times + 1 → new.last.log ≡ log → new.last.at ≡ at →
+      next ≡ set now number new → Counted bank log rs start next (at + 1)
+  Counted-set_at d new number numbered own fits one_more its_log its_at changed =
+      Counted-set d new own (omega (arith, numbered, fits))
+      (one_more ∙ ap (λ n. (get_or now n d).times + 1) (sym numbered)) its_log its_at
+      (changed ∙ ap (λ n. set now n new) (sym numbered))
+
+-- ---- how many records of a log name a bank
+
+module _ (bank : ℕ) (rs : List Record) (at : ℕ) (r : Record) (is : slice_get rs at ≡ Some r) where
+  front_at : take (at + 1) rs ≡ take at rs ++ r ∷ []
+  front_at = take_more rs at r (slice_get_within rs at r is)
+      ∙ ap (λ x. take at rs ++ x ∷ []) (get_or_from_slice_get rs at r r is)
+
+  pub one_more_own : r.bank ≡ bank →
+      length (of_bank bank (take (at + 1) rs)) ≡ length (of_bank bank (take at rs)) + 1
+  one_more_own own = ap (λ xs. length (of_bank bank xs)) front_at
+      ∙ ap length (of_bank_push_own bank (take at rs) r own) ∙ length-append (of_bank bank (take at rs)) (r ∷ [])
+
+  pub one_more_other : (r.bank ≡ bank → ⊥) →
+      length (of_bank bank (take (at + 1) rs)) ≡ length (of_bank bank (take at rs))
+  one_more_other other = ap (λ xs. length (of_bank bank xs)) front_at
+      ∙ ap length (of_bank_push_other bank (take at rs) r other)
 
 -- a number occurs in a bank at most as often as the bank has records
 pub times-le : (k bank : ℕ) (rs : List Record) → times k (numbers_of (of_bank bank rs)) ≤ length (of_bank bank rs)

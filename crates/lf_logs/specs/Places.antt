@@ -1,5 +1,5 @@
 -- Places of records, and the order that the numbers of a bank give.
-use Rattle.std.specs.Prelude.{ℕ, List, [], Option, slice_get, slice_index_or, IsSome}
+use Rattle.std.specs.Prelude.{◌≡◌, ℕ, List, [], Option, slice_get, slice_index_or, IsSome, Some}
 use Rattle.std.specs.List.{All, filter_map}
 use Rattle.lf_rules.specs.declared.event.Record.{Record}
 use Rattle.lf_rules.specs.Numbers.{IsMissing, IsDouble, IsFineBelow, IsNumbered}
@@ -9,6 +9,13 @@ use Rattle.lf_logs.specs.declared.order.NumberFault.TheVariants.{Missing, Double
 
 abbrev pub record_at : List (List Record) → Place → Option Record
 record_at logs place = slice_get (slice_index_or logs place.log []) place.at
+
+-- the place is that of a record of the bank with this number
+pub record Names (logs : List (List Record)) (bank number : ℕ) (place : Place) : Type 0 where
+  pub item : Record
+  pub there : record_at logs place ≡ Some item
+  pub of_bank : item.bank ≡ bank
+  pub numbered : item.number ≡ number
 
 -- the records at the places, in the order of the places
 abbrev pub records_at : List (List Record) → List Place → List Record

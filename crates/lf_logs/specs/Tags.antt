@@ -1,5 +1,6 @@
 -- What the rules of a port look at.
-use Rattle.std.specs.Prelude.{◌≡◌, ℕ, List, [], ◌∷◌, ◌++◌, length, Option, None, slice_index_or}
+use Rattle.std.specs.Prelude.{◌≡◌, ℕ, ◌<◌, List, [], ◌∷◌, ◌++◌, length, true}
+use Rattle.std.specs.Prelude.{Option, Some, None, is_some, slice_index_or}
 use Rattle.lf_rules.specs.declared.shape.Shape.{Shape}
 use Rattle.lf_rules.specs.declared.event.Record.{Record}
 use Rattle.lf_rules.specs.declared.rule.Rule.{Rule}
@@ -35,3 +36,9 @@ pub record PortStandsAfter (step : PortView) (shape : Shape) (rs : List Record) 
 abbrev pub IsPortFaultAfter : Shape → List Record → Record → Rule → Type 0
 IsPortFaultAfter shape rs r rule = (memory : FlatMemory) → BreaksAt OfPort shape (first_local memory) (rs ++ r ∷ [])
     (length rs) rule
+
+-- the lowest tag that a bank owes a reply, where there is one
+abbrev pub IsLowestBusy : List (Option ℕ) → Option ℕ → Type 0
+IsLowestBusy owed_by (Some tag) = (tag < 256) × (is_some (slice_index_or owed_by tag None) ≡ true) ×
+    ((t : ℕ) → t < tag → slice_index_or owed_by t None ≡ None)
+IsLowestBusy owed_by None = (t : ℕ) → t < 256 → slice_index_or owed_by t None ≡ None

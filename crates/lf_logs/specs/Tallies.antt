@@ -1,20 +1,12 @@
 -- What is counted of the numbers of a bank.
-use Rattle.std.specs.Prelude.{◌≡◌, ℕ, ◌<◌, List, length, Some, slice_index_or}
+use Rattle.std.specs.Prelude.{◌≡◌, ℕ, ◌<◌, List, length, slice_index_or}
 use Rattle.lf_rules.specs.declared.event.Record.{Record}
 use Rattle.lf_rules.specs.Run.{of_bank}
 use Rattle.lf_rules.specs.Numbers.{numbers_of, times}
-use Rattle.lf_logs.specs.declared.order.Place.{Place}
 use Rattle.lf_logs.specs.declared.order.Tally.{Tally}
 use Rattle.lf_logs.specs.declared.order.NumberFault.{NumberFault}
 use Rattle.lf_logs.specs.declared.order.NumberFault.TheVariants.{Missing, Double, NoMemory}
-use Rattle.lf_logs.specs.Places.{record_at}
-
--- the place is that of a record of the bank with this number
-pub record Names (logs : List (List Record)) (bank number : ℕ) (place : Place) : Type 0 where
-  pub item : Record
-  pub there : record_at logs place ≡ Some item
-  pub of_bank : item.bank ≡ bank
-  pub numbered : item.number ≡ number
+use Rattle.lf_logs.specs.Places.{Names}
 
 -- so often do the records seen so far carry the number, and the last place is that of one of them
 pub record IsTally (logs : List (List Record)) (bank : ℕ) (seen : List Record) (number : ℕ) (tally : Tally) : Type

@@ -10,6 +10,7 @@ ghost use Rattle.lf_rules.specs.Lists.{lists_of};
 ghost use Rattle.lf_logs.specs.Places.{record_at, ArePlacesOfBank, IsNumberFault};
 ghost use Rattle.lf_logs.specs.Tallies.{AreTallies, AreOnceBelow, IsFirstFault};
 
+use crate::log_records::LogRecords;
 use lf_rules::{Logs, NoMemory, Record};
 use std::alloc::Global;
 
@@ -48,49 +49,62 @@ struct Tally {
     last: Place,
 }
 
-fn count_of_bank(bank: u8, log: &[Record]) -> usize
-    ensures { result ≡ length (of_bank bank log.now) }
+/// How many records of the log name the bank.
+fn count_of_bank<L: LogRecords>(logs: &L, bank: u8, log: u8) -> usize
+    requires log { log < length (L.lists logs.now) }
+    requires short { length (slice_index_or (L.lists logs.now) log []) ≤ 2 ^ 24 }
+    ensures { result ≡ length (of_bank bank (slice_index_or (L.lists logs.now) log [])) }
 {
-    log.iter().filter(|item| item.bank == bank).count()
+    let mut count = 0;
+    for at in 0..logs.log_len(usize::from(log)) {
+        let (named, _) = logs.entry(Place { log, at: at as u32 });
+        if named == bank {
+            count += 1;
+        }
+    }
+    count
 }
 
 /// How many records name the bank.
-fn bank_len(logs: &Logs, bank: u8) -> usize
-    requires few { length logs.now.items ≤ 32 }
-    requires short { All (λ log. length log.items ≤ 2 ^ 24) logs.now.items }
-    ensures { result ≡ length (of_bank bank (all_records (lists_of logs.now))) }
+fn bank_len<L: LogRecords>(logs: &L, bank: u8) -> usize
+    requires few { length (L.lists logs.now) ≤ 32 }
+    requires short { All (λ log. length log ≤ 2 ^ 24) (L.lists logs.now) }
+    ensures { result ≡ length (of_bank bank (all_records (L.lists logs.now))) }
 {
     let mut len = 0;
-    for log in logs {
-        len += count_of_bank(bank, log);
+    for log in 0..logs.log_count() {
+        len += count_of_bank(logs, bank, log as u8);
     }
     len
 }
 
 /// Counts the bank's records of one log. A number without a tally is left out.
-fn count_log(tallies: &mut [Tally], bank: u8, log: u8, records: &[Record])
+fn count_log<L: LogRecords>(tallies: &mut [Tally], logs: &L, bank: u8, log: u8)
     requires low { All (λ tally. tally.times ≤ 2 ^ 29) tallies.old }
-    requires short { length records.now ≤ 2 ^ 24 }
-    ensures { (logs : List (List Record)) (seen : List Record) → slice_index_or logs log [] ≡ records.now
-        → AreTallies logs bank seen tallies.old → AreTallies logs bank (seen ++ records.now) tallies.new }
+    requires log { log < length (L.lists logs.now) }
+    requires short { length (slice_index_or (L.lists logs.now) log []) ≤ 2 ^ 24 }
+    ensures { (seen : List Record) → AreTallies (L.lists logs.now) bank seen tallies.old
+        → AreTallies (L.lists logs.now) bank (seen ++ slice_index_or (L.lists logs.now) log []) tallies.new }
 {
-    for (at, item) in records.iter().enumerate() {
-        let number = item.number as usize;
-        if item.bank == bank && number < tallies.len() {
+    for at in 0..logs.log_len(usize::from(log)) {
+        let place = Place { log, at: at as u32 };
+        let (named, number) = logs.entry(place);
+        let number = number as usize;
+        if named == bank && number < tallies.len() {
             let tally = &mut tallies[number];
             tally.times += 1;
-            tally.last = Place { log, at: at as u32 };
+            tally.last = place;
         }
     }
 }
 
 /// A tally for each number below the count of the bank's records.
-fn tallies_of(alloc: Global, logs: &Logs, bank: u8) -> Result<Vec<Tally>, NoMemory>
-    requires few { length logs.now.items ≤ 32 }
-    requires short { All (λ log. length log.items ≤ 2 ^ 24) logs.now.items }
+fn tallies_of<L: LogRecords>(alloc: Global, logs: &L, bank: u8) -> Result<Vec<Tally>, NoMemory>
+    requires few { length (L.lists logs.now) ≤ 32 }
+    requires short { All (λ log. length log ≤ 2 ^ 24) (L.lists logs.now) }
     ensures len { IfOk result (λ tallies. length tallies.items
-        ≡ length (of_bank bank (all_records (lists_of logs.now)))) }
-    ensures counted { IfOk result (λ tallies. AreTallies (lists_of logs.now) bank (all_records (lists_of logs.now))
+        ≡ length (of_bank bank (all_records (L.lists logs.now)))) }
+    ensures counted { IfOk result (λ tallies. AreTallies (L.lists logs.now) bank (all_records (L.lists logs.now))
         tallies.items) }
 {
     let nowhere = Place { log: 0, at: 0 };
@@ -99,8 +113,8 @@ fn tallies_of(alloc: Global, logs: &Logs, bank: u8) -> Result<Vec<Tally>, NoMemo
         last: nowhere,
     };
     let mut tallies = vec![in alloc; none; bank_len(logs, bank)]?;
-    for (log, records) in logs.iter().enumerate() {
-        count_log(&mut tallies, bank, log as u8, records);
+    for log in 0..logs.log_count() {
+        count_log(&mut tallies, logs, bank, log as u8);
     }
     Ok(tallies)
 }
@@ -134,20 +148,37 @@ fn last_places(alloc: Global, tallies: &[Tally]) -> Result<Vec<Place>, NoMemory>
 /// The places of the records that name the bank, in the order of their numbers, where these are
 /// 0, 1, 2, .. and each occurs once. Otherwise the least number that is missing below a greater one
 /// or that occurs more than once.
+pub fn places_of_bank<L: LogRecords>(
+    alloc: Global,
+    logs: &L,
+    bank: u8,
+) -> Result<Vec<Place>, NumberFault>
+    requires few { length (L.lists logs.now) ≤ 32 }
+    requires short { All (λ log. length log ≤ 2 ^ 24) (L.lists logs.now) }
+    ensures order { IfOk result (λ places. ArePlacesOfBank (L.lists logs.now) bank places.items) }
+    ensures whole { OnOk result (IsWhole (bank_numbers (L.lists logs.now) bank)) }
+    ensures fault { IfErr result (IsNumberFault (bank_numbers (L.lists logs.now) bank)) }
+
+    // Whole numbers have an order, so that nothing but out of memory is left to refuse them.
+    ensures succeeds { IsWhole (bank_numbers (L.lists logs.now) bank)
+        → IfErr result (λ fault. fault ≡ NumberFault.NoMemory) }
+{
+    let tallies = tallies_of(alloc, logs, bank)?;
+    judge(&tallies)?;
+    Ok(last_places(alloc, &tallies)?)
+}
+
+/// The same of logs that hold their records.
 pub fn bank_order(alloc: Global, logs: &Logs, bank: u8) -> Result<Vec<Place>, NumberFault>
     requires few { length logs.now.items ≤ 32 }
     requires short { All (λ log. length log.items ≤ 2 ^ 24) logs.now.items }
     ensures order { IfOk result (λ places. ArePlacesOfBank (lists_of logs.now) bank places.items) }
     ensures whole { OnOk result (IsWhole (bank_numbers (lists_of logs.now) bank)) }
     ensures fault { IfErr result (IsNumberFault (bank_numbers (lists_of logs.now) bank)) }
-
-    // Whole numbers have an order, so that nothing but out of memory is left to refuse them.
     ensures succeeds { IsWhole (bank_numbers (lists_of logs.now) bank)
         → IfErr result (λ fault. fault ≡ NumberFault.NoMemory) }
 {
-    let tallies = tallies_of(alloc, logs, bank)?;
-    judge(&tallies)?;
-    Ok(last_places(alloc, &tallies)?)
+    places_of_bank(alloc, logs, bank)
 }
 
 /// The record at the place.

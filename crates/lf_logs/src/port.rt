@@ -6,7 +6,7 @@ ghost use Rattle.lf_rules.specs.Outcomes.{IsPortOutcome};
 ghost use Rattle.lf_rules.specs.State.{Local, idle};
 ghost use Rattle.lf_rules.specs.Table.{OfPort, clauses, none_busy};
 ghost use Rattle.lf_rules.specs.Run.{first_failing, effect};
-ghost use Rattle.lf_logs.specs.Tags.{with_tags};
+ghost use Rattle.lf_logs.specs.Tags.{with_tags, IsLowestBusy};
 
 use lf_rules::{Event, Outcome, Record, Rule, Shape};
 
@@ -39,6 +39,19 @@ impl BusyTags {
             }
         }
         true
+    }
+
+    /// The lowest tag that is busy.
+    pub(crate) fn lowest_busy(&self) -> Option<u8>
+        ensures { IsLowestBusy self.now.owed_by result }
+    {
+        for tag in 0..TAGS {
+            let busy = self.owed_by[tag].is_some();
+            if busy {
+                return Some(tag as u8);
+            }
+        }
+        None
     }
 
     /// The first rule of the port that the record breaks.

@@ -6,6 +6,7 @@ ghost use Rattle.lf_rules.specs.declared.event.Record.{Record};
 ghost use Rattle.lf_rules.specs.Address.{FlatMemory};
 ghost use Rattle.lf_rules.specs.Outcomes.{first_local};
 ghost use Rattle.lf_logs.specs.Tags.{PortStandsAfter, port_after};
+ghost use Rattle.lf_logs.specs.Incomplete.{IsLowestWaiting};
 
 use crate::port_step::PortStep;
 
@@ -16,5 +17,11 @@ impl PortStep {
             → (memory : FlatMemory) → result ≡ (port_after shape (first_local memory) rs).busy tag }
     {
         self.tags.owed_by[usize::from(tag)]
+    }
+    /// The lowest tag that waits for a reply after the records that the port took, where one does.
+    pub fn lowest_waiting(&self) -> Option<u8>
+        ensures { (shape : Shape) (rs : List Record) → PortStandsAfter self.now shape rs → IsLowestWaiting rs result }
+    {
+        self.tags.lowest_busy()
     }
 }

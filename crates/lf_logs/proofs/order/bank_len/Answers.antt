@@ -1,34 +1,33 @@
-use Rattle.std.proofs.Common.{◌≡◌, ◌+◌, ◌<◌, length, get_or, sym, ap, ◌∙◌, arith}
+use Rattle.std.proofs.Common.{◌≡◌, ◌+◌, ◌<◌, [], length, sym, ap, ◌∙◌, arith, get_or}
 use Rattle.lf_rules.specs.Run.{of_bank}
 use Rattle.lf_logs.proofs.Joined.{of_first, of_first-more, of_first-le, of_bank-append}
+use Rattle.lf_logs.proofs.order.bank_len.Given as given
 use Rattle.lf_logs.proofs.order.bank_len.Goals as goal
 
-inside : (c : goal.After-count_of_bank-len) → c.loop-log.log-index < length c.args.logs.now.items
-inside c = omega (arith, ap length c.deref-log-items.ensures.value)
+inside : (g : given.Over) (c : goal.After-count_of_bank-len g) →
+    c.loop-log.log < length (g.L.LogRecords.lists c.args.logs.now)
+inside g c = omega (arith, c.log_count-log-end.ensures, c.loop-log-test.true)
 
-counted : (c : goal.After-count_of_bank-len) → c.loop-log.len + c.count_of_bank-len.result
-    ≡ length (of_bank c.args.bank (of_first (c.loop-log.log-index + 1) c.args.logs.now.items))
-counted c =
-    let logs = c.args.logs.now.items in
-    let at = c.loop-log.log-index in
-    let log = c.log-item.result in
-    let read : log ≡ get_or logs at log = c.log-item.is ∙ ap (λ xs. get_or xs at log) c.deref-log-items.ensures.value in
+counted : (g : given.Over) (c : goal.After-count_of_bank-len g) → c.loop-log.len + c.count_of_bank-len.result
+    ≡ length (of_bank c.args.bank (of_first (c.loop-log.log + 1) (g.L.LogRecords.lists c.args.logs.now)))
+counted g c =
+    let lists = g.L.LogRecords.lists c.args.logs.now in
+    let at = c.loop-log.log in
     ap (λ n. n + c.count_of_bank-len.result) c.loop-log.invariant
-    ∙ ap (λ n. length (of_bank c.args.bank (of_first at logs)) + n)
-    (c.count_of_bank-len.ensures ∙ ap (λ rs. length (of_bank c.args.bank rs)) c.deref.ensures.value)
-    ∙ sym (ap (λ rs. length (of_bank c.args.bank rs)) (of_first-more logs at log (inside c) read)
-    ∙ of_bank-append c.args.bank (of_first at logs) log.items)
+    ∙ ap (λ n. length (of_bank c.args.bank (of_first at lists)) + n) c.count_of_bank-len.ensures
+    ∙ sym (ap (λ rs. length (of_bank c.args.bank rs)) (of_first-more lists at [] (inside g c))
+    ∙ of_bank-append c.args.bank (of_first at lists) (get_or lists at []))
 
 pub overflow_add-len : goal.overflow_add-len
-overflow_add-len c =
-    let within = inside c in
+overflow_add-len g c =
+    let within = inside g c in
     omega (
       arith,
-      counted c,
-      of_first-le c.args.bank c.args.logs.now.items c.requires.short (c.loop-log.log-index + 1)
+      counted g c,
+      of_first-le c.args.bank (g.L.LogRecords.lists c.args.logs.now) c.requires.short (c.loop-log.log + 1)
           (omega arith),
       c.requires.few,
     )
 
 pub loop-log-preserved : goal.loop-log-preserved
-loop-log-preserved c = counted c
+loop-log-preserved g c = counted g c

@@ -4,4 +4,4 @@ use Rattle.lf_logs.proofs.Joined.{of_first}
 use Rattle.lf_logs.proofs.order.bank_len.Given as goal
 
 abbrev pub invariant-loop-log : goal.invariant-loop-log
-invariant-loop-log l = l.len ≡ length (of_bank l.bank (of_first l.log-index l.logs.items))
+invariant-loop-log g l = l.len ≡ length (of_bank l.bank (of_first l.log (g.L.LogRecords.lists l.logs)))

@@ -1,54 +1,10 @@
-use Rattle.std.proofs.Common.{map, length, ap, ◌∙◌, subst, arith}
-use Rattle.std.proofs.lemmas.Result.{err_from_is_err_and}
-use Rattle.lf_rules.specs.Lists.{lists_of}
-use Rattle.lf_logs.specs.Tallies.{AreOnceBelow, IsFirstFault}
-use Rattle.lf_logs.specs.declared.order.Tally.{Tally}
-use Rattle.lf_logs.proofs.Joined.{all_records-le}
-use Rattle.lf_logs.proofs.Tallying.{whole_from, fault_from, no_fault_from}
-use Rattle.lf_logs.proofs.Judged.{ArePlacesOfBank-from_tallies}
+use Rattle.std.proofs.Common.{◌≤◌, ◌^◌, List, length}
+use Rattle.std.specs.Global.{Vec}
+use Rattle.std.proofs.lemmas.List.Elements.{All-map}
+use Rattle.lf_rules.specs.declared.event.Record.{Record}
 use Rattle.lf_logs.proofs.order.bank_order.Goals as goal
 
-pub judge-requires : goal.judge-requires
-judge-requires c =
-    omega (
-      arith,
-      ap length c.deref.ensures.value,
-      c.in_ok-tallies.ensures.len,
-      all_records-le c.args.bank
-          c.args.logs.now.items c.requires.short c.requires.few,
-    )
-
-pub returns-in_err-judge-clause-fault : goal.returns-in_err-judge-clause-fault
-returns-in_err-judge-clause-fault c =
-    let p = err_from_is_err_and c.from_residual-in_err-judge.result c.from_residual-in_err-judge.ensures.1 in
-    let tallies = c.in_ok-tallies.tallies.items in
-    let judged = subst (λ ts. IsFirstFault ts c.in_err-judge.field-0.0) c.deref.ensures.value
-    c.in_err-judge.ensures.fault in
-    rw (p.1, p.2) (fault_from (lists_of c.args.logs.now) c.args.bank tallies c.in_ok-tallies.ensures.len
-    c.in_ok-tallies.ensures.counted c.in_err-judge.field-0.0 judged)
-
-pub returns-in_err-judge-clause-succeeds : goal.returns-in_err-judge-clause-succeeds
-returns-in_err-judge-clause-succeeds c whole =
-    let tallies = c.in_ok-tallies.tallies.items in
-    let judged = subst (λ ts. IsFirstFault ts c.in_err-judge.field-0.0) c.deref.ensures.value
-    c.in_err-judge.ensures.fault in
-    absurd (no_fault_from (lists_of c.args.logs.now) c.args.bank tallies c.in_ok-tallies.ensures.len
-    c.in_ok-tallies.ensures.counted whole c.in_err-judge.field-0.0 judged)
-
-once : (c : goal.After-drop-tallies-2) → AreOnceBelow (length c.in_ok-tallies.tallies.items)
-    c.in_ok-tallies.tallies.items
-once c = subst (λ ts. AreOnceBelow (length ts) ts) c.deref.ensures.value c.in_ok-judge.ensures.fine
-
-pub returns-clause-order : goal.returns-clause-order
-returns-clause-order c =
-    let tallies = c.in_ok-tallies.tallies.items in
-    let lists = lists_of c.args.logs.now in
-    ArePlacesOfBank-from_tallies lists c.args.bank tallies c.in_ok-last_places.field-0.items
-    c.in_ok-tallies.ensures.len c.in_ok-tallies.ensures.counted (once c)
-    (c.in_ok-last_places.ensures ∙ ap (map (λ (t : Tally). t.last)) c.deref-2.ensures.value)
-
-pub returns-clause-whole : goal.returns-clause-whole
-returns-clause-whole c =
-    let tallies = c.in_ok-tallies.tallies.items in
-    whole_from (lists_of c.args.logs.now) c.args.bank tallies c.in_ok-tallies.ensures.len
-    c.in_ok-tallies.ensures.counted (once c)
+pub places_of_bank-requires-clause-short : goal.places_of_bank-requires-clause-short
+places_of_bank-requires-clause-short c =
+    All-map (λ (log : List Record). length log ≤ 2 ^ 24) (λ (v : Vec Record). v.items) c.args.logs.now.items
+    c.requires.short
