@@ -2,7 +2,6 @@
 
 ghost use Rattle.std.specs.Prelude.{◌≡◌, ℕ, ◌+◌, ◌<◌, ◌≤◌, ◌^◌, length, All, IsSome, IfOk, if◌then◌else◌};
 ghost use Rattle.std.specs.Prelude.{slice_index};
-ghost use Rattle.lf_rules.specs.Lists.{lists_of};
 ghost use Rattle.lf_logs.specs.Places.{record_at, records_at};
 ghost use Rattle.lf_stats.specs.Statistics.{held_counts};
 ghost use Rattle.lf_coverage.specs.declared.point.BankPoint.{BankPoint};
@@ -12,8 +11,9 @@ ghost use Rattle.lf_coverage.specs.Counted.{kind_at, numbers_of, AreFew, AreCoun
 use crate::point::{BankPoint, Measure};
 use crate::sight::Sight;
 use crate::standing::Kept;
-use lf_logs::{Place, record_at};
-use lf_rules::{Event, Logs, NoMemory, Shape};
+use lf_history::room;
+use lf_logs::{LogRecords, Place};
+use lf_rules::{Event, NoMemory, Shape};
 use std::alloc::Global;
 
 /// How many points have no number.
@@ -168,26 +168,27 @@ impl Counts {
 
 /// How often the records at these places reach each point, where so many registers of level one are held before the
 /// first and after each.
-pub(crate) fn counted(
+pub(crate) fn counted<L: LogRecords>(
     alloc: Global,
     shape: &Shape,
-    logs: &Logs,
+    logs: &L,
     places: &[Place],
     held: &[u32],
 ) -> Result<Counts, NoMemory>
     requires some_block { 0 < shape.now.block }
     requires block { shape.now.block ≤ 64 }
     requires factor { 0 < shape.now.factor }
-    requires named { All (λ place. IsSome (record_at (lists_of logs.now) place)) places.now }
+    requires named { All (λ place. IsSome (record_at (L.lists logs.now) place)) places.now }
     requires few { length places.now ≤ 2 ^ 29 }
-    requires held { held.now ≡ held_counts shape.now (records_at (lists_of logs.now) places.now) }
-    ensures { IfOk result (λ counts. let rs = records_at (lists_of logs.now) places.now in
+    requires held { held.now ≡ held_counts shape.now (records_at (L.lists logs.now) places.now) }
+    ensures { IfOk result (λ counts. let rs = records_at (L.lists logs.now) places.now in
         AreCounts counts (λ point. reached shape.now rs point (length rs))) }
 {
     let mut kept = Kept::new(alloc)?;
     let mut counts = Counts::new();
+    let mut room = room();
     for (i, place) in places.iter().enumerate() {
-        let item = record_at(logs, *place);
+        let item = logs.lend(*place, &mut room);
         let seen = kept.sight(shape, &item.event);
         counts.count(shape, held[i], held[i + 1], seen, &item.event);
         kept.take(shape, item)?;

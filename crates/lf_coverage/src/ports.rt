@@ -1,6 +1,6 @@
 //! How often the log of a port reached each point.
 
-ghost use Rattle.std.specs.Prelude.{◌≡◌, ℕ, ◌+◌, ◌<◌, ◌≤◌, ◌^◌, ◌++◌, OnOk, length, slice_index};
+ghost use Rattle.std.specs.Prelude.{◌≡◌, ℕ, ◌+◌, ◌<◌, ◌≤◌, ◌^◌, ◌++◌, [], OnOk, length, slice_index, slice_index_or};
 ghost use Rattle.std.specs.Prelude.{if◌then◌else◌};
 ghost use Rattle.lf_coverage.specs.Points.{port_reaches, port_reached};
 ghost use Rattle.lf_coverage.specs.Counted.{port_point_at};
@@ -8,7 +8,9 @@ ghost use Rattle.lf_coverage.specs.Coverage.{port_tallies};
 
 use crate::point::{Point, PortPoint};
 use crate::tally::Tally;
-use lf_rules::{Event, NoMemory, Record};
+use lf_history::room;
+use lf_logs::{LogRecords, Place};
+use lf_rules::{Event, NoMemory};
 
 /// The points of a port.
 const PORT_POINTS: [PortPoint; 10] = [
@@ -37,24 +39,37 @@ fn count(counts: &mut [u32; 10], event: &Event)
     }
 }
 
-/// How many records of a port's log reach each point.
-fn counted(log: &[Record]) -> [u32; 10]
-    requires { length log.now ≤ 2 ^ 24 }
-    ensures { (n : ℕ) → n < 10 → slice_index result n ≡ port_reached log.now (port_point_at n) }
+/// How many records of the port's log reach each point.
+fn counted<L: LogRecords>(logs: &L, port: u8) -> [u32; 10]
+    requires port { port < length (L.lists logs.now) }
+    requires short { length (slice_index_or (L.lists logs.now) port []) ≤ 2 ^ 24 }
+    ensures { (n : ℕ) → n < 10 → slice_index result n
+        ≡ port_reached (slice_index_or (L.lists logs.now) port []) (port_point_at n) }
 {
+    let mut room = room();
     let mut counts = [0; 10];
-    for item in log {
-        count(&mut counts, &item.event);
+    for at in 0..logs.log_len(usize::from(port)) {
+        let place = Place {
+            log: port,
+            at: at as u32,
+        };
+        count(&mut counts, &logs.lend(place, &mut room).event);
     }
     counts
 }
 
 /// Adds what a port reached.
-pub(crate) fn add_port(tallies: &mut Vec<Tally>, port: u8, log: &[Record]) -> Result<(), NoMemory>
-    requires { length log.now ≤ 2 ^ 24 }
-    ensures { OnOk result (tallies.new.items ≡ tallies.old.items ++ port_tallies port log.now) }
+pub(crate) fn add_port<L: LogRecords>(
+    tallies: &mut Vec<Tally>,
+    logs: &L,
+    port: u8,
+) -> Result<(), NoMemory>
+    requires port { port < length (L.lists logs.now) }
+    requires short { length (slice_index_or (L.lists logs.now) port []) ≤ 2 ^ 24 }
+    ensures { OnOk result (tallies.new.items
+        ≡ tallies.old.items ++ port_tallies port (slice_index_or (L.lists logs.now) port [])) }
 {
-    let counts = counted(log);
+    let counts = counted(logs, port);
     for (i, point) in PORT_POINTS.iter().enumerate() {
         let point = Point::Port {
             port,

@@ -6,7 +6,7 @@ ghost use Rattle.lf_rules.specs.InRange.{IsShape};
 use lf_logs::bank_order;
 use lf_rules::Shape;
 use lf_samples::{C1, LOAD, LOADED, logs, records};
-use lf_stats::{Incomplete, Stats, first_incomplete, stats};
+use lf_stats::{Stats, stats};
 use std::alloc::Global;
 use std::test::Fail;
 
@@ -71,22 +71,5 @@ fn fence_last(rt: HostRuntime) -> Result<(), Fail> {
     let told = "bank=0 hits=0 primary=1 merges=0 stalls=0 peak=1\nport=0 unanswered=0\n";
     assert_eq!(rt; lines(rt.alloc(), &[LOAD, LOADED])?.as_str(), told);
     assert_eq!(rt; lines(rt.alloc(), &[LOAD, LOADED, "F"])?.as_str(), told);
-    Ok(())
-}
-
-/// The lowest tag without a reply at the end.
-#[test]
-fn first_incomplete_of_three(rt: HostRuntime) -> Result<(), Fail> {
-    let waiting = |tag| Some(Incomplete { port: 0, tag });
-    for (parts, found) in [
-        ([LOAD, LOADED], None),
-        ([LOAD, "L 1 8@0"], waiting(0)),
-        (["L 3 8@0", "L 2 8@0"], waiting(2)),
-    ] {
-        let records = records(rt.alloc(), &C1, &parts)?;
-        let logs = logs(rt.alloc(), 2, records)?;
-        assert!(rt; logs.len() == 2);
-        assert_eq!(rt; first_incomplete(1, &logs), found);
-    }
     Ok(())
 }

@@ -1,9 +1,8 @@
 -- One more record of an order, and what is counted of it.
 use Rattle.std.proofs.Common.{◌≡◌, ℕ, zero, suc, ◌+◌, ◌<◌, ◌≤◌, Bool, cond, List, [], ◌∷◌, ◌++◌, map, length, eqb}
 use Rattle.std.proofs.Common.{take, get_or}
-use Rattle.std.proofs.Common.{Option, Some, None, IsSome, not, ◌==◌, max, refl, sym, ap, ◌∙◌, subst, arith, add-one}
-use Rattle.std.specs.List.{All, filter_map, cons_option, count_by, slice_get}
-use Rattle.std.proofs.lemmas.Bool.{false≢true}
+use Rattle.std.proofs.Common.{Option, Some, None, not, ◌==◌, max, sym, ap, ◌∙◌, subst, arith, add-one}
+use Rattle.std.specs.List.{count_by, slice_get}
 use Rattle.std.proofs.lemmas.List.{length-append, length-take, length-map}
 use Rattle.std.proofs.lemmas.List.Sums.{sum_by_push, count_by-le-length, length-filter}
 use Rattle.std.specs.Global.{Vec}
@@ -17,35 +16,6 @@ use Rattle.lf_stats.specs.Standing.{AreAlike, IsHeld, named, next_of, registers_
 use Rattle.lf_stats.proofs.Distinct.{distinct-le-length}
 use Rattle.lf_stats.proofs.Holds.{count_is}
 use Rattle.lf_stats.specs.Statistics.{issued, accepted, next_block, hold, held_by, held_after, held, greatest}
-
--- ---- what each element of a list gives, where each gives something
-
-cons_length : {Y : Type 0} (o : Option Y) (ys : List Y) → IsSome o → length (cons_option o ys) ≡ suc (length ys)
-cons_length None ys h = absurd (false≢true h)
-cons_length (Some y) ys h = refl
-
-cons_first : {Y : Type 0} (o : Option Y) (ys : List Y) → IsSome o → slice_get (cons_option o ys) 0 ≡ o
-cons_first None ys h = absurd (false≢true h)
-cons_first (Some y) ys h = refl
-
-cons_later : {Y : Type 0} (o : Option Y) (n : ℕ) (ys : List Y) → IsSome o →
-    slice_get (cons_option o ys) (suc n) ≡ slice_get ys n
-cons_later None n ys h = absurd (false≢true h)
-cons_later (Some y) n ys h = refl
-
-module _ {X Y : Type 0} (f : X → Option Y) where
-  pub length_found : (xs : List X) → All (λ x. IsSome (f x)) xs → length (filter_map f xs) ≡ length xs
-  length_found [] all = refl
-  length_found (x ∷ xs) all = cons_length (f x) (filter_map f xs) (all 0 x (omega arith))
-      ∙ ap suc (length_found xs (λ k d h. all (suc k) d (omega arith)))
-
-  pub get_found : (xs : List X) (n : ℕ) (d : X) → All (λ x. IsSome (f x)) xs → n < length xs
-      → slice_get (filter_map f xs) n ≡ f (get_or xs n d)
-  get_found [] n d all inside = absurd (omega arith)
-  get_found (x ∷ xs) zero d all inside = cons_first (f x) (filter_map f xs) (all 0 x (omega arith))
-  get_found (x ∷ xs) (suc n) d all inside =
-      cons_later (f x) n (filter_map f xs) (all 0 x (omega arith))
-      ∙ get_found xs n d (λ k e h. all (suc k) e (omega arith)) (omega arith)
 
 pub take_at : {X : Type 0} (xs : List X) (n : ℕ) (x : X) → slice_get xs n ≡ Some x →
     take (suc n) xs ≡ take n xs ++ x ∷ []

@@ -1,6 +1,8 @@
 -- Which tags wait after one more record, and how many do.
-use Rattle.std.proofs.Common.{◌≡◌, ℕ, ◌+◌, ◌<◌, ◌≤◌, Bool, false, eqb, cond, List, [], ◌∷◌, map, length, take, set}
+use Rattle.std.proofs.Common.{◌≡◌, ℕ, zero, suc, ◌+◌, ◌<◌, ◌≤◌, Bool, false, eqb, cond, List, [], ◌∷◌, map, length}
+use Rattle.std.proofs.Common.{take, set}
 use Rattle.std.proofs.Common.{get_or, refl, sym, ap, ◌∙◌, ⊎_elim, arith}
+use Rattle.std.proofs.Math.ListN.{replicate}
 use Rattle.std.specs.List.{filter, count_by, range_with_len}
 use Rattle.std.proofs.lemmas.List.{get_or-set_same, get_or-set_other}
 use Rattle.std.proofs.lemmas.List.Sums.{fold_more, length-filter, sum_by-cons, count_by-le-length}
@@ -11,7 +13,14 @@ use Rattle.lf_rules.specs.declared.event.Op.{Op}
 use Rattle.lf_rules.specs.declared.event.Event.{Event}
 use Rattle.lf_rules.specs.declared.event.Event.TheVariants.{Issue, Reply}
 use Rattle.lf_rules.specs.declared.event.Record.{Record}
-use Rattle.lf_stats.specs.Statistics.{waits, waits_after, unanswered}
+use Rattle.lf_logs.specs.Incomplete.{waits, waits_after}
+use Rattle.lf_stats.specs.Statistics.{unanswered}
+
+-- none waits at the start
+pub none : (n tag : ℕ) → get_or (replicate n false) tag false ≡ false
+none zero tag = refl
+none (suc n) zero = refl
+none (suc n) (suc tag) = none n tag
 
 pub set_at : (ws : List Bool) (t tag : ℕ) (b : Bool) → t < length ws
     → get_or (set ws t b) tag false ≡ cond (eqb t tag) b (get_or ws tag false)

@@ -2,6 +2,5 @@
 pub mod Statistics
 pub mod Answer
 pub mod Text
-pub mod Incomplete
 -- For the contracts of the crate alone: what is held between two records.
 pub mod Standing

@@ -1,14 +1,15 @@
 -- Counts over the records of a bank, in the order of their numbers, and over those of a port.
 use Rattle.std.specs.Prelude.{ℕ, zero, suc, ◌+◌, max, Bool, true, false, not, ◌==◌, if◌then◌else◌}
-use Rattle.std.specs.Prelude.{List, [], ◌∷◌, ◌++◌, map, filter, take, length, count_by, fold, slice_get, Option, Some}
+use Rattle.std.specs.Prelude.{List, [], ◌∷◌, ◌++◌, map, filter, take, length, count_by, slice_get, Option, Some}
 use Rattle.std.specs.Prelude.{None}
 use Rattle.std.specs.List.{range_with_len, filter_map, list_any}
 use Rattle.lf_rules.specs.declared.shape.Shape.{Shape}
 use Rattle.lf_rules.specs.declared.event.Record.{Record}
 use Rattle.lf_rules.specs.declared.event.Event.{Event}
-use Rattle.lf_rules.specs.declared.event.Event.TheVariants.{Issue, Reply, Hit, Primary, Merge, Stall, Fill1}
+use Rattle.lf_rules.specs.declared.event.Event.TheVariants.{Issue, Hit, Primary, Merge, Stall, Fill1}
 use Rattle.lf_rules.specs.Address.{block_of}
 use Rattle.lf_rules.specs.Run.{of_log}
+use Rattle.lf_logs.specs.Incomplete.{waits}
 use Rattle.lf_stats.specs.declared.counts.BankStats.{BankStats}
 
 -- ---- kinds of events
@@ -118,15 +119,6 @@ bank_stats shape rs = record {
   peak = greatest (held_count shape rs) (length rs + 1);
 }
 
--- whether the tag waits for a reply: its last event is an issue
-abbrev pub waits_after : ℕ → Bool → Event → Bool
-waits_after t waits (Issue op tag size address bytes) = if tag == t then true else waits
-waits_after t waits (Reply tag size bytes) = if tag == t then false else waits
-waits_after t waits _ = waits
-
-abbrev pub waits : List Record → ℕ → Bool
-waits log tag = fold (λ before r. waits_after tag before r.event) false log
-
--- how many tags of a port's log do
+-- how many tags of a port's log wait for a reply
 unfoldable pub unanswered : List Record → ℕ
 unanswered log = count_by (waits log) (range_with_len 0 256)

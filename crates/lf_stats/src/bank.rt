@@ -1,7 +1,6 @@
 //! The counts of a bank, in the order of its numbers.
 
 ghost use Rattle.std.specs.Prelude.{◌≡◌, ◌<◌, ◌≤◌, ◌^◌, ℕ, List, Option, length, All, OnOk, IfOk, IsSome};
-ghost use Rattle.lf_rules.specs.Lists.{lists_of};
 ghost use Rattle.lf_logs.specs.Places.{record_at, records_at};
 ghost use Rattle.lf_stats.specs.Standing.{next_of, named, AreAlike, IsHeld};
 ghost use Rattle.lf_stats.specs.Statistics.{held_by, held_counts, bank_stats};
@@ -9,8 +8,9 @@ ghost use Rattle.lf_stats.specs.Statistics.{held_by, held_counts, bank_stats};
 use crate::counts::BankStats;
 use crate::held::Held;
 use crate::issued::{Accepted, blocks_issued};
-use lf_logs::{Place, record_at};
-use lf_rules::{Event, Logs, NoMemory, Shape};
+use lf_history::room;
+use lf_logs::{LogRecords, Place};
+use lf_rules::{Event, NoMemory, Shape};
 use std::alloc::Global;
 
 /// Changes what is held.
@@ -41,23 +41,24 @@ fn hold(
 
 /// The counts over the records at these places. The issues are gathered first, since one may stand
 /// behind its acceptance: whole numbers alone make no run.
-pub(crate) fn bank_stats(
+pub(crate) fn bank_stats<L: LogRecords>(
     alloc: Global,
     shape: &Shape,
-    logs: &Logs,
+    logs: &L,
     places: &[Place],
 ) -> Result<BankStats, NoMemory>
     requires block { 0 < shape.now.block }
-    requires named { All (λ place. IsSome (record_at (lists_of logs.now) place)) places.now }
+    requires named { All (λ place. IsSome (record_at (L.lists logs.now) place)) places.now }
     requires few { length places.now ≤ 2 ^ 29 }
-    ensures { IfOk result (λ stats. stats ≡ bank_stats shape.now (records_at (lists_of logs.now) places.now)) }
+    ensures { IfOk result (λ stats. stats ≡ bank_stats shape.now (records_at (L.lists logs.now) places.now)) }
 {
     let issued = blocks_issued(alloc, shape, logs, places)?;
     let mut accepted = Accepted::new();
     let mut held = Held::new(alloc);
+    let mut room = room();
     let mut stats = BankStats::default();
     for place in places {
-        let event = &record_at(logs, *place).event;
+        let event = &logs.lend(*place, &mut room).event;
         hold(alloc, &mut held, issued.as_slice(), &accepted, event)?;
         accepted.count(event);
         stats.count(event);
@@ -67,23 +68,24 @@ pub(crate) fn bank_stats(
 }
 
 /// How many registers of level one are held before the first of the records at these places, and after each.
-pub fn held_counts(
+pub fn held_counts<L: LogRecords>(
     alloc: Global,
     shape: &Shape,
-    logs: &Logs,
+    logs: &L,
     places: &[Place],
 ) -> Result<Vec<u32>, NoMemory>
     requires block { 0 < shape.now.block }
-    requires named { All (λ place. IsSome (record_at (lists_of logs.now) place)) places.now }
+    requires named { All (λ place. IsSome (record_at (L.lists logs.now) place)) places.now }
     requires few { length places.now ≤ 2 ^ 29 }
-    ensures { IfOk result (λ counts. counts.items ≡ held_counts shape.now (records_at (lists_of logs.now) places.now)) }
+    ensures { IfOk result (λ counts. counts.items ≡ held_counts shape.now (records_at (L.lists logs.now) places.now)) }
 {
     let issued = blocks_issued(alloc, shape, logs, places)?;
     let mut accepted = Accepted::new();
     let mut held = Held::new(alloc);
+    let mut room = room();
     let mut counts = vec![in alloc; 0]?;
     for place in places {
-        let event = &record_at(logs, *place).event;
+        let event = &logs.lend(*place, &mut room).event;
         hold(alloc, &mut held, issued.as_slice(), &accepted, event)?;
         accepted.count(event);
         counts.push(held.distinct())?;

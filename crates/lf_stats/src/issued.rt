@@ -7,8 +7,9 @@ ghost use Rattle.lf_logs.specs.Places.{record_at, records_at};
 ghost use Rattle.lf_stats.specs.Standing.{next_of};
 ghost use Rattle.lf_stats.specs.Statistics.{accepts, issued};
 
-use lf_logs::{Place, record_at};
-use lf_rules::{Event, Logs, NoMemory, Shape};
+use lf_history::room;
+use lf_logs::{LogRecords, Place};
+use lf_rules::{Event, NoMemory, Shape};
 use std::alloc::Global;
 
 /// As many as there are numbers of ports.
@@ -26,21 +27,22 @@ fn no_blocks(alloc: Global) -> Result<Vec<Vec<u64>>, NoMemory>
 }
 
 /// For each port the blocks of its issues, in the order of the places.
-pub(crate) fn blocks_issued(
+pub(crate) fn blocks_issued<L: LogRecords>(
     alloc: Global,
     shape: &Shape,
-    logs: &Logs,
+    logs: &L,
     places: &[Place],
 ) -> Result<Vec<Vec<u64>>, NoMemory>
     requires block { 0 < shape.now.block }
-    requires named { All (λ place. IsSome (record_at (lists_of logs.now) place)) places.now }
+    requires named { All (λ place. IsSome (record_at (L.lists logs.now) place)) places.now }
     ensures len { IfOk result (λ lists. length lists.items ≡ 256) }
     ensures issued { IfOk result (λ lists. (port : ℕ) → port < 256
-        → slice_index_or (lists_of lists) port [] ≡ issued shape.now port (records_at (lists_of logs.now) places.now)) }
+        → slice_index_or (lists_of lists) port [] ≡ issued shape.now port (records_at (L.lists logs.now) places.now)) }
 {
     let mut lists = no_blocks(alloc)?;
+    let mut room = room();
     for place in places {
-        let item = record_at(logs, *place);
+        let item = logs.lend(*place, &mut room);
         if let Event::Issue { address, .. } = &item.event {
             let block = *address / u64::from(shape.block);
             lists[usize::from(item.log)].push(block)?;

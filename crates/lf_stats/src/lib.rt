@@ -5,7 +5,6 @@
 mod bank;
 mod counts;
 mod held;
-mod incomplete;
 mod issued;
 mod port;
 mod statistics;
@@ -13,6 +12,5 @@ mod text;
 
 pub use bank::held_counts;
 pub use counts::{BankStats, Stats};
-pub use incomplete::{Incomplete, first_incomplete};
 pub use lf_rules::NoMemory;
-pub use statistics::stats;
+pub use statistics::{stats, stats_of};

@@ -1,26 +1,45 @@
 //! The requests of a port that have no reply.
 
-ghost use Rattle.std.specs.Prelude.{◌≡◌, ◌<◌, ℕ, false, length, filter, slice_index_or};
-ghost use Rattle.lf_stats.specs.Statistics.{waits, unanswered};
-ghost use Rattle.lf_stats.specs.Incomplete.{IsLowestWaiting};
+ghost use Rattle.std.specs.Prelude.{◌≡◌, ◌<◌, ◌≤◌, ◌^◌, ℕ, false, [], length, filter, slice_index_or};
+ghost use Rattle.lf_logs.specs.Incomplete.{waits, waits_after};
+ghost use Rattle.lf_stats.specs.Statistics.{unanswered};
 
-use lf_rules::{Event, Record};
+use lf_history::room;
+use lf_logs::{LogRecords, Place};
+use lf_rules::Event;
 
 /// As many as there are tags.
 const TAGS: usize = 256;
 
-/// Of each tag whether it waits for a reply at the end of the log.
-fn waits_of(log: &[Record]) -> [bool; TAGS]
-    ensures len { length result ≡ 256 }
-    ensures waits { (tag : ℕ) → tag < 256 → slice_index_or result tag false ≡ waits log.now tag }
+/// What waits after the event.
+fn note(waits: &mut [bool; TAGS], event: &Event)
+    ensures len { length waits.new ≡ length waits.old }
+    ensures waits { (tag : ℕ) → tag < 256 → slice_index_or waits.new tag false
+        ≡ waits_after tag (slice_index_or waits.old tag false) event.now }
 {
+    match event {
+        Event::Issue { tag, .. } => waits[usize::from(*tag)] = true,
+        Event::Reply { tag, .. } => waits[usize::from(*tag)] = false,
+        _ => {}
+    }
+}
+
+/// Of each tag whether it waits for a reply at the end of the port's log.
+fn waits_at<L: LogRecords>(logs: &L, port: u8) -> [bool; TAGS]
+    requires port { port < length (L.lists logs.now) }
+    requires short { length (slice_index_or (L.lists logs.now) port []) ≤ 2 ^ 24 }
+    ensures len { length result ≡ 256 }
+    ensures waits { (tag : ℕ) → tag < 256 → slice_index_or result tag false
+        ≡ waits (slice_index_or (L.lists logs.now) port []) tag }
+{
+    let mut room = room();
     let mut waits = [false; TAGS];
-    for item in log {
-        match &item.event {
-            Event::Issue { tag, .. } => waits[usize::from(*tag)] = true,
-            Event::Reply { tag, .. } => waits[usize::from(*tag)] = false,
-            _ => {}
-        }
+    for at in 0..logs.log_len(usize::from(port)) {
+        let place = Place {
+            log: port,
+            at: at as u32,
+        };
+        note(&mut waits, &logs.lend(place, &mut room).event);
     }
     waits
 }
@@ -31,23 +50,12 @@ fn count(waits: &[bool]) -> usize
     waits.iter().filter(|waits| **waits).count()
 }
 
-/// How many tags of the log wait for a reply.
-pub(crate) fn unanswered(log: &[Record]) -> u32
-    ensures { result ≡ unanswered log.now }
+/// How many tags of the port's log wait for a reply.
+pub(crate) fn unanswered<L: LogRecords>(logs: &L, port: u8) -> u32
+    requires port { port < length (L.lists logs.now) }
+    requires short { length (slice_index_or (L.lists logs.now) port []) ≤ 2 ^ 24 }
+    ensures { result ≡ unanswered (slice_index_or (L.lists logs.now) port []) }
 {
-    let waits = waits_of(log);
+    let waits = waits_at(logs, port);
     count(waits.as_slice()) as u32
-}
-
-/// The lowest tag of the log that waits for a reply.
-pub(crate) fn lowest_waiting(log: &[Record]) -> Option<u8>
-    ensures { IsLowestWaiting log.now result }
-{
-    let waits = waits_of(log);
-    for tag in 0..TAGS {
-        if waits[tag] {
-            return Some(tag as u8);
-        }
-    }
-    None
 }

@@ -1,5 +1,5 @@
 -- No count is greater than the number of changes.
-use Rattle.std.proofs.Common.{ℕ, ◌≤◌, ◌+◌, List, [], ◌∷◌, length, arith}
+use Rattle.std.proofs.Common.{ℕ, ◌≤◌, List, [], ◌∷◌, length, arith}
 use Rattle.lf_usage.specs.declared.change.Change.{Change}
 use Rattle.lf_usage.specs.declared.change.Change.TheVariants.{Taken, Joined, Filled, Evicted, Nothing}
 use Rattle.lf_usage.specs.Usage.{lines, held, targets}

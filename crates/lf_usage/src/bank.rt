@@ -2,33 +2,34 @@
 
 ghost use Rattle.std.specs.Prelude.{◌≡◌, ◌≤◌, ◌^◌, length, All, IfOk, IsSome};
 ghost use Rattle.lf_rules.specs.InRange.{IsShape};
-ghost use Rattle.lf_rules.specs.Lists.{lists_of};
 ghost use Rattle.lf_logs.specs.Places.{record_at, records_at};
 ghost use Rattle.lf_usage.specs.Usage.{bank_use};
 
 use crate::change::{change1, change2};
 use crate::tally::Tally;
 use crate::usage::BankUse;
-use lf_logs::{Place, record_at};
-use lf_rules::{Logs, NoMemory, Shape};
+use lf_history::room;
+use lf_logs::{LogRecords, Place};
+use lf_rules::{NoMemory, Shape};
 use std::alloc::Global;
 
 /// What the records at these places use at most of each level.
-pub(crate) fn bank_use(
+pub(crate) fn bank_use<L: LogRecords>(
     alloc: Global,
     shape: &Shape,
-    logs: &Logs,
+    logs: &L,
     places: &[Place],
 ) -> Result<BankUse, NoMemory>
     requires in_range { IsShape shape.now }
-    requires named { All (λ place. IsSome (record_at (lists_of logs.now) place)) places.now }
+    requires named { All (λ place. IsSome (record_at (L.lists logs.now) place)) places.now }
     requires few { length places.now ≤ 2 ^ 29 }
-    ensures { IfOk result (λ used. used ≡ bank_use shape.now (records_at (lists_of logs.now) places.now)) }
+    ensures { IfOk result (λ used. used ≡ bank_use shape.now (records_at (L.lists logs.now) places.now)) }
 {
     let mut one = Tally::new(alloc);
     let mut two = Tally::new(alloc);
+    let mut room = room();
     for place in places {
-        let event = &record_at(logs, *place).event;
+        let event = &logs.lend(*place, &mut room).event;
         one.note(change1(shape, event))?;
         two.note(change2(shape, event))?;
     }

@@ -1,9 +1,11 @@
 //! The tags of a port.
 
-ghost use Rattle.std.specs.Prelude.{◌≡◌};
+ghost use Rattle.std.specs.Prelude.{◌≡◌, ◌<◌, ◌≤◌, ◌^◌, [], length, slice_index_or};
 ghost use Rattle.lf_usage.specs.Usage.{higher, highest_tag};
 
-use lf_rules::{Event, Record};
+use lf_history::room;
+use lf_logs::{LogRecords, Place};
+use lf_rules::Event;
 
 /// The higher of a tag and that of the event, where it issues a request.
 fn higher(tag: Option<u8>, event: &Event) -> Option<u8>
@@ -15,13 +17,20 @@ fn higher(tag: Option<u8>, event: &Event) -> Option<u8>
     }
 }
 
-/// The highest tag of the requests of a log, where there is one.
-pub(crate) fn highest_tag(log: &[Record]) -> Option<u8>
-    ensures { result ≡ highest_tag log.now }
+/// The highest tag of the requests of the port's log, where there is one.
+pub(crate) fn highest_tag<L: LogRecords>(logs: &L, port: u8) -> Option<u8>
+    requires port { port < length (L.lists logs.now) }
+    requires short { length (slice_index_or (L.lists logs.now) port []) ≤ 2 ^ 24 }
+    ensures { result ≡ highest_tag (slice_index_or (L.lists logs.now) port []) }
 {
+    let mut room = room();
     let mut highest = None;
-    for item in log {
-        highest = higher(highest, &item.event);
+    for at in 0..logs.log_len(usize::from(port)) {
+        let place = Place {
+            log: port,
+            at: at as u32,
+        };
+        highest = higher(highest, &logs.lend(place, &mut room).event);
     }
     highest
 }

@@ -3,14 +3,13 @@
 ghost use Rattle.std.specs.Prelude.{◌≡◌, ◌+◌, ◌<◌, ◌≤◌, ◌^◌, ℕ, length, All, IfOk};
 ghost use Rattle.lf_rules.specs.InRange.{IsShape};
 ghost use Rattle.lf_rules.specs.Numbers.{bank_numbers, IsWhole};
-ghost use Rattle.lf_rules.specs.Lists.{lists_of};
 ghost use Rattle.lf_usage.specs.Usage.{IsBankUse, IsUsage};
 
 use crate::bank::bank_use;
 use crate::level::LevelUse;
 use crate::port::highest_tag;
-use lf_logs::bank_order;
-use lf_rules::{Logs, NoMemory, Shape};
+use lf_logs::{LogRecords, places_of_bank};
+use lf_rules::{NoMemory, Shape};
 use std::alloc::Global;
 
 /// What a bank uses at most of each level.
@@ -28,26 +27,31 @@ pub struct Usage {
     pub tags: Vec<Option<u8>>,
 }
 
-fn of_bank(alloc: Global, shape: &Shape, logs: &Logs, bank: u8) -> Result<BankUse, NoMemory>
+fn of_bank<L: LogRecords>(
+    alloc: Global,
+    shape: &Shape,
+    logs: &L,
+    bank: u8,
+) -> Result<BankUse, NoMemory>
     requires in_range { IsShape shape.now }
-    requires few { length logs.now.items ≤ 32 }
-    requires short { All (λ log. length log.items ≤ 2 ^ 24) logs.now.items }
-    requires whole { IsWhole (bank_numbers (lists_of logs.now) bank) }
-    ensures { IfOk result (IsBankUse shape.now (lists_of logs.now) bank) }
+    requires few { length (L.lists logs.now) ≤ 32 }
+    requires short { All (λ log. length log ≤ 2 ^ 24) (L.lists logs.now) }
+    requires whole { IsWhole (bank_numbers (L.lists logs.now) bank) }
+    ensures { IfOk result (IsBankUse shape.now (L.lists logs.now) bank) }
 {
-    let Ok(places) = bank_order(alloc, logs, bank) else {
+    let Ok(places) = places_of_bank(alloc, logs, bank) else {
         return Err(NoMemory);
     };
     bank_use(alloc, shape, logs, places.as_slice())
 }
 
-/// What the logs of a trace, whose banks' numbers are whole, use at most.
-pub fn usage_of(alloc: Global, shape: &Shape, logs: &Logs) -> Result<Usage, NoMemory>
+/// What the records of a trace, whose banks' numbers are whole, use at most.
+pub fn usage_of<L: LogRecords>(alloc: Global, shape: &Shape, logs: &L) -> Result<Usage, NoMemory>
     requires in_range { IsShape shape.now }
-    requires logs { length logs.now.items ≡ shape.now.ports + shape.now.banks }
-    requires short { All (λ log. length log.items ≤ 2 ^ 24) logs.now.items }
-    requires whole { (bank : ℕ) → bank < shape.now.banks → IsWhole (bank_numbers (lists_of logs.now) bank) }
-    ensures { IfOk result (IsUsage shape.now (lists_of logs.now)) }
+    requires logs { length (L.lists logs.now) ≡ shape.now.ports + shape.now.banks }
+    requires short { All (λ log. length log ≤ 2 ^ 24) (L.lists logs.now) }
+    requires whole { (bank : ℕ) → bank < shape.now.banks → IsWhole (bank_numbers (L.lists logs.now) bank) }
+    ensures { IfOk result (IsUsage shape.now (L.lists logs.now)) }
 {
     let mut banks = Vec::new(alloc);
     for bank in 0..shape.banks {
@@ -55,8 +59,8 @@ pub fn usage_of(alloc: Global, shape: &Shape, logs: &Logs) -> Result<Usage, NoMe
         banks.push(used)?;
     }
     let mut tags = Vec::new(alloc);
-    for port in 0..shape.ports as usize {
-        tags.push(highest_tag(logs[port].as_slice()))?;
+    for port in 0..shape.ports {
+        tags.push(highest_tag(logs, port as u8))?;
     }
     Ok(Usage { banks, tags })
 }

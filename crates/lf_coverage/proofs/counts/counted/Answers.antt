@@ -2,11 +2,10 @@ use Rattle.std.proofs.Common.{◌≡◌, ℕ, ◌+◌, ◌<◌, List, Some, leng
 use Rattle.std.specs.List.{slice_get}
 use Rattle.std.proofs.lemmas.List.FromFn.{length-map-range_with_len, get_or-map-range_with_len}
 use Rattle.lf_rules.specs.declared.event.Record.{Record}
-use Rattle.lf_rules.specs.Lists.{lists_of}
 use Rattle.lf_logs.specs.Places.{record_at, records_at}
 use Rattle.lf_stats.specs.Statistics.{held_count}
 use Rattle.lf_stats.proofs.Blocks.{nowhere}
-use Rattle.lf_stats.proofs.Orders.{length_found, get_found}
+use Rattle.lf_logs.proofs.Found.{length_found, get_found}
 use Rattle.lf_coverage.specs.Standing.{standing}
 use Rattle.lf_coverage.specs.Sights.{sight}
 use Rattle.lf_coverage.specs.Points.{reached}
@@ -17,9 +16,9 @@ use Rattle.lf_coverage.proofs.Standings.{waiting_le, waiting2_le, standing_at, s
 use Rattle.lf_coverage.proofs.counts.counted.Goals as goal
 
 pub bounds-held-i : goal.bounds-held-i
-bounds-held-i c =
-    let rs : List Record = records_at (lists_of c.args.logs.now) c.args.places.now in
-    let long : length rs ≡ length c.args.places.now = length_found (record_at (lists_of c.args.logs.now))
+bounds-held-i g c =
+    let rs : List Record = records_at (g.L.LogRecords.lists c.args.logs.now) c.args.places.now in
+    let long : length rs ≡ length c.args.places.now = length_found (record_at (g.L.LogRecords.lists c.args.logs.now))
     c.args.places.now c.requires.named in
     omega (
       arith,
@@ -30,9 +29,9 @@ bounds-held-i c =
     )
 
 pub bounds-held-i-in-loop-i : goal.bounds-held-i-in-loop-i
-bounds-held-i-in-loop-i c =
-    let rs : List Record = records_at (lists_of c.args.logs.now) c.args.places.now in
-    let long : length rs ≡ length c.args.places.now = length_found (record_at (lists_of c.args.logs.now))
+bounds-held-i-in-loop-i g c =
+    let rs : List Record = records_at (g.L.LogRecords.lists c.args.logs.now) c.args.places.now in
+    let long : length rs ≡ length c.args.places.now = length_found (record_at (g.L.LogRecords.lists c.args.logs.now))
     c.args.places.now c.requires.named in
     omega (
       arith,
@@ -43,8 +42,8 @@ bounds-held-i-in-loop-i c =
     )
 
 pub sight-seen-requires-clause-few : goal.sight-seen-requires-clause-few
-sight-seen-requires-clause-few c =
-    let rs : List Record = records_at (lists_of c.args.logs.now) c.args.places.now in
+sight-seen-requires-clause-few g c =
+    let rs : List Record = records_at (g.L.LogRecords.lists c.args.logs.now) c.args.places.now in
     omega (
       arith,
       ap length c.loop-i.invariant.kept.waiting,
@@ -54,8 +53,8 @@ sight-seen-requires-clause-few c =
     )
 
 pub sight-seen-requires-clause-few2 : goal.sight-seen-requires-clause-few2
-sight-seen-requires-clause-few2 c =
-    let rs : List Record = records_at (lists_of c.args.logs.now) c.args.places.now in
+sight-seen-requires-clause-few2 g c =
+    let rs : List Record = records_at (g.L.LogRecords.lists c.args.logs.now) c.args.places.now in
     omega (
       arith,
       ap length c.loop-i.invariant.kept.waiting2,
@@ -65,21 +64,22 @@ sight-seen-requires-clause-few2 c =
     )
 
 pub count-requires-clause-few : goal.count-requires-clause-few
-count-requires-clause-few c =
-    let rs : List Record = records_at (lists_of c.args.logs.now) c.args.places.now in
+count-requires-clause-few g c =
+    let rs : List Record = records_at (g.L.LogRecords.lists c.args.logs.now) c.args.places.now in
     few_reached c.args.shape.now rs c.loop-i.i c.loop-i.counts (omega (arith, c.loop-i-test.true, c.requires.few))
     c.loop-i.invariant.counted
 
 pub loop-i-preserved : goal.loop-i-preserved
-loop-i-preserved c =
+loop-i-preserved g c =
     let shape = c.args.shape.now in
-    let rs : List Record = records_at (lists_of c.args.logs.now) c.args.places.now in
+    let rs : List Record = records_at (g.L.LogRecords.lists c.args.logs.now) c.args.places.now in
     let n = c.loop-i.i in
-    let item = c.record_at-item.result.now in
+    let item = c.lend-item.result.now in
     let at_rs : slice_get rs n ≡ Some item =
-    get_found (record_at (lists_of c.args.logs.now)) c.args.places.now n nowhere c.requires.named c.loop-i-test.true
-    ∙ c.record_at-item.ensures in
-    let long : length rs ≡ length c.args.places.now = length_found (record_at (lists_of c.args.logs.now))
+    get_found (record_at (g.L.LogRecords.lists c.args.logs.now)) c.args.places.now n nowhere c.requires.named
+    c.loop-i-test.true
+    ∙ c.lend-item.ensures in
+    let long : length rs ≡ length c.args.places.now = length_found (record_at (g.L.LogRecords.lists c.args.logs.now))
     c.args.places.now c.requires.named in
     let held = λ (k : ℕ) (inside : k < length rs + 1).
     ap (λ (xs : List ℕ). get_or xs k 0) c.requires.held
@@ -95,10 +95,10 @@ loop-i-preserved c =
     }
 
 pub returns : goal.returns
-returns c =
+returns g c =
     let shape = c.args.shape.now in
-    let rs : List Record = records_at (lists_of c.args.logs.now) c.args.places.now in
-    let long : length rs ≡ length c.args.places.now = length_found (record_at (lists_of c.args.logs.now))
+    let rs : List Record = records_at (g.L.LogRecords.lists c.args.logs.now) c.args.places.now in
+    let long : length rs ≡ length c.args.places.now = length_found (record_at (g.L.LogRecords.lists c.args.logs.now))
     c.args.places.now c.requires.named in
     let here : c.loop-i.i ≡ length rs = omega (arith, c.loop-i-test.false, long) in
     subst (λ (k : ℕ). AreCounts c.loop-i.counts (λ point. reached shape rs point k)) here c.loop-i.invariant.counted

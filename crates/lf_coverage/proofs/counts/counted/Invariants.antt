@@ -1,4 +1,3 @@
-use Rattle.lf_rules.specs.Lists.{lists_of}
 use Rattle.lf_logs.specs.Places.{records_at}
 use Rattle.lf_coverage.specs.Standing.{standing}
 use Rattle.lf_coverage.specs.Points.{reached}
@@ -7,8 +6,8 @@ use Rattle.lf_coverage.specs.Counted.{AreCounts}
 use Rattle.lf_coverage.proofs.counts.counted.Given as goal
 
 abbrev pub invariant-loop-i : goal.invariant-loop-i
-invariant-loop-i l =
-    let rs = records_at (lists_of l.logs) l.places in
+invariant-loop-i g l =
+    let rs = records_at (g.L.LogRecords.lists l.logs) l.places in
     record {
       kept : IsKept l.kept (standing l.shape rs l.i);
       counted : AreCounts l.counts (λ point. reached l.shape rs point l.i);

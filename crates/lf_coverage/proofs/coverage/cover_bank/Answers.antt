@@ -3,7 +3,6 @@ use Rattle.std.proofs.Common.{arith}
 use Rattle.std.specs.List.{All}
 use Rattle.lf_rules.specs.declared.event.Record.{Record}
 use Rattle.lf_rules.specs.Fits.{is_block_size, is_factor}
-use Rattle.lf_rules.specs.Lists.{lists_of}
 use Rattle.lf_rules.specs.Numbers.{IsNumbered}
 use Rattle.lf_logs.specs.declared.order.Place.{Place}
 use Rattle.lf_logs.specs.Places.{record_at, records_at}
@@ -31,54 +30,55 @@ named_same : (logs : List (List Record)) (ps qs : List Place) → ps ≡ qs
 named_same logs ps qs e all = subst (λ (rs : List Place). All (λ place. IsSome (record_at logs place)) rs) (sym e) all
 
 pub held_counts-requires-clause-block : goal.held_counts-requires-clause-block
-held_counts-requires-clause-block c = some_block c.args.shape.now.block c.requires.in_range.block_size
+held_counts-requires-clause-block g c = some_block c.args.shape.now.block c.requires.in_range.block_size
 
 pub held_counts-requires-clause-named : goal.held_counts-requires-clause-named
-held_counts-requires-clause-named c = named_same (lists_of c.args.logs.now) _ _ c.as_slice.ensures.value
+held_counts-requires-clause-named g c = named_same (g.L.LogRecords.lists c.args.logs.now) _ _ c.as_slice.ensures.value
     c.in-Ok.ensures.order.named
 
 pub held_counts-requires-clause-few : goal.held_counts-requires-clause-few
-held_counts-requires-clause-few c =
+held_counts-requires-clause-few g c =
     omega (
       arith,
       ap length c.as_slice.ensures.value,
-      order_le c.args.logs.now.items c.args.bank c.in-Ok.places.items
+      order_le (g.L.LogRecords.lists c.args.logs.now) c.args.bank c.in-Ok.places.items
           c.requires.short c.in-Ok.ensures.order,
     )
 
 pub counted-requires-clause-some_block : goal.counted-requires-clause-some_block
-counted-requires-clause-some_block c = some_block c.args.shape.now.block c.requires.in_range.block_size
+counted-requires-clause-some_block g c = some_block c.args.shape.now.block c.requires.in_range.block_size
 
 pub counted-requires-clause-block : goal.counted-requires-clause-block
-counted-requires-clause-block c = block_at_most_64 c.args.shape.now.block c.requires.in_range.block_size
+counted-requires-clause-block g c = block_at_most_64 c.args.shape.now.block c.requires.in_range.block_size
 
 pub counted-requires-clause-factor : goal.counted-requires-clause-factor
-counted-requires-clause-factor c = some_factor c.args.shape.now.factor c.requires.in_range.factor
+counted-requires-clause-factor g c = some_factor c.args.shape.now.factor c.requires.in_range.factor
 
 pub counted-requires-clause-named : goal.counted-requires-clause-named
-counted-requires-clause-named c = named_same (lists_of c.args.logs.now) _ _ c.as_slice-2.ensures.value
+counted-requires-clause-named g c = named_same (g.L.LogRecords.lists c.args.logs.now) _ _ c.as_slice-2.ensures.value
     c.in-Ok.ensures.order.named
 
 pub counted-requires-clause-few : goal.counted-requires-clause-few
-counted-requires-clause-few c =
+counted-requires-clause-few g c =
     omega (
       arith,
       ap length c.as_slice-2.ensures.value,
-      order_le c.args.logs.now.items c.args.bank
+      order_le (g.L.LogRecords.lists c.args.logs.now) c.args.bank
           c.in-Ok.places.items c.requires.short c.in-Ok.ensures.order,
     )
 
 pub counted-requires-clause-held : goal.counted-requires-clause-held
-counted-requires-clause-held c =
+counted-requires-clause-held g c =
     let there : c.as_slice.result.now ≡ c.as_slice-2.result.now =
     c.as_slice.ensures.value ∙ sym c.as_slice-2.ensures.value in
     c.as_slice-3.ensures.value ∙ c.in_ok-held.ensures
-    ∙ ap (λ (ps : List Place). held_counts c.args.shape.now (records_at (lists_of c.args.logs.now) ps)) there
+    ∙ ap (λ (ps : List Place). held_counts c.args.shape.now (records_at (g.L.LogRecords.lists c.args.logs.now) ps))
+    there
 
 pub returns : goal.returns
-returns c =
+returns g c =
     let shape = c.args.shape.now in
-    let lists = lists_of c.args.logs.now in
+    let lists = g.L.LogRecords.lists c.args.logs.now in
     let bank = c.args.bank in
     let old = c.args.tallies.now.items in
     let new = c.add_bank.new.tallies.items in

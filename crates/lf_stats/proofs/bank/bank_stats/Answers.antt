@@ -5,12 +5,12 @@ use Rattle.std.specs.Global.{Vec}
 use Rattle.std.proofs.lemmas.List.{take_all}
 use Rattle.lf_rules.specs.declared.event.Event.{Event}
 use Rattle.lf_rules.specs.declared.event.Record.{Record}
-use Rattle.lf_rules.specs.Lists.{lists_of}
 use Rattle.lf_logs.specs.Places.{record_at, records_at}
 use Rattle.lf_stats.specs.Statistics.{accepts, held, held_count, greatest, kinds, is_hit, is_primary, is_merge}
 use Rattle.lf_stats.specs.Statistics.{is_stall}
 use Rattle.lf_stats.proofs.Blocks.{nowhere}
-use Rattle.lf_stats.proofs.Orders.{length_found, get_found, count_at, count_le, greatest_at, held_next, named_le}
+use Rattle.lf_logs.proofs.Found.{length_found, get_found}
+use Rattle.lf_stats.proofs.Orders.{count_at, count_le, greatest_at, held_next, named_le}
 use Rattle.lf_stats.proofs.Orders.{registers_le}
 use Rattle.lf_stats.proofs.bank.bank_stats.Goals as goal
 
@@ -18,8 +18,8 @@ abbrev lists_in : List (Vec ℕ) → List (List ℕ)
 lists_in vecs = map (λ v. v.items) vecs
 
 pub hold-requires-clause-few : goal.hold-requires-clause-few
-hold-requires-clause-few c register =
-    let rs = records_at (lists_of c.args.logs.now) c.args.places.now in
+hold-requires-clause-few g c register =
+    let rs = records_at (g.L.LogRecords.lists c.args.logs.now) c.args.places.now in
     omega (
       arith,
       named_le c.loop-place.held c.args.shape.now rs c.loop-place.place-index register
@@ -27,8 +27,8 @@ hold-requires-clause-few c register =
     )
 
 pub count-requires : goal.count-requires
-count-requires c port h =
-    let rs = records_at (lists_of c.args.logs.now) c.args.places.now in
+count-requires g c port h =
+    let rs = records_at (g.L.LogRecords.lists c.args.logs.now) c.args.places.now in
     omega (
       arith,
       c.loop-place.invariant.accepted port h,
@@ -37,14 +37,14 @@ count-requires c port h =
     )
 
 pub distinct-requires : goal.distinct-requires
-distinct-requires c =
+distinct-requires g c =
     let shape = c.args.shape.now in
-    let rs : List Record = records_at (lists_of c.args.logs.now) c.args.places.now in
+    let rs : List Record = records_at (g.L.LogRecords.lists c.args.logs.now) c.args.places.now in
     let n = c.loop-place.place-index in
-    let item = c.record_at.result.now in
+    let item = c.lend.result.now in
     let at_rs : slice_get rs n ≡ Some item =
-    get_found (record_at (lists_of c.args.logs.now)) c.args.places.now n nowhere c.requires.named
-    c.loop-place-test.true ∙ c.record_at.ensures in
+    get_found (record_at (g.L.LogRecords.lists c.args.logs.now)) c.args.places.now n nowhere c.requires.named
+    c.loop-place-test.true ∙ c.lend.ensures in
     let issues = λ (port : ℕ) (h : port < 256).
     ap (λ (v : List (Vec ℕ)). get_or (lists_in v) port []) c.as_slice.ensures.value
     ∙ c.in_ok-issued.ensures.issued port h in
@@ -54,14 +54,14 @@ distinct-requires c =
     record { few = omega (arith, registers_le c.hold.new.held shape rs (n + 1) now) }
 
 pub loop-place-preserved : goal.loop-place-preserved
-loop-place-preserved c =
+loop-place-preserved g c =
     let shape = c.args.shape.now in
-    let rs : List Record = records_at (lists_of c.args.logs.now) c.args.places.now in
+    let rs : List Record = records_at (g.L.LogRecords.lists c.args.logs.now) c.args.places.now in
     let n = c.loop-place.place-index in
-    let item = c.record_at.result.now in
+    let item = c.lend.result.now in
     let at_rs : slice_get rs n ≡ Some item =
-    get_found (record_at (lists_of c.args.logs.now)) c.args.places.now n nowhere c.requires.named
-    c.loop-place-test.true ∙ c.record_at.ensures in
+    get_found (record_at (g.L.LogRecords.lists c.args.logs.now)) c.args.places.now n nowhere c.requires.named
+    c.loop-place-test.true ∙ c.lend.ensures in
     let issues = λ (port : ℕ) (h : port < 256).
     ap (λ (v : List (Vec ℕ)). get_or (lists_in v) port []) c.as_slice.ensures.value
     ∙ c.in_ok-issued.ensures.issued port h in
@@ -91,11 +91,11 @@ loop-place-preserved c =
     }
 
 pub returns : goal.returns
-returns c =
+returns g c =
     let shape = c.args.shape.now in
-    let rs : List Record = records_at (lists_of c.args.logs.now) c.args.places.now in
+    let rs : List Record = records_at (g.L.LogRecords.lists c.args.logs.now) c.args.places.now in
     let n = c.loop-place.place-index in
-    let long : length rs ≡ length c.args.places.now = length_found (record_at (lists_of c.args.logs.now))
+    let long : length rs ≡ length c.args.places.now = length_found (record_at (g.L.LogRecords.lists c.args.logs.now))
     c.args.places.now c.requires.named in
     let here : n ≡ length rs = omega (arith, c.loop-place-test.false, long) in
     let all : take n rs ≡ rs = take_all n rs (omega arith) in

@@ -1,5 +1,4 @@
 use Rattle.std.proofs.Common.{◌≡◌, ◌+◌, ℕ, ◌<◌, take, get_or}
-use Rattle.lf_rules.specs.Lists.{lists_of}
 use Rattle.lf_logs.specs.Places.{records_at}
 use Rattle.lf_stats.specs.Standing.{IsHeld}
 use Rattle.lf_stats.specs.Statistics.{accepted, held, held_count, greatest, kinds, is_hit, is_primary, is_merge}
@@ -7,8 +6,8 @@ use Rattle.lf_stats.specs.Statistics.{is_stall}
 use Rattle.lf_stats.proofs.bank.bank_stats.Given as goal
 
 abbrev pub invariant-loop-place : goal.invariant-loop-place
-invariant-loop-place l =
-    let rs = records_at (lists_of l.logs) l.places in
+invariant-loop-place g l =
+    let rs = records_at (g.L.LogRecords.lists l.logs) l.places in
     record {
       accepted : (port : ℕ) → port < 256 → get_or l.accepted.counts port 0 ≡ accepted port (take l.place-index rs);
       held : IsHeld l.held (held l.shape rs l.place-index);

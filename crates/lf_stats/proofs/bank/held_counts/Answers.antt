@@ -4,19 +4,19 @@ use Rattle.std.specs.List.{slice_get, range_with_len}
 use Rattle.std.specs.Global.{Vec}
 use Rattle.std.proofs.lemmas.List.FromFn.{map-range_with_len_more}
 use Rattle.lf_rules.specs.declared.event.Record.{Record}
-use Rattle.lf_rules.specs.Lists.{lists_of}
 use Rattle.lf_logs.specs.Places.{record_at, records_at}
 use Rattle.lf_stats.specs.Statistics.{accepts, held, held_count}
 use Rattle.lf_stats.proofs.Blocks.{nowhere}
-use Rattle.lf_stats.proofs.Orders.{length_found, get_found, count_at, count_le, held_next, named_le, registers_le}
+use Rattle.lf_logs.proofs.Found.{length_found, get_found}
+use Rattle.lf_stats.proofs.Orders.{count_at, count_le, held_next, named_le, registers_le}
 use Rattle.lf_stats.proofs.bank.held_counts.Goals as goal
 
 abbrev lists_in : List (Vec ℕ) → List (List ℕ)
 lists_in vecs = map (λ v. v.items) vecs
 
 pub hold-requires-clause-few : goal.hold-requires-clause-few
-hold-requires-clause-few c register =
-    let rs = records_at (lists_of c.args.logs.now) c.args.places.now in
+hold-requires-clause-few g c register =
+    let rs = records_at (g.L.LogRecords.lists c.args.logs.now) c.args.places.now in
     omega (
       arith,
       named_le c.loop-place.held c.args.shape.now rs c.loop-place.place-index register
@@ -24,8 +24,8 @@ hold-requires-clause-few c register =
     )
 
 pub count-requires : goal.count-requires
-count-requires c port h =
-    let rs = records_at (lists_of c.args.logs.now) c.args.places.now in
+count-requires g c port h =
+    let rs = records_at (g.L.LogRecords.lists c.args.logs.now) c.args.places.now in
     omega (
       arith,
       c.loop-place.invariant.accepted port h,
@@ -34,14 +34,14 @@ count-requires c port h =
     )
 
 pub distinct-requires : goal.distinct-requires
-distinct-requires c =
+distinct-requires g c =
     let shape = c.args.shape.now in
-    let rs : List Record = records_at (lists_of c.args.logs.now) c.args.places.now in
+    let rs : List Record = records_at (g.L.LogRecords.lists c.args.logs.now) c.args.places.now in
     let n = c.loop-place.place-index in
-    let item = c.record_at.result.now in
+    let item = c.lend.result.now in
     let at_rs : slice_get rs n ≡ Some item =
-    get_found (record_at (lists_of c.args.logs.now)) c.args.places.now n nowhere c.requires.named
-    c.loop-place-test.true ∙ c.record_at.ensures in
+    get_found (record_at (g.L.LogRecords.lists c.args.logs.now)) c.args.places.now n nowhere c.requires.named
+    c.loop-place-test.true ∙ c.lend.ensures in
     let issues = λ (port : ℕ) (h : port < 256).
     ap (λ (v : List (Vec ℕ)). get_or (lists_in v) port []) c.as_slice.ensures.value
     ∙ c.in_ok-issued.ensures.issued port h in
@@ -51,14 +51,14 @@ distinct-requires c =
     record { few = omega (arith, registers_le c.hold.new.held shape rs (n + 1) now) }
 
 pub loop-place-preserved : goal.loop-place-preserved
-loop-place-preserved c =
+loop-place-preserved g c =
     let shape = c.args.shape.now in
-    let rs : List Record = records_at (lists_of c.args.logs.now) c.args.places.now in
+    let rs : List Record = records_at (g.L.LogRecords.lists c.args.logs.now) c.args.places.now in
     let n = c.loop-place.place-index in
-    let item = c.record_at.result.now in
+    let item = c.lend.result.now in
     let at_rs : slice_get rs n ≡ Some item =
-    get_found (record_at (lists_of c.args.logs.now)) c.args.places.now n nowhere c.requires.named
-    c.loop-place-test.true ∙ c.record_at.ensures in
+    get_found (record_at (g.L.LogRecords.lists c.args.logs.now)) c.args.places.now n nowhere c.requires.named
+    c.loop-place-test.true ∙ c.lend.ensures in
     let issues = λ (port : ℕ) (h : port < 256).
     ap (λ (v : List (Vec ℕ)). get_or (lists_in v) port []) c.as_slice.ensures.value
     ∙ c.in_ok-issued.ensures.issued port h in
@@ -80,11 +80,11 @@ loop-place-preserved c =
     }
 
 pub returns : goal.returns
-returns c =
+returns g c =
     let shape = c.args.shape.now in
-    let rs : List Record = records_at (lists_of c.args.logs.now) c.args.places.now in
+    let rs : List Record = records_at (g.L.LogRecords.lists c.args.logs.now) c.args.places.now in
     let n = c.loop-place.place-index in
-    let long : length rs ≡ length c.args.places.now = length_found (record_at (lists_of c.args.logs.now))
+    let long : length rs ≡ length c.args.places.now = length_found (record_at (g.L.LogRecords.lists c.args.logs.now))
     c.args.places.now c.requires.named in
     let here : n ≡ length rs = omega (arith, c.loop-place-test.false, long) in
     c.loop-place.invariant.counts ∙ ap (λ k. map (held_count shape rs) (range_with_len 0 (k + 1))) here

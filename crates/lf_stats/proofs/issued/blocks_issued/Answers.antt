@@ -12,11 +12,11 @@ use Rattle.lf_stats.proofs.issued.blocks_issued.Goals as goal
 use Rattle.lf_stats.proofs.issued.blocks_issued.Goals.{in-Issue+in_ok-push, in_default}
 
 pub loop-place-preserved : goal.loop-place-preserved
-loop-place-preserved c =
-    let logs = lists_of c.args.logs.now in
+loop-place-preserved g c =
+    let logs = g.L.LogRecords.lists c.args.logs.now in
     let places = c.args.places.now in
     let at = c.loop-place.place-index in
-    let item = c.record_at-item.result.now in
+    let item = c.lend-item.result.now in
     let vecs : List (Vec ℕ) = c.loop-place.lists.items in
     elim c.match-item.branch [
       | in-Issue+in_ok-push w ↦
@@ -40,14 +40,14 @@ loop-place-preserved c =
                 ++ cons_option (block_if (eqb n port) block) []) own
                 ∙ ap (λ b. issued c.args.shape.now port (records_at logs (take at places))
                 ++ cons_option (block_if (eqb item.log port) b) []) is
-                ∙ sym (issued_new c.args.shape.now logs places at item c.loop-place-test.true c.record_at-item.ensures
+                ∙ sym (issued_new c.args.shape.now logs places at item c.loop-place-test.true c.lend-item.ensures
                 port _ _ _ _ _ w.in-Issue.is);
           }
       | in_default w ↦ record {
         len = ap (λ (v : Vec (Vec ℕ)). length v.items) w.lists-is ∙ c.loop-place.invariant.len;
         issued = λ port h.
             ap (λ (v : Vec (Vec ℕ)). get_or (lists_of v) port []) w.lists-is ∙ c.loop-place.invariant.issued port h
-            ∙ sym (issued_same c.args.shape.now logs places at item c.loop-place-test.true c.record_at-item.ensures port
+            ∙ sym (issued_same c.args.shape.now logs places at item c.loop-place-test.true c.lend-item.ensures port
             (λ op tag size address bytes e. w.in_default.not-Issue op tag size address bytes e));
       }
     ]

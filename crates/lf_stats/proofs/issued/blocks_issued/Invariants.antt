@@ -5,9 +5,9 @@ use Rattle.lf_stats.specs.Statistics.{issued}
 use Rattle.lf_stats.proofs.issued.blocks_issued.Given as goal
 
 abbrev pub invariant-loop-place : goal.invariant-loop-place
-invariant-loop-place l = record {
+invariant-loop-place g l = record {
   len : length l.lists.items ≡ 256;
   issued : (port : ℕ) → port < 256
       → get_or (lists_of l.lists) port [] ≡ issued l.shape port
-      (records_at (lists_of l.logs) (take l.place-index l.places));
+      (records_at (g.L.LogRecords.lists l.logs) (take l.place-index l.places));
 }

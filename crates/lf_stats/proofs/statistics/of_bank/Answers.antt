@@ -3,10 +3,10 @@ use Rattle.lf_stats.proofs.Sizes.{order_le}
 use Rattle.lf_stats.proofs.statistics.of_bank.Goals as goal
 
 pub bank_stats-requires-clause-few : goal.bank_stats-requires-clause-few
-bank_stats-requires-clause-few c =
+bank_stats-requires-clause-few g c =
     omega (
       arith,
       ap length c.as_slice.ensures.value,
-      order_le c.args.logs.now.items c.args.bank c.in-Ok.places.items
+      order_le (g.L.LogRecords.lists c.args.logs.now) c.args.bank c.in-Ok.places.items
           c.requires.short c.in-Ok.ensures.order,
     )

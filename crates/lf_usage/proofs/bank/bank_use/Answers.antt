@@ -1,13 +1,11 @@
-use Rattle.std.proofs.Common.{◌≡◌, ℕ, ◌+◌, ◌<◌, List, ◌∷◌, Some, length, take, sym, ap, ◌∙◌, subst, arith}
+use Rattle.std.proofs.Common.{◌≡◌, List, ◌∷◌, Some, length, take, sym, ap, ◌∙◌, subst, arith}
 use Rattle.std.specs.List.{slice_get}
 use Rattle.std.proofs.lemmas.List.{take_all}
-use Rattle.lf_rules.specs.declared.event.Event.{Event}
 use Rattle.lf_rules.specs.declared.event.Record.{Record}
 use Rattle.lf_rules.specs.declared.shape.Shape.{Shape}
-use Rattle.lf_rules.specs.Lists.{lists_of}
 use Rattle.lf_logs.specs.Places.{record_at, records_at}
 use Rattle.lf_stats.proofs.Blocks.{nowhere}
-use Rattle.lf_stats.proofs.Orders.{length_found, get_found}
+use Rattle.lf_logs.proofs.Found.{length_found, get_found}
 use Rattle.lf_usage.specs.declared.change.Change.{Change}
 use Rattle.lf_usage.specs.Changes.{change1, change2, latest_first}
 use Rattle.lf_usage.specs.Usage.{level_use}
@@ -16,8 +14,8 @@ use Rattle.lf_usage.proofs.Latest.{latest_next, latest_le}
 use Rattle.lf_usage.proofs.bank.bank_use.Goals as goal
 
 pub note-requires : goal.note-requires
-note-requires c =
-    let rs : List Record = records_at (lists_of c.args.logs.now) c.args.places.now in
+note-requires g c =
+    let rs : List Record = records_at (g.L.LogRecords.lists c.args.logs.now) c.args.places.now in
     let n = c.loop-place.place-index in
     let change = change1 c.args.shape.now in
     record {
@@ -30,8 +28,8 @@ note-requires c =
     }
 
 pub note-requires-in-loop-place : goal.note-requires-in-loop-place
-note-requires-in-loop-place c =
-    let rs : List Record = records_at (lists_of c.args.logs.now) c.args.places.now in
+note-requires-in-loop-place g c =
+    let rs : List Record = records_at (g.L.LogRecords.lists c.args.logs.now) c.args.places.now in
     let n = c.loop-place.place-index in
     let change = change2 c.args.shape.now in
     record {
@@ -44,14 +42,14 @@ note-requires-in-loop-place c =
     }
 
 pub loop-place-preserved : goal.loop-place-preserved
-loop-place-preserved c =
+loop-place-preserved g c =
     let shape : Shape = c.args.shape.now in
-    let rs : List Record = records_at (lists_of c.args.logs.now) c.args.places.now in
+    let rs : List Record = records_at (g.L.LogRecords.lists c.args.logs.now) c.args.places.now in
     let n = c.loop-place.place-index in
-    let item = c.record_at.result.now in
+    let item = c.lend.result.now in
     let at_rs : slice_get rs n ≡ Some item =
-    get_found (record_at (lists_of c.args.logs.now)) c.args.places.now n nowhere c.requires.named
-    c.loop-place-test.true ∙ c.record_at.ensures in
+    get_found (record_at (g.L.LogRecords.lists c.args.logs.now)) c.args.places.now n nowhere c.requires.named
+    c.loop-place-test.true ∙ c.lend.ensures in
     let before1 = latest_first (change1 shape) (take n rs) in
     let before2 = latest_first (change2 shape) (take n rs) in
     record {
@@ -66,11 +64,11 @@ loop-place-preserved c =
     }
 
 pub returns : goal.returns
-returns c =
+returns g c =
     let shape : Shape = c.args.shape.now in
-    let rs : List Record = records_at (lists_of c.args.logs.now) c.args.places.now in
+    let rs : List Record = records_at (g.L.LogRecords.lists c.args.logs.now) c.args.places.now in
     let n = c.loop-place.place-index in
-    let long : length rs ≡ length c.args.places.now = length_found (record_at (lists_of c.args.logs.now))
+    let long : length rs ≡ length c.args.places.now = length_found (record_at (g.L.LogRecords.lists c.args.logs.now))
     c.args.places.now c.requires.named in
     let all : take n rs ≡ rs = take_all n rs (omega (arith, c.loop-place-test.false, long)) in
     λ i. record {

@@ -1,4 +1,4 @@
-use Rattle.std.proofs.Common.{◌+◌, ◌∙◌, arith}
+use Rattle.std.proofs.Common.{◌∙◌, arith}
 use Rattle.lf_usage.proofs.Bounds.{held_le, lines_le, targets_le}
 use Rattle.lf_usage.proofs.tally.Tally.make.Goals as goal
 

@@ -1,6 +1,5 @@
-use Rattle.std.proofs.Common.{ℕ, ◌+◌, ◌<◌, true, List, ◌++◌, length, take, get_or, refl, sym, ap, arith}
+use Rattle.std.proofs.Common.{◌+◌, ◌<◌, true, List, length, take, get_or, refl, sym, arith}
 use Rattle.std.proofs.lemmas.Grind.{put_two}
-use Rattle.lf_usage.specs.declared.level.LevelUse.{LevelUse}
 use Rattle.lf_usage.specs.declared.usage.BankUse.{BankUse}
 use Rattle.lf_usage.specs.Usage.{unused}
 use Rattle.lf_stats.specs.Text.{lines_from}

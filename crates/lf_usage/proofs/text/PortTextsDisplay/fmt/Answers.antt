@@ -1,4 +1,4 @@
-use Rattle.std.proofs.Common.{ℕ, ◌+◌, ◌<◌, true, List, ◌++◌, length, take, get_or, refl, sym, ap, arith, Option, None}
+use Rattle.std.proofs.Common.{ℕ, ◌+◌, ◌<◌, true, List, length, take, get_or, refl, sym, arith, Option, None}
 use Rattle.std.proofs.lemmas.Grind.{put_two}
 use Rattle.lf_stats.specs.Text.{lines_from}
 use Rattle.lf_usage.specs.Text.{port_line}
