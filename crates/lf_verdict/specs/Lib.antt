@@ -2,6 +2,7 @@
 pub mod Legal
 pub mod Parts
 pub mod Verdict
+pub mod Incomplete
 pub mod Configured
 pub mod Breaking
 pub mod Final

@@ -23,6 +23,7 @@ pub use laws::{
     one_is_named, other_headers_are_final, part_faults_are_final, verdicts_are_one,
     verdicts_for_are_one, workers_are_alike, yes_is_legal,
 };
+pub use lf_logs::Incomplete;
 pub use lf_pool::{Gate, NoGate, is_worker_count};
 pub use lf_rules::Ring;
 pub use pool::{check, check_shape};

@@ -12,6 +12,8 @@ mod examples;
 #[cfg(test)]
 mod growth;
 #[cfg(test)]
+mod incomplete;
+#[cfg(test)]
 mod later_versions;
 #[cfg(test)]
 mod mixtures;

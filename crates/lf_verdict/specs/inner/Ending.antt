@@ -1,5 +1,5 @@
 -- What the check of a trace's logs ends with.
-use Rattle.std.specs.Prelude.{◌≡◌, ℕ, ◌<◌, List, length, slice_index_or}
+use Rattle.std.specs.Prelude.{◌≡◌, ℕ, ◌<◌, List, length, slice_index_or, Option, None}
 use Rattle.lf_rules.specs.declared.shape.Shape.{Shape}
 use Rattle.lf_rules.specs.declared.event.Record.{Record}
 use Rattle.lf_rules.specs.declared.outcome.Outcome.{Outcome}
@@ -7,6 +7,8 @@ use Rattle.lf_rules.specs.declared.outcome.Outcome.TheVariants as outcomes
 use Rattle.lf_rules.specs.Address.{FlatMemory}
 use Rattle.lf_rules.specs.Order.{IsLeastOrder}
 use Rattle.lf_rules.specs.Ring.{skeletons_of}
+use Rattle.lf_logs.specs.declared.incomplete.Incomplete.{Incomplete}
+use Rattle.lf_logs.specs.Incomplete.{IsFirstIncomplete}
 use Rattle.lf_logs.specs.declared.order.NumberFault.{NumberFault}
 use Rattle.lf_logs.specs.declared.order.NumberFault.TheVariants as numbers
 use Rattle.lf_verdict.specs.declared.answer.Fault.TheVariants as faults
@@ -65,6 +67,11 @@ IsLogsVerdict shape memory logs (Yes events order) = IsOrderOf shape memory logs
 IsLogsVerdict shape memory logs (No fault) = IsFaultOfLogs shape memory logs fault
 IsLogsVerdict shape memory logs (Refused refusals.Memory) = Unit {0}
 IsLogsVerdict shape memory logs _ = ⊥
+
+-- the first request of the logs that has no reply, where the verdict is a yes
+abbrev pub IsLogsIncomplete : Shape → List (List Record) → Verdict → Option Incomplete → Type 0
+IsLogsIncomplete shape logs (Yes events order) found = IsFirstIncomplete shape.ports logs found
+IsLogsIncomplete shape logs verdict found = found ≡ None
 
 -- the verdict of the bytes, or out of memory
 abbrev pub IsVerdictOrWant : Shape → List ℕ → Verdict → Type 0

@@ -1,6 +1,7 @@
 //! What broke for good, whatever bytes follow.
 
 use crate::answer::{HeaderField, Verdict};
+use lf_logs::Incomplete;
 use lf_rules::Rule;
 
 /// A fault of one part of a trace. It stands whatever records follow.
@@ -44,6 +45,8 @@ pub struct Conclusion {
     pub verdict: Verdict,
     /// What broke first, where something did.
     pub broken: Option<Broken>,
+    /// After a yes the lowest tag without a reply, of the lowest port that has one.
+    pub incomplete: Option<Incomplete>,
 }
 
 /// The first record of a trace upon which a part broke, and a fault that broke upon it.

@@ -8,6 +8,7 @@ ghost use Rattle.lf_verdict.specs.Standing.{IsWatch, IsKnown, StandsAfterAll};
 ghost use Rattle.lf_verdict.specs.inner.Noting.{EndsInRange};
 ghost use Rattle.lf_verdict.specs.Named.{IsNamed, NoneBrokeSoFar};
 ghost use Rattle.lf_verdict.specs.Verdict.{IsDecided};
+ghost use Rattle.lf_verdict.specs.Incomplete.{IsIncompleteFor};
 ghost use Rattle.lf_verdict.specs.Final.{IsFinal, IsEarliest, IsUnbroken, NoneBrokeInTrace};
 ghost use Rattle.lf_verdict.specs.Session.{refusal_of, stop_told, IsRunning, HasTaken, IsRunningNow, IsInTurn, HasFed};
 ghost use Rattle.lf_verdict.specs.Session.{IsOfAnotherHeader, HeaderAgrees};
@@ -26,7 +27,7 @@ use crate::answer::{HeaderField, Refusal, Verdict};
 use crate::header::{differing, first_offset};
 use crate::laws::{other_headers_are_final, part_faults_are_final};
 use crate::session::breaking::{Broken, Conclusion};
-use crate::session::standing::Standing;
+use crate::session::standing::{Judged, Standing};
 use lf_codec::{
     CodecCause, CodecFault, Reader, Told, exact_reading, faults_stand, header_of_bytes, read_so_far,
 };
@@ -367,25 +368,29 @@ impl Intake {
         }
     }
 
-    /// The verdict of the bytes that were fed, once what came is judged.
-    fn verdict(&mut self) -> Verdict
+    /// The verdict of the bytes that were fed, once what came is judged, and after a yes the first request without a
+    /// reply.
+    fn judged(&mut self) -> Judged
         requires taken { (bytes : List ℕ) × HasTaken self.old bytes }
         requires drained { IsDrained self.old.judging self.old.reader self.old.memory.items }
-        ensures { (bytes : List ℕ) → HasTaken self.old bytes → IsVerdictOrWant self.old.shape bytes result }
+        ensures answer { (bytes : List ℕ) → HasTaken self.old bytes →
+            IsVerdictOrWant self.old.shape bytes result.verdict }
+        ensures incomplete { (bytes : List ℕ) → HasTaken self.old bytes →
+            IsIncompleteFor self.old.shape bytes result.verdict result.incomplete }
     {
         exact_reading();
         if let Err(told) = self.reader.finish() {
-            return Verdict::Refused(refusal_of(stop_of(told)));
+            return Judged::of(Verdict::Refused(refusal_of(stop_of(told))));
         }
         match &mut self.judging {
             Judging::Waiting => unreachable!(),
-            Judging::Another(field) => Verdict::Refused(Refusal::Header(*field)),
-            Judging::Running(standing) => standing.verdict(self.alloc),
+            Judging::Another(field) => Judged::of(Verdict::Refused(Refusal::Header(*field))),
+            Judging::Running(standing) => standing.judged(self.alloc),
         }
     }
 
-    /// The verdict of the bytes that were fed, and what broke first in them. Where they are judged and nothing is told,
-    /// no part of a trace in them is at fault.
+    /// The verdict of the bytes that were fed, what broke first in them, and after a yes the first request without a
+    /// reply. Where they are judged and nothing is told to have broken, no part of a trace in them is at fault.
     pub fn conclude(&mut self) -> Conclusion
         requires { (bytes : List ℕ) × HasFed self.old bytes }
         ensures answer { (bytes : List ℕ) → HasFed self.old bytes →
@@ -397,6 +402,8 @@ impl Intake {
             → IfSome result.broken (IsEarliest self.old.shape bytes) }
         ensures none { IsDecided result.verdict → (bytes : List ℕ) → HasFed self.old bytes
             → IfNone result.broken (NoneBrokeInTrace self.old.shape bytes) }
+        ensures incomplete { (bytes : List ℕ) → HasFed self.old bytes →
+            IsIncompleteFor self.old.shape bytes result.verdict result.incomplete }
     {
         exact_reading();
         read_so_far();
@@ -405,6 +412,7 @@ impl Intake {
             return Conclusion {
                 verdict,
                 broken: None,
+                incomplete: None,
             };
         }
         if let Err(NoMemory) = self.take_all() {
@@ -412,12 +420,15 @@ impl Intake {
             return Conclusion {
                 verdict,
                 broken: None,
+                incomplete: None,
             };
         }
         let found = self.broken();
+        let judged = self.judged();
         Conclusion {
-            verdict: self.verdict(),
+            verdict: judged.verdict,
             broken: found,
+            incomplete: judged.incomplete,
         }
     }
 

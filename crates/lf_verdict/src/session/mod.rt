@@ -8,6 +8,7 @@ ghost use Rattle.lf_config.specs.Configuration.{configuration_of};
 ghost use Rattle.lf_verdict.specs.declared.answer.Verdict.{Verdict};
 ghost use Rattle.lf_verdict.specs.declared.answer.Refusal.{Refusal};
 ghost use Rattle.lf_verdict.specs.Verdict.{IsDecided, IsVerdictOf, IsLegalYes};
+ghost use Rattle.lf_verdict.specs.Incomplete.{IsIncompleteFor};
 ghost use Rattle.lf_verdict.specs.Laws.{IsRunlessNo};
 ghost use Rattle.lf_verdict.specs.Final.{IsFinal, IsEarliest, IsUnbroken, NoneBrokeInTrace};
 ghost use Rattle.lf_verdict.specs.Session.{IsConfigRefusal, refusal_of, stop_told, IsRefusalSoFar, HasFed};
@@ -102,7 +103,8 @@ impl Session {
 
     /// The verdict of the bytes that were fed, as that of `finish`, and what broke first in them, as `broken` tells it
     /// once all of them are judged. So where the verdict is a yes or a no and nothing is told, no part of the trace is
-    /// at fault. After a refused `feed`, and where memory ran out, nothing is told.
+    /// at fault. After a refused `feed`, and where memory ran out, nothing is told. After a yes it also says which
+    /// request is the first without a reply at the end of the trace: the lowest tag of the lowest port that has one.
     pub fn conclude(self) -> Conclusion
         ensures legal { (bytes : List ℕ) → HasFed self bytes → IsLegalYes self.shape bytes result.verdict }
         ensures runless { (bytes : List ℕ) → HasFed self bytes → IsRunlessNo self.shape bytes result.verdict }
@@ -115,6 +117,9 @@ impl Session {
         ensures earliest { (bytes : List ℕ) → HasFed self bytes → IfSome result.broken (IsEarliest self.shape bytes) }
         ensures none { IsDecided result.verdict → (bytes : List ℕ) → HasFed self bytes →
             IfNone result.broken (NoneBrokeInTrace self.shape bytes) }
+        // Which request has no reply.
+        ensures incomplete { (bytes : List ℕ) → HasFed self bytes →
+            IsIncompleteFor self.shape bytes result.verdict result.incomplete }
     {
         yes_is_legal();
         no_has_no_run();

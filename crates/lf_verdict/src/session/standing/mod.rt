@@ -22,6 +22,7 @@ pub use bank_judge::BankJudge;
 use lf_lengths::record_len;
 use lf_rules::{NoMemory, Outcome, Record};
 pub use log_entries::Entries;
+pub use verdict::Judged;
 
 /// The entries of the logs so far, with how each port stands, how each bank stands, and whether one of them broke.
 #[derive(Drop)]

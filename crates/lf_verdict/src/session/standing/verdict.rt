@@ -1,11 +1,12 @@
 //! The verdict of a trace whose records have all come.
 
-ghost use Rattle.std.specs.Prelude.{◌≤◌, ◌<◌, ℕ, List, length, IfOk, IfErr, OnOk, IfSome, IfNone};
+ghost use Rattle.std.specs.Prelude.{◌≡◌, ◌≤◌, ◌<◌, ℕ, List, length, None, IfOk, IfErr, OnOk, IfSome, IfNone};
 ghost use Rattle.lf_rules.specs.declared.shape.Shape.{Shape};
 ghost use Rattle.lf_rules.specs.declared.event.Record.{Record};
 ghost use Rattle.lf_rules.specs.Address.{FlatMemory};
+ghost use Rattle.lf_logs.specs.Incomplete.{IsFirstIncomplete};
 ghost use Rattle.lf_verdict.specs.Parts.{PartsRun};
-ghost use Rattle.lf_verdict.specs.inner.Ending.{IsEnding, AreWholeBelow, IsOrderOf, IsLogsVerdict};
+ghost use Rattle.lf_verdict.specs.inner.Ending.{IsEnding, AreWholeBelow, IsOrderOf, IsLogsVerdict, IsLogsIncomplete};
 ghost use Rattle.lf_verdict.specs.inner.Coming.{logs_so_far, IsShort, CanEnd};
 ghost use Rattle.lf_verdict.specs.Standing.{StandsAfterAll, IsWatch, IsKnown};
 ghost use Rattle.lf_verdict.specs.Breaking.{IsFaultOfPart, NoneBroke};
@@ -18,7 +19,27 @@ use crate::early_end::{Ending, number_ending};
 use crate::order::least_order;
 use crate::session::breaking::{Broken, FirstBreak, PartFault, Watch};
 use crate::session::standing::Standing;
+use lf_logs::Incomplete;
 use std::alloc::Global;
+
+/// The verdict of the records that came, and after a yes the first request that has no reply.
+#[derive(Drop)]
+pub struct Judged {
+    pub verdict: Verdict,
+    pub incomplete: Option<Incomplete>,
+}
+
+impl Judged {
+    /// Where no request without a reply is told.
+    pub fn of(verdict: Verdict) -> Judged
+        ensures { result ≡ record { verdict = verdict; incomplete = None } }
+    {
+        Judged {
+            verdict,
+            incomplete: None,
+        }
+    }
+}
 
 impl Standing {
     /// The least number of the lowest bank that is missing or double.
@@ -79,20 +100,44 @@ impl Standing {
         least_order(alloc, &self.entries.logs)
     }
 
-    /// The verdict of the records so far, as those of a whole trace.
-    pub fn verdict(&self, alloc: Global) -> Verdict
-        requires { CanEnd self.now }
+    /// The lowest tag without a reply, of the lowest port that has one.
+    fn first_incomplete(&self) -> Option<Incomplete>
+        requires { length self.now.entries.ports.items ≤ 16 }
         ensures { (shape : Shape) (memory : FlatMemory) (records : List Record) →
+            StandsAfterAll shape memory records self.now
+            → PartsRun shape memory (logs_so_far shape records)
+            → IsFirstIncomplete shape.ports (logs_so_far shape records) result }
+    {
+        for port in 0..self.entries.ports.len() {
+            let judge = &self.entries.ports[port];
+            if let Some(tag) = judge.step.lowest_waiting() {
+                let port = port as u8;
+                return Some(Incomplete { port, tag });
+            }
+        }
+        None
+    }
+
+    /// The verdict of the records so far, as those of a whole trace, and after a yes the first request without a reply.
+    pub fn judged(&self, alloc: Global) -> Judged
+        requires { CanEnd self.now }
+        ensures verdict { (shape : Shape) (memory : FlatMemory) (records : List Record) →
             StandsAfterAll shape memory records self.now → IsShort shape records
-            → IsLogsVerdict shape memory (logs_so_far shape records) result }
+            → IsLogsVerdict shape memory (logs_so_far shape records) result.verdict }
+        ensures incomplete { (shape : Shape) (memory : FlatMemory) (records : List Record) →
+            StandsAfterAll shape memory records self.now → IsShort shape records
+            → IsLogsIncomplete shape (logs_so_far shape records) result.verdict result.incomplete }
     {
         match self.judged_order(alloc) {
-            Ok(order) => Verdict::Yes {
-                events: order.len() as u32,
-                order,
+            Ok(order) => Judged {
+                verdict: Verdict::Yes {
+                    events: order.len() as u32,
+                    order,
+                },
+                incomplete: self.first_incomplete(),
             },
-            Err(Ending::Fault(fault)) => Verdict::No(fault),
-            Err(Ending::NoMemory) => Verdict::Refused(Refusal::Memory),
+            Err(Ending::Fault(fault)) => Judged::of(Verdict::No(fault)),
+            Err(Ending::NoMemory) => Judged::of(Verdict::Refused(Refusal::Memory)),
         }
     }
 

@@ -3,6 +3,7 @@ use Rattle.std.specs.Prelude.{IfSome, IfNone}
 use Rattle.lf_verdict.specs.declared.session.intake.Intake.{Intake}
 use Rattle.lf_verdict.specs.inner.Ending.{IsVerdictOrWant}
 use Rattle.lf_verdict.specs.Final.{IsFinal, IsEarliest, NoneBrokeInTrace}
+use Rattle.lf_verdict.specs.Incomplete.{IsIncompleteFor}
 use Rattle.lf_verdict.specs.Session.{HasFed}
 use Rattle.lf_verdict.proofs.Answered.{legal_yes, runless_no, verdict_of, never_thread}
 use Rattle.lf_verdict.proofs.session.Session.conclude.Goals as goal
@@ -44,3 +45,9 @@ pub returns-clause-none : goal.returns-clause-none
 returns-clause-none c decided bytes fed =
     subst (λ (s : Intake). IfNone c.conclude.result.broken (NoneBrokeInTrace s.shape bytes)) c.self.view_is
     (c.conclude.ensures.none decided bytes (subst (λ (s : Intake). HasFed s bytes) (sym c.self.view_is) fed))
+
+pub returns-clause-incomplete : goal.returns-clause-incomplete
+returns-clause-incomplete c bytes fed =
+    subst (λ (s : Intake). IsIncompleteFor s.shape bytes c.conclude.result.verdict c.conclude.result.incomplete)
+    c.self.view_is
+    (c.conclude.ensures.incomplete bytes (subst (λ (s : Intake). HasFed s bytes) (sym c.self.view_is) fed))

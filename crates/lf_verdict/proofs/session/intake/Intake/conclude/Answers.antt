@@ -6,6 +6,7 @@ use Rattle.lf_verdict.specs.declared.answer.Verdict.TheVariants.{Refused}
 use Rattle.lf_verdict.specs.declared.session.intake.Stop.{Stop}
 use Rattle.lf_verdict.specs.inner.Ending.{IsVerdictOrWant}
 use Rattle.lf_verdict.specs.Final.{IsFinal, IsEarliest, NoneBrokeInTrace}
+use Rattle.lf_verdict.specs.Incomplete.{IsIncompleteFor}
 use Rattle.lf_verdict.specs.Session.{HasFedUntil}
 use Rattle.lf_verdict.specs.Verdict.{IsDecided}
 use Rattle.lf_verdict.proofs.Aheads.{still_going}
@@ -31,16 +32,16 @@ broken-found-requires c =
           (c.in_default-take_all.ensures.taken bytes (going s bytes c.in_default.is c.requires.1)),
     )
 
-pub verdict-requires-clause-taken : goal.verdict-requires-clause-taken
-verdict-requires-clause-taken c =
+pub judged-judged-requires-clause-taken : goal.judged-judged-requires-clause-taken
+judged-judged-requires-clause-taken c =
     let s = c.args.self.now in
     let bytes = c.requires.0 in
     (bytes, c.in_default-take_all.ensures.taken bytes (going s bytes c.in_default.is c.requires.1))
 
 pub returns-clause-answer : goal.returns-clause-answer
 returns-clause-answer c bytes fed =
-    subst (λ (shape : Shape). IsVerdictOrWant shape bytes c.verdict.result) c.in_default-take_all.ensures.shape
-    (c.verdict.ensures bytes
+    subst (λ (shape : Shape). IsVerdictOrWant shape bytes c.judged-judged.result.verdict) c.in_default-take_all.ensures.shape
+    (c.judged-judged.ensures.answer bytes
     (c.in_default-take_all.ensures.taken bytes (going c.args.self.now bytes c.in_default.is fed)))
 
 pub returns-clause-stands : goal.returns-clause-stands
@@ -69,3 +70,10 @@ returns-clause-none c decided bytes fed =
     subst (λ (shape : Shape). NoneBrokeInTrace shape bytes) c.in_default-take_all.ensures.shape
     (none_in_trace c.exact_reading.ensures c.read_so_far.ensures t bytes m.0 m.1 c.in_default-take_all.ensures.drained
     (unbroken (c.in_default-take_all.ensures.stop ∙ c.in_default.is) m.0 m.1)))
+
+pub returns-clause-incomplete : goal.returns-clause-incomplete
+returns-clause-incomplete c bytes fed =
+    subst (λ (shape : Shape). IsIncompleteFor shape bytes c.judged-judged.result.verdict c.judged-judged.result.incomplete)
+    c.in_default-take_all.ensures.shape
+    (c.judged-judged.ensures.incomplete bytes
+    (c.in_default-take_all.ensures.taken bytes (going c.args.self.now bytes c.in_default.is fed)))
