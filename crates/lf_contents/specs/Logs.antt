@@ -1,12 +1,10 @@
 -- The logs of a trace.
 use Rattle.std.specs.Prelude.{◌≡◌, ℕ, ◌+◌, ◌<◌, ◌≤◌, ◌^◌, List, length}
-use Rattle.std.specs.Global.{Vec}
 use Rattle.std.specs.List.{All}
 use Rattle.lf_rules.specs.declared.shape.Shape.{Shape}
 use Rattle.lf_rules.specs.declared.event.Record.{Record}
 use Rattle.lf_rules.specs.Fits.{Bytes}
 use Rattle.lf_rules.specs.Numbers.{bank_numbers, IsWhole}
-use Rattle.lf_logs.specs.Lists.{lists_of}
 use Rattle.lf_verdict.specs.Legal.{IsTraceFor}
 
 -- The bytes are a trace for the shape, whose banks' numbers are whole.
@@ -18,9 +16,9 @@ pub record IsCountable (shape : Shape) (bytes : List ℕ) : Type 0 where
 
 -- These are the logs of the trace in the bytes: one for each port and each bank, with at most 2^24 records each, and
 -- whole numbers of each bank.
-pub record AreLogsIn (shape : Shape) (bytes : List ℕ) (logs : Vec (Vec Record)) : Type 0 where
+pub record AreListsIn (shape : Shape) (bytes : List ℕ) (lists : List (List Record)) : Type 0 where
   pub memory : List (ℕ × Bytes)
-  pub trace : IsTraceFor shape bytes memory (lists_of logs)
-  pub count : length logs.items ≡ shape.ports + shape.banks
-  pub short : All (λ (log : Vec Record). length log.items ≤ 2 ^ 24) logs.items
-  pub whole : (bank : ℕ) → bank < shape.banks → IsWhole (bank_numbers (lists_of logs) bank)
+  pub trace : IsTraceFor shape bytes memory lists
+  pub count : length lists ≡ shape.ports + shape.banks
+  pub short : All (λ log. length log ≤ 2 ^ 24) lists
+  pub whole : (bank : ℕ) → bank < shape.banks → IsWhole (bank_numbers lists bank)

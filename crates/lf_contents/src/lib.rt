@@ -1,8 +1,8 @@
 //! What stands in the bytes of a trace: its memory, its records and its logs.
 //!
-//! `parts_in` and `records_in` read any bytes, as far as these are a trace. `trace_in` reads a trace, with its header,
-//! and `logs_in` splits the records of one that was found legal into its logs. `packed_in` reads a trace and keeps its
-//! records in the form of their bytes. Where they answer `NoMemory`, a growth was refused.
+//! `parts_in` and `records_in` read any bytes, as far as these are a trace. `trace_in` reads a trace, with its header.
+//! `packed_in` reads a trace and keeps its records in the form of their bytes, and `packed_logs_in` also splits them into
+//! the logs of a trace that was found legal. Where they answer `NoMemory`, a growth was refused.
 #![tactic(auto)]
 
 mod logs;
@@ -11,6 +11,6 @@ mod parts;
 #[cfg(test)]
 mod tests;
 
-pub use logs::logs_in;
+pub use logs::packed_logs_in;
 pub use packing::{Packing, packed_in};
 pub use parts::{Parts, Trace, parts_in, records_in, trace_in};
