@@ -1,10 +1,9 @@
 -- The records at some places, one more, and where they break.
 use Rattle.std.proofs.Common.{◌≡◌, ℕ, zero, suc, ◌+◌, ◌<◌, Bool, true, false, ◌||◌, if◌then◌else◌, List, [], ◌∷◌}
 use Rattle.std.proofs.Common.{◌++◌, length, get_or, take, drop, Option, Some, None, refl, sym, ap, ◌∙◌, subst}
-use Rattle.std.proofs.Common.{append_assoc, append-nil}
 use Rattle.std.specs.Prelude.{option_to_list, option_map, unwrap_or, slice_get}
 use Rattle.std.specs.List.{list_any, AllByRecursion}
-use Rattle.std.proofs.lemmas.List.{take_more, drop_more, take-append-drop}
+use Rattle.std.proofs.lemmas.List.{drop_more, take-append-drop}
 use Rattle.std.proofs.lemmas.Option.{none-some, same_Some}
 use Rattle.lf_rules.specs.declared.mask.Mask.{Mask}
 use Rattle.lf_rules.specs.declared.shape.Shape.{Shape}
@@ -15,22 +14,7 @@ use Rattle.lf_rules.specs.Table.{OfBank, bank_effect, is_ready_for, first_ready}
 use Rattle.lf_rules.specs.Run.{BreaksAt}
 use Rattle.lf_history.specs.BankOrder.{records_at}
 use Rattle.lf_history.specs.Touching.{record_at}
-
-records_append : (rs : List Record) (xs ys : List (Option ℕ)) →
-    records_at rs (xs ++ ys) ≡ records_at rs xs ++ records_at rs ys
-records_append rs [] ys = refl
-records_append rs (at ∷ xs) ys =
-    ap (λ (zs : List Record). option_to_list (record_at rs at) ++ zs) (records_append rs xs ys)
-    ∙ sym (append_assoc (option_to_list (record_at rs at)) (records_at rs xs) (records_at rs ys))
-
--- with the record at one place more
-pub taken_more : (rs : List Record) (places : List (Option ℕ)) (i : ℕ) (o : Option Record) → i < length places →
-    record_at rs (get_or places i None) ≡ o
-    → records_at rs (take (i + 1) places) ≡ records_at rs (take i places) ++ option_to_list o
-taken_more rs places i o lt here =
-    ap (records_at rs) (take_more places i None lt) ∙ records_append rs (take i places) (get_or places i None ∷ [])
-    ∙ ap (λ (zs : List Record). records_at rs (take i places) ++ zs)
-    (append-nil (option_to_list (record_at rs (get_or places i None))) ∙ ap option_to_list here)
+use Rattle.lf_history.proofs.RecordsAt.{records_append}
 
 -- those that are left begin with the record at this place
 pub left_from : (rs : List Record) (places : List (Option ℕ)) (i : ℕ) (o : Option Record) → i < length places →

@@ -13,7 +13,8 @@ use Rattle.lf_rules.specs.declared.event.Event.TheVariants as events
 use Rattle.lf_rules.specs.declared.event.Record.{Record}
 use Rattle.lf_rules.specs.Address.{block_of}
 use Rattle.lf_rules.specs.Fits.{Fits, FitsEvent, is_block_size}
-use Rattle.lf_explain.specs.Request.{asked_by, requested}
+use Rattle.lf_history.specs.Request.{address_by}
+use Rattle.lf_explain.specs.Request.{requested}
 
 -- the block of the address has a number
 abbrev pub HasBlock : Shape → Option ℕ → Type 0
@@ -26,7 +27,7 @@ chosen P false address earlier now before = before
 
 asked_fits : (shape : Shape) (bank port tag log : ℕ) (event : Event) (earlier : Option ℕ) →
     FitsEvent shape.banks shape.block shape.factor bank event
-    → HasBlock shape earlier → HasBlock shape (asked_by port tag log event earlier)
+    → HasBlock shape earlier → HasBlock shape (address_by port tag log event earlier)
 asked_fits shape bank port tag log (events.Issue op t size address bytes) earlier fits before =
     chosen (HasBlock shape) ((log == port) && (t == tag)) address earlier
     (λ x e. subst (λ y. block_of shape y < 0x1_0000_0000) (same_Some address x e) fits.block_fits) before
@@ -47,10 +48,10 @@ asked_fits shape bank port tag log (events.SecondMerge block register) earlier f
 
 last_fits : (shape : Shape) (port tag : ℕ) (rs : List Record) (earlier : Option ℕ) → AllByRecursion (Fits shape) rs →
     HasBlock shape earlier
-    → HasBlock shape (fold (λ last r. asked_by port tag r.log r.event last) earlier rs)
+    → HasBlock shape (fold (λ last r. address_by port tag r.log r.event last) earlier rs)
 last_fits shape port tag [] earlier all before = before
 last_fits shape port tag (r ∷ rs) earlier all before =
-    last_fits shape port tag rs (asked_by port tag r.log r.event earlier) all.1
+    last_fits shape port tag rs (address_by port tag r.log r.event earlier) all.1
     (asked_fits shape r.bank port tag r.log r.event earlier all.0.event before)
 
 nothing_fits : (shape : Shape) → HasBlock shape None

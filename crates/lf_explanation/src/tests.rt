@@ -1,6 +1,6 @@
 //! Explanations, with their texts written out.
 
-ghost use Rattle.std.specs.Prelude.{◌≡◌, ◌++◌, ◌∷◌, [], true, IfOk, OnOk};
+ghost use Rattle.std.specs.Prelude.{◌≡◌, true};
 ghost use Rattle.std.specs.List.{AllByRecursion};
 ghost use Rattle.lf_rules.specs.Fits.{Fits};
 ghost use Rattle.lf_rules.specs.InRange.{IsShape};
@@ -8,8 +8,9 @@ ghost use Rattle.lf_explanation.specs.Explanation.{HasBank};
 
 use crate::{Breach, Explained, Explanation, explain};
 use lf_codec::Packed;
-use lf_listing::{Listing, Mark};
-use lf_rules::{Block, Event, Level, NoMemory, Op, OrgShape, Record, Rule, Shape, fits};
+use lf_history::packed;
+use lf_listing::{Listing, Marks};
+use lf_rules::{Block, Event, Level, Op, OrgShape, Record, Rule, Shape, fits};
 use std::alloc::{AllocError, Global};
 use std::process::Abort;
 use std::test::Fail;
@@ -53,30 +54,11 @@ fn has_bank(shape: &Shape, breach: &Breach) -> bool
     }
 }
 
-/// Packs a copy of the record behind the others.
-fn pack(packed: &mut Packed, item: &Record) -> Result<(), NoMemory>
-    ensures { OnOk result (packed.new.records ≡ packed.old.records ++ item.now ∷ []) }
-{
-    packed.push(item.clone()?)?;
-    Ok(())
-}
-
-/// The records, packed.
-fn packed(alloc: Global, records: &[Record]) -> Result<Packed, NoMemory>
-    ensures { IfOk result (λ packed. packed.records ≡ records.now) }
-{
-    let mut packed = Packed::new(alloc);
-    for item in records {
-        pack(&mut packed, item)?;
-    }
-    Ok(packed)
-}
-
 /// The text of an explanation over records with these marks.
 fn text_of<'a>(
     alloc: Global,
     records: &'a Packed,
-    marks: &'a [Mark],
+    marks: &'a Marks,
     why: &'a Explanation,
 ) -> Result<String, AllocError> {
     let listing = Listing { records, marks };
@@ -102,11 +84,11 @@ fn assert_explained<T: Abort + AllocGlobal>(
     let Ok(why) = explain(rt.alloc(), &SHAPE, &memory, &packed, &breach, most) else {
         return Err(Fail::from("out of memory"));
     };
-    let mut marks = Vec::new(rt.alloc());
-    for offset in [16, 24, 32, 40] {
-        marks.push(Mark { offset, time: None })?;
-    }
-    let text = text_of(rt.alloc(), &packed, marks.as_slice(), &why)?;
+    let marks = Marks {
+        offsets: Vec::from_array(rt.alloc(), [16, 24, 32, 40])?,
+        times: Vec::new(rt.alloc()),
+    };
+    let text = text_of(rt.alloc(), &packed, &marks, &why)?;
     assert_eq!(rt; text.as_str(), due);
     Ok(())
 }

@@ -1,15 +1,16 @@
 -- What stands beside records that come one after another.
-use Rattle.std.proofs.Common.{◌≡◌, ℕ, ◌+◌, ◌<◌, ◌≤◌, Bool, true, false, cond, ◌==◌, List, [], ◌∷◌, ◌++◌, length, filter}
+use Rattle.std.proofs.Common.{◌≡◌, ℕ, ◌+◌, ◌<◌, ◌≤◌, Bool, true, false, cond, ◌==◌, List, [], ◌∷◌, ◌++◌, length, filter, map}
 use Rattle.std.proofs.Common.{get_or, set, take, drop, refl, sym, ap, ◌∙◌, arith, Option, eqb-true}
 use Rattle.std.proofs.lemmas.Bool.{eqb-false}
 use Rattle.std.proofs.lemmas.List.{append-nil, append_assoc, length-append, get_or-set_same, get_or-set_other}
-use Rattle.std.proofs.lemmas.List.{map-append, take-append-drop, take_more}
+use Rattle.std.proofs.lemmas.List.{map-append, take-append-drop, take_more, length-take}
 use Rattle.std.proofs.lemmas.List.Elements.{filter-append}
 use Rattle.std.proofs.lemmas.List.Sums.{length-filter, count_by-le-length}
+use Rattle.lf_rules.specs.declared.event.Event.TheVariants as events
 use Rattle.lf_rules.specs.declared.event.Record.{Record}
 use Rattle.lf_lengths.specs.Lengths.{bytes_len}
-use Rattle.lf_listing.specs.declared.mark.Mark.{Mark}
-use Rattle.lf_listing.specs.Marks.{Beside, count_in, beside, besides, beside_of, besides_from, besides_of}
+use Rattle.lf_listing.specs.Marks.{Beside, count_in, besides_in, beside_of, besides_from, besides_of, untold}
+use Rattle.lf_listing.specs.Marks.{offsets_of, times_of}
 
 -- ---- offsets
 
@@ -21,14 +22,6 @@ bytes_len-append (x ∷ xs) ys = omega (arith, bytes_len-append xs ys)
 pub first_bytes : (rs : List Record) (n : ℕ) → bytes_len (take n rs) ≤ bytes_len rs
 first_bytes rs n = omega (arith, bytes_len-append (take n rs) (drop n rs), ap bytes_len (take-append-drop n rs))
 
--- a record has a byte at least
-few : (rs : List Record) → length rs ≤ bytes_len rs
-few [] = omega arith
-few (r ∷ rs) = omega (arith, few rs)
-
-pub few_in : (rs : List Record) (log : ℕ) → count_in rs log ≤ bytes_len rs
-few_in rs log = omega (arith, few rs, count_by-le-length (λ (x : Record). x.log == log) rs)
-
 -- ---- counts
 
 count_more : (rs : List Record) (r : Record) (log : ℕ)
@@ -38,6 +31,11 @@ count_more rs r log =
     sym (length-filter own (rs ++ r ∷ [])) ∙ ap length (filter-append own rs (r ∷ []))
     ∙ length-append (filter own rs) (filter own (r ∷ []))
     ∙ ap (λ (n : ℕ). n + length (filter own (r ∷ []))) (length-filter own rs)
+
+-- no log has more records than there are
+pub count_few : (rs : List Record) (k log : ℕ) → k ≤ length rs → count_in (take k rs) log ≤ k
+count_few rs k log le =
+    omega (arith, count_by-le-length (λ (x : Record). x.log == log) (take k rs), length-take k rs)
 
 -- one more record of a log
 pub counts_more : (rs : List Record) (r : Record) (counts : List ℕ) → length counts ≡ 256 → r.log < 256
@@ -73,17 +71,56 @@ besides_more told start before (x ∷ rs) r =
     ∙ ap (λ (bs : List Record). besides_from told start (before ++ x ∷ []) rs ++ beside_of told start bs r ∷ [])
     (append_assoc before (x ∷ []) rs))
 
--- ... and its mark
-pub marks_more : (told : ℕ → ℕ → Option (List ℕ)) (start : ℕ) (before : List Record) (r : Record) (marks : List Mark)
-    (mark : Mark) → besides marks ≡ besides_of told start before → beside mark ≡ beside_of told start before r
-    → besides (marks ++ mark ∷ []) ≡ besides_of told start (before ++ r ∷ [])
-marks_more told start before r marks mark are is =
-    map-append beside marks (mark ∷ [])
-    ∙ ap (λ (b : Beside). besides marks ++ b ∷ []) is
-    ∙ ap (λ (bs : List Beside). bs ++ beside_of told start before r ∷ []) are
-    ∙ sym (besides_more told start [] before r)
+-- one more offset
+pub offsets_more : (start : ℕ) (before : List Record) (r : Record)
+    → offsets_of start (before ++ r ∷ []) ≡ offsets_of start before ++ (start + bytes_len before) ∷ []
+offsets_more start before r =
+    let offset : Beside → ℕ = λ beside. beside.offset in
+    ap (map offset) (besides_more untold start [] before r)
+    ∙ map-append offset (besides_of untold start before) (beside_of untold start before r ∷ [])
+
+-- one more time
+pub times_more : (told : ℕ → ℕ → Option (List ℕ)) (before : List Record) (r : Record)
+    → times_of told (before ++ r ∷ []) ≡ times_of told before ++ told r.log (count_in before r.log) ∷ []
+times_more told before r =
+    let time : Beside → Option (List ℕ) = λ beside. beside.time in
+    ap (map time) (besides_more told 0 [] before r)
+    ∙ map-append time (besides_of told 0 before) (beside_of told 0 before r ∷ [])
+
+joined : (told : ℕ → ℕ → Option (List ℕ)) (start : ℕ) (before rs : List Record)
+    → besides_in (map (λ beside. beside.offset) (besides_from untold start before rs))
+    (map (λ beside. beside.time) (besides_from told 0 before rs))
+    ≡ besides_from told start before rs
+joined told start before [] = refl
+joined told start before (r ∷ rs) =
+    ap (λ (bs : List Beside). beside_of told start before r ∷ bs) (joined told start (before ++ r ∷ []) rs)
+
+-- the offsets, each with its time
+pub with_times : (told : ℕ → ℕ → Option (List ℕ)) (start : ℕ) (rs : List Record)
+    → besides_in (offsets_of start rs) (times_of told rs) ≡ besides_of told start rs
+with_times told start rs = joined told start [] rs
+
+untimed : (start : ℕ) (before rs : List Record)
+    → besides_in (map (λ beside. beside.offset) (besides_from untold start before rs)) []
+    ≡ besides_from untold start before rs
+untimed start before [] = refl
+untimed start before (r ∷ rs) =
+    ap (λ (bs : List Beside). beside_of untold start before r ∷ bs) (untimed start (before ++ r ∷ []) rs)
+
+-- the offsets, where no time is told
+pub without_times : (start : ℕ) (rs : List Record)
+    → besides_in (offsets_of start rs) [] ≡ besides_of untold start rs
+without_times start rs = untimed start [] rs
+
+-- a record for where there is none
+abbrev pub no_record : Record
+no_record = record { log = 0; bank = 0; number = 0; event = events.Fence }
 
 -- the first records, and the one behind them
+pub first_at : (rs : List Record) (k : ℕ) → k < length rs
+    → take (k + 1) rs ≡ take k rs ++ get_or rs k no_record ∷ []
+first_at rs k lt = take_more rs k no_record lt
+
 pub first_more : (rs : List Record) (k : ℕ) (r : Record) → k < length rs → r ≡ get_or rs k r
     → take (k + 1) rs ≡ take k rs ++ r ∷ []
 first_more rs k r lt is = take_more rs k r lt ∙ ap (λ (x : Record). take k rs ++ x ∷ []) (sym is)

@@ -1,6 +1,6 @@
 -- What stands beside the line of a record.
-use Rattle.std.specs.Prelude.{◌≡◌, ℕ, ◌+◌, ◌<◌, ◌==◌, List, [], ◌∷◌, ◌++◌, map, count_by, Option, Some, None}
-use Rattle.std.specs.Prelude.{slice_index, string_bytes}
+use Rattle.std.specs.Prelude.{ℕ, ◌+◌, ◌==◌, List, [], ◌∷◌, ◌++◌, map, count_by, Option, Some, None}
+use Rattle.std.specs.Prelude.{string_bytes}
 use Rattle.std.specs.Borrow.{Bor}
 use Rattle.std.specs.Option.{option_map}
 use Rattle.lf_rules.specs.declared.event.Record.{Record}
@@ -8,19 +8,32 @@ use Rattle.lf_lengths.specs.Lengths.{bytes_len}
 use Rattle.lf_map.specs.declared.times.Times.{Times}
 use Rattle.lf_map.specs.Map.{time_of}
 use Rattle.lf_listing.specs.declared.mark.Mark.{Mark}
-use Rattle.lf_listing.specs.declared.mark.Marker.{Marker}
+use Rattle.lf_listing.specs.declared.mark.Marks.{Marks}
 
 -- the offset of a record's first byte, and its time where a map tells it
 pub record Beside : Type 0 where
   pub offset : ℕ
   pub time : Option (List ℕ)
 
+-- ---- the marks that are kept
+
 -- what a mark says
 abbrev pub beside : Mark → Beside
-beside mark = record { offset = mark.offset; time = option_map string_bytes mark.time }
+beside mark = record { offset = mark.offset; time = option_map (λ time. time.now) mark.time }
 
-abbrev pub besides : List Mark → List Beside
-besides marks = map beside marks
+-- the times that are kept
+abbrev pub texts : Marks → List (Option (List ℕ))
+texts marks = map (option_map string_bytes) marks.times.items
+
+-- each of these offsets with the time at its place, and behind the last time with none
+abbrev pub besides_in : List ℕ → List (Option (List ℕ)) → List Beside
+besides_in [] times = []
+besides_in (offset ∷ offsets) [] = record { offset = offset; time = None } ∷ besides_in offsets []
+besides_in (offset ∷ offsets) (time ∷ times) = record { offset = offset; time = time } ∷ besides_in offsets times
+
+-- what stands beside the record of each place
+abbrev pub besides : Marks → List Beside
+besides marks = besides_in marks.offsets.items (texts marks)
 
 -- ---- the marks of a trace
 
@@ -44,11 +57,6 @@ besides_from told start before (r ∷ rs) =
 abbrev pub besides_of : (ℕ → ℕ → Option (List ℕ)) → ℕ → List Record → List Beside
 besides_of told start rs = besides_from told start [] rs
 
--- These records came, of which the first began at `start`.
-pub record StandsBehind (start : ℕ) (before : List Record) (marker : Marker) : Type 0 where
-  pub offset : marker.offset ≡ start + bytes_len before
-  pub counts : (log : ℕ) → log < 256 → slice_index marker.counts log ≡ count_in before log
-
 -- where there is no map
 abbrev pub untold : ℕ → ℕ → Option (List ℕ)
 untold log place = None
@@ -57,3 +65,13 @@ untold log place = None
 abbrev pub told_by : Option (Bor Times) → ℕ → ℕ → Option (List ℕ)
 told_by (Some times) = time_of times.now
 told_by None = untold
+
+-- ---- its parts
+
+-- the offset of each record
+abbrev pub offsets_of : ℕ → List Record → List ℕ
+offsets_of start rs = map (λ beside. beside.offset) (besides_of untold start rs)
+
+-- the time that is told of each record
+abbrev pub times_of : (ℕ → ℕ → Option (List ℕ)) → List Record → List (Option (List ℕ))
+times_of told rs = map (λ beside. beside.time) (besides_of told 0 rs)

@@ -11,4 +11,4 @@ mod tests;
 
 pub use lf_rules::NoMemory;
 pub use listing::{Listing, RecordLine, RecordLines};
-pub use mark::{Mark, marks_of};
+pub use mark::{Mark, Marks, marks_of};

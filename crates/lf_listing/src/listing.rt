@@ -1,30 +1,30 @@
 //! The lines of records.
 
-ghost use Rattle.std.specs.Prelude.{Some, string_bytes};
+ghost use Rattle.std.specs.Prelude.{Some};
 ghost use Rattle.std.specs.Option.{option_map};
 ghost use Rattle.lf_listing.specs.Marks.{beside, besides};
 ghost use Rattle.lf_listing.specs.Lines.{time_text, line_if, line_at, lines_text};
 
-use crate::mark::Mark;
+use crate::mark::{Mark, Marks};
 use lf_codec::Packed;
 use lf_history::{record_at, room};
 use lf_rules::Record;
 use lf_text::{PlacedLine, TextLine};
 use std::fmt;
 
-/// The records of a trace, and the mark of each.
+/// The records of a trace, and what stands beside them.
 #[derive(Clone, Copy)]
 pub struct Listing<'a> {
     pub records: &'a Packed,
-    pub marks: &'a [Mark],
+    pub marks: &'a Marks,
 }
 
 /// The time of a record behind its offset, where a map tells it.
 #[derive(Clone, Copy)]
-struct TimeText<'a>(&'a Option<String>);
+struct TimeText<'a>(Option<&'a str>);
 
 impl fmt::Display for TimeText<'_> {
-    ghost output = { λ text. Some (time_text (option_map string_bytes text.0.now)) };
+    ghost output = { λ text. Some (time_text (option_map (λ time. time.now) text.0)) };
 
     fn fmt<W: fmt::Write>(&self, f: &mut fmt::Formatter<W>) -> fmt::Result {
         match self.0 {
@@ -38,18 +38,18 @@ impl fmt::Display for TimeText<'_> {
 #[derive(Clone, Copy)]
 struct MarkedLine<'a> {
     item: &'a Record,
-    mark: &'a Mark,
+    mark: Mark<'a>,
 }
 
 impl fmt::Display for MarkedLine<'_> {
-    ghost output = { λ line. Some (line_if (Some line.item.now) (Some (beside line.mark.now))) };
+    ghost output = { λ line. Some (line_if (Some line.item.now) (Some (beside line.mark))) };
 
     fn fmt<W: fmt::Write>(&self, f: &mut fmt::Formatter<W>) -> fmt::Result {
         let placed = PlacedLine {
             line: TextLine::Event(self.item),
             offset: self.mark.offset,
         };
-        let time = TimeText(&self.mark.time);
+        let time = TimeText(self.mark.time);
         write!(f, "{placed}{time}\n")
     }
 }
@@ -65,7 +65,6 @@ impl fmt::Display for RecordLine<'_> {
     ghost output = { λ line. Some
         (line_at line.listing.records.now.records (besides line.listing.marks.now) line.place) };
 
-    #[tactic(auto, using(crate::proofs::Placed::beside_at))]
     fn fmt<W: fmt::Write>(&self, f: &mut fmt::Formatter<W>) -> fmt::Result {
         let Some(place) = self.place else {
             return Ok(());
@@ -74,7 +73,7 @@ impl fmt::Display for RecordLine<'_> {
         let Some(item) = record_at(self.listing.records, self.place, &mut room) else {
             return Ok(());
         };
-        let Some(mark) = self.listing.marks.get(place) else {
+        let Some(mark) = self.listing.marks.mark(place) else {
             return Ok(());
         };
         let line = MarkedLine { item, mark };

@@ -1,91 +1,103 @@
 //! What stands beside the line of a record.
 
-ghost use Rattle.std.specs.Prelude.{◌≡◌, ◌+◌, ◌<◌, ◌^◌, IfOk, string_bytes};
+ghost use Rattle.std.specs.Prelude.{◌≡◌, ◌+◌, ◌<◌, ◌^◌, IfOk, map, string_bytes};
 ghost use Rattle.std.specs.Option.{option_map};
 ghost use Rattle.lf_lengths.specs.Lengths.{bytes_len};
-ghost use Rattle.lf_listing.specs.Marks.{told_by, besides, besides_of};
+ghost use Rattle.lf_map.specs.Map.{time_of};
+ghost use Rattle.lf_listing.specs.Marks.{told_by, besides, besides_of, offsets_of, times_of};
 
 use lf_codec::Packed;
 use lf_history::room;
 use lf_lengths::record_len;
 use lf_map::Times;
-use lf_rules::{NoMemory, Record};
+use lf_rules::NoMemory;
 use std::alloc::Global;
 
 /// What stands beside the line of a record.
-#[derive(Debug, Drop, PartialEq, Eq)]
-pub struct Mark {
+#[derive(Clone, Copy, Debug, PartialEq, Eq)]
+pub struct Mark<'a> {
     /// The offset of the record's first byte in the trace.
     pub offset: u64,
     /// The record's time, where a map tells it.
-    pub time: Option<String>,
+    pub time: Option<&'a str>,
 }
 
-/// The time of the record at a place of a log, where a map tells it.
-fn time_of(
-    alloc: Global,
-    times: Option<&Times>,
-    log: u8,
-    place: u64,
-) -> Result<Option<String>, NoMemory>
-    ensures { IfOk result (λ time. option_map string_bytes time ≡ told_by times.entry log place) }
+/// What stands beside each record of a trace, by its place.
+#[derive(Debug, Drop, PartialEq, Eq)]
+pub struct Marks {
+    /// The offset of each record's first byte in the trace.
+    pub offsets: Vec<u64>,
+    /// The time of each record, where a map tells it. Records behind these have no time, so that without a map there
+    /// is nothing to keep.
+    pub times: Vec<Option<String>>,
+}
+
+impl Marks {
+    ghost use Rattle.std.specs.Prelude.{◌≡◌, None, slice_get, unwrap_or};
+    ghost use Rattle.std.specs.Option.{option_map};
+    ghost use Rattle.lf_listing.specs.Marks.{beside, besides, texts};
+
+    /// The time of the record at the place, where it has one.
+    fn time(&self, place: usize) -> Option<&str>
+        ensures { option_map (λ time. time.now) result ≡ unwrap_or (slice_get (texts self.now) place) None }
+    {
+        match self.times.get(place) {
+            Some(Some(time)) => Some(time.as_str()),
+            _ => None,
+        }
+    }
+
+    /// What stands beside the record at the place, where there is one.
+    pub fn mark(&self, place: usize) -> Option<Mark<'_>>
+        ensures { option_map beside result ≡ slice_get (besides self.now) place }
+    {
+        let offset = *self.offsets.get(place)?;
+        Some(Mark {
+            offset,
+            time: self.time(place),
+        })
+    }
+}
+
+/// The time of the record at a place of a log, where the map tells it.
+fn time_of(alloc: Global, times: &Times, log: u8, place: u64) -> Result<Option<String>, NoMemory>
+    ensures { IfOk result (λ time. option_map string_bytes time ≡ time_of times.now log place) }
 {
-    let Some(times) = times else {
-        return Ok(None);
-    };
     match times.of(log, place) {
         Some(time) => Ok(Some(String::from_str(alloc, time)?)),
         None => Ok(None),
     }
 }
 
-/// Says what stands beside each record of a trace, while its records come one after another.
-#[derive(Drop)]
-struct Marker {
-    /// The offset of the first byte of the record that comes next.
-    offset: u64,
-    /// How many records of each log came.
-    counts: [u64; 256],
+/// The time of each record of a trace, where the map tells it. No record is built for that.
+fn times_of(alloc: Global, records: &Packed, times: &Times) -> Result<Vec<Option<String>>, NoMemory>
+    ensures { IfOk result (λ found. map (option_map string_bytes) found.items
+        ≡ times_of (time_of times.now) records.now.records) }
+{
+    let mut counts = [0u64; 256];
+    let mut found = Vec::with_capacity(alloc, records.len())?;
+    for place in 0..records.len() {
+        let log = records.log(place);
+        let count = counts[usize::from(log)];
+        found.push(time_of(alloc, times, log, count)?)?;
+        counts[usize::from(log)] = count.saturating_add(1);
+    }
+    Ok(found)
 }
 
-impl Marker {
-    ghost use Rattle.std.specs.Prelude.{◌≡◌, ℕ, ◌+◌, ◌<◌, ◌^◌, ◌∷◌, ◌++◌, [], List, IfOk};
-    ghost use Rattle.lf_rules.specs.declared.event.Record.{Record};
-    ghost use Rattle.lf_lengths.specs.Lengths.{bytes_len};
-    ghost use Rattle.lf_listing.specs.Marks.{told_by, beside, beside_of, StandsBehind};
-
-    /// No record came yet. The first begins at this offset.
-    fn new(start: u64) -> Marker
-        ensures { StandsBehind start [] result }
-    {
-        Marker {
-            offset: start,
-            counts: [0; 256],
-        }
+/// The offset of each record's first byte in a trace, of which the first is `start`. No trace has 2^64 bytes.
+fn offsets_of(alloc: Global, records: &Packed, start: u64) -> Result<Vec<u64>, NoMemory>
+    ensures { start + bytes_len records.now.records < 2 ^ 64
+        → IfOk result (λ offsets. offsets.items ≡ offsets_of start records.now.records) }
+{
+    let mut offset = start;
+    let mut offsets = Vec::with_capacity(alloc, records.len())?;
+    let mut room = room();
+    for place in 0..records.len() {
+        offsets.push(offset)?;
+        offset = offset.saturating_add(record_len(records.lend(place, &mut room)));
     }
-
-    /// What stands beside the record that comes next.
-    fn mark(&self, alloc: Global, times: Option<&Times>, item: &Record) -> Result<Mark, NoMemory>
-        ensures { (start : ℕ) (before : List Record) → StandsBehind start before self.now
-            → IfOk result (λ mark. beside mark ≡ beside_of (told_by times.entry) start before item.now) }
-    {
-        let place = self.counts[usize::from(item.log)];
-        Ok(Mark {
-            offset: self.offset,
-            time: time_of(alloc, times, item.log, place)?,
-        })
-    }
-
-    /// The record came. No trace has 2^64 bytes.
-    fn pass(&mut self, item: &Record)
-        ensures { (start : ℕ) (before : List Record) → StandsBehind start before self.old
-            → start + bytes_len (before ++ item.now ∷ []) < 2 ^ 64
-            → StandsBehind start (before ++ item.now ∷ []) self.new }
-    {
-        let log = usize::from(item.log);
-        self.offset = self.offset.saturating_add(record_len(item));
-        self.counts[log] = self.counts[log].saturating_add(1);
-    }
+    Ok(offsets)
 }
 
 /// What stands beside each record of a trace, of which the first begins at `start`. No trace has 2^64 bytes.
@@ -94,17 +106,14 @@ pub fn marks_of(
     records: &Packed,
     start: u64,
     times: Option<&Times>,
-) -> Result<Vec<Mark>, NoMemory>
+) -> Result<Marks, NoMemory>
     ensures { start + bytes_len records.now.records < 2 ^ 64
-        → IfOk result (λ marks. besides marks.items ≡ besides_of (told_by times.entry) start records.now.records) }
+        → IfOk result (λ marks. besides marks ≡ besides_of (told_by times.entry) start records.now.records) }
 {
-    let mut marker = Marker::new(start);
-    let mut marks = Vec::with_capacity(alloc, records.len())?;
-    let mut room = room();
-    for place in 0..records.len() {
-        let item = records.lend(place, &mut room);
-        marks.push(marker.mark(alloc, times, item)?)?;
-        marker.pass(item);
-    }
-    Ok(marks)
+    let offsets = offsets_of(alloc, records, start)?;
+    let times = match times {
+        Some(times) => times_of(alloc, records, times)?,
+        None => Vec::new(alloc),
+    };
+    Ok(Marks { offsets, times })
 }

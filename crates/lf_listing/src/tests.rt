@@ -1,7 +1,7 @@
 //! The lines of records, with their texts written out.
 
-use crate::{Listing, Mark, NoMemory, RecordLine, RecordLines, marks_of};
-use lf_codec::Packed;
+use crate::{Listing, Marks, RecordLine, RecordLines, marks_of};
+use lf_history::packed;
 use lf_map::Times;
 use lf_rules::{Block, Event, Op, Record};
 use std::alloc::Global;
@@ -31,15 +31,6 @@ fn second_hit(number: u32) -> Record {
     }
 }
 
-/// The records, packed.
-fn packed(alloc: Global, records: &[Record]) -> Result<Packed, NoMemory> {
-    let mut packed = Packed::new(alloc);
-    for item in records {
-        packed.push(item.clone()?)?;
-    }
-    Ok(packed)
-}
-
 /// The second record of port 1 is the third of the trace.
 #[test]
 fn lines_with_times(rt: HostRuntime) -> Result<(), Fail> {
@@ -51,7 +42,7 @@ fn lines_with_times(rt: HostRuntime) -> Result<(), Fail> {
     let lines = RecordLines {
         listing: Listing {
             records: &records,
-            marks: marks.as_slice(),
+            marks: &marks,
         },
         places: &[0, 1, 2, 3],
     };
@@ -68,10 +59,10 @@ load port=1 bank=0 number=2 tag=1 size=8 address=0x0 ; at 48, time 1250 ns
 #[test]
 fn line_without_a_time(rt: HostRuntime) -> Result<(), Fail> {
     let records = packed(rt.alloc(), &[second_hit(5)])?;
-    let marks = [Mark {
-        offset: 16,
-        time: None,
-    }];
+    let marks = Marks {
+        offsets: vec![in rt.alloc(); 16]?,
+        times: Vec::new(rt.alloc()),
+    };
     let listing = Listing {
         records: &records,
         marks: &marks,

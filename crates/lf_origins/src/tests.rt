@@ -2,11 +2,9 @@
 
 use crate::{BrokenRule, Origins, OriginsText, origins_of};
 use lf_codec::Packed;
-use lf_history::places_in_order;
-use lf_listing::{Listing, Mark};
-use lf_rules::{
-    Block, Event, Level, Mask, Masks, NoMemory, Op, OrgShape, Record, Rule, Shape, WideBlock,
-};
+use lf_history::{packed, places_in_order};
+use lf_listing::{Listing, Marks};
+use lf_rules::{Block, Event, Level, Mask, Masks, Op, OrgShape, Record, Rule, Shape, WideBlock};
 use std::alloc::{AllocError, Global};
 use std::process::Abort;
 use std::test::Fail;
@@ -27,20 +25,11 @@ const SHAPE: Shape = Shape {
     level2: LEVEL,
 };
 
-/// The records, packed.
-fn packed(alloc: Global, records: &[Record]) -> Result<Packed, NoMemory> {
-    let mut packed = Packed::new(alloc);
-    for item in records {
-        packed.push(item.clone()?)?;
-    }
-    Ok(packed)
-}
-
 /// The text of origins over records with these marks.
 fn text_of<'a>(
     alloc: Global,
     records: &'a Packed,
-    marks: &'a [Mark],
+    marks: &'a Marks,
     origins: &'a Origins,
 ) -> Result<String, AllocError> {
     let listing = Listing { records, marks };
@@ -74,11 +63,11 @@ fn assert_origins<T: Abort + AllocGlobal>(
     let Ok(Some(origins)) = origins_of(rt.alloc(), &SHAPE, &packed, &places, broken) else {
         return Err(Fail::from("the rule has no such state"));
     };
-    let mut marks = Vec::new(rt.alloc());
-    for offset in [16, 24, 32, 40, 48, 56, 64, 72] {
-        marks.push(Mark { offset, time: None })?;
-    }
-    let found = text_of(rt.alloc(), &packed, marks.as_slice(), &origins)?;
+    let marks = Marks {
+        offsets: Vec::from_array(rt.alloc(), [16, 24, 32, 40, 48, 56, 64, 72])?,
+        times: Vec::new(rt.alloc()),
+    };
+    let found = text_of(rt.alloc(), &packed, &marks, &origins)?;
     assert_eq!(rt; found.as_str(), due);
     Ok(())
 }

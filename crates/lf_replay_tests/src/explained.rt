@@ -1,36 +1,15 @@
 //! What is told of the first event of a bank that breaks a rule.
 
-ghost use Rattle.std.specs.Prelude.{◌≡◌, ◌++◌, ◌∷◌, [], IfOk, OnOk};
 ghost use Rattle.lf_rules.specs.InRange.{IsShape};
 
 use crate::judged::is_bank_order;
-use lf_codec::Packed;
 use lf_explain::{Broken, Expected, first_broken};
-use lf_history::places_in_order;
-use lf_rules::{Mask, NoMemory, Record, Rule, Shape, mask_at};
+use lf_history::{packed, places_in_order};
+use lf_rules::{Mask, Rule, Shape, mask_at};
 use lf_samples::{C1, C2, LOAD, LOADED, STORE, memory_ran_out, records};
 use std::alloc::Global;
 use std::process::Abort;
 use std::test::Fail;
-
-/// Packs a copy of the record behind the others.
-fn pack(packed: &mut Packed, item: &Record) -> Result<(), NoMemory>
-    ensures { OnOk result (packed.new.records ≡ packed.old.records ++ item.now ∷ []) }
-{
-    packed.push(item.clone()?)?;
-    Ok(())
-}
-
-/// The records, packed.
-fn packed(alloc: Global, records: &[Record]) -> Result<Packed, NoMemory>
-    ensures { IfOk result (λ packed. packed.records ≡ records.now) }
-{
-    let mut packed = Packed::new(alloc);
-    for item in records {
-        pack(&mut packed, item)?;
-    }
-    Ok(packed)
-}
 
 /// What is told of the events of bank 0.
 fn told(alloc: Global, shape: &Shape, parts: &[&str]) -> Result<Option<Broken>, Fail>

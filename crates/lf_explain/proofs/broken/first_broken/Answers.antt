@@ -14,7 +14,8 @@ use Rattle.lf_history.specs.BankOrder.{records_at}
 use Rattle.lf_history.specs.Touching.{record_at}
 use Rattle.lf_explain.specs.Broken.{IsTold}
 use Rattle.lf_explain.specs.Request.{requested}
-use Rattle.lf_explain.proofs.Listed.{taken_more, left_from, all_about, all_taken, breaks_longer}
+use Rattle.lf_history.proofs.RecordsAt.{taken_more}
+use Rattle.lf_explain.proofs.Listed.{left_from, all_about, all_taken, breaks_longer}
 use Rattle.lf_explain.proofs.Requests.{HasBlock, requested_fits}
 use Rattle.lf_explain.proofs.broken.first_broken.Goals as goal
 
