@@ -1,5 +1,5 @@
 -- What an answer in JSON says.
-use Rattle.std.specs.Prelude.{◌≡◌, ℕ, false, List, [], ◌∷◌, ◌++◌, Some, codes}
+use Rattle.std.specs.Prelude.{◌≡◌, ℕ, Bool, true, false, List, [], ◌∷◌, ◌++◌, Some, codes}
 use Rattle.json.specs.Lex.{tokens}
 use Rattle.json.specs.Print.{print}
 use Rattle.lf_verdict.specs.declared.answer.Verdict.{Verdict}
@@ -8,11 +8,12 @@ use Rattle.serde_json.specs.Data.{Data, string, object, Members, put}
 use Rattle.serde_json.specs.Find.{get}
 use Rattle.serde_json.specs.Written.{IsInOrder, has_float, compact_text}
 
--- the word that a verdict begins with
-abbrev pub word_of : Verdict → List ℕ
-word_of (Yes events order) = codes "yes"
-word_of (No fault) = codes "no"
-word_of (Refused refusal) = codes "refused"
+-- the word that an answer begins with: that of the verdict, and "no" where a legal trace is not complete
+abbrev pub word_of : Verdict → Bool → List ℕ
+word_of (Yes events order) true = codes "yes"
+word_of (Yes events order) false = codes "no"
+word_of (No fault) complete = codes "no"
+word_of (Refused refusal) complete = codes "refused"
 
 -- an object with the line of a verdict and its word
 abbrev pub told : List ℕ → List ℕ → Members → Data

@@ -7,6 +7,7 @@ ghost use Rattle.serde_json.specs.Written.{compact_text};
 ghost use Rattle.lf_json.specs.Answer.{word_of, told, IsTextOf, IsAnswer};
 
 use crate::fault::set_faults;
+use crate::incomplete::incomplete_json;
 use crate::object::Object;
 use crate::usage::usage_json;
 use lf_refusal::ConfigRefusal;
@@ -31,18 +32,21 @@ pub struct Answer<'a> {
     /// The line of the verdict, without a newline.
     pub line: &'a str,
     pub verdict: &'a Verdict,
+    /// Whether no request without a reply was found in a legal trace, or none was looked for.
+    pub is_complete: bool,
     /// The text of the configuration.
     pub config: &'a str,
     /// Why the verdict is what it is, where that is told.
     pub told: Option<Told<'a>>,
 }
 
-/// The word of a verdict.
-fn word_of(verdict: &Verdict) -> &'static str
-    ensures { result.now ≡ word_of verdict.now }
+/// The word of an answer. A legal trace that is not complete gets a no.
+fn word_of(verdict: &Verdict, is_complete: bool) -> &'static str
+    ensures { result.now ≡ word_of verdict.now is_complete }
 {
     match verdict {
-        Verdict::Yes { .. } => "yes",
+        Verdict::Yes { .. } if is_complete => "yes",
+        Verdict::Yes { .. } => "no",
         Verdict::No(_) => "no",
         Verdict::Refused(_) => "refused",
     }
@@ -63,6 +67,7 @@ fn set_why(object: &mut Object, told: &Told<'_>) -> Result<(), NoMemory> {
     match why {
         Why::No(why) => set_faults(object, why),
         Why::Yes(usage) => object.set("used", usage_json(object.alloc, shape, usage)?),
+        Why::NotComplete(why) => object.set("incomplete", incomplete_json(object.alloc, why)?),
         Why::Format { .. } | Why::Header => {
             let text = WhyText { shape, bytes, why };
             let lines = format!(in object.alloc; "{text}")?;
@@ -71,13 +76,15 @@ fn set_why(object: &mut Object, told: &Told<'_>) -> Result<(), NoMemory> {
     }
 }
 
-/// What a verdict says of itself beside its line.
-fn set_verdict(object: &mut Object, verdict: &Verdict, config: &str) -> Result<(), NoMemory> {
-    match verdict {
-        Verdict::Yes { events, .. } => object.set("events", Value::from(*events)),
+/// What an answer says of its verdict beside the line.
+fn set_verdict(object: &mut Object, answer: &Answer<'_>) -> Result<(), NoMemory> {
+    match answer.verdict {
+        Verdict::Yes { events, .. } if answer.is_complete => {
+            object.set("events", Value::from(*events))
+        }
         Verdict::Refused(Refusal::Config(fault)) => {
             let refusal = ConfigRefusal {
-                text: config,
+                text: answer.config,
                 fault,
             };
             let lines = format!(in object.alloc; "{refusal}")?;
@@ -103,14 +110,15 @@ fn answer_text(mut object: Object, line: &str, word: &str) -> Result<String, NoM
 /// A verdict and why it is what it is, as an object on a line, with a newline at its end.
 pub fn explained_json(alloc: Global, answer: &Answer<'_>) -> Result<String, NoMemory>
     ensures { IfOk result (λ text.
-        IsAnswer answer.now.line.now (word_of answer.now.verdict.now) (string_bytes text)) }
+        IsAnswer answer.now.line.now (word_of answer.now.verdict.now answer.now.is_complete) (string_bytes text)) }
 {
     let mut object = Object::new(alloc);
-    set_verdict(&mut object, answer.verdict, answer.config)?;
+    set_verdict(&mut object, answer)?;
     if let Some(told) = &answer.told {
         set_why(&mut object, told)?;
     }
-    answer_text(object, answer.line, word_of(answer.verdict))
+    let word = word_of(answer.verdict, answer.is_complete);
+    answer_text(object, answer.line, word)
 }
 
 /// The line of a run that came to no verdict, as an object on a line, with a newline at its end.

@@ -10,6 +10,7 @@ mod answer;
 mod breach;
 mod carried;
 mod fault;
+mod incomplete;
 mod numbers;
 mod object;
 mod record;

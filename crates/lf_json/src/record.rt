@@ -93,16 +93,16 @@ fn set_block(object: &mut Object, event: &Event) -> Result<(), NoMemory> {
 }
 
 /// The offset of the record's first byte, and its time, where a map tells it.
-fn set_mark(object: &mut Object, mark: &Mark) -> Result<(), NoMemory> {
+fn set_mark(object: &mut Object, mark: Mark<'_>) -> Result<(), NoMemory> {
     object.set("offset", Value::from(mark.offset))?;
-    match &mark.time {
-        Some(time) => object.set_text("time", time.as_str()),
+    match mark.time {
+        Some(time) => object.set_text("time", time),
         None => object.set("time", Value::Null),
     }
 }
 
 /// A record and what stands beside it. Its bytes are left out where it has none, as its line has it.
-fn record_json(alloc: Global, item: &Record, mark: &Mark) -> Result<Value, NoMemory> {
+fn record_json(alloc: Global, item: &Record, mark: Mark<'_>) -> Result<Value, NoMemory> {
     let mut object = Object::new(alloc);
     set_head(&mut object, item)?;
     set_fields(&mut object, &item.event)?;
@@ -127,7 +127,7 @@ pub(crate) fn record_at_json(
     let Some(item) = record_at(listing.records, Some(place), &mut room) else {
         return Ok(Value::Null);
     };
-    let Some(mark) = listing.marks.get(place) else {
+    let Some(mark) = listing.marks.mark(place) else {
         return Ok(Value::Null);
     };
     record_json(alloc, item, mark)

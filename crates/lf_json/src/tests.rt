@@ -5,13 +5,13 @@ use lf_codec::Packed;
 use lf_explain::{BlockState, Broken, Expected, NamedBlock};
 use lf_explanation::Explanation;
 use lf_history::History;
-use lf_listing::Mark;
+use lf_listing::Marks;
 use lf_numbering::Reason;
 use lf_origins::{Origins, StatePart};
 use lf_rules::{Block, Event, Level, Mask, Op, OrgShape, Record, Rule, Shape};
 use lf_usage::{BankUse, LevelUse, Usage};
-use lf_verdict::{Fault, Verdict};
-use lf_why::{Cause, NotLegal, Why};
+use lf_verdict::{Fault, Incomplete, Verdict};
+use lf_why::{Cause, NotComplete, NotLegal, Why};
 use std::alloc::Global;
 use std::process::Abort;
 use std::test::Fail;
@@ -45,6 +45,7 @@ fn assert_answer<'a, T: Abort + AllocGlobal>(
     let answer = Answer {
         line,
         verdict,
+        is_complete: !matches!(why, Why::NotComplete(_)),
         config: "",
         told: Some(Told {
             shape: &SHAPE,
@@ -94,25 +95,27 @@ fn reply(byte: u8) -> Record {
     }
 }
 
-/// A load and its reply, the first with a time.
-fn not_legal(alloc: Global, fault: Cause) -> Result<Why, Fail> {
-    let first = Mark {
-        offset: 16,
-        time: Some(String::from_str(alloc, "125 \"ns\"")?),
-    };
-    let second = Mark {
-        offset: 36,
-        time: None,
-    };
+/// A load and its reply.
+fn records(alloc: Global) -> Result<Packed, Fail> {
     let mut records = Packed::new(alloc);
     records.push(load())?;
     records.push(reply(0xff))?;
-    let mut marks = Vec::new(alloc);
-    marks.push(first)?;
-    marks.push(second)?;
+    Ok(records)
+}
+
+/// Their marks, the first with a time.
+fn marks(alloc: Global) -> Result<Marks, Fail> {
+    let time = String::from_str(alloc, "125 \"ns\"")?;
+    Ok(Marks {
+        offsets: Vec::from_array(alloc, [16, 36])?,
+        times: Vec::from_array(alloc, [Some(time)])?,
+    })
+}
+
+fn not_legal(alloc: Global, fault: Cause) -> Result<Why, Fail> {
     Ok(Why::No(NotLegal {
-        records,
-        marks,
+        records: records(alloc)?,
+        marks: marks(alloc)?,
         fault,
         first: None,
     }))
@@ -233,6 +236,24 @@ fn use_of_a_legal_trace(rt: HostRuntime) -> Result<(), Fail> {
 \"level2\":{\"registers\":null,\"targets\":null,\"ways\":{\"granted\":4,\"used\":0}}}],\
 \"ports\":[{\"tags\":{\"granted\":4,\"used\":3}}]},\"verdict\":\"yes\"}\n";
     assert_answer(&rt, "yes events=2", &verdict, &why, due)
+}
+
+#[test]
+fn request_without_a_reply(rt: HostRuntime) -> Result<(), Fail> {
+    let order = Vec::from_slice(rt.alloc(), &[0])?;
+    let verdict = Verdict::Yes { events: 1, order };
+    let why = Why::NotComplete(NotComplete {
+        records: records(rt.alloc())?,
+        marks: marks(rt.alloc())?,
+        request: Incomplete { port: 0, tag: 1 },
+        place: 0,
+        at_block: Vec::new(rt.alloc()),
+    });
+    let due = "{\"incomplete\":{\"at_block\":[],\"port\":0,\"record\":\
+{\"address\":\"0x1f\",\"bank\":0,\"event\":\"load\",\"log\":0,\"number\":0,\"offset\":16,\"port\":0,\"size\":1,\
+\"tag\":1,\"time\":\"125 \\\"ns\\\"\"},\"tag\":1},\
+\"line\":\"no incomplete port=0 tag=1\",\"verdict\":\"no\"}\n";
+    assert_answer(&rt, "no incomplete port=0 tag=1", &verdict, &why, due)
 }
 
 #[test]

@@ -1,2 +1,4 @@
 mod Records
+mod Waits
+mod Incomplete
 pub mod Earliest

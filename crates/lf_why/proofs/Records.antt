@@ -88,7 +88,7 @@ module _ (shape : Shape) (bytes : List ℕ) (fault : Fault) (is : IsNo shape byt
   -- What was found in it is why the trace is not legal.
   pub is_not_legal : (time : ℕ → ℕ → Option (List ℕ)) (most : ℕ) (earliest : Option Broken) (why : NotLegal)
       → IsEarliestIf shape bytes earliest → why.records.records ≡ packing.records.records
-      → besides why.marks.items ≡ besides_of time packing.start packing.records.records
+      → besides why.marks ≡ besides_of time packing.start packing.records.records
       → IsCause shape packing.memory.items why.records.records most fault why.fault
       → IsFirstCause shape packing.memory.items why.records.records most fault earliest why.first
       → IsNotLegal shape bytes time most fault why

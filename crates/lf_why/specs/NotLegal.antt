@@ -68,7 +68,7 @@ pub record IsNotLegal (shape : Shape) (bytes : List ℕ) (time : ℕ → ℕ →
   pub earliest : Option Broken
   pub is_earliest : IsEarliestIf shape bytes earliest
   pub records : why.records.records ≡ trace.records
-  pub marks : besides why.marks.items ≡ besides_of time (first_offset trace.header memory) trace.records
+  pub marks : besides why.marks ≡ besides_of time (first_offset trace.header memory) trace.records
   pub cause : IsCause shape memory why.records.records most fault why.fault
   pub first : IsFirstCause shape memory why.records.records most fault earliest why.first
 
@@ -80,5 +80,5 @@ first_text rs marks (Some cause) =
 
 abbrev pub not_legal_text : NotLegal → List ℕ
 not_legal_text why =
-    let marks = besides why.marks.items in
+    let marks = besides why.marks in
     cause_text why.records.records marks why.fault ++ first_text why.records.records marks why.first

@@ -13,7 +13,7 @@ use crate::cause::{Cause, Contents, cause_of};
 use crate::why::Asked;
 use lf_codec::Packed;
 use lf_contents::{Packing, packed_in};
-use lf_listing::{Mark, marks_of};
+use lf_listing::{Marks, marks_of};
 use lf_rules::{NoMemory, Shape};
 use lf_verdict::{Broken, Fault, PartFault};
 use std::alloc::Global;
@@ -24,7 +24,7 @@ pub struct NotLegal {
     /// The records of the trace. Places are told among these.
     pub records: Packed,
     /// What stands beside each record.
-    pub marks: Vec<Mark>,
+    pub marks: Marks,
     /// Why the fault stands that the verdict names.
     pub fault: Cause,
     /// Why what broke first stands, where the verdict does not name its place.
@@ -100,7 +100,7 @@ pub(crate) fn not_legal(
     requires earliest { IsEarliestIf shape.now bytes.now earliest.now }
     ensures { IfOk result (IsNotLegal shape.now bytes.now (told_by asked.now.times) asked.now.most fault.now) }
 {
-    let Asked { most, times } = *asked;
+    let Asked { most, times, .. } = *asked;
     let Packing {
         memory,
         records,

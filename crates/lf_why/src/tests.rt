@@ -2,11 +2,13 @@
 
 ghost use Rattle.lf_rules.specs.InRange.{IsShape};
 
-use crate::{Asked, WhyText, why_of};
+use crate::{Asked, Judgement, NotComplete, Why, WhyText, why_of};
+use lf_history::packed;
+use lf_listing::marks_of;
 use lf_map::Times;
 use lf_rules::Shape;
-use lf_samples::{C1, LOAD, LOADED, trace_of};
-use lf_verdict::Session;
+use lf_samples::{C1, LOAD, LOADED, memory_ran_out, records, trace_of};
+use lf_verdict::{Incomplete, Session};
 use std::test::Fail;
 
 /// The text of why the verdict on these bytes is what it is, with at most one record before; empty where nothing is
@@ -22,8 +24,17 @@ fn told<T: AllocGlobal>(
     let mut session = Session::for_shape(rt.alloc(), shape);
     let _ = session.feed(bytes);
     let end = session.conclude();
-    let asked = Asked { most: 1, times };
-    let Some(why) = why_of(rt.alloc(), shape, bytes, &end.verdict, &end.broken, &asked)? else {
+    let judged = Judgement {
+        verdict: &end.verdict,
+        earliest: &end.broken,
+        incomplete: None,
+    };
+    let asked = Asked {
+        most: 1,
+        times,
+        complete: false,
+    };
+    let Some(why) = why_of(rt.alloc(), shape, bytes, &judged, &asked)? else {
         return Ok(String::new(rt.alloc()));
     };
     let text = WhyText {
@@ -64,6 +75,37 @@ bank 0 level 2: ways of a set 1 of 2; registers 1 of 1; targets of a register 1 
 port 0: tags 1 of 4
 ";
     assert_eq!(rt; text.as_str(), due);
+    Ok(())
+}
+
+/// The last record is that of a miss, and nothing comes from level two.
+#[test]
+fn request_without_a_reply(rt: HostRuntime) -> Result<(), Fail> {
+    let Ok(records) = packed(rt.alloc(), &records(rt.alloc(), &C1, &["L 0 8@0, P 0 0"])?) else {
+        return Err(memory_ran_out());
+    };
+    let marks = marks_of(rt.alloc(), &records, 16, None)?;
+    let why = Why::NotComplete(NotComplete {
+        records,
+        marks,
+        request: Incomplete { port: 0, tag: 0 },
+        place: 0,
+        at_block: Vec::from_slice(rt.alloc(), &[0, 1])?,
+    });
+    let text = WhyText {
+        shape: &C1,
+        bytes: &[],
+        why: &why,
+    };
+    let due = "\
+load port=0 bank=0 number=0 tag=0 size=8 address=0x0 ; at 16
+  the trace ends without a reply to this request
+
+the last records of its bank at its block:
+load port=0 bank=0 number=0 tag=0 size=8 address=0x0 ; at 16
+primary bank=0 number=1 port=0 tag=0 register=0 ; at 36
+";
+    assert_eq!(rt; format!(in rt.alloc(); "{text}")?.as_str(), due);
     Ok(())
 }
 

@@ -75,6 +75,7 @@ impl fmt::Display for WhyText<'_> {
         let WhyText { shape, bytes, why } = *self;
         match why {
             Why::No(why) => write!(f, "{why}"),
+            Why::NotComplete(why) => write!(f, "{why}"),
             Why::Yes(usage) => {
                 let text = UsageText { usage, shape };
                 write!(f, "{text}")

@@ -1,21 +1,21 @@
 //! Why a verdict is what it is.
 
-ghost use Rattle.std.specs.Prelude.{◌≡◌, IfOk};
+ghost use Rattle.std.specs.Prelude.{◌≡◌, Some, IfOk, IfSome};
 ghost use Rattle.lf_listing.specs.Marks.{told_by};
 ghost use Rattle.lf_rules.specs.InRange.{IsShape};
 ghost use Rattle.lf_contents.specs.Logs.{IsCountable};
-ghost use Rattle.lf_verdict.specs.Verdict.{IsDecided, IsVerdictOf};
-ghost use Rattle.lf_why.specs.NotLegal.{IsEarliestIf};
-ghost use Rattle.lf_why.specs.Why.{records_before, IsUsageOf, HasWhy};
+ghost use Rattle.lf_verdict.specs.Incomplete.{IsIncompleteIn};
+ghost use Rattle.lf_why.specs.Why.{records_before, IsJudgement, IsUsageOf, IsWhyOfLegal, HasWhy};
 
+use crate::not_complete::{NotComplete, not_complete};
 use crate::not_legal::{NotLegal, not_legal};
 use lf_codec::CodecFault;
-use lf_contents::{logs_in, records_in};
+use lf_contents::{packed_logs_in, records_in};
 use lf_map::Times;
 use lf_refusal::up_to;
 use lf_rules::{NoMemory, Shape};
 use lf_usage::{Usage, usage_of};
-use lf_verdict::{Broken, Refusal, Verdict};
+use lf_verdict::{Broken, Incomplete, Refusal, Verdict};
 use std::alloc::Global;
 
 /// Why a verdict is what it is.
@@ -25,6 +25,8 @@ pub enum Why {
     No(NotLegal),
     /// What a legal trace used at most.
     Yes(Usage),
+    /// Why a legal trace is not complete.
+    NotComplete(NotComplete),
     /// Where bytes are no trace, and how many event records stand before.
     Format { fault: CodecFault, count: u64 },
     /// The trace is of another hierarchy.
@@ -38,6 +40,18 @@ pub struct Asked<'a> {
     pub most: u16,
     /// The time of each record, where a recorder wrote it down.
     pub times: Option<&'a Times>,
+    /// Whether each request of a legal trace has to have a reply.
+    pub complete: bool,
+}
+
+/// What judging the bytes of a trace came to.
+#[derive(Clone, Copy)]
+pub struct Judgement<'a> {
+    pub verdict: &'a Verdict,
+    /// What broke first, where something did.
+    pub earliest: &'a Option<Broken>,
+    /// The first request of a legal trace that has no reply, where one has none and complete traces are asked for.
+    pub incomplete: Option<Incomplete>,
 }
 
 /// What the trace in these bytes uses at most.
@@ -46,7 +60,7 @@ fn usage_in(alloc: Global, shape: &Shape, bytes: &[u8]) -> Result<Usage, NoMemor
     requires countable { IsCountable shape.now bytes.now }
     ensures { IfOk result (IsUsageOf shape.now bytes.now) }
 {
-    let logs = logs_in(alloc, shape, bytes)?;
+    let logs = packed_logs_in(alloc, shape, bytes)?;
     usage_of(alloc, shape, &logs)
 }
 
@@ -58,27 +72,51 @@ fn records_before(alloc: Global, bytes: &[u8], offset: u64) -> Result<u64, NoMem
     Ok(records.len() as u64)
 }
 
-/// Why the verdict on these bytes is what it is. A refused configuration, a refused number of workers, and that memory
-/// ran out or a thread was refused are not told of.
+/// Why a legal trace is not complete, or otherwise what it uses at most.
+fn why_of_legal(
+    alloc: Global,
+    shape: &Shape,
+    bytes: &[u8],
+    incomplete: Option<Incomplete>,
+    asked: &Asked<'_>,
+) -> Result<Why, NoMemory>
+    requires in_range { IsShape shape.now }
+    requires countable { IsCountable shape.now bytes.now }
+    requires incomplete { IfSome incomplete (λ found. IsIncompleteIn shape.now bytes.now (Some found)) }
+    ensures { IfOk result (IsWhyOfLegal shape.now bytes.now (told_by asked.now.times) asked.now.most incomplete) }
+{
+    match incomplete {
+        Some(found) => Ok(Why::NotComplete(not_complete(alloc, shape, bytes, found, asked)?)),
+        None => Ok(Why::Yes(usage_in(alloc, shape, bytes)?)),
+    }
+}
+
+/// Why the judgement of these bytes is what it is. A refused configuration, a refused number of workers, and that
+/// memory ran out or a thread was refused are not told of.
 pub fn why_of(
     alloc: Global,
     shape: &Shape,
     bytes: &[u8],
-    verdict: &Verdict,
-    earliest: &Option<Broken>,
+    judged: &Judgement<'_>,
     asked: &Asked<'_>,
 ) -> Result<Option<Why>, NoMemory>
     requires in_range { IsShape shape.now }
-    requires judged { IsDecided verdict.now → IsVerdictOf shape.now 1 bytes.now verdict.now }
-    requires earliest { IsDecided verdict.now → IsEarliestIf shape.now bytes.now earliest.now }
-    ensures { IfOk result (HasWhy shape.now bytes.now (told_by asked.now.times) asked.now.most verdict.now) }
+    requires judged { IsJudgement shape.now bytes.now judged.now.verdict.now judged.now.earliest.now
+        judged.now.incomplete }
+    ensures { IfOk result (HasWhy shape.now bytes.now (told_by asked.now.times) asked.now.most judged.now.verdict.now
+        judged.now.incomplete) }
 {
+    let Judgement {
+        verdict,
+        earliest,
+        incomplete,
+    } = *judged;
     match verdict {
         Verdict::No(fault) => {
             let why = not_legal(alloc, shape, bytes, fault, earliest, asked)?;
             Ok(Some(Why::No(why)))
         }
-        Verdict::Yes { .. } => Ok(Some(Why::Yes(usage_in(alloc, shape, bytes)?))),
+        Verdict::Yes { .. } => Ok(Some(why_of_legal(alloc, shape, bytes, incomplete, asked)?)),
         Verdict::Refused(Refusal::Format(fault)) => Ok(Some(Why::Format {
             fault: *fault,
             count: records_before(alloc, bytes, fault.offset)?,
