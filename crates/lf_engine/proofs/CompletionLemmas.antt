@@ -1,54 +1,27 @@
 -- Laws of what a run that asks for complete traces comes to and tells.
 use Rattle.std.proofs.Common.{◌≡◌, ℕ, List, Option, None, Result, Ok, Err, IfOk, sym, ap, subst, refl, inl, inr}
-use Rattle.std.specs.Global.{Vec}
 use Rattle.std.specs.Prelude.{◌↔◌, IsErrOf}
 use Rattle.lf_rules.specs.declared.shape.Shape.{Shape}
-use Rattle.lf_rules.specs.declared.event.Record.{Record}
-use Rattle.lf_rules.specs.Lists.{lists_of}
 use Rattle.lf_config.specs.Configuration.{configuration_of}
-use Rattle.lf_stats.specs.declared.incomplete.Incomplete.{Incomplete}
-use Rattle.lf_stats.specs.Incomplete.{IsFirstIncomplete}
+use Rattle.lf_logs.specs.declared.incomplete.Incomplete.{Incomplete}
 use Rattle.lf_verdict.specs.declared.answer.Verdict.{Verdict}
 use Rattle.lf_verdict.specs.declared.answer.Verdict.TheVariants.{Yes, No, Refused}
-use Rattle.lf_verdict.specs.Verdict.{IsDecided}
+use Rattle.lf_verdict.specs.Incomplete.{IsIncompleteFor}
 use Rattle.lf_stream.specs.Account.{Account}
 use Rattle.lf_engine.specs.declared.complete.Completion.{Completion}
 use Rattle.lf_engine.specs.declared.fault.RunFault.{RunFault}
-use Rattle.lf_engine.specs.Complete.{IsIncompleteIn, IsCompletion, IsCompletionFor, IsCompletionDue}
+use Rattle.lf_engine.specs.Complete.{IsCompletion, IsCompletionDue}
 use Rattle.lf_engine.specs.Complete.{FollowsCompletion, verdict_of, judged_alone, completion_line}
-use Rattle.lf_contents.specs.Logs.{AreLogsIn}
-use Rattle.lf_engine.specs.Report.{IsYesVerdict}
 use Rattle.lf_engine.specs.Run.{Reads, Follows, outcome_line}
 
-pub found_in : (shape : Shape) (bytes : List ℕ) (logs : Vec (Vec Record)) (found : Option Incomplete)
-    → AreLogsIn shape bytes logs → IsFirstIncomplete shape.ports (lists_of logs) found →
-    IsIncompleteIn shape bytes found
-found_in shape bytes logs found x is =
-    record { memory = x.memory; logs = lists_of logs; trace = x.trace; first = is }
-
-pub none_looked_for : (shape : Shape) (bytes : List ℕ) (v : Verdict) → ¬ IsYesVerdict v →
-    IsCompletionFor shape bytes v None
-none_looked_for shape bytes (Yes events order) other = absurd (other tt)
-none_looked_for shape bytes (No f) other = refl
-none_looked_for shape bytes (Refused f) other = refl
-
-pub looked_for : (shape : Shape) (bytes : List ℕ) (v : Verdict) (found : Option Incomplete) → IsYesVerdict v →
-    IsIncompleteIn shape bytes found
-    → IsCompletionFor shape bytes v found
-looked_for shape bytes (Yes events order) found is h = h
-looked_for shape bytes (No f) found is h = absurd is
-looked_for shape bytes (Refused f) found is h = absurd is
-
 -- What is found in the bytes is found in those that the reader answered.
-pub found_read : (old new : Account) (config : List ℕ) (shape : Shape) (bytes : List ℕ) (judged v : Verdict)
-    (found : Option Incomplete)
-    → configuration_of config ≡ Ok shape → (IsDecided judged → Reads old new bytes) → Follows (Ok judged) (Ok v)
-    → IsCompletionFor shape bytes v found → IsCompletion old new config v found
-found_read old new config shape bytes judged (Yes events order) found e reads (inl same) h =
-    record { bytes = bytes; reads = reads (subst IsDecided same tt); shape = shape; configured = e; incomplete = h }
-found_read old new config shape bytes judged (Yes events order) found e reads (inr memory) h = absurd (cc)
-found_read old new config shape bytes judged (No f) found e reads follows h = h
-found_read old new config shape bytes judged (Refused f) found e reads follows h = h
+pub completion_read : (old new : Account) (config : List ℕ) (shape : Shape) (bytes : List ℕ) (v : Verdict)
+    (found : Option Incomplete) → configuration_of config ≡ Ok shape → Reads old new bytes
+    → IsIncompleteFor shape bytes v found → IsCompletion old new config v found
+completion_read old new config shape bytes (Yes events order) found e reads is =
+    record { bytes = bytes; reads = reads; shape = shape; configured = e; incomplete = is }
+completion_read old new config shape bytes (No f) found e reads is = is
+completion_read old new config shape bytes (Refused f) found e reads is = is
 
 -- ---- what is told
 

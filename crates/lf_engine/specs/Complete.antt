@@ -1,29 +1,21 @@
 -- What a run that asks for complete traces answers and writes.
 use Rattle.std.specs.Prelude.{◌≡◌, ℕ, ◌⊎◌, List, [], ◌∷◌, ◌++◌, codes, Option, Some, None, Result, Ok, Err}
 use Rattle.lf_rules.specs.declared.shape.Shape.{Shape}
-use Rattle.lf_rules.specs.declared.event.Record.{Record}
-use Rattle.lf_rules.specs.Fits.{Bytes}
 use Rattle.lf_config.specs.Configuration.{configuration_of}
-use Rattle.lf_stats.specs.declared.incomplete.Incomplete.{Incomplete}
-use Rattle.lf_stats.specs.Incomplete.{IsFirstIncomplete, incomplete_text}
+use Rattle.lf_logs.specs.declared.incomplete.Incomplete.{Incomplete}
+use Rattle.lf_logs.specs.Incomplete.{incomplete_text}
 use Rattle.lf_verdict.specs.declared.answer.Verdict.{Verdict}
 use Rattle.lf_verdict.specs.declared.answer.Verdict.TheVariants.{Yes, Refused}
 use Rattle.lf_verdict.specs.declared.answer.Refusal.TheVariants.{Memory}
-use Rattle.lf_verdict.specs.Legal.{IsTraceFor}
+use Rattle.lf_verdict.specs.Incomplete.{IsIncompleteIn}
 use Rattle.lf_stream.specs.Account.{Account}
 use Rattle.lf_engine.specs.declared.fault.RunFault.{RunFault}
 use Rattle.lf_engine.specs.declared.complete.Completion.{Completion}
 use Rattle.lf_engine.specs.Line.{line_of, not_read_line}
 use Rattle.lf_engine.specs.Run.{Reads, outcome_line}
 
--- This is the first request of the trace in the bytes that has no reply, or each request has one.
-pub record IsIncompleteIn (shape : Shape) (bytes : List ℕ) (found : Option Incomplete) : Type 0 where
-  pub memory : List (ℕ × Bytes)
-  pub logs : List (List Record)
-  pub trace : IsTraceFor shape bytes memory logs
-  pub first : IsFirstIncomplete shape.ports logs found
-
--- It is that of the bytes that the reader answered, for the shape that the configuration says.
+-- This is the first request without a reply in the bytes that the reader answered, for the shape that the configuration
+-- says, or each request has one.
 pub record IsIncompleteRead (old new : Account) (config : List ℕ) (found : Option Incomplete) : Type 0 where
   pub bytes : List ℕ
   pub reads : Reads old new bytes
@@ -57,11 +49,6 @@ IsCompletionDue old new config (Ok (Yes events order)) text =
 IsCompletionDue old new config answer text = text ≡ outcome_line answer
 
 -- ---- before it is written
-
--- of the bytes themselves
-abbrev pub IsCompletionFor : Shape → List ℕ → Verdict → Option Incomplete → Type 0
-IsCompletionFor shape bytes (Yes events order) found = IsIncompleteIn shape bytes found
-IsCompletionFor shape bytes verdict found = found ≡ None
 
 -- the verdict that a run came to
 abbrev pub verdict_of : Result Completion RunFault → Result Verdict RunFault

@@ -5,6 +5,7 @@ use Rattle.lf_config.specs.declared.fault.ConfigFault.TheVariants as config_faul
 use Rattle.lf_verdict.specs.declared.answer.Refusal.TheVariants as refusals
 use Rattle.lf_verdict.specs.declared.answer.Verdict.{Verdict}
 use Rattle.lf_verdict.specs.declared.answer.Verdict.TheVariants.{Yes, No, Refused}
+use Rattle.lf_logs.specs.Incomplete.{incomplete_text}
 use Rattle.lf_verdict.specs.Text.{fault_text, refusal_text}
 use Rattle.lf_engine.specs.declared.line.InputFault.{InputFault}
 use Rattle.lf_engine.specs.declared.line.InputFault.TheVariants as inputs
@@ -26,6 +27,7 @@ input_text inputs.Memory = refusal_text refusals.Memory
 -- what a line says
 abbrev pub line_text : Line → List ℕ
 line_text (lines.Judged verdict) = verdict_text verdict.now
+line_text (lines.Incomplete request) = codes "no " ++ incomplete_text request
 line_text (lines.Refused fault) = codes "refused " ++ input_text fault
 
 -- the text and one newline

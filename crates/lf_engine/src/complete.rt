@@ -6,29 +6,25 @@ ghost use Rattle.lf_rules.specs.InRange.{IsShape};
 ghost use Rattle.lf_config.specs.Configuration.{configuration_of};
 ghost use Rattle.lf_verdict.specs.declared.answer.Verdict.{Verdict};
 ghost use Rattle.lf_verdict.specs.declared.answer.Refusal.{Refusal};
-ghost use Rattle.lf_verdict.specs.Verdict.{IsWorkerCount, IsDecided, IsVerdictOf};
+ghost use Rattle.lf_verdict.specs.Verdict.{IsWorkerCount, IsVerdictOf};
 ghost use Rattle.lf_verdict.specs.Legal.{IsLegal};
 ghost use Rattle.lf_verdict.specs.Configured.{IsVerdictFor, IsLegalFor, IsRunlessNoFor};
 ghost use Rattle.lf_stream.specs.Account.{WentOut};
 ghost use Rattle.lf_stream.specs.Counted.{calls_of, failures_of, account_of};
 ghost use Rattle.lf_engine.specs.declared.fault.RunFault.{RunFault};
-ghost use Rattle.lf_engine.specs.Complete.{IsIncompleteIn, IsCompletion, IsCompletionFor, IsCompletionDue};
+ghost use Rattle.lf_engine.specs.Complete.{IsCompletion, IsCompletionDue};
 ghost use Rattle.lf_engine.specs.Complete.{incomplete_line, completion_line, verdict_of, judged_alone};
 ghost use Rattle.lf_engine.specs.Complete.{FollowsCompletion};
-ghost use Rattle.lf_contents.specs.Logs.{IsCountable};
-ghost use Rattle.lf_engine.specs.Run.{IsAsked, IsOutcome, Follows, IsRunWriting};
+ghost use Rattle.lf_engine.specs.Run.{IsAsked, IsOutcome, IsRunWriting};
 
-use crate::engine::{shape_for, tell};
+use crate::engine::{PIECE, shape_for, tell};
 use crate::fault::RunFault;
+use crate::feeding::Feeding;
 use crate::line::no_memory;
-use crate::report::Judged;
-use crate::statistics::judge_and_keep;
 use lf_codec::{exact_reading, fault_so_far, faults_stand};
-use lf_contents::logs_in;
 use lf_rules::{NoMemory, Shape};
-use lf_stats::{Incomplete, first_incomplete};
-use lf_stream::{Counted, Source, put};
-use lf_verdict::{Refusal, Verdict, no_has_no_run};
+use lf_stream::{Counted, Source, Stop, gather, put, zeros};
+use lf_verdict::{Incomplete, Refusal, Session, Verdict, no_has_no_run};
 use std::alloc::{AllocError, Global};
 use std::io::{Read, Write};
 
@@ -52,35 +48,6 @@ impl Completion {
     }
 }
 
-/// The first request without a reply in the trace in these bytes.
-fn incomplete_in(alloc: Global, shape: &Shape, bytes: &[u8]) -> Result<Option<Incomplete>, NoMemory>
-    requires in_range { IsShape shape.now }
-    requires countable { IsCountable shape.now bytes.now }
-    ensures { IfOk result (IsIncompleteIn shape.now bytes.now) }
-{
-    let logs = logs_in(alloc, shape, bytes)?;
-    Ok(first_incomplete(shape.ports, &logs))
-}
-
-/// Looks for a request without a reply after a yes. Where memory runs out, that is the verdict.
-fn completion_of(alloc: Global, shape: &Shape, bytes: &[u8], verdict: Verdict) -> Completion
-    requires shape { IsShape shape.now }
-    requires judged { IsDecided verdict → IsVerdictOf shape.now 1 bytes.now verdict }
-    ensures follows { Follows (Ok verdict) (Ok result.verdict) }
-    ensures complete { IsCompletionFor shape.now bytes.now result.verdict result.incomplete }
-{
-    if !matches!(&verdict, Verdict::Yes { .. }) {
-        return Completion::of(verdict);
-    }
-    match incomplete_in(alloc, shape, bytes) {
-        Ok(incomplete) => Completion {
-            verdict,
-            incomplete,
-        },
-        Err(NoMemory) => Completion::of(Verdict::Refused(Refusal::Memory)),
-    }
-}
-
 /// Reads and judges for the shape.
 fn completion_for<T: AllocGlobal, S: Source>(
     rt: &T,
@@ -96,8 +63,25 @@ fn completion_for<T: AllocGlobal, S: Source>(
     ensures complete { (config : List ℕ) → configuration_of config ≡ Ok shape.now → IfOk result (λ c.
         IsCompletion (S.account source.old) (S.account source.new) config c.verdict c.incomplete) }
 {
-    let Judged { verdict, bytes, .. } = judge_and_keep(rt, source, shape, turns)?;
-    Ok(completion_of(rt.alloc(), shape, bytes.as_slice(), verdict))
+    fault_so_far();
+    let mut feeding = Feeding {
+        session: Session::for_shape(rt.alloc(), shape),
+    };
+    let Ok(mut buffer) = zeros(rt.alloc(), PIECE) else {
+        return Ok(Completion::of(Verdict::Refused(Refusal::Memory)));
+    };
+    match gather(source, buffer.as_mut_slice(), &mut feeding, turns) {
+        Ok(()) => {
+            let end = feeding.session.conclude();
+            Ok(Completion {
+                verdict: end.verdict,
+                incomplete: end.incomplete,
+            })
+        }
+        Err(Stop::Sink(NoMemory)) => Ok(Completion::of(Verdict::Refused(Refusal::Memory))),
+        Err(Stop::Read) => Err(RunFault::Read),
+        Err(Stop::Turns) => Err(RunFault::Turns),
+    }
 }
 
 /// Judges the configuration, and only then reads.

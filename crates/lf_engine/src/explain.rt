@@ -1,20 +1,30 @@
 //! Reads the bytes of a trace, judges them, and tells why the verdict is what it is.
 
-ghost use Rattle.std.specs.Prelude.{◌≡◌, ◌<◌, ◌∷◌, ◌++◌, ℕ, List, Ok, IfOk, string_bytes};
+ghost use Rattle.std.specs.Prelude.{◌≡◌, ◌≢◌, ◌<◌, ◌↔◌, ◌∷◌, ◌++◌, ℕ, List, take, None, Result, Ok, Err, IfOk, IfErr};
+ghost use Rattle.std.specs.Prelude.{IsErrOf, string_bytes};
+ghost use Rattle.lf_rules.specs.declared.shape.Shape.{Shape};
 ghost use Rattle.lf_rules.specs.InRange.{IsShape};
 ghost use Rattle.lf_config.specs.Configuration.{configuration_of};
 ghost use Rattle.lf_listing.specs.Marks.{told_by};
+ghost use Rattle.lf_verdict.specs.declared.answer.Verdict.{Verdict};
+ghost use Rattle.lf_verdict.specs.declared.answer.Refusal.{Refusal};
+ghost use Rattle.lf_verdict.specs.Incomplete.{IsIncompleteFor};
 ghost use Rattle.lf_verdict.specs.Verdict.{IsWorkerCount, IsDecided, IsVerdictOf};
 ghost use Rattle.lf_verdict.specs.Legal.{IsLegal};
 ghost use Rattle.lf_verdict.specs.Configured.{IsVerdictFor, IsLegalFor, IsRunlessNoFor};
+ghost use Rattle.lf_stream.specs.Account.{WentOut};
 ghost use Rattle.lf_stream.specs.Counted.{calls_of, failures_of, account_of};
 ghost use Rattle.lf_why.specs.NotLegal.{IsEarliestIf};
-ghost use Rattle.lf_why.specs.Why.{why_text};
-ghost use Rattle.lf_engine.specs.Explain.{IsExplained, HasWhyLines, HasWhyLinesRead};
-ghost use Rattle.lf_engine.specs.Line.{verdict_text};
-ghost use Rattle.lf_engine.specs.Report.{verdict_in};
+ghost use Rattle.lf_why.specs.Why.{IsJudgement, why_text};
+ghost use Rattle.lf_engine.specs.Complete.{verdict_of};
+ghost use Rattle.lf_engine.specs.Explain.{IsCompletionIf, IsCompletionForIf, IsExplained, HasWhyLines};
+ghost use Rattle.lf_engine.specs.Explain.{HasWhyLinesRead, answer_text, report_in, incomplete_in};
+ghost use Rattle.lf_engine.specs.Line.{line_text};
+ghost use Rattle.lf_engine.specs.declared.fault.RunFault.{RunFault};
+ghost use Rattle.lf_engine.specs.Report.{verdict_in, FollowsReport, report_text};
 ghost use Rattle.lf_engine.specs.Run.{IsAsked, IsOutcome, Follows, IsRunWriting};
 
+use crate::complete::Completion;
 use crate::engine::shape_for;
 use crate::fault::RunFault;
 use crate::line::Line;
@@ -23,44 +33,90 @@ use crate::statistics::{judge_and_keep, tell_report};
 use lf_codec::{exact_reading, fault_so_far, faults_stand};
 use lf_rules::{NoMemory, Shape};
 use lf_stream::{Counted, Source};
-use lf_verdict::{Verdict, no_has_no_run};
-use lf_why::{Asked, WhyText, why_of};
+use lf_verdict::{Incomplete, Refusal, Verdict, no_has_no_run};
+use lf_why::{Asked, Judgement, WhyText, why_of};
 use std::alloc::Global;
 use std::io::{Read, Write};
 
-/// The line of the verdict, and after an empty line why.
-fn behind_line(alloc: Global, verdict: &Verdict, why: WhyText<'_>) -> Result<String, NoMemory>
-    ensures { IfOk result (λ text. string_bytes text
-        ≡ verdict_text verdict.now ++ 10 ∷ 10 ∷ why_text why.entry.shape.now why.entry.bytes.now why.entry.why.now) }
+/// What a run that explains came to.
+#[derive(Debug, Drop)]
+pub struct Explained {
+    pub verdict: Verdict,
+    /// The first request of a legal trace that has no reply, where one has none and complete traces are asked for.
+    pub incomplete: Option<Incomplete>,
+    /// What is told, where anything is.
+    pub lines: Option<String>,
+}
+
+impl Explained {
+    /// What a verdict is told by. Where memory ran out for it, that is the verdict, and nothing is told.
+    pub fn of(
+        verdict: Verdict,
+        incomplete: Option<Incomplete>,
+        lines: Result<Option<String>, NoMemory>,
+    ) -> Explained
+        ensures follows { Follows (Ok verdict) (Ok result.verdict) }
+        ensures told { IfOk lines (λ told. result
+            ≡ record { verdict = verdict; incomplete = incomplete; lines = told }) }
+        ensures memory { IfErr lines (λ _. result
+            ≡ record { verdict = Verdict.Refused Refusal.Memory; incomplete = None; lines = None }) }
+    {
+        match lines {
+            Ok(lines) => Explained {
+                verdict,
+                incomplete,
+                lines,
+            },
+            Err(NoMemory) => Explained {
+                verdict: Verdict::Refused(Refusal::Memory),
+                incomplete: None,
+                lines: None,
+            },
+        }
+    }
+}
+
+/// The first request without a reply after a yes, where complete traces are asked for.
+pub fn incomplete_if(judged: &Judged, complete: bool) -> Option<Incomplete>
+    ensures { (shape : Shape) → IsIncompleteFor shape judged.now.bytes.items judged.now.verdict judged.now.incomplete
+        → IsCompletionForIf complete shape judged.now.bytes.items judged.now.verdict result }
 {
-    let line = Line::Judged(verdict);
+    if complete { judged.incomplete } else { None }
+}
+
+/// The line of a request without a reply, or otherwise that of the verdict.
+pub fn line_for(verdict: &Verdict, incomplete: Option<Incomplete>) -> Line<'_>
+    ensures { line_text result ≡ answer_text verdict.now incomplete }
+{
+    match incomplete {
+        Some(request) => Line::Incomplete(request),
+        None => Line::Judged(verdict),
+    }
+}
+
+/// A line, and after an empty line why.
+fn behind_line(alloc: Global, line: Line<'_>, why: WhyText<'_>) -> Result<String, NoMemory>
+    ensures { IfOk result (λ text. string_bytes text
+        ≡ line_text line.entry ++ 10 ∷ 10 ∷ why_text why.entry.shape.now why.entry.bytes.now why.entry.why.now) }
+{
     Ok(format!(in alloc; "{line}\n\n{why}")?)
 }
 
-/// The lines of the verdict, where it is told why.
+/// The lines of what was judged, where it is told why.
 fn lines_for(
     alloc: Global,
     shape: &Shape,
-    judged: &Judged,
+    bytes: &[u8],
+    judged: &Judgement<'_>,
     asked: &Asked<'_>,
 ) -> Result<Option<String>, NoMemory>
     requires in_range { IsShape shape.now }
-    requires judged { IsDecided judged.now.verdict → IsVerdictOf shape.now 1 judged.now.bytes.items judged.now.verdict }
-    requires earliest { IsDecided judged.now.verdict →
-        IsEarliestIf shape.now judged.now.bytes.items judged.now.earliest }
-    ensures { IfOk result (HasWhyLines shape.now judged.now.bytes.items (told_by asked.now.times) asked.now.most
-        judged.now.verdict) }
+    requires judged { IsJudgement shape.now bytes.now judged.now.verdict.now judged.now.earliest.now
+        judged.now.incomplete }
+    ensures { IfOk result (HasWhyLines shape.now bytes.now (told_by asked.now.times) asked.now.most
+        judged.now.verdict.now judged.now.incomplete) }
 {
-    let bytes = judged.bytes.as_slice();
-    let Some(why) = why_of(
-        alloc,
-        shape,
-        bytes,
-        &judged.verdict,
-        &judged.earliest,
-        asked,
-    )?
-    else {
+    let Some(why) = why_of(alloc, shape, bytes, judged, asked)? else {
         return Ok(None);
     };
     let text = WhyText {
@@ -68,20 +124,30 @@ fn lines_for(
         bytes,
         why: &why,
     };
-    Ok(Some(behind_line(alloc, &judged.verdict, text)?))
+    let line = line_for(judged.verdict, judged.incomplete);
+    Ok(Some(behind_line(alloc, line, text)?))
 }
 
 /// What is told goes with the verdict. Where memory runs out, that is the verdict.
-fn explained(alloc: Global, shape: &Shape, judged: Judged, asked: &Asked<'_>) -> Report
+fn told_of(alloc: Global, shape: &Shape, judged: Judged, asked: &Asked<'_>) -> Explained
     requires shape { IsShape shape.now }
     requires judged { IsDecided judged.verdict → IsVerdictOf shape.now 1 judged.bytes.items judged.verdict }
     requires earliest { IsDecided judged.verdict → IsEarliestIf shape.now judged.bytes.items judged.earliest }
+    requires incomplete { IsIncompleteFor shape.now judged.bytes.items judged.verdict judged.incomplete }
     ensures follows { Follows (Ok judged.verdict) (Ok result.verdict) }
+    ensures incomplete { IsCompletionForIf asked.now.complete shape.now judged.bytes.items result.verdict
+        result.incomplete }
     ensures why { HasWhyLines shape.now judged.bytes.items (told_by asked.now.times) asked.now.most result.verdict
-        result.lines }
+        result.incomplete result.lines }
 {
-    let lines = lines_for(alloc, shape, &judged, asked);
-    Report::of(judged.verdict, lines)
+    let incomplete = incomplete_if(&judged, asked.complete);
+    let judgement = Judgement {
+        verdict: &judged.verdict,
+        earliest: &judged.earliest,
+        incomplete,
+    };
+    let lines = lines_for(alloc, shape, judged.bytes.as_slice(), &judgement, asked);
+    Explained::of(judged.verdict, incomplete, lines)
 }
 
 /// Reads, judges and explains for the shape.
@@ -91,18 +157,21 @@ fn explained_for<T: AllocGlobal, S: Source>(
     shape: &Shape,
     asked: &Asked<'_>,
     turns: u32,
-) -> Result<Report, RunFault>
+) -> Result<Explained, RunFault>
     requires calls { (S.account source.old).calls ≡ 0 }
     requires failures { (S.account source.old).failures ≡ 0 }
     requires shape { IsShape shape.now }
     ensures outcome { IsOutcome (S.account source.old) (S.account source.new)
-        (IsWorkerCount 1) (IsLegal shape.now) (IsVerdictOf shape.now 1) turns (verdict_in result) }
-    ensures why { (config : List ℕ) → configuration_of config ≡ Ok shape.now → IfOk result (λ r.
+        (IsWorkerCount 1) (IsLegal shape.now) (IsVerdictOf shape.now 1) turns (verdict_in (report_in result)) }
+    ensures incomplete { (config : List ℕ) → configuration_of config ≡ Ok shape.now → IfOk result (λ told.
+        IsCompletionIf asked.now.complete (S.account source.old) (S.account source.new) config told.verdict
+        told.incomplete) }
+    ensures why { (config : List ℕ) → configuration_of config ≡ Ok shape.now → IfOk result (λ told.
         HasWhyLinesRead (S.account source.old) (S.account source.new) config (told_by asked.now.times) asked.now.most
-        r.verdict r.lines) }
+        told.verdict told.incomplete told.lines) }
 {
     let judged = judge_and_keep(rt, source, shape, turns)?;
-    Ok(explained(rt.alloc(), shape, judged, asked))
+    Ok(told_of(rt.alloc(), shape, judged, asked))
 }
 
 /// Judges the configuration, and only then reads.
@@ -112,23 +181,85 @@ fn explained_configured<T: AllocGlobal, S: Source>(
     config: &str,
     asked: &Asked<'_>,
     turns: u32,
-) -> Result<Report, RunFault>
+) -> Result<Explained, RunFault>
     requires calls { (S.account source.old).calls ≡ 0 }
     requires failures { (S.account source.old).failures ≡ 0 }
     ensures unread { ¬ IsAsked config.now 1 → source.new ≡ source.old }
     ensures outcome { IsOutcome (S.account source.old) (S.account source.new)
-        (IsAsked config.now 1) (IsLegalFor config.now) (IsVerdictFor config.now 1) turns (verdict_in result) }
-    ensures why { IfOk result (λ r.
+        (IsAsked config.now 1) (IsLegalFor config.now) (IsVerdictFor config.now 1) turns
+        (verdict_in (report_in result)) }
+    ensures incomplete { IfOk result (λ told.
+        IsCompletionIf asked.now.complete (S.account source.old) (S.account source.new) config.now told.verdict
+        told.incomplete) }
+    ensures why { IfOk result (λ told.
         HasWhyLinesRead (S.account source.old) (S.account source.new) config.now (told_by asked.now.times)
-        asked.now.most r.verdict r.lines) }
+        asked.now.most told.verdict told.incomplete told.lines) }
 {
     match shape_for(rt.alloc(), config, 1) {
         Ok(shape) => explained_for(rt, source, &shape, asked, turns),
-        Err(refusal) => Ok(Report {
+        Err(refusal) => Ok(Explained {
             verdict: Verdict::Refused(refusal),
+            incomplete: None,
             lines: None,
         }),
     }
+}
+
+/// The lines with their verdict, and the request without a reply.
+fn parted(outcome: Result<Explained, RunFault>) -> (Result<Report, RunFault>, Option<Incomplete>)
+    ensures report { result.0 ≡ report_in outcome }
+    ensures incomplete { result.1 ≡ incomplete_in outcome }
+{
+    match outcome {
+        Ok(
+            Explained {
+                verdict,
+                incomplete,
+                lines,
+            },
+        ) => (Ok(Report { verdict, lines }), incomplete),
+        Err(fault) => (Err(fault), None),
+    }
+}
+
+/// What was written, with the request without a reply.
+fn joined(
+    told: Result<Verdict, RunFault>,
+    incomplete: Option<Incomplete>,
+) -> Result<Completion, RunFault>
+    ensures verdict { verdict_of result ≡ told }
+    ensures incomplete { IfOk result (λ c. c.incomplete ≡ incomplete) }
+{
+    match told {
+        Ok(verdict) => Ok(Completion {
+            verdict,
+            incomplete,
+        }),
+        Err(fault) => Err(fault),
+    }
+}
+
+/// Writes what a run came to.
+fn tell_explained<W: Write>(
+    alloc: Global,
+    writer: &mut Counted<W>,
+    outcome: Result<Explained, RunFault>,
+) -> Result<Completion, RunFault>
+    requires failures { failures_of writer.old ≡ 0 }
+    requires no_write { verdict_in (report_in outcome) ≢ Err RunFault.Write }
+    ensures write { IsErrOf (verdict_of result) RunFault.Write ↔ (0 < failures_of writer.new) }
+    ensures follows { verdict_of result ≢ Err RunFault.Write → FollowsReport (report_in outcome) (verdict_of result) }
+    ensures incomplete { IfOk result (λ c. c.incomplete ≡ incomplete_in outcome) }
+    ensures whole { verdict_of result ≢ Err RunFault.Write →
+        WentOut (account_of W.contents writer.old) (account_of W.contents writer.new)
+        (report_text (report_in outcome) (verdict_of result)) }
+    ensures prefix { verdict_of result ≡ Err RunFault.Write →
+        (told : Result Verdict RunFault) × FollowsReport (report_in outcome) told × ((n : ℕ) × WentOut
+        (account_of W.contents writer.old) (account_of W.contents writer.new)
+        (take n (report_text (report_in outcome) told))) }
+{
+    let (report, incomplete) = parted(outcome);
+    joined(tell_report(alloc, writer, report), incomplete)
 }
 
 /// Reads the trace until the reader is at its end or a fault stands in what it gave, judges it with one
@@ -140,7 +271,9 @@ fn explained_configured<T: AllocGlobal, S: Source>(
 ///   it that matter, at most so many; where the numbers of a bank give no order, the records with the number or beside
 ///   it; where logs wait for one another, the records that wait and those that they wait for; and what broke first,
 ///   where that is something else;
-/// - of a yes, what the trace used at most of what the configuration has;
+/// - of a yes, what the trace used at most of what the configuration has; or, where complete traces are asked for and a
+///   request has no reply, the first such request and the last records of its bank at its block, behind the line of
+///   that request in the place of the verdict's;
 /// - of bytes that are no trace, the field that fails, and what it may have;
 /// - of a trace of another hierarchy, the numbers that differ.
 ///
@@ -156,7 +289,7 @@ pub fn run_explain<T: AllocGlobal, R: Read, W: Write>(
     config: &str,
     asked: &Asked<'_>,
     turns: u32,
-) -> Result<Verdict, RunFault>
+) -> Result<Completion, RunFault>
     requires calls { calls_of reader.old ≡ 0 }
     requires failures { failures_of reader.old ≡ 0 }
     requires writes { failures_of writer.old ≡ 0 }
@@ -165,13 +298,15 @@ pub fn run_explain<T: AllocGlobal, R: Read, W: Write>(
         (account_of W.contents writer.old) (account_of W.contents writer.new)
         (IsAsked config.now 1) (IsLegalFor config.now) (IsRunlessNoFor config.now) (IsVerdictFor config.now 1)
         (IsExplained (account_of R.remaining reader.old) (account_of R.remaining reader.new) config.now
-        (told_by asked.now.times) asked.now.most)
-        turns result }
+        (told_by asked.now.times) asked.now.most asked.now.complete)
+        turns (verdict_of result) }
+    ensures complete { IfOk result (λ c. IsCompletionIf asked.now.complete
+        (account_of R.remaining reader.old) (account_of R.remaining reader.new) config.now c.verdict c.incomplete) }
 {
     exact_reading();
     fault_so_far();
     faults_stand();
     no_has_no_run();
     let outcome = explained_configured(rt, reader, config, asked, turns);
-    tell_report(rt.alloc(), writer, outcome)
+    tell_explained(rt.alloc(), writer, outcome)
 }

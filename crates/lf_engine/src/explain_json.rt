@@ -1,82 +1,123 @@
 //! Reads the bytes of a trace, judges them, and tells as JSON why the verdict is what it is.
 
-ghost use Rattle.std.specs.Prelude.{◌≡◌, ◌≢◌, ◌<◌, ◌↔◌, ℕ, List, take, Result, Ok, Err, IsErrOf};
+ghost use Rattle.std.specs.Prelude.{◌≡◌, ◌≢◌, ◌<◌, ◌↔◌, ℕ, List, take, None, Ok, Err, IfOk, IsErrOf};
 ghost use Rattle.lf_rules.specs.InRange.{IsShape};
+ghost use Rattle.lf_config.specs.Configuration.{configuration_of};
 ghost use Rattle.lf_verdict.specs.declared.answer.Verdict.{Verdict};
+ghost use Rattle.lf_verdict.specs.Incomplete.{IsIncompleteFor};
 ghost use Rattle.lf_verdict.specs.Verdict.{IsWorkerCount, IsDecided, IsVerdictOf};
 ghost use Rattle.lf_verdict.specs.Legal.{IsLegal};
 ghost use Rattle.lf_verdict.specs.Configured.{IsVerdictFor, IsLegalFor, IsRunlessNoFor};
 ghost use Rattle.lf_stream.specs.Account.{WentOut};
 ghost use Rattle.lf_stream.specs.Counted.{calls_of, failures_of, account_of};
 ghost use Rattle.lf_why.specs.NotLegal.{IsEarliestIf};
+ghost use Rattle.lf_why.specs.Why.{IsJudgement};
+ghost use Rattle.lf_engine.specs.Complete.{verdict_of};
+ghost use Rattle.lf_engine.specs.Explain.{IsCompletionIf, IsCompletionForIf, report_in, completion_in};
 ghost use Rattle.lf_engine.specs.declared.fault.RunFault.{RunFault};
 ghost use Rattle.lf_engine.specs.Report.{verdict_in};
-ghost use Rattle.lf_engine.specs.Run.{IsAsked, IsOutcome, IsRunWriting};
+ghost use Rattle.lf_engine.specs.Run.{IsAsked, IsOutcome, Follows, IsRunWriting};
 
+use crate::complete::Completion;
 use crate::engine::shape_for;
+use crate::explain::{Explained, incomplete_if, line_for};
 use crate::fault::RunFault;
-use crate::line::Line;
-use crate::report::{Judged, Report};
+use crate::report::Judged;
 use crate::statistics::judge_and_keep;
 use lf_codec::{exact_reading, fault_so_far, faults_stand};
 use lf_json::{Answer, Told, explained_json, no_memory_json, not_read_json};
 use lf_rules::{NoMemory, Shape};
 use lf_stream::{Counted, Source, put};
-use lf_verdict::{Verdict, no_has_no_run};
-use lf_why::{Asked, why_of};
+use lf_verdict::{Incomplete, Refusal, Verdict, no_has_no_run};
+use lf_why::{Asked, Judgement, why_of};
 use std::alloc::Global;
 use std::io::{Read, Write};
 
-/// The text of a verdict, and of why it is what it is where that is told.
+/// The text of what was judged, and of why it is what it is where that is told.
 fn text_of(
     alloc: Global,
-    verdict: &Verdict,
+    judged: &Judgement<'_>,
     config: &str,
     told: Option<Told<'_>>,
 ) -> Result<Option<String>, NoMemory> {
-    let line = Line::Judged(verdict);
+    let line = line_for(judged.verdict, judged.incomplete);
     let line = format!(in alloc; "{line}")?;
     let answer = Answer {
         line: line.as_str(),
-        verdict,
+        verdict: judged.verdict,
+        is_complete: judged.incomplete.is_none(),
         config,
         told,
     };
     Ok(Some(explained_json(alloc, &answer)?))
 }
 
-/// The text of the verdict on these bytes.
+/// The text of what the bytes were judged to be.
 fn text_for(
     alloc: Global,
     shape: &Shape,
     config: &str,
-    judged: &Judged,
+    bytes: &[u8],
+    judged: &Judgement<'_>,
     asked: &Asked<'_>,
 ) -> Result<Option<String>, NoMemory>
     requires in_range { IsShape shape.now }
-    requires judged { IsDecided judged.now.verdict → IsVerdictOf shape.now 1 judged.now.bytes.items judged.now.verdict }
-    requires earliest { IsDecided judged.now.verdict →
-        IsEarliestIf shape.now judged.now.bytes.items judged.now.earliest }
+    requires judged { IsJudgement shape.now bytes.now judged.now.verdict.now judged.now.earliest.now
+        judged.now.incomplete }
 {
-    let bytes = judged.bytes.as_slice();
-    match why_of(
-        alloc,
-        shape,
-        bytes,
-        &judged.verdict,
-        &judged.earliest,
-        asked,
-    )? {
+    match why_of(alloc, shape, bytes, judged, asked)? {
         Some(why) => {
             let told = Told {
                 shape,
                 bytes,
                 why: &why,
             };
-            text_of(alloc, &judged.verdict, config, Some(told))
+            text_of(alloc, judged, config, Some(told))
         }
-        None => text_of(alloc, &judged.verdict, config, None),
+        None => text_of(alloc, judged, config, None),
     }
+}
+
+/// What is told goes with the verdict. Where memory runs out, that is the verdict.
+fn told_of(
+    alloc: Global,
+    shape: &Shape,
+    config: &str,
+    judged: Judged,
+    asked: &Asked<'_>,
+) -> Explained
+    requires shape { IsShape shape.now }
+    requires judged { IsDecided judged.verdict → IsVerdictOf shape.now 1 judged.bytes.items judged.verdict }
+    requires earliest { IsDecided judged.verdict → IsEarliestIf shape.now judged.bytes.items judged.earliest }
+    requires incomplete { IsIncompleteFor shape.now judged.bytes.items judged.verdict judged.incomplete }
+    ensures follows { Follows (Ok judged.verdict) (Ok result.verdict) }
+    ensures incomplete { IsCompletionForIf asked.now.complete shape.now judged.bytes.items result.verdict
+        result.incomplete }
+{
+    let incomplete = incomplete_if(&judged, asked.complete);
+    let judgement = Judgement {
+        verdict: &judged.verdict,
+        earliest: &judged.earliest,
+        incomplete,
+    };
+    let bytes = judged.bytes.as_slice();
+    let text = text_for(alloc, shape, config, bytes, &judgement, asked);
+    Explained::of(judged.verdict, incomplete, text)
+}
+
+/// The text of a refused configuration.
+fn refused(alloc: Global, config: &str, refusal: Refusal) -> Explained
+    ensures follows { Follows (Ok (Verdict.Refused refusal)) (Ok result.verdict) }
+    ensures incomplete { result.incomplete ≡ None }
+{
+    let verdict = Verdict::Refused(refusal);
+    let judged = Judgement {
+        verdict: &verdict,
+        earliest: &None,
+        incomplete: None,
+    };
+    let text = text_of(alloc, &judged, config, None);
+    Explained::of(verdict, None, text)
 }
 
 /// Reads, judges and explains for the shape.
@@ -87,16 +128,18 @@ fn json_for<T: AllocGlobal, S: Source>(
     config: &str,
     asked: &Asked<'_>,
     turns: u32,
-) -> Result<Report, RunFault>
+) -> Result<Explained, RunFault>
     requires calls { (S.account source.old).calls ≡ 0 }
     requires failures { (S.account source.old).failures ≡ 0 }
     requires shape { IsShape shape.now }
-    ensures { IsOutcome (S.account source.old) (S.account source.new)
-        (IsWorkerCount 1) (IsLegal shape.now) (IsVerdictOf shape.now 1) turns (verdict_in result) }
+    ensures outcome { IsOutcome (S.account source.old) (S.account source.new)
+        (IsWorkerCount 1) (IsLegal shape.now) (IsVerdictOf shape.now 1) turns (verdict_in (report_in result)) }
+    ensures incomplete { (text : List ℕ) → configuration_of text ≡ Ok shape.now → IfOk result (λ told.
+        IsCompletionIf asked.now.complete (S.account source.old) (S.account source.new) text told.verdict
+        told.incomplete) }
 {
     let judged = judge_and_keep(rt, source, shape, turns)?;
-    let text = text_for(rt.alloc(), shape, config, &judged, asked);
-    Ok(Report::of(judged.verdict, text))
+    Ok(told_of(rt.alloc(), shape, config, judged, asked))
 }
 
 /// Judges the configuration, and only then reads.
@@ -106,27 +149,27 @@ fn json_configured<T: AllocGlobal, S: Source>(
     config: &str,
     asked: &Asked<'_>,
     turns: u32,
-) -> Result<Report, RunFault>
+) -> Result<Explained, RunFault>
     requires calls { (S.account source.old).calls ≡ 0 }
     requires failures { (S.account source.old).failures ≡ 0 }
     ensures unread { ¬ IsAsked config.now 1 → source.new ≡ source.old }
     ensures outcome { IsOutcome (S.account source.old) (S.account source.new)
-        (IsAsked config.now 1) (IsLegalFor config.now) (IsVerdictFor config.now 1) turns (verdict_in result) }
+        (IsAsked config.now 1) (IsLegalFor config.now) (IsVerdictFor config.now 1) turns
+        (verdict_in (report_in result)) }
+    ensures incomplete { IfOk result (λ told.
+        IsCompletionIf asked.now.complete (S.account source.old) (S.account source.new) config.now told.verdict
+        told.incomplete) }
 {
     match shape_for(rt.alloc(), config, 1) {
         Ok(shape) => json_for(rt, source, &shape, config, asked, turns),
-        Err(refusal) => {
-            let verdict = Verdict::Refused(refusal);
-            let text = text_of(rt.alloc(), &verdict, config, None);
-            Ok(Report::of(verdict, text))
-        }
+        Err(refusal) => Ok(refused(rt.alloc(), config, refusal)),
     }
 }
 
 /// What is written of what a run came to.
-fn written(outcome: &Result<Report, RunFault>) -> &str {
+fn written(outcome: &Result<Explained, RunFault>) -> &str {
     match outcome {
-        Ok(report) => match &report.lines {
+        Ok(told) => match &told.lines {
             Some(text) => text.as_str(),
             None => no_memory_json(),
         },
@@ -137,20 +180,23 @@ fn written(outcome: &Result<Report, RunFault>) -> &str {
 /// Writes what a run came to.
 fn tell_json<W: Write>(
     writer: &mut Counted<W>,
-    outcome: Result<Report, RunFault>,
-) -> Result<Verdict, RunFault>
+    outcome: Result<Explained, RunFault>,
+) -> Result<Completion, RunFault>
     requires failures { failures_of writer.old ≡ 0 }
-    requires no_write { verdict_in outcome ≢ Err RunFault.Write }
-    ensures write { IsErrOf result RunFault.Write ↔ (0 < failures_of writer.new) }
-    ensures follows { result ≢ Err RunFault.Write → result ≡ verdict_in outcome }
-    ensures whole { result ≢ Err RunFault.Write → (text : List ℕ) ×
+    requires no_write { verdict_in (report_in outcome) ≢ Err RunFault.Write }
+    ensures write { IsErrOf (verdict_of result) RunFault.Write ↔ (0 < failures_of writer.new) }
+    ensures follows { verdict_of result ≢ Err RunFault.Write → result ≡ completion_in outcome }
+    ensures whole { verdict_of result ≢ Err RunFault.Write → (text : List ℕ) ×
         WentOut (account_of W.contents writer.old) (account_of W.contents writer.new) text }
-    ensures prefix { result ≡ Err RunFault.Write → (text : List ℕ) × ((n : ℕ) ×
+    ensures prefix { verdict_of result ≡ Err RunFault.Write → (text : List ℕ) × ((n : ℕ) ×
         WentOut (account_of W.contents writer.old) (account_of W.contents writer.new) (take n text)) }
 {
     put(writer, written(&outcome).as_bytes())?;
     match outcome {
-        Ok(report) => Ok(report.verdict),
+        Ok(told) => Ok(Completion {
+            verdict: told.verdict,
+            incomplete: told.incomplete,
+        }),
         Err(fault) => Err(fault),
     }
 }
@@ -165,7 +211,7 @@ pub fn run_explain_json<T: AllocGlobal, R: Read, W: Write>(
     config: &str,
     asked: &Asked<'_>,
     turns: u32,
-) -> Result<Verdict, RunFault>
+) -> Result<Completion, RunFault>
     requires calls { calls_of reader.old ≡ 0 }
     requires failures { failures_of reader.old ≡ 0 }
     requires writes { failures_of writer.old ≡ 0 }
@@ -173,7 +219,9 @@ pub fn run_explain_json<T: AllocGlobal, R: Read, W: Write>(
     ensures run { IsRunWriting (account_of R.remaining reader.old) (account_of R.remaining reader.new)
         (account_of W.contents writer.old) (account_of W.contents writer.new)
         (IsAsked config.now 1) (IsLegalFor config.now) (IsRunlessNoFor config.now) (IsVerdictFor config.now 1)
-        (λ answer text. Unit {0}) turns result }
+        (λ answer text. Unit {0}) turns (verdict_of result) }
+    ensures complete { IfOk result (λ c. IsCompletionIf asked.now.complete
+        (account_of R.remaining reader.old) (account_of R.remaining reader.new) config.now c.verdict c.incomplete) }
 {
     exact_reading();
     fault_so_far();

@@ -17,6 +17,7 @@ mod engine;
 mod explain;
 mod explain_json;
 mod fault;
+mod feeding;
 mod gathering;
 mod keeping;
 mod line;

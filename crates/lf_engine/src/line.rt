@@ -5,7 +5,7 @@ ghost use Rattle.lf_verdict.specs.declared.answer.Verdict.{Verdict};
 ghost use Rattle.lf_verdict.specs.declared.answer.Refusal.{Refusal};
 ghost use Rattle.lf_engine.specs.Line.{input_text, line_text, line_of, not_read_line};
 
-use lf_verdict::Verdict;
+use lf_verdict::{Incomplete, Verdict};
 use std::fmt;
 
 /// Why what the program was given is not judged.
@@ -38,6 +38,8 @@ impl fmt::Display for InputFault {
 #[derive(Clone, Copy)]
 pub enum Line<'a> {
     Judged(&'a Verdict),
+    /// A request of a legal trace has no reply.
+    Incomplete(Incomplete),
     Refused(InputFault),
 }
 
@@ -49,6 +51,7 @@ impl fmt::Display for Line<'_> {
             Line::Judged(Verdict::Yes { events, .. }) => write!(f, "yes events={events}"),
             Line::Judged(Verdict::No(fault)) => write!(f, "no {fault}"),
             Line::Judged(Verdict::Refused(refusal)) => write!(f, "refused {refusal}"),
+            Line::Incomplete(request) => write!(f, "no {request}"),
             Line::Refused(fault) => write!(f, "refused {fault}"),
         }
     }

@@ -1,22 +1,19 @@
 //! The statistics and the coverage of a trace that was kept.
 
-ghost use Rattle.std.specs.Prelude.{◌≡◌, None, Ok, IfOk, IfErr, string_bytes};
+ghost use Rattle.std.specs.Prelude.{◌≡◌, IfOk, string_bytes};
 ghost use Rattle.lf_rules.specs.InRange.{IsShape};
 ghost use Rattle.lf_stats.specs.Text.{stats_text};
 ghost use Rattle.lf_coverage.specs.Text.{coverage_text};
 ghost use Rattle.lf_coverage.specs.Data.{data_text};
 ghost use Rattle.lf_contents.specs.Logs.{IsCountable};
-ghost use Rattle.lf_verdict.specs.declared.answer.Verdict.{Verdict};
-ghost use Rattle.lf_verdict.specs.declared.answer.Refusal.{Refusal};
-ghost use Rattle.lf_engine.specs.Run.{Follows};
 ghost use Rattle.lf_engine.specs.Report.{AreStatisticsOf, AreStatisticsLines, IsCoverageOf, AreCoverageLines};
 ghost use Rattle.lf_engine.specs.Report.{AreDataLines, ArePrintedFor};
 
-use lf_contents::logs_in;
+use lf_contents::packed_logs_in;
 use lf_coverage::{Coverage, CoverageData, cover};
 use lf_rules::{NoMemory, Shape};
-use lf_stats::{Stats, stats};
-use lf_verdict::{Broken, Refusal, Verdict};
+use lf_stats::{Stats, stats_of};
+use lf_verdict::{Broken, Incomplete, Verdict};
 use std::alloc::{AllocError, Global};
 
 /// Which lines are wanted of a trace that is legal.
@@ -28,12 +25,15 @@ pub enum Wanted {
     Data,
 }
 
-/// A verdict, the bytes that it is of, and what broke first in them, where that is known.
+/// A verdict, the bytes that it is of, and what else is known of them.
 #[derive(Drop)]
 pub struct Judged {
     pub verdict: Verdict,
     pub bytes: Vec<u8>,
+    /// What broke first, where something did.
     pub earliest: Option<Broken>,
+    /// After a yes, the first request without a reply, where one has none.
+    pub incomplete: Option<Incomplete>,
 }
 
 /// What a run came to: a verdict, and the lines that are told of it, where there are any.
@@ -43,32 +43,14 @@ pub struct Report {
     pub lines: Option<String>,
 }
 
-impl Report {
-    /// The lines go with the verdict. Where memory ran out for them, that is the verdict, and there are none.
-    pub fn of(verdict: Verdict, lines: Result<Option<String>, NoMemory>) -> Report
-        ensures follows { Follows (Ok verdict) (Ok result.verdict) }
-        ensures lines { IfOk lines (λ told. (result.verdict ≡ verdict) × (result.lines ≡ told)) }
-        ensures memory { IfErr lines (λ _. (result.verdict ≡ Verdict.Refused Refusal.Memory) ×
-            (result.lines ≡ None)) }
-    {
-        match lines {
-            Ok(lines) => Report { verdict, lines },
-            Err(NoMemory) => Report {
-                verdict: Verdict::Refused(Refusal::Memory),
-                lines: None,
-            },
-        }
-    }
-}
-
 /// The statistics of the trace in these bytes.
 fn statistics_of(alloc: Global, shape: &Shape, bytes: &[u8]) -> Result<Stats, NoMemory>
     requires in_range { IsShape shape.now }
     requires countable { IsCountable shape.now bytes.now }
     ensures { IfOk result (AreStatisticsOf shape.now bytes.now) }
 {
-    let logs = logs_in(alloc, shape, bytes)?;
-    stats(alloc, shape, &logs)
+    let logs = packed_logs_in(alloc, shape, bytes)?;
+    stats_of(alloc, shape, &logs)
 }
 
 /// The coverage of the trace in these bytes.
@@ -77,7 +59,7 @@ fn coverage_of(alloc: Global, shape: &Shape, bytes: &[u8]) -> Result<Coverage, N
     requires countable { IsCountable shape.now bytes.now }
     ensures { IfOk result (IsCoverageOf shape.now bytes.now) }
 {
-    let logs = logs_in(alloc, shape, bytes)?;
+    let logs = packed_logs_in(alloc, shape, bytes)?;
     cover(alloc, shape, &logs)
 }
 

@@ -5,6 +5,7 @@ ghost use Rattle.lf_rules.specs.InRange.{IsShape};
 ghost use Rattle.lf_config.specs.Configuration.{configuration_of};
 ghost use Rattle.lf_verdict.specs.declared.answer.Verdict.{Verdict};
 ghost use Rattle.lf_verdict.specs.declared.answer.Refusal.{Refusal};
+ghost use Rattle.lf_verdict.specs.Incomplete.{IsIncompleteFor};
 ghost use Rattle.lf_verdict.specs.Verdict.{IsWorkerCount, IsDecided, IsVerdictOf};
 ghost use Rattle.lf_verdict.specs.Legal.{IsLegal};
 ghost use Rattle.lf_verdict.specs.Configured.{IsVerdictFor, IsLegalFor, IsRunlessNoFor};
@@ -30,11 +31,13 @@ use std::io::{Read, Write};
 fn out_of_memory(bytes: Vec<u8>) -> Judged
     ensures verdict { result.verdict ≡ Verdict.Refused Refusal.Memory }
     ensures earliest { result.earliest ≡ None }
+    ensures incomplete { result.incomplete ≡ None }
 {
     Judged {
         verdict: Verdict::Refused(Refusal::Memory),
         bytes,
         earliest: None,
+        incomplete: None,
     }
 }
 
@@ -54,6 +57,7 @@ pub fn judge_and_keep<T: AllocGlobal, S: Source>(
         Reads (S.account source.old) (S.account source.new) j.bytes.items) }
     ensures verdict { IfOk result (λ j. IsDecided j.verdict → IsVerdictOf shape.now 1 j.bytes.items j.verdict) }
     ensures earliest { IfOk result (λ j. IsDecided j.verdict → IsEarliestIf shape.now j.bytes.items j.earliest) }
+    ensures incomplete { IfOk result (λ j. IsIncompleteFor shape.now j.bytes.items j.verdict j.incomplete) }
 {
     fault_so_far();
     let mut keeping = Keeping {
@@ -71,6 +75,7 @@ pub fn judge_and_keep<T: AllocGlobal, S: Source>(
                 verdict: end.verdict,
                 bytes,
                 earliest: end.broken,
+                incomplete: end.incomplete,
             })
         }
         Err(Stop::Sink(NoMemory)) => Ok(out_of_memory(keeping.bytes)),

@@ -17,7 +17,11 @@ fn assert_written<T: Abort + AllocGlobal>(
 ) -> Result<(), Fail> {
     let mut reader = Counted::new(Pieces::new(bytes, 50));
     let mut writer = Counted::new(Vec::new(rt.alloc()));
-    let asked = Asked { most, times: None };
+    let asked = Asked {
+        most,
+        times: None,
+        complete: true,
+    };
     let answer = run_explain(rt, &mut reader, &mut writer, C1_TEXT, &asked, 1000);
     assert!(rt; answer.is_ok());
     assert_eq!(rt; std::str::from_utf8(writer.inner()), Ok(text));
@@ -43,6 +47,21 @@ fn assert_numbered<T: Abort + AllocGlobal>(
 ) -> Result<(), Fail> {
     let bytes = loads_numbered(rt.alloc(), numbers)?;
     assert_written(rt, &bytes, 15, text)
+}
+
+#[test]
+fn request_without_a_reply(rt: HostRuntime) -> Result<(), Fail> {
+    let text = "\
+no incomplete port=0 tag=1
+
+load port=0 bank=0 number=6 tag=1 size=8 address=0x8 ; at 124
+  the trace ends without a reply to this request
+
+the last records of its bank at its block:
+load port=0 bank=0 number=6 tag=1 size=8 address=0x8 ; at 124
+primary bank=0 number=7 port=0 tag=1 register=0 ; at 144
+";
+    assert_explained(&rt, &[LOAD, LOADED, "L 1 8@8, P 1 0"], 15, text)
 }
 
 #[test]

@@ -1,5 +1,5 @@
 use Rattle.std.proofs.Common.{◌≡◌, ℕ, List, Option, Result, Ok, Err, take, sym, ap, ◌∙◌, subst}
-use Rattle.lf_stats.specs.declared.incomplete.Incomplete.{Incomplete}
+use Rattle.lf_logs.specs.declared.incomplete.Incomplete.{Incomplete}
 use Rattle.lf_stream.specs.Account.{WentOut}
 use Rattle.lf_stream.specs.Counted.{account_of}
 use Rattle.lf_engine.specs.declared.fault.RunFault.{RunFault}

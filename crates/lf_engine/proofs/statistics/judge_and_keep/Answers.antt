@@ -1,5 +1,6 @@
 use Rattle.std.proofs.Common.{[], ◌∙◌, refl, arith, subst, sym, rules, List, ℕ}
 use Rattle.lf_rules.specs.declared.shape.Shape.{Shape}
+use Rattle.lf_verdict.specs.Incomplete.{IsIncompleteFor}
 use Rattle.lf_verdict.specs.Verdict.{IsVerdictOf}
 use Rattle.lf_why.specs.NotLegal.{IsEarliestIf}
 use Rattle.lf_why.proofs.Earliest.{earliest_of}
@@ -39,3 +40,13 @@ returns-in-Ok-gather-clause-earliest g c = λ decided.
     (subst (λ (l : List ℕ). IsEarliestIf c.gather.new.sink.session.shape l found) (sym {A = List ℕ} was.0)
     (earliest_of _ bytes found (c.conclude-end.ensures.earliest bytes was.1)
     (c.conclude-end.ensures.none decided bytes was.1)))
+
+pub returns-in-Ok-gather-clause-incomplete : goal.returns-in-Ok-gather-clause-incomplete
+returns-in-Ok-gather-clause-incomplete g c =
+    let got = c.in-Ok-gather.ensures in
+    let (bytes, was, all) = got.all in
+    let end = c.conclude-end.result in
+    subst (λ (s : Shape). IsIncompleteFor s c.gather.new.sink.bytes.items end.verdict end.incomplete)
+    (got.setting ∙ c.for_shape.ensures.shape)
+    (subst (λ (l : List ℕ). IsIncompleteFor c.gather.new.sink.session.shape l end.verdict end.incomplete)
+    (sym {A = List ℕ} was.0) (c.conclude-end.ensures.incomplete bytes was.1))

@@ -1,0 +1,30 @@
+use Rattle.std.proofs.Common.{[], ◌∙◌, refl, arith, subst, rules}
+use Rattle.lf_rules.specs.declared.shape.Shape.{Shape}
+use Rattle.lf_verdict.specs.Incomplete.{IsIncompleteFor}
+use Rattle.lf_engine.proofs.CompletionLemmas.{completion_read}
+use Rattle.lf_engine.proofs.GatheringLemmas.{none_stands}
+use Rattle.lf_engine.proofs.JudgingLemmas.{all_read, finished}
+use Rattle.lf_engine.proofs.complete.completion_for.Goals as goal
+
+pub gather-requires-clause-wanted : goal.gather-requires-clause-wanted
+gather-requires-clause-wanted g c = none_stands c.fault_so_far.ensures.other [] refl
+
+pub returns-in-Ok-gather-clause-outcome : goal.returns-in-Ok-gather-clause-outcome
+returns-in-Ok-gather-clause-outcome g c =
+    let got = c.in-Ok-gather.ensures in
+    let (bytes, was, all) = got.all in
+    finished _ _ _ 1 _ c.gather.new.sink.session c.conclude-end.result.verdict (got.setting ∙ c.for_shape.ensures.shape)
+    (omega arith, omega arith) got.reads
+    (λ failed. let bad = got.read.1 failed in cc)
+    bytes was.0 (all_read _ _ _ bytes (search rules) was.1 all)
+    c.conclude-end.ensures.legal c.conclude-end.ensures.verdict c.conclude-end.ensures.thread
+
+pub returns-in-Ok-gather-clause-complete : goal.returns-in-Ok-gather-clause-complete
+returns-in-Ok-gather-clause-complete g c = λ config configured.
+    let got = c.in-Ok-gather.ensures in
+    let (bytes, was, all) = got.all in
+    let end = c.conclude-end.result in
+    completion_read _ _ config c.args.shape.now bytes end.verdict end.incomplete configured
+    (all_read _ _ _ bytes (search rules) was.1 all)
+    (subst (λ (s : Shape). IsIncompleteFor s bytes end.verdict end.incomplete)
+    (got.setting ∙ c.for_shape.ensures.shape) (c.conclude-end.ensures.incomplete bytes was.0))
