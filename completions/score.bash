@@ -9,7 +9,7 @@ _score() {
   case ${COMP_WORDS[1]} in
     check) options='--workers --complete --progress -h --help' valued='--workers' ;;
     stats) options='--progress -h --help' valued='' ;;
-    explain) options='--events --map --json --progress -h --help' valued='--events --map' ;;
+    explain) options='--events --map --complete --json --progress -h --help' valued='--events --map' ;;
     cover) options='--dat --progress -h --help' valued='--dat' ;;
     demo) options='-h --help' valued='' ;;
     watch) options='-h --help' valued='' ;;

@@ -7,9 +7,10 @@ A row is a configuration, a trace and what is printed of them: one line for `che
 the text, the status must be that of the answer and standard error must be empty. `check` has the same answer for
 1, 2, 4 and 16 workers, and with `--complete` too, but for a yes where a reply is missing. `explain` prints what
 stands in examples/NAME.explained, where NAME.lfts is the trace, or NAME.toml where that is refused. It stands in
-examples/NAME.CONFIG.explained where CONFIG.toml has another answer of the same trace. What `dump`
-prints of a trace gives its bytes back by `assemble`. Each trace and each configuration of examples/ must stand in a
-row. The status is 1 where anything differs. PROGRAM is crates/score/out/score where it is left out."""
+examples/NAME.CONFIG.explained where CONFIG.toml has another answer of the same trace. `explain --complete` prints the
+same, but for a yes where a reply is missing what stands in examples/NAME.incomplete.explained. What `dump` prints of a
+trace gives its bytes back by `assemble`. Each trace and each configuration of examples/ must stand in a row. The status
+is 1 where anything differs. PROGRAM is crates/score/out/score where it is left out."""
 
 from __future__ import annotations
 
@@ -75,6 +76,13 @@ def explained(config: str, trace: str, text: str) -> str:
     return text if path is None else path.read_text(encoding="utf-8")
 
 
+def explained_complete(config: str, trace: str, text: str) -> str:
+    """What `explain --complete` prints where `check` prints this."""
+    if complete(trace, text) == text:
+        return explained(config, trace, text)
+    return (EXAMPLES / trace).with_suffix(".incomplete.explained").read_text(encoding="utf-8")
+
+
 def runs_of(config: str, trace: str, text: str) -> list[Run]:
     """The words of each run of these files, and the text that it has to print."""
     files = [str(EXAMPLES / config), str(EXAMPLES / trace)]
@@ -83,6 +91,7 @@ def runs_of(config: str, trace: str, text: str) -> list[Run]:
     checks = [(["check", *files, "--workers", str(count)], text) for count in WORKERS]
     checks.append((["check", *files, "--complete"], complete(trace, text)))
     checks.append((["explain", *files], explained(config, trace, text)))
+    checks.append((["explain", *files, "--complete"], explained_complete(config, trace, text)))
     return checks if text.startswith("yes") else [*checks, (["stats", *files], text)]
 
 

@@ -2,8 +2,8 @@
 
 use crate::configuration::{bytes_at, text_in};
 use crate::progress::reader_of;
-use crate::{NO, refused, status_of};
-use lf_engine::{Completion, Counted, are_workers, run, run_complete};
+use crate::{refused, status_of, status_of_completion};
+use lf_engine::{Counted, are_workers, run, run_complete};
 use std::io;
 use std::io::Read;
 use std::process::ExitCode;
@@ -78,16 +78,8 @@ fn judge_complete<T: Print + AllocGlobal, R: Read + Drop>(
 ) -> ExitCode {
     let mut reader = Counted::new(trace);
     let mut writer = Counted::new(io::writer(rt));
-    match run_complete(rt, &mut reader, &mut writer, config, u32::MAX) {
-        Ok(
-            Completion {
-                incomplete: Some(_),
-                ..
-            },
-        ) => ExitCode::from(NO),
-        Ok(Completion { verdict, .. }) => status_of(&Ok(verdict)),
-        Err(fault) => status_of(&Err(fault)),
-    }
+    let answer = run_complete(rt, &mut reader, &mut writer, config, u32::MAX);
+    status_of_completion(&answer)
 }
 
 /// How a trace is judged.

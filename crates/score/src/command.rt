@@ -111,6 +111,13 @@ fn progress_arg<'a>(alloc: Global) -> Arg<'a> {
         .help("Shows on standard error how far it is")
 }
 
+fn complete_arg<'a>(alloc: Global) -> Arg<'a> {
+    Arg::new(alloc, "complete")
+        .long("complete")
+        .action(ArgAction::SetTrue)
+        .help("Also asks for a reply to each request")
+}
+
 /// An option that takes a value.
 fn value_arg<'a>(alloc: Global, name: &'a str, value: &'a str) -> Arg<'a> {
     Arg::new(alloc, name).long(name).value_name(value)
@@ -123,17 +130,13 @@ fn check_command<'a>(alloc: Global) -> Result<Command<'a>, AllocError> {
         .value_parser(value_parser!(u16))
         .default_value("1")
         .help("How many threads judge the trace, 1 to 16");
-    let complete = Arg::new(alloc, "complete")
-        .long("complete")
-        .action(ArgAction::SetTrue)
-        .help("Also asks for a reply to each request");
     Command::new(alloc, "check")
         .about(check::ABOUT)
         .after_help(check::HELP)
         .arg(config_arg(alloc))?
         .arg(trace_arg(alloc))?
         .arg(workers)?
-        .arg(complete)?
+        .arg(complete_arg(alloc))?
         .arg(progress_arg(alloc))
 }
 
@@ -164,6 +167,7 @@ fn explain_command<'a>(alloc: Global) -> Result<Command<'a>, AllocError> {
         .arg(trace_arg(alloc))?
         .arg(events)?
         .arg(value_arg(alloc, "map", "FILE").help("The times of the records"))?
+        .arg(complete_arg(alloc))?
         .arg(json)?
         .arg(progress_arg(alloc))
 }
@@ -355,6 +359,7 @@ fn explain_request<'a>(matches: &ArgMatches<'a>) -> Option<Request<'a>> {
         options: ExplainOptions {
             events: matches.get_one::<u16>("events")?,
             map: matches.get_str("map"),
+            complete: matches.get_flag("complete"),
             json: matches.get_flag("json"),
             progress: matches.get_flag("progress"),
         },

@@ -3,7 +3,7 @@
 use crate::configuration::{bytes_at, text_in};
 use crate::map::times_if;
 use crate::progress::reader_of;
-use crate::{REFUSED, status_of};
+use crate::{REFUSED, status_of_completion};
 use lf_engine::{Asked, Counted, run_explain, run_explain_json};
 use lf_json::{no_memory_json, refused_json};
 use lf_refusal::ConfigRefusal;
@@ -67,7 +67,21 @@ if logs wait for one another, which record waits for which. If something else
 broke earlier in the trace, it prints that last, in the same way.
 
 For a yes it prints what the trace used at most of what the configuration
-has. A configuration that is larger than the design hides faults. For bytes
+has. A configuration that is larger than the design hides faults. With
+--complete, each request of a legal trace must also have a reply, as check
+asks it. The first one without is printed instead, with the last records of
+its bank at its block, so that what it waits for can be seen:
+
+  no incomplete port=0 tag=0
+
+  load port=0 bank=0 number=0 tag=0 size=1 address=0x0 ; at 16
+    the trace ends without a reply to this request
+
+  the last records of its bank at its block:
+  load port=0 bank=0 number=0 tag=0 size=1 address=0x0 ; at 16
+  primary bank=0 number=1 port=0 tag=0 register=0 ; at 36
+
+For bytes
 that are not a trace it prints the part that is wrong, its field, the value
 and what is allowed; for a trace of another hierarchy, each number that
 differs; for a configuration that is refused, what the key may have, and its
@@ -98,6 +112,7 @@ Exit status:
 Examples:
   score explain small.toml run.lfts
   score explain --events 40 small.toml run.lfts
+  score explain --complete small.toml run.lfts
   score explain --map run.map small.toml run.lfts
   score explain --json small.toml run.lfts | jq .fault.record
   zstd -dc run.lfts.zst | score explain small.toml -";
@@ -143,6 +158,8 @@ pub struct ExplainOptions<'a> {
     pub events: u16,
     /// The file in which a recorder wrote the time of each record.
     pub map: Option<&'a str>,
+    /// Each request has to have a reply.
+    pub complete: bool,
     /// The answer is printed as JSON.
     pub json: bool,
     /// Standard error shows how far the trace is read.
@@ -171,16 +188,17 @@ where
     let asked = Asked {
         most: options.events,
         times: times.as_ref(),
+        complete: options.complete,
     };
     let mut reader = Counted::new(reader_of(rt, trace, options.progress));
     let mut writer = Counted::new(io::writer(rt));
     if options.json {
         let answer = run_explain_json(rt, &mut reader, &mut writer, text, &asked, u32::MAX);
-        return Ok(status_of(&answer));
+        return Ok(status_of_completion(&answer));
     }
     let answer = run_explain(rt, &mut reader, &mut writer, text, &asked, u32::MAX);
-    if let Ok(verdict) = &answer {
-        tell_config(rt, verdict, text)?;
+    if let Ok(completion) = &answer {
+        tell_config(rt, &completion.verdict, text)?;
     }
-    Ok(status_of(&answer))
+    Ok(status_of_completion(&answer))
 }

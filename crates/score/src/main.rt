@@ -35,7 +35,7 @@ use cover::cover;
 use demonstration::{Demonstration, demonstrate};
 use dump::dump;
 use explain::explain;
-use lf_engine::{InputFault, Line, RunFault};
+use lf_engine::{Completion, InputFault, Line, RunFault};
 use lf_verdict::Verdict;
 use shrink::shrink;
 use stats::stats;
@@ -58,11 +58,27 @@ fn refused<T: Print>(rt: &T, why: InputFault) -> io::Result<ExitCode> {
     Ok(ExitCode::from(REFUSED))
 }
 
+fn status_of_verdict(verdict: &Verdict) -> ExitCode {
+    match verdict {
+        Verdict::Yes { .. } => ExitCode::SUCCESS,
+        Verdict::No(_) => ExitCode::from(NO),
+        Verdict::Refused(_) => ExitCode::from(REFUSED),
+    }
+}
+
 fn status_of(answer: &Result<Verdict, RunFault>) -> ExitCode {
     match answer {
-        Ok(Verdict::Yes { .. }) => ExitCode::SUCCESS,
-        Ok(Verdict::No(_)) => ExitCode::from(NO),
-        _ => ExitCode::from(REFUSED),
+        Ok(verdict) => status_of_verdict(verdict),
+        Err(_) => ExitCode::from(REFUSED),
+    }
+}
+
+/// A request without a reply is a no.
+fn status_of_completion(answer: &Result<Completion, RunFault>) -> ExitCode {
+    match answer {
+        Ok(completion) if completion.incomplete.is_some() => ExitCode::from(NO),
+        Ok(completion) => status_of_verdict(&completion.verdict),
+        Err(_) => ExitCode::from(REFUSED),
     }
 }
 
