@@ -255,6 +255,7 @@ fn configuration_that_never_ends(rt: HostRuntime) -> Result<(), Fail> {
 const EXPLAIN: ExplainOptions<'static> = ExplainOptions {
     events: 15,
     map: None,
+    complete: false,
     json: false,
     progress: false,
 };
@@ -290,10 +291,12 @@ fn words_of_explain(rt: HostRuntime) -> Result<(), Fail> {
     let all = ExplainOptions {
         events: 65535,
         map: Some("a.map"),
+        complete: true,
         json: true,
         progress: true,
     };
-    let line = "score explain c.toml a.lfts --events=65535 --map a.map --json --progress";
+    let line =
+        "score explain c.toml a.lfts --events=65535 --map a.map --complete --json --progress";
     is_explain(&rt, line, all)?;
     for line in [
         "score explain",
