@@ -1,8 +1,8 @@
 //! What stands in the bytes of a trace: its memory, its records and its logs.
 //!
 //! `parts_in` and `records_in` read any bytes, as far as these are a trace. `trace_in` reads a trace, with its header.
-//! `packed_in` reads a trace and keeps its records in the form of their bytes, and `packed_logs_in` also splits them into
-//! the logs of a trace that was found legal. Where they answer `NoMemory`, a growth was refused.
+//! `packed_in` reads a trace and keeps its records in the form of their bytes, and `packed_logs_in` also splits them
+//! into the logs of a trace that was found legal. Where they answer `NoMemory`, a growth was refused.
 #![tactic(auto)]
 
 mod logs;

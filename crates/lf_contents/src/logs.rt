@@ -10,8 +10,8 @@ use lf_logs::PackedLogs;
 use lf_rules::{NoMemory, Shape};
 use std::alloc::Global;
 
-/// The logs of the trace in these bytes, whose banks' numbers are whole: those of the ports, then those of the banks. Their
-/// records are in the form of their bytes, which take about as much room as `bytes`.
+/// The logs of the trace in these bytes, whose banks' numbers are whole: those of the ports, then those of the banks.
+/// Their records are in the form of their bytes, which take about as much room as `bytes`.
 pub fn packed_logs_in(alloc: Global, shape: &Shape, bytes: &[u8]) -> Result<PackedLogs, NoMemory>
     requires in_range { IsShape shape.now }
     requires countable { IsCountable shape.now bytes.now }

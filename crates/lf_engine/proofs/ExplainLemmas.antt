@@ -84,7 +84,8 @@ refused_complete_read true old new config f = refl
 refused_complete_read false old new config f = refl
 
 pub refused_told : (b : Bool) (old new : Account) (config : List ℕ) (f : Refusal) (v : Verdict)
-    (found : Option Incomplete) → Follows (Ok (Refused f)) (Ok v) → found ≡ None → IsCompletionIf b old new config v found
+    (found : Option Incomplete) → Follows (Ok (Refused f)) (Ok v) → found ≡ None →
+    IsCompletionIf b old new config v found
 refused_told b old new config f v found (inl same) none =
     subst (λ (x : Verdict). IsCompletionIf b old new config x found) (sym same)
     (subst (λ (o : Option Incomplete). IsCompletionIf b old new config (Refused f) o) (sym none)
@@ -141,7 +142,8 @@ pub explained_lines : {E : Type 0} (shape : Shape) (bytes : List ℕ) (time : Ti
 explained_lines shape bytes time most v found (Ok told) r same memory has =
     subst (λ (e : Explained). HasWhyLines shape bytes time most e.verdict e.incomplete e.lines) (sym same) has
 explained_lines shape bytes time most v found (Err e) r same memory has =
-    subst (λ (e : Explained). HasWhyLines shape bytes time most e.verdict e.incomplete e.lines) (sym memory) (refl, refl)
+    subst (λ (e : Explained). HasWhyLines shape bytes time most e.verdict e.incomplete e.lines) (sym memory)
+    (refl, refl)
 
 -- What is told of the bytes is told of those that the reader answered.
 pub why_read : (old new : Account) (config : List ℕ) (shape : Shape) (bytes : List ℕ) (time : Times) (most : ℕ)

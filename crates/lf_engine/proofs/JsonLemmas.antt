@@ -36,6 +36,7 @@ pub completion_told : (P : Verdict → Option Incomplete → Type 0) (out : Resu
     → (verdict_of said ≢ Err Write → said ≡ completion_in out) → IfOk said (λ c. P c.verdict c.incomplete)
 completion_told P out (Err fault) is same = tt
 completion_told P (Ok told) (Ok c) is same =
-    subst (λ (r : Result Completion RunFault). IfOk r (λ c. P c.verdict c.incomplete)) (sym (same (λ e. absurd (cc)))) is
+    subst (λ (r : Result Completion RunFault). IfOk r (λ c. P c.verdict c.incomplete)) (sym (same (λ e. absurd (cc))))
+    is
 completion_told P (Err fault) (Ok c) is same =
     let bad : Ok c ≡ Err fault = same (λ e. absurd (cc)) in absurd (cc)

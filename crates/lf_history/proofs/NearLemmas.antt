@@ -1,6 +1,7 @@
 -- What is known of the last records, whatever came before them.
 use Rattle.std.proofs.Common.{◌≡◌, ℕ, ◌+◌, ◌-◌, ◌<◌, ◌≤◌, Bool, true, false, ◌&&◌, ◌==◌, if◌then◌else◌, List, [], ◌∷◌}
-use Rattle.std.proofs.Common.{◌++◌, length, get_or, take, drop, map, filter, Option, Some, None, refl, sym, ap, ◌∙◌, subst}
+use Rattle.std.proofs.Common.{◌++◌, length, get_or, take, drop, map, filter, Option, Some, None, refl, sym, ap, ◌∙◌}
+use Rattle.std.proofs.Common.{subst}
 use Rattle.std.proofs.Common.{append_assoc, append-nil, arith}
 use Rattle.std.specs.Prelude.{slice_get}
 use Rattle.std.proofs.Math.Seq.{drop-append-add}
@@ -13,7 +14,8 @@ use Rattle.lf_rules.specs.declared.shape.Shape.{Shape}
 use Rattle.lf_rules.specs.Address.{block_of, second_of}
 use Rattle.lf_history.specs.History.{last, is_about, about}
 use Rattle.lf_history.specs.Near.{EndsWith, about_one, kept}
-use Rattle.lf_history.specs.Touching.{Touch, asked_by, asked, touched, record_at, and_then, all_before, touch_at, touches}
+use Rattle.lf_history.specs.Touching.{Touch, asked_by, asked, touched, record_at, and_then, all_before, touch_at}
+use Rattle.lf_history.specs.Touching.{touches}
 use Rattle.lf_history.proofs.LastAddress.{later}
 
 -- ---- records before
@@ -27,7 +29,8 @@ and_then_apart : (o : Option Record) (before : List Record) → and_then o befor
 and_then_apart None before = refl
 and_then_apart (Some r) before = refl
 
-before_apart : (before rs : List Record) (ys : List (Option ℕ)) → all_before before rs ys ≡ all_before [] rs ys ++ before
+before_apart : (before rs : List Record) (ys : List (Option ℕ)) →
+    all_before before rs ys ≡ all_before [] rs ys ++ before
 before_apart before rs [] = refl
 before_apart before rs (at ∷ ys) =
     let here = record_at rs at in

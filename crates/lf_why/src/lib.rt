@@ -2,9 +2,8 @@
 //!
 //! `why_of` finds it: of a no why its fault stands in the trace, and what broke first where that is something else; of
 //! a yes what the trace used at most of what its configuration has, or where complete traces are asked for a request
-//! that has no reply; of bytes that are no trace the field that fails; of
-//! a trace of another hierarchy the numbers that differ. `WhyText` is its text. `specs/` says which records are told of,
-//! and each text exactly.
+//! that has no reply; of bytes that are no trace the field that fails; of a trace of another hierarchy the numbers that
+//! differ. `WhyText` is its text. `specs/` says which records are told of, and each text exactly.
 #![tactic(auto)]
 
 mod cause;

@@ -15,7 +15,8 @@ returns c = λ d.
     let r = slice_index_or rs c.args.request d in
     let wanted : c.touched_at-wanted.result ≡ touched shape [] r.log r.event =
     c.touched_at-wanted.ensures
-    ∙ ap (λ (found : Option Record). touched_by shape [] found) (slice_get-get_or rs c.args.request d c.requires.request) in
+    ∙ ap (λ (found : Option Record). touched_by shape [] found)
+    (slice_get-get_or rs c.args.request d c.requires.request) in
     let places : c.deref.result.now ≡ places_of_bank r.bank rs =
     c.deref.ensures.value ∙ c.in_ok-places.ensures ∙ ap (places_of_numbers c.bank-bank.result rs) c.bank_len.ensures
     ∙ ap (λ (bank : ℕ). places_of_bank bank rs) (c.bank-bank.ensures d) in

@@ -1,4 +1,5 @@
-use Rattle.std.proofs.Common.{◌≡◌, ℕ, ◌+◌, List, [], ◌++◌, Option, Some, None, get_or, take, sym, ap, ◌∙◌, subst, arith, append-nil}
+use Rattle.std.proofs.Common.{◌≡◌, ℕ, ◌+◌, List, [], ◌++◌, Option, Some, None, get_or, take, sym, ap, ◌∙◌, subst}
+use Rattle.std.proofs.Common.{arith, append-nil}
 use Rattle.std.specs.Prelude.{slice_get}
 use Rattle.std.proofs.lemmas.List.{take_all}
 use Rattle.lf_rules.specs.declared.event.Record.{Record}
@@ -14,8 +15,9 @@ loop-at-init c = record {
   latest = c.in_ok-requests.ensures c.args.shape.now;
   ends = λ far. record {
     front = told c.args.shape.now c.args.records.now.records c.args.wanted far c.args.near.now 0;
-    joined = sym (ap (λ (ps : List ℕ). told c.args.shape.now c.args.records.now.records c.args.wanted far c.args.near.now 0 ++ ps) c.new-found.ensures.items
-        ∙ append-nil (told c.args.shape.now c.args.records.now.records c.args.wanted far c.args.near.now 0));
+    joined =
+        let said = told c.args.shape.now c.args.records.now.records c.args.wanted far c.args.near.now 0 in
+        sym (ap (λ (ps : List ℕ). said ++ ps) c.new-found.ensures.items ∙ append-nil said);
   };
 }
 
@@ -63,7 +65,8 @@ loop-at-preserved c =
     let is = c.in-Some.is in
     let here : slice_get rs place ≡ Some r = c.in-Some-record_at.ensures in
     let kept_is = c.in_ok-keep.ensures
-    ∙ ap (λ (second : Option ℕ). kept wanted place second found) (c.touched.ensures before c.loop-at.invariant.latest) in
+    ∙ ap (λ (second : Option ℕ). kept wanted place second found)
+    (c.touched.ensures before c.loop-at.invariant.latest) in
     record {
       latest = subst (λ (bs : List Record). IsLatest shape bs c.note.new.self)
           (sym (before_some rs near i place r lt is here)) (c.note.ensures before c.loop-at.invariant.latest);

@@ -1,4 +1,5 @@
-use Rattle.std.proofs.Common.{◌≡◌, ℕ, ◌+◌, ◌<◌, List, [], ◌∷◌, ◌++◌, Option, length, get_or, set, map, take, sym, ap, ◌∙◌}
+use Rattle.std.proofs.Common.{◌≡◌, ℕ, ◌+◌, ◌<◌, List, [], ◌∷◌, ◌++◌, Option, length, get_or, set, map, take, sym}
+use Rattle.std.proofs.Common.{ap, ◌∙◌}
 use Rattle.std.proofs.Common.{string_bytes, arith}
 use Rattle.std.proofs.lemmas.List.{get_or-replicate, length-replicate, length-set, map-append}
 use Rattle.std.specs.Option.{option_map}

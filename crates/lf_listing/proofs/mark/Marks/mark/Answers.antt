@@ -12,7 +12,8 @@ returns-in_err-offset c =
     let time = unwrap_or (slice_get (texts c.args.self.now) place) None in
     let past = c.in_err-offset.ensures.lookup.3 in
     let none : slice_get offsets place ≡ None =
-    ap (λ (xs : List ℕ). slice_get xs place) (sym c.deref.ensures.value) ∙ slice_get_past c.deref.result.now place past in
+    ap (λ (xs : List ℕ). slice_get xs place) (sym c.deref.ensures.value)
+    ∙ slice_get_past c.deref.result.now place past in
     ap (option_map _) c.from_residual.ensures
     ∙ sym (beside_at offsets (texts c.args.self.now) place ∙ ap (option_map (with_offset time)) none)
 
