@@ -5,7 +5,7 @@ use Rattle.lf_config.specs.Configuration.{configuration_of}
 use Rattle.lf_config.specs.declared.fault.ConfigFault.TheVariants.{NotToml}
 use Rattle.lf_codec.specs.Reading.{fault_so_far}
 use Rattle.lf_verdict.specs.declared.session.intake.Intake.{Intake}
-use Rattle.lf_verdict.specs.declared.session.intake.Stop.{Stop}
+use Rattle.lf_verdict.specs.declared.stop.Stop.{Stop}
 use Rattle.lf_verdict.specs.declared.session.breaking.Broken.{Broken}
 use Rattle.lf_verdict.specs.declared.session.breaking.Broken.TheVariants as broken
 use Rattle.lf_verdict.specs.declared.answer.Verdict.{Verdict}

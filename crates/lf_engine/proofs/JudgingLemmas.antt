@@ -19,7 +19,7 @@ use Rattle.lf_verdict.specs.Legal.{IsLegal}
 use Rattle.lf_verdict.specs.Laws.{NoHasNoRun, IsRunlessNo}
 use Rattle.lf_verdict.specs.Verdict.{IsWorkerCount, IsDecided, IsTraceVerdict, IsVerdictOf, IsLegalYes}
 use Rattle.lf_verdict.specs.declared.session.intake.Intake.{Intake}
-use Rattle.lf_verdict.specs.Session.{HasFed}
+use Rattle.lf_verdict.specs.Session.{HasFed, IsConfigRefusal}
 use Rattle.lf_verdict.specs.Configured.{IsConfigFault, IsConfiguredVerdict, IsVerdictFor, IsLegalFor, IsRunlessNoFor}
 use Rattle.lf_verdict.proofs.One.{any_workers}
 use Rattle.lf_stream.specs.Account.{Account}
@@ -279,6 +279,15 @@ refused_verdict old new text workers (Format f) h judged = absurd h
 refused_verdict old new text workers (OtherHeader f) h judged = absurd h
 refused_verdict old new text workers Memory h judged = absurd judged
 refused_verdict old new text workers Thread h judged = absurd h
+
+pub refused_first : (text : List ℕ) (workers : ℕ) → IsWorkerCount workers → (r : Refusal) → IsConfigRefusal text r →
+    IsRefusedFirst text workers r
+refused_first text workers ok (Config fault) is = (ok, is)
+refused_first text workers ok Memory is = tt
+refused_first text workers ok (Workers n) is = absurd is
+refused_first text workers ok (Format fault) is = absurd is
+refused_first text workers ok (OtherHeader field) is = absurd is
+refused_first text workers ok Thread is = absurd is
 
 not_thread : (text : List ℕ) (workers : ℕ) (r : Refusal) → IsRefusedFirst text workers r → r ≢ Thread
 not_thread text workers (Workers n) h = λ e. cc

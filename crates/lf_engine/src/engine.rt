@@ -3,7 +3,7 @@
 ghost use Rattle.std.specs.Prelude.{◌≡◌, ◌≢◌, ◌<◌, ◌↔◌, ℕ, List, take, Result, Ok, Err, string_bytes};
 ghost use Rattle.std.specs.Prelude.{IfOk, IfErr, IsErrOf, IsTrue};
 ghost use Rattle.lf_rules.specs.InRange.{IsShape};
-ghost use Rattle.lf_config.specs.Configuration.{Tells, configuration_of};
+ghost use Rattle.lf_config.specs.Configuration.{configuration_of};
 ghost use Rattle.lf_verdict.specs.declared.answer.Verdict.{Verdict};
 ghost use Rattle.lf_verdict.specs.Verdict.{IsWorkerCount, IsVerdictOf};
 ghost use Rattle.lf_verdict.specs.Legal.{IsLegal};
@@ -20,7 +20,7 @@ use crate::fault::RunFault;
 use crate::gathering::gather_by;
 use crate::line::{Line, no_memory, not_read};
 use lf_codec::{exact_reading, fault_so_far, faults_stand};
-use lf_config::{ConfigFault, read};
+use lf_config::read;
 use lf_rules::{NoMemory, Shape};
 use lf_stream::{Counted, Source, Stop, put, zeros};
 use lf_verdict::{ParallelSession, Refusal, Verdict, is_worker_count, no_has_no_run};
@@ -89,17 +89,6 @@ fn decide<T: AllocGlobal + Threads + Sync + Send + Copy + 'static, S: Source>(
     judge(rt, source, shape, workers, turns)
 }
 
-/// The refusal for a text that is no configuration.
-fn refusal_of(fault: ConfigFault) -> Refusal
-    ensures { (text : List ℕ) → (workers : ℕ) → IsWorkerCount workers → Tells fault (configuration_of text) →
-        IsRefusedFirst text workers result }
-{
-    match fault {
-        ConfigFault::NoMemory => Refusal::Memory,
-        fault => Refusal::Config(fault),
-    }
-}
-
 /// The shape that the configuration says, where there can be so many workers.
 pub fn shape_for(alloc: Global, config: &str, workers: u32) -> Result<Shape, Refusal>
     ensures workers { IfOk result (λ _. IsWorkerCount workers) }
@@ -110,10 +99,8 @@ pub fn shape_for(alloc: Global, config: &str, workers: u32) -> Result<Shape, Ref
     if !are_workers(workers) {
         return Err(Refusal::Workers(workers));
     }
-    match read(alloc, config) {
-        Ok(shape) => Ok(shape),
-        Err(fault) => Err(refusal_of(fault)),
-    }
+    let shape = read(alloc, config)?;
+    Ok(shape)
 }
 
 /// Judges the workers and the configuration, and only then reads.

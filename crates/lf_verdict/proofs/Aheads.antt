@@ -15,8 +15,8 @@ use Rattle.lf_verdict.specs.declared.session.batch.Batch.{Batch}
 use Rattle.lf_verdict.specs.declared.session.intake.Intake.{Intake}
 use Rattle.lf_verdict.specs.inner.Coming.{MayAllCome}
 use Rattle.lf_verdict.specs.inner.Batches.{IsNextBatch, JudgesAll, CanBeJudged}
-use Rattle.lf_verdict.specs.declared.session.intake.Stop.{Stop}
-use Rattle.lf_verdict.specs.declared.session.intake.Stop.TheVariants as stops
+use Rattle.lf_verdict.specs.declared.stop.Stop.{Stop}
+use Rattle.lf_verdict.specs.declared.stop.Stop.TheVariants as stops
 use Rattle.lf_verdict.specs.Session.{HasTaken, HasFed, HasFedUntil}
 use Rattle.lf_verdict.specs.declared.session.batch.Lent.{Lent}
 use Rattle.lf_verdict.specs.declared.session.ahead.Ahead.{Ahead}

@@ -23,12 +23,17 @@ use Rattle.lf_verdict.specs.declared.answer.Verdict.{Verdict}
 use Rattle.lf_verdict.specs.declared.answer.Verdict.TheVariants.{Yes, No, Refused}
 use Rattle.lf_verdict.specs.declared.answer.HeaderField.{HeaderField}
 use Rattle.lf_verdict.specs.declared.answer.Refusal.{Refusal}
+use Rattle.lf_verdict.specs.declared.stop.Stop.{Stop}
+use Rattle.lf_verdict.specs.declared.stop.Stop.TheVariants as stops
+use Rattle.lf_verdict.specs.Session.{refusal_of}
 use Rattle.lf_verdict.specs.declared.answer.Refusal.TheVariants as refusals
 use Rattle.lf_verdict.specs.Legal.{IsTraceFor}
 use Rattle.lf_verdict.specs.Laws.{YesIsLegal, NoHasNoRun, IsRunlessNo}
-use Rattle.lf_verdict.specs.inner.Gathering.{IsReadRefusal}
+use Rattle.lf_verdict.specs.inner.Gathering.{IsReadStop}
 use Rattle.lf_verdict.specs.Verdict.{Differs, IsVerdictOf, IsLegalYes, IsDecided, IsWorkerCount}
-use Rattle.lf_verdict.specs.inner.Ending.{IsLogsVerdict, IsVerdictOrWant}
+use Rattle.lf_verdict.specs.declared.early_end.Ending.{Ending}
+use Rattle.lf_verdict.specs.declared.early_end.Ending.TheVariants as endings
+use Rattle.lf_verdict.specs.inner.Ending.{IsEnding, ending_verdict, IsLogsVerdict, IsVerdictOrWant}
 use Rattle.lf_verdict.specs.inner.Jobs.{LogsFit, AreJobsOf, IsWorkersVerdict, IsWorkersAnswer}
 use Rattle.lf_verdict.proofs.Traces.{logs_fit, log_of_logs}
 
@@ -131,11 +136,16 @@ of_header shape bytes h memory rs field trace differs = record {
   differs = differs;
 }
 
-pub of_reading : (shape : Shape) (bytes : List ℕ) (refusal : Refusal) → IsReadRefusal bytes refusal →
-    IsWorkersAnswer shape bytes (Refused refusal)
-of_reading shape bytes (refusals.Format fault) is = is
-of_reading shape bytes refusals.Memory is = tt
-of_reading shape bytes _ is = absurd is
+pub of_reading : (shape : Shape) (bytes : List ℕ) (stop : Stop) → IsReadStop bytes stop →
+    IsWorkersAnswer shape bytes (Refused (refusal_of stop))
+of_reading shape bytes (stops.Format fault) is = is
+of_reading shape bytes stops.Memory is = tt
+
+-- what ends the check is the verdict
+pub of_ending : (shape : Shape) (memory : FlatMemory) (logs : List (List Record)) (ending : Ending) →
+    IsEnding shape memory logs ending → IsLogsVerdict shape memory logs (ending_verdict ending)
+of_ending shape memory logs (endings.Fault fault) is = is
+of_ending shape memory logs endings.NoMemory is = tt
 
 -- ---- what the call promises
 

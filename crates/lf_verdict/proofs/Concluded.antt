@@ -12,8 +12,8 @@ use Rattle.lf_verdict.specs.declared.answer.Verdict.TheVariants.{Refused}
 use Rattle.lf_verdict.specs.declared.session.intake.Intake.{Intake}
 use Rattle.lf_verdict.specs.declared.session.intake.Judging.{Judging}
 use Rattle.lf_verdict.specs.declared.session.intake.Judging.TheVariants.{Waiting, Running, Another}
-use Rattle.lf_verdict.specs.declared.session.intake.Stop.{Stop}
-use Rattle.lf_verdict.specs.declared.session.intake.Stop.TheVariants as stops
+use Rattle.lf_verdict.specs.declared.stop.Stop.{Stop}
+use Rattle.lf_verdict.specs.declared.stop.Stop.TheVariants as stops
 use Rattle.lf_verdict.specs.Breaking.{NoneBroke}
 use Rattle.lf_verdict.specs.Final.{IsUnbrokenSoFar, NoneBrokeInTrace}
 use Rattle.lf_verdict.specs.Session.{HasJudged, HasFedUntil, IsJudging, refusal_of}

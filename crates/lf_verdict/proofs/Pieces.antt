@@ -1,6 +1,8 @@
 -- Pieces joined, and a fault that stands in some of them.
 use Rattle.std.proofs.Common.{◌≡◌, ◌+◌, ◌<◌, ◌≤◌, ℕ, List, [], ◌∷◌, ◌++◌, length, take, drop, get_or, Option, Some}
-use Rattle.std.proofs.Common.{None, Ok, Err, sym, ◌∙◌, ap, refl, subst, ◌⊎◌, inl, inr}
+use Rattle.std.proofs.Common.{None, Ok, Err, sym, ◌∙◌, ap, refl, subst, ◌⊎◌, inl, inr, ⊎_elim}
+use Rattle.std.specs.Prelude.{Result, IfErr}
+use Rattle.std.specs.Result.{IsErrAnd}
 use Rattle.std.specs.Borrow.{Bor}
 use Rattle.std.proofs.lemmas.List.{take_all, take_more, append-nil, take-append-drop}
 use Rattle.std.proofs.lemmas.List.Concat.{flat_map-append, flat_map-cons}
@@ -15,7 +17,9 @@ use Rattle.lf_codec.specs.Trace.{IsTrace}
 use Rattle.lf_codec.specs.Reader.{told, fault_in, finish_gives, HasRead, RanOut}
 use Rattle.lf_codec.specs.declared.header.Header.{Header}
 use Rattle.lf_verdict.specs.Legal.{joined}
-use Rattle.lf_verdict.specs.inner.Gathering.{IsFaultOrWant}
+use Rattle.lf_verdict.specs.declared.stop.Stop.{Stop}
+use Rattle.lf_verdict.specs.declared.stop.Stop.TheVariants as stops
+use Rattle.lf_verdict.specs.inner.Gathering.{IsFaultOrWant, IsReadStop, IsStopOf}
 
 pub joined_more : (pieces : List (Bor (List ℕ))) (i : ℕ) (none : Bor (List ℕ)) → i < length pieces →
     joined (take i pieces) ++ (get_or pieces i none).now ≡ joined (take (i + 1) pieces)
@@ -79,6 +83,19 @@ finish_failed old (Some fault) h bytes t fine e is = let f : finish_gives None (
     fault_is : (fault : CodecFault) (t : Told CodecFault) → finish_gives None (Some fault) h ≡ Err t →
         fault ≡ fault_in t
     fault_is fault t e = cc
+
+-- what ends the reading there
+pub reading_stop : (bytes : List ℕ) (fault : CodecFault) (stop : Stop) → IsFaultOrWant bytes fault → IsStopOf fault stop →
+    IsReadStop bytes stop
+reading_stop bytes fault (stops.Format told) either is =
+    ⊎_elim (λ want. absurd (is.1 want)) (λ e. e ∙ ap Some (sym is.0)) either
+reading_stop bytes fault stops.Memory either is = tt
+
+-- what holds of an error by what it was made from
+pub if_err_from : {T E : Type 0} {Q P : E → Type 0} (answer : Result T E) → ((e : E) → Q e → P e) → IsErrAnd answer Q →
+    IfErr answer P
+if_err_from (Ok value) told is = tt
+if_err_from (Err e) told is = told e is
 
 -- a feed that succeeded leaves no fault
 pub told_fine : (old now : Option CodecFault) → old ≡ None → told old now ≡ Ok tt → now ≡ None

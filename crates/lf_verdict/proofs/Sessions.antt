@@ -19,7 +19,7 @@ use Rattle.lf_codec.specs.Checks.{judged, header_checks}
 use Rattle.lf_codec.specs.declared.fault.CodecCause.TheVariants.{NoMemory}
 use Rattle.std.proofs.Common.{take}
 use Rattle.std.proofs.lemmas.Bool.{cases_lt}
-use Rattle.lf_verdict.proofs.Pieces.{fault_told}
+use Rattle.lf_verdict.proofs.Pieces.{fault_told, reading_stop}
 use Rattle.lf_verdict.proofs.Traces.{fits_shape}
 use Rattle.lf_verdict.proofs.Answered.{limit_is_small}
 use Rattle.lf_codec.specs.Reading.{Reading, reading_of, fault_so_far, header_now, header_of}
@@ -28,18 +28,18 @@ use Rattle.lf_codec.specs.Trace.{IsTrace, FitsIn}
 use Rattle.lf_verdict.specs.declared.answer.Verdict.TheVariants.{Refused}
 use Rattle.lf_verdict.specs.declared.answer.HeaderField.{HeaderField}
 use Rattle.lf_verdict.specs.declared.session.intake.Intake.{Intake}
-use Rattle.lf_verdict.specs.declared.session.intake.Stop.{Stop}
-use Rattle.lf_verdict.specs.declared.session.intake.Stop.TheVariants as stops
+use Rattle.lf_verdict.specs.declared.stop.Stop.{Stop}
+use Rattle.lf_verdict.specs.declared.stop.Stop.TheVariants as stops
 use Rattle.lf_verdict.specs.declared.session.standing.Standing.{Standing}
 use Rattle.lf_verdict.specs.Legal.{Agrees, IsTraceFor}
 use Rattle.lf_verdict.specs.inner.Ending.{IsVerdictOrWant}
-use Rattle.lf_verdict.specs.inner.Gathering.{IsFaultOrWant}
+use Rattle.lf_verdict.specs.inner.Gathering.{IsFaultOrWant, IsStopOf}
 use Rattle.lf_verdict.specs.Breaking.{first_offset}
 use Rattle.lf_verdict.specs.Standing.{IsWatch, StandsAfterAll}
 use Rattle.lf_verdict.specs.inner.Coming.{MayCome, MayAllCome, IsShort, logs_so_far}
 use Rattle.lf_verdict.specs.Session.{IsRunning, IsOfAnotherHeader, IsJudging, HasJudged, HasFedUntil, HasTaken, HasFed}
 use Rattle.lf_verdict.specs.Session.{refusal_of, stop_told, IsRefusalSoFar}
-use Rattle.lf_verdict.specs.inner.Taking.{IsLacking, IsStopOf}
+use Rattle.lf_verdict.specs.inner.Taking.{IsLacking}
 use Rattle.lf_verdict.specs.declared.answer.Refusal.{Refusal}
 use Rattle.lf_codec.specs.declared.fault.Told.TheVariants as tolds
 use Rattle.std.specs.Prelude.{IsSome}
@@ -154,8 +154,7 @@ may_all_come law shape bytes memory records r running read run =
 
 pub told_stop : (shape : Shape) (bytes : List ℕ) (fault : CodecFault) (stop : Stop) → IsFaultOrWant bytes fault →
     IsStopOf fault stop → IsVerdictOrWant shape bytes (Refused (refusal_of stop))
-told_stop shape bytes fault (stops.Format told) either is =
-    ⊎_elim (λ want. absurd (is.1 want)) (λ e. e ∙ ap Some (sym is.0)) either
+told_stop shape bytes fault (stops.Format told) either is = reading_stop bytes fault (stops.Format told) either is
 told_stop shape bytes fault stops.Memory either is = tt
 
 module _ (exact : ReadingIsExact) (shape : Shape) (bytes : List ℕ) (are_bytes : (i : ℕ) → slice_index bytes i < 256)

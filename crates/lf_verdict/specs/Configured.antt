@@ -6,6 +6,7 @@ use Rattle.lf_config.specs.declared.fault.ConfigFault.TheVariants as told
 use Rattle.lf_config.specs.Configuration.{configuration_of, Tells}
 use Rattle.lf_verdict.specs.declared.answer.Verdict.{Verdict}
 use Rattle.lf_verdict.specs.declared.answer.Verdict.TheVariants.{Yes, Refused}
+use Rattle.lf_verdict.specs.declared.answer.Refusal.{Refusal}
 use Rattle.lf_verdict.specs.declared.answer.Refusal.TheVariants as refusals
 use Rattle.lf_verdict.specs.Legal.{IsLegal}
 use Rattle.lf_verdict.specs.Laws.{IsRunlessNo}
@@ -15,6 +16,11 @@ use Rattle.lf_verdict.specs.Verdict.{IsWorkerCount, IsTraceVerdict}
 abbrev pub IsConfigFault : List ℕ → ConfigFault → Type 0
 IsConfigFault text told.NoMemory = ⊥
 IsConfigFault text fault = Tells fault (configuration_of text)
+
+-- the refusal that tells the fault
+abbrev pub config_refusal : ConfigFault → Refusal
+config_refusal told.NoMemory = refusals.Memory
+config_refusal fault = refusals.Config fault
 
 -- The bytes have this verdict for the shape that the text says.
 pub record IsConfiguredVerdict (text bytes : List ℕ) (answer : Verdict) : Type 0 where

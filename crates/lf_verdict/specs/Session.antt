@@ -12,8 +12,8 @@ use Rattle.lf_codec.specs.Laws.{AreBytes}
 use Rattle.lf_codec.specs.Reading.{header_of, fault_so_far}
 use Rattle.lf_codec.specs.Reader.{HasRead}
 use Rattle.lf_verdict.specs.declared.session.intake.Intake.{Intake}
-use Rattle.lf_verdict.specs.declared.session.intake.Stop.{Stop}
-use Rattle.lf_verdict.specs.declared.session.intake.Stop.TheVariants as stops
+use Rattle.lf_verdict.specs.declared.stop.Stop.{Stop}
+use Rattle.lf_verdict.specs.declared.stop.Stop.TheVariants as stops
 use Rattle.lf_verdict.specs.declared.session.intake.Judging.{Judging}
 use Rattle.lf_verdict.specs.declared.session.intake.Judging.TheVariants.{Waiting, Running, Another}
 use Rattle.lf_verdict.specs.declared.session.standing.Standing.{Standing}

@@ -2,7 +2,12 @@
 
 ghost use Rattle.std.specs.Prelude.{◌≡◌};
 ghost use Rattle.lf_verdict.specs.declared.answer.Refusal.TheVariants as refusals;
+ghost use Rattle.lf_verdict.specs.Configured.{config_refusal};
+ghost use Rattle.lf_verdict.specs.Session.{refusal_of};
+ghost use Rattle.lf_verdict.specs.inner.Ending.{ending_verdict};
 
+use crate::early_end::Ending;
+use crate::stop::Stop;
 use lf_codec::CodecFault;
 use lf_config::ConfigFault;
 use lf_rules::{NoMemory, Ring, Rule};
@@ -15,6 +20,17 @@ pub enum Verdict {
     Yes { events: u32, order: Vec<u8> },
     No(Fault),
     Refused(Refusal),
+}
+
+impl From<Ending> for Verdict {
+    ghost from_gives = { λ ending verdict. verdict ≡ ending_verdict ending };
+
+    fn from(ending: Ending) -> Verdict {
+        match ending {
+            Ending::Fault(fault) => Verdict::No(fault),
+            Ending::NoMemory => Verdict::Refused(Refusal::Memory),
+        }
+    }
 }
 
 /// Why a trace is not legal.
@@ -57,6 +73,28 @@ impl From<NoMemory> for Refusal {
 
     fn from(_: NoMemory) -> Refusal {
         Refusal::Memory
+    }
+}
+
+impl From<Stop> for Refusal {
+    ghost from_gives = { λ stop refusal. refusal ≡ refusal_of stop };
+
+    fn from(stop: Stop) -> Refusal {
+        match stop {
+            Stop::Format(fault) => Refusal::Format(fault),
+            Stop::Memory => Refusal::Memory,
+        }
+    }
+}
+
+impl From<ConfigFault> for Refusal {
+    ghost from_gives = { λ fault refusal. refusal ≡ config_refusal fault };
+
+    fn from(fault: ConfigFault) -> Refusal {
+        match fault {
+            ConfigFault::NoMemory => Refusal::Memory,
+            fault => Refusal::Config(fault),
+        }
     }
 }
 

@@ -15,6 +15,7 @@ mod laws;
 mod order;
 mod pool;
 mod session;
+mod stop;
 mod text;
 
 pub use answer::{Fault, HeaderField, Refusal, Verdict};

@@ -26,6 +26,11 @@ abbrev pub IsEnding : Shape → FlatMemory → List (List Record) → Ending →
 IsEnding shape memory logs (endings.Fault fault) = IsFaultOfLogs shape memory logs fault
 IsEnding shape memory logs endings.NoMemory = Unit {0}
 
+-- the verdict where the check ends so
+abbrev pub ending_verdict : Ending → Verdict
+ending_verdict (endings.Fault fault) = No fault
+ending_verdict endings.NoMemory = Refused refusals.Memory
+
 -- the numbers of the banks below this one are whole
 abbrev pub AreWholeBelow : List (List Record) → ℕ → Type 0
 AreWholeBelow logs banks = (bank : ℕ) → bank < banks → HasWholeNumbers logs bank

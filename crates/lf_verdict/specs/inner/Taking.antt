@@ -1,16 +1,12 @@
 -- What an intake takes from its reader.
-use Rattle.std.specs.Prelude.{◌≡◌, ◌≢◌, ℕ, List, [], length, Some}
+use Rattle.std.specs.Prelude.{◌≡◌, ℕ, List, [], length, Some}
 use Rattle.lf_rules.specs.declared.shape.Shape.{Shape}
 use Rattle.lf_rules.specs.declared.event.Record.{Record}
 use Rattle.lf_rules.specs.Fits.{Bytes}
 use Rattle.lf_codec.specs.declared.header.Header.{Header}
-use Rattle.lf_codec.specs.declared.fault.CodecCause.TheVariants.{NoMemory}
-use Rattle.lf_codec.specs.declared.fault.CodecFault.{CodecFault}
 use Rattle.lf_codec.specs.Reading.{Reading, header_now}
 use Rattle.lf_codec.specs.Reader.{HasRead, with_records}
 use Rattle.lf_verdict.specs.declared.session.intake.Intake.{Intake}
-use Rattle.lf_verdict.specs.declared.session.intake.Stop.{Stop}
-use Rattle.lf_verdict.specs.declared.session.intake.Stop.TheVariants as stops
 use Rattle.lf_verdict.specs.declared.session.intake.Judging.{Judging}
 use Rattle.lf_verdict.specs.declared.session.intake.Judging.TheVariants.{Waiting, Running, Another}
 use Rattle.lf_verdict.specs.declared.session.standing.Standing.{Standing}
@@ -31,11 +27,6 @@ abbrev pub IsDrained : Judging → Reading → List (ℕ × Bytes) → Type 0
 IsDrained Waiting reader memory = IsLacking reader memory
 IsDrained (Running running) reader memory = reader.records ≡ []
 IsDrained (Another field) reader memory = Unit {0}
-
--- what a fault of the reader stops with
-abbrev pub IsStopOf : CodecFault → Stop → Type 0
-IsStopOf fault (stops.Format told) = (told ≡ fault) × (fault.cause ≢ NoMemory)
-IsStopOf fault stops.Memory = fault.cause ≡ NoMemory
 
 -- the session that stands so before these records
 abbrev pub running_before : Standing → List Record → Intake → Intake

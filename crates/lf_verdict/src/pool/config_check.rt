@@ -7,7 +7,7 @@ ghost use Rattle.lf_verdict.specs.Configured.{IsVerdictFor, IsLegalYesFor, IsRun
 
 use crate::answer::{Refusal, Verdict};
 use crate::pool::shape_check::check_shape;
-use lf_config::{ConfigFault, read};
+use lf_config::read;
 use lf_pool::{NoGate, is_worker_count};
 use std::sync::Wait;
 use std::thread::Threads;
@@ -34,7 +34,6 @@ pub fn check<R: AllocGlobal + Threads + Wait + Sync>(
     }
     match read(rt.alloc(), config) {
         Ok(shape) => check_shape(rt, &shape, pieces, workers, &NoGate),
-        Err(ConfigFault::NoMemory) => Verdict::Refused(Refusal::Memory),
-        Err(fault) => Verdict::Refused(Refusal::Config(fault)),
+        Err(fault) => Verdict::Refused(Refusal::from(fault)),
     }
 }

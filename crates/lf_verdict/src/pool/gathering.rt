@@ -7,10 +7,10 @@ ghost use Rattle.lf_codec.specs.Reader.{HasRead};
 ghost use Rattle.lf_rules.specs.Lists.{lists_of};
 ghost use Rattle.lf_logs.specs.Lists.{logs_of};
 ghost use Rattle.lf_verdict.specs.Legal.{joined};
-ghost use Rattle.lf_verdict.specs.inner.Gathering.{HasGathered, IsWholeTrace, IsReadRefusal, IsFaultOrWant};
+ghost use Rattle.lf_verdict.specs.inner.Gathering.{HasGathered, IsWholeTrace, IsReadStop};
 
-use crate::answer::Refusal;
-use lf_codec::{CodecCause, CodecFault, Header, Reader};
+use crate::stop::Stop;
+use lf_codec::{Header, Reader};
 use lf_logs::split;
 use lf_rules::{Logs, Memory, NoMemory, Record, Shape};
 use std::alloc::Global;
@@ -29,16 +29,6 @@ pub struct Gathered {
     pub reader: Reader,
     pub memory: Memory,
     pub logs: Logs,
-}
-
-fn refusal_of(fault: CodecFault) -> Refusal
-    ensures { (bytes : List ℕ) → IsFaultOrWant bytes fault → IsReadRefusal bytes result }
-{
-    if fault.cause == CodecCause::NoMemory {
-        Refusal::Memory
-    } else {
-        Refusal::Format(fault)
-    }
 }
 
 /// Moves the record to the end of its log. One that names none of the logs is left out: it is a record
@@ -98,25 +88,23 @@ impl Gathered {
     }
 
     /// Takes the next piece, and moves what it has.
-    fn feed(&mut self, piece: &[u8]) -> Result<(), Refusal>
+    fn feed(&mut self, piece: &[u8]) -> Result<(), Stop>
         ensures ok { (count : ℕ) (bytes : List ℕ) → HasGathered count self.old bytes →
             OnOk result (HasGathered count self.new (bytes ++ piece.now)) }
         ensures err { (count : ℕ) (bytes : List ℕ) (rest : List ℕ) → HasGathered count self.old bytes
-            → IfErr result (IsReadRefusal ((bytes ++ piece.now) ++ rest)) }
+            → IfErr result (IsReadStop ((bytes ++ piece.now) ++ rest)) }
     {
-        if let Err(told) = self.reader.feed(piece) {
-            return Err(refusal_of(told.fault()));
-        }
+        self.reader.feed(piece)?;
         take_memory(&mut self.reader, &mut self.memory)?;
         take_records(&mut self.reader, &mut self.logs)?;
         Ok(())
     }
 
     /// Takes all pieces.
-    fn feed_all(&mut self, pieces: &[&[u8]]) -> Result<(), Refusal>
+    fn feed_all(&mut self, pieces: &[&[u8]]) -> Result<(), Stop>
         ensures ok { (count : ℕ) → HasGathered count self.old [] →
             OnOk result (HasGathered count self.new (joined pieces.now)) }
-        ensures err { (count : ℕ) → HasGathered count self.old [] → IfErr result (IsReadRefusal (joined pieces.now)) }
+        ensures err { (count : ℕ) → HasGathered count self.old [] → IfErr result (IsReadStop (joined pieces.now)) }
     {
         for piece in pieces {
             self.feed(piece)?;
@@ -125,33 +113,31 @@ impl Gathered {
     }
 
     /// The trace, where its bytes end here.
-    fn finish(self) -> Result<Trace, Refusal>
+    fn finish(self) -> Result<Trace, Stop>
         ensures ok { (count : ℕ) (bytes : List ℕ) → HasGathered count self bytes →
             IfOk result (IsWholeTrace count bytes) }
-        ensures err { (count : ℕ) (bytes : List ℕ) → HasGathered count self bytes → IfErr result (IsReadRefusal bytes) }
+        ensures err { (count : ℕ) (bytes : List ℕ) → HasGathered count self bytes → IfErr result (IsReadStop bytes) }
     {
         let Gathered {
             mut reader,
             memory,
             logs,
         } = self;
-        match reader.finish() {
-            Ok(header) => Ok(Trace {
-                header,
-                memory,
-                logs,
-            }),
-            Err(told) => Err(refusal_of(told.fault())),
-        }
+        let header = reader.finish()?;
+        Ok(Trace {
+            header,
+            memory,
+            logs,
+        })
     }
 }
 
 /// The trace of the bytes in these pieces, with as many logs as the shape has ports and banks.
-pub fn read(alloc: Global, shape: &Shape, pieces: &[&[u8]]) -> Result<Trace, Refusal>
+pub fn read(alloc: Global, shape: &Shape, pieces: &[&[u8]]) -> Result<Trace, Stop>
     requires ports { shape.now.ports ≤ 16 }
     requires banks { shape.now.banks ≤ 16 }
     ensures ok { IfOk result (IsWholeTrace (shape.now.ports + shape.now.banks) (joined pieces.now)) }
-    ensures err { IfErr result (IsReadRefusal (joined pieces.now)) }
+    ensures err { IfErr result (IsReadStop (joined pieces.now)) }
 {
     let mut gathered = Gathered::new(alloc, shape)?;
     gathered.feed_all(pieces)?;

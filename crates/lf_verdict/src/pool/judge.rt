@@ -66,8 +66,7 @@ fn jobs_verdict(alloc: Global, jobs: &Jobs, outcomes: &[Outcome]) -> Verdict
             events: order.len() as u32,
             order,
         },
-        Err(Ending::Fault(fault)) => Verdict::No(fault),
-        Err(Ending::NoMemory) => Verdict::Refused(Refusal::Memory),
+        Err(ending) => Verdict::from(ending),
     }
 }
 
@@ -95,7 +94,6 @@ pub fn logs_verdict<G: Gate + Sync, R: Threads + Wait + Sync>(
             Err(PoolFault::Spawn) => Verdict::Refused(Refusal::Thread),
             Err(_) => Verdict::Refused(Refusal::Memory),
         },
-        Err(Ending::Fault(fault)) => Verdict::No(fault),
-        Err(Ending::NoMemory) => Verdict::Refused(Refusal::Memory),
+        Err(ending) => Verdict::from(ending),
     }
 }

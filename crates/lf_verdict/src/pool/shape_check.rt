@@ -33,7 +33,7 @@ fn workers_verdict<G: Gate + Sync, R: Threads + Wait + Sync>(
 {
     let trace = match read(alloc, shape, pieces) {
         Ok(trace) => trace,
-        Err(refusal) => return Verdict::Refused(refusal),
+        Err(stop) => return Verdict::Refused(Refusal::from(stop)),
     };
     let Trace {
         header,

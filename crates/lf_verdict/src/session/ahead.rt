@@ -10,13 +10,14 @@ ghost use Rattle.lf_verdict.specs.Session.{refusal_of, stop_told, HasTaken, HasF
 ghost use Rattle.lf_verdict.specs.Ahead.{session_of, IsAhead};
 ghost use Rattle.lf_verdict.specs.Final.{IsFinal};
 ghost use Rattle.lf_verdict.specs.Named.{IsNamed, NoneBrokeSoFar};
-ghost use Rattle.lf_verdict.specs.declared.session.intake.Stop.TheVariants as stops;
+ghost use Rattle.lf_verdict.specs.declared.stop.Stop.TheVariants as stops;
 ghost use Rattle.lf_verdict.specs.inner.Taking.{running_before};
 
 use crate::answer::{Refusal, Verdict};
 use crate::session::batch::{Batch, Judged, Lent, lend};
 use crate::session::breaking::Broken;
-use crate::session::intake::{Intake, Judging, Stop, refusal_of, stop_of};
+use crate::session::intake::{Intake, Judging};
+use crate::stop::Stop;
 use lf_codec::{Packed, Told, faults_stand, header_of_bytes, read_so_far};
 use lf_pool::Gate;
 use lf_rules::{NoMemory, Shape};
@@ -188,16 +189,11 @@ impl<G: Gate + Sync + Send + Copy + 'static> Ahead<G> {
             → HasFedUntil self.new.intake (bytes ++ piece.now) (Some stop)) }
     {
         header_of_bytes();
-        if let Err(told) = self.intake.reader.feed_into(piece, &mut self.records) {
-            return Err(stop_of(told));
+        self.intake.reader.feed_into(piece, &mut self.records)?;
+        if self.records.len() >= self.batch {
+            self.hand_over(rt)?;
         }
-        if self.records.len() < self.batch {
-            return Ok(());
-        }
-        match self.hand_over(rt) {
-            Ok(()) => Ok(()),
-            Err(NoMemory) => Err(Stop::Memory),
-        }
+        Ok(())
     }
 
     /// Stops for good, and tells why. No thread is left at work.
@@ -268,7 +264,7 @@ impl<G: Gate + Sync + Send + Copy + 'static> Ahead<G> {
     {
         faults_stand();
         if let Some(stop) = self.intake.stop {
-            return Err(Told::Failed(refusal_of(stop)));
+            return Err(Told::Failed(Refusal::from(stop)));
         }
         if self.workers > 1 && self.is_running() {
             return self.feed_ahead(rt, piece);
@@ -286,7 +282,7 @@ impl<G: Gate + Sync + Send + Copy + 'static> Ahead<G> {
         ensures alone { self.new.lent ≡ None }
     {
         if let Some(stop) = self.intake.stop {
-            return Verdict::Refused(refusal_of(stop));
+            return Verdict::Refused(Refusal::from(stop));
         }
         match self.settle(rt) {
             Ok(()) => self.intake.conclude().verdict,

@@ -12,8 +12,8 @@ ghost use Rattle.lf_verdict.specs.Incomplete.{IsIncompleteFor};
 ghost use Rattle.lf_verdict.specs.Final.{IsFinal, IsEarliest, IsUnbroken, NoneBrokeInTrace};
 ghost use Rattle.lf_verdict.specs.Session.{refusal_of, stop_told, IsRunning, HasTaken, IsRunningNow, IsInTurn, HasFed};
 ghost use Rattle.lf_verdict.specs.Session.{IsOfAnotherHeader, HeaderAgrees};
-ghost use Rattle.lf_verdict.specs.inner.Taking.{IsStopOf, IsLackingIf, IsDrained, CanJudge};
-ghost use Rattle.lf_codec.specs.Reader.{fault_in, answer_of, bytes_taken, with_record, TakesSome};
+ghost use Rattle.lf_verdict.specs.inner.Taking.{IsLackingIf, IsDrained, CanJudge};
+ghost use Rattle.lf_codec.specs.Reader.{answer_of, bytes_taken, with_record, TakesSome};
 ghost use Rattle.lf_verdict.specs.declared.session.intake.Judging.TheVariants.{Waiting};
 ghost use Rattle.lf_rules.specs.declared.shape.Shape.{Shape};
 ghost use Rattle.lf_rules.specs.declared.event.Record.{Record};
@@ -28,18 +28,10 @@ use crate::header::{differing, first_offset};
 use crate::laws::{other_headers_are_final, part_faults_are_final};
 use crate::session::breaking::{Broken, Conclusion};
 use crate::session::standing::{Judged, Standing};
-use lf_codec::{
-    CodecCause, CodecFault, Reader, Told, exact_reading, faults_stand, header_of_bytes, read_so_far,
-};
+use crate::stop::Stop;
+use lf_codec::{Reader, Told, exact_reading, faults_stand, header_of_bytes, read_so_far};
 use lf_rules::{Memory, NoMemory, Record, Shape};
 use std::alloc::Global;
-
-/// What ended the judging.
-#[derive(Clone, Copy, Debug, PartialEq, Eq)]
-pub enum Stop {
-    Format(CodecFault),
-    Memory,
-}
 
 /// How far the judging is.
 #[derive(Drop)]
@@ -60,26 +52,6 @@ pub struct Intake {
     pub memory: Memory,
     pub judging: Judging,
     pub stop: Option<Stop>,
-}
-
-pub fn refusal_of(stop: Stop) -> Refusal
-    ensures { result ≡ refusal_of stop }
-{
-    match stop {
-        Stop::Format(fault) => Refusal::Format(fault),
-        Stop::Memory => Refusal::Memory,
-    }
-}
-
-pub fn stop_of(told: Told<CodecFault>) -> Stop
-    ensures { IsStopOf (fault_in told) result }
-{
-    let fault = told.fault();
-    if fault.cause == CodecCause::NoMemory {
-        Stop::Memory
-    } else {
-        Stop::Format(fault)
-    }
 }
 
 /// Takes the records that the reader has found, so that it need not keep them.
@@ -181,7 +153,7 @@ impl Intake {
         ensures told { result ≡ tolds.Fault (refusal_of stop) }
     {
         self.stop = Some(stop);
-        Told::Fault(refusal_of(stop))
+        Told::Fault(Refusal::from(stop))
     }
 
     /// Takes the memory records that the reader has found.
@@ -305,7 +277,7 @@ impl Intake {
     {
         faults_stand();
         if let Some(stop) = self.stop {
-            return Err(Told::Failed(refusal_of(stop)));
+            return Err(Told::Failed(Refusal::from(stop)));
         }
         let mut place = None;
         let mut at = 0;
@@ -332,7 +304,7 @@ impl Intake {
         header_of_bytes();
         let n = match self.reader.feed_some(bytes) {
             Ok(n) => n,
-            Err(told) => return Err(self.stop_with(stop_of(told))),
+            Err(told) => return Err(self.stop_with(Stop::from(told))),
         };
         match self.take_all() {
             Ok(()) => Ok(n),
@@ -360,7 +332,7 @@ impl Intake {
         header_of_bytes();
         let n = match self.reader.feed_one(bytes, place) {
             Ok(n) => n,
-            Err(told) => return Err(self.stop_with(stop_of(told))),
+            Err(told) => return Err(self.stop_with(Stop::from(told))),
         };
         match self.judge_with(place) {
             Ok(()) => Ok(n),
@@ -380,7 +352,7 @@ impl Intake {
     {
         exact_reading();
         if let Err(told) = self.reader.finish() {
-            return Judged::of(Verdict::Refused(refusal_of(stop_of(told))));
+            return Judged::of(Verdict::Refused(Refusal::from(Stop::from(told))));
         }
         match &mut self.judging {
             Judging::Waiting => unreachable!(),
@@ -408,7 +380,7 @@ impl Intake {
         exact_reading();
         read_so_far();
         if let Some(stop) = self.stop {
-            let verdict = Verdict::Refused(refusal_of(stop));
+            let verdict = Verdict::Refused(Refusal::from(stop));
             return Conclusion {
                 verdict,
                 broken: None,

@@ -25,7 +25,7 @@ use crate::laws::{no_has_no_run, yes_is_legal};
 use crate::session::intake::Intake;
 pub use breaking::{Broken, Conclusion, PartFault, Upon};
 use lf_codec::Told;
-use lf_config::{ConfigFault, read};
+use lf_config::read;
 use lf_rules::Shape;
 pub use parallel::ParallelSession;
 use std::alloc::Global;
@@ -66,11 +66,8 @@ impl Session {
         ensures fed { IfOk result (λ s. HasFed s []) }
         ensures refused { IfErr result (IsConfigRefusal config.now) }
     {
-        match read(alloc, config) {
-            Ok(shape) => Ok(Session::for_shape(alloc, &shape)),
-            Err(ConfigFault::NoMemory) => Err(Refusal::Memory),
-            Err(fault) => Err(Refusal::Config(fault)),
-        }
+        let shape = read(alloc, config)?;
+        Ok(Session::for_shape(alloc, &shape))
     }
 
     /// Takes the next piece of the trace. It refuses a fault of the format that stands in the bytes so

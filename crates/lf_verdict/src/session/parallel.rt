@@ -11,7 +11,7 @@ ghost use Rattle.lf_verdict.specs.Laws.{IsRunlessNo};
 ghost use Rattle.lf_verdict.specs.Final.{IsFinal};
 ghost use Rattle.lf_verdict.specs.Named.{IsNamed, NoneBrokeSoFar};
 ghost use Rattle.lf_verdict.specs.Session.{refusal_of, stop_told, IsRefusalSoFar, HasFed};
-ghost use Rattle.lf_verdict.specs.declared.session.intake.Stop.TheVariants as stops;
+ghost use Rattle.lf_verdict.specs.declared.stop.Stop.TheVariants as stops;
 
 use crate::answer::{Refusal, Verdict};
 use crate::laws::{no_has_no_run, yes_is_legal};

@@ -2,7 +2,7 @@
 
 use lf_rules::{Event, NO_BANK, Record};
 
-/// A record that no trace has, for a place that is written before it is read.
+/// A fence, for a place that is written before it is read.
 pub fn no_record() -> Record {
     Record {
         log: 0,

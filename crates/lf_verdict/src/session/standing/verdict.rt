@@ -136,8 +136,7 @@ impl Standing {
                 },
                 incomplete: self.first_incomplete(),
             },
-            Err(Ending::Fault(fault)) => Judged::of(Verdict::No(fault)),
-            Err(Ending::NoMemory) => Judged::of(Verdict::Refused(Refusal::Memory)),
+            Err(ending) => Judged::of(Verdict::from(ending)),
         }
     }
 

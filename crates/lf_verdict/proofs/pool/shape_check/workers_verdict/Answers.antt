@@ -1,4 +1,8 @@
+use Rattle.std.proofs.Common.{sym, subst}
 use Rattle.lf_rules.specs.Lists.{lists_of}
+use Rattle.lf_verdict.specs.declared.answer.Refusal.{Refusal}
+use Rattle.lf_verdict.specs.declared.answer.Verdict.TheVariants.{Refused}
+use Rattle.lf_verdict.specs.inner.Jobs.{IsWorkersAnswer}
 use Rattle.lf_verdict.specs.Legal.{joined}
 use Rattle.lf_verdict.proofs.Traces.{records_fit}
 use Rattle.lf_verdict.proofs.Answered.{logs_count, logs_short, logs_fit_shape, of_workers_logs, of_header, of_reading}
@@ -27,8 +31,10 @@ returns-in-Some-clause-answer g c =
     c.in-Some.field t.trace c.in-Some.ensures.some
 
 pub returns-in-Err-clause-answer : goal.returns-in-Err-clause-answer
-returns-in-Err-clause-answer g c = of_reading c.args.shape.now (joined c.args.pieces.now) c.in-Err.refusal
-    c.in-Err.ensures.err
+returns-in-Err-clause-answer g c =
+    let bytes = joined c.args.pieces.now in
+    subst (λ (r : Refusal). IsWorkersAnswer c.args.shape.now bytes (Refused r)) (sym c.from.ensures)
+    (of_reading c.args.shape.now bytes c.in-Err.stop c.in-Err.ensures.err)
 
 pub returns-clause-answer : goal.returns-clause-answer
 returns-clause-answer g c =

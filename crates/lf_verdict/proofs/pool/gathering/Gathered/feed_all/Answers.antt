@@ -1,7 +1,7 @@
 use Rattle.std.proofs.Common.{◌≡◌, ◌+◌, List, ℕ, [], ◌++◌, take, drop, get_or, subst, ◌∙◌, ap, rules}
 use Rattle.std.specs.Borrow.{Bor}
 use Rattle.lf_verdict.specs.Legal.{joined}
-use Rattle.lf_verdict.specs.inner.Gathering.{HasGathered, IsReadRefusal}
+use Rattle.lf_verdict.specs.inner.Gathering.{HasGathered, IsReadStop}
 use Rattle.lf_verdict.proofs.Pieces.{joined_more, joined_in_two, joined_all}
 use Rattle.lf_verdict.proofs.pool.gathering.Gathered.feed_all.Goals as goal
 
@@ -32,5 +32,5 @@ returns-in_err-feed-clause-err c count was =
     ap (λ (t : List ℕ). t ++ rest) (joined_more pieces i none c.loop-piece-test.true)
     ∙ joined_in_two pieces (i + 1) in
     let said = c.in_err-feed.ensures.err count before rest (c.loop-piece.invariant count was) in
-    let moved = subst (λ (bytes : List ℕ). IsReadRefusal bytes c.in_err-feed.field-0.0) whole said in
+    let moved = subst (λ (bytes : List ℕ). IsReadStop bytes c.in_err-feed.field-0.0) whole said in
     search rules

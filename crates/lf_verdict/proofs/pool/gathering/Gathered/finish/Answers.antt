@@ -1,25 +1,25 @@
-use Rattle.std.proofs.Common.{◌≡◌, None, refl, sym, ap, ◌∙◌, subst}
-use Rattle.lf_codec.specs.declared.fault.CodecFault.{CodecFault}
+use Rattle.std.proofs.Common.{◌≡◌, None, refl, sym, ap, ◌∙◌}
+use Rattle.lf_codec.specs.Reader.{fault_in}
 use Rattle.lf_codec.specs.Reading.{Reading, fault_so_far}
-use Rattle.lf_verdict.specs.inner.Gathering.{IsFaultOrWant}
-use Rattle.lf_verdict.proofs.Pieces.{finish_failed, whole_trace}
+use Rattle.lf_verdict.proofs.Pieces.{finish_failed, if_err_from, reading_stop, whole_trace}
 use Rattle.lf_verdict.proofs.pool.gathering.Gathered.finish.Goals as goal
 
-pub returns-in-Ok-clause-ok : goal.returns-in-Ok-clause-ok
-returns-in-Ok-clause-ok c count bytes was =
+pub returns-clause-ok : goal.returns-clause-ok
+returns-clause-ok c count bytes was =
     let s = c.args.self in
-    let trace = (c.in-Ok.ensures.trace bytes s.memory.items was.records was.read c.in-Ok.header).0 refl in
+    let trace = (c.in_ok-header.ensures.trace bytes s.memory.items was.records was.read c.in_ok-header.header).0 refl in
     record {
       records = was.records;
-      trace = whole_trace bytes c.in-Ok.header s.memory.items s.reader.memory was.records s.reader.records
+      trace = whole_trace bytes c.in_ok-header.header s.memory.items s.reader.memory was.records s.reader.records
           was.no_memory was.no_records trace;
       logs = was.logs;
     }
 
-pub returns-clause-err : goal.returns-clause-err
-returns-clause-err c count bytes was =
+pub returns-in_err-header-clause-err : goal.returns-in_err-header-clause-err
+returns-in_err-header-clause-err c count bytes was =
     let s = c.args.self in
+    let told = c.in_err-header.field-0.0 in
     let fine : fault_so_far bytes ≡ None = ap (λ (r : Reading). r.fault) was.read.same ∙ was.fine in
-    let said = finish_failed _ _ _ bytes c.in-Err.told fine refl
-    (sym (c.in-Err.ensures.ends bytes s.memory.items was.records was.read)) in
-    c.refusal_of.ensures bytes (subst (λ (f : CodecFault). IsFaultOrWant bytes f) (sym c.fault.ensures) said)
+    let said = finish_failed _ _ _ bytes told fine refl
+    (sym (c.in_err-header.ensures.ends bytes s.memory.items was.records was.read)) in
+    if_err_from c.from_residual.result (λ stop. reading_stop bytes (fault_in told) stop said) c.from_residual.ensures.1

@@ -2,7 +2,7 @@ use Rattle.std.proofs.Common.{◌≡◌, ℕ, List, Option, Some, None, false, t
 use Rattle.std.specs.Prelude.{IfSome, IfNone}
 use Rattle.lf_verdict.specs.declared.session.intake.Intake.{Intake}
 use Rattle.lf_verdict.specs.declared.session.intake.Judging.{Judging}
-use Rattle.lf_verdict.specs.declared.session.intake.Stop.{Stop}
+use Rattle.lf_verdict.specs.declared.stop.Stop.{Stop}
 use Rattle.lf_verdict.specs.Session.{IsJudging, IsInTurn, HasJudged}
 use Rattle.lf_codec.specs.declared.header.Header.{Header}
 use Rattle.lf_verdict.specs.Breaking.{first_offset}

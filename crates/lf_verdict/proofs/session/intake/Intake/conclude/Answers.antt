@@ -3,7 +3,7 @@ use Rattle.std.specs.Prelude.{IfSome}
 use Rattle.lf_rules.specs.declared.shape.Shape.{Shape}
 use Rattle.lf_verdict.specs.declared.answer.Refusal.{Refusal}
 use Rattle.lf_verdict.specs.declared.answer.Verdict.TheVariants.{Refused}
-use Rattle.lf_verdict.specs.declared.session.intake.Stop.{Stop}
+use Rattle.lf_verdict.specs.declared.stop.Stop.{Stop}
 use Rattle.lf_verdict.specs.inner.Ending.{IsVerdictOrWant}
 use Rattle.lf_verdict.specs.Final.{IsFinal, IsEarliest, NoneBrokeInTrace}
 use Rattle.lf_verdict.specs.Incomplete.{IsIncompleteFor}
@@ -20,7 +20,7 @@ returns-in-Some-clause-none c decided bytes fed =
     let s = c.args.self.now in
     none_stopped c.exact_reading.ensures s bytes c.in-Some.stop
     (subst (λ (stop : Option Stop). HasFedUntil s bytes stop) c.in-Some.is fed)
-    (subst (λ (r : Refusal). IsDecided (Refused r)) c.refusal_of.ensures decided)
+    (subst (λ (r : Refusal). IsDecided (Refused r)) c.from.ensures decided)
 
 pub broken-found-requires : goal.broken-found-requires
 broken-found-requires c =
@@ -40,8 +40,8 @@ judged-judged-requires-clause-taken c =
 
 pub returns-clause-answer : goal.returns-clause-answer
 returns-clause-answer c bytes fed =
-    subst (λ (shape : Shape). IsVerdictOrWant shape bytes c.judged-judged.result.verdict) c.in_default-take_all.ensures.shape
-    (c.judged-judged.ensures.answer bytes
+    subst (λ (shape : Shape). IsVerdictOrWant shape bytes c.judged-judged.result.verdict)
+    c.in_default-take_all.ensures.shape (c.judged-judged.ensures.answer bytes
     (c.in_default-take_all.ensures.taken bytes (going c.args.self.now bytes c.in_default.is fed)))
 
 pub returns-clause-stands : goal.returns-clause-stands
@@ -73,7 +73,8 @@ returns-clause-none c decided bytes fed =
 
 pub returns-clause-incomplete : goal.returns-clause-incomplete
 returns-clause-incomplete c bytes fed =
-    subst (λ (shape : Shape). IsIncompleteFor shape bytes c.judged-judged.result.verdict c.judged-judged.result.incomplete)
+    let judged = c.judged-judged.result in
+    subst (λ (shape : Shape). IsIncompleteFor shape bytes judged.verdict judged.incomplete)
     c.in_default-take_all.ensures.shape
     (c.judged-judged.ensures.incomplete bytes
     (c.in_default-take_all.ensures.taken bytes (going c.args.self.now bytes c.in_default.is fed)))

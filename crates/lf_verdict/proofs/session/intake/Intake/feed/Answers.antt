@@ -1,5 +1,5 @@
 use Rattle.std.proofs.Common.{◌++◌, Option, take, refl, sym, ◌∙◌, subst, arith}
-use Rattle.lf_verdict.specs.declared.session.intake.Stop.{Stop}
+use Rattle.lf_verdict.specs.declared.stop.Stop.{Stop}
 use Rattle.lf_verdict.specs.Session.{HasFedUntil}
 use Rattle.lf_verdict.proofs.Feeding.{fed_nothing, fed_more, fed_rest, fed_all, rest_len, told_going}
 use Rattle.lf_verdict.proofs.Sessions.{stop_stays}

@@ -1,6 +1,6 @@
 use Rattle.std.proofs.Common.{◌++◌, Option, Some, take, sym, ◌∙◌, subst}
 use Rattle.lf_verdict.specs.declared.session.intake.Intake.{Intake}
-use Rattle.lf_verdict.specs.declared.session.intake.Stop.{Stop}
+use Rattle.lf_verdict.specs.declared.stop.Stop.{Stop}
 use Rattle.lf_verdict.specs.Session.{HasFed, HasFedUntil}
 use Rattle.lf_verdict.proofs.Pieces.{told_fine}
 use Rattle.lf_verdict.proofs.Sessions.{going, read_stop, judged_feed}
@@ -10,11 +10,11 @@ pub returns-in-Err-clause-fed : goal.returns-in-Err-clause-fed
 returns-in-Err-clause-fed c fed has =
     let s = c.args.self.now in
     let m = going s fed c.requires.going has in
-    let stopped : Intake = record s { reader = c.feed_some.new.self; stop = Some c.stop_of.result } in
+    let stopped : Intake = record s { reader = c.feed_some.new.self; stop = Some c.from.result } in
     subst (λ (t : Intake). HasFed t (fed ++ c.args.bytes.now)) (sym c.stop_with.ensures.stopped)
     (read_stop stopped s.reader.fault c.feed_some.new.self (fed ++ c.args.bytes.now) s.memory.items m.0 c.in-Err.told
-    c.stop_of.result m.1.fine (sym c.in-Err.ensures.told)
-    (c.in-Err.ensures.pieces fed s.memory.items m.0 m.1.read) c.stop_of.ensures)
+    c.from.result m.1.fine (sym c.in-Err.ensures.told)
+    (c.in-Err.ensures.pieces fed s.memory.items m.0 m.1.read) c.from.ensures)
 
 pub take_all-requires : goal.take_all-requires
 take_all-requires c =

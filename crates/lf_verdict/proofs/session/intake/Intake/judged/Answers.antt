@@ -21,12 +21,12 @@ returns-in-Err-clause-answer c bytes m =
     let s = c.args.self.now in
     let fine : fault_so_far bytes ≡ None = ap (λ (q : Reading). q.fault) m.1.read.same ∙ m.1.fine in
     subst (λ (j : Judged). IsVerdictOrWant s.shape bytes j.verdict) (sym c.of.ensures)
-    (subst (λ (r : Refusal). IsVerdictOrWant s.shape bytes (Refused r)) (sym c.refusal_of.ensures)
-    (told_stop s.shape bytes (fault_in c.in-Err.told) c.stop_of.result
+    (subst (λ (r : Refusal). IsVerdictOrWant s.shape bytes (Refused r)) (sym c.from-in-Err.ensures)
+    (told_stop s.shape bytes (fault_in c.in-Err.told) c.from.result
     (finish_failed (fault_so_far bytes) (trace_fault bytes) s.reader.progress.header bytes c.in-Err.told fine
     (λ i. trace_fault bytes)
     (sym (c.finish.ensures.ends bytes s.memory.items m.0 m.1.read) ∙ c.in-Err.is))
-    c.stop_of.ensures))
+    c.from.ensures))
 
 pub judged-requires : goal.judged-requires
 judged-requires c =

@@ -2,6 +2,7 @@ use Rattle.std.proofs.Common.{arith, subst, sym}
 use Rattle.lf_verdict.specs.declared.session.standing.verdict.Judged.{Judged}
 use Rattle.lf_verdict.specs.inner.Coming.{logs_so_far}
 use Rattle.lf_verdict.specs.inner.Ending.{IsLogsVerdict}
+use Rattle.lf_verdict.proofs.Answered.{of_ending}
 use Rattle.lf_verdict.proofs.Settled.{order_fits}
 use Rattle.lf_verdict.proofs.session.standing.Standing.judged.Goals as goal
 
@@ -23,10 +24,12 @@ returns-in-Ok-clause-verdict c shape memory records stands short = (
       (arith, c.len.ensures),
 )
 
-pub returns-in-Err-Fault-clause-verdict : goal.returns-in-Err-Fault-clause-verdict
-returns-in-Err-Fault-clause-verdict c shape memory records stands short =
+pub returns-in-Err-clause-verdict : goal.returns-in-Err-clause-verdict
+returns-in-Err-clause-verdict c shape memory records stands short =
     subst (λ (j : Judged). IsLogsVerdict shape memory (logs_so_far shape records) j.verdict) (sym c.of.ensures)
-    (rw c.in-Err-Fault.field-0-is at (c.in-Err-Fault.ensures.fault shape memory records stands short))
+    (subst (IsLogsVerdict shape memory (logs_so_far shape records)) (sym c.from.ensures)
+    (of_ending shape memory (logs_so_far shape records) c.in-Err.ending
+    (c.in-Err.ensures.fault shape memory records stands short)))
 
 pub returns-in-Ok-clause-incomplete : goal.returns-in-Ok-clause-incomplete
 returns-in-Ok-clause-incomplete c shape memory records stands short =
