@@ -9,5 +9,6 @@ pub mod Mixtures
 -- and records in the form of their bytes.
 pub mod Tallies
 pub mod EarlyTable
+pub mod ShortKeys
 pub mod KeptRecord
 pub mod PackedLogs

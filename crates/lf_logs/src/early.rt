@@ -10,6 +10,7 @@ ghost use Rattle.lf_logs.specs.EarlyTable.{IsTable};
 ghost use Rattle.lf_logs.specs.Reordering.{if_given};
 
 use crate::kept::Kept;
+use crate::short_key::ShortKey;
 use lf_rules::{NoMemory, Record};
 use slab::Slab;
 use std::alloc::Global;
@@ -24,12 +25,12 @@ const PLACES_OF_A_RECORD: usize = 16;
 
 /// The records that came before their turn, by number. A table has the key under which a record is
 /// kept, at the place that is the record's number modulo the count of places. A record whose place
-/// is taken, or whose key has more than four bytes, goes into the map. So what is held follows the
+/// is taken, or whose key does not fit into four bytes, goes into the map. So what is held follows the
 /// records that wait, however far apart their numbers are, and a wider table moves no record.
 #[derive(Drop)]
 pub struct Early {
     alloc: Global,
-    places: Vec<Option<u32>>,
+    places: Vec<ShortKey>,
     kept: Slab<Kept>,
     rest: BTreeMap<u32, Kept>,
 }
@@ -47,7 +48,7 @@ impl Model for Early {
 }
 
 /// The key of the record of this number, where the table has one.
-fn key_of(places: &[Option<u32>], kept: &Slab<Kept>, number: u32) -> Option<usize>
+fn key_of(places: &[ShortKey], kept: &Slab<Kept>, number: u32) -> Option<usize>
     requires { IsTable places.now kept.now.slots }
     ensures some { IfSome result (λ key. slice_index_or places.now (number % length places.now) None ≡ Some key) }
     ensures number { IfSome result (λ key. (r : Record) × ((slice_index_or kept.now.slots key None ≡ Some r) ×
@@ -58,7 +59,7 @@ fn key_of(places: &[Option<u32>], kept: &Slab<Kept>, number: u32) -> Option<usiz
     if places.is_empty() {
         return None;
     }
-    let key = places[number as usize % places.len()]? as usize;
+    let key = places[number as usize % places.len()].get()?;
     match kept.get(key) {
         Some(item) if item.number() == number => Some(key),
         _ => None,
@@ -66,21 +67,17 @@ fn key_of(places: &[Option<u32>], kept: &Slab<Kept>, number: u32) -> Option<usiz
 }
 
 /// A table of twice as many places for the same records.
-fn widened(
-    alloc: Global,
-    places: &[Option<u32>],
-    kept: &Slab<Kept>,
-) -> Result<Vec<Option<u32>>, NoMemory>
+fn widened(alloc: Global, places: &[ShortKey], kept: &Slab<Kept>) -> Result<Vec<ShortKey>, NoMemory>
     requires table { IsTable places.now kept.now.slots }
     requires some { 0 < length places.now }
     ensures table { IfOk result (λ wider. IsTable wider.items kept.now.slots) }
     ensures some { IfOk result (λ wider. 0 < vec_len wider) }
 {
-    let mut wider = vec![in alloc; None; 2 * places.len()]?;
+    let mut wider = vec![in alloc; ShortKey::none(); 2 * places.len()]?;
     for place in places {
-        if let Some(key) = *place {
-            let to = kept[key as usize].number() as usize % wider.len();
-            wider[to] = Some(key);
+        if let Some(key) = place.get() {
+            let to = kept[key].number() as usize % wider.len();
+            wider[to] = *place;
         }
     }
     Ok(wider)
@@ -90,7 +87,7 @@ fn widened(
 /// for what is kept.
 fn make_room(
     alloc: Global,
-    places: &mut Vec<Option<u32>>,
+    places: &mut Vec<ShortKey>,
     kept: &Slab<Kept>,
     number: u32,
 ) -> Result<(), NoMemory>
@@ -99,11 +96,11 @@ fn make_room(
     ensures some { OnOk result (0 < vec_len places.new) }
 {
     if places.is_empty() {
-        let first = vec![in alloc; None; FIRST_PLACES]?;
+        let first = vec![in alloc; ShortKey::none(); FIRST_PLACES]?;
         *places = first;
         return Ok(());
     }
-    if places[number as usize % places.len()].is_some()
+    if !places[number as usize % places.len()].is_none()
         && places.len() / PLACES_OF_A_RECORD < kept.len()
     {
         *places = widened(alloc, places, kept)?;
@@ -150,9 +147,9 @@ impl Early {
         make_room(self.alloc, &mut self.places, &self.kept, number)?;
         let waiting = Kept::new(self.alloc, item)?;
         let place = number as usize % self.places.len();
-        if self.places[place].is_none() && self.kept.vacant_key() <= u32::MAX as usize {
+        if self.places[place].is_none() && self.kept.vacant_key() < ShortKey::MOST {
             let key = self.kept.insert(waiting)?;
-            self.places[place] = Some(key as u32);
+            self.places[place] = ShortKey::of(key);
             return Ok(());
         }
         let _ = self.rest.insert(number, waiting)?;
@@ -175,7 +172,7 @@ impl Early {
             return true;
         };
         let place = number as usize % self.places.len();
-        self.places[place] = None;
+        self.places[place] = ShortKey::none();
         self.kept.remove(key).put_into(item);
         true
     }

@@ -15,6 +15,7 @@ mod port;
 mod port_look;
 mod port_step;
 mod reorder;
+mod short_key;
 mod skeleton;
 
 pub use banks::bank_records;

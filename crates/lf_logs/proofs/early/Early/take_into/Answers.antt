@@ -1,9 +1,9 @@
 use Rattle.std.proofs.Common.{◌≡◌, ◌+◌, ◌%◌, ℕ, List, length, get_or, Option, Some, None, ◌∙◌, sym, ap, subst, refl}
-use Rattle.std.proofs.Common.{arith}
+use Rattle.std.proofs.Common.{arith, set}
 use Rattle.std.proofs.lemmas.List.{length-append}
 use Rattle.lf_logs.proofs.EarlyLookups.{at, not_kept, lookup-first, lookup-rest, lookup-parts, lookup-found}
 use Rattle.lf_logs.proofs.EarlyLookups.{IsTable-remove, others-remove, length-numbered}
-use Rattle.lf_logs.specs.EarlyTable.{numbered}
+use Rattle.lf_logs.specs.EarlyTable.{numbered, IsTable}
 use Rattle.lf_logs.proofs.Reordered.{apart_at}
 use Rattle.lf_logs.proofs.early.Early.take_into.Goals as goal
 
@@ -36,9 +36,10 @@ invariant_of-self-2 c =
     let leads : get_or e.places.items (c.args.number % length e.places.items) None ≡ Some c.in-Some.key =
     subst (λ (ps : List (Option ℕ)). get_or ps (c.args.number % length ps) None ≡ Some c.in-Some.key)
     c.deref.ensures.value c.in-Some.ensures.some in
-    IsTable-remove e.places.items e.kept c.remove-2.new.self c.self.invariant (c.args.number % c.len.result)
-    c.in-Some.key
-    (ap (λ n. get_or e.places.items (c.args.number % n) None) (sym same_len) ∙ leads) c.remove-2.ensures.updates
+    let place = c.args.number % c.len.result in
+    subst (λ (key : Option ℕ). IsTable (set e.places.items place key) c.remove-2.new.self.slots) (sym c.none.ensures)
+    (IsTable-remove e.places.items e.kept c.remove-2.new.self c.self.invariant place c.in-Some.key
+    (ap (λ n. get_or e.places.items (c.args.number % n) None) (sym same_len) ∙ leads) c.remove-2.ensures.updates)
 
 pub returns-clause-value : goal.returns-clause-value
 returns-clause-value c =
