@@ -18,7 +18,7 @@ ghost use Rattle.lf_replay.specs.Shows.{IsJudged, ShowsReached};
 
 use crate::bank::Bank;
 use crate::carried::wide_agrees;
-use crate::lookup::{are_dirty2, dirty1, fetch, is_among, is_asked};
+use crate::lookup::{are_dirty2, fetch, is_among, is_asked};
 use crate::registers::{
     is_fetched, is_waited_for, merge_rule, primary_rule, second_merge_rule, second_primary_rule,
 };
@@ -126,10 +126,10 @@ impl<O1: Organisation<Target = Request1>, O2: Organisation<Target = Request2>> B
         ensures line { IfNone result (has_line self.now.lines1.lines block ≡ true) }
         ensures dirty { IfNone result (mask.0 ≡ dirty_mask self.now.lines1.lines block) }
     {
-        if !self.lines1.has(block) {
+        let Some(dirty) = self.lines1.dirty(block) else {
             return Some(Rule::EvictAbsent);
-        }
-        if mask.0 != dirty1(&self.lines1, block) {
+        };
+        if mask.0 != dirty.0 {
             return Some(Rule::EvictMask);
         }
         if !self.memory.carries(&self.shape, block, mask, bytes) {

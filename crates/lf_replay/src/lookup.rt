@@ -3,10 +3,10 @@
 ghost use Rattle.std.specs.Prelude.{◌≡◌};
 ghost use Rattle.lf_rules.specs.Address.{place_of};
 ghost use Rattle.lf_rules.specs.InRange.{IsShape};
-ghost use Rattle.lf_rules.specs.Lines.{dirty_mask, dirty_masks, same_masks};
+ghost use Rattle.lf_rules.specs.Lines.{dirty_masks, same_masks};
 ghost use Rattle.lf_rules.specs.Table.{is_asked, is_among, asked_register};
 
-use lf_levels::{Lines, One, Two};
+use lf_levels::{Lines, Two};
 use lf_mshr::Request2;
 use lf_rules::{Masks, Shape, same_masks};
 use lf_state::{asked_register, place_of};
@@ -21,16 +21,6 @@ pub fn is_among(blocks: &[u32], block: u32) -> bool
     ensures { result ≡ is_among blocks.now block }
 {
     blocks.iter().any(|b| *b == block)
-}
-
-/// The dirty mask of the block's line in level one, and 0 where there is none.
-pub fn dirty1(lines: &Lines<One>, block: u32) -> u64
-    ensures { result ≡ dirty_mask lines.now.lines block }
-{
-    match lines.dirty(block) {
-        Some(mask) => mask.0,
-        None => 0,
-    }
 }
 
 /// Whether these are the dirty masks of the second-level block's line; where there is none, it has
