@@ -106,7 +106,8 @@ missing_at ns k inside once absent =
       (
         found.0,
         ⊎_elim (λ (e : k ≡ found.0). absurd (other (sym e)))
-            (λ s. ⊎_elim (λ (l : k < found.0). l) (λ (g : found.0 < k). absurd (omega arith)) s) (cases_order k found.0),
+            (λ s. ⊎_elim (λ (l : k < found.0). l) (λ (g : found.0 < k). absurd (omega arith)) s)
+            (cases_order k found.0),
         found.2,
       ),
     )

@@ -85,8 +85,8 @@ finish_failed old (Some fault) h bytes t fine e is = let f : finish_gives None (
     fault_is fault t e = cc
 
 -- what ends the reading there
-pub reading_stop : (bytes : List ℕ) (fault : CodecFault) (stop : Stop) → IsFaultOrWant bytes fault → IsStopOf fault stop →
-    IsReadStop bytes stop
+pub reading_stop : (bytes : List ℕ) (fault : CodecFault) (stop : Stop) → IsFaultOrWant bytes fault →
+    IsStopOf fault stop → IsReadStop bytes stop
 reading_stop bytes fault (stops.Format told) either is =
     ⊎_elim (λ want. absurd (is.1 want)) (λ e. e ∙ ap Some (sym is.0)) either
 reading_stop bytes fault stops.Memory either is = tt

@@ -1,7 +1,8 @@
-use Rattle.std.proofs.Common.{◌≡◌, ◌+◌, ◌*◌, ◌%◌, ℕ, List, length, get_or, set, Option, Some, None, replicate, sym, ap, ◌∙◌}
-use Rattle.std.proofs.Common.{subst, rules, arith}
+use Rattle.std.proofs.Common.{◌≡◌, ◌+◌, ◌*◌, ◌%◌, ℕ, List, length, get_or, set, Option, Some, None, replicate}
+use Rattle.std.proofs.Common.{sym, ap, ◌∙◌, subst, rules, arith}
 use Rattle.std.proofs.lemmas.List.{get_or_default}
-use Rattle.lf_logs.proofs.EarlyLookups.{IsWidened-none, IsWidened-all, IsWidened-skip, IsWidened-more, free_places, IsWidened}
+use Rattle.lf_logs.proofs.EarlyLookups.{IsWidened, IsWidened-none, IsWidened-all, IsWidened-skip, IsWidened-more}
+use Rattle.lf_logs.proofs.EarlyLookups.{free_places}
 use Rattle.lf_logs.proofs.early.widened.Goals as goal
 use Rattle.lf_logs.proofs.early.widened.Goals.{in-Some, in_default}
 
@@ -36,15 +37,16 @@ loop-place-preserved c =
           let len : w.len.result ≡ length c.loop-place.wider.items = w.len.ensures ∙ c.loop-place.wider.ok.0 in
           let to = w.number.result % w.len.result in
           rw w.wider-is
-          (subst (λ (key : Option ℕ). IsWidened places c.args.kept.now.slots (set c.loop-place.wider.items to key) (at + 1))
+          (subst
+          (λ (key : Option ℕ). IsWidened places c.args.kept.now.slots (set c.loop-place.wider.items to key) (at + 1))
           (sym (sym c.get.ensures ∙ w.in-Some.is))
           (IsWidened-more places c.args.kept.now.slots c.requires.table c.loop-place.wider.items at w.in-Some.key to
           w.index.result.now (omega (arith, c.loop-place.invariant.len)) (is ∙ w.in-Some.is) w.index.ensures
           (ap (λ n. n % w.len.result) w.number.ensures ∙ ap (λ n. w.index.result.now.number % n) len)
           c.loop-place.invariant))
       | in_default w ↦ rw w.wider-is
-          (IsWidened-skip places c.args.kept.now.slots c.requires.table c.loop-place.wider.items at (is ∙ w.in_default.is)
-          c.loop-place.invariant)
+          (IsWidened-skip places c.args.kept.now.slots c.requires.table c.loop-place.wider.items at
+          (is ∙ w.in_default.is) c.loop-place.invariant)
     ]
 
 pub returns-clause-table : goal.returns-clause-table

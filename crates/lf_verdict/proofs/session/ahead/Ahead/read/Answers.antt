@@ -35,7 +35,8 @@ hand_over-requires-clause-taken g c κs lives =
       bytes ++ c.args.piece.now,
       read_ahead c.header_of_bytes.ensures a bytes c.args.piece.now c.feed_into.new.self c.feed_into.new.records taken
           c.in_ok-feed_into.ensures.ok
-          (told_fine a.intake.reader.fault c.feed_into.new.self.fault taken.1.fine (sym c.in_ok-feed_into.ensures.told)),
+          (told_fine a.intake.reader.fault c.feed_into.new.self.fault taken.1.fine
+          (sym c.in_ok-feed_into.ensures.told)),
     )
 
 pub returns-in_ok-hand_over-clause-taken : goal.returns-in_ok-hand_over-clause-taken
