@@ -1,6 +1,6 @@
 //! Reads the bytes of a trace, judges them and writes the line of the verdict.
 
-ghost use Rattle.std.specs.Prelude.{◌≡◌, ◌≢◌, ◌<◌, ◌↔◌, ℕ, List, take, Result, Ok, Err, string_bytes};
+ghost use Rattle.std.specs.Prelude.{◌≡◌, ◌≢◌, ◌<◌, ◌↔◌, ℕ, take, Result, Ok, Err, string_bytes};
 ghost use Rattle.std.specs.Prelude.{IfOk, IfErr, IsErrOf, IsTrue};
 ghost use Rattle.lf_rules.specs.InRange.{IsShape};
 ghost use Rattle.lf_config.specs.Configuration.{configuration_of};
@@ -99,8 +99,7 @@ pub fn shape_for(alloc: Global, config: &str, workers: u32) -> Result<Shape, Ref
     if !are_workers(workers) {
         return Err(Refusal::Workers(workers));
     }
-    let shape = read(alloc, config)?;
-    Ok(shape)
+    Ok(read(alloc, config)?)
 }
 
 /// Judges the workers and the configuration, and only then reads.

@@ -147,7 +147,7 @@ impl Early {
         make_room(self.alloc, &mut self.places, &self.kept, number)?;
         let waiting = Kept::new(self.alloc, item)?;
         let place = number as usize % self.places.len();
-        if self.places[place].is_none() && self.kept.vacant_key() < ShortKey::MOST {
+        if self.places[place].is_none() && self.kept.vacant_key() <= ShortKey::MOST {
             let key = self.kept.insert(waiting)?;
             self.places[place] = ShortKey::of(key);
             return Ok(());

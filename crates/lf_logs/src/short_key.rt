@@ -4,10 +4,11 @@ ghost use Rattle.std.specs.Prelude.{◌≡◌, ◌<◌, ◌↔◌, ◌^◌, ◌-
 
 use std::marker::Model;
 
-/// A key below 2^32 - 1, or none. It takes half the room of an `Option<u32>`, so that more of a table is near.
+/// A key below 2^32 - 1, or none. It takes half the room of an `Option<u32>`, so that a processor's cache holds more
+/// of a table.
 #[derive(Clone, Copy)]
 pub struct ShortKey {
-    /// 0 for none, and otherwise the key and 1.
+    /// 0 for none, and otherwise one more than the key.
     code: u32,
 }
 
@@ -26,6 +27,7 @@ impl Model for ShortKey {
 }
 
 impl ShortKey {
+    /// The most that a key can be.
     pub const MOST: usize = 0xffff_fffe;
 
     /// No key.

@@ -1,8 +1,6 @@
 -- Pieces joined, and a fault that stands in some of them.
 use Rattle.std.proofs.Common.{◌≡◌, ◌+◌, ◌<◌, ◌≤◌, ℕ, List, [], ◌∷◌, ◌++◌, length, take, drop, get_or, Option, Some}
 use Rattle.std.proofs.Common.{None, Ok, Err, sym, ◌∙◌, ap, refl, subst, ◌⊎◌, inl, inr, ⊎_elim}
-use Rattle.std.specs.Prelude.{Result, IfErr}
-use Rattle.std.specs.Result.{IsErrAnd}
 use Rattle.std.specs.Borrow.{Bor}
 use Rattle.std.proofs.lemmas.List.{take_all, take_more, append-nil, take-append-drop}
 use Rattle.std.proofs.lemmas.List.Concat.{flat_map-append, flat_map-cons}
@@ -90,12 +88,6 @@ pub reading_stop : (bytes : List ℕ) (fault : CodecFault) (stop : Stop) → IsF
 reading_stop bytes fault (stops.Format told) either is =
     ⊎_elim (λ want. absurd (is.1 want)) (λ e. e ∙ ap Some (sym is.0)) either
 reading_stop bytes fault stops.Memory either is = tt
-
--- what holds of an error by what it was made from
-pub if_err_from : {T E : Type 0} {Q P : E → Type 0} (answer : Result T E) → ((e : E) → Q e → P e) → IsErrAnd answer Q →
-    IfErr answer P
-if_err_from (Ok value) told is = tt
-if_err_from (Err e) told is = told e is
 
 -- a feed that succeeded leaves no fault
 pub told_fine : (old now : Option CodecFault) → old ≡ None → told old now ≡ Ok tt → now ≡ None

@@ -19,7 +19,7 @@ pub struct Marker {
     pub rule: Option<Rule>,
 }
 
-/// What a wave shows. A record's place is the number of records that stand before it in the trace.
+/// What a wave shows. A record's place is the number of records that come before it in the order of the wave.
 #[derive(Clone, Copy, Debug, PartialEq, Eq)]
 pub struct View {
     /// The place of the first record.

@@ -13,7 +13,7 @@ ghost use Rattle.lf_verdict.specs.Breaking.{IsFaultOfPart, NoneBroke};
 ghost use Rattle.lf_verdict.specs.Named.{IsNamedFault};
 ghost use Rattle.lf_verdict.specs.inner.Noting.{IsPortWhole, IsBankWhole, IsOfLowestBank, IsPartBroken, NamesRecord};
 
-use crate::answer::{Fault, Refusal, Verdict};
+use crate::answer::{Fault, Verdict};
 use crate::broken_part::{BrokenPart, first_broken};
 use crate::early_end::{Ending, number_ending};
 use crate::order::least_order;

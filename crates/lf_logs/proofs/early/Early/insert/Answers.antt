@@ -10,8 +10,8 @@ use Rattle.lf_logs.proofs.EarlyLookups.{IsTable-insert, others-insert}
 use Rattle.lf_logs.proofs.Reordered.{apart_at}
 use Rattle.lf_logs.proofs.early.Early.insert.Goals as goal
 
-pub invariant_of-self-then-vacant_key-lt-MOST : goal.invariant_of-self-then-vacant_key-lt-MOST
-invariant_of-self-then-vacant_key-lt-MOST c =
+pub invariant_of-self-then-vacant_key-le-MOST : goal.invariant_of-self-then-vacant_key-le-MOST
+invariant_of-self-then-vacant_key-le-MOST c =
     let places = c.make_room.new.places in
     let len : c.len.result ≡ length places.items = c.len.ensures ∙ places.ok.0 in
     let some : 0 < length places.items = omega (arith, c.in_ok-make_room.ensures.some, places.ok.0) in
@@ -29,15 +29,15 @@ invariant_of-self-then-vacant_key-lt-MOST c =
     c.in_ok-key.key c.args.item.now
     (ap (λ n. c.args.item.now.number % n) len) some free c.in_ok-key.ensures.was_vacant updates)
 
-pub returns-then-vacant_key-lt-MOST-clause-own : goal.returns-then-vacant_key-lt-MOST-clause-own
-returns-then-vacant_key-lt-MOST-clause-own c =
+pub returns-then-vacant_key-le-MOST-clause-own : goal.returns-then-vacant_key-le-MOST-clause-own
+returns-then-vacant_key-le-MOST-clause-own c =
     lookup-first c.args.item.now.number c.insert.new.self.slots c.self.inside.rest.entries c.args.item.now
-    (lookup-found _ c.insert.new.self.slots (invariant_of-self-then-vacant_key-lt-MOST c) c.args.item.now.number
+    (lookup-found _ c.insert.new.self.slots (invariant_of-self-then-vacant_key-le-MOST c) c.args.item.now.number
     c.in_ok-key.key c.args.item.now
     (c.in_ok-key.ensures.updates.changed ∙ ap Some c.in_ok-waiting.ensures) refl)
 
-pub returns-then-vacant_key-lt-MOST-clause-others : goal.returns-then-vacant_key-lt-MOST-clause-others
-returns-then-vacant_key-lt-MOST-clause-others c k other =
+pub returns-then-vacant_key-le-MOST-clause-others : goal.returns-then-vacant_key-le-MOST-clause-others
+returns-then-vacant_key-le-MOST-clause-others c k other =
     let e = c.self.inside in
     let updates : Updates e.kept c.insert.new.self c.in_ok-key.key (Some c.args.item.now) =
     subst (λ (r : Record). Updates e.kept c.insert.new.self c.in_ok-key.key (Some r)) c.in_ok-waiting.ensures
@@ -45,7 +45,7 @@ returns-then-vacant_key-lt-MOST-clause-others c k other =
     lookup-parts k e.kept.slots c.insert.new.self.slots e.rest.entries e.rest.entries
     (others-insert c.make_room.new.places.items e.kept c.insert.new.self c.in_ok-make_room.ensures.table
     (c.args.item.now.number % c.len.result) c.in_ok-key.key c.args.item.now _
-    (invariant_of-self-then-vacant_key-lt-MOST c) c.in_ok-key.ensures.was_vacant updates k other)
+    (invariant_of-self-then-vacant_key-le-MOST c) c.in_ok-key.ensures.was_vacant updates k other)
     refl
     ∙ ap (at k) c.self.view_is
 

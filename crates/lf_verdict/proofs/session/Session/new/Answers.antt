@@ -1,7 +1,6 @@
 use Rattle.std.proofs.Common.{sym, subst}
 use Rattle.lf_verdict.specs.Session.{IsConfigRefusal}
-use Rattle.lf_verdict.proofs.Pieces.{if_err_from}
-use Rattle.lf_verdict.proofs.Refusals.{config_refused}
+use Rattle.lf_verdict.proofs.Refusals.{config_refused, if_err_from}
 use Rattle.lf_verdict.proofs.session.Session.new.Goals as goal
 
 pub returns-in_err-shape-clause-refused : goal.returns-in_err-shape-clause-refused

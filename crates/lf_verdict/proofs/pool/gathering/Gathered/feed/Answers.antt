@@ -1,6 +1,7 @@
 use Rattle.std.proofs.Common.{◌++◌, sym, ◌∙◌}
 use Rattle.lf_codec.specs.Reader.{fault_in}
-use Rattle.lf_verdict.proofs.Pieces.{feed_failed, if_err_from, reading_stop, told_fine}
+use Rattle.lf_verdict.proofs.Pieces.{feed_failed, reading_stop, told_fine}
+use Rattle.lf_verdict.proofs.Refusals.{if_err_from}
 use Rattle.lf_verdict.proofs.pool.gathering.Gathered.feed.Goals as goal
 
 pub returns-clause-ok : goal.returns-clause-ok

@@ -1,7 +1,8 @@
 use Rattle.std.proofs.Common.{◌≡◌, None, refl, sym, ap, ◌∙◌}
 use Rattle.lf_codec.specs.Reader.{fault_in}
 use Rattle.lf_codec.specs.Reading.{Reading, fault_so_far}
-use Rattle.lf_verdict.proofs.Pieces.{finish_failed, if_err_from, reading_stop, whole_trace}
+use Rattle.lf_verdict.proofs.Pieces.{finish_failed, reading_stop, whole_trace}
+use Rattle.lf_verdict.proofs.Refusals.{if_err_from}
 use Rattle.lf_verdict.proofs.pool.gathering.Gathered.finish.Goals as goal
 
 pub returns-clause-ok : goal.returns-clause-ok

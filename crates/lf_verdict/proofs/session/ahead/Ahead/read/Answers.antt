@@ -1,7 +1,8 @@
 use Rattle.std.proofs.Common.{◌++◌, sym}
 use Rattle.lf_codec.specs.Reader.{with_records}
 use Rattle.lf_verdict.specs.Ahead.{lent_records}
-use Rattle.lf_verdict.proofs.Pieces.{if_err_from, told_fine}
+use Rattle.lf_verdict.proofs.Pieces.{told_fine}
+use Rattle.lf_verdict.proofs.Refusals.{if_err_from}
 use Rattle.lf_verdict.proofs.Sessions.{packed_stop}
 use Rattle.lf_verdict.proofs.Aheads.{taken_too, read_ahead}
 use Rattle.lf_verdict.proofs.session.ahead.Ahead.read.Goals as goal
