@@ -1,12 +1,12 @@
--- The record that is kept in little room.
+-- The event that is kept in little room.
 use Rattle.lf_rules.specs.declared.event.Event.{Event}
 use Rattle.lf_rules.specs.declared.event.Event.TheVariants as events
-use Rattle.lf_rules.specs.declared.event.Record.{Record}
 use Rattle.lf_logs.specs.declared.kept.SmallEvent.{SmallEvent}
 use Rattle.lf_logs.specs.declared.kept.SmallEvent.TheVariants as small
-use Rattle.lf_logs.specs.declared.kept.SmallRecord.{SmallRecord}
+use Rattle.lf_logs.specs.declared.kept.BlockEvent.{BlockEvent}
+use Rattle.lf_logs.specs.declared.kept.BlockEvent.TheVariants as carrying
 use Rattle.lf_logs.specs.declared.kept.Form.{Form}
-use Rattle.lf_logs.specs.declared.kept.Form.TheVariants.{Small, Wide}
+use Rattle.lf_logs.specs.declared.kept.Form.TheVariants.{Small, Block, Wide}
 
 -- an event that carries few bytes, as any other
 abbrev pub event_of : SmallEvent → Event
@@ -22,10 +22,13 @@ event_of (small.SecondStall block) = events.SecondStall block
 event_of small.Fence = events.Fence
 event_of (small.SecondMerge block register) = events.SecondMerge block register
 
-abbrev pub small_record : SmallRecord → Record
-small_record r = record { log = r.log; bank = r.bank; number = r.number; event = event_of r.event }
+-- an event that carries a block, as any other
+abbrev pub block_event : BlockEvent → Event
+block_event (carrying.Fill1 block bytes) = events.Fill1 block bytes
+block_event (carrying.Evict1 block mask bytes) = events.Evict1 block mask bytes
 
--- the record, whatever form it is kept in
-abbrev pub record_of : Form → Record
-record_of (Small r) = small_record r
-record_of (Wide r) = r.value
+-- the event, whatever form it is kept in
+abbrev pub kept_event : Form → Event
+kept_event (Small e) = event_of e
+kept_event (Block e) = block_event e.value
+kept_event (Wide e) = e.value

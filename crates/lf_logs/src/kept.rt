@@ -2,10 +2,10 @@
 
 ghost use Rattle.std.specs.Prelude.{◌≡◌, ◌<◌, length, IfOk, IfSome, IfNone};
 ghost use Rattle.lf_rules.specs.declared.event.Event.TheVariants as events;
-ghost use Rattle.lf_logs.specs.KeptRecord.{event_of, small_record};
+ghost use Rattle.lf_logs.specs.KeptRecord.{event_of, block_event, kept_event};
 
 use arrayvec::ArrayVec;
-use lf_rules::{Block, Event, NoMemory, Op, Record};
+use lf_rules::{Block, Event, Mask, NoMemory, Op, Record};
 use std::alloc::Global;
 use std::marker::Model;
 
@@ -29,35 +29,37 @@ enum SmallEvent {
     SecondMerge(u32, u16),
 }
 
-/// A record whose event carries at most eight bytes.
+/// An event that carries a block, with its fields in the order of `Event`.
 #[derive(Drop)]
-struct SmallRecord {
-    log: u8,
-    bank: u8,
-    number: u32,
-    event: SmallEvent,
+enum BlockEvent {
+    Fill1(u32, Block),
+    Evict1(u32, Mask, Block),
 }
 
-/// The small form, or the record elsewhere.
+/// A small event, or one elsewhere.
 #[derive(Drop)]
 enum Form {
-    Small(SmallRecord),
-    Wide(Box<Record>),
+    Small(SmallEvent),
+    Block(Box<BlockEvent>),
+    Wide(Box<Event>),
 }
 
 /// A record that waits for its turn.
 #[derive(Drop)]
 pub struct Kept {
+    log: u8,
+    bank: u8,
+    number: u32,
     form: Form,
 }
 
 impl Model for Kept {
     ghost use Rattle.lf_rules.specs.declared.event.Record.{Record};
-    ghost use Rattle.lf_logs.specs.KeptRecord.{record_of};
+    ghost use Rattle.lf_logs.specs.KeptRecord.{kept_event};
 
     ghost Value = { Record };
 
-    ghost view = { λ k. record_of k.form };
+    ghost view = { λ k. record { log = k.log; bank = k.bank; number = k.number; event = kept_event k.form } };
 }
 
 /// These bytes, where they are few.
@@ -180,37 +182,100 @@ impl SmallEvent {
     }
 }
 
-impl SmallRecord {
-    /// The record, where its event carries at most eight bytes.
-    fn of(item: &Record) -> Option<SmallRecord>
-        ensures { IfSome result (λ small. small_record small ≡ item.now) }
-    {
-        Some(SmallRecord {
-            log: item.log,
-            bank: item.bank,
-            number: item.number,
-            event: SmallEvent::of(&item.event)?,
-        })
-    }
+/// A copy of the block.
+fn copied(bytes: &Block) -> Block
+    ensures { result ≡ bytes.now }
+{
+    let mut same = Block::new();
+    let _ = same.try_extend_from_slice(bytes.as_slice());
+    same
+}
 
-    /// Puts the record that this is into `item`.
-    fn put_into(self, item: &mut Record)
-        ensures { item.new ≡ small_record self }
-    {
-        item.log = self.log;
-        item.bank = self.bank;
-        item.number = self.number;
-        self.event.put_into(&mut item.event);
+/// Makes the event a fill of level one, and then gives it the bytes, so that it is not copied.
+fn put_fill(event: &mut Event, block: u32, sent: &Block)
+    ensures { event.new ≡ events.Fill1 block sent.now }
+{
+    *event = Event::Fill1 {
+        block,
+        bytes: Block::new(),
+    };
+    if let Event::Fill1 { bytes, .. } = event {
+        let _ = bytes.try_extend_from_slice(sent.as_slice());
     }
 }
 
-/// A copy of the record elsewhere. It is apart, since it has a place for a record, which costs time
-/// where the event carries few bytes.
-#[inline(never)]
-fn wide_of(alloc: Global, item: &Record) -> Result<Box<Record>, NoMemory>
-    ensures { IfOk result (λ wide. wide.value ≡ item.now) }
+/// Writes an eviction from level one.
+fn put_eviction(event: &mut Event, block: u32, mask: Mask, sent: &Block)
+    ensures { event.new ≡ events.Evict1 block mask sent.now }
 {
-    Ok(Box::new(alloc, item.clone()?)?)
+    *event = Event::Evict1 {
+        block,
+        mask,
+        bytes: Block::new(),
+    };
+    if let Event::Evict1 { bytes, .. } = event {
+        let _ = bytes.try_extend_from_slice(sent.as_slice());
+    }
+}
+
+impl BlockEvent {
+    /// The event, where it carries a block.
+    fn of(event: &Event) -> Option<BlockEvent>
+        ensures { IfSome result (λ carrying. block_event carrying ≡ event.now) }
+    {
+        match event {
+            Event::Fill1 { block, bytes } => Some(BlockEvent::Fill1(*block, copied(bytes))),
+            Event::Evict1 { block, mask, bytes } => {
+                Some(BlockEvent::Evict1(*block, *mask, copied(bytes)))
+            }
+            _ => None,
+        }
+    }
+
+    /// Puts the event that this is into `event`.
+    fn put_into(&self, event: &mut Event)
+        ensures { event.new ≡ block_event self.now }
+    {
+        match self {
+            BlockEvent::Fill1(block, bytes) => put_fill(event, *block, bytes),
+            BlockEvent::Evict1(block, mask, bytes) => put_eviction(event, *block, *mask, bytes),
+        }
+    }
+}
+
+/// A copy of the event elsewhere. It is apart, since it has a place for an event, which costs time
+/// where the event is a small one.
+#[inline(never)]
+fn wide_of(alloc: Global, event: &Event) -> Result<Box<Event>, NoMemory>
+    ensures { IfOk result (λ wide. wide.value ≡ event.now) }
+{
+    Ok(Box::new(alloc, event.clone()?)?)
+}
+
+impl Form {
+    /// The form that takes least room. `NoMemory` where room elsewhere was refused.
+    fn of(alloc: Global, event: &Event) -> Result<Form, NoMemory>
+        ensures { IfOk result (λ form. kept_event form ≡ event.now) }
+    {
+        if let Some(small) = SmallEvent::of(event) {
+            return Ok(Form::Small(small));
+        }
+        if let Some(carrying) = BlockEvent::of(event) {
+            return Ok(Form::Block(Box::new(alloc, carrying)?));
+        }
+        Ok(Form::Wide(wide_of(alloc, event)?))
+    }
+
+    /// Puts the event that this is into `event`.
+    fn put_into(self, event: &mut Event)
+        ensures { event.new ≡ kept_event self }
+    {
+        match self {
+            Form::Small(small) => small.put_into(event),
+            Form::Block(carrying) => carrying.put_into(event),
+            Form::Wide(wide) => *event = Box::into_inner(wide),
+        }
+    }
 }
 
 impl Kept {
@@ -218,13 +283,11 @@ impl Kept {
     pub fn new(alloc: Global, item: &Record) -> Result<Kept, NoMemory>
         ensures { IfOk result (λ kept. kept ≡ item.now) }
     {
-        if let Some(small) = SmallRecord::of(item) {
-            return Ok(Kept {
-                form: Form::Small(small),
-            });
-        }
         Ok(Kept {
-            form: Form::Wide(wide_of(alloc, item)?),
+            log: item.log,
+            bank: item.bank,
+            number: item.number,
+            form: Form::of(alloc, &item.event)?,
         })
     }
 
@@ -232,19 +295,16 @@ impl Kept {
     pub fn number(&self) -> u32
         ensures { result ≡ self.now.number }
     {
-        match &self.form {
-            Form::Small(small) => small.number,
-            Form::Wide(wide) => wide.number,
-        }
+        self.number
     }
 
     /// Puts the record into `item`.
     pub fn put_into(self, item: &mut Record)
         ensures { item.new ≡ self }
     {
-        match self.form {
-            Form::Small(small) => small.put_into(item),
-            Form::Wide(wide) => *item = Box::into_inner(wide),
-        }
+        item.log = self.log;
+        item.bank = self.bank;
+        item.number = self.number;
+        self.form.put_into(&mut item.event);
     }
 }
