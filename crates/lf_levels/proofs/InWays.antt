@@ -8,8 +8,7 @@ use Rattle.std.proofs.Math.Logic.{⊎_elim}
 use Rattle.std.proofs.lemmas.Bool.{cases_Bool, cases_eq}
 use Rattle.std.proofs.lemmas.List.{length-replicate, get_or-replicate}
 use Rattle.lf_rules.specs.Lines.{line_at, with_line, without_line}
-use Rattle.lf_levels.specs.declared.ways.Line.{Line}
-use Rattle.lf_levels.specs.Rows.{is_free, is_on, lines_of, HasDirty}
+use Rattle.lf_levels.specs.Rows.{Line, is_free, is_on, lines_of, HasDirty}
 use Rattle.lf_levels.proofs.Counting.{worth-yes, count-cons, count-some, count-none}
 use Rattle.lf_levels.proofs.Entries.{line_put, line_gone, AreRising, rising-with, rising-without, same_lines, passing}
 use Rattle.lf_levels.proofs.Entries.{passing-with}

@@ -10,9 +10,8 @@ use Rattle.std.proofs.lemmas.Nat.{row_fits, same_from_place}
 use Rattle.std.proofs.lemmas.List.Sums.{count_by-le-length}
 use Rattle.lf_rules.specs.Fits.{is_factor}
 use Rattle.lf_rules.specs.Lines.{line_at, has_line, with_line, without_line, lines_of_set}
-use Rattle.lf_levels.specs.declared.ways.Line.{Line}
 use Rattle.lf_levels.specs.LineTable.{LineTable, IsLineTable, set_in, is_full}
-use Rattle.lf_levels.specs.Rows.{is_free, is_on, lines_of, IsInOwnRow, HasDirty, AreWholeRows, FindsWay}
+use Rattle.lf_levels.specs.Rows.{Line, is_free, is_on, lines_of, IsInOwnRow, HasDirty, AreWholeRows, FindsWay}
 use Rattle.lf_levels.proofs.Counting.{worth-yes, worth-no, worth-le, count-set, count-none, count-all, count-short}
 use Rattle.lf_levels.proofs.Counting.{part, length-part, part_at, count-part}
 use Rattle.lf_levels.proofs.Entries.{sorted_from_rising}

@@ -3,3 +3,4 @@ pub mod LineTable
 pub mod Refusals
 -- What serves the crate's own contracts.
 pub mod Rows
+pub mod WayKeys

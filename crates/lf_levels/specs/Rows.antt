@@ -1,14 +1,42 @@
 -- The rows of ways that a table keeps, and the lines that stand in them.
 use Rattle.std.specs.Prelude.{◌≡◌, ℕ, ◌<◌, ◌≤◌, ◌*◌, ◌+◌, ◌==◌, Bool, true, false, List, [], ◌∷◌, length, Option}
 use Rattle.std.specs.Prelude.{None, Some, count_by, slice_index_or, ⊤}
-use Rattle.lf_levels.specs.declared.ways.Line.{Line}
 use Rattle.lf_rules.specs.Fits.{is_factor}
 use Rattle.lf_rules.specs.Lines.{with_line}
 
+-- a line: which block it is on, and what is dirty of it
+pub record Line (M : Type 0) : Type 0 where
+  pub block : ℕ
+  pub dirty : M
+
+-- has the way no line?
+abbrev pub is_free : {X : Type 0} → Option X → Bool
+is_free None = true
+is_free (Some x) = false
+
+-- has the way of this key the line of the block?
+abbrev pub is_key : ℕ → Option ℕ → Bool
+is_key block None = false
+is_key block (Some other) = other == block
+
+-- This is a place of so many ways from a place on that passes the test, or none of them does.
+abbrev pub FindsWay : {X : Type 0} → (Option X → Bool) → List (Option X) → ℕ → ℕ → Option ℕ → Type 0
+FindsWay test ways from count (Some place) = (from ≤ place) × (place < from + count) ×
+    (test (slice_index_or ways place None) ≡ true)
+FindsWay test ways from count None = (place : ℕ) → from ≤ place → place < from + count →
+    test (slice_index_or ways place None) ≡ false
+
 module _ {M : Type 0} where
-  abbrev pub is_free : Option (Line M) → Bool
-  is_free None = true
-  is_free (Some line) = false
+  -- the way of this key, with so much dirty where it has a line
+  abbrev pub way_of : Option ℕ → M → Option (Line M)
+  way_of None dirty = None
+  way_of (Some block) dirty = Some (record { block = block; dirty = dirty })
+
+  -- the ways of these keys, each with what is dirty of it
+  abbrev pub rows_of : List (Option ℕ) → List M → List (Option (Line M))
+  rows_of [] dirty = []
+  rows_of (key ∷ keys) [] = []
+  rows_of (key ∷ keys) (d ∷ dirty) = way_of key d ∷ rows_of keys dirty
 
   -- has the way the line of the block?
   abbrev pub is_on : ℕ → Option (Line M) → Bool
@@ -47,9 +75,8 @@ module _ {M : Type 0} where
     pub masks : (place : ℕ) → place < length rows → HasDirty (is_line factor) (slice_index_or rows place None)
     pub once : (block : ℕ) → count_by (is_on block) rows ≤ 1
 
-  -- This is a place of so many ways from a place on that passes the test, or none of them does.
-  abbrev pub FindsWay : (Option (Line M) → Bool) → List (Option (Line M)) → ℕ → ℕ → Option ℕ → Type 0
-  FindsWay test rows from count (Some place) = (from ≤ place) × (place < from + count) ×
-      (test (slice_index_or rows place None) ≡ true)
-  FindsWay test rows from count None = (place : ℕ) → from ≤ place → place < from + count →
-      test (slice_index_or rows place None) ≡ false
+  -- Each way has a key and what is dirty of it, and these give whole rows.
+  pub record AreWays (set : ℕ → ℕ → ℕ → ℕ → ℕ) (is_line : ℕ → M → Bool) (sets ways banks factor : ℕ)
+      (keys : List (Option ℕ)) (dirty : List M) : Type 0 where
+    pub even : length dirty ≡ length keys
+    pub whole : AreWholeRows set is_line sets ways banks factor (rows_of keys dirty)

@@ -30,6 +30,10 @@ pub trait Level {
     // there are only so many sets
     ghost set_below: { (banks factor sets block : ℕ) → 0 < sets → set banks factor sets block < sets };
 
+    /// Nothing of a line.
+    fn clean() -> Self::Dirty
+        ensures { result ≡ clean };
+
     /// What is dirty of a line of which more is written.
     fn join(dirty: &Self::Dirty, more: &Self::Dirty) -> Self::Dirty
         ensures value { result ≡ join dirty.now more.now }
@@ -70,6 +74,10 @@ impl Level for One {
 
     ghost set_below = { λ banks factor sets block some. mod_below _ sets some };
 
+    fn clean() -> u64 {
+        0
+    }
+
     fn join(dirty: &u64, more: &u64) -> u64 {
         *dirty | *more
     }
@@ -107,6 +115,10 @@ impl Level for Two {
     ghost set = { wide_set };
 
     ghost set_below = { λ banks factor sets block some. mod_below _ sets some };
+
+    fn clean() -> Masks {
+        Masks::new()
+    }
 
     fn join(dirty: &Masks, more: &Masks) -> Masks {
         joined(dirty, more)

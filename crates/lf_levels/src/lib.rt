@@ -13,6 +13,7 @@ mod level;
 mod lines;
 mod lines_one;
 mod lines_two;
+mod way_key;
 mod ways;
 
 pub use fault::LineFault;

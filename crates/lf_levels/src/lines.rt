@@ -11,7 +11,8 @@ ghost use Rattle.lf_levels.specs.Refusals.{FillRefusal};
 
 use crate::fault::LineFault;
 use crate::level::Level;
-use crate::ways::{Line, find_free, find_line, free_ways};
+use crate::way_key::WayKey;
+use crate::ways::{clean_ways, find_free, find_line, free_keys};
 use lf_rules::NoMemory;
 use std::alloc::Global;
 use std::marker::Model;
@@ -23,13 +24,15 @@ pub struct Lines<L: Level> {
     ways: u32,
     banks: u32,
     factor: u32,
-    /// A row of ways for each set, one row after another.
-    rows: Vec<Option<Line<L::Dirty>>>,
+    /// Which line each way has: a row of ways for each set, one row after another.
+    keys: Vec<WayKey>,
+    /// What is dirty of each way's line, and anything where a way is free.
+    dirty: Vec<L::Dirty>,
 }
 
 impl<L: Level> Model for Lines<L> {
     ghost use Rattle.lf_levels.specs.LineTable.{LineTable};
-    ghost use Rattle.lf_levels.specs.Rows.{AreWholeRows, lines_of};
+    ghost use Rattle.lf_levels.specs.Rows.{AreWays, rows_of, lines_of};
 
     ghost Value = { LineTable L.Dirty };
 
@@ -39,10 +42,11 @@ impl<L: Level> Model for Lines<L> {
       banks = a.banks;
       factor = a.factor;
       lines =
-          lines_of a.rows.items;
+          lines_of (rows_of a.keys.items a.dirty.items);
     } };
 
-    ghost invariant = { λ a. AreWholeRows L.set L.is_line a.sets a.ways a.banks a.factor a.rows.items };
+    ghost invariant = { λ a. AreWays L.set L.is_line a.sets a.ways a.banks a.factor a.keys.items
+        a.dirty.items };
 }
 
 impl<L: Level> Lines<L> {
@@ -60,13 +64,16 @@ impl<L: Level> Lines<L> {
         requires factor { is_factor factor ≡ true }
         ensures { IfOk result (λ lines. lines ≡ empty_table sets ways banks factor) }
     {
-        let rows = free_ways(alloc, sets as usize * ways as usize)?;
+        let count = sets as usize * ways as usize;
+        let keys = free_keys(alloc, count)?;
+        let dirty = clean_ways::<L>(alloc, count)?;
         Ok(Lines {
             sets,
             ways,
             banks,
             factor,
-            rows,
+            keys,
+            dirty,
         })
     }
 
@@ -75,7 +82,7 @@ impl<L: Level> Lines<L> {
         ensures value { result ≡ has_line self.now.lines block }
         ensures table { IsLineTable L.set L.is_line self.now }
     {
-        find_line(&self.rows, self.row(block), self.ways as usize, block).is_some()
+        find_line(&self.keys, self.row(block), self.ways as usize, block).is_some()
     }
 
     /// Whether each way of the block's set has a line.
@@ -84,7 +91,7 @@ impl<L: Level> Lines<L> {
         ensures all_ways { IsTrue result ↔ (lines_of_set (set_in L.set self.now) self.now.lines block ≡ self.now.ways) }
         ensures table { IsLineTable L.set L.is_line self.now }
     {
-        find_free(&self.rows, self.row(block), self.ways as usize).is_none()
+        find_free(&self.keys, self.row(block), self.ways as usize).is_none()
     }
 
     /// Where the row of the block's set begins.
@@ -107,13 +114,10 @@ impl<L: Level> Lines<L> {
         ensures value { option_copied result ≡ line_at self.now.lines block }
         ensures table { IsLineTable L.set L.is_line self.now }
     {
-        let Some(way) = find_line(&self.rows, self.row(block), self.ways as usize, block) else {
+        let Some(way) = find_line(&self.keys, self.row(block), self.ways as usize, block) else {
             return None;
         };
-        match &self.rows[way] {
-            Some(line) => Some(&line.dirty),
-            None => None,
-        }
+        Some(&self.dirty[way])
     }
 
     /// A line comes to a block that has none.
@@ -127,10 +131,11 @@ impl<L: Level> Lines<L> {
         ensures unchanged { OnErr result (self.new ≡ self.old) }
     {
         let row = self.row(block);
-        let Some(way) = find_free(&self.rows, row, self.ways as usize) else {
+        let Some(way) = find_free(&self.keys, row, self.ways as usize) else {
             return Err(LineFault::SetFull);
         };
-        self.rows[way] = Some(Line { block, dirty });
+        self.keys[way] = WayKey::of(block);
+        self.dirty[way] = dirty;
         Ok(())
     }
 
@@ -143,14 +148,11 @@ impl<L: Level> Lines<L> {
             (L.join (unwrap_or (line_at self.old.lines block) L.clean) more.now)) }
     {
         let row = self.row(block);
-        let Some(way) = find_line(&self.rows, row, self.ways as usize, block) else {
+        let Some(way) = find_line(&self.keys, row, self.ways as usize, block) else {
             unreachable!()
         };
-        let Some(line) = &self.rows[way] else {
-            unreachable!()
-        };
-        let dirty = L::join(&line.dirty, more);
-        self.rows[way] = Some(Line { block, dirty });
+        let dirty = L::join(&self.dirty[way], more);
+        self.dirty[way] = dirty;
     }
 
     /// The block's line goes.
@@ -160,9 +162,9 @@ impl<L: Level> Lines<L> {
         ensures here { ChangesOnly self.old self.new block None }
     {
         let row = self.row(block);
-        let Some(way) = find_line(&self.rows, row, self.ways as usize, block) else {
+        let Some(way) = find_line(&self.keys, row, self.ways as usize, block) else {
             unreachable!()
         };
-        self.rows[way] = None;
+        self.keys[way] = WayKey::free();
     }
 }

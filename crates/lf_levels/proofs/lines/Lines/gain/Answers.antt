@@ -1,7 +1,7 @@
-use Rattle.std.proofs.Common.{arith, ◌∙◌, sym, None}
+use Rattle.std.proofs.Common.{arith}
 use Rattle.std.proofs.lemmas.List.{get_or_read}
-use Rattle.lf_levels.specs.Rows.{is_on}
-use Rattle.lf_levels.proofs.Searched.{row_fits, way_inside, not_lacking, line_has, set_whole, gained_table}
+use Rattle.lf_levels.specs.Rows.{is_key}
+use Rattle.lf_levels.proofs.Searched.{row_fits, dirty_inside, not_lacking, line_has, set_whole, gained_table}
 use Rattle.lf_levels.proofs.Searched.{changed-fill}
 use Rattle.lf_levels.proofs.lines.Lines.gain.Goals as goal
 
@@ -17,10 +17,10 @@ pub index-requires : goal.index-requires
 index-requires g c =
     omega (
       arith,
-      way_inside c.self.invariant c.args.self.now c.self.view_is c.args.block c.row-row.result c.row-row.ensures _
+      dirty_inside c.self.invariant c.args.self.now c.self.view_is c.args.block c.row-row.result c.row-row.ensures _
           c.deref.ensures.value
-          (is_on c.args.block) c.in-Some.way c.in-Some.ensures,
-      c.self.inside.rows.ok.0,
+          (is_key c.args.block) c.in-Some.way c.in-Some.ensures,
+      c.self.inside.dirty.ok.0,
     )
 
 pub invariant_of-self : goal.invariant_of-self
@@ -30,19 +30,19 @@ invariant_of-self g c =
     (c.join-dirty.ensures.line c.self.inside.factor
     (line_has c.self.invariant c.args.self.now c.self.view_is c.args.block c.row-row.result c.row-row.ensures _
     c.deref.ensures.value c.in-Some.way c.in-Some.ensures _
-    (sym c.in-Some-index.is ∙ get_or_read c.self.inside.rows.items c.in-Some.way _
-    (way_inside c.self.invariant c.args.self.now c.self.view_is c.args.block c.row-row.result c.row-row.ensures _
+    (get_or_read c.self.inside.dirty.items c.in-Some.way _
+    (dirty_inside c.self.invariant c.args.self.now c.self.view_is c.args.block c.row-row.result c.row-row.ensures _
     c.deref.ensures.value
-    (is_on c.args.block) c.in-Some.way c.in-Some.ensures) c.index.ensures None)))
+    (is_key c.args.block) c.in-Some.way c.in-Some.ensures) c.index.ensures _)))
 
 pub returns-clause-gained : goal.returns-clause-gained
 returns-clause-gained g c =
     gained_table c.self.invariant c.args.self.now c.self.view_is c.args.block c.row-row.result c.row-row.ensures _
     c.deref.ensures.value c.in-Some.way c.in-Some.ensures _
-    (sym c.in-Some-index.is ∙ get_or_read c.self.inside.rows.items c.in-Some.way _
-    (way_inside c.self.invariant c.args.self.now c.self.view_is c.args.block c.row-row.result c.row-row.ensures _
+    (get_or_read c.self.inside.dirty.items c.in-Some.way _
+    (dirty_inside c.self.invariant c.args.self.now c.self.view_is c.args.block c.row-row.result c.row-row.ensures _
     c.deref.ensures.value
-    (is_on c.args.block) c.in-Some.way c.in-Some.ensures) c.index.ensures None) g.L.Level.join g.L.Level.clean
+    (is_key c.args.block) c.in-Some.way c.in-Some.ensures) c.index.ensures _) g.L.Level.join g.L.Level.clean
     c.args.more.now c.join-dirty.result c.join-dirty.ensures.value
 
 pub returns-clause-here : goal.returns-clause-here
@@ -50,8 +50,8 @@ returns-clause-here g c =
     changed-fill c.args.self.now _ c.args.block _
     (gained_table c.self.invariant c.args.self.now c.self.view_is c.args.block c.row-row.result c.row-row.ensures _
     c.deref.ensures.value c.in-Some.way c.in-Some.ensures _
-    (sym c.in-Some-index.is ∙ get_or_read c.self.inside.rows.items c.in-Some.way _
-    (way_inside c.self.invariant c.args.self.now c.self.view_is c.args.block c.row-row.result c.row-row.ensures _
+    (get_or_read c.self.inside.dirty.items c.in-Some.way _
+    (dirty_inside c.self.invariant c.args.self.now c.self.view_is c.args.block c.row-row.result c.row-row.ensures _
     c.deref.ensures.value
-    (is_on c.args.block) c.in-Some.way c.in-Some.ensures) c.index.ensures None) g.L.Level.join g.L.Level.clean
+    (is_key c.args.block) c.in-Some.way c.in-Some.ensures) c.index.ensures _) g.L.Level.join g.L.Level.clean
     c.args.more.now c.join-dirty.result c.join-dirty.ensures.value)

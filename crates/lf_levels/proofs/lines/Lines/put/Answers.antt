@@ -1,6 +1,6 @@
 use Rattle.std.proofs.Common.{arith, Some, None}
 use Rattle.lf_levels.specs.Rows.{is_free}
-use Rattle.lf_levels.proofs.Searched.{row_fits, way_inside, full_value, filled_whole, filled_table, changed-fill}
+use Rattle.lf_levels.proofs.Searched.{row_fits, way_inside, dirty_inside, full_value, filled_whole, filled_table, changed-fill}
 use Rattle.lf_levels.proofs.lines.Lines.put.Goals as goal
 
 pub find_free-requires : goal.find_free-requires
@@ -13,13 +13,23 @@ index_mut-requires g c =
       arith,
       way_inside c.self.invariant c.args.self.now c.self.view_is c.args.block c.row-row.result
           c.row-row.ensures _ c.deref.ensures.value is_free c.in-Some.way c.in-Some.ensures,
-      c.self.inside.rows.ok.0,
+      c.self.inside.keys.ok.0,
+    )
+
+pub index_mut-requires-2 : goal.index_mut-requires-2
+index_mut-requires-2 g c =
+    omega (
+      arith,
+      dirty_inside c.self.invariant c.args.self.now c.self.view_is c.args.block c.row-row.result
+          c.row-row.ensures _ c.deref.ensures.value is_free c.in-Some.way c.in-Some.ensures,
+      c.self.inside.dirty.ok.0,
     )
 
 pub invariant_of-self : goal.invariant_of-self
 invariant_of-self g c =
     filled_whole c.self.invariant c.args.self.now c.self.view_is c.args.block c.row-row.result c.row-row.ensures _
     c.deref.ensures.value c.in-Some.way c.in-Some.ensures c.requires.absent c.args.dirty c.requires.masks
+    c.of.result c.of.ensures
 
 pub returns-in_default-clause-refused : goal.returns-in_default-clause-refused
 returns-in_default-clause-refused g c = full_value c.self.invariant c.args.self.now c.self.view_is c.args.block
@@ -33,12 +43,14 @@ pub returns-clause-filled : goal.returns-clause-filled
 returns-clause-filled g c =
     filled_table c.self.invariant c.args.self.now c.self.view_is c.args.block c.row-row.result c.row-row.ensures _
     c.deref.ensures.value c.in-Some.way c.in-Some.ensures c.requires.absent c.args.dirty c.requires.masks
+    c.of.result c.of.ensures
 
 pub returns-clause-here : goal.returns-clause-here
 returns-clause-here g c =
     changed-fill c.args.self.now _ c.args.block c.args.dirty
     (filled_table c.self.invariant c.args.self.now c.self.view_is c.args.block c.row-row.result c.row-row.ensures _
-    c.deref.ensures.value c.in-Some.way c.in-Some.ensures c.requires.absent c.args.dirty c.requires.masks)
+    c.deref.ensures.value c.in-Some.way c.in-Some.ensures c.requires.absent c.args.dirty c.requires.masks
+    c.of.result c.of.ensures)
 
 pub returns-in_default-clause-free_way : goal.returns-in_default-clause-free_way
 returns-in_default-clause-free_way g c = tt
