@@ -30,7 +30,8 @@ module _ {M : Type 0} where
       ap (λ (t : LineTable M). line_at t.lines other) e ∙ line_put old.lines block dirty other
       ∙ ap (λ b. cond b (Some dirty) (line_at old.lines other)) (flip block other)
 
-  pub changed-evict : (old new : LineTable M) (block : ℕ) → new ≡ after_evict old block → ChangesOnly old new block None
+  pub changed-evict : (old new : LineTable M) (block : ℕ) → new ≡ after_evict old block → ChangesOnly old new block
+      None
   changed-evict old new block e other =
       ap (λ (t : LineTable M). line_at t.lines other) e ∙ line_gone old.lines block other
       ∙ ap (λ b. cond b None (line_at old.lines other)) (flip block other)
@@ -149,7 +150,8 @@ module _ {M : Type 0} {set : ℕ → ℕ → ℕ → ℕ → ℕ} {is_line : ℕ
       pub filled_table : table_of sets ways banks factor
           (lines_of (rows_of (slice_set keys way key) (slice_set dirties way dirty)))
           ≡ after_fill table block dirty
-      filled_table = filled dirty (rows_of (slice_set keys way key) (slice_set dirties way dirty)) (ap lines_of filled_rows
+      filled_table = filled dirty (rows_of (slice_set keys way key) (slice_set dirties way dirty))
+          (ap lines_of filled_rows
           ∙ lines-filled is.whole block way dirty (free_found (Some way) found) absent_before has_before)
 
     module _ (way : ℕ) (found : FindsWay (is_key block) shown row ways (Some way)) where
@@ -172,6 +174,13 @@ module _ {M : Type 0} {set : ℕ → ℕ → ℕ → ℕ → ℕ} {is_line : ℕ
       line_found dirty e = ap (λ (t : LineTable M). line_at t.lines block) (sym same)
           ∙ line_at-found is.whole block way on_way ∙ ap dirty_of (sym (there dirty e))
 
+      -- what a comparison with what is dirty in the way says of the line
+      pub compared : (dirty : M) → dirty ≡ get_or dirties way dirty → (test : ℕ → M → Bool) (clean : M) →
+          test table.factor (unwrap_or (line_at table.lines block) clean) ≡ test factor dirty
+      compared dirty e test clean =
+          ap (λ (t : LineTable M). test t.factor (unwrap_or (line_at table.lines block) clean)) (sym same)
+          ∙ ap (λ (o : Option M). test factor (unwrap_or o clean)) (line_found dirty e)
+
       set_rows : (dirty : M) → rows_of keys (slice_set dirties way dirty) ≡ slice_set rows way (line_on block dirty)
       set_rows dirty = rows-dirty keys dirties way dirty
           ∙ ap (λ (key : Option ℕ). slice_set rows way (way_of key dirty)) key_there
@@ -190,7 +199,8 @@ module _ {M : Type 0} {set : ℕ → ℕ → ℕ → ℕ → ℕ} {is_line : ℕ
           (lines_of (rows_of keys (slice_set dirties way dirty)))
           ≡ after_fill table block (join (unwrap_or (line_at table.lines block) clean) more)
       gained_table was e join clean more dirty joined =
-          filled dirty (rows_of keys (slice_set dirties way dirty)) (ap lines_of (set_rows dirty) ∙ lines-set is.whole block way on_way dirty)
+          filled dirty (rows_of keys (slice_set dirties way dirty)) (ap lines_of (set_rows dirty) ∙ lines-set
+          is.whole block way on_way dirty)
           ∙ ap (after_fill table block) (joined ∙ ap (λ d. join d more)
           (sym (ap (λ (o : Option M). unwrap_or o clean) (line_found was e))))
 
@@ -226,6 +236,7 @@ module _ {M : Type 0} where
   new_ways set is_line sets ways banks factor some few few_ways some_banks in_range below keys dirties free many =
       record {
         even = many ∙ sym (ap length free ∙ length-replicate (sets * ways) None);
-        whole = whole-new set is_line sets ways banks factor (rows_of keys dirties) some few few_ways some_banks in_range
+        whole = whole-new set is_line sets ways banks factor (rows_of keys dirties) some few few_ways some_banks
+            in_range
             below (new_rows keys dirties (sets * ways) free many);
       }

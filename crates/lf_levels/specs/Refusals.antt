@@ -1,9 +1,9 @@
 -- When a fill and an eviction are refused.
-use Rattle.std.specs.Prelude.{◌≡◌, ◌≢◌, ℕ, true, false}
+use Rattle.std.specs.Prelude.{◌≡◌, ◌≢◌, ℕ, Bool, true, false, unwrap_or}
 use Rattle.lf_levels.specs.declared.fault.LineFault.{LineFault}
 use Rattle.lf_levels.specs.declared.fault.LineFault.TheVariants.{SetFull, EvictAbsent, EvictMask}
 use Rattle.lf_rules.specs.Address.{Masks}
-use Rattle.lf_rules.specs.Lines.{has_line, dirty_mask, dirty_masks, same_masks}
+use Rattle.lf_rules.specs.Lines.{line_at, has_line, dirty_mask, dirty_masks, same_masks}
 use Rattle.lf_levels.specs.LineTable.{LineTable, is_full}
 
 -- a fill is refused for a full set alone
@@ -24,3 +24,10 @@ WideEvictRefusal table second masks EvictAbsent = has_line table.lines second �
 WideEvictRefusal table second masks EvictMask = (has_line table.lines second ≡ true) ×
     (same_masks table.factor masks (dirty_masks table.lines second) ≡ false)
 WideEvictRefusal table second masks SetFull = ⊥
+
+-- The same of either level: the test says whether the mask is this that is dirty of the line.
+abbrev pub TakeOutRefusal : {M : Type 0} → (M → Bool) → M → LineTable M → ℕ → LineFault → Type 0
+TakeOutRefusal same clean table block EvictAbsent = has_line table.lines block ≡ false
+TakeOutRefusal same clean table block EvictMask = (has_line table.lines block ≡ true) ×
+    (same (unwrap_or (line_at table.lines block) clean) ≡ false)
+TakeOutRefusal same clean table block SetFull = ⊥

@@ -5,7 +5,7 @@ ghost use Rattle.lf_rules.specs.Address.{set1_of};
 ghost use Rattle.lf_rules.specs.Fits.{is_factor};
 
 use crate::lines_two::joined;
-use lf_rules::{Masks, quotient, remainder};
+use lf_rules::{Masks, quotient, remainder, same_masks};
 
 /// A level of the cache: what is dirty of its lines, and which set a block is in.
 pub trait Level {
@@ -20,6 +20,9 @@ pub trait Level {
 
     // what is dirty of a line of which more is written
     ghost join: { Self.Dirty → Self.Dirty → Self.Dirty };
+
+    // have both, of so many first-level blocks, the same bytes?
+    ghost same: { ℕ → Self.Dirty → Self.Dirty → Bool };
 
     // is this what is dirty of a line, where a block of level two has so many first-level blocks?
     ghost is_line: { ℕ → Self.Dirty → Bool };
@@ -39,6 +42,10 @@ pub trait Level {
         ensures value { result ≡ join dirty.now more.now }
         ensures line { (factor : ℕ) → is_line factor dirty.now ≡ true → is_line factor result ≡ true };
 
+    /// Whether both have the same bytes, where a block of level two has so many first-level blocks.
+    fn same(factor: u32, a: &Self::Dirty, b: &Self::Dirty) -> bool
+        ensures { result ≡ same factor a.now b.now };
+
     /// The set of a block.
     fn set_of(banks: u32, factor: u32, sets: u32, block: u32) -> u32
         requires some_banks { 0 < banks }
@@ -57,7 +64,7 @@ pub struct One;
 pub struct Two;
 
 impl Level for One {
-    ghost use Rattle.std.specs.Prelude.{bit_or};
+    ghost use Rattle.std.specs.Prelude.{bit_or, ◌==◌};
     ghost use Rattle.lf_levels.specs.LineTable.{is_line1};
     ghost use Rattle.lf_rules.specs.Address.{set1_of};
     ghost use Rattle.std.proofs.lemmas.Nat.{mod_below};
@@ -67,6 +74,8 @@ impl Level for One {
     ghost clean = { 0 };
 
     ghost join = { bit_or };
+
+    ghost same = { λ factor a b. a == b };
 
     ghost is_line = { is_line1 };
 
@@ -80,6 +89,10 @@ impl Level for One {
 
     fn join(dirty: &u64, more: &u64) -> u64 {
         *dirty | *more
+    }
+
+    fn same(_factor: u32, a: &u64, b: &u64) -> bool {
+        *a == *b
     }
 
     fn set_of(banks: u32, factor: u32, sets: u32, block: u32) -> u32 {
@@ -101,7 +114,7 @@ fn set1_of(banks: u32, factor: u32, sets: u32, block: u32) -> u32
 
 impl Level for Two {
     ghost use Rattle.lf_levels.specs.LineTable.{wide_set, joined, is_line2};
-    ghost use Rattle.lf_rules.specs.Lines.{no_masks};
+    ghost use Rattle.lf_rules.specs.Lines.{no_masks, same_masks};
     ghost use Rattle.std.proofs.lemmas.Nat.{mod_below};
 
     type Dirty = Masks;
@@ -109,6 +122,8 @@ impl Level for Two {
     ghost clean = { no_masks };
 
     ghost join = { λ dirty more. record { items = joined dirty.items more.items } };
+
+    ghost same = { same_masks };
 
     ghost is_line = { is_line2 };
 
@@ -122,6 +137,10 @@ impl Level for Two {
 
     fn join(dirty: &Masks, more: &Masks) -> Masks {
         joined(dirty, more)
+    }
+
+    fn same(factor: u32, a: &Masks, b: &Masks) -> bool {
+        same_masks(factor, a, b)
     }
 
     fn set_of(banks: u32, _factor: u32, sets: u32, block: u32) -> u32 {

@@ -7,7 +7,7 @@ ghost use Rattle.lf_rules.specs.InRange.{IsFrom};
 ghost use Rattle.lf_rules.specs.Lines.{line_at, has_line, lines_of_set};
 ghost use Rattle.lf_levels.specs.LineTable.{IsLineTable, ChangesOnly, set_in, empty_table, is_full, after_fill};
 ghost use Rattle.lf_levels.specs.LineTable.{after_evict};
-ghost use Rattle.lf_levels.specs.Refusals.{FillRefusal};
+ghost use Rattle.lf_levels.specs.Refusals.{FillRefusal, TakeOutRefusal};
 
 use crate::fault::LineFault;
 use crate::level::Level;
@@ -155,16 +155,25 @@ impl<L: Level> Lines<L> {
         self.dirty[way] = dirty;
     }
 
-    /// The block's line goes.
-    pub(crate) fn take_out(&mut self, block: u32)
-        requires { has_line self.old.lines block ≡ true }
-        ensures gone { self.new ≡ after_evict self.old block }
-        ensures here { ChangesOnly self.old self.new block None }
+    /// The block's line goes, where this is what is dirty of it.
+    pub(crate) fn take_out(&mut self, block: u32, dirty: &L::Dirty) -> Result<(), LineFault>
+        ensures there { IfOk result (λ _. has_line self.old.lines block ≡ true) }
+        ensures same { IfOk result (λ _. L.same self.old.factor dirty.now
+            (unwrap_or (line_at self.old.lines block) L.clean) ≡ true) }
+        ensures gone { IfOk result (λ _. self.new ≡ after_evict self.old block) }
+        ensures here { IfOk result (λ _. ChangesOnly self.old self.new block None) }
+        ensures refused { IfErr result (λ fault. TakeOutRefusal (L.same self.old.factor dirty.now) L.clean self.old
+            block fault) }
+        ensures unchanged { OnErr result (self.new ≡ self.old) }
     {
         let row = self.row(block);
         let Some(way) = find_line(&self.keys, row, self.ways as usize, block) else {
-            unreachable!()
+            return Err(LineFault::EvictAbsent);
         };
+        if !L::same(self.factor, dirty, &self.dirty[way]) {
+            return Err(LineFault::EvictMask);
+        }
         self.keys[way] = WayKey::free();
+        Ok(())
     }
 }

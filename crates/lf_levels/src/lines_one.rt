@@ -56,13 +56,6 @@ impl Lines<One> {
         ensures refused { IfErr result (λ fault. EvictRefusal self.old block mask.0 fault) }
         ensures unchanged { OnErr result (self.new ≡ self.old) }
     {
-        let Some(dirty) = self.line(block) else {
-            return Err(LineFault::EvictAbsent);
-        };
-        if *dirty != mask.0 {
-            return Err(LineFault::EvictMask);
-        }
-        self.take_out(block);
-        Ok(())
+        self.take_out(block, &mask.0)
     }
 }

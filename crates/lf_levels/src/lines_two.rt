@@ -11,7 +11,7 @@ ghost use Rattle.lf_levels.specs.Refusals.{FillRefusal, WideEvictRefusal};
 use crate::fault::LineFault;
 use crate::level::{One, Two};
 use crate::lines::Lines;
-use lf_rules::{Mask, Masks, mask_at, same_masks};
+use lf_rules::{Mask, Masks, mask_at};
 
 /// Each mask with the bytes of the other that stands beside it.
 pub fn joined(masks: &Masks, others: &Masks) -> Masks
@@ -71,15 +71,7 @@ impl Lines<Two> {
         ensures refused { IfErr result (λ fault. WideEvictRefusal self.old second masks.now fault) }
         ensures unchanged { OnErr result (self.new ≡ self.old) }
     {
-        let factor = self.factor();
-        let Some(dirty) = self.line(second) else {
-            return Err(LineFault::EvictAbsent);
-        };
-        if !same_masks(factor, masks, dirty) {
-            return Err(LineFault::EvictMask);
-        }
-        self.take_out(second);
-        Ok(())
+        self.take_out(second, masks)
     }
 
     /// Whether the second level may give up its line on the block: where the first level has no line

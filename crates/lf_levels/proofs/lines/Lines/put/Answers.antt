@@ -1,6 +1,7 @@
 use Rattle.std.proofs.Common.{arith, Some, None}
 use Rattle.lf_levels.specs.Rows.{is_free}
-use Rattle.lf_levels.proofs.Searched.{row_fits, way_inside, dirty_inside, full_value, filled_whole, filled_table, changed-fill}
+use Rattle.lf_levels.proofs.Searched.{row_fits, way_inside, dirty_inside, full_value, filled_whole, filled_table}
+use Rattle.lf_levels.proofs.Searched.{changed-fill}
 use Rattle.lf_levels.proofs.lines.Lines.put.Goals as goal
 
 pub find_free-requires : goal.find_free-requires
