@@ -1,6 +1,6 @@
 -- A word and arrays that say what registers hold, as targets come and go.
 use Rattle.std.proofs.Common.{◌≡◌, ℕ, ◌+◌, ◌*◌, ◌^◌, ◌%◌, ◌<◌, ◌≤◌, ◌⊎◌, inl, inr, Bool, true, false, cond, not, ◌&&◌}
-use Rattle.std.proofs.Common.{◌||◌, ◌==◌, nat_lt, List, [], ◌∷◌, ◌++◌}
+use Rattle.std.proofs.Common.{◌||◌, ◌==◌, nat_lt, List, [], ◌∷◌, ◌++◌, length}
 use Rattle.std.proofs.Common.{refl, sym, ap, ◌∙◌, subst, arith, eq-eqb, ne_eqb, lt-ltb, set, replicate, bit_and}
 use Rattle.std.proofs.Common.{bit_or, get_or, Option, Some, None}
 use Rattle.std.specs.Prelude.{count_by, filter, slice_index, is_some, IfSome, IfNone}
@@ -11,13 +11,14 @@ use Rattle.std.proofs.lemmas.Bool.{cases_eq, cases_lt, cases_Bool, and_parts, or
 use Rattle.std.proofs.lemmas.Bool.{both_ways, not-true}
 use Rattle.std.proofs.lemmas.List.{length-set, get_or-set_same, get_or-set_other, get_or-replicate, length-replicate}
 use Rattle.std.proofs.lemmas.List.Folds.{list_any-append, list_any_at}
+use Rattle.std.proofs.lemmas.List.Sums.{length-filter}
 use Rattle.std.proofs.lemmas.Nat.Bits.{bit_at_set_same, bit_at_set_other, bit_at_clear_same, bit_at_clear_other}
 use Rattle.std.proofs.lemmas.Nat.Bits.{bit_at-zero}
 use Rattle.lf_rules.specs.Address.{is_under}
 use Rattle.lf_rules.specs.Registers.{Held, holds, is_free, holds_in, targets_of, released}
 use Rattle.lf_rules.specs.Sharing.{HoldsOnce}
 use Rattle.lf_mshr.specs.Bounds.{IsBelow}
-use Rattle.lf_mshr.specs.Index.{IsIndexed, IsCounted}
+use Rattle.lf_mshr.specs.Index.{IsIndexed, IsCounted, held_in}
 use Rattle.lf_mshr.proofs.Counts.{count_cons, count_push_yes, count_push_no, none_both}
 use Rattle.lf_mshr.proofs.Once.{holds_in_push, released_holds, holds_from}
 
@@ -49,55 +50,73 @@ any_counted p (x ∷ xs) = go (any_counted p xs) (p x) refl
         ap (λ b. b || list_any p xs) e ∙ rest ∙ ap (nat_lt 0) same
 
 -- no element that passes the one test passes the other: the filter takes none of them
-count_kept : {A : Type 0} (p s : A → Bool) (xs : List A) → list_any (λ x. p x && s x) xs ≡ false →
-    count_by p (filter (λ x. not (s x)) xs) ≡ count_by p xs
-count_kept p s [] none = refl
-count_kept p s (x ∷ xs) none = go (count_kept p s xs (or_parts (p x && s x) (list_any (λ y. p y && s y) xs) none).1)
-    (s x) (p x) refl refl
+filter_kept : {A : Type 0} (p s : A → Bool) (xs : List A) → list_any (λ x. p x && s x) xs ≡ false →
+    filter p (filter (λ x. not (s x)) xs) ≡ filter p xs
+filter_kept p s [] none = refl
+filter_kept {A} p s (x ∷ xs) none = go (filter_kept p s xs parts.1) (s x) (p x) refl refl
   where
     parts : ((p x && s x) ≡ false) × (list_any (λ y. p y && s y) xs ≡ false)
     parts = or_parts (p x && s x) (list_any (λ y. p y && s y) xs) none
 
-    go : count_by p (filter (λ y. not (s y)) xs) ≡ count_by p xs → (t b : Bool) → s x ≡ t → p x ≡ b
-        → count_by p (cond (not (s x)) (x ∷ filter (λ y. not (s y)) xs) (filter (λ y. not (s y)) xs))
-        ≡ count_by p (x ∷ xs)
+    go : filter p (filter (λ y. not (s y)) xs) ≡ filter p xs → (t b : Bool) → s x ≡ t → p x ≡ b
+        → filter p (cond (not (s x)) (x ∷ filter (λ y. not (s y)) xs) (filter (λ y. not (s y)) xs))
+        ≡ cond (p x) (x ∷ filter p xs) (filter p xs)
     go rest false b e f =
-        let whole = count_cons p x xs in
-        let left = count_cons p x (filter (λ y. not (s y)) xs) in
-        ap (λ t. count_by p (cond (not t) (x ∷ filter (λ y. not (s y)) xs) (filter (λ y. not (s y)) xs))) e
-        ∙ omega (arith, rest, whole, left)
+        ap (λ t. filter p (cond (not t) (x ∷ filter (λ y. not (s y)) xs) (filter (λ y. not (s y)) xs))) e
+        ∙ ap (λ (ys : List A). cond (p x) (x ∷ ys) ys) rest
     go rest true false e f =
-        let whole = count_cons p x xs in
-        let here : cond {A = ℕ} (p x) 1 0 ≡ 0 = ap (λ b. cond {A = ℕ} b 1 0) f in
-        ap (λ t. count_by p (cond (not t) (x ∷ filter (λ y. not (s y)) xs) (filter (λ y. not (s y)) xs))) e
-        ∙ omega (arith, rest, whole, here)
+        ap (λ t. filter p (cond (not t) (x ∷ filter (λ y. not (s y)) xs) (filter (λ y. not (s y)) xs))) e
+        ∙ rest ∙ sym (ap (λ b. cond b (x ∷ filter p xs) (filter p xs)) f)
     go rest true true e f = absurd (both_ways (p x && s x) parts.0 (ap (λ b. b && s x) f ∙ e))
 
 module _ {T : Type 0} where
   -- a register that holds one block alone holds nothing once that block has left
-  count_gone : (r block : ℕ) (xs : List (Held T)) → ((other : ℕ) → holds_in xs r other ≡ true → other ≡ block) →
-      count_by (λ h. h.register == r) (released xs block) ≡ 0
-  count_gone r block [] alone = refl
-  count_gone r block (h ∷ xs) alone = go (count_gone r block xs
+  none_left : (r block : ℕ) (xs : List (Held T)) → ((other : ℕ) → holds_in xs r other ≡ true → other ≡ block) →
+      held_in (released xs block) r ≡ []
+  none_left r block [] alone = refl
+  none_left r block (h ∷ xs) alone = go (none_left r block xs
       (λ other e. alone other (or_right (h.register == r && h.block == other) (holds_in xs r other) e)))
       (h.block == block) (h.register == r) refl refl
     where
-      go : count_by (λ g. g.register == r) (released xs block) ≡ 0 → (t b : Bool) → (h.block == block) ≡ t →
-          (h.register == r) ≡ b
-          → count_by (λ g. g.register == r) (cond (not (h.block == block)) (h ∷ released xs block)
-          (released xs block)) ≡ 0
-      go rest true b e f = ap (λ t. count_by (λ g. g.register == r)
-          (cond (not t) (h ∷ released xs block) (released xs block))) e ∙ rest
+      go : held_in (released xs block) r ≡ [] → (t b : Bool) → (h.block == block) ≡ t → (h.register == r) ≡ b
+          → held_in (cond (not (h.block == block)) (h ∷ released xs block) (released xs block)) r ≡ []
+      go rest true b e f = ap (λ t. held_in (cond (not t) (h ∷ released xs block) (released xs block)) r) e ∙ rest
       go rest false false e f =
-          let whole = count_cons (λ (g : Held T). g.register == r) h (released xs block) in
-          let here : cond {A = ℕ} (h.register == r) 1 0 ≡ 0 = ap (λ b. cond {A = ℕ} b 1 0) f in
-          ap (λ t. count_by (λ g. g.register == r) (cond (not t) (h ∷ released xs block) (released xs block))) e
-          ∙ omega (arith, rest, whole, here)
+          ap (λ t. held_in (cond (not t) (h ∷ released xs block) (released xs block)) r) e
+          ∙ ap (λ b. cond b (h ∷ held_in (released xs block) r) (held_in (released xs block) r)) f ∙ rest
       go rest false true e f =
           let own : (h.register == r && h.block == h.block) ≡ true =
           ap (λ b. b && h.block == h.block) f ∙ eq-eqb h.block h.block refl in
           let same = alone h.block (or_left (h.register == r && h.block == h.block) (holds_in xs r h.block) own) in
           absurd (both_ways (h.block == block) e (eq-eqb h.block block same))
+
+  -- where a register holds the block and no other, and no other register holds it, what it holds is of the block
+  pub held_in-is : (xs : List (Held T)) (r block : ℕ) → ((other : ℕ) → holds_in xs r other ≡ true → other ≡ block)
+      → ((other : ℕ) → holds_in xs other block ≡ true → other ≡ r) → held_in xs r ≡ targets_of xs block
+  held_in-is [] r block alone once = refl
+  held_in-is (h ∷ xs) r block alone once = go (held_in-is xs r block
+      (λ other e. alone other (or_right (h.register == r && h.block == other) (holds_in xs r other) e))
+      (λ other e. once other (or_right (h.register == other && h.block == block) (holds_in xs other block) e)))
+      (cases_eq h.register r) (cases_eq h.block block)
+    where
+      own : holds_in (h ∷ xs) h.register h.block ≡ true
+      own = or_left (h.register == h.register && h.block == h.block) (holds_in xs h.register h.block)
+          (ap (λ b. b && h.block == h.block) (eq-eqb h.register h.register refl) ∙ eq-eqb h.block h.block refl)
+
+      go : held_in xs r ≡ targets_of xs block → (h.register ≡ r) ⊎ (h.register ≡ r → ⊥)
+          → (h.block ≡ block) ⊎ (h.block ≡ block → ⊥)
+          → cond (h.register == r) (h ∷ held_in xs r) (held_in xs r)
+          ≡ cond (h.block == block) (h ∷ targets_of xs block) (targets_of xs block)
+      go rest (inl e) (inl f) =
+          ap (λ b. cond b (h ∷ held_in xs r) (held_in xs r)) (eq-eqb h.register r e)
+          ∙ ap (λ (hs : List (Held T)). h ∷ hs) rest
+          ∙ sym (ap (λ b. cond b (h ∷ targets_of xs block) (targets_of xs block)) (eq-eqb h.block block f))
+      go rest (inr ne) (inr nf) =
+          ap (λ b. cond b (h ∷ held_in xs r) (held_in xs r)) (ne_eqb h.register r ne) ∙ rest
+          ∙ sym (ap (λ b. cond b (h ∷ targets_of xs block) (targets_of xs block)) (ne_eqb h.block block nf))
+      go rest (inl e) (inr nf) = absurd (nf (alone h.block (subst (λ k. holds_in (h ∷ xs) k h.block ≡ true) e own)))
+      go rest (inr ne) (inl f) = absurd (ne (once h.register
+          (subst (λ k. holds_in (h ∷ xs) h.register k ≡ true) f own)))
 
   module _ (registers used : ℕ) (blocks : List ℕ) (held : List (Held T))
       (index : IsIndexed registers used blocks held) where
@@ -192,17 +211,17 @@ module _ {T : Type 0} where
                 ap (λ b. (b && g.block == block) || holds_in xs h.register block) parts.0 ∙ go xs parts.1
 
     module _ (at block : ℕ) (there : at < registers) (has : holds_in held at block ≡ true) (once : HoldsOnce held) where
-      pub count_left : (r : ℕ) → r < registers → count_by (λ h. h.register == r) (released held block)
-          ≡ cond (at == r) 0 (count_by (λ h. h.register == r) held)
-      count_left r below = elim (cases_eq at r) [
+      -- what the registers hold once the block has left
+      pub held_in-left : (r : ℕ) → r < registers → held_in (released held block) r ≡ cond (at == r) [] (held_in held r)
+      held_in-left r below = elim (cases_eq at r) [
         | inl e ↦
-            subst (λ k. count_by (λ g. g.register == k) (released held block) ≡ 0) e
-            (count_gone at block held (λ other x. sym (index.of_block at other there x)
+            subst (λ k. held_in (released held block) k ≡ []) e
+            (none_left at block held (λ other x. sym (index.of_block at other there x)
             ∙ index.of_block at block there has))
-            ∙ sym (ap (λ b. cond {A = ℕ} b 0 (count_by (λ h. h.register == r) held)) (eq-eqb at r e))
+            ∙ sym (ap (λ b. cond b [] (held_in held r)) (eq-eqb at r e))
         | inr ne ↦
-            count_kept (λ g. g.register == r) (λ g. g.block == block) held (not_there r ne)
-            ∙ sym (ap (λ b. cond {A = ℕ} b 0 (count_by (λ h. h.register == r) held)) (ne_eqb at r ne))
+            filter_kept (λ h. h.register == r) (λ h. h.block == block) held (not_there r ne)
+            ∙ sym (ap (λ b. cond b [] (held_in held r)) (ne_eqb at r ne))
       ]
         where
           not_there : (r : ℕ) → (at ≡ r → ⊥) → holds_in held r block ≡ false
@@ -210,6 +229,18 @@ module _ {T : Type 0} where
             | inl there_too ↦ absurd (ne (once block at r has there_too))
             | inr absent ↦ absent
           ]
+
+      pub count_left : (r : ℕ) → r < registers → count_by (λ h. h.register == r) (released held block)
+          ≡ cond (at == r) 0 (count_by (λ h. h.register == r) held)
+      count_left r below =
+          sym (length-filter (λ h. h.register == r) (released held block))
+          ∙ ap (λ (hs : List (Held T)). length hs) (held_in-left r below)
+          ∙ length_of (at == r)
+        where
+          length_of : (b : Bool) → length (cond b [] (held_in held r))
+              ≡ cond b 0 (count_by (λ h. h.register == r) held)
+          length_of true = refl
+          length_of false = length-filter (λ h. h.register == r) held
 
       -- a block leaves the register that holds it
       pub IsIndexed-released : IsIndexed registers (bit_and used (bit_not w64 (1 * 2 ^ at % 2 ^ 64))) blocks

@@ -9,4 +9,5 @@ pub mod Marks
 pub mod Chain
 pub mod Placed
 pub mod Indexed
+pub mod Stored
 pub mod Rows

@@ -24,7 +24,7 @@ pub struct Explicit<T>(PhantomData<T>);
 /// The registers of an explicitly addressed file. Each has as many places in a row as it has entries, and
 /// uses them from the first on.
 #[derive(Drop)]
-pub struct ExplicitFile<T> {
+pub struct ExplicitFile<T: Target> {
     entries: u32,
     destinations: u16,
     /// How many targets each register holds.
@@ -179,7 +179,7 @@ impl<T: Target> Organisation for Explicit<T> {
     }
 
     fn store_bytes(file: &ExplicitFile<T>, block: u32) -> Mask {
-        file.registers.places.store_bytes(block)
+        file.registers.store_bytes(block)
     }
 
     fn holds(file: &ExplicitFile<T>, block: u32) -> bool {

@@ -167,7 +167,7 @@ impl<T: Target> Organisation for Implicit<T> {
     }
 
     fn store_bytes(file: &ImplicitFile<T>, block: u32) -> Mask {
-        file.registers.places.store_bytes(block)
+        file.registers.store_bytes(block)
     }
 
     fn holds(file: &ImplicitFile<T>, block: u32) -> bool {

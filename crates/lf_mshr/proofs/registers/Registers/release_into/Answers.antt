@@ -6,6 +6,7 @@ use Rattle.lf_mshr.proofs.Fields.{IsBelow-filter}
 use Rattle.lf_mshr.proofs.Indexed.{IsIndexed-released, targets-none}
 use Rattle.lf_mshr.proofs.Once.{HoldsOnce-released}
 use Rattle.lf_mshr.proofs.Placed.{held-left, left-none}
+use Rattle.lf_mshr.proofs.Stored.{IsStored-released}
 use Rattle.lf_mshr.proofs.registers.Registers.release_into.Goals as goal
 
 pub invariant_of-self : goal.invariant_of-self
@@ -17,6 +18,9 @@ invariant_of-self g c =
     record {
       index = rw same (IsIndexed-released file.registers file.used file.blocks.items held file.index
           c.in-Some.register c.args.block c.in-Some.ensures.some.0 c.in-Some.ensures.some.1 file.once);
+      stored = rw same (IsStored-released g.T.Target.is_store g.T.Target.bytes file.registers file.stores.items held
+          file.stored file.used file.blocks.items file.index c.in-Some.register c.args.block
+          c.in-Some.ensures.some.0 c.in-Some.ensures.some.1 file.once);
       below = rw same (IsBelow-filter file.registers held file.below (λ h. not (h.block == c.args.block)));
       once = rw same (HoldsOnce-released held c.args.block file.once);
     }
