@@ -1,9 +1,9 @@
 -- Bytes of a block, and blocks of a memory.
 use Rattle.std.proofs.Common.{◌≡◌, ℕ, ◌+◌, ◌-◌, ◌<◌, ◌≤◌, Bool, true, false, cond, ◌&&◌, ◌==◌, List, [], ◌∷◌, ◌++◌}
-use Rattle.std.proofs.Common.{Option, Some, replicate, zero, suc, ne_eqb, ◌≢◌, subst, eq-eqb, ◌||◌}
+use Rattle.std.proofs.Common.{Option, Some, replicate, zero, suc, subst, eq-eqb, ◌||◌}
 use Rattle.std.proofs.Common.{get_or, take, drop, refl, ap, sym, ◌∙◌, ⊎_elim, length, arith, slice_index, map, leb, ltb}
 use mathlib.Core.Path.{fun_ext}
-use Rattle.std.specs.Prelude.{unwrap_or, nat_eq, filter, bytes_eq}
+use Rattle.std.specs.Prelude.{unwrap_or, nat_eq}
 use Rattle.std.specs.Map.{lookup}
 use Rattle.std.proofs.lemmas.List.{get_or-replicate, get_or_past, length-replicate, get_or_append_left, get_or-take}
 use Rattle.std.proofs.lemmas.List.{get_or-append_right, get_or-drop, length-take, length-drop}
@@ -14,8 +14,7 @@ use Rattle.std.specs.Int.{from_le_bytes, to_le_bytes, w64}
 use Rattle.std.proofs.lemmas.Nat.{le_bytes_8}
 use borrow.Rule.Slice.PartMut.{put_mid}
 use Rattle.lf_rules.specs.declared.event.Op.TheVariants.{Load, Store}
-use Rattle.std.proofs.lemmas.Nat.Bits.{bit_at-zero}
-use Rattle.lf_rules.specs.Address.{FlatMemory, is_under, masked}
+use Rattle.lf_rules.specs.Address.{FlatMemory, is_under}
 use Rattle.lf_rules.specs.State.{update, Request}
 use Rattle.lf_rules.specs.Table.{value_of}
 use Rattle.lf_state.specs.Bytes.{flat_of, put}
@@ -91,23 +90,6 @@ padded_is blank bytes zero_there = fun_ext (λ place. go place (leb 0 place) (lt
     go place true true low high = let same : place - 0 ≡ place = omega arith in ap (λ n. get_or bytes n 0) same
     go place true false low high = zero_there place ∙ sym (get_or_past bytes place 0
         (omega (arith, ltb-false place (0 + length bytes) high)))
-
--- no byte is under an empty mask
-none_under : (a n : ℕ) → filter (is_under 0) (range_with_len a n) ≡ []
-none_under a zero = refl
-none_under a (suc n) = ap (λ k. cond (k == 1) (a ∷ filter (is_under 0) (range_with_len (a + 1) n))
-    (filter (is_under 0) (range_with_len (a + 1) n))) (bit_at-zero a) ∙ none_under (a + 1) n
-
--- a clean block's bytes are none
-pub clean_agrees : (r : Bool) (xs ys : List ℕ) (mask : ℕ) → mask ≡ 0 → r ≡ (length xs == 0) →
-    r ≡ bytes_eq xs (masked ys mask)
-clean_agrees r xs ys mask clean is =
-    is ∙ empty xs ∙ sym (ap (λ m. bytes_eq xs (masked ys m)) clean
-    ∙ ap (λ (at : List ℕ). bytes_eq xs (map (slice_index ys) at)) (none_under 0 (length ys)))
-  where
-    empty : (zs : List ℕ) → (length zs == 0) ≡ bytes_eq zs []
-    empty [] = refl
-    empty (z ∷ zs) = let some : length (z ∷ zs) ≢ 0 = omega arith in ne_eqb (length (z ∷ zs)) 0 some
 
 -- eight bytes that are read as one number are told by it
 word_same : (xs ys : List ℕ) (m n : ℕ) → length xs ≡ 8 → length ys ≡ 8 → ((i : ℕ) → get_or xs i 0 < 256) →

@@ -1,9 +1,12 @@
 -- The bytes of a memory and of a request.
 use Rattle.std.specs.Prelude.{◌≡◌, ℕ, ◌+◌, ◌-◌, ◌==◌, ◌<◌, ◌≤◌, true, ◌&&◌, nat_eq, nat_le, nat_lt, List, [], length}
-use Rattle.std.specs.Prelude.{slice_index, unwrap_or, if◌then◌else◌}
+use Rattle.std.specs.Prelude.{false, ◌++◌, map, drop, Option, bytes_eq, slice_index, unwrap_or}
+use Rattle.std.specs.Prelude.{if◌then◌else◌}
+use Rattle.std.specs.Option.{option_map_or}
+use Rattle.std.specs.List.{filter, range_with_len}
 use Rattle.std.specs.Map.{lookup}
 use Rattle.lf_rules.specs.declared.shape.Shape.{Shape}
-use Rattle.lf_rules.specs.Address.{FlatMemory, bank_of}
+use Rattle.lf_rules.specs.Address.{FlatMemory, bank_of, is_under}
 use Rattle.lf_rules.specs.State.{Request}
 use Rattle.lf_rules.specs.Table.{is_store}
 
@@ -26,3 +29,12 @@ pub record IsWellSized (request : Request) : Type 0 where
   pub some : 0 < request.size
   pub small : request.size ≤ 8
   pub carried : is_store request ≡ true → length request.bytes ≡ request.size
+
+-- the first so many bytes whose bit is set, rising
+abbrev pub bytes_under : (ℕ → ℕ) → ℕ → ℕ → List ℕ
+bytes_under bytes size mask = map bytes (filter (is_under mask) (range_with_len 0 size))
+
+-- the place at which these bytes end in the list, where they stand there from a place on
+abbrev pub EndOf : List ℕ → List ℕ → ℕ → Option ℕ → Type 0
+EndOf xs bytes from end = (more : List ℕ) → bytes_eq (drop from bytes) (xs ++ more)
+    ≡ option_map_or (λ at. bytes_eq (drop at bytes) more) end false

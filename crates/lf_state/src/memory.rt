@@ -1,14 +1,14 @@
 //! Flat memory, as far as a trace names it and stores wrote it. All other bytes are zero.
 
 ghost use Rattle.std.specs.Prelude.{◌≡◌, ℕ, ◌+◌, ◌-◌, ◌/◌, ◌<◌, ◌≤◌, ◌||◌, ◌==◌, map, length, slice_index, bytes_eq};
-ghost use Rattle.std.specs.Prelude.{IfOk, OnOk, OnErr};
+ghost use Rattle.std.specs.Prelude.{IfOk, IfSome, OnOk, OnErr};
 ghost use Rattle.std.specs.Int.{from_le_bytes, w64};
-ghost use Rattle.std.specs.List.{range_with_len, list_all, filter};
+ghost use Rattle.std.specs.List.{range_with_len, list_all};
 ghost use Rattle.lf_rules.specs.Address.{agree_off, block_bytes, flat_memory, is_under, masked, wide_masked};
 ghost use Rattle.lf_rules.specs.InRange.{IsShape};
 ghost use Rattle.lf_rules.specs.State.{update};
 ghost use Rattle.lf_rules.specs.Table.{value_of, accepted};
-ghost use Rattle.lf_state.specs.Bytes.{flat_of, bank_part, put};
+ghost use Rattle.lf_state.specs.Bytes.{flat_of, bank_part, bytes_under, put, EndOf};
 
 use crate::places::{bank_of, sub_block};
 use crate::request::{Data, Request};
@@ -184,12 +184,25 @@ impl FlatMemory {
         agree_off(bytes, self.bytes_of(block), mask)
     }
 
-    /// The block's bytes under the mask, rising, of the first so many.
-    fn masked(&self, block: u32, size: u32, mask: u64) -> Block
-        requires { size ≤ 64 }
-        ensures { result.items ≡ map (flat_of self.now block) (filter (is_under mask) (range_with_len 0 size)) }
+    /// Where the block's bytes under the mask end in the list, if they stand there from a place on.
+    fn end_of_masked(
+        &self,
+        block: u32,
+        size: u32,
+        mask: Mask,
+        bytes: &[u8],
+        from: usize,
+    ) -> Option<usize>
+        requires small { size ≤ 64 }
+        requires within { from ≤ length bytes.now }
+        ensures within { IfSome result (λ end. end ≤ length bytes.now) }
+        ensures value { EndOf (bytes_under (flat_of self.now block) size mask.0) bytes.now from result }
     {
-        masked(self.bytes_of(block), size, mask)
+        // A clean block is given up with no bytes.
+        if mask.0 == 0 {
+            return Some(from);
+        }
+        end_of_masked(self.bytes_of(block), size, mask, bytes, from)
     }
 
     /// Whether these are the block's bytes under the mask.
@@ -197,30 +210,7 @@ impl FlatMemory {
         requires { shape.now.block ≤ 64 }
         ensures { result ≡ bytes_eq bytes.now.items (masked (block_bytes shape.now (flat_of self.now) block) mask.0) }
     {
-        // A clean block is given up with no bytes.
-        if mask.0 == 0 {
-            return bytes.is_empty();
-        }
-        let masked = self.masked(block, shape.block, mask.0);
-        bytes.as_slice() == masked.as_slice()
-    }
-
-    /// The bytes of a second-level block under its masks, block by block.
-    fn wide_masked(&self, shape: &Shape, second: u32, masks: &Masks) -> WideBlock
-        requires in_range { IsShape shape.now }
-        requires fits { second < 0x1_0000_0000 / shape.now.factor }
-        requires count { length masks.now.items ≡ shape.now.factor }
-        ensures { result.items ≡ wide_masked shape.now (flat_of self.now) second masks.now }
-    {
-        let mut all = WideBlock::new();
-        for place in 0..shape.factor {
-            let block = sub_block(shape, second, place);
-            let part = self.masked(block, shape.block, masks[place as usize].0);
-            let Ok(()) = all.try_extend_from_slice(&part) else {
-                unreachable!()
-            };
-        }
-        all
+        self.end_of_masked(block, shape.block, mask, bytes, 0) == Some(bytes.len())
     }
 
     /// Whether these are the bytes of the second-level block under its masks, block by block.
@@ -230,8 +220,15 @@ impl FlatMemory {
         requires count { length masks.now.items ≡ shape.now.factor }
         ensures { result ≡ bytes_eq bytes.now.items (wide_masked shape.now (flat_of self.now) second masks.now) }
     {
-        let all = self.wide_masked(shape, second, masks);
-        bytes.as_slice() == all.as_slice()
+        let mut end = 0;
+        for place in 0..shape.factor {
+            let block = sub_block(shape, second, place);
+            match self.end_of_masked(block, shape.block, masks[place as usize], bytes, end) {
+                Some(next) => end = next,
+                None => return false,
+            }
+        }
+        end == bytes.len()
     }
 }
 
@@ -288,15 +285,23 @@ fn agree_off(bytes: &[u8], stored: &Bytes, mask: u64) -> bool
     agree_from(bytes, stored, mask, from)
 }
 
-fn masked(stored: &Bytes, size: u32, mask: u64) -> Block
-    requires { size ≤ 64 }
-    ensures { result.items ≡ map (slice_index stored.now) (filter (is_under mask) (range_with_len 0 size)) }
+/// Where the first so many stored bytes under the mask end in the list, if they stand there from a place on.
+fn end_of_masked(stored: &Bytes, size: u32, mask: Mask, bytes: &[u8], from: usize) -> Option<usize>
+    requires small { size ≤ 64 }
+    requires within { from ≤ length bytes.now }
+    ensures within { IfSome result (λ end. end ≤ length bytes.now) }
+    ensures value { EndOf (bytes_under (slice_index stored.now) size mask.0) bytes.now from result }
 {
-    let mut bytes = Block::new();
-    for i in 0..size as usize {
-        if is_under(mask, i) {
-            bytes.push(stored[i]);
+    let mut at = from;
+    let mut rest = mask.0 & Mask::of(0, size).0;
+    while rest != 0 {
+        let place = rest.trailing_zeros() as usize;
+        if at == bytes.len() || bytes[at] != stored[place] {
+            return None;
         }
+        at += 1;
+        // The lowest bit goes.
+        rest &= rest - 1;
     }
-    bytes
+    Some(at)
 }

@@ -1,14 +1,14 @@
-use Rattle.lf_rules.proofs.Bytes.{evict_agrees}
-use Rattle.lf_rules.specs.Address.{block_bytes}
-use Rattle.lf_state.specs.Bytes.{flat_of}
-use Rattle.lf_state.proofs.Bytes.{clean_agrees}
+use Rattle.std.proofs.Common.{ℕ, ap, ◌∙◌}
+use Rattle.std.specs.Prelude.{bytes_eq}
+use Rattle.lf_rules.proofs.Bytes.{masked_flat}
+use Rattle.lf_state.specs.Bytes.{bytes_under, flat_of}
+use Rattle.lf_state.proofs.Masked.{all_of_list}
 use Rattle.lf_state.proofs.memory.FlatMemory.carries.Goals as goal
 
-pub returns-then-mask-eq0 : goal.returns-then-mask-eq0
-returns-then-mask-eq0 c = clean_agrees _ c.args.bytes.now.items
-    (block_bytes c.args.shape.now (flat_of c.args.self.now) c.args.block) c.args.mask.0 c.if-mask-eq0.true
-    c.is_empty.ensures
-
 pub returns : goal.returns
-returns c = evict_agrees (flat_of c.args.self.now c.args.block) _ _ _ _ _ c.args.mask.0 c.args.shape.now.block
-    c.eq.ensures c.as_slice.ensures.value c.as_slice-2.ensures.value c.masked-masked.ensures
+returns c =
+    let stored : ℕ → ℕ = flat_of c.args.self.now c.args.block in
+    all_of_list (bytes_under stored c.args.shape.now.block c.args.mask.0) c.deref.result.now c.args.bytes.now.items
+    c.end_of_masked.result c.len.result c.eq.result c.end_of_masked.ensures.value c.end_of_masked.ensures.within
+    c.deref.ensures.0 c.len.ensures.value c.eq.ensures
+    ∙ ap (bytes_eq c.args.bytes.now.items) (masked_flat stored c.args.mask.0 c.args.shape.now.block)
