@@ -1,10 +1,10 @@
 -- Masks that stand beside each other, joined.
-use Rattle.std.proofs.Common.{ℕ, zero, suc, ◌≡◌, ◌<◌, ◌+◌, List, [], ◌∷◌, length, take, ◌==◌, true, ◌++◌, get_or}
-use Rattle.std.proofs.Common.{refl, ap, sym, ◌∙◌, arith}
-use Rattle.std.specs.Prelude.{bit_or}
+use Rattle.std.proofs.Common.{ℕ, zero, suc, ◌≡◌, ◌<◌, ◌≤◌, ◌+◌, List, [], ◌∷◌, length, ◌==◌, true, get_or, refl, ap}
+use Rattle.std.proofs.Common.{sym, ◌∙◌, arith, length-set, get_or-set_same, get_or-set_other, ext_get_or}
+use Rattle.std.specs.Prelude.{bit_or, slice_set}
 use Rattle.std.specs.Int.Bits.{or_zero_r}
-use Rattle.std.proofs.lemmas.List.{take_more}
-use Rattle.std.proofs.Math.Seq.{take-length}
+use Rattle.std.proofs.Math.Logic.{⊎_elim}
+use Rattle.std.proofs.lemmas.Bool.{cases_eq}
 use Rattle.lf_rules.specs.declared.mask.Mask.{Mask}
 use Rattle.lf_rules.specs.Address.{clean_mask}
 use Rattle.lf_levels.specs.LineTable.{joined, is_line2}
@@ -31,14 +31,32 @@ joined_at (m ∷ ms) [] (suc i) lt = ap (λ n. record { 0 = n }) (sym (or_zero_r
 joined_at (m ∷ ms) (o ∷ others) zero lt = refl
 joined_at (m ∷ ms) (o ∷ others) (suc i) lt = joined_at ms others i (omega arith)
 
--- one mask more
-pub joined_more : (ms others : List Mask) (i : ℕ) → i < length ms →
-    take (i + 1) (joined ms others) ≡ take i (joined ms others) ++ both_at ms others i ∷ []
-joined_more ms others i lt =
-    let inside : i < length (joined ms others) = omega (arith, length-joined ms others) in
-    take_more (joined ms others) i clean_mask inside ∙ ap (λ m. take i (joined ms others) ++ m ∷ [])
-    (joined_at ms others i lt)
+-- Of so many of the first masks, each has gained the bytes of the other that stands beside it.
+pub record IsJoinedTo (ms others now : List Mask) (i : ℕ) : Type 0 where
+  pub same_length : length now ≡ length ms
+  pub before : (k : ℕ) → k < i → get_or now k clean_mask ≡ both_at ms others k
+  pub after : (k : ℕ) → i ≤ k → get_or now k clean_mask ≡ get_or ms k clean_mask
 
-pub joined_all : (ms others : List Mask) (i : ℕ) → i ≡ length ms → take i (joined ms others) ≡ joined ms others
-joined_all ms others i e = ap (λ n. take n (joined ms others)) (e ∙ sym (length-joined ms others))
-    ∙ take-length (joined ms others)
+pub none_joined : (ms others : List Mask) → IsJoinedTo ms others ms 0
+none_joined ms others = record { same_length = refl; before = λ k lt. absurd (omega arith); after = λ k le. refl }
+
+pub joined_more : (ms others now : List Mask) (i : ℕ) (gained : Mask) → IsJoinedTo ms others now i → i < length ms →
+    gained ≡ both_at ms others i → IsJoinedTo ms others (slice_set now i gained) (i + 1)
+joined_more ms others now i gained is lt e = record {
+  same_length = length-set now i gained ∙ is.same_length;
+  before = λ k low. ⊎_elim
+      (λ here. ap (λ n. get_or (slice_set now i gained) n clean_mask) here
+      ∙ get_or-set_same now i gained clean_mask (omega (arith, is.same_length)) ∙ e
+      ∙ ap (both_at ms others) (sym here))
+      (λ ne. get_or-set_other now i k gained clean_mask ne ∙ is.before k (omega (arith, ne)))
+      (cases_eq k i);
+  after = λ k high. get_or-set_other now i k gained clean_mask (λ same. absurd (omega (arith, same)))
+      ∙ is.after k (omega arith);
+}
+
+pub joined_all : (ms others now : List Mask) (i : ℕ) → IsJoinedTo ms others now i → length ms ≤ i →
+    now ≡ joined ms others
+joined_all ms others now i is all =
+    ext_get_or clean_mask now (joined ms others) (is.same_length ∙ sym (length-joined ms others))
+    (λ k lt. let inside : k < length ms = omega (arith, is.same_length) in
+    is.before k (omega arith) ∙ sym (joined_at ms others k inside))

@@ -4,7 +4,7 @@ ghost use Rattle.std.specs.Prelude.{◌≡◌, ◌<◌, true};
 ghost use Rattle.lf_rules.specs.Address.{set1_of};
 ghost use Rattle.lf_rules.specs.Fits.{is_factor};
 
-use crate::lines_two::joined;
+use crate::lines_two::join_masks;
 use lf_rules::{Masks, quotient, remainder, same_masks};
 
 /// A level of the cache: what is dirty of its lines, and which set a block is in.
@@ -37,10 +37,10 @@ pub trait Level {
     fn clean() -> Self::Dirty
         ensures { result ≡ clean };
 
-    /// What is dirty of a line of which more is written.
-    fn join(dirty: &Self::Dirty, more: &Self::Dirty) -> Self::Dirty
-        ensures value { result ≡ join dirty.now more.now }
-        ensures line { (factor : ℕ) → is_line factor dirty.now ≡ true → is_line factor result ≡ true };
+    /// More is dirty of a line.
+    fn join(dirty: &mut Self::Dirty, more: &Self::Dirty)
+        ensures value { dirty.new ≡ join dirty.old more.now }
+        ensures line { (factor : ℕ) → is_line factor dirty.old ≡ true → is_line factor dirty.new ≡ true };
 
     /// Whether both have the same bytes, where a block of level two has so many first-level blocks.
     fn same(factor: u32, a: &Self::Dirty, b: &Self::Dirty) -> bool
@@ -87,8 +87,8 @@ impl Level for One {
         0
     }
 
-    fn join(dirty: &u64, more: &u64) -> u64 {
-        *dirty | *more
+    fn join(dirty: &mut u64, more: &u64) {
+        *dirty |= *more;
     }
 
     fn same(_factor: u32, a: &u64, b: &u64) -> bool {
@@ -135,8 +135,8 @@ impl Level for Two {
         Masks::new()
     }
 
-    fn join(dirty: &Masks, more: &Masks) -> Masks {
-        joined(dirty, more)
+    fn join(dirty: &mut Masks, more: &Masks) {
+        join_masks(dirty, more);
     }
 
     fn same(factor: u32, a: &Masks, b: &Masks) -> bool {

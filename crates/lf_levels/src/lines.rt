@@ -151,8 +151,7 @@ impl<L: Level> Lines<L> {
         let Some(way) = find_line(&self.keys, row, self.ways as usize, block) else {
             unreachable!()
         };
-        let dirty = L::join(&self.dirty[way], more);
-        self.dirty[way] = dirty;
+        L::join(&mut self.dirty[way], more);
     }
 
     /// The block's line goes, where this is what is dirty of it.

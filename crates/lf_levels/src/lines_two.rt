@@ -13,15 +13,13 @@ use crate::level::{One, Two};
 use crate::lines::Lines;
 use lf_rules::{Mask, Masks, mask_at};
 
-/// Each mask with the bytes of the other that stands beside it.
-pub fn joined(masks: &Masks, others: &Masks) -> Masks
-    ensures { result.items ≡ joined masks.now.items others.now.items }
+/// Each mask gains the bytes of the other that stands beside it.
+pub fn join_masks(masks: &mut Masks, others: &Masks)
+    ensures { masks.new.items ≡ joined masks.old.items others.now.items }
 {
-    let mut all = Masks::new();
     for i in 0..masks.len() {
-        all.push(Mask(masks[i].0 | mask_at(others, i as u32)));
+        masks[i].0 |= mask_at(others, i as u32);
     }
-    all
 }
 
 impl Lines<Two> {

@@ -13,20 +13,20 @@ unreachable-requires g c = not_lacking c.self.invariant c.args.self.now c.self.v
 pub invariant_of-self : goal.invariant_of-self
 invariant_of-self g c =
     set_whole c.self.invariant c.args.self.now c.self.view_is c.args.block c.row-row.result c.row-row.ensures _
-    c.deref.ensures.value c.in-Some.way c.in-Some.ensures c.join-dirty.result
-    (c.join-dirty.ensures.line c.self.inside.factor
+    c.deref.ensures.value c.in-Some.way c.in-Some.ensures c.join.new.dirty
+    (c.join.ensures.line c.self.inside.factor
     (line_has c.self.invariant c.args.self.now c.self.view_is c.args.block c.row-row.result c.row-row.ensures _
-    c.deref.ensures.value c.in-Some.way c.in-Some.ensures _ c.index.ensures))
+    c.deref.ensures.value c.in-Some.way c.in-Some.ensures _ c.index_mut.ensures.value))
 
 pub returns-clause-gained : goal.returns-clause-gained
 returns-clause-gained g c =
     gained_table c.self.invariant c.args.self.now c.self.view_is c.args.block c.row-row.result c.row-row.ensures _
-    c.deref.ensures.value c.in-Some.way c.in-Some.ensures _ c.index.ensures g.L.Level.join g.L.Level.clean
-    c.args.more.now c.join-dirty.result c.join-dirty.ensures.value
+    c.deref.ensures.value c.in-Some.way c.in-Some.ensures _ c.index_mut.ensures.value
+    g.L.Level.join g.L.Level.clean c.args.more.now c.join.new.dirty c.join.ensures.value
 
 pub returns-clause-here : goal.returns-clause-here
 returns-clause-here g c =
     changed-fill c.args.self.now _ c.args.block _
     (gained_table c.self.invariant c.args.self.now c.self.view_is c.args.block c.row-row.result c.row-row.ensures _
-    c.deref.ensures.value c.in-Some.way c.in-Some.ensures _ c.index.ensures g.L.Level.join g.L.Level.clean
-    c.args.more.now c.join-dirty.result c.join-dirty.ensures.value)
+    c.deref.ensures.value c.in-Some.way c.in-Some.ensures _ c.index_mut.ensures.value
+    g.L.Level.join g.L.Level.clean c.args.more.now c.join.new.dirty c.join.ensures.value)
