@@ -114,6 +114,21 @@ fn each_block_of_a_wide_line_has_a_mask(rt: HostRuntime) -> Result<(), Fail> {
     Ok(())
 }
 
+/// A mark at one place leaves the mask at the other, and a mark of no bytes leaves both.
+#[test]
+fn one_mask_of_a_wide_line_gains_bytes(rt: HostRuntime) -> Result<(), Fail> {
+    let mut outer: Lines<Two> = Lines::new(rt.alloc(), 1, 2, 1, 2).ok().ok_or("no memory")?;
+    assert!(rt; !outer.has(5));
+    assert_eq!(rt; outer.fill(5, two_masks(1, 2)), Ok(()));
+    assert!(rt; outer.has(5));
+    outer.mark_at(5, 1, Mask(4));
+    assert!(rt; outer.dirty(5) == Some(&two_masks(1, 6)));
+    assert!(rt; outer.has(5));
+    outer.mark_at(5, 0, Mask(0));
+    assert!(rt; outer.dirty(5) == Some(&two_masks(1, 6)));
+    Ok(())
+}
+
 #[test]
 fn a_wide_line_goes_with_its_masks(rt: HostRuntime) -> Result<(), Fail> {
     let mut outer: Lines<Two> = Lines::new(rt.alloc(), 1, 2, 1, 2).ok().ok_or("no memory")?;

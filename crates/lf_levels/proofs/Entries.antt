@@ -84,6 +84,16 @@ module _ {M : Type 0} where
   same_lines a b g h is = same_entries nat_cmp nat_cmp_total exact_unsigned a b g h
       (λ y. sym (lookup_is_find a y) ∙ is y ∙ lookup_is_find b y)
 
+  -- a line that a block has already
+  pub with_same : (lines : List (ℕ × M)) (x : ℕ) (m : M) → AreRising lines → line_at lines x ≡ Some m →
+      with_line lines x m ≡ lines
+  with_same lines x m h there = same_lines (with_line lines x m) lines (rising-with lines x m h) h
+      (λ y. line_put lines x m y ∙ at y (x == y) refl)
+    where
+      at : (y : ℕ) (b : Bool) → (x == y) ≡ b → cond b (Some m) (line_at lines y) ≡ line_at lines y
+      at y true e = sym (ap (line_at lines) (sym (eqb-true x y e)) ∙ there)
+      at y false e = refl
+
   above : (x : ℕ) (lines : List (ℕ × M)) → T (below_all nat_cmp x lines) →
       AllByRecursion (λ y. nat_cmp x y ≡ Less) (keys_of lines)
   above x [] h = tt

@@ -5,3 +5,4 @@ pub mod Keyed
 pub mod Rows
 pub mod Searched
 pub mod Joined
+pub mod Marked

@@ -9,8 +9,8 @@ use Rattle.lf_rules.specs.Lines.{line_at, has_line, with_line, lines_of_set}
 use Rattle.lf_levels.specs.LineTable.{LineTable, IsLineTable, ChangesOnly, set_in, is_full, after_fill, after_evict}
 use Rattle.lf_levels.specs.Rows.{Line, is_free, is_key, is_on, way_of, rows_of, lines_of, FindsWay, AreWholeRows}
 use Rattle.lf_levels.specs.Rows.{AreWays}
-use Rattle.lf_levels.proofs.Entries.{flip, line_put, line_gone}
-use Rattle.lf_levels.proofs.InWays.{dirty_of, all_free}
+use Rattle.lf_levels.proofs.Entries.{flip, line_put, line_gone, AreRising, with_same}
+use Rattle.lf_levels.proofs.InWays.{dirty_of, rising, all_free}
 use Rattle.lf_levels.proofs.Keyed.{key_is, length-rows, rows_at, rows-set, rows-free, rows-dirty, on_key, free_key}
 use Rattle.lf_levels.proofs.Keyed.{finds_way, rows-replicate}
 use Rattle.lf_levels.proofs.Rows.{table_of, row_is, row_within, is_table, has-is, full-is, line_at-found, line_at-none}
@@ -36,6 +36,10 @@ module _ {M : Type 0} where
       ap (λ (t : LineTable M). line_at t.lines other) e ∙ line_gone old.lines block other
       ∙ ap (λ b. cond b None (line_at old.lines other)) (flip block other)
 
+  some_from : (clean : M) (o : Option M) → is_some o ≡ true → o ≡ Some (unwrap_or o clean)
+  some_from clean None e = absurd (cc e)
+  some_from clean (Some x) e = refl
+
   none_from : (o : Option M) → is_some o ≡ false → o ≡ None
   none_from None e = refl
   none_from (Some x) e = absurd (cc e)
@@ -49,6 +53,14 @@ module _ {M : Type 0} {set : ℕ → ℕ → ℕ → ℕ → ℕ} {is_line : ℕ
 
   pub table_is : IsLineTable set is_line table
   table_is = subst (IsLineTable set is_line) same (is_table is.whole)
+
+  -- a line that stays as it is
+  pub same_fill : (block : ℕ) (clean dirty : M) → has_line table.lines block ≡ true →
+      dirty ≡ unwrap_or (line_at table.lines block) clean → table ≡ after_fill table block dirty
+  same_fill block clean dirty there e =
+      ap (table_of table.sets table.ways table.banks table.factor) (sym (with_same table.lines block dirty
+      (subst (λ (t : LineTable M). AreRising t.lines) same (rising rows))
+      (some_from clean (line_at table.lines block) there ∙ ap Some (sym e))))
 
   -- a full set is one that has as many lines as ways
   pub full_all : (block : ℕ) (full : Bool) → full ≡ is_full set table block → IsTrue full ↔
@@ -193,15 +205,15 @@ module _ {M : Type 0} {set : ℕ → ℕ → ℕ → ℕ → ℕ} {is_line : ℕ
             (whole-set is.whole block way on_way dirty has);
       }
 
-      -- the line in the way gains more
-      pub gained_table : (was : M) → was ≡ get_or dirties way was → (join : M → M → M) (clean more dirty : M)
-          → dirty ≡ join was more → table_of sets ways banks factor
+      -- what is dirty of the line in the way changes
+      pub changed_table : (was : M) → was ≡ get_or dirties way was → (change : M → M) (clean dirty : M)
+          → dirty ≡ change was → table_of sets ways banks factor
           (lines_of (rows_of keys (slice_set dirties way dirty)))
-          ≡ after_fill table block (join (unwrap_or (line_at table.lines block) clean) more)
-      gained_table was e join clean more dirty joined =
+          ≡ after_fill table block (change (unwrap_or (line_at table.lines block) clean))
+      changed_table was e change clean dirty changed =
           filled dirty (rows_of keys (slice_set dirties way dirty)) (ap lines_of (set_rows dirty) ∙ lines-set
           is.whole block way on_way dirty)
-          ∙ ap (after_fill table block) (joined ∙ ap (λ d. join d more)
+          ∙ ap (after_fill table block) (changed ∙ ap change
           (sym (ap (λ (o : Option M). unwrap_or o clean) (line_found was e))))
 
       module _ (key : Option ℕ) (none : key ≡ None) where

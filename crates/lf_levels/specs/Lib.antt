@@ -2,5 +2,6 @@
 pub mod LineTable
 pub mod Refusals
 -- What serves the crate's own contracts.
+pub mod CleanMasks
 pub mod Rows
 pub mod WayKeys

@@ -21,6 +21,12 @@ pub trait Level {
     // what is dirty of a line of which more is written
     ghost join: { Self.Dirty → Self.Dirty → Self.Dirty };
 
+    // is this nothing more, where it is joined?
+    ghost is_clean: { Self.Dirty → Bool };
+
+    // nothing more leaves what is dirty as it is
+    ghost join_clean: { (dirty more : Self.Dirty) → is_clean more ≡ true → join dirty more ≡ dirty };
+
     // have both, of so many first-level blocks, the same bytes?
     ghost same: { ℕ → Self.Dirty → Self.Dirty → Bool };
 
@@ -36,6 +42,10 @@ pub trait Level {
     /// Nothing of a line.
     fn clean() -> Self::Dirty
         ensures { result ≡ clean };
+
+    /// Whether this is nothing.
+    fn is_clean(dirty: &Self::Dirty) -> bool
+        ensures { result ≡ is_clean dirty.now };
 
     /// More is dirty of a line.
     fn join(dirty: &mut Self::Dirty, more: &Self::Dirty)
@@ -65,6 +75,8 @@ pub struct Two;
 
 impl Level for One {
     ghost use Rattle.std.specs.Prelude.{bit_or, ◌==◌};
+    ghost use Rattle.std.specs.Int.Bits.{or_zero_r};
+    ghost use Rattle.std.proofs.Common.{ap, ◌∙◌, eqb-true};
     ghost use Rattle.lf_levels.specs.LineTable.{is_line1};
     ghost use Rattle.lf_rules.specs.Address.{set1_of};
     ghost use Rattle.std.proofs.lemmas.Nat.{mod_below};
@@ -74,6 +86,10 @@ impl Level for One {
     ghost clean = { 0 };
 
     ghost join = { bit_or };
+
+    ghost is_clean = { λ mask. mask == 0 };
+
+    ghost join_clean = { λ mask more none. ap (bit_or mask) (eqb-true more 0 none) ∙ or_zero_r mask };
 
     ghost same = { λ factor a b. a == b };
 
@@ -85,6 +101,10 @@ impl Level for One {
 
     fn clean() -> u64 {
         0
+    }
+
+    fn is_clean(dirty: &u64) -> bool {
+        *dirty == 0
     }
 
     fn join(dirty: &mut u64, more: &u64) {
@@ -114,6 +134,7 @@ fn set1_of(banks: u32, factor: u32, sets: u32, block: u32) -> u32
 
 impl Level for Two {
     ghost use Rattle.lf_levels.specs.LineTable.{wide_set, joined, is_line2};
+    ghost use Rattle.lf_levels.specs.CleanMasks.{are_clean, joined_clean};
     ghost use Rattle.lf_rules.specs.Lines.{no_masks, same_masks};
     ghost use Rattle.std.proofs.lemmas.Nat.{mod_below};
 
@@ -122,6 +143,10 @@ impl Level for Two {
     ghost clean = { no_masks };
 
     ghost join = { λ dirty more. record { items = joined dirty.items more.items } };
+
+    ghost is_clean = { λ masks. are_clean masks.items };
+
+    ghost join_clean = { λ masks more none. λ i. record { items = joined_clean masks.items more.items none i } };
 
     ghost same = { same_masks };
 
@@ -133,6 +158,10 @@ impl Level for Two {
 
     fn clean() -> Masks {
         Masks::new()
+    }
+
+    fn is_clean(dirty: &Masks) -> bool {
+        dirty.iter().all(|mask| mask.0 == 0)
     }
 
     fn join(dirty: &mut Masks, more: &Masks) {

@@ -1,19 +1,20 @@
 //! A table of lines.
 
-ghost use Rattle.std.specs.Prelude.{◌≡◌, ◌*◌, true, false, ◌↔◌, IsTrue, Option, Some, None, option_copied, unwrap_or};
+ghost use Rattle.std.specs.Prelude.{◌≡◌, ◌<◌, ◌*◌, true, false, ◌↔◌, IsTrue, Option, Some, None, option_copied, unwrap_or};
 ghost use Rattle.std.specs.Prelude.{IfOk, IfErr, OnErr};
 ghost use Rattle.lf_rules.specs.Fits.{is_factor};
 ghost use Rattle.lf_rules.specs.InRange.{IsFrom};
-ghost use Rattle.lf_rules.specs.Lines.{line_at, has_line, lines_of_set};
+ghost use Rattle.lf_rules.specs.Lines.{line_at, has_line, lines_of_set, dirty_masks, marked};
 ghost use Rattle.lf_levels.specs.LineTable.{IsLineTable, ChangesOnly, set_in, empty_table, is_full, after_fill};
 ghost use Rattle.lf_levels.specs.LineTable.{after_evict};
 ghost use Rattle.lf_levels.specs.Refusals.{FillRefusal, TakeOutRefusal};
 
 use crate::fault::LineFault;
-use crate::level::Level;
+use crate::level::{Level, Two};
+use crate::lines_two::gain_at;
 use crate::way_key::WayKey;
 use crate::ways::{clean_ways, find_free, find_line, free_keys};
-use lf_rules::NoMemory;
+use lf_rules::{Mask, NoMemory};
 use std::alloc::Global;
 use std::marker::Model;
 
@@ -147,8 +148,12 @@ impl<L: Level> Lines<L> {
         ensures here { ChangesOnly self.old self.new block (Some
             (L.join (unwrap_or (line_at self.old.lines block) L.clean) more.now)) }
     {
+        let ways = self.ways as usize;
+        if L::is_clean(more) {
+            return;
+        }
         let row = self.row(block);
-        let Some(way) = find_line(&self.keys, row, self.ways as usize, block) else {
+        let Some(way) = find_line(&self.keys, row, ways, block) else {
             unreachable!()
         };
         L::join(&mut self.dirty[way], more);
@@ -174,5 +179,27 @@ impl<L: Level> Lines<L> {
         }
         self.keys[way] = WayKey::free();
         Ok(())
+    }
+}
+
+impl Lines<Two> {
+    /// The dirty mask at one place of the second-level block's line gains these bytes.
+    pub fn mark_at(&mut self, second: u32, place: u32, mask: Mask)
+        requires there { has_line self.old.lines second ≡ true }
+        requires inside { place < self.old.factor }
+        ensures marked { self.new ≡ after_fill self.old second
+            (marked (dirty_masks self.old.lines second) place mask.0) }
+        ensures here { ChangesOnly self.old self.new second (Some
+            (marked (dirty_masks self.old.lines second) place mask.0)) }
+    {
+        let ways = self.ways as usize;
+        if mask.0 == 0 {
+            return;
+        }
+        let row = self.row(second);
+        let Some(way) = find_line(&self.keys, row, ways, second) else {
+            unreachable!()
+        };
+        gain_at(&mut self.dirty[way], place, mask);
     }
 }

@@ -3,7 +3,7 @@
 ghost use Rattle.std.specs.Prelude.{◌≡◌, ◌<◌, ◌/◌, ◌&&◌, true, false, not, length, Option, Some, None, option_copied};
 ghost use Rattle.std.specs.Prelude.{IfOk, IfErr, OnErr};
 ghost use Rattle.lf_rules.specs.Fits.{is_factor};
-ghost use Rattle.lf_rules.specs.Lines.{line_at, has_line, dirty_masks, same_masks};
+ghost use Rattle.lf_rules.specs.Lines.{line_at, has_line, dirty_masks, same_masks, marked};
 ghost use Rattle.lf_levels.specs.LineTable.{IsLineTable, is_line2, ChangesOnly, is_full, wide_set, after_fill};
 ghost use Rattle.lf_levels.specs.LineTable.{after_evict, joined, joined2, are_absent};
 ghost use Rattle.lf_levels.specs.Refusals.{FillRefusal, WideEvictRefusal};
@@ -81,6 +81,14 @@ impl Lines<Two> {
     {
         are_absent(self.factor(), inner, second) && !in_register
     }
+}
+
+/// The mask at the place gains these bytes.
+pub fn gain_at(masks: &mut Masks, place: u32, mask: Mask)
+    requires { place < length masks.old.items }
+    ensures { masks.new ≡ marked masks.old place mask.0 }
+{
+    masks[place as usize].0 |= mask.0;
 }
 
 /// Whether level one has no line on any block of the second-level block.

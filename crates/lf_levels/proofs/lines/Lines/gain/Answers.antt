@@ -1,10 +1,15 @@
-use Rattle.lf_levels.proofs.Searched.{row_fits, not_lacking, line_has, set_whole, gained_table}
+use Rattle.lf_levels.proofs.Searched.{row_fits, not_lacking, line_has, set_whole, changed_table, same_fill}
+use Rattle.std.proofs.Common.{sym, ◌∙◌}
 use Rattle.lf_levels.proofs.Searched.{changed-fill}
 use Rattle.lf_levels.proofs.lines.Lines.gain.Goals as goal
 
 pub find_line-requires : goal.find_line-requires
 find_line-requires g c = row_fits c.self.invariant c.args.self.now c.self.view_is c.args.block c.row-row.result
     c.row-row.ensures _ c.deref.ensures.value
+
+pub returns-then-is_clean-clause-gained : goal.returns-then-is_clean-clause-gained
+returns-then-is_clean-clause-gained g c = same_fill c.self.invariant c.args.self.now c.self.view_is c.args.block
+    g.L.Level.clean _ c.requires (g.L.Level.join_clean _ c.args.more.now (sym c.is_clean.ensures ∙ c.if-is_clean.true))
 
 pub unreachable-requires : goal.unreachable-requires
 unreachable-requires g c = not_lacking c.self.invariant c.args.self.now c.self.view_is c.args.block c.row-row.result
@@ -20,13 +25,13 @@ invariant_of-self g c =
 
 pub returns-clause-gained : goal.returns-clause-gained
 returns-clause-gained g c =
-    gained_table c.self.invariant c.args.self.now c.self.view_is c.args.block c.row-row.result c.row-row.ensures _
+    changed_table c.self.invariant c.args.self.now c.self.view_is c.args.block c.row-row.result c.row-row.ensures _
     c.deref.ensures.value c.in-Some.way c.in-Some.ensures _ c.index_mut.ensures.value
-    g.L.Level.join g.L.Level.clean c.args.more.now c.join.new.dirty c.join.ensures.value
+    (λ dirty. g.L.Level.join dirty c.args.more.now) g.L.Level.clean c.join.new.dirty c.join.ensures.value
 
 pub returns-clause-here : goal.returns-clause-here
 returns-clause-here g c =
     changed-fill c.args.self.now _ c.args.block _
-    (gained_table c.self.invariant c.args.self.now c.self.view_is c.args.block c.row-row.result c.row-row.ensures _
+    (changed_table c.self.invariant c.args.self.now c.self.view_is c.args.block c.row-row.result c.row-row.ensures _
     c.deref.ensures.value c.in-Some.way c.in-Some.ensures _ c.index_mut.ensures.value
-    g.L.Level.join g.L.Level.clean c.args.more.now c.join.new.dirty c.join.ensures.value)
+    (λ dirty. g.L.Level.join dirty c.args.more.now) g.L.Level.clean c.join.new.dirty c.join.ensures.value)
