@@ -7,16 +7,14 @@ use Rattle.std.specs.Prelude.{count_by}
 use Rattle.std.specs.List.{list_any, fold}
 use Rattle.std.proofs.lemmas.Bool.{cases_eq, cases_lt}
 use Rattle.std.proofs.lemmas.List.{length-set, get_or-set_same, get_or-set_other}
-use Rattle.std.proofs.lemmas.List.{get_or-replicate, length-replicate, get_or_past, append-nil, append_assoc}
-use Rattle.std.proofs.lemmas.List.{length_push}
+use Rattle.std.proofs.lemmas.List.{get_or-replicate, length-replicate, get_or_past, append-nil}
 use Rattle.std.proofs.lemmas.List.Folds.{list_any-append}
 use Rattle.std.proofs.lemmas.List.Sums.{sum_by-append}
 use Rattle.std.proofs.lemmas.Nat.Bits.{bit_at-zero}
 use Rattle.std.proofs.Math.Seq.{append_snoc}
 use Rattle.lf_rules.specs.Address.{is_under}
-use Rattle.lf_mshr.specs.Places.{is_marked, walk, last_of, AreOnce, pick, placed, held_of, left_of, IsChain}
+use Rattle.lf_mshr.specs.Places.{is_marked, walk, last_of, AreOnce, pick, placed, held_of, IsChain}
 use Rattle.lf_rules.specs.Registers.{Held, holds, targets_of}
-use Rattle.lf_mshr.specs.RegisterFile.{released_pair}
 use Rattle.lf_mshr.proofs.Bounds.{length_by_keys}
 use Rattle.lf_mshr.proofs.Counts.{count_cons, count_push, none_passes}
 
@@ -57,6 +55,10 @@ last_of-push : (start place : ℕ) (xs : List ℕ) → last_of start (xs ++ plac
 last_of-push start place [] = refl
 last_of-push start place (x ∷ xs) = last_of-push x place xs
 
+last_of-append : (start : ℕ) (xs ys : List ℕ) → last_of start (xs ++ ys) ≡ last_of (last_of start xs) ys
+last_of-append start [] ys = refl
+last_of-append start (x ∷ xs) ys = last_of-append x xs ys
+
 length-walk : (n : ℕ → ℕ) (a len : ℕ) → length (walk n a len) ≡ len
 length-walk n a zero = refl
 length-walk n a (suc len) = ap suc (length-walk n (n a) len)
@@ -64,6 +66,14 @@ length-walk n a (suc len) = ap suc (length-walk n (n a) len)
 pub walk-step : (n : ℕ → ℕ) (a len : ℕ) → 0 < len → walk n a len ≡ n a ∷ walk n (n a) (len - 1)
 walk-step n a zero some = absurd (omega (arith, some))
 walk-step n a (suc len) some = ap (λ (k : ℕ). n a ∷ walk n (n a) k) (omega arith)
+
+-- a walk goes on from its last place
+walk-append : (n : ℕ → ℕ) (a k l : ℕ) → walk n a (k + l) ≡ walk n a k ++ walk n (last_of a (walk n a k)) l
+walk-append n a zero l = ap (walk n a) (omega arith)
+walk-append n a (suc k) l = ap (walk n a) step ∙ ap (λ (xs : List ℕ). n a ∷ xs) (walk-append n (n a) k l)
+  where
+    step : suc k + l ≡ suc (k + l)
+    step = omega arith
 
 -- The links n become m, which differ at one place.
 module _ (n m : ℕ → ℕ) (last place : ℕ) (linked : m last ≡ place) (same : (k : ℕ) → (k ≡ last → ⊥) → m k ≡ n k) where
@@ -141,6 +151,18 @@ module _ {A : Type 0} where
       ]))
       ∙ ap (λ b. p == place || b) (taken-is (x ∷ items) place ps (λ k le. not_tail p k ps (below k le)))
 
+  placed-length : (items : List A) (ps : List ℕ) → ((k : ℕ) → length items ≤ k → at k ps ≡ 0) →
+      length (placed items ps) ≡ length ps
+  placed-length items [] below = refl
+  placed-length [] (p ∷ ps) below = absurd (not_head p p ps (below p (omega arith)) refl)
+  placed-length (x ∷ items) (p ∷ ps) below =
+      ap (λ (qs : List (ℕ × A)). length qs) (placed-cons (x ∷ items) p x ps
+      (elim (cases_lt p (length (x ∷ items))) [
+        | inl lt ↦ lt
+        | inr le ↦ absurd (not_head p p ps (below p le) refl)
+      ]))
+      ∙ ap suc (placed-length (x ∷ items) ps (λ k le. not_tail p k ps (below k le)))
+
 -- What links say of their places.
 module _ {A : Type 0} (items : List A) (next used : List ℕ) (end last len : ℕ)
     (chain : IsChain items next used end last len) where
@@ -171,6 +193,11 @@ module _ {A : Type 0} (items : List A) (next used : List ℕ) (end last len : �
       let long = length-walk (slice_index next) end len in
       let few = chain.few in
       omega (arith, most, long, few)
+
+  pub count-is : length (placed items order) ≡ len
+  count-is =
+      placed-length items order (λ k le. let long = chain.long in chain.places.none k (omega (arith, le, long)))
+      ∙ length-walk (slice_index next) end len
 
   pub taken-as : (place : ℕ) → is_marked used place ≡ list_any (λ q. q.0 == place) (placed items order)
   taken-as place =
@@ -463,23 +490,29 @@ module _ (long : ℕ) (next used : List ℕ) (end last kept a left : ℕ)
         (λ k ne. get_or-set_other next last k place 0 ne)
         place (left - 1) (not_head place last rest keep_last) (not_tail place last rest keep_last)
 
-    -- the place is kept, as the last so far
-    pub parted-keep : IsParted long (set next last place) used end place (kept + 1) place (left - 1)
-    parted-keep =
-        let both : walk (slice_index (set next last place)) end (kept + 1)
-        ++ walk (slice_index (set next last place)) place (left - 1) ≡ old_kept
-        ++ walk (slice_index next) a left =
+    pub keep-all : walk (slice_index (set next last place)) end (kept + 1)
+        ++ walk (slice_index (set next last place)) place (left - 1) ≡ old_kept ++ walk (slice_index next) a left
+    keep-all =
         ap (λ (xs : List ℕ). xs ++ walk (slice_index (set next last place)) place (left - 1)) kept-is
         ∙ ap (λ (xs : List ℕ). old_kept ++ place ∷ [] ++ xs) rest-is
         ∙ append_snoc old_kept place rest
-        ∙ ap (λ (xs : List ℕ). old_kept ++ xs) (sym stepped) in
-        record {
-          links = length-set next last place ∙ parted.links;
-          words = parted.words;
-          ends = ap (last_of end) kept-is ∙ last_of-push end place old_kept;
-          places = subst (AreOnce end) (sym both) parted.places;
-          marked = λ k. parted.marked k ∙ ap (list_any (λ x. x == k)) (sym both);
-        }
+        ∙ ap (λ (xs : List ℕ). old_kept ++ xs) (sym stepped)
+
+    -- the place is kept, as the last so far
+    pub parted-keep : IsParted long (set next last place) used end place (kept + 1) place (left - 1)
+    parted-keep = record {
+      links = length-set next last place ∙ parted.links;
+      words = parted.words;
+      ends = ap (last_of end) kept-is ∙ last_of-push end place old_kept;
+      places = subst (AreOnce end) (sym keep-all) parted.places;
+      marked = λ k. parted.marked k ∙ ap (list_any (λ x. x == k)) (sym keep-all);
+    }
+
+pub parted-walk : (long : ℕ) (next used : List ℕ) (end kept a left : ℕ) → IsParted long next used end a kept a left
+    → walk (slice_index next) end (kept + left) ≡ walk (slice_index next) end kept ++ walk (slice_index next) a left
+parted-walk long next used end kept a left parted =
+    walk-append (slice_index next) end kept left
+    ∙ ap (λ k. walk (slice_index next) end kept ++ walk (slice_index next) k left) parted.ends
 
 -- nothing is still to come
 pub chain-parted : {A : Type 0} (items : List A) (long : ℕ) (next used : List ℕ) (end last kept a left : ℕ) →
@@ -500,6 +533,25 @@ chain-parted items long next used end last kept a left none few fits wide parted
       marked = λ k. parted.marked k ∙ ap (list_any (λ x. x == k)) all;
     }
 
+-- the last place that was kept is the one before those still to come, which are kept as they are
+pub chain-joined : {A : Type 0} (items : List A) (long : ℕ) (next used : List ℕ) (end kept a left : ℕ) → end ≤ 1024
+    → length items ≡ end → end ≤ 64 * long → IsParted long next used end a kept a left
+    → IsChain items next used end (last_of a (walk (slice_index next) a left)) (kept + left)
+chain-joined items long next used end kept a left few fits wide parted =
+    let walked = parted-walk long next used end kept a left parted in
+    let words = parted.words in
+    record {
+      few = few;
+      long = fits;
+      links = parted.links;
+      words = omega (arith, wide, words);
+      ends = ap (last_of end) walked
+          ∙ last_of-append end (walk (slice_index next) end kept) (walk (slice_index next) a left)
+          ∙ ap (λ k. last_of k (walk (slice_index next) a left)) parted.ends;
+      places = subst (AreOnce end) (sym walked) parted.places;
+      marked = λ k. parted.marked k ∙ ap (list_any (λ x. x == k)) (sym walked);
+    }
+
 -- nothing was released yet
 pub parted-chain : {A : Type 0} (items : List A) (next used : List ℕ) (end last len : ℕ) →
     IsChain items next used end last len → IsParted (length used) next used end end 0 end len
@@ -511,127 +563,3 @@ parted-chain items next used end last len chain = record {
       chain.places;
   marked = chain.marked;
 }
-
-module _ {A : Type 0} where
-  kept-placed : (items : List A) (place : ℕ) (d : A) (xs : List ℕ) → place < length items →
-      placed items (xs ++ place ∷ []) ≡ placed items xs ++ (place, get_or items place d) ∷ []
-  kept-placed items place d [] fits = placed-cons items place d [] fits
-  kept-placed items place d (x ∷ xs) fits =
-      ap (λ (qs : List (ℕ × A)). map (λ y. (x, y)) (pick items x) ++ qs) (kept-placed items place d xs fits)
-      ∙ sym (append_assoc (map (λ y. (x, y)) (pick items x)) (placed items xs) ((place, get_or items place d) ∷ []))
-
--- A release between two places: of the chain that was, what is kept, what was released, and what is still to come.
-pub record IsReleasing {T : Type 0} (items : List (Held T)) (was : List ℕ) (len long block : ℕ) (next used : List ℕ)
-    (targets : List (ℕ × T)) (end last kept a left : ℕ) : Type 0 where
-  pub parted : IsParted long next used end last kept a left
-  pub others : left_of (placed items (walk (slice_index was) end len)) block
-      ≡ placed items (walk (slice_index next) end kept) ++ left_of (placed items (walk (slice_index next) a left)) block
-  pub gone : map released_pair (targets_of (held_of (placed items (walk (slice_index was) end len))) block)
-      ≡ targets ++ map released_pair (targets_of (held_of (placed items (walk (slice_index next) a left))) block)
-  pub low : a ≤ end
-  pub few : length targets + left ≤ 1024
-  pub many : kept + left ≤ 1024
-
-module _ {T : Type 0} (items : List (Held T)) (was : List ℕ) (len long block : ℕ) (next used : List ℕ)
-    (targets : List (ℕ × T)) (end last kept a left : ℕ)
-    (half : IsReleasing items was len long block next used targets end last kept a left)
-    (fits : length items ≡ end) where
-  pub come-lt : 0 < left → slice_index next a < end
-  come-lt some = first-below (slice_index next) a left end some
-      (come-below long next used end last kept a left half.parted)
-
-  module _ (some : 0 < left) (d : Held T) where
-    abbrev come : ℕ
-    come = slice_index next a
-
-    abbrev taken : Held T
-    taken = get_or items (slice_index next a) d
-
-    abbrev after : List (ℕ × Held T)
-    after = placed items (walk (slice_index next) (slice_index next a) (left - 1))
-
-    first : placed items (walk (slice_index next) a left) ≡ (come, taken) ∷ after
-    first = placed-step items (slice_index next) a left d some (let lt = come-lt some in omega (arith, lt, fits))
-
-    pub releasing-drop : taken.block ≡ block → (less : List ℕ) → length less ≡ length used →
-        ((b : ℕ) → is_marked less b ≡ (not (b == come) && is_marked used b))
-        → IsReleasing items was len long block next less (targets ++ released_pair taken ∷ []) end last kept come
-        (left - 1)
-    releasing-drop same less size bits =
-        let here = eq-eqb taken.block block same in
-        record {
-          parted = parted-drop long next used end last kept a left half.parted some less size bits;
-          others = half.others ∙ ap (λ (q : List (ℕ × Held T)). placed items (walk (slice_index next) end kept)
-              ++ left_of q block) first
-              ∙ ap (λ b. placed items (walk (slice_index next) end kept)
-              ++ cond (not b) ((come, taken) ∷ left_of after block) (left_of after block)) here;
-          gone = half.gone ∙ ap (λ (q : List (ℕ × Held T)). targets
-              ++ map released_pair (targets_of (held_of q) block)) first
-              ∙ ap (λ b. targets ++ map released_pair (cond b (taken ∷ targets_of (held_of after) block)
-              (targets_of (held_of after) block))) here
-              ∙ sym (append_snoc targets (released_pair taken) (map released_pair (targets_of (held_of after) block)));
-          low = (let lt = come-lt some in omega (arith, lt));
-          few = (let more = length_push targets (released_pair taken) in let f = half.few in
-              omega (arith, more, f, some));
-          many = (let f = half.many in omega (arith, f, some));
-        }
-
-    pub releasing-keep : (taken.block ≡ block → ⊥) → IsReleasing items was len long block (set next last come) used
-        targets end come (kept + 1) come (left - 1)
-    releasing-keep other =
-        let here = ne_eqb taken.block block other in
-        let kept_now = kept-is long next used end last kept a left half.parted some in
-        let rest_now = rest-is long next used end last kept a left half.parted some in
-        let lt = come-lt some in
-        record {
-          parted = parted-keep long next used end last kept a left half.parted some;
-          others = half.others ∙ ap (λ (q : List (ℕ × Held T)). placed items (walk (slice_index next) end kept)
-              ++ left_of q block) first
-              ∙ ap (λ b. placed items (walk (slice_index next) end kept)
-              ++ cond (not b) ((come, taken) ∷ left_of after block) (left_of after block)) here
-              ∙ sym (append_snoc (placed items (walk (slice_index next) end kept)) (come, taken) (left_of after block))
-              ∙ ap (λ (q : List (ℕ × Held T)). q ++ left_of after block)
-              (sym (ap (placed items) kept_now ∙ kept-placed items come d (walk (slice_index next) end kept)
-              (omega (arith, lt, fits))))
-              ∙ ap (λ (xs : List ℕ). placed items (walk (slice_index (set next last come)) end (kept + 1))
-              ++ left_of (placed items xs) block) (sym rest_now);
-          gone = half.gone ∙ ap (λ (q : List (ℕ × Held T)). targets
-              ++ map released_pair (targets_of (held_of q) block)) first
-              ∙ ap (λ b. targets ++ map released_pair (cond b (taken ∷ targets_of (held_of after) block)
-              (targets_of (held_of after) block))) here
-              ∙ ap (λ (xs : List ℕ). targets ++ map released_pair (targets_of (held_of (placed items xs)) block))
-              (sym rest_now);
-          low = omega (arith, lt);
-          few = (let f = half.few in omega (arith, f, some));
-          many = (let f = half.many in omega (arith, f, some));
-        }
-
-  -- nothing is still to come
-  module _ (none : left ≡ 0) where
-    pub released-order : left_of (placed items (walk (slice_index was) end len)) block
-        ≡ placed items (walk (slice_index next) end kept)
-    released-order =
-        half.others ∙ ap (λ l. placed items (walk (slice_index next) end kept)
-        ++ left_of (placed items (walk (slice_index next) a l)) block) none
-        ∙ append-nil (placed items (walk (slice_index next) end kept))
-
-    pub released-targets : map released_pair (targets_of (held_of (placed items (walk (slice_index was) end len)))
-        block) ≡ targets
-    released-targets =
-        half.gone ∙ ap (λ l. targets ++ map released_pair (targets_of
-        (held_of (placed items (walk (slice_index next) a l))) block)) none
-        ∙ append-nil targets
-
-pub releasing-start : {T : Type 0} (items : List (Held T)) (next used : List ℕ) (end last len block : ℕ) →
-    IsChain items next used end last len
-    → IsReleasing items next len (length used) block next used [] end end 0 end len
-releasing-start items next used end last len block chain =
-    let few = len-le items next used end last len chain in
-    record {
-      parted = parted-chain items next used end last len chain;
-      others = refl;
-      gone = refl;
-      low = omega arith;
-      few = omega (arith, few);
-      many = omega (arith, few);
-    }

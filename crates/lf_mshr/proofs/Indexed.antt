@@ -91,7 +91,7 @@ module _ {T : Type 0} where
           absurd (both_ways (h.block == block) e (eq-eqb h.block block same))
 
   -- where a register holds the block and no other, and no other register holds it, what it holds is of the block
-  pub held_in-is : (xs : List (Held T)) (r block : ℕ) → ((other : ℕ) → holds_in xs r other ≡ true → other ≡ block)
+  held_in-is : (xs : List (Held T)) (r block : ℕ) → ((other : ℕ) → holds_in xs r other ≡ true → other ≡ block)
       → ((other : ℕ) → holds_in xs other block ≡ true → other ≡ r) → held_in xs r ≡ targets_of xs block
   held_in-is [] r block alone once = refl
   held_in-is (h ∷ xs) r block alone once = go (held_in-is xs r block
@@ -265,6 +265,19 @@ module _ {T : Type 0} where
             ];
         of_block = λ r other below e. index.of_block r other below (released_holds held block r other e);
       }
+
+      -- what the register that holds the block holds is of the block
+      pub held_in-found : held_in held at ≡ targets_of held block
+      held_in-found = held_in-is held at block
+          (λ other x. sym (index.of_block at other there x) ∙ index.of_block at block there has)
+          (λ other x. once block other at x has)
+
+      -- the register that holds the block has the number of its targets
+      pub counted-found : (counts : List ℕ) → IsCounted registers counts held →
+          slice_index counts at ≡ length (targets_of held block)
+      counted-found counts counted =
+          counted.counted at there ∙ sym (length-filter (λ h. h.register == at) held)
+          ∙ ap (λ (hs : List (Held T)). length hs) held_in-found
 
       pub IsCounted-released : (counts : List ℕ) → IsCounted registers counts held →
           IsCounted registers (set counts at 0) (released held block)

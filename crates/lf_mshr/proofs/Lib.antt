@@ -8,6 +8,7 @@ pub mod Alike
 pub mod Marks
 pub mod Chain
 pub mod Placed
+pub mod Release
 pub mod Indexed
 pub mod Stored
 pub mod Rows

@@ -11,7 +11,7 @@ use Rattle.lf_rules.specs.Registers.{Held, holds_in, targets_of, released}
 use Rattle.lf_rules.specs.Sharing.{HoldsOnce}
 use Rattle.lf_mshr.specs.Index.{IsIndexed, IsStored, held_in, stored_bytes}
 use Rattle.lf_mshr.specs.RegisterFile.{store_mask}
-use Rattle.lf_mshr.proofs.Indexed.{held_in-is, held_in-left}
+use Rattle.lf_mshr.proofs.Indexed.{held_in-found, held_in-left}
 
 module _ {T : Type 0} (is_store : T → Bool) (bytes : T → Mask) (registers : ℕ) where
   abbrev mask : T → ℕ
@@ -56,9 +56,8 @@ module _ {T : Type 0} (is_store : T → Bool) (bytes : T → Mask) (registers : 
         (there : at < registers) (has : holds_in held at block ≡ true) (once : HoldsOnce held) where
       -- the register that holds the block has the bytes of its stores
       pub stored-found : slice_index stores at ≡ stored (targets_of held block)
-      stored-found = is.stored at there ∙ ap stored (held_in-is held at block
-          (λ other x. sym (index.of_block at other there x) ∙ index.of_block at block there has)
-          (λ other x. once block other at x has))
+      stored-found = is.stored at there
+          ∙ ap stored (held_in-found registers used blocks held index at block there has once)
 
       -- a block leaves the register that holds it
       pub IsStored-released : IsStored is_store bytes registers (set stores at 0) (released held block)

@@ -28,6 +28,7 @@ module _ {T : Type 0} (is_store : T → Bool) (bytes : T → Mask) where
   abbrev pub stored_bytes : List (Held T) → ℕ
   stored_bytes held = fold (λ mask h. bit_or mask (store_mask is_store bytes h.target)) 0 held
 
+  -- each register has the bytes that its stores write
   pub record IsStored (registers : ℕ) (stores : List ℕ) (held : List (Held T)) : Type 0 where
     pub long : length stores ≡ registers
     pub stored : (r : ℕ) → r < registers → slice_index stores r ≡ stored_bytes (held_in held r)

@@ -4,7 +4,7 @@ ghost use Rattle.std.specs.Prelude.{◌≡◌, ◌⊎◌, ◌*◌, ◌<◌, ◌�
 ghost use Rattle.lf_rules.specs.Registers.{holds, holds_in, is_free, has_room};
 ghost use Rattle.lf_rules.specs.declared.shape.OrgShape.TheVariants as shape;
 ghost use Rattle.lf_mshr.specs.Bounds.{IsWithin};
-ghost use Rattle.lf_mshr.specs.Index.{IsCounted, are_in_rows};
+ghost use Rattle.lf_mshr.specs.Index.{are_in_rows};
 ghost use Rattle.lf_mshr.specs.Places.{held_of};
 ghost use Rattle.lf_mshr.specs.RegisterFile.{held_item};
 
@@ -27,11 +27,8 @@ pub struct Explicit<T>(PhantomData<T>);
 pub struct ExplicitFile<T: Target> {
     entries: u32,
     destinations: u16,
-    /// How many targets each register holds.
-    counts: Vec<u32>,
     registers: Registers<T>,
     ghost all: { registers.places.places ≡ registers.registers * entries },
-    ghost counted: { IsCounted registers.registers counts.items (held_of registers.places.order) },
     ghost within: { IsWithin registers.registers entries (held_of registers.places.order) },
     ghost rows: { are_in_rows entries registers.places.order ≡ true },
     ghost some_entry: { 1 ≤ entries },
@@ -45,7 +42,7 @@ impl<T: Target> ExplicitFile<T> {
         ensures { result ≡ nat_lt (count_by (λ h. h.register == register) (held_of self.now.registers.places.order))
             self.now.entries }
     {
-        self.counts[register as usize] < self.entries
+        self.registers.count(register) < self.entries
     }
 
     /// Whether a register takes a target of the block.
@@ -75,9 +72,8 @@ impl<T: Target> ExplicitFile<T> {
         ensures entries { self.new.entries ≡ self.old.entries }
         ensures destinations { self.new.destinations ≡ self.old.destinations }
     {
-        let count = self.counts[usize::from(register)];
-        let place = u32::from(register) * self.entries + count;
-        self.counts[usize::from(register)] = count + 1;
+        let row = u32::from(register);
+        let place = row * self.entries + self.registers.count(row);
         self.registers.push(register, place as u16, block, target);
     }
 }
@@ -112,12 +108,10 @@ impl<T: Target> Organisation for Explicit<T> {
         let OrgShape::Explicit { registers, entries } = *organisation else {
             unreachable!()
         };
-        let counts = vec![in alloc; 0; registers as usize]?;
         let registers = Registers::new(alloc, registers, (registers * entries) as u16)?;
         Ok(ExplicitFile {
             entries,
             destinations,
-            counts,
             registers,
         })
     }
@@ -172,10 +166,7 @@ impl<T: Target> Organisation for Explicit<T> {
     }
 
     fn release_into(file: &mut ExplicitFile<T>, block: u32, targets: &mut Targets<T>) {
-        let Some(register) = file.registers.release_into(block, targets) else {
-            return;
-        };
-        file.counts[register as usize] = 0;
+        file.registers.release_into(block, targets);
     }
 
     fn store_bytes(file: &ExplicitFile<T>, block: u32) -> Mask {

@@ -137,7 +137,8 @@ impl<T: Target> Organisation for Inverted<T> {
     }
 
     fn release_into(file: &mut InvertedFile<T>, block: u32, targets: &mut Targets<T>) {
-        file.places.release_into(block, targets);
+        let all = file.places.count();
+        file.places.release_into(block, all, targets);
     }
 
     fn store_bytes(file: &InvertedFile<T>, block: u32) -> Mask {

@@ -1,11 +1,9 @@
-use Rattle.std.proofs.Common.{◌≡◌, ◌+◌, ◌*◌, ◌≤◌, ◌==◌, ◌++◌, ◌∷◌, [], slice_index, get_or, ap, sym, ◌∙◌, subst, arith}
+use Rattle.std.proofs.Common.{◌≡◌, ◌+◌, ◌*◌, ◌≤◌, ◌==◌, ◌++◌, ◌∷◌, [], ap, sym, ◌∙◌, subst}
 use Rattle.std.specs.Prelude.{count_by}
-use Rattle.std.proofs.lemmas.List.{get_or_default}
 use Rattle.lf_mshr.specs.RegisterFile.{held_item}
 use Rattle.lf_mshr.specs.Index.{are_in_rows}
 use Rattle.lf_mshr.specs.Places.{held_of}
 use Rattle.lf_mshr.proofs.Bounds.{IsWithin-push}
-use Rattle.lf_mshr.proofs.Indexed.{IsCounted-push}
 use Rattle.lf_mshr.proofs.Placed.{held-push}
 use Rattle.lf_mshr.proofs.Rows.{row-free, rows-push}
 use Rattle.lf_mshr.proofs.explicit.ExplicitFile.append.Goals as goal
@@ -14,13 +12,7 @@ pub push-requires-clause-free : goal.push-requires-clause-free
 push-requires-clause-free g c =
     let file = c.args.self.now in
     let order = file.registers.places.order in
-    let counts = file.counts.items in
-    let long = file.counted.long in
-    let count_is : c.index-count.result.now ≡ slice_index counts c.args.register =
-    c.index-count.ensures ∙ ap (λ i. get_or counts i c.index-count.result.now) c.from.ensures
-    ∙ get_or_default counts c.args.register c.index-count.result.now 0 (omega (arith, long, c.requires.exists)) in
-    let counted = file.counted.counted c.args.register c.requires.exists in
-    rw (c.from-2.ensures, count_is, counted) (row-free file.entries order
+    rw (c.count.ensures, c.from-row.ensures) (row-free file.entries order
     (λ r. count_by (λ h. h.register == r) (held_of order)) file.within.few file.rows c.args.register
     c.requires.entry)
 
@@ -28,22 +20,15 @@ pub invariant_of-self : goal.invariant_of-self
 invariant_of-self g c =
     let file = c.args.self.now in
     let order = file.registers.places.order in
-    let counts = file.counts.items in
-    let long = file.counted.long in
-    let count_is : c.index-count.result.now ≡ slice_index counts c.args.register =
-    c.index-count.ensures ∙ ap (λ i. get_or counts i c.index-count.result.now) c.from.ensures
-    ∙ get_or_default counts c.args.register c.index-count.result.now 0 (omega (arith, long, c.requires.exists)) in
-    let counted = file.counted.counted c.args.register c.requires.exists in
     let item = held_item c.args.register c.args.block c.args.target in
-    let place = c.from-2.result * file.entries + c.index-count.result.now in
-    let is = ap (λ r. r * file.entries + c.index-count.result.now) c.from-2.ensures
-    ∙ ap (λ n. c.args.register * file.entries + n) (count_is ∙ counted) in
+    let place = c.from-row.result * file.entries + c.count.result in
+    let is = ap (λ r. r * file.entries + c.count.result) c.from-row.ensures
+    ∙ ap (λ n. c.args.register * file.entries + n) (c.count.ensures
+    ∙ ap (λ r. count_by (λ h. h.register == r) (held_of order)) c.from-row.ensures) in
     let same : held_of c.push.new.self.places.order ≡ held_of order ++ item ∷ [] =
     ap held_of c.push.ensures.order ∙ held-push order (place, item) in
     record {
       all = c.push.ensures.places ∙ file.all ∙ ap (λ n. n * file.entries) (sym c.push.ensures.registers);
-      counted = rw (c.push.ensures.registers, c.from-3.ensures, count_is, same)
-          (IsCounted-push file.registers.registers counts (held_of order) file.counted item c.requires.exists);
       within = rw (c.push.ensures.registers, same) (IsWithin-push file.within item c.requires.exists c.requires.entry);
       rows = ap (are_in_rows file.entries) c.push.ensures.order
           ∙ rows-push file.entries order (place, item) file.rows is;

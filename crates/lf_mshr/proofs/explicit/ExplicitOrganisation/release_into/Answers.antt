@@ -4,36 +4,12 @@ use Rattle.lf_mshr.specs.Index.{are_in_rows}
 use Rattle.lf_mshr.specs.Places.{held_of}
 use Rattle.lf_mshr.specs.RegisterFile.{explicit_file}
 use Rattle.lf_mshr.proofs.Bounds.{IsWithin-filter}
-use Rattle.lf_mshr.proofs.Indexed.{IsCounted-released}
-use Rattle.lf_mshr.proofs.Placed.{held-left, left-none}
-use Rattle.lf_mshr.proofs.Rows.{rows-left}
+use Rattle.lf_mshr.proofs.Placed.{held-left}
+use Rattle.lf_mshr.proofs.Rows.{rows-released}
 use Rattle.lf_mshr.proofs.explicit.ExplicitOrganisation.release_into.Goals as goal
 
 pub invariant_of-file : goal.invariant_of-file
 invariant_of-file g c =
-    let file = c.args.file.now in
-    let same : c.release_into.new.self.places.order ≡ file.registers.places.order =
-    c.release_into.ensures.order ∙ left-none file.registers.places.order c.args.block c.in_default.ensures.none in
-    record {
-      all = c.release_into.ensures.places ∙ file.all ∙ ap (λ n. n * file.entries)
-          (sym c.release_into.ensures.registers);
-      counted = rw (c.release_into.ensures.registers, same) file.counted;
-      within = rw (c.release_into.ensures.registers, same) file.within;
-      rows = ap (are_in_rows file.entries) same ∙ file.rows;
-      some_entry = file.some_entry;
-      limit = subst (λ n. n * file.entries ≤ 1024) (sym c.release_into.ensures.registers) file.limit;
-    }
-
-pub returns-in_default-clause-others : goal.returns-in_default-clause-others
-returns-in_default-clause-others g c =
-    let file = c.args.file.now in
-    ap (λ n. explicit_file n file.entries file.destinations (held_of c.release_into.new.self.places.order))
-    c.release_into.ensures.registers
-    ∙ ap (explicit_file file.registers.registers file.entries file.destinations)
-    (ap held_of c.release_into.ensures.order ∙ held-left file.registers.places.order c.args.block)
-
-pub invariant_of-file-2 : goal.invariant_of-file-2
-invariant_of-file-2 g c =
     let file = c.args.file.now in
     let r = file.registers in
     let order = r.places.order in
@@ -42,15 +18,11 @@ invariant_of-file-2 g c =
     record {
       all = c.release_into.ensures.places ∙ file.all ∙ ap (λ n. n * file.entries)
           (sym c.release_into.ensures.registers);
-      counted = rw (c.release_into.ensures.registers, same)
-          (IsCounted-released r.registers r.used r.blocks.items
-          (held_of order) r.index c.in-Some.register c.args.block c.in-Some.ensures.some.0 c.in-Some.ensures.some.1
-          r.once file.counts.items file.counted);
       within = rw (c.release_into.ensures.registers, same) (IsWithin-filter file.within
           (λ h. not (h.block == c.args.block)));
       rows = ap (are_in_rows file.entries) c.release_into.ensures.order
-          ∙ rows-left file.entries r.registers r.used r.blocks.items order r.index file.within r.once
-          c.in-Some.register c.args.block c.in-Some.ensures.some.0 c.in-Some.ensures.some.1 file.rows;
+          ∙ rows-released file.entries r.registers r.used r.blocks.items order r.index file.within r.once
+          c.args.block c.release_into.result c.release_into.ensures.some c.release_into.ensures.none file.rows;
       some_entry = file.some_entry;
       limit = subst (λ n. n * file.entries ≤ 1024) (sym c.release_into.ensures.registers) file.limit;
     }

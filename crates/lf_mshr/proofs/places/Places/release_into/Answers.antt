@@ -1,12 +1,15 @@
-use Rattle.std.proofs.Common.{◌≡◌, ◌&&◌, ◌==◌, not, ℕ, List, ◌++◌, ◌∷◌, [], length, get_or, slice_index, Vec, Global}
+use Rattle.std.proofs.Common.{◌≡◌, ◌≤◌, ◌⊎◌, inl, inr, ◌&&◌, ◌==◌, not, ℕ, List, ◌++◌, ◌∷◌, [], length, get_or, slice_index, Vec, Global}
 use Rattle.std.proofs.Common.{refl, sym, ap, ◌∙◌, subst, arith}
 use Rattle.std.proofs.lemmas.List.{get_or_default, with_items_is}
 use Rattle.lf_rules.specs.Registers.{Held}
 use Rattle.lf_mshr.specs.Places.{is_marked}
 use Rattle.lf_mshr.specs.RegisterFile.{released_pair}
-use Rattle.lf_mshr.proofs.Chain.{releasing-start, releasing-drop, releasing-keep, come-lt, last-fits, chain-parted}
-use Rattle.lf_mshr.proofs.Chain.{released-order, released-targets}
+use Rattle.lf_mshr.proofs.Chain.{last-fits}
+use Rattle.lf_mshr.proofs.Release.{releasing-start, releasing-drop, releasing-keep, come-lt, none-behind}
+use Rattle.lf_mshr.proofs.Release.{released-targets, closed, ended}
 use Rattle.lf_mshr.proofs.places.Places.release_into.Goals.{then-item-block, else-item-block}
+use Rattle.lf_mshr.proofs.places.Places.release_into.Goals.{then-loop-left-test+else-len-most, else-loop-left-test}
+use Rattle.lf_mshr.proofs.places.Places.release_into.Goals.{then-left-gt0, else-left-gt0}
 use Rattle.lf_mshr.proofs.places.Places.release_into.Goals as goal
 
 pub loop-left-init : goal.loop-left-init
@@ -17,6 +20,7 @@ loop-left-init g c =
           c.args.block c.self.invariant);
       items = refl;
       end = refl;
+      ends = refl;
     }
 
 pub index-item-requires : goal.index-item-requires
@@ -104,6 +108,7 @@ loop-left-preserved g c =
                 c.index-item.result.now same w.unmark.new.words size bits);
             items = l.invariant.items;
             end = l.invariant.end;
+            ends = l.invariant.ends;
           })
       | else-item-block w ↦
           let other : (get_or was.items.items (slice_index next l.at) c.index-item.result.now).block ≡ c.args.block →
@@ -116,35 +121,96 @@ loop-left-preserved g c =
                 c.index-item.result.now other);
             items = l.invariant.items;
             end = l.invariant.end;
+            ends = l.invariant.ends;
           })
     ]
+
+pub index_mut-requires-then-left-gt0 : goal.index_mut-requires-then-left-gt0
+index_mut-requires-then-left-gt0 g c =
+    let was = c.self.inside in
+    let l = c.loop-left in
+    let links = l.invariant.releasing.parted.links in
+    let fits = last-fits (length was.used.items) l.self-inside.next.items l.self-inside.used.items was.end l.last
+    l.kept l.at l.left l.invariant.releasing.parted in
+    rw c.from-then-left-gt0-2.ensures (omega (arith, links, fits))
 
 pub returns-clause-order : goal.returns-clause-order
 returns-clause-order g c =
     let was = c.self.inside in
     let l = c.loop-left in
-    rw (l.invariant.items, l.invariant.end, ← c.self.view_is)
-    (sym (released-order was.items.items was.next.items was.len
-    (length was.used.items) c.args.block l.self-inside.next.items l.self-inside.used.items l.targets.items was.end
-    l.last l.kept l.at l.left
-    l.invariant.releasing c.self.invariant.long (omega (arith, c.loop-left-test.false))))
+    let links = l.invariant.releasing.parted.links in
+    let low = l.invariant.releasing.low in
+    let done : (l.left ≡ 0) ⊎ (c.args.most ≤ length l.targets.items) = elim c.loop-left-test.branch [
+      | then-loop-left-test+else-len-most w ↦ inr (let long = w.len.ensures in omega (arith, long, w.if-len-most.false))
+      | else-loop-left-test w ↦ inl (omega (arith, w.loop-left-test.false))
+    ] in
+    let most = rw (← c.self.view_is) at c.requires in
+    let none = none-behind was.items.items was.next.items was.len (length was.used.items) c.args.block
+    l.self-inside.next.items l.self-inside.used.items l.targets.items was.end l.last l.kept l.at l.left
+    l.invariant.releasing c.self.invariant.long c.args.most most done in
+    elim c.if-left-gt0.branch [
+      | then-left-gt0 w ↦
+          let link = w.index.ensures ∙ ap (λ i. get_or l.self-inside.next.items i w.index.result.now)
+          w.from-then-left-gt0.ensures
+          ∙ get_or_default l.self-inside.next.items l.at w.index.result.now 0 (omega (arith, links, low)) in
+          rw (w.self-inside-is, w.from-then-left-gt0-2.ensures, link, l.invariant.items, l.invariant.end, ← c.self.view_is)
+          (sym (closed was.items.items was.next.items was.len (length was.used.items) c.args.block
+          l.self-inside.next.items l.self-inside.used.items l.targets.items was.end l.last l.kept l.at l.left
+          l.invariant.releasing c.self.invariant.long none
+          w.if-left-gt0.true c.self.invariant.few c.self.invariant.words).1)
+      | else-left-gt0 w ↦
+          rw (w.self-inside-is, l.invariant.items, l.invariant.end, ← c.self.view_is)
+          (sym (ended was.items.items was.next.items was.len (length was.used.items) c.args.block
+          l.self-inside.next.items l.self-inside.used.items l.targets.items was.end l.last l.kept l.at l.left
+          l.invariant.releasing c.self.invariant.long none
+          (omega (arith, w.if-left-gt0.false)) c.self.invariant.few c.self.invariant.words).1)
+    ]
 
 pub returns-clause-targets : goal.returns-clause-targets
 returns-clause-targets g c =
     let was = c.self.inside in
     let l = c.loop-left in
+    let done : (l.left ≡ 0) ⊎ (c.args.most ≤ length l.targets.items) = elim c.loop-left-test.branch [
+      | then-loop-left-test+else-len-most w ↦ inr (let long = w.len.ensures in omega (arith, long, w.if-len-most.false))
+      | else-loop-left-test w ↦ inl (omega (arith, w.loop-left-test.false))
+    ] in
+    let most = rw (← c.self.view_is) at c.requires in
+    let none = none-behind was.items.items was.next.items was.len (length was.used.items) c.args.block
+    l.self-inside.next.items l.self-inside.used.items l.targets.items was.end l.last l.kept l.at l.left
+    l.invariant.releasing c.self.invariant.long c.args.most most done in
     rw (← c.self.view_is)
-    (sym (released-targets was.items.items was.next.items was.len
-    (length was.used.items) c.args.block l.self-inside.next.items l.self-inside.used.items l.targets.items was.end
-    l.last l.kept l.at l.left
-    l.invariant.releasing c.self.invariant.long (omega (arith, c.loop-left-test.false))))
+    (sym (released-targets was.items.items was.next.items was.len (length was.used.items) c.args.block
+    l.self-inside.next.items l.self-inside.used.items l.targets.items was.end l.last l.kept l.at l.left
+    l.invariant.releasing c.self.invariant.long none))
 
 pub invariant_of-self : goal.invariant_of-self
 invariant_of-self g c =
     let was = c.self.inside in
     let l = c.loop-left in
-    rw (l.invariant.items, l.invariant.end)
-    (chain-parted was.items.items (length was.used.items) l.self-inside.next.items l.self-inside.used.items was.end
-    l.last l.kept l.at l.left
-    (omega (arith, c.loop-left-test.false)) c.self.invariant.few c.self.invariant.long c.self.invariant.words
-    l.invariant.releasing.parted)
+    let links = l.invariant.releasing.parted.links in
+    let low = l.invariant.releasing.low in
+    let done : (l.left ≡ 0) ⊎ (c.args.most ≤ length l.targets.items) = elim c.loop-left-test.branch [
+      | then-loop-left-test+else-len-most w ↦ inr (let long = w.len.ensures in omega (arith, long, w.if-len-most.false))
+      | else-loop-left-test w ↦ inl (omega (arith, w.loop-left-test.false))
+    ] in
+    let most = rw (← c.self.view_is) at c.requires in
+    let none = none-behind was.items.items was.next.items was.len (length was.used.items) c.args.block
+    l.self-inside.next.items l.self-inside.used.items l.targets.items was.end l.last l.kept l.at l.left
+    l.invariant.releasing c.self.invariant.long c.args.most most done in
+    elim c.if-left-gt0.branch [
+      | then-left-gt0 w ↦
+          let link = w.index.ensures ∙ ap (λ i. get_or l.self-inside.next.items i w.index.result.now)
+          w.from-then-left-gt0.ensures
+          ∙ get_or_default l.self-inside.next.items l.at w.index.result.now 0 (omega (arith, links, low)) in
+          rw (w.self-inside-is, w.from-then-left-gt0-2.ensures, link, l.invariant.items, l.invariant.end, l.invariant.ends, ← c.self.invariant.ends)
+          ((closed was.items.items was.next.items was.len (length was.used.items) c.args.block
+          l.self-inside.next.items l.self-inside.used.items l.targets.items was.end l.last l.kept l.at l.left
+          l.invariant.releasing c.self.invariant.long none
+          w.if-left-gt0.true c.self.invariant.few c.self.invariant.words).0)
+      | else-left-gt0 w ↦
+          rw (w.self-inside-is, l.invariant.items, l.invariant.end)
+          ((ended was.items.items was.next.items was.len (length was.used.items) c.args.block
+          l.self-inside.next.items l.self-inside.used.items l.targets.items was.end l.last l.kept l.at l.left
+          l.invariant.releasing c.self.invariant.long none
+          (omega (arith, w.if-left-gt0.false)) c.self.invariant.few c.self.invariant.words).0)
+    ]

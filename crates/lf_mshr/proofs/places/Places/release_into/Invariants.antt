@@ -1,5 +1,5 @@
 use Rattle.std.proofs.Common.{◌≡◌, length}
-use Rattle.lf_mshr.proofs.Chain.{IsReleasing}
+use Rattle.lf_mshr.proofs.Release.{IsReleasing}
 use Rattle.lf_mshr.proofs.places.Places.release_into.Given as goal
 
 abbrev pub invariant-loop-left : goal.invariant-loop-left
@@ -11,6 +11,7 @@ invariant-loop-left g l =
           p.used.items l.targets.items was.end l.last l.kept l.at l.left;
       items : p.items ≡ was.items;
       end : p.end ≡ was.end;
+      ends : p.last ≡ was.last;
     }
 
 abbrev pub decreases-loop-left : goal.decreases-loop-left
