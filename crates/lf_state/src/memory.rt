@@ -54,12 +54,28 @@ fn padded(bytes: &[u8]) -> Bytes
     all
 }
 
+/// Eight bytes from a place on.
+fn eight(bytes: &Bytes, offset: usize) -> [u8; 8]
+    requires { offset + 8 ≤ 64 }
+    ensures { result ≡ map (λ i. slice_index bytes.now (offset + i)) (range_with_len 0 8) }
+{
+    let mut eight = [0; 8];
+    eight.copy_from_slice(&bytes[offset..offset + 8]);
+    eight
+}
+
 /// So many bytes from a place on.
 fn part(bytes: &Bytes, offset: usize, size: usize) -> Data
     requires within { offset + size ≤ 64 }
     requires small { size ≤ 8 }
     ensures { result.items ≡ map (λ i. slice_index bytes.now (offset + i)) (range_with_len 0 size) }
 {
+    // Eight bytes are one copy of a known length.
+    if offset + 8 <= bytes.len() {
+        let mut data = Data::from(eight(bytes, offset));
+        data.truncate(size);
+        return data;
+    }
     let mut data = Data::new();
     for i in 0..size {
         data.push(bytes[offset + i]);
