@@ -19,7 +19,6 @@ use crate::fault::BankFault;
 use crate::registers::{has_room1, store_bytes};
 use crate::replies::add_replies;
 use crate::target::{asking, missed};
-use crate::wide::mark_at;
 use lf_mshr::{Organisation, Request1, Request2};
 use lf_rules::{Block, Mask, NoMemory, Rule, Shape};
 use lf_state::{
@@ -215,7 +214,7 @@ impl<O1: Organisation<Target = Request1>, O2: Organisation<Target = Request2>> B
         }
         let second = second_of(&self.shape, block);
         let place = place_of(&self.shape, block);
-        mark_at(&mut self.lines2, &self.shape, second, place, mask);
+        self.lines2.mark_at(second, place, mask);
         Ok(())
     }
 }

@@ -26,7 +26,6 @@ mod replays;
 mod replies;
 mod supply;
 mod target;
-mod wide;
 
 pub use bank_step::Step;
 pub use fault::BankFault;

@@ -25,10 +25,10 @@ returns g c = λ log bank waiting fetched wait.
     let shape = c.self.inside.shape in
     let here = subst (λ (k : BankView). AreWaiting k waiting fetched) (sym c.self.view_is) wait in
     let evicted : c.evict.new.self ≡ after_evict c.self.inside.lines1 c.args.block = search rules in
-    let outer : c.mark_at.new.lines ≡ after_fill c.self.inside.lines2 (second_of shape c.args.block)
+    let outer : c.mark_at.new.self ≡ after_fill c.self.inside.lines2 (second_of shape c.args.block)
     (marked (dirty_masks c.self.inside.lines2.lines (second_of shape c.args.block)) (place_of shape c.args.block)
     c.args.mask.0) =
-    c.mark_at.ensures
+    c.mark_at.ensures.marked
     ∙ (λ i. after_fill c.self.inside.lines2 (c.second_of-second.ensures i)
     (marked (dirty_masks c.self.inside.lines2.lines (c.second_of-second.ensures i)) (c.place_of-place.ensures.place i)
     c.args.mask.0)) in (
