@@ -4,8 +4,9 @@ ghost use Rattle.std.specs.Prelude.{◌≡◌, ◌<◌, true};
 ghost use Rattle.lf_rules.specs.Address.{set1_of};
 ghost use Rattle.lf_rules.specs.Fits.{is_factor};
 
+use crate::divisor::Divisor;
 use crate::lines_two::join_masks;
-use lf_rules::{Masks, quotient, remainder, same_masks};
+use lf_rules::{Masks, same_masks};
 
 /// A level of the cache: what is dirty of its lines, and which set a block is in.
 pub trait Level {
@@ -56,12 +57,27 @@ pub trait Level {
     fn same(factor: u32, a: &Self::Dirty, b: &Self::Dirty) -> bool
         ensures { result ≡ same factor a.now b.now };
 
+    /// The set of a block, where the divisors are at hand.
+    fn set_by(banks: &Divisor, factor: &Divisor, sets: &Divisor, block: u32) -> u32
+        requires some_banks { 0 < banks.now }
+        requires some_sets { 0 < sets.now }
+        requires factor { is_factor factor.now ≡ true }
+        ensures { result ≡ set banks.now factor.now sets.now block };
+
     /// The set of a block.
     fn set_of(banks: u32, factor: u32, sets: u32, block: u32) -> u32
         requires some_banks { 0 < banks }
         requires some_sets { 0 < sets }
         requires factor { is_factor factor ≡ true }
-        ensures { result ≡ set banks factor sets block };
+        ensures { result ≡ set banks factor sets block }
+    {
+        Self::set_by(
+            &Divisor::of(banks),
+            &Divisor::of(factor),
+            &Divisor::of(sets),
+            block,
+        )
+    }
 }
 
 /// The first level, which the ports' requests look at.
@@ -115,21 +131,18 @@ impl Level for One {
         *a == *b
     }
 
-    fn set_of(banks: u32, factor: u32, sets: u32, block: u32) -> u32 {
+    fn set_by(banks: &Divisor, factor: &Divisor, sets: &Divisor, block: u32) -> u32 {
         set1_of(banks, factor, sets, block)
     }
 }
 
-fn set1_of(banks: u32, factor: u32, sets: u32, block: u32) -> u32
-    requires some_banks { 0 < banks }
-    requires some_sets { 0 < sets }
-    requires factor { is_factor factor ≡ true }
-    ensures { result ≡ set1_of banks factor sets block }
+fn set1_of(banks: &Divisor, factor: &Divisor, sets: &Divisor, block: u32) -> u32
+    requires some_banks { 0 < banks.now }
+    requires factor { is_factor factor.now ≡ true }
+    ensures { result ≡ set1_of banks.now factor.now sets.now block }
 {
-    remainder(
-        quotient(quotient(block, factor), banks) * factor + remainder(block, factor),
-        sets,
-    )
+    let second = banks.quotient(factor.quotient(block));
+    sets.remainder(second * factor.get() + factor.remainder(block))
 }
 
 impl Level for Two {
@@ -172,7 +185,7 @@ impl Level for Two {
         same_masks(factor, a, b)
     }
 
-    fn set_of(banks: u32, _factor: u32, sets: u32, block: u32) -> u32 {
-        remainder(quotient(block, banks), sets)
+    fn set_by(banks: &Divisor, _factor: &Divisor, sets: &Divisor, block: u32) -> u32 {
+        sets.remainder(banks.quotient(block))
     }
 }

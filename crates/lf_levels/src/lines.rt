@@ -9,6 +9,7 @@ ghost use Rattle.lf_levels.specs.LineTable.{IsLineTable, ChangesOnly, set_in, em
 ghost use Rattle.lf_levels.specs.LineTable.{after_evict};
 ghost use Rattle.lf_levels.specs.Refusals.{FillRefusal, TakeOutRefusal};
 
+use crate::divisor::Divisor;
 use crate::fault::LineFault;
 use crate::level::{Level, Two};
 use crate::lines_two::gain_at;
@@ -21,10 +22,10 @@ use std::marker::Model;
 /// The lines of one bank at level `L`, which is `One` or `Two`.
 #[derive(Drop)]
 pub struct Lines<L: Level> {
-    sets: u32,
+    sets: Divisor,
     ways: u32,
-    banks: u32,
-    factor: u32,
+    banks: Divisor,
+    factor: Divisor,
     /// Which line each way has: a row of ways for each set, one row after another.
     keys: Vec<WayKey>,
     /// What is dirty of each way's line, and anything where a way is free.
@@ -69,10 +70,10 @@ impl<L: Level> Lines<L> {
         let keys = free_keys(alloc, count)?;
         let dirty = clean_ways::<L>(alloc, count)?;
         Ok(Lines {
-            sets,
+            sets: Divisor::of(sets),
             ways,
-            banks,
-            factor,
+            banks: Divisor::of(banks),
+            factor: Divisor::of(factor),
             keys,
             dirty,
         })
@@ -99,7 +100,7 @@ impl<L: Level> Lines<L> {
     fn row(&self, block: u32) -> usize
         ensures { result ≡ set_in L.set self.now block * self.now.ways }
     {
-        let set = L::set_of(self.banks, self.factor, self.sets, block);
+        let set = L::set_by(&self.banks, &self.factor, &self.sets, block);
         set as usize * self.ways as usize
     }
 
@@ -107,7 +108,7 @@ impl<L: Level> Lines<L> {
         ensures value { result ≡ self.now.factor }
         ensures factor { is_factor result ≡ true }
     {
-        self.factor
+        self.factor.get()
     }
 
     /// What is dirty of the block's line.
@@ -174,7 +175,7 @@ impl<L: Level> Lines<L> {
         let Some(way) = find_line(&self.keys, row, self.ways as usize, block) else {
             return Err(LineFault::EvictAbsent);
         };
-        if !L::same(self.factor, dirty, &self.dirty[way]) {
+        if !L::same(self.factor.get(), dirty, &self.dirty[way]) {
             return Err(LineFault::EvictMask);
         }
         self.keys[way] = WayKey::free();

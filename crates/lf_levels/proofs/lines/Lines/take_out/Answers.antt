@@ -1,4 +1,4 @@
-use Rattle.std.proofs.Common.{sym, ◌∙◌, None, Some}
+use Rattle.std.proofs.Common.{sym, ap, ◌∙◌, None, Some}
 use Rattle.lf_levels.proofs.Searched.{row_fits, has_value, compared, gone_whole, gone_table}
 use Rattle.lf_levels.proofs.Searched.{changed-evict}
 use Rattle.lf_levels.proofs.lines.Lines.take_out.Goals as goal
@@ -19,7 +19,8 @@ returns-then-not-same-clause-refused g c = (
   compared c.self.invariant c.args.self.now c.self.view_is c.args.block c.row-row.result c.row-row.ensures _
       c.deref.ensures.value c.in-Some.way c.in-Some.ensures _
       c.index.ensures (λ factor dirty. g.L.Level.same factor c.args.dirty.now dirty) g.L.Level.clean
-      ∙ (sym c.same.ensures ∙ c.if-not-same.true),
+      ∙ (ap (λ factor. g.L.Level.same factor c.args.dirty.now c.index.result.now) (sym c.get.ensures)
+      ∙ sym c.same.ensures ∙ c.if-not-same.true),
 )
 
 pub returns-clause-there : goal.returns-clause-there
@@ -32,7 +33,8 @@ returns-clause-same g c = compared c.self.invariant c.args.self.now c.self.view_
     c.row-row.ensures _
     c.deref.ensures.value c.in-Some.way c.in-Some.ensures _
     c.index.ensures (λ factor dirty. g.L.Level.same factor c.args.dirty.now dirty) g.L.Level.clean
-    ∙ (sym c.same.ensures ∙ c.if-not-same.false)
+    ∙ (ap (λ factor. g.L.Level.same factor c.args.dirty.now c.index.result.now) (sym c.get.ensures)
+    ∙ sym c.same.ensures ∙ c.if-not-same.false)
 
 pub invariant_of-self : goal.invariant_of-self
 invariant_of-self g c = gone_whole c.self.invariant c.args.self.now c.self.view_is c.args.block c.row-row.result
