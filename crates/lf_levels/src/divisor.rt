@@ -24,6 +24,7 @@ impl Model for Divisor {
 }
 
 impl Divisor {
+    /// This number as a divisor.
     pub fn of(by: u32) -> Divisor
         requires { 0 < by }
         ensures { result ≡ by }
@@ -31,11 +32,7 @@ impl Divisor {
         let places = by.ilog2();
         Divisor {
             by,
-            places: if by == 1 << places {
-                Some(places)
-            } else {
-                None
-            },
+            places: (by == 1 << places).then_some(places),
         }
     }
 

@@ -136,6 +136,7 @@ impl Level for One {
     }
 }
 
+/// The set of a block in level one.
 fn set1_of(banks: &Divisor, factor: &Divisor, sets: &Divisor, block: u32) -> u32
     requires some_banks { 0 < banks.now }
     requires factor { is_factor factor.now ≡ true }
