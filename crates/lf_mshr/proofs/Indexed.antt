@@ -178,6 +178,9 @@ module _ {T : Type 0} where
             ∙ ap (λ b. list_any (λ g. g.register == r) held || (b || false)) (ne_eqb h.register r ne)
             ∙ or_false (list_any (λ g. g.register == r) held))
       ];
+      no_others = λ r above low.
+          ap (λ n. n == 1) (bit_at_set_other w64 used h.register (omega (arith, there, above, low)) r
+          (λ e. absurd (omega (arith, e, there, above)))) ∙ index.no_others r above low;
       of_block = λ r block below e. elim (holds_in_push held h r block e) [
         | inl old ↦ elim (cases_eq h.register r) [
           | inl same ↦
@@ -263,6 +266,9 @@ module _ {T : Type 0} where
                   ∙ sym (left ∙ ap (λ b. nat_lt 0 (cond {A = ℕ} b 0 (count_by (λ h. h.register == r) held)))
                   (ne_eqb at r ne))
             ];
+        no_others = λ r above low.
+            ap (λ n. n == 1) (bit_at_clear_other w64 used at (omega (arith, there, above, low)) r low
+            (λ e. absurd (omega (arith, e, there, above)))) ∙ index.no_others r above low;
         of_block = λ r other below e. index.of_block r other below (released_holds held block r other e);
       }
 
@@ -392,6 +398,7 @@ module _ {T : Type 0} where
     long = length-replicate registers 0;
     word = few;
     in_use = λ r below. ap (λ n. n == 1) (bit_at-zero r);
+    no_others = λ r above low. ap (λ n. n == 1) (bit_at-zero r);
     of_block = λ r block below e. absurd (cc e);
   }
 

@@ -11,4 +11,5 @@ pub mod Placed
 pub mod Release
 pub mod Indexed
 pub mod Stored
+pub mod Find
 pub mod Rows

@@ -1,6 +1,7 @@
 -- A release: places of a block leave the links, and the others keep their order.
 use Rattle.std.proofs.Common.{◌≡◌, ℕ, ◌+◌, ◌-◌, ◌*◌, ◌<◌, ◌≤◌, ◌⊎◌, false, cond, not, ◌&&◌, ◌||◌, ◌==◌, List, [], ◌∷◌}
-use Rattle.std.proofs.Common.{◌++◌, length, map, get_or, inl, inr, refl, sym, ap, ◌∙◌, subst, arith, eq-eqb, ne_eqb, set}
+use Rattle.std.proofs.Common.{◌++◌, length, map, get_or, inl, inr, refl, sym, ap, ◌∙◌, subst, arith, eq-eqb, ne_eqb}
+use Rattle.std.proofs.Common.{set}
 use Rattle.std.proofs.Common.{slice_index}
 use Rattle.std.proofs.lemmas.Bool.{cases_eq}
 use Rattle.std.proofs.lemmas.List.{append-nil, append_assoc, length_push, length-append, length-map, nil_from_length}
@@ -31,7 +32,8 @@ module _ {T : Type 0} where
   unheld-targets [] block none = refl
   unheld-targets (h ∷ xs) block none = elim (cases_eq h.block block) [
     | inl e ↦
-        let some = sym (ap (λ b. cond b (h ∷ targets_of xs block) (targets_of xs block)) (eq-eqb h.block block e)) ∙ none in
+        let some = sym (ap (λ b. cond b (h ∷ targets_of xs block) (targets_of xs block)) (eq-eqb h.block block e))
+        ∙ none in
         let long = ap (λ (hs : List (Held T)). length hs) some in
         absurd (omega (arith, long))
     | inr ne ↦
@@ -177,7 +179,8 @@ module _ {T : Type 0} (items : List (Held T)) (was : List ℕ) (len long block :
         let chain = chain-joined items long links used end (kept + 1) come (left - 1) few fits wide more in
         let walked = parted-walk long links used end (kept + 1) come (left - 1) more in (
           subst (λ l. IsChain items links used end l (kept + left)) finish
-              (subst (IsChain items links used end (last_of come (walk (slice_index links) come (left - 1)))) sum chain),
+              (subst (IsChain items links used end (last_of come (walk (slice_index links) come (left - 1)))) sum
+              chain),
           released-order
               ∙ ap (placed items) (sym (keep-all long next used end last kept a left half.parted some) ∙ sym walked
               ∙ ap (walk (slice_index links) end) sum),

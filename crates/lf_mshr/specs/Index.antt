@@ -1,6 +1,6 @@
 -- What a word and arrays say of what the registers of a file hold: which are in use, by which block and by how many
 -- targets, and the bytes that their stores write.
-use Rattle.std.specs.Prelude.{◌≡◌, ℕ, ◌+◌, ◌*◌, ◌<◌, ◌≤◌, Bool, true, ◌==◌}
+use Rattle.std.specs.Prelude.{◌≡◌, ℕ, ◌+◌, ◌*◌, ◌<◌, ◌≤◌, Bool, true, false, ◌==◌}
 use Rattle.std.specs.Prelude.{◌&&◌, nat_le, nat_lt, List, length, slice_index, count_by, filter, bit_or}
 use Rattle.std.specs.List.{list_all, list_any, fold}
 use Rattle.lf_rules.specs.declared.mask.Mask.{Mask}
@@ -13,6 +13,7 @@ pub record IsIndexed {T : Type 0} (registers used : ℕ) (blocks : List ℕ) (he
   pub long : length blocks ≡ registers
   pub word : registers ≤ 64
   pub in_use : (r : ℕ) → r < registers → is_under used r ≡ list_any (λ h. h.register == r) held
+  pub no_others : (r : ℕ) → registers ≤ r → r < 64 → is_under used r ≡ false
   pub of_block : (r block : ℕ) → r < registers → holds_in held r block ≡ true → slice_index blocks r ≡ block
 
 pub record IsCounted {T : Type 0} (registers : ℕ) (counts : List ℕ) (held : List (Held T)) : Type 0 where

@@ -1,4 +1,5 @@
-use Rattle.std.proofs.Common.{◌≡◌, ◌≤◌, ◌⊎◌, inl, inr, ◌&&◌, ◌==◌, not, ℕ, List, ◌++◌, ◌∷◌, [], length, get_or, slice_index, Vec, Global}
+use Rattle.std.proofs.Common.{◌≡◌, ◌≤◌, ◌⊎◌, inl, inr, ◌&&◌, ◌==◌, not, ℕ, List, ◌++◌, ◌∷◌, [], length}
+use Rattle.std.proofs.Common.{get_or, slice_index, Vec, Global}
 use Rattle.std.proofs.Common.{refl, sym, ap, ◌∙◌, subst, arith}
 use Rattle.std.proofs.lemmas.List.{get_or_default, with_items_is}
 use Rattle.lf_rules.specs.Registers.{Held}
@@ -153,7 +154,14 @@ returns-clause-order g c =
           let link = w.index.ensures ∙ ap (λ i. get_or l.self-inside.next.items i w.index.result.now)
           w.from-then-left-gt0.ensures
           ∙ get_or_default l.self-inside.next.items l.at w.index.result.now 0 (omega (arith, links, low)) in
-          rw (w.self-inside-is, w.from-then-left-gt0-2.ensures, link, l.invariant.items, l.invariant.end, ← c.self.view_is)
+          rw (
+            w.self-inside-is,
+            w.from-then-left-gt0-2.ensures,
+            link,
+            l.invariant.items,
+            l.invariant.end,
+            ← c.self.view_is,
+          )
           (sym (closed was.items.items was.next.items was.len (length was.used.items) c.args.block
           l.self-inside.next.items l.self-inside.used.items l.targets.items was.end l.last l.kept l.at l.left
           l.invariant.releasing c.self.invariant.long none
@@ -202,7 +210,15 @@ invariant_of-self g c =
           let link = w.index.ensures ∙ ap (λ i. get_or l.self-inside.next.items i w.index.result.now)
           w.from-then-left-gt0.ensures
           ∙ get_or_default l.self-inside.next.items l.at w.index.result.now 0 (omega (arith, links, low)) in
-          rw (w.self-inside-is, w.from-then-left-gt0-2.ensures, link, l.invariant.items, l.invariant.end, l.invariant.ends, ← c.self.invariant.ends)
+          rw (
+            w.self-inside-is,
+            w.from-then-left-gt0-2.ensures,
+            link,
+            l.invariant.items,
+            l.invariant.end,
+            l.invariant.ends,
+            ← c.self.invariant.ends,
+          )
           ((closed was.items.items was.next.items was.len (length was.used.items) c.args.block
           l.self-inside.next.items l.self-inside.used.items l.targets.items was.end l.last l.kept l.at l.left
           l.invariant.releasing c.self.invariant.long none
