@@ -71,10 +71,8 @@ fn part(bytes: &Bytes, offset: usize, size: usize) -> Data
     ensures { result.items ≡ map (λ i. slice_index bytes.now (offset + i)) (range_with_len 0 size) }
 {
     // Eight bytes are one copy of a known length.
-    if offset + 8 <= bytes.len() {
-        let mut data = Data::from(eight(bytes, offset));
-        data.truncate(size);
-        return data;
+    if size == 8 {
+        return Data::from(eight(bytes, offset));
     }
     let mut data = Data::new();
     for i in 0..size {

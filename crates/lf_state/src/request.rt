@@ -76,6 +76,10 @@ pub fn data_of(bytes: &[u8]) -> Data
     requires { length bytes.now ≤ 8 }
     ensures { result.items ≡ bytes.now }
 {
+    // Eight bytes are one copy of a known length.
+    if let Ok(eight) = <[u8; 8]>::try_from(bytes) {
+        return Data::from(eight);
+    }
     let mut data = Data::new();
     for byte in bytes {
         data.push(*byte);
