@@ -11,7 +11,7 @@ ghost use Rattle.lf_rules.specs.Table.{value_of, accepted};
 ghost use Rattle.lf_state.specs.Bytes.{flat_of, bank_part, bytes_under, put, EndOf};
 
 use crate::places::{bank_of, sub_block};
-use crate::request::{Data, Request};
+use crate::request::{Data, Request, data_of};
 use lf_rules::{Block, Mask, Masks, NoMemory, Op, Shape, WideBlock};
 use std::alloc::Global;
 use std::collections::HashMap;
@@ -54,31 +54,13 @@ fn padded(bytes: &[u8]) -> Bytes
     all
 }
 
-/// Eight bytes from a place on.
-fn eight(bytes: &Bytes, offset: usize) -> [u8; 8]
-    requires { offset + 8 ≤ 64 }
-    ensures { result ≡ map (λ i. slice_index bytes.now (offset + i)) (range_with_len 0 8) }
-{
-    let mut eight = [0; 8];
-    eight.copy_from_slice(&bytes[offset..offset + 8]);
-    eight
-}
-
 /// So many bytes from a place on.
 fn part(bytes: &Bytes, offset: usize, size: usize) -> Data
     requires within { offset + size ≤ 64 }
     requires small { size ≤ 8 }
     ensures { result.items ≡ map (λ i. slice_index bytes.now (offset + i)) (range_with_len 0 size) }
 {
-    // Eight bytes are one copy of a known length.
-    if size == 8 {
-        return Data::from(eight(bytes, offset));
-    }
-    let mut data = Data::new();
-    for i in 0..size {
-        data.push(bytes[offset + i]);
-    }
-    data
+    data_of(&bytes[offset..offset + size])
 }
 
 impl FlatMemory {

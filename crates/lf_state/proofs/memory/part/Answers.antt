@@ -1,9 +1,7 @@
-use Rattle.std.proofs.Common.{refl, arith}
-use Rattle.lf_state.proofs.Bytes.{more_read}
+use Rattle.std.proofs.Common.{◌∙◌, arith}
+use Rattle.lf_state.proofs.Bytes.{part_read}
 use Rattle.lf_state.proofs.memory.part.Goals as goal
 
-pub loop-i-preserved : goal.loop-i-preserved
-loop-i-preserved c = record {
-  read = more_read _ c.loop-i.i c.push.ensures.items c.loop-i.invariant.read refl;
-  count = omega arith;
-}
+pub returns : goal.returns
+returns c = c.data_of.ensures ∙ part_read c.args.bytes.now c.args.offset c.args.size
+    (omega (arith, c.told-bytes, c.requires.within))
