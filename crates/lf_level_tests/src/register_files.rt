@@ -125,6 +125,18 @@ fn load(position: u8, destination: u16) -> Request1
     }
 }
 
+fn store_of(position: u8, bytes: u64) -> Request1
+    requires { position < 8 }
+{
+    Request1 {
+        position,
+        destination: 0,
+        is_store: true,
+        bytes: Mask(bytes),
+        value: 0,
+    }
+}
+
 #[test]
 fn implicit_files(rt: HostRuntime) -> Result<(), Fail> {
     let organisation = OrgShape::Implicit { registers: 4 };
@@ -245,6 +257,37 @@ fn bytes_of_waiting_stores(rt: HostRuntime) -> Result<(), Fail> {
     assert_eq!(rt; Registers::merge(&mut file, 0, 7, load(0, 1)), Ok(()));
     assert_eq!(rt; Registers::store_bytes(&file, 7), Mask(0x3));
     assert_eq!(rt; Registers::store_bytes(&file, 8), Mask(0));
+    Ok(())
+}
+
+#[test]
+fn releases_of_two_blocks(rt: HostRuntime) -> Result<(), Fail> {
+    type Registers = Implicit<Request1>;
+    let organisation = OrgShape::Implicit { registers: 2 };
+    let mut file = Registers::new(rt.alloc(), &organisation, 4)
+        .ok()
+        .ok_or("no memory")?;
+    let first = store_of(0, 0x3);
+    let second = store_of(2, 0x30);
+    let other = store_of(1, 0xc);
+    assert_eq!(rt; Registers::primary(&mut file, 0, 7, first), Ok(()));
+    assert_eq!(rt; Registers::primary(&mut file, 1, 8, other), Ok(()));
+    assert_eq!(rt; Registers::merge(&mut file, 0, 7, second), Ok(()));
+    assert_eq!(rt; Registers::merge(&mut file, 1, 8, load(3, 3)), Ok(()));
+    assert_eq!(rt; Registers::store_bytes(&file, 7), Mask(0x33));
+    // A target of block 8 waits between those of block 7, and one behind them.
+    let targets = Registers::release(&mut file, 7);
+    assert_eq!(rt; targets.as_slice(), [(0, first), (0, second)].as_slice());
+    assert_eq!(rt; Registers::store_bytes(&file, 7), Mask(0));
+    // The register is free again, and has no bytes of block 7.
+    assert_eq!(rt; Registers::primary(&mut file, 0, 9, other), Ok(()));
+    assert_eq!(rt; Registers::store_bytes(&file, 9), Mask(0xc));
+    let targets = Registers::release(&mut file, 8);
+    assert_eq!(rt;
+        targets.as_slice(),
+        [(1, other), (1, load(3, 3))].as_slice()
+    );
+    assert_eq!(rt; Registers::release(&mut file, 9).len(), 1);
     Ok(())
 }
 
