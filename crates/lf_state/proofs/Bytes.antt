@@ -1,5 +1,5 @@
 -- Bytes of a block, and blocks of a memory.
-use Rattle.std.proofs.Common.{◌≡◌, ℕ, ◌+◌, ◌-◌, ◌<◌, ◌≤◌, Bool, true, false, cond, ◌&&◌, ◌==◌, List, [], ◌++◌}
+use Rattle.std.proofs.Common.{◌≡◌, ℕ, ◌+◌, ◌-◌, ◌<◌, ◌≤◌, Bool, true, false, cond, ◌&&◌, ◌==◌, List, [], ◌∷◌, ◌++◌}
 use Rattle.std.proofs.Common.{Option, Some, replicate, zero, suc, subst, eq-eqb, ◌||◌}
 use Rattle.std.proofs.Common.{get_or, take, drop, refl, ap, sym, ◌∙◌, ⊎_elim, length, arith, slice_index, map, leb, ltb}
 use mathlib.Core.Path.{fun_ext}
@@ -8,7 +8,7 @@ use Rattle.std.specs.Map.{lookup}
 use Rattle.std.proofs.lemmas.List.{get_or-replicate, get_or_past, length-replicate, get_or_append_left, get_or-take}
 use Rattle.std.proofs.lemmas.List.{get_or-append_right, get_or-drop, length-take, length-drop}
 use Rattle.std.proofs.lemmas.Bool.{or_right, cases_lt, leb-true, leb-false, ltb-true, ltb-false}
-use Rattle.std.proofs.lemmas.List.FromFn.{fill_by_all}
+use Rattle.std.proofs.lemmas.List.FromFn.{fill_by_all, map-range_with_len_more}
 use Rattle.std.specs.List.{range_with_len, list_all}
 use Rattle.std.specs.Int.{from_le_bytes, to_le_bytes, w64}
 use Rattle.std.proofs.lemmas.Nat.{le_bytes_8}
@@ -71,6 +71,12 @@ part_read xs offset size within =
     ∙ fill_by_all (λ i. slice_index xs (offset + i)) (take size (drop offset xs)) size 0
     (omega (arith, length-take size (drop offset xs), length-drop offset xs))
     (λ i lt. get_or-take size (drop offset xs) i 0 lt ∙ get_or-drop offset xs i 0)
+
+-- one more byte read
+pub more_read : (f : ℕ → ℕ) {xs ys : List ℕ} {y : ℕ} (i : ℕ) → ys ≡ xs ++ y ∷ [] → xs ≡ map f (range_with_len 0 i) →
+    y ≡ f i → ys ≡ map f (range_with_len 0 (i + 1))
+more_read f {xs} {ys} {y} i pushed read is = pushed ∙ ap (λ (zs : List ℕ). zs ++ y ∷ []) read
+    ∙ ap (λ z. map f (range_with_len 0 i) ++ z ∷ []) is ∙ sym (map-range_with_len_more f 0 i i (omega arith))
 
 -- the value of a load, read
 pub value_read : (memory : FlatMemory) (q : Request) (bytes : ℕ → ℕ) (xs : List ℕ) (offset size : ℕ) → Load ≡ q.op
