@@ -26,9 +26,9 @@ pub struct Lines<L: Level> {
     ways: u32,
     banks: Divisor,
     factor: Divisor,
-    /// Which line each way has: a row of ways for each set, one row after another.
+    /// Which block each way has a line on: a row of ways for each set, one row after another.
     keys: Vec<WayKey>,
-    /// What is dirty of each way's line, and anything where a way is free.
+    /// What is dirty of each way's line. Where a way is free, this has no meaning.
     dirty: Vec<L::Dirty>,
 }
 
@@ -194,6 +194,7 @@ impl Lines<Two> {
             (marked (dirty_masks self.old.lines second) place mask.0)) }
     {
         let ways = self.ways as usize;
+        // Most lines of level one leave with no byte written, and then there is nothing to look up.
         if mask.0 == 0 {
             return;
         }
