@@ -10,8 +10,7 @@ returns-clause-len c =
     let r = c.args.item.now in
     omega (
       arith,
-      c.fixed_len.ensures.len,
-      c.data_len.ensures.len,
+      c.event_len.ensures.len,
       length-append (u32_bytes r.number ++ fixed_bytes r.event) (data_of r.event),
       length-append (u32_bytes r.number) (fixed_bytes r.event),
       length-u32_bytes r.number,
