@@ -92,10 +92,8 @@ fn level_two_keeps_what_level_one_holds(rt: HostRuntime) -> Result<(), Fail> {
     Ok(())
 }
 
-/// Second-level blocks of two blocks: second-level block 5 has the blocks 10 and 11.
 #[test]
 fn each_block_of_a_wide_line_has_a_mask(rt: HostRuntime) -> Result<(), Fail> {
-    let mut inner: Lines<One> = Lines::new(rt.alloc(), 1, 1, 1, 2).ok().ok_or("no memory")?;
     let mut outer: Lines<Two> = Lines::new(rt.alloc(), 1, 2, 1, 2).ok().ok_or("no memory")?;
     assert!(rt; !outer.has(5));
     assert_eq!(rt; outer.fill(5, two_masks(0, 2)), Ok(()));
@@ -103,14 +101,24 @@ fn each_block_of_a_wide_line_has_a_mask(rt: HostRuntime) -> Result<(), Fail> {
     outer.mark(5, &two_masks(0, 1));
     assert!(rt; outer.dirty(5) == Some(&two_masks(0, 3)));
     assert_eq!(rt; second_mask(&outer, 5), Some(Mask(3)));
-    assert!(rt; outer.may_leave(5, &inner, false));
-    assert!(rt; !inner.has(11));
-    assert_eq!(rt; inner.fill(11, Mask(0)), Ok(()));
-    assert!(rt; !outer.may_leave(5, &inner, false));
     assert_eq!(rt;
         outer.evict(4, &two_masks(0, 0)),
         Err(LineFault::EvictAbsent)
     );
+    Ok(())
+}
+
+/// Second-level blocks of two blocks: second-level block 5 has the blocks 10 and 11.
+#[test]
+fn a_wide_line_stays_while_level_one_has_a_block_of_it(rt: HostRuntime) -> Result<(), Fail> {
+    let mut inner: Lines<One> = Lines::new(rt.alloc(), 1, 1, 1, 2).ok().ok_or("no memory")?;
+    let mut outer: Lines<Two> = Lines::new(rt.alloc(), 1, 2, 1, 2).ok().ok_or("no memory")?;
+    assert!(rt; !outer.has(5));
+    assert_eq!(rt; outer.fill(5, two_masks(0, 2)), Ok(()));
+    assert!(rt; outer.may_leave(5, &inner, false));
+    assert!(rt; !inner.has(11));
+    assert_eq!(rt; inner.fill(11, Mask(0)), Ok(()));
+    assert!(rt; !outer.may_leave(5, &inner, false));
     Ok(())
 }
 
