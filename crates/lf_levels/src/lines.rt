@@ -1,7 +1,7 @@
 //! A table of lines.
 
-ghost use Rattle.std.specs.Prelude.{◌≡◌, ◌<◌, ◌*◌, true, false, ◌↔◌, IsTrue, Option, Some, None, option_copied, unwrap_or};
-ghost use Rattle.std.specs.Prelude.{IfOk, IfErr, OnErr};
+ghost use Rattle.std.specs.Prelude.{◌≡◌, ◌<◌, ◌*◌, true, false, ◌↔◌, IsTrue, Option, Some, None, option_copied};
+ghost use Rattle.std.specs.Prelude.{unwrap_or, IfOk, IfErr, OnErr};
 ghost use Rattle.lf_rules.specs.Fits.{is_factor};
 ghost use Rattle.lf_rules.specs.InRange.{IsFrom};
 ghost use Rattle.lf_rules.specs.Lines.{line_at, has_line, lines_of_set, dirty_masks, marked};

@@ -83,7 +83,8 @@ impl<O1: Organisation<Target = Request1>, O2: Organisation<Target = Request2>> B
     for Bank<O1, O2> {
     ghost view = { λ bank. bank };
 
-    ghost suits = { λ shape. (O1.names shape.level1.organisation ≡ true) × (O2.names shape.level2.organisation ≡ true) };
+    ghost suits = { λ shape. (O1.names shape.level1.organisation ≡ true)
+        × (O2.names shape.level2.organisation ≡ true) };
 
     fn new(
         alloc: Global,

@@ -1,16 +1,17 @@
 //! Which rule of the bank an event breaks first. Nothing changes here.
 
-ghost use Rattle.std.specs.Prelude.{◌≡◌, ◌*◌, ◌<◌, ◌/◌, ℕ, true, false, IfNone, List, length};
+ghost use Rattle.std.specs.Prelude.{◌≡◌, ◌*◌, ◌<◌, ◌/◌, ℕ, true, false, Some, IfNone, List, length, bytes_eq};
 ghost use Rattle.std.specs.List.{list_all};
 ghost use Rattle.arrayvec.specs.ArrayVec.{ArrayVec};
 ghost use Rattle.lf_levels.specs.LineTable.{is_full, wide_set};
-ghost use Rattle.lf_rules.specs.Address.{places, set1_of};
-ghost use Rattle.lf_rules.specs.Lines.{has_line, dirty_mask, dirty_masks, same_masks};
+ghost use Rattle.lf_rules.specs.Address.{block_bytes, masked, places, set1_of};
+ghost use Rattle.lf_rules.specs.Lines.{has_line, dirty_masks, same_masks};
 ghost use Rattle.lf_rules.specs.Registers.{Held, holds};
 ghost use Rattle.lf_rules.specs.State.{Asked};
 ghost use Rattle.lf_rules.specs.Table.{is_among, is_apart, is_head, oldest, store_bytes};
 ghost use Rattle.lf_rules.specs.declared.event.Event.TheVariants as event;
 ghost use Rattle.lf_rules.specs.declared.event.Op.{Op};
+ghost use Rattle.lf_state.specs.Bytes.{flat_of};
 ghost use Rattle.lf_replay.specs.BankView.{queue_at, slice_of};
 ghost use Rattle.lf_replay.specs.RegisterRules.{OfMissed, TakesPrimary, TakesMerge, TakesSecondPrimary};
 ghost use Rattle.lf_replay.specs.RegisterRules.{TakesSecondMerge};
@@ -121,21 +122,17 @@ impl<O1: Organisation<Target = Request1>, O2: Organisation<Target = Request2>> B
         None
     }
 
-    pub fn judge_evict1(&self, block: u32, mask: Mask, bytes: &Block) -> Option<Rule>
-        ensures judged { (log : ℕ) → IsJudged self.now log (event.Evict1 block mask bytes.now) result }
-        ensures line { IfNone result (has_line self.now.lines1.lines block ≡ true) }
-        ensures dirty { IfNone result (mask.0 ≡ dirty_mask self.now.lines1.lines block) }
+    /// Of an eviction whose bytes are not memory's.
+    pub fn judge_wrong_bytes1(&self, block: u32, mask: Mask) -> Rule
+        ensures { (log : ℕ) (bytes : ArrayVec ℕ) →
+            bytes_eq bytes.items (masked (block_bytes self.now.shape (flat_of self.now.memory) block) mask.0) ≡ false
+            → IsJudged self.now log (event.Evict1 block mask bytes) (Some result) }
     {
-        let Some(dirty) = self.lines1.dirty(block) else {
-            return Some(Rule::EvictAbsent);
-        };
-        if mask.0 != dirty.0 {
-            return Some(Rule::EvictMask);
+        match self.lines1.dirty(block) {
+            None => Rule::EvictAbsent,
+            Some(dirty) if mask.0 != dirty.0 => Rule::EvictMask,
+            Some(_) => Rule::EvictData,
         }
-        if !self.memory.carries(&self.shape, block, mask, bytes) {
-            return Some(Rule::EvictData);
-        }
-        None
     }
 
     pub fn judge_second_hit(&self, block: u32) -> Option<Rule>

@@ -2,16 +2,18 @@
 //! where it breaks none. What may be refused memory comes before what is not undone, so that a refusal
 //! leaves the state as it was.
 
-ghost use Rattle.std.specs.Prelude.{◌≡◌, ◌<◌, ℕ, true, drop, length, IfOk, OnOk, OnErr};
+ghost use Rattle.std.specs.Prelude.{◌≡◌, ◌<◌, ℕ, true, drop, length, IfOk, IfSome, IfNone, OnOk, OnErr};
 ghost use Rattle.arrayvec.specs.ArrayVec.{ArrayVec};
+ghost use Rattle.lf_levels.specs.LineTable.{after_evict};
 ghost use Rattle.lf_rules.specs.InRange.{IsShape};
+ghost use Rattle.lf_rules.specs.Lines.{has_line};
 ghost use Rattle.lf_rules.specs.declared.event.Event.TheVariants as event;
 ghost use Rattle.lf_rules.specs.declared.event.Op.{Op};
 ghost use Rattle.lf_rules.specs.State.{update};
 ghost use Rattle.lf_rules.specs.Table.{request_of, is_head, oldest, accepted};
 ghost use Rattle.lf_state.specs.Bytes.{flat_of};
 ghost use Rattle.lf_replay.specs.BankView.{queue_at};
-ghost use Rattle.lf_replay.specs.Shows.{IsAnswer, ShowsReached};
+ghost use Rattle.lf_replay.specs.Shows.{IsAnswer, IsJudged, ShowsReached};
 ghost use Rattle.lf_replay.specs.Targets.{IsTarget1, miss_of};
 
 use crate::bank::Bank;
@@ -19,6 +21,7 @@ use crate::fault::BankFault;
 use crate::registers::{has_room1, store_bytes};
 use crate::replies::add_replies;
 use crate::target::{asking, missed};
+use lf_levels::LineFault;
 use lf_mshr::{Organisation, Request1, Request2};
 use lf_rules::{Block, Mask, NoMemory, Rule, Shape};
 use lf_state::{
@@ -201,16 +204,30 @@ impl<O1: Organisation<Target = Request1>, O2: Organisation<Target = Request2>> B
         Ok(())
     }
 
+    /// The block's line leaves level one, where the eviction breaks no rule. It is looked up once.
+    fn take_line1(&mut self, block: u32, mask: Mask, bytes: &Block) -> Option<Rule>
+        ensures judged { (log : ℕ) → IsJudged self.old log (event.Evict1 block mask bytes.now) result }
+        ensures line { IfNone result (has_line self.old.lines1.lines block ≡ true) }
+        ensures taken { IfNone result (self.new ≡ record self.old { lines1 = after_evict self.old.lines1 block }) }
+        ensures unchanged { IfSome result (λ _. self.new ≡ self.old) }
+    {
+        if !self.memory.carries(&self.shape, block, mask, bytes) {
+            return Some(self.judge_wrong_bytes1(block, mask));
+        }
+        match self.lines1.evict(block, mask) {
+            Ok(()) => None,
+            Err(LineFault::EvictMask) => Some(Rule::EvictMask),
+            Err(_) => Some(Rule::EvictAbsent),
+        }
+    }
+
     /// Level one gives the block up, with the bytes of its dirty mask.
     pub fn evict1(&mut self, block: u32, mask: Mask, bytes: &Block) -> Result<(), BankFault>
         requires { ShowsReached self.old }
         ensures { (log : ℕ) → IsAnswer self.old self.new log (event.Evict1 block mask bytes.now) result }
     {
-        if let Some(rule) = self.judge_evict1(block, mask, bytes) {
+        if let Some(rule) = self.take_line1(block, mask, bytes) {
             return Err(BankFault::Rule(rule));
-        }
-        if self.lines1.evict(block, mask).is_err() {
-            unreachable!()
         }
         let second = second_of(&self.shape, block);
         let place = place_of(&self.shape, block);
