@@ -1,4 +1,4 @@
-use Rattle.std.proofs.Common.{◌≡◌, ℕ, ◌+◌, List, ◌||◌, ◌==◌, length, set, sym, ap, ◌∙◌, subst, arith}
+use Rattle.std.proofs.Common.{◌≡◌, ℕ, List, ◌||◌, ◌==◌, length, sym, ap, ◌∙◌, subst, arith}
 use Rattle.std.proofs.lemmas.List.{with_items_is}
 use Rattle.lf_mshr.specs.Places.{is_marked}
 use Rattle.lf_mshr.proofs.Chain.{last-le, len-le, count-is, chain-push}
@@ -47,18 +47,5 @@ returns-clause-order g c =
 
 pub returns-clause-few : goal.returns-clause-few
 returns-clause-few g c =
-    let p = c.self.inside in
-    let there = rw (← c.self.view_is) at c.requires.there in
-    let free = rw (← c.self.view_is) at c.requires.free in
-    let same : c.deref_mut.result.now ≡ p.used.items = c.deref_mut.ensures.value in
-    let long : length c.mark.new.words ≡ length p.used.items =
-    c.mark.ensures.long ∙ ap (λ (ws : List ℕ). length ws) same in
-    let bits = subst (λ (ws : List ℕ). (b : ℕ) → is_marked c.mark.new.words b ≡ (b == c.args.place || is_marked ws b))
-    same c.mark.ensures.bits in
-    let chain = (chain-push p.items.items p.next.items p.used.items p.end p.last p.len c.self.invariant c.args.place
-    c.args.item c.mark.new.words there free long bits).0 in
-    let few = len-le (set p.items.items c.args.place c.args.item) (set p.next.items p.last c.args.place)
-    c.mark.new.words p.end c.args.place (p.len + 1) chain in
-    let count = count-is (set p.items.items c.args.place c.args.item) (set p.next.items p.last c.args.place)
-    c.mark.new.words p.end c.args.place (p.len + 1) chain in
-    rw (c.from.ensures, c.from-2.ensures) (omega (arith, few, count))
+    let chain = invariant_of-self g c in
+    omega (arith, len-le _ _ _ _ _ _ chain, count-is _ _ _ _ _ _ chain)
