@@ -9,7 +9,7 @@ use std::marker::Model;
 /// search reads one or two cache lines, and makes one comparison for each way.
 #[derive(Clone, Copy)]
 pub struct WayKey {
-    /// 0 for a free way, and otherwise the block and 1.
+    /// 0 for a free way, and otherwise one more than the block.
     code: u64,
 }
 
