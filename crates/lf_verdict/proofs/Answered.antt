@@ -22,7 +22,6 @@ use Rattle.lf_pool.specs.declared.job.Jobs.{Jobs}
 use Rattle.lf_verdict.specs.declared.answer.Verdict.{Verdict}
 use Rattle.lf_verdict.specs.declared.answer.Verdict.TheVariants.{Yes, No, Refused}
 use Rattle.lf_verdict.specs.declared.answer.HeaderField.{HeaderField}
-use Rattle.lf_verdict.specs.declared.answer.Refusal.{Refusal}
 use Rattle.lf_verdict.specs.declared.stop.Stop.{Stop}
 use Rattle.lf_verdict.specs.declared.stop.Stop.TheVariants as stops
 use Rattle.lf_verdict.specs.Session.{refusal_of}
