@@ -1,10 +1,9 @@
 -- From the bytes of a trace to its logs.
-use Rattle.std.proofs.Common.{◌≡◌, ℕ, ◌+◌, ◌<◌, ◌≤◌, ◌^◌, List, [], ◌∷◌, Result, Ok, Err, IfOk, IsPermutation, length}
+use Rattle.std.proofs.Common.{◌≡◌, ℕ, ◌+◌, ◌<◌, ◌≤◌, ◌^◌, List, [], ◌∷◌, IsPermutation, length}
 use Rattle.std.proofs.Common.{get_or, sym}
 use Rattle.std.proofs.Common.{◌∙◌, ap, subst, arith}
 use Rattle.std.specs.List.{AllByRecursion, All}
-use Rattle.std.specs.Global.{Vec}
-use Rattle.std.proofs.lemmas.List.{length-map, get_or-map, get_or_default}
+use Rattle.std.proofs.lemmas.List.{get_or_default}
 use Rattle.std.proofs.lemmas.List.Elements.{All-from_recursion}
 use Rattle.std.proofs.lemmas.List.FromFn.{length-map-range_with_len}
 use Rattle.std.proofs.lemmas.List.Sorted.{length_permutation}
@@ -14,14 +13,13 @@ use Rattle.lf_rules.specs.Fits.{Fits, Bytes}
 use Rattle.lf_rules.specs.InRange.{IsShape}
 use Rattle.lf_rules.specs.Order.{log_at}
 use Rattle.lf_rules.specs.Run.{of_log}
-use Rattle.lf_rules.specs.Numbers.{all_records, bank_numbers, IsWhole}
+use Rattle.lf_rules.specs.Numbers.{all_records}
 use Rattle.lf_rules.proofs.Permuted.{interleaving_permutes}
 use Rattle.lf_codec.specs.declared.header.Header.{Header}
 use Rattle.lf_codec.specs.Laws.{BytesAreOfOneTrace}
 use Rattle.lf_codec.specs.Trace.{IsTrace}
 use Rattle.lf_logs.proofs.Joined.{all_le}
-use Rattle.lf_logs.specs.Lists.{lists_of, logs_of}
-use Rattle.lf_verdict.specs.Legal.{IsTraceFor}
+use Rattle.lf_logs.specs.Lists.{logs_of}
 use Rattle.lf_verdict.proofs.Answered.{log_below, limit_is_small}
 use Rattle.lf_verdict.proofs.Settled.{interleaves}
 use Rattle.lf_verdict.proofs.Traces.{records_fit, log_of_logs}
