@@ -68,6 +68,14 @@ module _ (p : Progress) (bytes rest fixed carried : List ℕ) (kind : Kind) (hea
     len_is = refl;
   }
 
+  pub carried_few : IsInRange p.header → length carried ≤ most_data p.header head.kind
+  carried_few range =
+      omega (
+        arith,
+        own_parts.carried_whole,
+        data_limit p.header head.bank head.kind fixed range own_parts.fixed_passes,
+      )
+
   pub event_carries : (bare : Event) → bare ≡ event_at p.header kind fixed (record { items = [] }) →
       carrying bare carried ≡ event_at p.header head.kind fixed (record { items = carried })
   event_carries bare is_bare = ap (λ (e : Event). carrying e carried) is_bare

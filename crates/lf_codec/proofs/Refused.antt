@@ -1,5 +1,5 @@
 -- What a reader has after a refusal, also one since memory ran out.
-use Rattle.std.proofs.Common.{◌≡◌, ◌⊎◌, ℕ, ◌+◌, ◌≤◌, List, [], ◌++◌, length, take, drop, Option, Some, None, Result}
+use Rattle.std.proofs.Common.{◌≡◌, ◌⊎◌, ℕ, ◌≤◌, List, ◌++◌, length, take, drop, Option, Some, None, Result}
 use Rattle.std.proofs.Common.{Ok, Err, refl, sym, ap, subst, ◌∙◌, arith, append_assoc, inl, inr}
 use Rattle.std.specs.Prelude.{OnOk, IfErr, IsSome}
 use Rattle.std.proofs.lemmas.List.{length-append, take-append-le, take-append-drop}
@@ -13,7 +13,6 @@ use Rattle.lf_codec.specs.Reader.{told, fault_in, answer_of, bytes_taken, IsKept
 use Rattle.lf_codec.specs.Reader.{WantsMemory}
 use Rattle.lf_codec.specs.Takes.{WasRefused, WasCutShort, HasReadOn}
 use Rattle.lf_codec.proofs.Numbers.{IsBytes, IsBytes-take}
-use Rattle.lf_codec.proofs.Backward.{fine_before}
 use Rattle.lf_codec.proofs.Pieces.{has_read_on, marked_of, gives_of_read, fed, failed_stays, kept_same, kept_trans}
 use Rattle.lf_codec.proofs.Pieces.{kept_on, fed_kept, fed_well, no_fault_told}
 use Rattle.lf_codec.proofs.Faults.{what_stands_before_is_given}

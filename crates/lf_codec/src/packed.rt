@@ -5,10 +5,11 @@ ghost use Rattle.std.specs.Prelude.{drop, slice_index_or};
 ghost use Rattle.lf_rules.specs.declared.event.Record.{Record};
 ghost use Rattle.lf_codec.specs.Steps.{fixed_len, record_of};
 ghost use Rattle.lf_codec.specs.Sound.{IsInRange, most_data};
-ghost use Rattle.lf_codec.specs.Packed.{AreParts, StandLast, parts_record};
+ghost use Rattle.lf_codec.specs.Packed.{AreParts, StandLast, parts_record, slice_of};
 
 use crate::event::{event_at, put_bytes};
 use crate::header::Header;
+use crate::places::Places;
 use crate::stage::{Head, Kind};
 use crate::step::fixed_len;
 use lf_rules::{NoMemory, Record};
@@ -94,6 +95,15 @@ fn unpack(header: &Header, head: Head, parts: &[u8], place: &mut Record)
         Kind::Fence => build(header, Kind::Fence, head, parts, place),
         Kind::SecondMerge => build(header, Kind::SecondMerge, head, parts, place),
     }
+}
+
+/// So many of the bytes from this one on.
+fn slice_of(bytes: &[u8], at: u32, len: u32) -> &[u8]
+    requires { at + len ≤ length bytes.now }
+    ensures { result.now ≡ slice_of bytes.now at len }
+{
+    let at = at as usize;
+    &bytes[at..at + len as usize]
 }
 
 impl Packed {
@@ -252,10 +262,24 @@ impl Packed {
     {
         match &self.forms[at] {
             Form::Parts(parts) => {
-                let at = parts.at as usize;
-                let bytes = &self.bytes[at..at + parts.len as usize];
+                let bytes = slice_of(&self.bytes, parts.at, parts.len);
                 unpack(&self.header, parts.head, bytes, place);
                 place
+            }
+            Form::Apart(item) => item,
+        }
+    }
+
+    /// The record as `lend` gives it. Where it is kept by its parts it is written over the last one of its kind.
+    pub fn lend_from<'a>(&'a self, at: usize, places: &'a mut Places) -> &'a Record
+        requires { at < length self.now.records }
+        ensures { (d : Record) → result.now ≡ slice_index_or self.now.records at d }
+    {
+        match &self.forms[at] {
+            Form::Parts(parts) => {
+                let bytes = slice_of(&self.bytes, parts.at, parts.len);
+                places.write_parts(&self.header, parts.head, bytes);
+                places.written()
             }
             Form::Apart(item) => item,
         }

@@ -1,6 +1,6 @@
 //! What is asked of a reader and of the writer.
 
-use lf_codec::{CodecCause, CodecFault, Header, Packed, Reader, Told, encode, fits_trace};
+use lf_codec::{CodecCause, CodecFault, Header, Packed, Places, Reader, Told, encode, fits_trace};
 use lf_rules::{Event, Memory, NO_BANK, NoMemory, Record};
 use std::alloc::Global;
 use std::process::Abort;
@@ -50,12 +50,14 @@ pub fn assert_packed(rt: &impl Abort, packed: &Packed, records: &[Record]) {
         number: 0,
         event: Event::Fence,
     };
+    let mut places = Places::new();
     for at in 0..packed.len() {
         let item = records.get(at);
         assert_eq!(rt; Some(packed.bank(at)), item.map(|r| r.bank));
         assert_eq!(rt; Some(packed.log(at)), item.map(|r| r.log));
         assert_eq!(rt; Some(packed.number(at)), item.map(|r| r.number));
         assert_eq!(rt; Some(packed.lend(at, &mut place)), item);
+        assert_eq!(rt; Some(packed.lend_from(at, &mut places)), item);
     }
 }
 

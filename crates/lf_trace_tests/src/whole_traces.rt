@@ -4,8 +4,8 @@ use crate::reading::{
     ONE_BANK, assert_fault, assert_packed, assert_reads, assert_taken, encoded, feed, feed_into,
     finish,
 };
-use lf_codec::{CodecCause, CodecFault, Header, Packed, Reader, Told, fits_trace};
-use lf_rules::{Memory, Record};
+use lf_codec::{CodecCause, CodecFault, Header, Packed, Places, Reader, Told, fits_trace};
+use lf_rules::Memory;
 use lf_samples::{
     C1, EMPTY_TRACE, FENCE_LAST, LOAD, LOAD_MISSES_BOTH_LEVELS, LOADED, bytes_of, memory, records,
     records_at,
@@ -137,7 +137,7 @@ fn record_by_record(rt: HostRuntime) -> Result<(), Fail> {
 fn feed_one<'a>(
     reader: &mut Reader,
     bytes: &'a [u8],
-    place: &mut Option<Record>,
+    place: &mut Places,
 ) -> Result<&'a [u8], Fail> {
     let n = reader.feed_one(bytes, place)?;
     let (_, behind) = bytes.split_at(n.min(bytes.len()));
@@ -148,11 +148,11 @@ fn feed_one<'a>(
 fn assert_place_emptied(
     rt: &impl Abort,
     reader: &mut Reader,
-    place: &mut Option<Record>,
+    place: &mut Places,
 ) -> Result<(), Fail> {
     assert_eq!(rt; finish(reader)?, ONE_BANK);
     assert!(rt; reader.feed_one(&[0], place).is_err());
-    assert_eq!(rt; *place, None);
+    assert_eq!(rt; place.record(), None);
     Ok(())
 }
 
@@ -162,12 +162,12 @@ fn records_into_a_place(rt: HostRuntime) -> Result<(), Fail> {
     let records = records(rt.alloc(), &C1, &[LOAD, LOADED])?;
     let mut expected = records.iter();
     let mut reader = Reader::new(rt.alloc());
-    let mut place = None;
+    let mut place = Places::new();
     let mut rest: &[u8] = &LOAD_MISSES_BOTH_LEVELS;
     for _ in 0..132u8 {
         rest = feed_one(&mut reader, rest, &mut place)?;
-        if place.is_some() {
-            assert_eq!(rt; place.as_ref(), expected.next());
+        if place.record().is_some() {
+            assert_eq!(rt; place.record(), expected.next());
         }
         assert_eq!(rt; reader.front(), None);
     }
@@ -181,14 +181,16 @@ fn records_into_a_place(rt: HostRuntime) -> Result<(), Fail> {
 fn waiting_records_into_a_place(rt: HostRuntime) -> Result<(), Fail> {
     let records = records(rt.alloc(), &C1, &[LOAD, LOADED])?;
     let mut reader = Reader::new(rt.alloc());
-    let mut place = None;
+    let mut place = Places::new();
     let (front, back) = LOAD_MISSES_BOTH_LEVELS.split_at(100);
     feed(&mut reader, front)?;
     let mut rest = back;
     for item in records.iter() {
         rest = feed_one(&mut reader, rest, &mut place)?;
-        assert_eq!(rt; place.as_ref(), Some(item));
+        assert_eq!(rt; place.record(), Some(item));
     }
+    place.clear();
+    assert_eq!(rt; place.record(), None);
     Ok(())
 }
 

@@ -1,0 +1,127 @@
+//! Places that records are read into.
+
+ghost use Rattle.std.specs.Prelude.{◌≡◌, ◌<◌, ◌≤◌, length, Option, Some, None, IsSome, MatchOption};
+ghost use Rattle.lf_codec.specs.Packed.{AreParts, parts_record};
+ghost use Rattle.lf_codec.specs.Sound.{most_data};
+ghost use Rattle.lf_codec.specs.Steps.{fixed_len, record_of};
+
+use crate::header::Header;
+use crate::overwrite::write_record;
+use crate::stage::{Head, Kind};
+use crate::step::fixed_len;
+use lf_rules::{Event, NO_BANK, Record};
+use std::marker::Model;
+
+/// One for each kind, and one for a record that is put whole.
+const COUNT: usize = 16;
+
+/// What a place has before a record is written there.
+const BLANK: Record = Record {
+    log: 0,
+    bank: NO_BANK,
+    number: 0,
+    event: Event::Fence,
+};
+
+/// A place for a record of each kind, and which was written last. A record is written over the last one of
+/// its kind, which costs less than to write all of its 320 bytes. So it pays to keep the places.
+#[derive(Drop)]
+pub struct Places {
+    records: [Record; COUNT],
+    /// Where the last one is, and `COUNT` where there is none.
+    last: usize,
+}
+
+impl Model for Places {
+    ghost use Rattle.std.specs.Prelude.{◌≡◌, Option, length, slice_get};
+    ghost use Rattle.lf_rules.specs.declared.event.Record.{Record};
+
+    ghost Value = { Option Record };
+
+    ghost view = { λ p. slice_get p.records p.last };
+
+    ghost invariant = { λ p. length p.records ≡ 16 };
+}
+
+impl Places {
+    /// Places without a record. They take no memory.
+    pub fn new() -> Places
+        ensures { result ≡ None }
+    {
+        Places {
+            records: [
+                BLANK, BLANK, BLANK, BLANK, BLANK, BLANK, BLANK, BLANK, BLANK, BLANK, BLANK, BLANK,
+                BLANK, BLANK, BLANK, BLANK,
+            ],
+            last: COUNT,
+        }
+    }
+
+    /// The record that was written last. It stays until the next one is written, or until `clear`.
+    #[inline]
+    pub fn record(&self) -> Option<&Record>
+        ensures { MatchOption result (self.now ≡ None) (λ item. self.now ≡ Some item.now) }
+    {
+        self.records.get(self.last)
+    }
+
+    /// The record that was written last, where there is one.
+    #[inline]
+    pub(crate) fn written(&self) -> &Record
+        requires { IsSome self.now }
+        ensures { self.now ≡ Some result.now }
+    {
+        &self.records[self.last]
+    }
+
+    /// Lets the record go. Only that is written.
+    #[inline]
+    pub fn clear(&mut self)
+        ensures { self.new ≡ None }
+    {
+        self.last = COUNT;
+    }
+
+    /// Puts the whole record, or none.
+    pub(crate) fn put(&mut self, item: Option<Record>)
+        ensures { self.new ≡ item }
+    {
+        match item {
+            Some(item) => {
+                self.last = COUNT - 1;
+                self.records[COUNT - 1] = item;
+            }
+            None => self.last = COUNT,
+        }
+    }
+
+    /// Writes the record of a head of this kind, of its fixed part and of the bytes that came after that.
+    #[inline(always)]
+    pub(crate) fn write(
+        &mut self,
+        header: &Header,
+        kind: Kind,
+        head: Head,
+        fixed: &[u8],
+        bytes: &[u8],
+    )
+        requires kind { kind ≡ head.kind }
+        requires factor { header.now.factor ≤ 4 }
+        requires len { length fixed.now ≡ fixed_len header.now head.kind }
+        requires few { length bytes.now ≤ most_data header.now head.kind }
+        ensures { self.new ≡ Some (record_of header.now head fixed.now bytes.now) }
+    {
+        let at = kind as usize;
+        self.last = at;
+        write_record(&mut self.records[at], header, kind, head, fixed, bytes);
+    }
+
+    /// Writes the record of a head and of its parts.
+    pub(crate) fn write_parts(&mut self, header: &Header, head: Head, parts: &[u8])
+        requires { AreParts header.now head.kind parts.now }
+        ensures { self.new ≡ Some (parts_record header.now head parts.now) }
+    {
+        let (fixed, carried) = parts.split_at(fixed_len(header, head.kind));
+        self.write(header, head.kind, head, fixed, carried);
+    }
+}
