@@ -3,9 +3,10 @@
 use lf_rules::{Mask, Op};
 use lf_samples::{C1, TWO_PORTS_TWO_BANKS, block, memory};
 use lf_state::{
-    Data, FlatMemory, Ready, Request, drop_head, drop_ready, empty_queues, enqueue, head, push,
-    ready_for,
+    Data, FlatMemory, Ready, Request, asker_of, drop_head, drop_ready, empty_queues, enqueue, head,
+    push, ready_at, ready_for,
 };
+use std::process::Abort;
 use std::test::Fail;
 
 /// Block 0 is of bank 0, and block 1 of bank 1.
@@ -33,11 +34,41 @@ fn a_load_finds_what_a_store_wrote(rt: HostRuntime) -> Result<(), Fail> {
     let load = Request::of_issue(&C1, Op::Load, 1, 4, 8, &[]);
     flat.accept(&store).ok().ok_or("no memory")?;
     assert_eq!(rt; flat.value_of(&load).as_slice(), [0, 0, 7, 9].as_slice());
+    assert_eq!(rt; flat.number_of(&load) & 0xffff_ffff, 0x0907_0000);
     assert_eq!(rt; flat.value_of(&store).len(), 0);
     assert_eq!(rt; store.store_mask(), 0b1100);
     let again = Request::of_issue(&C1, Op::Store, 2, 1, 11, &[5]);
     flat.accept(&again).ok().ok_or("no memory")?;
     assert_eq!(rt; flat.value_of(&load).as_slice(), [0, 0, 7, 5].as_slice());
+    Ok(())
+}
+
+/// A store of one byte to a block.
+fn store_to(block: u32, byte: u8) -> Request {
+    Request::of_issue(&C1, Op::Store, 0, 1, u64::from(block) * 8, &[byte])
+}
+
+/// Fails unless each block is found that was stored, the n-th one being n times the step.
+fn assert_found<T: Abort + AllocGlobal>(rt: &T, step: u32, count: u32) -> Result<(), Fail> {
+    let mut flat = FlatMemory::new(rt.alloc(), &[]).ok().ok_or("no memory")?;
+    for n in 0..count {
+        let store = store_to(n.wrapping_mul(step), (n % 256) as u8);
+        flat.accept(&store).ok().ok_or("no memory")?;
+    }
+    for n in 0..count {
+        assert_eq!(rt; flat.bytes_of(n.wrapping_mul(step))[0], (n % 256) as u8);
+    }
+    assert_eq!(rt; flat.bytes_of(count.wrapping_mul(step))[0], 0);
+    Ok(())
+}
+
+/// The first blocks stand next to one another, the second ones far apart, and the third ones all have one place in the
+/// table of blocks.
+#[test]
+fn each_of_many_blocks_is_found(rt: HostRuntime) -> Result<(), Fail> {
+    for step in [1, 0x0100_0001, 0x0e8b_2f51] {
+        assert_found(&rt, step, 1000)?;
+    }
     Ok(())
 }
 
@@ -76,6 +107,7 @@ fn a_reply_leaves_once(rt: HostRuntime) -> Result<(), Fail> {
             .ok_or("no memory")?;
     }
     assert!(rt; ready_for(&ready, 1, 5).is_some());
+    assert_eq!(rt; ready_at(&ready, 1, 5), Some(1));
     drop_ready(&mut ready, 1, 5);
     assert!(rt; ready_for(&ready, 1, 5).is_none());
     assert_eq!(rt;
@@ -83,4 +115,11 @@ fn a_reply_leaves_once(rt: HostRuntime) -> Result<(), Fail> {
         Some(0)
     );
     Ok(())
+}
+
+#[test]
+fn an_asked_block_has_its_register(rt: HostRuntime) {
+    let asked = [(7, 3), (8, 1)];
+    assert_eq!(rt; asker_of(&asked, 8), Some(1));
+    assert_eq!(rt; asker_of(&asked, 9), None);
 }

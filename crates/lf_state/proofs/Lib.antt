@@ -2,3 +2,6 @@ pub mod Blocks
 pub mod Bytes
 pub mod Finds
 pub mod Masked
+pub mod NearBlocks
+pub mod NearWider
+pub mod TwoParts

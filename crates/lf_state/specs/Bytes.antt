@@ -1,9 +1,10 @@
 -- The bytes of a memory and of a request.
 use Rattle.std.specs.Prelude.{◌≡◌, ℕ, ◌+◌, ◌-◌, ◌==◌, ◌<◌, ◌≤◌, true, ◌&&◌, nat_eq, nat_le, nat_lt, List, [], length}
-use Rattle.std.specs.Prelude.{false, ◌++◌, map, drop, Option, bytes_eq, slice_index, unwrap_or}
+use Rattle.std.specs.Prelude.{false, ◌++◌, map, take, drop, Option, bytes_eq, slice_index, unwrap_or}
 use Rattle.std.specs.Prelude.{if◌then◌else◌}
 use Rattle.std.specs.Option.{option_map_or}
 use Rattle.std.specs.List.{filter, range_with_len}
+use Rattle.std.specs.Int.{to_le_bytes, w64}
 use Rattle.std.specs.Map.{lookup}
 use Rattle.lf_rules.specs.declared.shape.Shape.{Shape}
 use Rattle.lf_rules.specs.Address.{FlatMemory, bank_of, is_under}
@@ -38,3 +39,7 @@ bytes_under bytes size mask = map bytes (filter (is_under mask) (range_with_len 
 abbrev pub EndOf : List ℕ → List ℕ → ℕ → Option ℕ → Type 0
 EndOf xs bytes from end = (more : List ℕ) → bytes_eq (drop from bytes) (xs ++ more)
     ≡ option_map_or (λ at. bytes_eq (drop at bytes) more) end false
+
+-- these are the first bytes of the number, the lowest first
+abbrev pub IsNumberOf : List ℕ → ℕ → Type 0
+IsNumberOf bytes number = take (length bytes) (to_le_bytes w64 number) ≡ bytes

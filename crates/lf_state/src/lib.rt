@@ -8,12 +8,16 @@
 
 mod lists;
 mod memory;
+mod near;
+mod padded;
 mod places;
 mod queue;
 mod request;
 
 pub use lf_rules::NoMemory;
-pub use lists::{asked_register, drop_asked, drop_block, drop_ready, push, ready_for};
+pub use lists::{
+    asked_register, asker_of, drop_asked, drop_block, drop_ready, push, ready_at, ready_for,
+};
 pub use memory::FlatMemory;
 pub use places::{bank_of, part_at, place_of, second_of, sub_block};
 pub use queue::{Queue, drop_head, empty_queues, enqueue, head};

@@ -3,8 +3,8 @@
 
 ghost use Rattle.std.specs.Prelude.{◌≡◌, ◌==◌, true, false, ◌∷◌, [], ◌++◌, OnOk, OnErr, MatchOption, option_copied};
 ghost use Rattle.std.specs.List.{find, list_any, position};
-ghost use Rattle.lf_rules.specs.Table.{asked_register, first_ready, is_ready_for, without, without_asked};
-ghost use Rattle.lf_rules.specs.Table.{without_ready};
+ghost use Rattle.lf_rules.specs.Table.{asked_register, first_ready, is_asked, is_ready_for, without};
+ghost use Rattle.lf_rules.specs.Table.{without_asked, without_ready};
 
 use crate::request::Ready;
 use lf_rules::NoMemory;
@@ -31,6 +31,17 @@ pub fn asked_register(asked: &[(u32, u16)], block: u32) -> u16
     match asked_entry(asked, block) {
         Some(entry) => entry.1,
         None => 0,
+    }
+}
+
+/// The level-one register of the block's primary miss, where the block is asked for.
+pub fn asker_of(asked: &[(u32, u16)], block: u32) -> Option<u16>
+    ensures { MatchOption result (is_asked asked.now block ≡ false)
+        (λ register. (is_asked asked.now block ≡ true) × (register ≡ asked_register asked.now block)) }
+{
+    match asked_entry(asked, block) {
+        Some(entry) => Some(entry.1),
+        None => None,
     }
 }
 
@@ -71,7 +82,8 @@ pub fn drop_ready(ready: &mut Vec<Ready>, port: u8, tag: u8)
     }
 }
 
-fn ready_at(ready: &[Ready], port: u8, tag: u8) -> Option<usize>
+/// Where the first reply that is ready for the port and tag stands.
+pub fn ready_at(ready: &[Ready], port: u8, tag: u8) -> Option<usize>
     ensures { result ≡ position (is_ready_for port tag) ready.now }
 {
     ready

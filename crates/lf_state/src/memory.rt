@@ -1,15 +1,18 @@
 //! Flat memory, as far as a trace names it and stores wrote it. All other bytes are zero.
 
 ghost use Rattle.std.specs.Prelude.{◌≡◌, ℕ, ◌+◌, ◌-◌, ◌/◌, ◌<◌, ◌≤◌, ◌||◌, ◌==◌, map, length, slice_index, bytes_eq};
-ghost use Rattle.std.specs.Prelude.{IfOk, IfSome, OnOk, OnErr};
-ghost use Rattle.std.specs.Int.{from_le_bytes, w64};
+ghost use Rattle.std.specs.Prelude.{slice_range, take};
+ghost use Rattle.std.specs.Prelude.{IfOk, IfSome, OnOk, OnErr, [], ◌++◌};
+ghost use Rattle.std.specs.Int.{from_le_bytes, to_le_bytes, w64};
 ghost use Rattle.std.specs.List.{range_with_len, list_all};
 ghost use Rattle.lf_rules.specs.Address.{agree_off, block_bytes, flat_memory, is_under, masked, wide_masked};
 ghost use Rattle.lf_rules.specs.InRange.{IsShape};
 ghost use Rattle.lf_rules.specs.State.{update};
 ghost use Rattle.lf_rules.specs.Table.{value_of, accepted};
-ghost use Rattle.lf_state.specs.Bytes.{flat_of, bank_part, bytes_under, put, EndOf};
+ghost use Rattle.lf_state.specs.Bytes.{flat_of, bank_part, bytes_under, put, EndOf, IsNumberOf};
 
+use crate::near::Near;
+use crate::padded::{Bytes, ZEROS, padded, put};
 use crate::places::{bank_of, sub_block};
 use crate::request::{Data, Request, data_of};
 use lf_rules::{Block, Mask, Masks, NoMemory, Op, Shape, WideBlock};
@@ -17,41 +20,35 @@ use std::alloc::Global;
 use std::collections::HashMap;
 use std::marker::Model;
 
-/// The bytes of a block, and zeros behind them.
-type Bytes = [u8; 64];
+/// A block's place in a table is its number times this, modulo 2^32, scaled to the table. It is 2^32 divided by
+/// the golden ratio, so blocks that follow one another get places far apart.
+const SPREAD: u32 = 0x9e37_79b1;
 
-static ZEROS: Bytes = [0; 64];
-
-/// Flat memory, as far as a trace names it and stores wrote it.
+/// Flat memory, as far as a trace names it and stores wrote it. Most blocks stand in a table, at the place that
+/// their number says. A block whose place is taken goes into the map. So the table stays small where many blocks
+/// have one place.
 #[derive(Drop)]
 pub struct FlatMemory {
-    blocks: HashMap<u32, Bytes>,
+    near: Near,
+    far: HashMap<u32, Bytes>,
 }
 
 impl Model for FlatMemory {
-    ghost use Rattle.std.specs.Prelude.{ℕ, List};
+    ghost use Rattle.std.specs.Prelude.{ℕ, List, ◌++◌};
 
     ghost Value = { List (ℕ × List ℕ) };
 
-    ghost view = { λ m. m.blocks.entries };
+    ghost view = { λ m. m.near ++ m.far.entries };
 }
 
-/// The bytes with new ones from a place on.
-fn put(bytes: &mut Bytes, offset: usize, new: &[u8])
-    requires { offset + length new.now ≤ 64 }
-    ensures { slice_index bytes.new ≡ put (slice_index bytes.old) offset new.now }
+/// The eight bytes from a place on.
+fn eight_at(bytes: &Bytes, offset: usize) -> [u8; 8]
+    requires { offset + 8 ≤ 64 }
+    ensures { result ≡ slice_range bytes.now offset (offset + 8) }
 {
-    bytes[offset..offset + new.len()].copy_from_slice(new);
-}
-
-/// The bytes, and zeros behind them.
-fn padded(bytes: &[u8]) -> Bytes
-    requires { length bytes.now ≤ 64 }
-    ensures { slice_index result ≡ slice_index bytes.now }
-{
-    let mut all = ZEROS;
-    put(&mut all, 0, bytes);
-    all
+    let mut eight = [0; 8];
+    eight.copy_from_slice(&bytes[offset..offset + 8]);
+    eight
 }
 
 /// So many bytes from a place on.
@@ -60,17 +57,80 @@ fn part(bytes: &Bytes, offset: usize, size: usize) -> Data
     requires small { size ≤ 8 }
     ensures { result.items ≡ map (λ i. slice_index bytes.now (offset + i)) (range_with_len 0 size) }
 {
+    // Eight bytes are one copy of a known length.
+    if offset + 8 <= bytes.len() {
+        let mut data = Data::from(eight_at(bytes, offset));
+        data.truncate(size);
+        return data;
+    }
     data_of(&bytes[offset..offset + size])
 }
 
+/// The bytes of a block in the map.
+fn far_bytes(far: &HashMap<u32, Bytes>, block: u32) -> &Bytes
+    ensures { slice_index result.now ≡ flat_of far.now.entries block }
+{
+    // If the map is empty, the number is not hashed.
+    if far.is_empty() {
+        return &ZEROS;
+    }
+    match far.get(&block) {
+        Some(bytes) => bytes,
+        None => &ZEROS,
+    }
+}
+
+/// Copies the blocks of the map whose places in the table are free.
+fn copy_near(near: &mut Near, far: &HashMap<u32, Bytes>)
+    ensures { flat_of (near.new ++ far.now.entries) ≡ flat_of (near.old ++ far.now.entries) }
+{
+    for (block, bytes) in far {
+        if near.get(*block).is_none() {
+            near.add(*block, *bytes);
+        }
+    }
+}
+
+/// Takes the blocks that the table has out of the map.
+fn drop_copied(near: &Near, far: &mut HashMap<u32, Bytes>)
+    ensures { flat_of (near.now ++ far.new.entries) ≡ flat_of (near.now ++ far.old.entries) }
+{
+    far.retain(|block, _| near.get(*block).is_none());
+}
+
+/// A number whose first bytes, the lowest first, are so many bytes from a place on.
+fn number_at(bytes: &Bytes, offset: usize, size: usize) -> u64
+    requires within { offset + size ≤ 64 }
+    requires small { size ≤ 8 }
+    ensures { take size (to_le_bytes w64 result) ≡ map (λ i. slice_index bytes.now (offset + i))
+        (range_with_len 0 size) }
+{
+    if offset + 8 <= bytes.len() {
+        return u64::from_le_bytes(eight_at(bytes, offset));
+    }
+    let mut last = [0; 8];
+    last[..size].copy_from_slice(&bytes[offset..offset + size]);
+    u64::from_le_bytes(last)
+}
+
 impl FlatMemory {
+    /// No block. The blocks of one of several banks lie that many times as far apart, so a smaller factor spreads
+    /// them as the blocks of a single bank are spread.
+    fn empty(alloc: Global, banks: u32) -> FlatMemory
+        requires { 0 < banks }
+        ensures { result ≡ [] }
+    {
+        FlatMemory {
+            near: Near::new(alloc, SPREAD / banks),
+            far: HashMap::new(alloc),
+        }
+    }
+
     /// The memory that a trace names.
     pub fn new(alloc: Global, memory: &[(u32, Block)]) -> Result<FlatMemory, NoMemory>
         ensures { IfOk result (λ flat. flat_of flat ≡ flat_memory memory.now) }
     {
-        let mut flat = FlatMemory {
-            blocks: HashMap::new(alloc),
-        };
+        let mut flat = FlatMemory::empty(alloc, 1);
         for at in (0..memory.len()).rev() {
             let (block, bytes) = &memory[at];
             flat.set(*block, padded(bytes))?;
@@ -88,9 +148,7 @@ impl FlatMemory {
         requires { IsShape shape.now }
         ensures { IfOk result (λ flat. flat_of flat ≡ bank_part shape.now bank (flat_memory memory.now)) }
     {
-        let mut flat = FlatMemory {
-            blocks: HashMap::new(alloc),
-        };
+        let mut flat = FlatMemory::empty(alloc, shape.banks);
         let mut left = memory.len();
         while left > 0 {
             left -= 1;
@@ -106,9 +164,9 @@ impl FlatMemory {
     pub fn bytes_of(&self, block: u32) -> &Bytes
         ensures { slice_index result.now ≡ flat_of self.now block }
     {
-        match self.blocks.get(&block) {
+        match self.near.get(block) {
             Some(bytes) => bytes,
-            None => &ZEROS,
+            None => far_bytes(&self.far, block),
         }
     }
 
@@ -119,6 +177,20 @@ impl FlatMemory {
         match request.op() {
             Op::Store => Data::new(),
             Op::Load => part(
+                self.bytes_of(request.block()),
+                usize::from(request.offset()),
+                usize::from(request.size()),
+            ),
+        }
+    }
+
+    /// A number whose first bytes, the lowest first, are what the request finds.
+    pub fn number_of(&self, request: &Request) -> u64
+        ensures { IsNumberOf (value_of (flat_of self.now) request.now) result }
+    {
+        match request.op() {
+            Op::Store => 0,
+            Op::Load => number_at(
                 self.bytes_of(request.block()),
                 usize::from(request.offset()),
                 usize::from(request.size()),
@@ -148,7 +220,10 @@ impl FlatMemory {
             (put (flat_of self.old block) offset new.now)) }
         ensures err { OnErr result (self.new ≡ self.old) }
     {
-        match self.blocks.get_mut(&block) {
+        if self.near.write(block, offset, new) {
+            return Ok(());
+        }
+        match self.far.get_mut(&block) {
             Some(bytes) => {
                 put(bytes, offset, new);
                 Ok(())
@@ -161,11 +236,29 @@ impl FlatMemory {
         }
     }
 
+    /// The block gets these bytes.
     fn set(&mut self, block: u32, bytes: Bytes) -> Result<(), NoMemory>
         ensures ok { OnOk result (flat_of self.new ≡ update (flat_of self.old) block (slice_index bytes)) }
         ensures err { OnErr result (self.new ≡ self.old) }
     {
-        match self.blocks.insert(block, bytes) {
+        let wider = self.near.make_room(block)?;
+        self.place(block, bytes)?;
+        if wider {
+            copy_near(&mut self.near, &self.far);
+            drop_copied(&self.near, &mut self.far);
+        }
+        Ok(())
+    }
+
+    /// The block gets these bytes, at its place if that is free.
+    fn place(&mut self, block: u32, bytes: Bytes) -> Result<(), NoMemory>
+        ensures ok { OnOk result (flat_of self.new ≡ update (flat_of self.old) block (slice_index bytes)) }
+        ensures err { OnErr result (self.new ≡ self.old) }
+    {
+        if self.near.add(block, bytes) {
+            return Ok(());
+        }
+        match self.far.insert(block, bytes) {
             Ok(_) => Ok(()),
             Err(_) => Err(NoMemory),
         }
@@ -245,30 +338,15 @@ fn word(bytes: &[u8]) -> u64
     u64::from_le_bytes(all)
 }
 
-/// How many of the first bytes are the stored ones, counted by whole words.
-fn same_words(bytes: &[u8], stored: &Bytes) -> usize
-    requires { length bytes.now ≤ 64 }
-    ensures within { result ≤ length bytes.now }
-    ensures same { (i : ℕ) → i < result → slice_index bytes.now i ≡ slice_index stored.now i }
-{
-    let mut at = 0;
-    while at + 8 <= bytes.len() {
-        if word(&bytes[at..at + 8]) != word(&stored[at..at + 8]) {
-            return at;
-        }
-        at += 8;
-    }
-    at
-}
-
-/// Whether the bytes from a place on are the stored ones, off the mask.
-fn agree_from(bytes: &[u8], stored: &Bytes, mask: u64, from: usize) -> bool
-    requires within { from ≤ length bytes.now }
+/// Whether the bytes from a place on, and before another, are the stored ones, off the mask.
+fn agree_between(bytes: &[u8], stored: &Bytes, mask: u64, from: usize, to: usize) -> bool
+    requires order { from ≤ to }
+    requires within { to ≤ length bytes.now }
     requires small { length bytes.now ≤ 64 }
     ensures { result ≡ list_all (λ i. is_under mask i || slice_index bytes.now i == slice_index stored.now i)
-        (range_with_len from (length bytes.now - from)) }
+        (range_with_len from (to - from)) }
 {
-    (from..bytes.len()).all(|i| is_under(mask, i) || bytes[i] == stored[i])
+    (from..to).all(|i| is_under(mask, i) || bytes[i] == stored[i])
 }
 
 fn agree_off(bytes: &[u8], stored: &Bytes, mask: u64) -> bool
@@ -276,9 +354,17 @@ fn agree_off(bytes: &[u8], stored: &Bytes, mask: u64) -> bool
     ensures { result ≡ list_all (λ i. is_under mask i || slice_index bytes.now i == slice_index stored.now i)
         (range_with_len 0 (length bytes.now)) }
 {
-    // Most fills carry memory's bytes, so that whole words tell.
-    let from = same_words(bytes, stored);
-    agree_from(bytes, stored, mask, from)
+    let mut at = 0;
+    while at + 8 <= bytes.len() {
+        // Most words are memory's. Their bytes agree whatever the mask is.
+        if word(&bytes[at..at + 8]) != word(&stored[at..at + 8])
+            && !agree_between(bytes, stored, mask, at, at + 8)
+        {
+            return false;
+        }
+        at += 8;
+    }
+    agree_between(bytes, stored, mask, at, bytes.len())
 }
 
 /// Where the first so many stored bytes under the mask end in the list, if they stand there from a place on.

@@ -1,12 +1,17 @@
-use Rattle.std.proofs.Common.{ℕ, List, [], Option, slice_index, ap, ◌∙◌}
-use mathlib.Core.Path.{fun_ext}
-use Rattle.std.specs.Prelude.{unwrap_or, nat_eq}
-use Rattle.std.specs.Map.{lookup}
-use Rattle.lf_state.proofs.Bytes.{zeros}
+use Rattle.std.proofs.Common.{ℕ, List, ap, sym, ◌∙◌}
+use Rattle.lf_state.specs.Bytes.{flat_of}
+use Rattle.lf_state.proofs.TwoParts.{near_bytes, far_bytes}
 use Rattle.lf_state.proofs.memory.FlatMemory.bytes_of.Goals as goal
 
+pub returns-in-Some : goal.returns-in-Some
+returns-in-Some c =
+    let m = c.self.inside in
+    sym (ap (λ (blocks : List (ℕ × List ℕ)). flat_of blocks c.args.block) (sym c.self.view_is)
+    ∙ near_bytes m.near m.far.entries c.args.block c.in-Some.bytes.now (sym c.in-Some.ensures))
+
 pub returns-in-None : goal.returns-in-None
-returns-in-None c = fun_ext (λ place. zeros 64 place
-    ∙ ap (λ (o : Option (List ℕ)). slice_index (unwrap_or o []) place)
-    (c.in-None.ensures.value ∙ ap (λ (blocks : List (ℕ × List ℕ)). lookup (nat_eq c.args.block) blocks)
-    c.self.view_is))
+returns-in-None c =
+    let m = c.self.inside in
+    c.far_bytes.ensures
+    ∙ sym (ap (λ (blocks : List (ℕ × List ℕ)). flat_of blocks c.args.block) (sym c.self.view_is)
+    ∙ far_bytes m.near m.far.entries c.args.block (sym c.in-None.ensures))

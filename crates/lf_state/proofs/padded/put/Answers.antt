@@ -1,7 +1,7 @@
 use Rattle.std.proofs.Common.{ℕ, ◌+◌, ◌-◌, length, List, slice_index, ap, ◌∙◌, arith}
 use borrow.Rule.Slice.PartMut.{put_mid}
 use Rattle.lf_state.proofs.Bytes.{put_mid_is}
-use Rattle.lf_state.proofs.memory.put.Goals as goal
+use Rattle.lf_state.proofs.padded.put.Goals as goal
 
 pub returns : goal.returns
 returns c = ap (λ (ys : List ℕ). slice_index (put_mid c.args.offset
