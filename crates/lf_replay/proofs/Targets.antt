@@ -1,19 +1,16 @@
 -- What a level-one target tells of its request is enough for its reply, and for the bytes that a block's stores write.
 use Rattle.std.proofs.Common.{◌≡◌, ℕ, zero, suc, ◌+◌, ◌-◌, ◌*◌, ◌/◌, ◌%◌, ◌^◌, ◌<◌, ◌≤◌, Bool, true, false, cond}
-use Rattle.std.proofs.Common.{List, [], ◌∷◌, ◌++◌, get_or, take, drop, map}
-use Rattle.std.proofs.Common.{length, replicate, ⊎_elim, bit_or, refl, ap, sym, ◌∙◌, subst, arith, append_assoc}
+use Rattle.std.proofs.Common.{List, [], ◌∷◌, ◌++◌, get_or, take, map}
+use Rattle.std.proofs.Common.{length, bit_or, refl, ap, sym, ◌∙◌, subst, arith, append_assoc}
 use mathlib.Core.Path.{ap₂}
 use Rattle.std.specs.List.{fold, range_with_len}
-use Rattle.std.specs.Int.{from_le_bytes, to_le_bytes, w64}
+use Rattle.std.specs.Int.{to_le_bytes, w64}
 use Rattle.std.specs.Int.RustNames.{count_ones}
 use lib.Count.{ones_cat}
-use Rattle.std.proofs.lemmas.List.{take_all, take_more, map-append, length-append, length-drop, get_or-drop}
-use Rattle.std.proofs.lemmas.List.{get_or_append_left, get_or-append_right}
+use Rattle.std.proofs.lemmas.List.{take_all, take_more, map-append}
 use Rattle.std.proofs.lemmas.List.FromFn.{length-map-range_with_len}
-use Rattle.std.proofs.lemmas.Bool.{cases_lt}
-use Rattle.std.proofs.lemmas.Nat.{pow_pos, le_bytes_8, div-mul-add, mod-mul-add}
+use Rattle.std.proofs.lemmas.Nat.{pow_pos, div-mul-add, mod-mul-add}
 use Rattle.std.proofs.Math.Nat.{pow-suc, pow-zero}
-use Rattle.std.proofs.Math.Seq.{take-append_seam}
 use Rattle.lf_rules.specs.declared.shape.Shape.{Shape}
 use Rattle.lf_rules.specs.declared.event.Op.TheVariants.{Load}
 use Rattle.lf_rules.specs.Address.{FlatMemory, mask_of}
@@ -26,41 +23,9 @@ use Rattle.lf_mshr.specs.Alike.{AreAlike}
 use Rattle.lf_mshr.specs.RegisterFile as file
 use Rattle.lf_mshr.specs.RegisterFile.{RegisterFile, released_pair}
 use Rattle.lf_mshr.proofs.Alike.{targets_of-alike}
-use Rattle.lf_state.proofs.Bytes.{zeros}
-use Rattle.lf_replay.specs.Targets.{IsNumberOf, IsSomeTarget, IsTarget1, reply_to}
+use Rattle.lf_replay.specs.Targets.{IsSomeTarget, IsTarget1, reply_to}
 
 -- ---- a value as a number
-
--- the zeros behind the bytes of a number of eight
-abbrev pub padding : List ℕ → List ℕ
-padding bytes = drop (length bytes) (replicate 8 0)
-
-padded_long : (bytes : List ℕ) → length bytes ≤ 8 → length (bytes ++ padding bytes) ≡ 8
-padded_long bytes short = omega (
-  arith,
-  length-append bytes (padding bytes),
-  length-drop (length bytes)
-      (replicate {A = ℕ} 8 0),
-)
-
-padded_low : (bytes : List ℕ) → ((i : ℕ) → get_or bytes i 0 < 256) → (i : ℕ) → get_or (bytes ++ padding bytes) i 0 < 256
-padded_low bytes low i = ⊎_elim
-    (λ lt. omega (arith, get_or_append_left bytes (padding bytes) 0 i lt, low i))
-    (λ le. omega (
-      arith,
-      get_or-append_right bytes (padding bytes) (length bytes) i 0 refl le
-          ∙ get_or-drop (length bytes) (replicate {A = ℕ} 8 0) (i - length bytes) 0
-          ∙ zeros 8 (length bytes + (i - length bytes)),
-    ))
-    (cases_lt i (length bytes))
-
--- the bytes, and zeros behind them, are those of the number
-pub number_told : (bytes : List ℕ) (n : ℕ) → length bytes ≤ 8 → ((i : ℕ) → get_or bytes i 0 < 256) →
-    n ≡ from_le_bytes w64 (bytes ++ padding bytes) → IsNumberOf bytes n
-number_told bytes n short low number =
-    ap (take (length bytes)) (le_bytes_8 (bytes ++ padding bytes) n (padded_long bytes short) (padded_low bytes low)
-    number)
-    ∙ take-append_seam bytes (padding bytes)
 
 -- a value has as many bytes as its load asks for, and none for a store
 pub value_long : (memory : FlatMemory) (request : Request) →

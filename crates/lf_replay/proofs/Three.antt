@@ -1,10 +1,18 @@
--- Three clauses of a bank that all hold, and a free way.
-use Rattle.std.proofs.Common.{◌≡◌, ℕ, Bool, true, false, not, [], ◌∷◌, Some, None, refl, sym, ap, ◌∙◌}
+-- Three clauses of a bank, and a free way.
+use Rattle.std.proofs.Common.{◌≡◌, ℕ, Bool, true, false, cond, not, [], ◌∷◌, Option, Some, None, refl, sym, ap}
+use Rattle.std.proofs.Common.{◌∙◌, subst}
+use Rattle.std.specs.Prelude.{Result, Ok, Err, IfOk, IfErr, OnErr, is_err}
 use Rattle.lf_levels.specs.LineTable.{LineTable, is_full}
+use Rattle.lf_levels.specs.Refusals.{FillRefusal}
+use Rattle.lf_levels.specs.declared.fault.LineFault.{LineFault}
+use Rattle.lf_levels.specs.declared.fault.LineFault.TheVariants as model
 use Rattle.lf_rules.specs.Lines.{has_way}
 use Rattle.lf_rules.specs.declared.rule.Rule.{Rule}
+use Rattle.lf_rules.specs.declared.rule.Rule.TheVariants.{SetFull}
 use Rattle.lf_rules.specs.Clauses.{OfBank, bank_wants}
 use Rattle.lf_rules.specs.Run.{first_failing}
+use Rattle.lf_replay.specs.Faults.{IsStepFault, rule_if_full}
+use Rattle.lf_replay.specs.declared.fault.BankFault.{BankFault}
 
 pub three_hold : (first second third : Rule) (a b c : Bool) → a ≡ true → b ≡ true → c ≡ true
     → first_failing OfBank (bank_wants first a ∷ bank_wants second b ∷ bank_wants third c ∷ []) ≡ None
@@ -25,6 +33,53 @@ pub second_fails : (first second third : Rule) (a b c : Bool) → a ≡ true →
 second_fails first second third true false c p q = refl
 second_fails first second third false b c p q = absurd (cc p)
 second_fails first second third true true c p q = absurd (cc q)
+
+pub first_fails : (first second third : Rule) (a b c : Bool) → a ≡ false
+    → first_failing OfBank (bank_wants first a ∷ bank_wants second b ∷ bank_wants third c ∷ []) ≡ Some first
+first_fails first second third false b c p = refl
+first_fails first second third true b c p = absurd (cc p)
+
+-- the clauses of a fill, of which the second asks for a free way
+pub fill_rule : (first third : Rule) (a b c right full : Bool) → a ≡ true → b ≡ not full → c ≡ right
+    → first_failing OfBank (bank_wants first a ∷ bank_wants SetFull b ∷ bank_wants third c ∷ [])
+    ≡ rule_if_full full (cond right None (Some third))
+fill_rule first third a b c right full p q r =
+    (λ i. first_failing OfBank (bank_wants first (p i) ∷ bank_wants SetFull (q i) ∷ bank_wants third (r i) ∷ []))
+    ∙ told full right
+  where
+    told : (full right : Bool)
+        → first_failing OfBank (bank_wants SetFull (not full) ∷ bank_wants third right ∷ [])
+        ≡ rule_if_full full (cond right None (Some third))
+    told true right = refl
+    told false true = refl
+    told false false = refl
+
+-- a fill is refused for a full set alone
+pub full_set : {M : Type 0} (set : ℕ → ℕ → ℕ → ℕ → ℕ) (table : LineTable M) (block : ℕ) (fault : LineFault) →
+    FillRefusal set table block fault → is_full set table block ≡ true
+full_set set table block model.SetFull full = full
+full_set set table block model.EvictAbsent none = absurd none
+full_set set table block model.EvictMask none = absurd none
+
+pub full_refused : {M T : Type 0} (set : ℕ → ℕ → ℕ → ℕ → ℕ) (table : LineTable M) (block : ℕ)
+    (r : Result T LineFault) → true ≡ is_err r → IfErr r (λ fault. FillRefusal set table block fault) →
+    is_full set table block ≡ true
+full_refused set table block (Ok done) e refused = absurd (cc e)
+full_refused set table block (Err fault) e refused = full_set set table block fault refused
+
+-- what holds of a call that was refused, and of one that was not
+pub if_err : {T E P : Type 0} (r : Result T E) → true ≡ is_err r → OnErr r P → P
+if_err (Ok done) e holds = absurd (cc e)
+if_err (Err fault) e holds = holds
+
+pub if_ok : {T E P : Type 0} (r : Result T E) → false ≡ is_err r → IfOk r (λ _. P) → P
+if_ok (Ok done) e holds = holds
+if_ok (Err fault) e holds = absurd (cc e)
+
+-- what a fault says of a rule, it says of the same rule
+pub fault_told : (broken told : Option Rule) (fault : BankFault) → broken ≡ told → IsStepFault told fault →
+    IsStepFault broken fault
+fault_told broken told fault same e = subst (λ (rule : Option Rule). IsStepFault rule fault) (sym same) e
 
 turned : (b full : Bool) → full ≡ not b → b ≡ not full
 turned true full e = ap not (sym e)

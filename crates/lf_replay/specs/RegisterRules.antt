@@ -2,11 +2,11 @@
 use Rattle.std.specs.Prelude.{◌≡◌, ◌/◌, ℕ, Bool, List, Option, None}
 use Rattle.lf_rules.specs.declared.rule.Rule.{Rule}
 use Rattle.lf_rules.specs.declared.shape.Shape.{Shape}
-use Rattle.lf_rules.specs.Address.{FlatMemory, agree_off, block_bytes, part_at, sub_block, second_of, place_of}
+use Rattle.lf_rules.specs.Address.{FlatMemory, agree_off, block_bytes, part_at, sub_block}
 use Rattle.lf_rules.specs.Registers.{Held, primary_clauses, merge_clauses}
 use Rattle.lf_rules.specs.Run.{first_failing}
 use Rattle.lf_rules.specs.State.{Request, Missed, Asked}
-use Rattle.lf_rules.specs.Table.{OfBank, asked_register, destination, destinations, destinations2, position}
+use Rattle.lf_rules.specs.Table.{OfBank, destination, destinations, destinations2, position}
 use Rattle.lf_rules.specs.Table.{position2, store_bytes}
 use Rattle.lf_mshr.specs.Alike.{AreAlike}
 use Rattle.lf_mshr.specs.RegisterFile.{RegisterFile, primary_wants, merge_wants}
@@ -75,18 +75,6 @@ abbrev pub second_merge_held : RegisterFile Request2 → ℕ → ℕ → Request
 second_merge_held file register second target =
     first_failing OfBank (merge_wants (λ (r : Request2). r.position) (λ (r : Request2). r.destination) file register
     second target)
-
--- the file takes a target of the block that level one asks for as a primary miss
-abbrev pub TakesSecondPrimary : Shape → RegisterFile Request2 → List Asked → ℕ → ℕ → Type 0
-TakesSecondPrimary shape file asked block register =
-    (target : Request2) → target.destination ≡ asked_register asked block →
-    second_primary_held file register (second_of shape block) target ≡ None
-
--- the same as a further miss
-abbrev pub TakesSecondMerge : Shape → RegisterFile Request2 → List Asked → ℕ → ℕ → Type 0
-TakesSecondMerge shape file asked block register =
-    (target : Request2) → target.position ≡ place_of shape block → target.destination ≡ asked_register asked block
-    → second_merge_held file register (second_of shape block) target ≡ None
 
 abbrev pub second_primary_told : Shape → List (Held Asked) → ℕ → ℕ → Request2 → Option Rule
 second_primary_told shape fetched register second target =

@@ -1,32 +1,38 @@
 //! Which rule of the bank an event breaks first. Nothing changes here.
 
-ghost use Rattle.std.specs.Prelude.{◌≡◌, ◌*◌, ◌<◌, ◌/◌, ℕ, true, false, Some, IfNone, List, length, bytes_eq};
-ghost use Rattle.std.specs.List.{list_all};
+ghost use Rattle.std.specs.Prelude.{◌≡◌, ◌*◌, ◌<◌, ◌/◌, ℕ, true, false, Some, None, IfNone, List, length, bytes_eq};
+ghost use Rattle.std.specs.Prelude.{IfOk, IfErr, IfSome};
+ghost use Rattle.std.specs.List.{list_all, position};
 ghost use Rattle.arrayvec.specs.ArrayVec.{ArrayVec};
 ghost use Rattle.lf_levels.specs.LineTable.{is_full, wide_set};
-ghost use Rattle.lf_rules.specs.Address.{block_bytes, masked, places, set1_of};
+ghost use Rattle.lf_rules.specs.Address.{block_bytes, masked, places, second_of, set1_of};
 ghost use Rattle.lf_rules.specs.Lines.{has_line, dirty_masks, same_masks};
 ghost use Rattle.lf_rules.specs.Registers.{Held, holds};
 ghost use Rattle.lf_rules.specs.State.{Asked};
-ghost use Rattle.lf_rules.specs.Table.{is_among, is_apart, is_head, oldest, store_bytes};
+ghost use Rattle.lf_rules.specs.Table.{asked_register, is_among, is_apart, is_head, is_ready_for, oldest};
+ghost use Rattle.lf_rules.specs.Table.{store_bytes};
 ghost use Rattle.lf_rules.specs.declared.event.Event.TheVariants as event;
 ghost use Rattle.lf_rules.specs.declared.event.Op.{Op};
 ghost use Rattle.lf_state.specs.Bytes.{flat_of};
 ghost use Rattle.lf_replay.specs.BankView.{queue_at, slice_of};
-ghost use Rattle.lf_replay.specs.RegisterRules.{OfMissed, TakesPrimary, TakesMerge, TakesSecondPrimary};
-ghost use Rattle.lf_replay.specs.RegisterRules.{TakesSecondMerge};
+ghost use Rattle.lf_replay.specs.RegisterRules.{OfMissed, TakesPrimary, TakesMerge, second_primary_held};
+ghost use Rattle.lf_replay.specs.RegisterRules.{second_merge_held};
+ghost use Rattle.lf_replay.specs.Faults.{IsStepFault, rule_if_full};
 ghost use Rattle.lf_replay.specs.Shows.{IsJudged, ShowsReached};
+ghost use Rattle.lf_replay.specs.Targets.{IsTarget2};
 
 use crate::bank::Bank;
 use crate::carried::wide_agrees;
+use crate::fault::BankFault;
 use crate::lookup::{are_dirty2, fetch, is_among, is_asked};
 use crate::registers::{
     is_fetched, is_waited_for, merge_rule, primary_rule, second_merge_rule, second_primary_rule,
 };
 use crate::target::asking;
+use lf_levels::{Level, Lines};
 use lf_mshr::{Organisation, Request1, Request2};
 use lf_rules::{Block, Mask, Masks, Rule, WideBlock};
-use lf_state::{head, ready_for, second_of};
+use lf_state::{head, ready_at, second_of};
 
 impl<O1: Organisation<Target = Request1>, O2: Organisation<Target = Request2>> Bank<O1, O2> {
     pub fn judge_issue(&self, tag: u8) -> Option<Rule>
@@ -39,19 +45,23 @@ impl<O1: Organisation<Target = Request1>, O2: Organisation<Target = Request2>> B
         None
     }
 
-    pub fn judge_reply(&self, log: u8, tag: u8, size: u8, bytes: &Block) -> Option<Rule>
-        ensures { IsJudged self.now log (event.Reply tag size bytes.now) result }
+    /// Where the reply that the port's tag may have stands, if it breaks no rule. It is looked up once.
+    pub fn judge_reply(&self, log: u8, tag: u8, size: u8, bytes: &Block) -> Result<usize, Rule>
+        ensures broken { IfErr result (λ rule. IsJudged self.now log (event.Reply tag size bytes.now) (Some rule)) }
+        ensures kept { IfOk result (λ _. IsJudged self.now log (event.Reply tag size bytes.now) None) }
+        ensures place { IfOk result (λ at. Some at ≡ position (is_ready_for log tag) self.now.ready) }
     {
-        let Some(ready) = ready_for(&self.ready, log, tag) else {
-            return Some(Rule::NotReady);
+        let Some(at) = ready_at(&self.ready, log, tag) else {
+            return Err(Rule::NotReady);
         };
-        if usize::from(size) != ready.value().len() {
-            return Some(Rule::ReplySize);
+        let value = self.ready[at].value();
+        if usize::from(size) != value.len() {
+            return Err(Rule::ReplySize);
         }
-        if bytes.as_slice() != ready.value() {
-            return Some(Rule::ReplyData);
+        if bytes.as_slice() != value {
+            return Err(Rule::ReplyData);
         }
-        None
+        Ok(at)
     }
 
     pub fn judge_hit(&self, port: u8, tag: u8) -> Option<Rule>
@@ -102,22 +112,22 @@ impl<O1: Organisation<Target = Request1>, O2: Organisation<Target = Request2>> B
         merge_rule::<O1>(&self.waiting, &self.shape, block, &target, register)
     }
 
-    /// `stores` are the bytes that waiting stores of the block write.
+    /// The rule of a fill of level one that does not go on to its line. One that goes on breaks no rule but that of a
+    /// full set. `stores` are the bytes that waiting stores of the block write.
     pub fn judge_fill1(&self, block: u32, bytes: &Block, stores: u64) -> Option<Rule>
         requires whole { length bytes.now.items ≡ self.now.shape.block }
         requires stores { OfMissed self.now.shape self.now.waiting (λ missed. stores ≡ store_bytes missed block) }
-        ensures judged { (log : ℕ) → IsJudged self.now log (event.Fill1 block bytes.now) result }
+        ensures broken { IfSome result (λ rule. (log : ℕ) →
+            IsJudged self.now log (event.Fill1 block bytes.now) (Some rule)) }
+        ensures goes_on { IfNone result ((log : ℕ) → IsJudged self.now log (event.Fill1 block bytes.now)
+            (rule_if_full (is_full set1_of self.now.lines1 block) None)) }
         ensures supplied { IfNone result (is_among self.now.supplied block ≡ true) }
-        ensures room { IfNone result (is_full set1_of self.now.lines1 block ≡ false) }
     {
         if !is_among(&self.supplied, block) {
             return Some(Rule::NotSupplied);
         }
-        if self.lines1.full(block) {
-            return Some(Rule::SetFull);
-        }
         if !self.memory.agrees_off(&self.shape, block, bytes, stores) {
-            return Some(Rule::FillData);
+            return Some(wrong_fill(&self.lines1, block));
         }
         None
     }
@@ -147,51 +157,70 @@ impl<O1: Organisation<Target = Request1>, O2: Organisation<Target = Request2>> B
         None
     }
 
-    pub fn judge_second_primary(&self, block: u32, register: u16) -> Option<Rule>
-        ensures judged { (log : ℕ) → IsJudged self.now log (event.SecondPrimary block register) result }
-        ensures takes { IfNone result (TakesSecondPrimary self.now.shape self.now.regs2 self.now.asked block register) }
+    /// What the register takes of the block as a primary miss, if that breaks no rule. The block is looked up once.
+    pub fn judge_second_primary(&self, block: u32, register: u16) -> Result<Request2, Rule>
+        ensures broken { IfErr result (λ rule. (log : ℕ) →
+            IsJudged self.now log (event.SecondPrimary block register) (Some rule)) }
+        ensures kept { IfOk result (λ _. (log : ℕ) →
+            IsJudged self.now log (event.SecondPrimary block register) None) }
+        ensures tells { IfOk result (λ target.
+            IsTarget2 self.now.shape target (block, asked_register self.now.asked block)) }
+        ensures takes { IfOk result (λ target.
+            second_primary_held self.now.regs2 register (second_of self.now.shape block) target ≡ None) }
     {
-        if !is_asked(&self.asked, block) {
-            return Some(Rule::NotAsked);
-        }
+        let Some(target) = fetch(&self.shape, &self.asked, block) else {
+            return Err(Rule::NotAsked);
+        };
         let second = second_of(&self.shape, block);
         if self.lines2.has(second) {
-            return Some(Rule::SecondPresent);
+            return Err(Rule::SecondPresent);
         }
-        let target = fetch(&self.shape, &self.asked, block);
-        second_primary_rule::<O2>(&self.regs2, &self.shape, second, &target, register)
+        match second_primary_rule::<O2>(&self.regs2, &self.shape, second, &target, register) {
+            Some(rule) => Err(rule),
+            None => Ok(target),
+        }
     }
 
-    pub fn judge_second_merge(&self, block: u32, register: u16) -> Option<Rule>
-        ensures judged { (log : ℕ) → IsJudged self.now log (event.SecondMerge block register) result }
-        ensures takes { IfNone result (TakesSecondMerge self.now.shape self.now.regs2 self.now.asked block register) }
+    /// What the register takes of the block as a further miss, if that breaks no rule. The block is looked up once.
+    pub fn judge_second_merge(&self, block: u32, register: u16) -> Result<Request2, Rule>
+        ensures broken { IfErr result (λ rule. (log : ℕ) →
+            IsJudged self.now log (event.SecondMerge block register) (Some rule)) }
+        ensures kept { IfOk result (λ _. (log : ℕ) →
+            IsJudged self.now log (event.SecondMerge block register) None) }
+        ensures tells { IfOk result (λ target.
+            IsTarget2 self.now.shape target (block, asked_register self.now.asked block)) }
+        ensures takes { IfOk result (λ target.
+            second_merge_held self.now.regs2 register (second_of self.now.shape block) target ≡ None) }
     {
-        if !is_asked(&self.asked, block) {
-            return Some(Rule::NotAsked);
-        }
+        let Some(target) = fetch(&self.shape, &self.asked, block) else {
+            return Err(Rule::NotAsked);
+        };
         let second = second_of(&self.shape, block);
         if self.lines2.has(second) {
-            return Some(Rule::SecondPresent);
+            return Err(Rule::SecondPresent);
         }
-        let target = fetch(&self.shape, &self.asked, block);
-        second_merge_rule::<O2>(&self.regs2, &self.shape, second, &target, register)
+        match second_merge_rule::<O2>(&self.regs2, &self.shape, second, &target, register) {
+            Some(rule) => Err(rule),
+            None => Ok(target),
+        }
     }
 
+    /// The rule of a fill of level two that does not go on to its line. One that goes on breaks no rule but that of a
+    /// full set.
     pub fn judge_fill2(&self, second: u32, bytes: &WideBlock) -> Option<Rule>
         requires fits { second < 0x1_0000_0000 / self.now.shape.factor }
         requires whole { length bytes.now.items ≡ self.now.shape.factor * self.now.shape.block }
-        ensures judged { (log : ℕ) → IsJudged self.now log (event.Fill2 second bytes.now) result }
+        ensures broken { IfSome result (λ rule. (log : ℕ) →
+            IsJudged self.now log (event.Fill2 second bytes.now) (Some rule)) }
+        ensures goes_on { IfNone result ((log : ℕ) → IsJudged self.now log (event.Fill2 second bytes.now)
+            (rule_if_full (is_full wide_set self.now.lines2 second) None)) }
         ensures fetched { IfNone result (holds self.now.regs2.held second ≡ true) }
-        ensures room { IfNone result (is_full wide_set self.now.lines2 second ≡ false) }
     {
         if !is_fetched::<O2>(&self.regs2, second) {
             return Some(Rule::NotFetched);
         }
-        if self.lines2.full(second) {
-            return Some(Rule::SetFull);
-        }
         if !wide_agrees::<O1>(&self.shape, &self.memory, &self.waiting, second, bytes) {
-            return Some(Rule::FillData);
+            return Some(wrong_fill(&self.lines2, second));
         }
         None
     }
@@ -228,5 +257,27 @@ impl<O1: Organisation<Target = Request1>, O2: Organisation<Target = Request2>> B
             return Some(Rule::EvictData);
         }
         None
+    }
+}
+
+/// The rule of a fill whose bytes are not memory's.
+fn wrong_fill<L: Level>(lines: &Lines<L>, block: u32) -> Rule
+    ensures { rule_if_full (is_full L.set lines.now block) (Some Rule.FillData) ≡ Some result }
+{
+    if lines.full(block) {
+        Rule::SetFull
+    } else {
+        Rule::FillData
+    }
+}
+
+/// The fault of a fill for which memory was refused.
+pub fn refused_fill<L: Level>(lines: &Lines<L>, block: u32) -> BankFault
+    ensures { IsStepFault (rule_if_full (is_full L.set lines.now block) None) result }
+{
+    if lines.full(block) {
+        BankFault::Rule(Rule::SetFull)
+    } else {
+        BankFault::NoMemory
     }
 }

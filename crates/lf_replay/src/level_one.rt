@@ -18,6 +18,7 @@ ghost use Rattle.lf_replay.specs.Targets.{IsTarget1, miss_of};
 
 use crate::bank::Bank;
 use crate::fault::BankFault;
+use crate::judge::refused_fill;
 use crate::registers::{has_room1, store_bytes};
 use crate::replies::add_replies;
 use crate::target::{asking, missed};
@@ -25,8 +26,8 @@ use lf_levels::LineFault;
 use lf_mshr::{Organisation, Request1, Request2};
 use lf_rules::{Block, Mask, NoMemory, Rule, Shape};
 use lf_state::{
-    FlatMemory, Queue, Ready, Request, drop_block, drop_head, drop_ready, enqueue, head, place_of,
-    push, second_of,
+    FlatMemory, Queue, Ready, Request, drop_block, drop_head, enqueue, head, place_of, push,
+    second_of,
 };
 
 /// No more targets than these wait for one block.
@@ -87,10 +88,11 @@ impl<O1: Organisation<Target = Request1>, O2: Organisation<Target = Request2>> B
     pub fn reply(&mut self, log: u8, tag: u8, size: u8, bytes: &Block) -> Result<(), BankFault>
         ensures { IsAnswer self.old self.new log (event.Reply tag size bytes.now) result }
     {
-        if let Some(rule) = self.judge_reply(log, tag, size, bytes) {
-            return Err(BankFault::Rule(rule));
-        }
-        drop_ready(&mut self.ready, log, tag);
+        let at = match self.judge_reply(log, tag, size, bytes) {
+            Ok(at) => at,
+            Err(rule) => return Err(BankFault::Rule(rule)),
+        };
+        self.ready.remove(at);
         Ok(())
     }
 
@@ -193,10 +195,10 @@ impl<O1: Organisation<Target = Request1>, O2: Organisation<Target = Request2>> B
             return Err(BankFault::Rule(rule));
         }
         if self.ready.reserve(MOST_TARGETS).is_err() {
-            return Err(BankFault::NoMemory);
+            return Err(refused_fill(&self.lines1, block));
         }
         if self.lines1.fill(block, Mask(stores)).is_err() {
-            unreachable!()
+            return Err(BankFault::Rule(Rule::SetFull));
         }
         O1::release_into(&mut self.waiting, block, &mut self.replied);
         add_replies(&mut self.ready, &self.shape, self.replied.as_slice());

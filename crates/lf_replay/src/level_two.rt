@@ -6,8 +6,9 @@ ghost use Rattle.lf_replay.specs.Shows.{IsAnswer, ShowsReached};
 
 use crate::bank::Bank;
 use crate::fault::BankFault;
+use crate::judge::refused_fill;
 use crate::level_one::MOST_TARGETS;
-use crate::lookup::{fetch, is_asked};
+use crate::lookup::fetch;
 use crate::registers::has_room2;
 use crate::supply::add_blocks;
 use lf_mshr::{Organisation, Request1, Request2};
@@ -33,11 +34,11 @@ impl<O1: Organisation<Target = Request1>, O2: Organisation<Target = Request2>> B
     pub fn second_primary(&mut self, block: u32, register: u16) -> Result<(), BankFault>
         ensures { (log : ℕ) → IsAnswer self.old self.new log (event.SecondPrimary block register) result }
     {
-        if let Some(rule) = self.judge_second_primary(block, register) {
-            return Err(BankFault::Rule(rule));
-        }
+        let target = match self.judge_second_primary(block, register) {
+            Ok(target) => target,
+            Err(rule) => return Err(BankFault::Rule(rule)),
+        };
         let second = second_of(&self.shape, block);
-        let target = fetch(&self.shape, &self.asked, block);
         O2::place(&mut self.regs2, register, second, target);
         drop_asked(&mut self.asked, block);
         Ok(())
@@ -48,11 +49,11 @@ impl<O1: Organisation<Target = Request1>, O2: Organisation<Target = Request2>> B
     pub fn second_merge(&mut self, block: u32, register: u16) -> Result<(), BankFault>
         ensures { (log : ℕ) → IsAnswer self.old self.new log (event.SecondMerge block register) result }
     {
-        if let Some(rule) = self.judge_second_merge(block, register) {
-            return Err(BankFault::Rule(rule));
-        }
+        let target = match self.judge_second_merge(block, register) {
+            Ok(target) => target,
+            Err(rule) => return Err(BankFault::Rule(rule)),
+        };
         let second = second_of(&self.shape, block);
-        let target = fetch(&self.shape, &self.asked, block);
         O2::place(&mut self.regs2, register, second, target);
         drop_asked(&mut self.asked, block);
         Ok(())
@@ -62,14 +63,13 @@ impl<O1: Organisation<Target = Request1>, O2: Organisation<Target = Request2>> B
     pub fn second_stall(&self, block: u32) -> Result<(), BankFault>
         ensures { (log : ℕ) → IsAnswer self.now self.now log (event.SecondStall block) result }
     {
-        if !is_asked(&self.asked, block) {
+        let Some(target) = fetch(&self.shape, &self.asked, block) else {
             return Err(BankFault::Rule(Rule::NotAsked));
-        }
+        };
         let second = second_of(&self.shape, block);
         if self.lines2.has(second) {
             return Err(BankFault::Rule(Rule::SecondPresent));
         }
-        let target = fetch(&self.shape, &self.asked, block);
         if has_room2::<O2>(&self.regs2, &self.shape, second, &target) {
             return Err(BankFault::Rule(Rule::NeedlessStall));
         }
@@ -87,11 +87,11 @@ impl<O1: Organisation<Target = Request1>, O2: Organisation<Target = Request2>> B
             return Err(BankFault::Rule(rule));
         }
         if self.supplied.reserve(MOST_TARGETS).is_err() {
-            return Err(BankFault::NoMemory);
+            return Err(refused_fill(&self.lines2, second));
         }
         let clean = clean_masks(self.shape.factor);
         if self.lines2.fill(second, clean).is_err() {
-            unreachable!()
+            return Err(BankFault::Rule(Rule::SetFull));
         }
         O2::release_into(&mut self.regs2, second, &mut self.fetched);
         add_blocks(

@@ -1,4 +1,8 @@
-use Rattle.std.proofs.Common.{◌∙◌, refl, rules}
+use Rattle.std.proofs.Common.{◌≡◌, ◌∙◌, None, false, true, refl, ap, rules}
+use Rattle.lf_levels.specs.LineTable.{is_full}
+use Rattle.lf_rules.specs.Address.{set1_of}
+use Rattle.lf_replay.specs.Faults.{rule_if_full}
+use Rattle.lf_replay.proofs.Three.{fault_told, full_refused, if_err, if_ok}
 use Rattle.lf_replay.proofs.Keeping.{absent1}
 use Rattle.lf_replay.proofs.Placed.{released1}
 use Rattle.lf_replay.proofs.bank.Bank.fill1.Goals as goal
@@ -20,22 +24,41 @@ add_replies-requires-clause-told g c =
     )
 
 pub returns-in-Some : goal.returns-in-Some
-returns-in-Some g c = λ log bank waiting fetched wait. (c.in-Some.ensures.judged log bank waiting fetched wait, refl)
+returns-in-Some g c = λ log bank waiting fetched wait. (c.in-Some.ensures.broken log bank waiting fetched wait, refl)
 
 pub returns-then-is_err : goal.returns-then-is_err
 returns-then-is_err g c =
-    let judged = rw (← c.self.view_is) at c.in_default.ensures.judged in
-    rw (← c.self.view_is) (λ log bank waiting fetched wait.
-    (judged log bank waiting fetched wait, search (rules, c.reserve.ensures.items)))
+    let judged = rw (← c.self.view_is) at c.in_default.ensures.goes_on in
+    rw (← c.self.view_is) (λ log bank waiting fetched wait. (
+      fault_told _ _ c.refused_fill.result (judged log bank waiting fetched wait) c.refused_fill.ensures,
+      search (rules, c.reserve.ensures.items),
+    ))
+
+pub returns-then-is_err-2 : goal.returns-then-is_err-2
+returns-then-is_err-2 g c =
+    let judged = rw (← c.self.view_is) at c.in_default.ensures.goes_on in
+    let full : is_full set1_of c.self.inside.lines1 c.args.block ≡ true =
+    full_refused set1_of c.self.inside.lines1 c.args.block c.fill.result c.if-is_err-2.ensures.value
+    c.fill.ensures.refused in
+    rw (← c.self.view_is) (λ log bank waiting fetched wait. (
+      judged log bank waiting fetched wait ∙ ap (λ full. rule_if_full full None) full,
+      search (
+        rules,
+        c.reserve.ensures.items,
+        if_err c.fill.result c.if-is_err-2.ensures.value c.fill.ensures.unchanged,
+      ),
+    ))
 
 pub returns : goal.returns
 returns g c =
-    let judged = rw (← c.self.view_is) at c.in_default.ensures.judged in
+    let judged = rw (← c.self.view_is) at c.in_default.ensures.goes_on in
     rw (← c.self.view_is) (λ log bank waiting fetched wait.
+    let free : is_full set1_of c.self.inside.lines1 c.args.block ≡ false =
+    if_ok c.fill.result c.if-is_err-2.ensures.value c.fill.ensures.free_way in
     let stores = c.store_bytes-stores.ensures c.self.inside.shape waiting wait.level1 in
     let replies = c.add_replies.ensures (g.O1.Organisation.seen c.self.inside.waiting).held waiting c.args.block
     wait.level1 (c.as_slice.ensures.value ∙ c.release_into.ensures.targets) in (
-      judged log bank waiting fetched wait,
+      judged log bank waiting fetched wait ∙ ap (λ full. rule_if_full full None) free,
       refl,
       record {
         registers = record {
