@@ -18,7 +18,7 @@ use crate::session::batch::{Batch, Judged, Lent, lend};
 use crate::session::breaking::Broken;
 use crate::session::intake::{Intake, Judging};
 use crate::stop::Stop;
-use lf_codec::{Packed, Told, faults_stand, header_of_bytes, read_so_far};
+use lf_codec::{Packed, Places, Told, faults_stand, header_of_bytes, read_so_far};
 use lf_pool::Gate;
 use lf_rules::{NoMemory, Shape};
 use std::alloc::Global;
@@ -34,6 +34,8 @@ pub struct Ahead<G> {
     pub gate: G,
     pub records: Packed,
     pub lent: Option<Lent>,
+    /// Where the record is that is judged, where no thread judges it.
+    pub places: Places,
 }
 
 impl<G: Gate + Sync + Send + Copy + 'static> Ahead<G> {
@@ -51,6 +53,7 @@ impl<G: Gate + Sync + Send + Copy + 'static> Ahead<G> {
             gate,
             records: Packed::new(alloc),
             lent: None,
+            places: Places::new(),
         }
     }
 
@@ -242,7 +245,7 @@ impl<G: Gate + Sync + Send + Copy + 'static> Ahead<G> {
         ensures told { result ≡ stop_told self.old.intake.stop self.new.intake.stop }
     {
         match self.settle(rt) {
-            Ok(()) => self.intake.feed(piece),
+            Ok(()) => self.intake.feed(piece, &mut self.places),
             Err(NoMemory) => Err(self.stop_with(rt, Stop::Memory)),
         }
     }
@@ -353,6 +356,7 @@ impl<G: Gate + Sync + Send + Copy + 'static> Ahead<G> {
             gate: _,
             records: _,
             lent,
+            places: _,
         } = self;
         end(lent);
     }

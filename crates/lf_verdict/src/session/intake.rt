@@ -29,8 +29,8 @@ use crate::laws::{other_headers_are_final, part_faults_are_final};
 use crate::session::breaking::{Broken, Conclusion};
 use crate::session::standing::{Judged, Standing};
 use crate::stop::Stop;
-use lf_codec::{Reader, Told, exact_reading, faults_stand, header_of_bytes, read_so_far};
-use lf_rules::{Memory, NoMemory, Record, Shape};
+use lf_codec::{Places, Reader, Told, exact_reading, faults_stand, header_of_bytes, read_so_far};
+use lf_rules::{Memory, NoMemory, Shape};
 use std::alloc::Global;
 
 /// How far the judging is.
@@ -85,7 +85,7 @@ fn judge_records(reader: &mut Reader, standing: &mut Standing) -> Result<(), NoM
 }
 
 /// Judges the record in the place, where there is one.
-fn judge_one(standing: &mut Standing, place: &Option<Record>) -> Result<(), NoMemory>
+fn judge_one(standing: &mut Standing, place: &Places) -> Result<(), NoMemory>
     requires next { (shape : Shape) × ((memory : FlatMemory) × ((records : List Record) ×
         (StandsAfterAll shape memory records standing.old × MayAllCome shape records (option_to_list place.now)))) }
     requires range { IfSome place.now (EndsInRange standing.old.watch) }
@@ -99,7 +99,7 @@ fn judge_one(standing: &mut Standing, place: &Option<Record>) -> Result<(), NoMe
         → OnOk result (IsWatch start shape memory (records ++ option_to_list place.now) standing.new.watch) }
     ensures known { IsKnown standing.old.watch → IsKnown standing.new.watch }
 {
-    match place {
+    match place.record() {
         Some(item) => standing.take(item),
         None => Ok(()),
     }
@@ -109,7 +109,7 @@ fn judge_one(standing: &mut Standing, place: &Option<Record>) -> Result<(), NoMe
 fn judge_placed(
     reader: &mut Reader,
     standing: &mut Standing,
-    place: &Option<Record>,
+    place: &Places,
 ) -> Result<(), NoMemory>
     requires { CanJudge (with_record place.now reader.old) standing.old }
     ensures judged { (shape : Shape) (bytes : List ℕ) (memory : List (ℕ × Bytes)) (records : List Record)
@@ -221,7 +221,7 @@ impl Intake {
     }
 
     /// Judges the record in the place, while the records are judged.
-    fn judge_with(&mut self, place: &Option<Record>) -> Result<(), NoMemory>
+    fn judge_with(&mut self, place: &Places) -> Result<(), NoMemory>
         requires taken { (bytes : List ℕ) × HasTaken (record self.old
             { reader = with_record place.now self.old.reader }) bytes }
         requires running { IsRunningNow self.old.judging }
@@ -266,8 +266,8 @@ impl Intake {
         Ok(())
     }
 
-    /// Takes the next piece of the trace, a record at a time.
-    pub fn feed(&mut self, piece: &[u8]) -> Result<(), Told<Refusal>>
+    /// Takes the next piece of the trace, a record at a time. What was in the place is lost.
+    pub fn feed(&mut self, piece: &[u8], place: &mut Places) -> Result<(), Told<Refusal>>
         requires { (bytes : List ℕ) × HasFed self.old bytes }
         ensures shape { self.new.shape ≡ self.old.shape }
         ensures fed { (bytes : List ℕ) → HasFed self.old bytes → HasFed self.new (bytes ++ piece.now) }
@@ -279,10 +279,9 @@ impl Intake {
         if let Some(stop) = self.stop {
             return Err(Told::Failed(Refusal::from(stop)));
         }
-        let mut place = None;
         let mut at = 0;
         while at < piece.len() {
-            match self.feed_record(&piece[at..], &mut place) {
+            match self.feed_record(&piece[at..], place) {
                 Ok(n) => at += n,
                 Err(told) => return Err(told),
             }
@@ -313,11 +312,7 @@ impl Intake {
     }
 
     /// Takes the front of the bytes. While the records are judged each is written to the place and judged there.
-    fn feed_record(
-        &mut self,
-        bytes: &[u8],
-        place: &mut Option<Record>,
-    ) -> Result<usize, Told<Refusal>>
+    fn feed_record(&mut self, bytes: &[u8], place: &mut Places) -> Result<usize, Told<Refusal>>
         requires fed { (fed : List ℕ) × HasFed self.old fed }
         requires going { self.old.stop ≡ None }
         ensures shape { self.new.shape ≡ self.old.shape }

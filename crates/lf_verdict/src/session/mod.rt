@@ -24,7 +24,7 @@ use crate::answer::{Refusal, Verdict};
 use crate::laws::{no_has_no_run, yes_is_legal};
 use crate::session::intake::Intake;
 pub use breaking::{Broken, Conclusion, PartFault, Upon};
-use lf_codec::Told;
+use lf_codec::{Places, Told};
 use lf_config::read;
 use lf_rules::Shape;
 pub use parallel::ParallelSession;
@@ -35,6 +35,8 @@ use std::marker::Model;
 #[derive(Drop)]
 pub struct Session {
     intake: Intake,
+    /// Where the record is that is judged.
+    places: Places,
 }
 
 impl Model for Session {
@@ -57,6 +59,7 @@ impl Session {
     {
         Session {
             intake: Intake::new(alloc, shape),
+            places: Places::new(),
         }
     }
 
@@ -83,7 +86,7 @@ impl Session {
         ensures fault { IfErr result (λ t. (bytes : List ℕ) → HasFed self.old bytes →
             IsRefusalSoFar (bytes ++ piece.now) (fault_in t)) }
     {
-        self.intake.feed(piece)
+        self.intake.feed(piece, &mut self.places)
     }
 
     /// What broke, where something did for which no bytes that follow lead to a yes: a header of another hierarchy, or
@@ -120,7 +123,10 @@ impl Session {
     {
         yes_is_legal();
         no_has_no_run();
-        let mut intake = self.intake;
+        let Session {
+            mut intake,
+            places: _,
+        } = self;
         intake.conclude()
     }
 

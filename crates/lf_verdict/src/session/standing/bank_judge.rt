@@ -14,7 +14,7 @@ ghost use Rattle.lf_verdict.specs.inner.Turns.{CanSettle, Settles, CanTake, Take
 
 use crate::broken_part::Part;
 use crate::session::standing::placeholder::no_record;
-use lf_codec::Packed;
+use lf_codec::{Packed, Places};
 use lf_logs::Reorder;
 use lf_replay::{BankFault, Step};
 use lf_rules::{Memory, NoMemory, Outcome, Record, Shape};
@@ -134,10 +134,10 @@ impl BankJudge {
         requires { CanTakeAll bank records.now.records self.old }
         ensures { TakesOwn bank records.now.records self.old result self.new }
     {
-        let mut place = no_record();
+        let mut places = Places::new();
         for at in 0..records.len() {
             if usize::from(records.bank(at)) == bank {
-                self.take(records.lend(at, &mut place))?;
+                self.take(records.lend_from(at, &mut places))?;
             }
         }
         Ok(())

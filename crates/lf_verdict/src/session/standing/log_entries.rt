@@ -11,9 +11,8 @@ ghost use Rattle.lf_verdict.specs.inner.Coming.{MayCome, CanEnterAll, EntersAll,
 ghost use Rattle.lf_verdict.specs.Standing.{AreEntered};
 
 use crate::session::breaking::PartFault;
-use crate::session::standing::placeholder::no_record;
 use crate::session::standing::port_judge::PortJudge;
-use lf_codec::Packed;
+use lf_codec::{Packed, Places};
 use lf_rules::{NoMemory, Outcome, Record, Skeleton};
 
 /// Each log's entries so far, and how each port stands. No bank is among them, so that records can be
@@ -73,8 +72,8 @@ impl Entries {
         Ok(())
     }
 
-    /// Enters the record at this place. It is built in `place` only where a port judges it.
-    fn enter_at(&mut self, records: &Packed, at: usize, place: &mut Record) -> Result<(), NoMemory>
+    /// Enters the record at this place. It is built among `places` only where a port judges it.
+    fn enter_at(&mut self, records: &Packed, at: usize, places: &mut Places) -> Result<(), NoMemory>
         requires within { at < length records.now.records }
         requires next { (item : Record) ×
             ((item ≡ slice_index_or records.now.records at item) × CanEnter item self.old) }
@@ -85,7 +84,7 @@ impl Entries {
     {
         let log = usize::from(records.log(at));
         if log < self.ports.len() {
-            return self.enter(records.lend(at, place));
+            return self.enter(records.lend_from(at, places));
         }
         self.logs[log].push((records.bank(at), records.number(at)))?;
         Ok(())
@@ -96,9 +95,9 @@ impl Entries {
         requires { CanEnterAll records.now.records self.old }
         ensures { EntersAll records.now.records self.old result self.new }
     {
-        let mut place = no_record();
+        let mut places = Places::new();
         for at in 0..records.len() {
-            self.enter_at(records, at, &mut place)?;
+            self.enter_at(records, at, &mut places)?;
         }
         Ok(())
     }

@@ -23,8 +23,8 @@ take-requires c =
     let k = c.loop-at.at in
     let lt : k < length rs = omega (arith, c.loop-at-test.true, c.len-at-end.ensures) in
     let here = place_at rs k lt in
-    let item = c.lend.result.now in
-    let is : item ≡ here.0 = c.lend.ensures here.0 ∙ here.1 here.0 in
+    let item = c.lend_from.result.now in
+    let is : item ≡ here.0 = c.lend_from.ensures here.0 ∙ here.1 here.0 in
     let now = c.loop-at.invariant r.shape r.memory r.came r.gave r.fit r.settled in
     record {
       shape = r.shape;
@@ -32,7 +32,7 @@ take-requires c =
       bank = c.args.bank;
       came = r.came ++ of_bank c.args.bank (take k rs);
       gave = now.0;
-      fits = all_at (Fits r.shape) rs k item r.fit lt (c.lend.ensures item);
+      fits = all_at (Fits r.shape) rs k item r.fit lt (c.lend_from.ensures item);
       named = ap (λ (x : Record). x.bank) is ∙ sym (ap (λ (x : Record). x.bank) (here.1 here.0))
           ∙ sym (c.bank.ensures here.0) ∙ sym c.from.ensures ∙ c.if-from-bank.true;
       settled = now.1;
@@ -52,7 +52,7 @@ loop-at-preserved c shape memory came gave fits settled =
     elim c.if-from-bank.branch [
       | then-from-bank+in_ok-take w ↦
           let named : item.bank ≡ bank = sym asked ∙ sym c.from.ensures ∙ w.if-from-bank.true in
-          let lent = w.lend.ensures item ∙ here.1 item in
+          let lent = w.lend_from.ensures item ∙ here.1 item in
           let took = rw lent at (w.in_ok-take.ensures shape memory bank (came ++ of_bank bank (take k rs)) now.0) in
           let after = took (all_at (Fits shape) rs k item fits there is) named now.1 in
           rw w.self-is (
