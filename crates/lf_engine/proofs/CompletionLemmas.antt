@@ -1,5 +1,5 @@
 -- Laws of what a run that asks for complete traces comes to and tells.
-use Rattle.std.proofs.Common.{◌≡◌, ℕ, List, Option, None, Result, Ok, Err, IfOk, sym, ap, subst, refl, inl, inr}
+use Rattle.std.proofs.Common.{◌≡◌, ℕ, List, Option, Result, Ok, Err, IfOk, sym, ap, subst, refl, inl, inr}
 use Rattle.std.specs.Prelude.{◌↔◌, IsErrOf}
 use Rattle.lf_rules.specs.declared.shape.Shape.{Shape}
 use Rattle.lf_config.specs.Configuration.{configuration_of}

@@ -1,9 +1,11 @@
 -- Laws of the verdicts for a shape and for a configuration.
 use Rattle.std.proofs.Common.{◌≡◌, ◌≢◌, ℕ, ◌<◌, ◌≤◌, List, None, Some, Result, Ok, Err, sym, ◌∙◌, subst, refl, inl}
-use Rattle.std.proofs.Common.{inr, [], arith}
+use Rattle.std.proofs.Common.{inr, [], arith, ◌↔◌}
+use Rattle.std.specs.Prelude.{IsErrOf}
 use Rattle.lf_rules.specs.declared.shape.Shape.{Shape}
 use Rattle.lf_rules.specs.Fits.{Bytes}
 use Rattle.lf_rules.specs.declared.event.Record.{Record}
+use Rattle.lf_rules.specs.declared.outcome.NoMemory.{NoMemory}
 use Rattle.lf_codec.specs.declared.header.Header.{Header}
 use Rattle.lf_codec.specs.Trace.{IsTrace}
 use Rattle.lf_codec.specs.Laws.{AreBytes, ReadingIsExact, FaultsSoFarAreNotTruncated, FaultsStand}
@@ -23,11 +25,13 @@ use Rattle.lf_verdict.specs.Session.{HasFed, IsConfigRefusal}
 use Rattle.lf_verdict.specs.Configured.{IsConfigFault, IsConfiguredVerdict, IsVerdictFor, IsLegalFor, IsRunlessNoFor}
 use Rattle.lf_verdict.proofs.One.{any_workers}
 use Rattle.lf_stream.specs.Account.{Account}
-use Rattle.lf_stream.specs.Gathered.{IsAllRead}
+use Rattle.lf_stream.specs.declared.gathering.Stop.{Stop}
+use Rattle.lf_stream.specs.declared.gathering.Stop.TheVariants as stops
+use Rattle.lf_stream.specs.Gathered.{IsAllRead, IsPartRead, OfReading}
 use Rattle.lf_engine.specs.declared.fault.RunFault.{RunFault}
 use Rattle.lf_engine.specs.Gathered.{HasFault}
 use Rattle.lf_engine.specs.Run.{IsAsked, IsRefusedFirst, IsVerdictOfRead, IsLegalRead, IfYes, IsOutcome, Reads}
-use Rattle.lf_engine.specs.Run.{piece_len}
+use Rattle.lf_engine.specs.Run.{piece_len, stopped_outcome, GaveSound}
 use Rattle.lf_engine.proofs.RunLemmas.{IsKept, IsFreeUnless, HasNoFault, MeansOfNo, MeansNothingElse}
 
 -- A trace has no fault.
@@ -137,6 +141,65 @@ finished old new shape workers turns session v same count few none bytes fed rea
   sound = tt;
   no_write = λ e. cc;
 }
+
+of_reading : {P Q : Type 0} (stop : Stop NoMemory) → (P → Q) → OfReading stop P → OfReading stop Q
+of_reading stops.Read f p = f p
+of_reading stops.Turns f p = f p
+of_reading (stops.Sink e) f p = tt
+
+-- What a run comes to whose reading stopped, by what is known of the reads.
+stopped_run : (old new : Account) (asked : Type 0) (IsLegal : List ℕ → List ℕ → Type 0)
+    (IsVerdict : List ℕ → Verdict → Type 0) (turns : ℕ) (stop : Stop NoMemory) → asked → new.calls ≤ turns
+    → OfReading stop (GaveSound old new) → (stop ≡ stops.Read ↔ 0 < new.failures)
+    → (stop ≡ stops.Turns → new.calls ≡ turns)
+    → IsOutcome old new asked IsLegal IsVerdict turns (stopped_outcome stop)
+stopped_run old new asked IsLegal IsVerdict turns stops.Read wanted few gave failed turned = record {
+  reads = few;
+  unread = λ unasked. absurd (unasked wanted);
+  verdict = tt;
+  legal = tt;
+  no_thread = λ e. cc;
+  read = (λ e. failed.0 refl, λ bad. refl);
+  turned = λ e. cc;
+  sound = gave;
+  no_write = λ e. cc;
+}
+stopped_run old new asked IsLegal IsVerdict turns stops.Turns wanted few gave failed turned = record {
+  reads = few;
+  unread = λ unasked. absurd (unasked wanted);
+  verdict = tt;
+  legal = tt;
+  no_thread = λ e. cc;
+  read = (λ e. cc, λ bad. let no = failed.1 bad in cc);
+  turned = λ e. turned refl;
+  sound = gave;
+  no_write = λ e. cc;
+}
+stopped_run old new asked IsLegal IsVerdict turns (stops.Sink e) wanted few gave failed turned = record {
+  reads = few;
+  unread = λ unasked. absurd (unasked wanted);
+  verdict = λ decided. absurd decided;
+  legal = tt;
+  no_thread = λ e. cc;
+  read = (λ e. cc, λ bad. let no = failed.1 bad in cc);
+  turned = λ e. cc;
+  sound = tt;
+  no_write = λ e. cc;
+}
+
+-- ... where that is a fault
+pub reading_stopped : (old new : Account) (asked : Type 0) (IsLegal : List ℕ → List ℕ → Type 0)
+    (IsVerdict : List ℕ → Verdict → Type 0) (turns : ℕ) (stop : Stop NoMemory) (Fed : List ℕ → Type 0) (e : RunFault)
+    → asked → new.calls ≤ turns
+    → OfReading stop ((bytes : List ℕ) × Fed bytes × IsPartRead HasFault old new bytes)
+    → (IsErrOf {T = Unit {0}} (Err stop) stops.Read ↔ (0 < new.failures))
+    → (IsErrOf {T = Unit {0}} (Err stop) stops.Turns → new.calls ≡ turns)
+    → Err e ≡ stopped_outcome stop → IsOutcome old new asked IsLegal IsVerdict turns (Err e)
+reading_stopped old new asked IsLegal IsVerdict turns stop Fed e wanted few part failed turned is =
+    subst (IsOutcome old new asked IsLegal IsVerdict turns) (sym is)
+    (stopped_run old new asked IsLegal IsVerdict turns stop wanted few
+    (of_reading stop (λ (p : (bytes : List ℕ) × Fed bytes × IsPartRead HasFault old new bytes). (p.0, p.2)) part)
+    (λ is_read. failed.0 cc, λ bad. let was = failed.1 bad in cc) (λ is_turns. turned cc))
 
 -- ---- for a configuration
 

@@ -1,6 +1,7 @@
 -- What a run of the engine reads, answers and writes.
 use Rattle.std.specs.Prelude.{◌≡◌, ◌≢◌, ℕ, ◌≤◌, ◌<◌, ◌↔◌, ◌⊎◌, List, take, Result, Ok, Err}
 use Rattle.std.specs.Prelude.{IfOk, IfErr, IfSome, IsErrOf}
+use Rattle.lf_rules.specs.declared.outcome.NoMemory.{NoMemory}
 use Rattle.lf_rules.specs.declared.shape.Shape.{Shape}
 use Rattle.lf_codec.specs.Laws.{AreBytes}
 use Rattle.lf_verdict.specs.declared.answer.Verdict.{Verdict}
@@ -11,6 +12,8 @@ use Rattle.lf_config.specs.Configuration.{configuration_of}
 use Rattle.lf_verdict.specs.Verdict.{IsWorkerCount, IsDecided}
 use Rattle.lf_verdict.specs.Configured.{IsConfigFault}
 use Rattle.lf_stream.specs.Account.{Account, WentOut}
+use Rattle.lf_stream.specs.declared.gathering.Stop.{Stop}
+use Rattle.lf_stream.specs.declared.gathering.Stop.TheVariants as stops
 use Rattle.lf_stream.specs.Gathered.{IsPartRead, IsAllRead}
 use Rattle.lf_engine.specs.declared.fault.RunFault.{RunFault}
 use Rattle.lf_engine.specs.declared.fault.RunFault.TheVariants.{Read, Turns, Write}
@@ -86,6 +89,12 @@ pub record IsOutcome (old new : Account) (asked : Type 0) (IsLegal : List ℕ �
   pub turned : outcome ≡ Err Turns → new.calls ≡ turns
   pub sound : IfErr outcome (λ _. GaveSound old new)
   pub no_write : outcome ≢ Err Write
+
+-- what a run comes to whose reading stopped before the bytes were all there
+abbrev pub stopped_outcome : Stop NoMemory → Result Verdict RunFault
+stopped_outcome stops.Read = Err Read
+stopped_outcome stops.Turns = Err Turns
+stopped_outcome (stops.Sink _) = Ok (Refused Memory)
 
 -- What is told is what a run came to, or that memory ran out in telling a verdict.
 abbrev pub Follows : Result Verdict RunFault → Result Verdict RunFault → Type 0

@@ -18,12 +18,12 @@ ghost use Rattle.lf_engine.specs.Complete.{FollowsCompletion};
 ghost use Rattle.lf_engine.specs.Run.{IsAsked, IsOutcome, IsRunWriting};
 
 use crate::engine::{PIECE, shape_for, tell};
-use crate::fault::RunFault;
+use crate::fault::{RunFault, stopped};
 use crate::feeding::Feeding;
 use crate::line::no_memory;
 use lf_codec::{exact_reading, fault_so_far, faults_stand};
-use lf_rules::{NoMemory, Shape};
-use lf_stream::{Counted, Source, Stop, gather, put, zeros};
+use lf_rules::Shape;
+use lf_stream::{Counted, Source, gather, put, zeros};
 use lf_verdict::{Incomplete, Refusal, Session, Verdict, no_has_no_run};
 use std::alloc::{AllocError, Global};
 use std::io::{Read, Write};
@@ -78,9 +78,7 @@ fn completion_for<T: AllocGlobal, S: Source>(
                 incomplete: end.incomplete,
             })
         }
-        Err(Stop::Sink(NoMemory)) => Ok(Completion::of(Verdict::Refused(Refusal::Memory))),
-        Err(Stop::Read) => Err(RunFault::Read),
-        Err(Stop::Turns) => Err(RunFault::Turns),
+        Err(stop) => Ok(Completion::of(stopped(stop)?)),
     }
 }
 

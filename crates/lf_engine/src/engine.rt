@@ -16,13 +16,13 @@ ghost use Rattle.lf_engine.specs.declared.fault.RunFault.{RunFault};
 ghost use Rattle.lf_engine.specs.Line.{line_of};
 ghost use Rattle.lf_engine.specs.Run.{outcome_line, IsAsked, IsRefusedFirst, IsOutcome, Follows, IsRunOfProgram};
 
-use crate::fault::RunFault;
+use crate::fault::{RunFault, stopped};
 use crate::gathering::gather_by;
 use crate::line::{Line, no_memory, not_read};
 use lf_codec::{exact_reading, fault_so_far, faults_stand};
 use lf_config::read;
-use lf_rules::{NoMemory, Shape};
-use lf_stream::{Counted, Source, Stop, put, zeros};
+use lf_rules::Shape;
+use lf_stream::{Counted, Source, put, zeros};
 use lf_verdict::{ParallelSession, Refusal, Verdict, is_worker_count, no_has_no_run};
 use std::alloc::{AllocError, Global};
 use std::io::{Read, Write};
@@ -62,9 +62,7 @@ fn judge<T: AllocGlobal + Threads + Sync + Send + Copy + 'static, S: Source>(
     let verdict = session.finish(rt);
     match gathered {
         Ok(()) => Ok(verdict),
-        Err(Stop::Sink(NoMemory)) => Ok(Verdict::Refused(Refusal::Memory)),
-        Err(Stop::Read) => Err(RunFault::Read),
-        Err(Stop::Turns) => Err(RunFault::Turns),
+        Err(stop) => stopped(stop),
     }
 }
 

@@ -1,6 +1,13 @@
 //! Why a run gave no verdict.
 
-use lf_stream::NotWritten;
+ghost use Rattle.std.specs.Prelude.{◌≡◌, IfOk};
+ghost use Rattle.lf_verdict.specs.declared.answer.Verdict.TheVariants.{Refused};
+ghost use Rattle.lf_verdict.specs.declared.answer.Refusal.TheVariants.{Memory};
+ghost use Rattle.lf_engine.specs.Run.{stopped_outcome};
+
+use lf_rules::NoMemory;
+use lf_stream::{NotWritten, Stop};
+use lf_verdict::{Refusal, Verdict};
 use thiserror::Error;
 
 /// Why a run gave no verdict, or did not write its line.
@@ -25,5 +32,17 @@ impl From<NotWritten> for RunFault {
 
     fn from(_fault: NotWritten) -> Self {
         RunFault::Write
+    }
+}
+
+/// What a run comes to whose reading stopped before the bytes were all there. Where memory ran out that is a verdict.
+pub fn stopped(stop: Stop<NoMemory>) -> Result<Verdict, RunFault>
+    ensures outcome { result ≡ stopped_outcome stop }
+    ensures memory { IfOk result (λ v. v ≡ Refused Memory) }
+{
+    match stop {
+        Stop::Sink(NoMemory) => Ok(Verdict::Refused(Refusal::Memory)),
+        Stop::Read => Err(RunFault::Read),
+        Stop::Turns => Err(RunFault::Turns),
     }
 }

@@ -18,23 +18,24 @@ ghost use Rattle.lf_engine.specs.Report.{judged_in, verdict_in, FollowsReport, r
 ghost use Rattle.lf_engine.specs.Run.{IsAsked, IsOutcome, Reads, Follows, IsRunWriting};
 
 use crate::engine::{PIECE, shape_for, tell};
-use crate::fault::RunFault;
+use crate::fault::{RunFault, stopped};
 use crate::keeping::Keeping;
 use crate::report::{Judged, Report, Wanted, lines_of};
 use lf_codec::{exact_reading, fault_so_far, faults_stand};
-use lf_rules::{NoMemory, Shape};
-use lf_stream::{Counted, Source, Stop, gather, put, zeros};
+use lf_rules::Shape;
+use lf_stream::{Counted, Source, gather, put, zeros};
 use lf_verdict::{Refusal, Session, Verdict, no_has_no_run};
 use std::alloc::Global;
 use std::io::{Read, Write};
 
-fn out_of_memory(bytes: Vec<u8>) -> Judged
-    ensures verdict { result.verdict ≡ Verdict.Refused Refusal.Memory }
+/// A verdict with which nothing else is told.
+fn alone(verdict: Verdict, bytes: Vec<u8>) -> Judged
+    ensures verdict { result.verdict ≡ verdict }
     ensures earliest { result.earliest ≡ None }
     ensures incomplete { result.incomplete ≡ None }
 {
     Judged {
-        verdict: Verdict::Refused(Refusal::Memory),
+        verdict,
         bytes,
         earliest: None,
         incomplete: None,
@@ -65,7 +66,7 @@ pub fn judge_and_keep<T: AllocGlobal, S: Source>(
         bytes: Vec::new(rt.alloc()),
     };
     let Ok(mut buffer) = zeros(rt.alloc(), PIECE) else {
-        return Ok(out_of_memory(keeping.bytes));
+        return Ok(alone(Verdict::Refused(Refusal::Memory), keeping.bytes));
     };
     match gather(source, buffer.as_mut_slice(), &mut keeping, turns) {
         Ok(()) => {
@@ -78,9 +79,7 @@ pub fn judge_and_keep<T: AllocGlobal, S: Source>(
                 incomplete: end.incomplete,
             })
         }
-        Err(Stop::Sink(NoMemory)) => Ok(out_of_memory(keeping.bytes)),
-        Err(Stop::Read) => Err(RunFault::Read),
-        Err(Stop::Turns) => Err(RunFault::Turns),
+        Err(stop) => Ok(alone(stopped(stop)?, keeping.bytes)),
     }
 }
 

@@ -12,11 +12,11 @@ ghost use Rattle.lf_engine.specs.Watch.{IsWatchOf, IsWatchFor, FollowsWatch, bro
 ghost use Rattle.lf_engine.specs.Watch.{IsRunOfWatch};
 
 use crate::engine::{PIECE, shape_for, tell};
-use crate::fault::RunFault;
+use crate::fault::{RunFault, stopped};
 use crate::line::no_memory;
 use crate::watching::gather_watching;
-use lf_rules::{NoMemory, Shape};
-use lf_stream::{Counted, Source, Stop, put, zeros};
+use lf_rules::Shape;
+use lf_stream::{Counted, Source, put, zeros};
 use lf_verdict::{Broken, Refusal, Session, Verdict};
 use std::alloc::{AllocError, Global};
 use std::io::{Read, Write};
@@ -49,9 +49,7 @@ fn watch_shape<T: AllocGlobal, S: Source>(
     match gather_watching(source, buffer.as_mut_slice(), &mut session, turns) {
         Ok(None) => Ok(Watched::Judged(session.finish())),
         Ok(Some(found)) => Ok(Watched::Broken(found)),
-        Err(Stop::Sink(NoMemory)) => Ok(Watched::Judged(Verdict::Refused(Refusal::Memory))),
-        Err(Stop::Read) => Err(RunFault::Read),
-        Err(Stop::Turns) => Err(RunFault::Turns),
+        Err(stop) => Ok(Watched::Judged(stopped(stop)?)),
     }
 }
 

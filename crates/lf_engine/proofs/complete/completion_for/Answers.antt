@@ -1,9 +1,9 @@
-use Rattle.std.proofs.Common.{[], ◌∙◌, refl, arith, subst, rules}
+use Rattle.std.proofs.Common.{◌≡◌, [], Err, ◌∙◌, refl, arith, subst, rules}
 use Rattle.lf_rules.specs.declared.shape.Shape.{Shape}
 use Rattle.lf_verdict.specs.Incomplete.{IsIncompleteFor}
 use Rattle.lf_engine.proofs.CompletionLemmas.{completion_read}
 use Rattle.lf_engine.proofs.GatheringLemmas.{none_stands}
-use Rattle.lf_engine.proofs.JudgingLemmas.{all_read, finished}
+use Rattle.lf_engine.proofs.JudgingLemmas.{all_read, finished, reading_stopped}
 use Rattle.lf_engine.proofs.complete.completion_for.Goals as goal
 
 pub gather-requires-clause-wanted : goal.gather-requires-clause-wanted
@@ -28,3 +28,10 @@ returns-in-Ok-gather-clause-complete g c = λ config configured.
     (all_read _ _ _ bytes (search rules) was.1 all)
     (subst (λ (s : Shape). IsIncompleteFor s bytes end.verdict end.incomplete)
     (got.setting ∙ c.for_shape.ensures.shape) (c.conclude-end.ensures.incomplete bytes was.0))
+
+pub returns-in_err-stopped-in-Err-clause-outcome : goal.returns-in_err-stopped-in-Err-clause-outcome
+returns-in_err-stopped-in-Err-clause-outcome g c =
+    let got = c.in-Err.ensures in
+    let is : c.from_residual.result ≡ Err c.in_err-stopped-in-Err.field-0.0 = search rules in
+    rw is (reading_stopped _ _ _ _ _ _ c.in-Err.stop _ _ (omega arith, omega arith) got.reads
+    got.part got.read got.turns c.in_err-stopped-in-Err.ensures.outcome)

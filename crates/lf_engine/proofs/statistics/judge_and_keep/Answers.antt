@@ -1,11 +1,11 @@
-use Rattle.std.proofs.Common.{[], ◌∙◌, refl, arith, subst, sym, rules, List, ℕ}
+use Rattle.std.proofs.Common.{◌≡◌, [], Err, ◌∙◌, refl, arith, subst, sym, rules, List, ℕ}
 use Rattle.lf_rules.specs.declared.shape.Shape.{Shape}
 use Rattle.lf_verdict.specs.Incomplete.{IsIncompleteFor}
 use Rattle.lf_verdict.specs.Verdict.{IsVerdictOf}
 use Rattle.lf_why.specs.NotLegal.{IsEarliestIf}
 use Rattle.lf_why.proofs.Earliest.{earliest_of}
 use Rattle.lf_engine.proofs.GatheringLemmas.{none_stands}
-use Rattle.lf_engine.proofs.JudgingLemmas.{all_read, finished}
+use Rattle.lf_engine.proofs.JudgingLemmas.{all_read, finished, reading_stopped}
 use Rattle.lf_engine.proofs.statistics.judge_and_keep.Goals as goal
 
 pub gather-requires-clause-wanted : goal.gather-requires-clause-wanted
@@ -50,3 +50,10 @@ returns-in-Ok-gather-clause-incomplete g c =
     (got.setting ∙ c.for_shape.ensures.shape)
     (subst (λ (l : List ℕ). IsIncompleteFor c.gather.new.sink.session.shape l end.verdict end.incomplete)
     (sym {A = List ℕ} was.0) (c.conclude-end.ensures.incomplete bytes was.1))
+
+pub returns-in_err-stopped-in-Err-clause-outcome : goal.returns-in_err-stopped-in-Err-clause-outcome
+returns-in_err-stopped-in-Err-clause-outcome g c =
+    let got = c.in-Err.ensures in
+    let is : c.from_residual.result ≡ Err c.in_err-stopped-in-Err.field-0.0 = search rules in
+    rw is (reading_stopped _ _ _ _ _ _ c.in-Err.stop _ _ (omega arith, omega arith) got.reads
+    got.part got.read got.turns c.in_err-stopped-in-Err.ensures.outcome)
