@@ -15,7 +15,7 @@ use std::marker::Model;
 const FIRST_PLACES: usize = 64;
 
 /// A table grows only if at least one of so many of its places is used.
-const PLACES_OF_A_BLOCK: usize = 3;
+const PLACES_OF_A_BLOCK: usize = 2;
 
 /// A table of more places grows no more.
 const MOST_PLACES: usize = 1 << 31;
