@@ -4,7 +4,7 @@ use Rattle.std.proofs.Common.{◌∷◌, ◌++◌, length, get_or, Option, Some,
 use Rattle.std.proofs.Common.{set, get_or-set_same, get_or-set_other, length-set, eq-eqb, eqb-true, ne_eqb, replicate}
 use Rattle.std.specs.Prelude.{nat_eq}
 use Rattle.std.specs.Map.{lookup}
-use Rattle.std.proofs.lemmas.List.{set-get_or}
+use Rattle.std.proofs.lemmas.List.{get_or_read, set-get_or}
 use Rattle.std.proofs.lemmas.Bool.{cases_eq, cond-true, cond-false}
 use Rattle.lf_state.specs.Near.{place_in, blocks_in, IsTable}
 
@@ -108,6 +108,30 @@ no_blocks (suc n) = no_blocks n
 
 -- ---- a table
 
+-- a block's place, by the length of the table
+pub leads_to : {count long i : ℕ} (spread : ℕ) (places : List (Option (ℕ × List ℕ))) (block : ℕ) →
+    long ≡ length places → count ≡ long → i ≡ place_in spread count block
+    → i ≡ place_in spread (length places) block
+leads_to spread places block whole all is = is ∙ ap (λ n. place_in spread n block) (all ∙ whole)
+
+-- The table has the block's place, and this stands there.
+pub record IsAtPlace (spread : ℕ) (places : List (Option (ℕ × List ℕ))) (block i : ℕ) (o : Option (ℕ × List ℕ))
+    : Type 0 where
+  pub leads : i ≡ place_in spread (length places) block
+  pub within : i < length places
+  pub here : get_or places i None ≡ o
+
+pub at_place : {count end long i : ℕ} {o : Option (ℕ × List ℕ)} (spread : ℕ) (places : List (Option (ℕ × List ℕ)))
+    (block : ℕ) → long ≡ length places → count ≡ long → end ≡ long → i ≡ place_in spread count block →
+    i < end → o ≡ get_or places i o → IsAtPlace spread places block i o
+at_place {i = i} {o = o} spread places block whole all same is inside read =
+    let below : i < length places = omega (arith, whole, same, inside) in
+    record {
+      leads = leads_to spread places block whole all is;
+      within = below;
+      here = sym (get_or_read places i o below read None);
+    }
+
 module _ (spread used : ℕ) (places : List (Option (ℕ × List ℕ))) (table : IsTable spread used places) where
   -- what is not at its place is nowhere
   pub not_there : (q i : ℕ) (o : Option (ℕ × List ℕ)) → i ≡ place_in spread (length places) q →
@@ -124,34 +148,34 @@ module _ (spread used : ℕ) (places : List (Option (ℕ × List ℕ))) (table :
 
 -- a block that is put at its place
 module _ (spread used : ℕ) (places : List (Option (ℕ × List ℕ))) (table : IsTable spread used places) (i : ℕ)
-    (b : ℕ × List ℕ) (leads : i ≡ place_in spread (length places) b.0) (within : i < length places) where
+    (b : ℕ × List ℕ) (o : Option (ℕ × List ℕ)) (put : IsAtPlace spread places b.0 i o) where
   own_after : (j : ℕ) (c : ℕ × List ℕ) → get_or (set places i (Some b)) j None ≡ Some c →
       place_in spread (length (set places i (Some b))) c.0 ≡ j
   own_after j c is = ap (λ n. place_in spread n c.0) (length-set places i (Some b)) ∙ ⊎_elim
       (λ (here : j ≡ i).
-      let one : Some b ≡ Some c = sym (get_or-set_same places i (Some b) None within)
+      let one : Some b ≡ Some c = sym (get_or-set_same places i (Some b) None put.within)
       ∙ ap (λ k. get_or (set places i (Some b)) k None) (sym here) ∙ is in
       let same : b ≡ c = cc in
-      ap (λ (x : ℕ × List ℕ). place_in spread (length places) x.0) (sym same) ∙ sym leads ∙ sym here)
+      ap (λ (x : ℕ × List ℕ). place_in spread (length places) x.0) (sym same) ∙ sym put.leads ∙ sym here)
       (λ (apart : j ≡ i → ⊥). table.own j c (sym (get_or-set_other places i j (Some b) None apart) ∙ is))
       (cases_eq j i)
 
-  pub new_table : get_or places i None ≡ None → IsTable spread (used + 1) (set places i (Some b))
+  pub new_table : o ≡ None → IsTable spread (used + 1) (set places i (Some b))
   new_table free = record {
     own = own_after;
-    counted = omega (arith, table.counted, count-new places i b within free);
+    counted = omega (arith, table.counted, count-new places i b put.within (put.here ∙ free));
     small = omega (arith, table.small, length-set places i (Some b));
   }
 
-  pub same_table : (c : ℕ × List ℕ) → get_or places i None ≡ Some c → IsTable spread used (set places i (Some b))
+  pub same_table : (c : ℕ × List ℕ) → o ≡ Some c → IsTable spread used (set places i (Some b))
   same_table c taken = record {
     own = own_after;
-    counted = omega (arith, table.counted, count-same places i b c within taken);
+    counted = omega (arith, table.counted, count-same places i b c put.within (put.here ∙ taken));
     small = omega (arith, table.small, length-set places i (Some b));
   }
 
   -- each block after it was put
-  pub after_put : (more : ℕ) → IsTable spread more (set places i (Some b))
+  after_put : (more : ℕ) → IsTable spread more (set places i (Some b))
       → ((c : ℕ × List ℕ) → get_or places i None ≡ Some c → c.0 ≡ b.0) → (q : ℕ)
       → at q (blocks_in (set places i (Some b))) ≡ cond (nat_eq b.0 q) (Some b.1) (at q (blocks_in places))
   after_put more new free q = go (nat_eq b.0 q) refl
@@ -159,24 +183,34 @@ module _ (spread used : ℕ) (places : List (Option (ℕ × List ℕ))) (table :
       go : (t : Bool) → nat_eq b.0 q ≡ t
           → at q (blocks_in (set places i (Some b))) ≡ cond t (Some b.1) (at q (blocks_in places))
       go true e = is_there spread more (set places i (Some b)) new q i b
-          (get_or-set_same places i (Some b) None within) (eqb-true b.0 q e)
+          (get_or-set_same places i (Some b) None put.within) (eqb-true b.0 q e)
       go false e =
           let other : b.0 ≡ q → ⊥ = λ same. let yes : nat_eq b.0 q ≡ true = eq-eqb b.0 q same in absurd (cc) in
-          lookup-others q places i b within other (λ c is own. other (sym (free c is) ∙ own))
+          lookup-others q places i b put.within other (λ c is own. other (sym (free c is) ∙ own))
+
+  -- the same where the place was free, and where the block stood there
+  pub after_new : o ≡ None → (q : ℕ)
+      → at q (blocks_in (set places i (Some b))) ≡ cond (nat_eq b.0 q) (Some b.1) (at q (blocks_in places))
+  after_new free = after_put (used + 1) (new_table free)
+      (λ c is. let none : None ≡ Some c = sym (put.here ∙ free) ∙ is in absurd (cc))
+
+  pub after_same : (c : ℕ × List ℕ) → o ≡ Some c → c.0 ≡ b.0 → (q : ℕ)
+      → at q (blocks_in (set places i (Some b))) ≡ cond (nat_eq b.0 q) (Some b.1) (at q (blocks_in places))
+  after_same c taken own = after_put used (same_table c taken)
+      (λ d is. same_number d c (sym is ∙ put.here ∙ taken) ∙ own)
 
 -- a place that was written, or left as it was
 module _ (spread used : ℕ) (places : List (Option (ℕ × List ℕ))) (table : IsTable spread used places) (i block : ℕ)
-    (leads : i ≡ place_in spread (length places) block) (within : i < length places) where
-  pub left_places : (p : Option (ℕ × List ℕ)) → p ≡ get_or places i None → set places i p ≡ places
-  left_places p same = ap (set places i) same ∙ set-get_or places i None
+    (o : Option (ℕ × List ℕ)) (put : IsAtPlace spread places block i o) where
+  pub left_places : (p : Option (ℕ × List ℕ)) → p ≡ o → set places i p ≡ places
+  left_places p same = ap (set places i) (same ∙ sym put.here) ∙ set-get_or places i None
 
   pub rewritten_table : (b : Bool) (p : Option (ℕ × List ℕ))
-      → (b ≡ true → (was : List ℕ) × ((bytes : List ℕ) × ((get_or places i None ≡ Some (block, was))
-      × (p ≡ Some (block, bytes)))))
-      → ((b ≡ true → ⊥) → p ≡ get_or places i None) → IsTable spread used (set places i p)
+      → (b ≡ true → (was : List ℕ) × ((bytes : List ℕ) × ((o ≡ Some (block, was)) × (p ≡ Some (block, bytes)))))
+      → ((b ≡ true → ⊥) → p ≡ o) → IsTable spread used (set places i p)
   rewritten_table true p here other =
       let h = here refl in
       subst (λ (q : Option (ℕ × List ℕ)). IsTable spread used (set places i q)) (sym h.1.1.1)
-      (same_table spread used places table i (block, h.1.0) leads within (block, h.0) h.1.1.0)
+      (same_table spread used places table i (block, h.1.0) o put (block, h.0) h.1.1.0)
   rewritten_table false p here other =
       subst (IsTable spread used) (sym (left_places p (other (λ e. absurd (cc))))) table
