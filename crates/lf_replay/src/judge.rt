@@ -9,7 +9,7 @@ ghost use Rattle.lf_rules.specs.Address.{block_bytes, masked, places, second_of,
 ghost use Rattle.lf_rules.specs.Lines.{has_line, dirty_masks, same_masks};
 ghost use Rattle.lf_rules.specs.Registers.{Held, holds};
 ghost use Rattle.lf_rules.specs.State.{Asked};
-ghost use Rattle.lf_rules.specs.Table.{asked_register, is_among, is_apart, is_head, is_ready_for, oldest};
+ghost use Rattle.lf_rules.specs.Table.{asked_register, is_among, is_apart, is_asked, is_head, is_ready_for, oldest};
 ghost use Rattle.lf_rules.specs.Table.{store_bytes};
 ghost use Rattle.lf_rules.specs.declared.event.Event.TheVariants as event;
 ghost use Rattle.lf_rules.specs.declared.event.Op.{Op};
@@ -157,6 +157,32 @@ impl<O1: Organisation<Target = Request1>, O2: Organisation<Target = Request2>> B
         None
     }
 
+    /// The second-level block of a block that misses in level two, and what a register takes of it. Else the rule
+    /// that is broken: level one does not ask for the block, or level two has it.
+    #[inline(always)]
+    pub fn judge_second_miss(&self, block: u32) -> Result<(u32, Request2), Rule>
+        ensures primary { IfErr result (λ rule. (log register : ℕ) →
+            IsJudged self.now log (event.SecondPrimary block register) (Some rule)) }
+        ensures merge { IfErr result (λ rule. (log register : ℕ) →
+            IsJudged self.now log (event.SecondMerge block register) (Some rule)) }
+        ensures stall { IfErr result (λ rule. (log : ℕ) →
+            IsJudged self.now log (event.SecondStall block) (Some rule)) }
+        ensures asked { IfOk result (λ _. is_asked self.now.asked block ≡ true) }
+        ensures second { IfOk result (λ miss. miss.0 ≡ second_of self.now.shape block) }
+        ensures absent { IfOk result (λ miss. has_line self.now.lines2.lines miss.0 ≡ false) }
+        ensures tells { IfOk result (λ miss.
+            IsTarget2 self.now.shape miss.1 (block, asked_register self.now.asked block)) }
+    {
+        let Some(target) = fetch(&self.shape, &self.asked, block) else {
+            return Err(Rule::NotAsked);
+        };
+        let second = second_of(&self.shape, block);
+        if self.lines2.has(second) {
+            return Err(Rule::SecondPresent);
+        }
+        Ok((second, target))
+    }
+
     /// What the register takes of the block as a primary miss, if that breaks no rule. The block is looked up once.
     pub fn judge_second_primary(&self, block: u32, register: u16) -> Result<Request2, Rule>
         ensures broken { IfErr result (λ rule. (log : ℕ) →
@@ -168,13 +194,7 @@ impl<O1: Organisation<Target = Request1>, O2: Organisation<Target = Request2>> B
         ensures takes { IfOk result (λ target.
             second_primary_held self.now.regs2 register (second_of self.now.shape block) target ≡ None) }
     {
-        let Some(target) = fetch(&self.shape, &self.asked, block) else {
-            return Err(Rule::NotAsked);
-        };
-        let second = second_of(&self.shape, block);
-        if self.lines2.has(second) {
-            return Err(Rule::SecondPresent);
-        }
+        let (second, target) = self.judge_second_miss(block)?;
         match second_primary_rule::<O2>(&self.regs2, &self.shape, second, &target, register) {
             Some(rule) => Err(rule),
             None => Ok(target),
@@ -192,13 +212,7 @@ impl<O1: Organisation<Target = Request1>, O2: Organisation<Target = Request2>> B
         ensures takes { IfOk result (λ target.
             second_merge_held self.now.regs2 register (second_of self.now.shape block) target ≡ None) }
     {
-        let Some(target) = fetch(&self.shape, &self.asked, block) else {
-            return Err(Rule::NotAsked);
-        };
-        let second = second_of(&self.shape, block);
-        if self.lines2.has(second) {
-            return Err(Rule::SecondPresent);
-        }
+        let (second, target) = self.judge_second_miss(block)?;
         match second_merge_rule::<O2>(&self.regs2, &self.shape, second, &target, register) {
             Some(rule) => Err(rule),
             None => Ok(target),

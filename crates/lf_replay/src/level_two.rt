@@ -8,7 +8,6 @@ use crate::bank::Bank;
 use crate::fault::BankFault;
 use crate::judge::refused_fill;
 use crate::level_one::MOST_TARGETS;
-use crate::lookup::fetch;
 use crate::registers::has_room2;
 use crate::supply::add_blocks;
 use lf_mshr::{Organisation, Request1, Request2};
@@ -63,13 +62,10 @@ impl<O1: Organisation<Target = Request1>, O2: Organisation<Target = Request2>> B
     pub fn second_stall(&self, block: u32) -> Result<(), BankFault>
         ensures { (log : ℕ) → IsAnswer self.now self.now log (event.SecondStall block) result }
     {
-        let Some(target) = fetch(&self.shape, &self.asked, block) else {
-            return Err(BankFault::Rule(Rule::NotAsked));
+        let (second, target) = match self.judge_second_miss(block) {
+            Ok(miss) => miss,
+            Err(rule) => return Err(BankFault::Rule(rule)),
         };
-        let second = second_of(&self.shape, block);
-        if self.lines2.has(second) {
-            return Err(BankFault::Rule(Rule::SecondPresent));
-        }
         if has_room2::<O2>(&self.regs2, &self.shape, second, &target) {
             return Err(BankFault::Rule(Rule::NeedlessStall));
         }
