@@ -55,26 +55,30 @@ fill_rule first third a b c right full p q r =
     told false false = refl
 
 -- a fill is refused for a full set alone
-pub full_set : {M : Type 0} (set : ℕ → ℕ → ℕ → ℕ → ℕ) (table : LineTable M) (block : ℕ) (fault : LineFault) →
+full_set : {M : Type 0} (set : ℕ → ℕ → ℕ → ℕ → ℕ) (table : LineTable M) (block : ℕ) (fault : LineFault) →
     FillRefusal set table block fault → is_full set table block ≡ true
 full_set set table block model.SetFull full = full
 full_set set table block model.EvictAbsent none = absurd none
 full_set set table block model.EvictMask none = absurd none
 
-pub full_refused : {M T : Type 0} (set : ℕ → ℕ → ℕ → ℕ → ℕ) (table : LineTable M) (block : ℕ)
-    (r : Result T LineFault) → true ≡ is_err r → IfErr r (λ fault. FillRefusal set table block fault) →
-    is_full set table block ≡ true
-full_refused set table block (Ok done) e refused = absurd (cc e)
-full_refused set table block (Err fault) e refused = full_set set table block fault refused
-
--- what holds of a call that was refused, and of one that was not
+-- what holds of a call that was refused
 pub if_err : {T E P : Type 0} (r : Result T E) → true ≡ is_err r → OnErr r P → P
 if_err (Ok done) e holds = absurd (cc e)
 if_err (Err fault) e holds = holds
 
-pub if_ok : {T E P : Type 0} (r : Result T E) → false ≡ is_err r → IfOk r (λ _. P) → P
-if_ok (Ok done) e holds = holds
-if_ok (Err fault) e holds = absurd (cc e)
+-- A fill that goes on breaks the rule of a full set, or none where its set has room.
+module _ {M T : Type 0} (set : ℕ → ℕ → ℕ → ℕ → ℕ) (table : LineTable M) (block : ℕ) (broken : Option Rule)
+    (judged : broken ≡ rule_if_full (is_full set table block) None) where
+  pub broken_if_full : (r : Result T LineFault) → true ≡ is_err r
+      → IfErr r (λ fault. FillRefusal set table block fault) → broken ≡ Some SetFull
+  broken_if_full (Ok done) e refused = absurd (cc e)
+  broken_if_full (Err fault) e refused =
+      judged ∙ ap (λ full. rule_if_full full None) (full_set set table block fault refused)
+
+  pub broken_if_room : (r : Result T LineFault) → false ≡ is_err r → IfOk r (λ _. is_full set table block ≡ false)
+      → broken ≡ None
+  broken_if_room (Ok done) e room = judged ∙ ap (λ full. rule_if_full full None) room
+  broken_if_room (Err fault) e room = absurd (cc e)
 
 -- what a fault says of a rule, it says of the same rule
 pub fault_told : (broken told : Option Rule) (fault : BankFault) → broken ≡ told → IsStepFault told fault →

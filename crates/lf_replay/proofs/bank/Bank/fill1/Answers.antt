@@ -1,8 +1,6 @@
-use Rattle.std.proofs.Common.{◌≡◌, ◌∙◌, None, false, true, refl, ap, rules}
-use Rattle.lf_levels.specs.LineTable.{is_full}
+use Rattle.std.proofs.Common.{◌∙◌, refl, rules}
 use Rattle.lf_rules.specs.Address.{set1_of}
-use Rattle.lf_replay.specs.Faults.{rule_if_full}
-use Rattle.lf_replay.proofs.Three.{fault_told, full_refused, if_err, if_ok}
+use Rattle.lf_replay.proofs.Three.{broken_if_full, broken_if_room, fault_told, if_err}
 use Rattle.lf_replay.proofs.Keeping.{absent1}
 use Rattle.lf_replay.proofs.Placed.{released1}
 use Rattle.lf_replay.proofs.bank.Bank.fill1.Goals as goal
@@ -37,11 +35,9 @@ returns-then-is_err g c =
 pub returns-then-is_err-2 : goal.returns-then-is_err-2
 returns-then-is_err-2 g c =
     let judged = rw (← c.self.view_is) at c.in_default.ensures.goes_on in
-    let full : is_full set1_of c.self.inside.lines1 c.args.block ≡ true =
-    full_refused set1_of c.self.inside.lines1 c.args.block c.fill.result c.if-is_err-2.ensures.value
-    c.fill.ensures.refused in
     rw (← c.self.view_is) (λ log bank waiting fetched wait. (
-      judged log bank waiting fetched wait ∙ ap (λ full. rule_if_full full None) full,
+      broken_if_full set1_of c.self.inside.lines1 c.args.block _ (judged log bank waiting fetched wait)
+          c.fill.result c.if-is_err-2.ensures.value c.fill.ensures.refused,
       search (
         rules,
         c.reserve.ensures.items,
@@ -53,12 +49,11 @@ pub returns : goal.returns
 returns g c =
     let judged = rw (← c.self.view_is) at c.in_default.ensures.goes_on in
     rw (← c.self.view_is) (λ log bank waiting fetched wait.
-    let free : is_full set1_of c.self.inside.lines1 c.args.block ≡ false =
-    if_ok c.fill.result c.if-is_err-2.ensures.value c.fill.ensures.free_way in
     let stores = c.store_bytes-stores.ensures c.self.inside.shape waiting wait.level1 in
     let replies = c.add_replies.ensures (g.O1.Organisation.seen c.self.inside.waiting).held waiting c.args.block
     wait.level1 (c.as_slice.ensures.value ∙ c.release_into.ensures.targets) in (
-      judged log bank waiting fetched wait ∙ ap (λ full. rule_if_full full None) free,
+      broken_if_room set1_of c.self.inside.lines1 c.args.block _ (judged log bank waiting fetched wait)
+          c.fill.result c.if-is_err-2.ensures.value c.fill.ensures.free_way,
       refl,
       record {
         registers = record {

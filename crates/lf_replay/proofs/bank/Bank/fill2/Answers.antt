@@ -1,7 +1,6 @@
-use Rattle.std.proofs.Common.{◌≡◌, ◌∙◌, None, false, true, refl, ap, rules}
-use Rattle.lf_levels.specs.LineTable.{is_full, wide_set}
-use Rattle.lf_replay.specs.Faults.{rule_if_full}
-use Rattle.lf_replay.proofs.Three.{fault_told, full_refused, if_err, if_ok}
+use Rattle.std.proofs.Common.{◌∙◌, refl, rules}
+use Rattle.lf_levels.specs.LineTable.{wide_set}
+use Rattle.lf_replay.proofs.Three.{broken_if_full, broken_if_room, fault_told, if_err}
 use Rattle.lf_replay.proofs.Keeping.{absent2}
 use Rattle.lf_replay.proofs.Placed.{released2, home_released}
 use Rattle.lf_replay.proofs.bank.Bank.fill2.Goals as goal
@@ -35,11 +34,9 @@ returns-then-is_err g c =
 pub returns-then-is_err-2 : goal.returns-then-is_err-2
 returns-then-is_err-2 g c =
     let judged = rw (← c.self.view_is) at c.in_default.ensures.goes_on in
-    let full : is_full wide_set c.self.inside.lines2 c.args.second ≡ true =
-    full_refused wide_set c.self.inside.lines2 c.args.second c.fill.result c.if-is_err-2.ensures.value
-    c.fill.ensures.refused in
     rw (← c.self.view_is) (λ log bank waiting fetched wait. (
-      judged log bank waiting fetched wait ∙ ap (λ full. rule_if_full full None) full,
+      broken_if_full wide_set c.self.inside.lines2 c.args.second _ (judged log bank waiting fetched wait)
+          c.fill.result c.if-is_err-2.ensures.value c.fill.ensures.refused,
       search (
         rules,
         c.reserve.ensures.items,
@@ -51,11 +48,10 @@ pub returns : goal.returns
 returns g c =
     let judged = rw (← c.self.view_is) at c.in_default.ensures.goes_on in
     rw (← c.self.view_is) (λ log bank waiting fetched wait.
-    let free : is_full wide_set c.self.inside.lines2 c.args.second ≡ false =
-    if_ok c.fill.result c.if-is_err-2.ensures.value c.fill.ensures.free_way in
     let supplied = c.add_blocks.ensures (g.O2.Organisation.seen c.self.inside.regs2).held fetched wait.level2
     wait.home (c.as_slice.ensures.value ∙ c.release_into.ensures.targets) in (
-      judged log bank waiting fetched wait ∙ ap (λ full. rule_if_full full None) free,
+      broken_if_room wide_set c.self.inside.lines2 c.args.second _ (judged log bank waiting fetched wait)
+          c.fill.result c.if-is_err-2.ensures.value c.fill.ensures.free_way,
       refl,
       record {
         registers = record {
