@@ -10,7 +10,7 @@ use Rattle.lf_codec.specs.Steps.{event_at, record_of}
 use Rattle.lf_codec.specs.Takes.{IsWholeHead, AreWholeParts, IsWholeRecord}
 use Rattle.lf_codec.specs.Sound.{IsInRange, most_data}
 use Rattle.lf_codec.specs.Carrying.{carrying, CanCarry}
-use Rattle.lf_codec.proofs.Soundness.{most_data-le, data_limit}
+use Rattle.lf_codec.proofs.Soundness.{most_data-le}
 
 pub carried_event : (h : Header) (kind : Kind) (fixed more : List ℕ) →
     carrying (event_at h kind fixed (record { items = [] })) more ≡ event_at h kind fixed (record { items = more })
@@ -48,13 +48,9 @@ can_carry h kinds.SecondStall fixed more range few = tt
 can_carry h kinds.Fence fixed more range few = tt
 can_carry h kinds.SecondMerge fixed more range few = tt
 
--- The parts of a record that stands whole, and the event that is built from them.
-module _ (p : Progress) (bytes rest fixed carried : List ℕ) (kind : Kind) (head : Head)
-    (front : IsWholeHead p bytes head rest) (same : kind ≡ head.kind)
-    (parts : AreWholeParts p.header kind head.bank rest fixed carried) where
-  own_parts : AreWholeParts p.header head.kind head.bank rest fixed carried
-  own_parts = subst (λ (k : Kind). AreWholeParts p.header k head.bank rest fixed carried) same parts
-
+-- the record whose parts stand whole
+module _ (p : Progress) (bytes rest fixed carried : List ℕ) (head : Head) (front : IsWholeHead p bytes head rest)
+    (parts : AreWholeParts p.header head.kind head.bank rest fixed carried) where
   pub whole_record : IsWholeRecord p bytes (record_of p.header head fixed carried) (8 + length fixed + length carried)
   whole_record = record {
     head = head;
@@ -62,33 +58,18 @@ module _ (p : Progress) (bytes rest fixed carried : List ℕ) (kind : Kind) (hea
     fixed = fixed;
     carried = carried;
     at_front = front;
-    behind =
-        own_parts;
+    behind = parts;
     item_is = refl;
     len_is = refl;
   }
 
-  pub carried_few : IsInRange p.header → length carried ≤ most_data p.header head.kind
-  carried_few range =
-      omega (
-        arith,
-        own_parts.carried_whole,
-        data_limit p.header head.bank head.kind fixed range own_parts.fixed_passes,
-      )
+-- the event of a kind that is first built bare
+module _ (h : Header) (kind own : Kind) (same : kind ≡ own) (fixed carried : List ℕ) (bare : Event)
+    (is_bare : bare ≡ event_at h kind fixed (record { items = [] })) where
+  pub event_carries : carrying bare carried ≡ event_at h own fixed (record { items = carried })
+  event_carries = ap (λ (e : Event). carrying e carried) is_bare ∙ carried_event h kind fixed carried
+      ∙ ap (λ (k : Kind). event_at h k fixed (record { items = carried })) same
 
-  pub event_carries : (bare : Event) → bare ≡ event_at p.header kind fixed (record { items = [] }) →
-      carrying bare carried ≡ event_at p.header head.kind fixed (record { items = carried })
-  event_carries bare is_bare = ap (λ (e : Event). carrying e carried) is_bare
-      ∙ carried_event p.header kind fixed carried
-      ∙ ap (λ (k : Kind). event_at p.header k fixed (record { items = carried })) same
-
-  pub bare_can_carry : (bare : Event) → bare ≡ event_at p.header kind fixed (record { items = [] }) →
-      IsInRange p.header → CanCarry bare carried
-  bare_can_carry bare is_bare range =
-      subst (λ (e : Event). CanCarry e carried) (sym is_bare)
-      (can_carry p.header kind fixed carried range (omega (
-        arith,
-        parts.carried_whole,
-        data_limit p.header head.bank
-            kind fixed range parts.fixed_passes,
-      )))
+  pub bare_can_carry : IsInRange h → length carried ≤ most_data h own → CanCarry bare carried
+  bare_can_carry range few = subst (λ (e : Event). CanCarry e carried) (sym is_bare)
+      (can_carry h kind fixed carried range (subst (λ (k : Kind). length carried ≤ most_data h k) (sym same) few))

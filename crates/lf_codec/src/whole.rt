@@ -1,12 +1,13 @@
 //! An event record that stands whole in a piece.
 
-ghost use Rattle.std.specs.Prelude.{◌≡◌, ◌++◌, length, Some, IfSome, IfNone};
+ghost use Rattle.std.specs.Prelude.{◌≡◌, ◌++◌, ◌<◌, ◌≤◌, length, Some, IfSome, IfNone};
 ghost use Rattle.lf_codec.specs.declared.stage.Stage.TheVariants as stages;
 ghost use Rattle.lf_codec.specs.Layout.{code_of};
 ghost use Rattle.lf_codec.specs.Checks.{byte_at};
 ghost use Rattle.lf_codec.specs.Packed.{StandLast};
 ghost use Rattle.lf_codec.specs.Carrying.{carrying, CanCarry};
 ghost use Rattle.lf_codec.specs.Takes.{IsWholeHead, AreWholeParts, ReadsInto, MayPack};
+ghost use Rattle.lf_codec.specs.Sound.{most_data};
 
 use crate::checks::{check_fixed, check_head_of};
 use crate::event::{event_at, put_bytes};
@@ -53,18 +54,33 @@ fn put_record(place: &mut Option<Record>, bare: Record, carried: &[u8])
     }
 }
 
-impl Progress {
-    ghost use Rattle.lf_codec.specs.Sound.{IsInRange, IsSound};
+/// The parts of a record that stands whole at the front of the bytes.
+#[derive(Drop)]
+struct Whole<'a> {
+    head: Head,
+    /// All bytes behind the head.
+    rest: &'a [u8],
+    /// The fixed part of the event, at the front of them.
+    fixed: &'a [u8],
+    /// The bytes that the event carries, behind its fixed part.
+    carried: &'a [u8],
+}
 
-    /// The head of the next record, which is of this kind, and the bytes behind it, where the bytes have it
-    /// whole and its checks pass.
+impl Progress {
+    ghost use Rattle.lf_codec.specs.Sound.{IsSound};
+
+    /// The next record, which is of this kind, where the bytes have it whole and its checks pass.
     #[inline(always)]
-    fn whole_head<'a>(&self, kind: Kind, bytes: &'a [u8]) -> Option<(Head, &'a [u8])>
+    fn whole<'a>(&self, kind: Kind, bytes: &'a [u8]) -> Option<Whole<'a>>
         requires sound { IsSound self.now }
         requires kind { code_of kind ≡ byte_at 0 bytes.now }
-        ensures stage { IfSome result (λ parts. self.now.stage ≡ stages.Head) }
-        ensures kind { IfSome result (λ parts. kind ≡ parts.0.kind) }
-        ensures head { IfSome result (λ parts. IsWholeHead self.now bytes.now parts.0 parts.1.now) }
+        ensures stage { IfSome result (λ whole. self.now.stage ≡ stages.Head) }
+        ensures kind { IfSome result (λ whole. kind ≡ whole.head.kind) }
+        ensures head { IfSome result (λ whole. IsWholeHead self.now bytes.now whole.head whole.rest.now) }
+        ensures parts { IfSome result (λ whole. AreWholeParts self.now.header whole.head.kind whole.head.bank
+            whole.rest.now whole.fixed.now whole.carried.now) }
+        ensures few { IfSome result (λ whole. length whole.carried.now ≤ most_data self.now.header whole.head.kind) }
+        ensures log { IfSome result (λ whole. whole.head.log < 32) }
     {
         let Stage::Head = self.stage else {
             return None;
@@ -73,22 +89,17 @@ impl Progress {
         let Ok(head) = check_head_of(&self.header, &self.counts, kind, first) else {
             return None;
         };
-        Some((head, rest))
-    }
-
-    /// The fixed part of an event of this kind and the bytes that it carries, at the front of the bytes
-    /// behind its head, where the bytes have it whole and its checks pass.
-    #[inline(always)]
-    fn whole_parts<'a>(&self, kind: Kind, bank: u8, bytes: &'a [u8]) -> Option<(&'a [u8], &'a [u8])>
-        requires { IsInRange self.now.header }
-        ensures { IfSome result (λ parts. AreWholeParts self.now.header kind bank bytes.now parts.0.now parts.1.now) }
-    {
-        let (fixed, rest) = split(bytes, fixed_len(&self.header, kind))?;
-        let Ok(()) = check_fixed(&self.header, bank, kind, fixed) else {
+        let (fixed, behind) = split(rest, fixed_len(&self.header, kind))?;
+        let Ok(()) = check_fixed(&self.header, head.bank, kind, fixed) else {
             return None;
         };
-        let (carried, _) = split(rest, data_len(&self.header, kind, fixed))?;
-        Some((fixed, carried))
+        let (carried, _) = split(behind, data_len(&self.header, kind, fixed))?;
+        Some(Whole {
+            head,
+            rest,
+            fixed,
+            carried,
+        })
     }
 
     /// Reads the next record, which is of this kind, where the bytes have it whole and its checks pass: puts
@@ -100,17 +111,16 @@ impl Progress {
         ensures some { IfSome result (λ n. ReadsInto self.old bytes.now n place.new self.new) }
         ensures none { IfNone result (self.new ≡ self.old) }
     {
-        let (head, rest) = self.whole_head(kind, bytes)?;
-        let (fixed, carried) = self.whole_parts(kind, head.bank, rest)?;
-        let len = 8 + fixed.len() + carried.len();
+        let whole = self.whole(kind, bytes)?;
+        let len = 8 + whole.fixed.len() + whole.carried.len();
         let bare = Record {
-            log: head.log,
-            bank: head.bank,
-            number: head.number,
-            event: event_at(&self.header, kind, fixed, &[]),
+            log: whole.head.log,
+            bank: whole.head.bank,
+            number: whole.head.number,
+            event: event_at(&self.header, kind, whole.fixed, &[]),
         };
-        put_record(place, bare, carried);
-        self.count_on(len as u64, head.log);
+        put_record(place, bare, whole.carried);
+        self.count_on(len as u64, whole.head.log);
         Some(len)
     }
 
@@ -150,11 +160,10 @@ impl Progress {
         ensures some { IfSome result (λ n. ReadsInto self.old bytes.now n place.new self.new) }
         ensures none { IfNone result (self.new ≡ self.old) }
     {
-        let (head, rest) = self.whole_head(kind, bytes)?;
-        let (fixed, carried) = self.whole_parts(kind, head.bank, rest)?;
-        let len = 8 + fixed.len() + carried.len();
-        place.write(&self.header, kind, head, fixed, carried);
-        self.count_on(len as u64, head.log);
+        let whole = self.whole(kind, bytes)?;
+        let len = 8 + whole.fixed.len() + whole.carried.len();
+        place.write(&self.header, kind, whole.head, whole.fixed, whole.carried);
+        self.count_on(len as u64, whole.head.log);
         Some(len)
     }
 
@@ -194,13 +203,12 @@ impl Progress {
         ensures packed { MayPack self.old bytes.now result records.old.records records.new.records self.new }
         ensures rest { records.new ≡ record records.old { records = records.new.records } }
     {
-        let (head, rest) = self.whole_head(kind, bytes)?;
-        let (fixed, carried) = self.whole_parts(kind, head.bank, rest)?;
-        let len = fixed.len() + carried.len();
-        if !records.push_parts(head, rest, len) {
+        let whole = self.whole(kind, bytes)?;
+        let len = whole.fixed.len() + whole.carried.len();
+        if !records.push_parts(whole.head, whole.rest, len) {
             return None;
         }
-        self.count_on(8 + len as u64, head.log);
+        self.count_on(8 + len as u64, whole.head.log);
         Some(8 + len)
     }
 
