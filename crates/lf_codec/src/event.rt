@@ -3,9 +3,9 @@
 ghost use Rattle.std.specs.Prelude.{◌≡◌, ◌+◌, ◌*◌, ◌++◌, ◌≤◌, length, drop};
 ghost use Rattle.lf_rules.specs.declared.event.Event.TheVariants as events;
 ghost use Rattle.lf_codec.specs.Checks.{byte_at, u16_at, u32_at, u64_at, masks_at};
-ghost use Rattle.lf_codec.specs.Sound.{most_data};
+ghost use Rattle.lf_codec.specs.Sound.{AreOfKind};
 ghost use Rattle.lf_codec.specs.Carrying.{carrying, CanCarry};
-ghost use Rattle.lf_codec.specs.Steps.{op_at, fixed_len, event_at};
+ghost use Rattle.lf_codec.specs.Steps.{op_at, event_at};
 
 use crate::fields::{masks_at, u16_at, u32_at, u64_at};
 use crate::header::Header;
@@ -180,9 +180,7 @@ fn second_evict_at(factor: u16, fixed: &[u8], bytes: &[u8]) -> Event
 /// The event of this kind, fixed part and carried bytes.
 #[inline(always)]
 pub(crate) fn event_at(header: &Header, kind: Kind, fixed: &[u8], bytes: &[u8]) -> Event
-    requires factor { header.now.factor ≤ 4 }
-    requires len { length fixed.now ≡ fixed_len header.now kind }
-    requires few { length bytes.now ≤ most_data header.now kind }
+    requires { AreOfKind header.now kind fixed.now bytes.now }
     ensures { result ≡ event_at header.now kind fixed.now (record { items = bytes.now }) }
 {
     match kind {

@@ -4,8 +4,8 @@
 ghost use Rattle.std.specs.Prelude.{◌≡◌, ◌+◌, ◌*◌, ◌≤◌, length, drop};
 ghost use Rattle.lf_rules.specs.declared.event.Event.TheVariants as events;
 ghost use Rattle.lf_codec.specs.Checks.{byte_at, u16_at, u32_at, u64_at, masks_at};
-ghost use Rattle.lf_codec.specs.Sound.{most_data};
-ghost use Rattle.lf_codec.specs.Steps.{op_at, fixed_len, event_at, record_of};
+ghost use Rattle.lf_codec.specs.Sound.{AreOfKind};
+ghost use Rattle.lf_codec.specs.Steps.{op_at, event_at, record_of};
 
 use crate::event::event_at;
 use crate::fields::{masks_at, u16_at, u32_at, u64_at};
@@ -33,9 +33,7 @@ fn refill<const CAP: usize>(old: &mut ArrayVec<u8, CAP>, bytes: &[u8])
 #[cold]
 #[inline(never)]
 fn replace(event: &mut Event, header: &Header, kind: Kind, fixed: &[u8], bytes: &[u8])
-    requires factor { header.now.factor ≤ 4 }
-    requires len { length fixed.now ≡ fixed_len header.now kind }
-    requires few { length bytes.now ≤ most_data header.now kind }
+    requires { AreOfKind header.now kind fixed.now bytes.now }
     ensures { event.new ≡ event_at header.now kind fixed.now (record { items = bytes.now }) }
 {
     *event = event_at(header, kind, fixed, bytes);
@@ -288,9 +286,7 @@ fn write_second_merge(event: &mut Event, header: &Header, fixed: &[u8])
 /// Writes the event of this kind, fixed part and carried bytes. Where the caller names the kind, no kind is tested.
 #[inline(always)]
 fn write_event(event: &mut Event, header: &Header, kind: Kind, fixed: &[u8], bytes: &[u8])
-    requires factor { header.now.factor ≤ 4 }
-    requires len { length fixed.now ≡ fixed_len header.now kind }
-    requires few { length bytes.now ≤ most_data header.now kind }
+    requires { AreOfKind header.now kind fixed.now bytes.now }
     ensures { event.new ≡ event_at header.now kind fixed.now (record { items = bytes.now }) }
 {
     match kind {
@@ -323,9 +319,7 @@ pub(crate) fn write_record(
     bytes: &[u8],
 )
     requires kind { kind ≡ head.kind }
-    requires factor { header.now.factor ≤ 4 }
-    requires len { length fixed.now ≡ fixed_len header.now head.kind }
-    requires few { length bytes.now ≤ most_data header.now head.kind }
+    requires parts { AreOfKind header.now head.kind fixed.now bytes.now }
     ensures { item.new ≡ record_of header.now head fixed.now bytes.now }
 {
     item.log = head.log;

@@ -1,9 +1,9 @@
 //! Places that records are read into.
 
-ghost use Rattle.std.specs.Prelude.{◌≡◌, ◌<◌, ◌≤◌, length, Option, Some, None, IsSome, MatchOption};
+ghost use Rattle.std.specs.Prelude.{◌≡◌, ◌<◌, Option, Some, None, IsSome, MatchOption};
 ghost use Rattle.lf_codec.specs.Packed.{AreParts, parts_record};
-ghost use Rattle.lf_codec.specs.Sound.{most_data};
-ghost use Rattle.lf_codec.specs.Steps.{fixed_len, record_of};
+ghost use Rattle.lf_codec.specs.Sound.{AreOfKind};
+ghost use Rattle.lf_codec.specs.Steps.{record_of};
 
 use crate::header::Header;
 use crate::overwrite::write_record;
@@ -106,9 +106,7 @@ impl Places {
         bytes: &[u8],
     )
         requires kind { kind ≡ head.kind }
-        requires factor { header.now.factor ≤ 4 }
-        requires len { length fixed.now ≡ fixed_len header.now head.kind }
-        requires few { length bytes.now ≤ most_data header.now head.kind }
+        requires parts { AreOfKind header.now head.kind fixed.now bytes.now }
         ensures { self.new ≡ Some (record_of header.now head fixed.now bytes.now) }
     {
         let at = kind as usize;
