@@ -1,45 +1,42 @@
 -- A session that reads ahead of its judges.
-use Rattle.std.proofs.Common.{◌≡◌, ℕ, List, [], ◌∷◌, ◌++◌, Option, Some, None, Result, sym, ap, ◌∙◌, subst}
-use Rattle.std.proofs.Common.{append_assoc}
-use Rattle.std.specs.Prelude.{OnOk}
-use Rattle.std.proofs.lemmas.List.{append-nil}
-use Rattle.lf_rules.specs.declared.shape.Shape.{Shape}
+use Rattle.std.proofs.Common.{◌≡◌, ℕ, List, [], ◌++◌, Option, Some, None, Result, Ok, Err, sym, ap, ◌∙◌, subst}
+use Rattle.std.proofs.Common.{◌+◌, ◌-◌, ◌∷◌, true, length, get_or, take, drop, refl, append_assoc, arith}
+use Rattle.std.specs.Prelude.{◌==◌, IfOk, IfSome}
+use Rattle.std.specs.Arc.{arc_value}
+use Rattle.std.proofs.lemmas.Bool.{eqb-true}
+use Rattle.std.proofs.lemmas.List.{append-nil, get_or-append_right, take-append-drop}
 use Rattle.lf_rules.specs.declared.event.Record.{Record}
 use Rattle.lf_rules.specs.Address.{flat_memory}
 use Rattle.lf_rules.specs.Fits.{Bytes}
-use Rattle.lf_codec.specs.Laws.{WhatIsReadFits, HeaderIsOfItsBytes}
+use Rattle.lf_codec.specs.Laws.{WhatIsReadFits, HeaderIsOfItsBytes, FaultsStand, AreBytes}
 use Rattle.lf_codec.specs.Packed.{PackedRecords}
 use Rattle.lf_codec.specs.Reading.{Reading}
 use Rattle.lf_codec.specs.Reader.{HasRead, with_records}
-use Rattle.lf_verdict.specs.declared.session.batch.Batch.{Batch}
 use Rattle.lf_verdict.specs.declared.session.intake.Intake.{Intake}
 use Rattle.lf_verdict.specs.inner.Coming.{MayAllCome}
-use Rattle.lf_verdict.specs.inner.Batches.{IsNextBatch, JudgesAll, CanBeJudged}
+use Rattle.lf_verdict.specs.inner.Workers.{AreWorkers}
+use Rattle.lf_verdict.specs.inner.Shares.{MayFollow, StandsAfterNext}
 use Rattle.lf_verdict.specs.declared.stop.Stop.{Stop}
 use Rattle.lf_verdict.specs.declared.stop.Stop.TheVariants as stops
-use Rattle.lf_verdict.specs.Session.{HasTaken, HasFed, HasFedUntil}
-use Rattle.lf_verdict.specs.declared.session.batch.Lent.{Lent}
+use Rattle.lf_verdict.specs.Session.{HasTaken, HasFed, HasFedUntil, IsRunningNow}
+use Rattle.lf_verdict.specs.declared.session.workers.Workers.{Workers}
+use Rattle.lf_verdict.specs.declared.session.standing.Standing.{Standing}
 use Rattle.lf_verdict.specs.declared.session.ahead.Ahead.{Ahead}
 use Rattle.lf_verdict.specs.declared.session.breaking.Watch.{Watch}
 use Rattle.lf_verdict.specs.Breaking.{first_offset}
 use Rattle.lf_verdict.specs.Standing.{IsWatch}
 use Rattle.lf_verdict.specs.Ahead.{session_of, lent_records}
 use Rattle.lf_verdict.specs.inner.Taking.{running_before}
-use Rattle.lf_verdict.proofs.Sessions.{may_all_come, running_more, on_ok, judged_feed}
+use Rattle.lf_verdict.proofs.Batches.{first_come}
+use Rattle.lf_verdict.proofs.Sessions.{may_all_come, running_more, judged_feed, stop_stays}
 
 -- what was lent stands in front
-pub lent_before : {G : Type 0} (a : Ahead G) (lent : Lent) (bytes : List ℕ) → a.lent ≡ Some lent →
+pub lent_before : {G : Type 0} (a : Ahead G) (workers : Workers) (bytes : List ℕ) → a.at_work ≡ Some workers →
     HasTaken (session_of a) bytes
-    → HasTaken (running_before lent.thread.promise.batch.value.standing
-    (lent.thread.promise.batch.value.records.records ++ a.records.records) a.intake) bytes
-lent_before a lent bytes e taken =
-    subst (λ (l : Option Lent). HasTaken (session_of (record a { lent = l })) bytes) e taken
-
--- the first of the records that may come
-first_come : (shape : Shape) (before xs ys : List Record) → MayAllCome shape before (xs ++ ys) →
-    MayAllCome shape before xs
-first_come shape before [] ys all = tt
-first_come shape before (x ∷ xs) ys all = (all.0, first_come shape (before ++ x ∷ []) xs ys all.1)
+    → HasTaken (running_before workers.standing.value ((arc_value workers.batch).records ++ a.records.records) a.intake)
+    bytes
+lent_before a workers bytes e taken =
+    subst (λ (w : Option Workers). HasTaken (session_of (record a { at_work = w })) bytes) e taken
 
 -- records that were still to be taken, in front of others, were taken
 together : (records first rest behind : List Record) → records ++ ((first ++ rest) ++ behind) ≡ (records ++ first)
@@ -67,56 +64,62 @@ still_to_take r bytes memory records first rest read = record {
       (together records first rest r.records));
 }
 
--- ---- a batch in front of other records
+pub if_ok_more : {X F : Type 0} {P Q : X → Type 0} (result : Result X F) → ((x : X) → P x → Q x) → IfOk result P →
+    IfOk result Q
+if_ok_more (Ok x) more p = more x p
+if_ok_more (Err e) more p = tt
 
-module _ (law : WhatIsReadFits) (s : Intake) (bytes : List ℕ) (b : Batch) (rest : List Record)
-    (taken : HasTaken (running_before b.standing (b.records.records ++ rest) s) bytes) where
-  pub is_next : IsNextBatch s.shape (flat_memory s.memory.items) taken.0 b
-  is_next =
-      let all = may_all_come law s.shape bytes s.memory.items taken.0
-      (with_records (b.records.records ++ rest) s.reader) b.standing taken.1.read taken.1.judging in
-      record {
-        may_come = first_come s.shape taken.0 b.records.records (rest ++ s.reader.records)
-            (subst (MayAllCome s.shape taken.0) (append_assoc b.records.records rest s.reader.records) all);
-        stands = taken.1.judging.stands;
-      }
+-- ---- records that are judged, in front of others
 
-  -- it was judged
-  pub judged_next : {F : Type 0} (result : Result (Unit {0}) F) (after : Batch) → JudgesAll b result after
-      → OnOk result ((after.records.records ≡ []) × HasTaken (running_before after.standing rest s) bytes)
-  judged_next result after judges = on_ok result (judges s.shape (flat_memory s.memory.items) taken.0 is_next) (λ got. (
-    got.1.0,
-    (
-      taken.0 ++ b.records.records,
-      record {
-        in_range = taken.1.in_range;
-        read = taken_too s.reader bytes s.memory.items taken.0 b.records.records rest taken.1.read;
-        fine = taken.1.fine;
-        judging = running_more s.shape bytes s.memory.items taken.0 (taken.0 ++ b.records.records) b.standing
-            after.standing taken.1.judging got.0
-            (subst (λ (w : Watch). IsWatch (first_offset taken.1.judging.header s.memory.items) s.shape
-            (flat_memory s.memory.items) (taken.0 ++ b.records.records) w) (sym got.1.1) tt);
-      },
-    ),
-  ))
+module _ (law : WhatIsReadFits) (s : Intake) (bytes : List ℕ) (start : Standing) (next rest : List Record)
+    (taken : HasTaken (running_before start (next ++ rest) s) bytes) where
+  may : MayAllCome s.shape taken.0 next
+  may = first_come s.shape taken.0 next (rest ++ s.reader.records)
+      (subst (MayAllCome s.shape taken.0) (append_assoc next rest s.reader.records)
+      (may_all_come law s.shape bytes s.memory.items taken.0 (with_records (next ++ rest) s.reader) start taken.1.read
+      taken.1.judging))
 
-  pub can_be_judged : CanBeJudged b
-  can_be_judged = (s.shape, (flat_memory s.memory.items, (taken.0, is_next)))
+  pub may_follow : MayFollow start next
+  may_follow = record {
+    shape = s.shape;
+    memory = flat_memory s.memory.items;
+    before = taken.0;
+    stands = taken.1.judging.stands;
+    may = may;
+  }
+
+  -- they were judged
+  pub judged_next : (end : Standing) → StandsAfterNext start next end → HasTaken (running_before end rest s) bytes
+  judged_next end judged = (
+    taken.0 ++ next,
+    record {
+      in_range = taken.1.in_range;
+      read = taken_too s.reader bytes s.memory.items taken.0 next rest taken.1.read;
+      fine = taken.1.fine;
+      judging = running_more s.shape bytes s.memory.items taken.0 (taken.0 ++ next) start end taken.1.judging
+          (judged.stands s.shape (flat_memory s.memory.items) taken.0 taken.1.judging.stands may)
+          (subst (λ (w : Watch). IsWatch (first_offset taken.1.judging.header s.memory.items) s.shape
+          (flat_memory s.memory.items) (taken.0 ++ next) w) (sym judged.unknown) tt);
+    },
+  )
 
 -- the same where no other record is there
-pub alone : (s : Intake) (bytes : List ℕ) (b : Batch) → HasTaken (running_before b.standing b.records.records s) bytes
-    → HasTaken (running_before b.standing (b.records.records ++ []) s) bytes
-alone s bytes b = subst (λ (rs : List Record). HasTaken (running_before b.standing rs s) bytes)
-    (sym (append-nil b.records.records))
+pub alone : (s : Intake) (bytes : List ℕ) (start : Standing) (next : List Record) →
+    HasTaken (running_before start next s) bytes → HasTaken (running_before start (next ++ []) s) bytes
+alone s bytes start next = subst (λ (rs : List Record). HasTaken (running_before start rs s) bytes)
+    (sym (append-nil next))
 
--- the batch that a thread was lent is in front of what is read
-pub handed : (s : Intake) (bytes : List ℕ) (lent b : Batch) (rest : List Record) → lent ≡ b → rest ≡ [] →
-    HasTaken (running_before b.standing b.records.records s) bytes
-    → HasTaken (running_before lent.standing (lent.records.records ++ rest) s) bytes
-handed s bytes lent b rest same none taken =
-    subst (λ (x : Batch). HasTaken (running_before x.standing (x.records.records ++ rest) s) bytes) (sym same)
-    (subst (λ (rs : List Record). HasTaken (running_before b.standing (b.records.records ++ rs) s) bytes) (sym none)
-    (alone s bytes b taken))
+-- workers are in front of what is read
+pub handed : (s : Intake) (bytes : List ℕ) (w : Workers) (start : Standing) (next rest : List Record) →
+    w.standing.value ≡ start → (arc_value w.batch).records ≡ next → rest ≡ [] →
+    HasTaken (running_before start next s) bytes
+    → HasTaken (running_before w.standing.value ((arc_value w.batch).records ++ rest) s) bytes
+handed s bytes w start next rest same records none taken =
+    subst (λ (xs : List Record). HasTaken (running_before w.standing.value ((arc_value w.batch).records ++ xs) s) bytes)
+    (sym none)
+    (subst (λ (x : Standing). HasTaken (running_before x ((arc_value w.batch).records ++ []) s) bytes) (sym same)
+    (subst (λ (xs : List Record). HasTaken (running_before start (xs ++ []) s) bytes) (sym records)
+    (alone s bytes start next taken)))
 
 -- ---- what is fed
 
@@ -130,7 +133,7 @@ pub read_ahead : HeaderIsOfItsBytes → {G : Type 0} (a : Ahead G) (bytes piece 
     (bytes ++ piece)
 read_ahead law a bytes piece r rs taken ok fine =
     let s = session_of a in
-    let lent = lent_records a.lent in
+    let lent = lent_records a.at_work in
     let memory = a.intake.memory.items in
     let has = ok bytes memory (taken.0 ++ lent) (taken_too a.intake.reader bytes memory taken.0 lent a.records.records
     taken.1.read) in (
@@ -154,9 +157,48 @@ pub still_going : (s : Intake) (bytes : List ℕ) → s.stop ≡ None → HasTak
 still_going s bytes is taken = subst (λ (o : Option Stop). HasFedUntil s bytes o) (sym is) taken
 
 -- no record waits
-pub none_ahead : {G : Type 0} (a : Ahead G) (bytes : List ℕ) → a.lent ≡ None → a.records.records ≡ [] →
+pub none_ahead : {G : Type 0} (a : Ahead G) (bytes : List ℕ) → a.at_work ≡ None → a.records.records ≡ [] →
     HasFed a.intake bytes → HasFed (session_of a) bytes
 none_ahead a bytes alone none fed =
-    subst (λ (l : Option Lent). HasFed (session_of (record a { lent = l })) bytes) (sym alone)
+    subst (λ (w : Option Workers). HasFed (session_of (record a { at_work = w })) bytes) (sym alone)
     (subst (λ (xs : List Record). HasFed (record a.intake { reader = with_records xs a.intake.reader }) bytes)
     (sym none) fed)
+
+-- ---- a piece that is read in parts
+
+-- What stands in front of the rest of the piece was read.
+pub record HasReadPart {G : Type 0} (old new : Ahead G) (piece rest : List ℕ) : Type 0 where
+  pub shape : new.intake.shape ≡ old.intake.shape
+  pub stop : new.intake.stop ≡ old.intake.stop
+  pub running : IsRunningNow (session_of new).judging
+  pub workers : IfSome new.at_work AreWorkers
+  pub front : List ℕ
+  pub cut : piece ≡ front ++ rest
+  pub taken : (bytes : List ℕ) → HasTaken (session_of old) bytes → HasTaken (session_of new) (bytes ++ front)
+
+pub split_there : (n : ℕ) (xs front back : List ℕ) → front ≡ take n xs → back ≡ drop n xs → xs ≡ front ++ back
+split_there n xs front back is_front is_back =
+    sym (take-append-drop n xs) ∙ ap (λ (ys : List ℕ). ys ++ drop n xs) (sym is_front)
+    ∙ ap (λ (ys : List ℕ). front ++ ys) (sym is_back)
+
+pub none_left : (xs : List ℕ) → true ≡ (length xs == 0) → xs ≡ []
+none_left [] none = refl
+none_left (x ∷ xs) none = absurd (omega (arith, eqb-true (length (x ∷ xs)) 0 (sym none)))
+
+bytes_behind : (xs ys : List ℕ) → AreBytes (xs ++ ys) → AreBytes ys
+bytes_behind xs ys are i =
+    let at = get_or-append_right xs ys (length xs) (length xs + i) 0 refl (omega arith) in
+    let same : length xs + i - length xs ≡ i = omega arith in
+    rw (sym (at ∙ ap (λ (k : ℕ). get_or ys k 0) same)) (are (length xs + i))
+
+-- a part stopped it, and so the whole piece
+pub part_stopped : FaultsStand → (s : Intake) (bytes piece front part behind : List ℕ) (stop : Stop) →
+    piece ≡ front ++ (part ++ behind) → AreBytes piece
+    → HasFedUntil s ((bytes ++ front) ++ part) (Some stop) → HasFedUntil s (bytes ++ piece) (Some stop)
+part_stopped law s bytes piece front part behind stop cut fit at =
+    subst (λ (xs : List ℕ). HasFedUntil s xs (Some stop))
+    (append_assoc (bytes ++ front) part behind ∙ append_assoc bytes front (part ++ behind)
+    ∙ ap (λ (xs : List ℕ). bytes ++ xs) (sym cut))
+    (stop_stays law s ((bytes ++ front) ++ part) behind stop
+    (bytes_behind (front ++ part) behind
+    (subst AreBytes (cut ∙ sym (append_assoc front part behind)) fit)) at)

@@ -19,7 +19,7 @@ use Rattle.lf_verdict.specs.declared.session.standing.bank_judge.BankJudge.{Bank
 use Rattle.lf_verdict.specs.declared.session.standing.Standing.{Standing}
 use Rattle.lf_verdict.specs.inner.Coming.{MayCome, MayAllCome}
 use Rattle.lf_verdict.specs.Standing.{IsBankSettled, AreEntered, StandsAfterAll}
-use Rattle.lf_verdict.specs.inner.Batches.{CanTakeAll, TakesAll}
+use Rattle.lf_verdict.specs.inner.Shares.{IsBankUnlessOut, AreBanksAt, CanTakeAll, TakesAll}
 
 -- ---- the records that may come
 
@@ -48,7 +48,7 @@ pub all_fit : (shape : Shape) (before rs : List Record) → MayAllCome shape bef
 all_fit shape before [] all = tt
 all_fit shape before (r ∷ rs) all = (all.0.fits, all_fit shape (before ++ r ∷ []) rs all.1)
 
-all_join : (P : Record → Type 0) (xs ys : List Record) → AllByRecursion P xs → AllByRecursion P ys →
+pub all_join : (P : Record → Type 0) (xs ys : List Record) → AllByRecursion P xs → AllByRecursion P ys →
     AllByRecursion P (xs ++ ys)
 all_join P [] ys a b = b
 all_join P (x ∷ xs) ys a b = (a.0, all_join P xs ys a.1 b)
@@ -74,6 +74,12 @@ pub other_more : (bank : ℕ) (came rs : List Record) (k : ℕ) (item : Record) 
 other_more bank came rs k item lt is other =
     ap (λ (xs : List Record). came ++ xs) (sym (ap (of_bank bank) (take_one_more rs k item lt is)
     ∙ of_key-push_other (λ r. r.bank) bank (take k rs) item other))
+
+-- the first of the records that may come
+pub first_come : (shape : Shape) (before xs ys : List Record) → MayAllCome shape before (xs ++ ys) →
+    MayAllCome shape before xs
+first_come shape before [] ys all = tt
+first_come shape before (x ∷ xs) ys all = (all.0, first_come shape (before ++ x ∷ []) xs ys all.1)
 
 -- ---- all banks
 
@@ -102,57 +108,67 @@ place_at [] i lt = absurd (omega arith)
 place_at (x ∷ xs) zero lt = (x, λ d. refl)
 place_at (x ∷ xs) (suc i) lt = place_at xs i (omega arith)
 
-pub stands_together : (shape : Shape) (memory : FlatMemory) (done rs : List Record) (old new : Standing) →
-    StandsAfterAll shape memory done old → AllByRecursion (Fits shape) rs
-    → AreEntered shape (done ++ rs) new.entries → length new.banks.items ≡ length old.banks.items
-    → ((bank : ℕ) (x : BankJudge) → bank < length old.banks.items → get_or new.banks.items bank x ≡ x →
-    TakesAll bank rs (get_or old.banks.items bank x) x)
-    → ((bank : ℕ) (d : BankJudge) → bank < length new.banks.items →
-    (get_or new.banks.items bank d).outcome ≡ outcomes.NoMemory → ⊥)
-    → StandsAfterAll shape memory (done ++ rs) new
-stands_together shape memory done rs old new stands fits entered long each fine =
+-- the banks were judged on these records too
+pub banks_too : (shape : Shape) (memory : FlatMemory) (before rs : List Record) (old new : List BankJudge) →
+    AreBanksAt shape memory before old → AllByRecursion (Fits shape) rs → length new ≡ length old
+    → ((bank : ℕ) (x : BankJudge) → bank < length old → get_or new bank x ≡ x → TakesAll bank rs (get_or old bank x) x)
+    → AreBanksAt shape memory (before ++ rs) new
+banks_too shape memory before rs old new at fits long each = record {
+  count = long ∙ at.count;
+  each = λ bank d lt.
+      let here = place_at new bank (omega (arith, long, at.count)) in
+      let x = here.0 in
+      subst (IsBankUnlessOut shape (bank_part shape bank memory) bank (of_bank bank (before ++ rs))) (sym (here.1 d))
+      (subst (λ (came : List Record). IsBankUnlessOut shape (bank_part shape bank memory) bank came x)
+      (sym (filter-append (names bank) before rs))
+      (each bank x (omega (arith, at.count)) (here.1 x) shape (bank_part shape bank memory) (of_bank bank before) fits
+      (at.each bank x lt)));
+}
+
+pub can_take : (shape : Shape) (memory : FlatMemory) (before rs : List Record) (banks : List BankJudge) →
+    AreBanksAt shape memory before banks → AllByRecursion (Fits shape) rs
+    → (bank : ℕ) (d : BankJudge) → bank < length banks → CanTakeAll bank rs (get_or banks bank d)
+can_take shape memory before rs banks at fits bank d lt = record {
+  shape = shape;
+  memory = bank_part shape bank memory;
+  came = of_bank bank before;
+  fit = fits;
+  judged = at.each bank d (omega (arith, at.count));
+}
+
+-- both shares together, where memory ran out for no bank
+pub stands_together : (shape : Shape) (memory : FlatMemory) (records : List Record) (s : Standing) →
+    AllByRecursion (Fits shape) records → AreEntered shape records s.entries
+    → AreBanksAt shape memory records s.banks.items
+    → ((bank : ℕ) (d : BankJudge) → bank < length s.banks.items →
+    (get_or s.banks.items bank d).outcome ≡ outcomes.NoMemory → ⊥)
+    → StandsAfterAll shape memory records s
+stands_together shape memory records s fits entered at fine =
     let all = chosen shape.banks given banks in
     record {
-      fit = all_join (Fits shape) done rs stands.fit fits;
+      fit = fits;
       entered = entered;
-      count_banks = long ∙ stands.count_banks;
+      count_banks = at.count;
       given = all.0;
       count_given = all.1.0;
       banks = λ bank d lt. all.1.1 bank lt d;
     }
   where
     given : ℕ → List Record → Type 0
-    given bank more = (d : BankJudge) → IsBankSettled shape (bank_part shape bank memory) bank
-        (of_bank bank (done ++ rs)) more (get_or new.banks.items bank d)
+    given bank more = (d : BankJudge) → IsBankSettled shape (bank_part shape bank memory) bank (of_bank bank records)
+        more (get_or s.banks.items bank d)
 
     banks : (bank : ℕ) → bank < shape.banks → (more : List Record) × given bank more
     banks bank lt =
-        let here = place_at new.banks.items bank (omega (arith, long, stands.count_banks)) in
+        let within : bank < length s.banks.items = omega (arith, at.count) in
+        let here = place_at s.banks.items bank within in
         let x = here.0 in
-        let taken = each bank x (omega (arith, stands.count_banks)) (here.1 x) shape (bank_part shape bank memory)
-        (of_bank bank done)
-        (log_at stands.given bank) fits (stands.banks bank x lt)
-        (λ e. fine bank x (omega (arith, long, stands.count_banks))
-        (ap (λ (j : BankJudge). j.outcome) (here.1 x) ∙ e)) in (
-          taken.0,
+        let judged = at.each bank x lt (fine bank x within) in (
+          judged.0,
           λ d.
-              subst (IsBankSettled shape (bank_part shape bank memory) bank (of_bank bank (done ++ rs)) taken.0)
-              (sym (here.1 d))
-              (subst (λ (came : List Record). IsBankSettled shape (bank_part shape bank memory) bank came taken.0 x)
-              (sym (filter-append (names bank) done rs)) taken.1),
+              subst (IsBankSettled shape (bank_part shape bank memory) bank (of_bank bank records) judged.0)
+              (here.1 x ∙ sym (here.1 d)) judged.1,
         )
-
-pub can_take : (shape : Shape) (memory : FlatMemory) (done rs : List Record) (s : Standing) →
-    StandsAfterAll shape memory done s → AllByRecursion (Fits shape) rs
-    → (bank : ℕ) (d : BankJudge) → bank < length s.banks.items → CanTakeAll bank rs (get_or s.banks.items bank d)
-can_take shape memory done rs s stands fits bank d lt = record {
-  shape = shape;
-  memory = bank_part shape bank memory;
-  came = of_bank bank done;
-  gave = log_at stands.given bank;
-  fit = fits;
-  settled = stands.banks bank d (omega (arith, stands.count_banks));
-}
 
 -- what stands where a slice was written back
 pub written_at : {X : Type 0} (xs ws : List X) (n i : ℕ) (x : X) → i < n →

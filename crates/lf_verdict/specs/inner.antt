@@ -4,7 +4,9 @@ pub mod Coming
 pub mod Noting
 pub mod Taking
 pub mod Turns
-pub mod Batches
 pub mod Ending
 pub mod Jobs
 pub mod Gathering
+pub mod Shares
+pub mod Workers
+pub mod Ahead

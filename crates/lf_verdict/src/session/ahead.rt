@@ -7,16 +7,20 @@ ghost use Rattle.lf_codec.specs.declared.fault.Told.TheVariants as tolds;
 ghost use Rattle.lf_verdict.specs.declared.answer.Verdict.{Verdict};
 ghost use Rattle.lf_verdict.specs.inner.Ending.{IsVerdictOrWant};
 ghost use Rattle.lf_verdict.specs.Session.{refusal_of, stop_told, HasTaken, HasFed, HasFedUntil, IsRunningNow};
-ghost use Rattle.lf_verdict.specs.Ahead.{session_of, IsAhead};
+ghost use Rattle.lf_verdict.specs.Ahead.{session_of};
+ghost use Rattle.lf_verdict.specs.inner.Ahead.{IsAhead};
+ghost use Rattle.lf_verdict.specs.inner.Workers.{AreWorkers};
 ghost use Rattle.lf_verdict.specs.Final.{IsFinal};
 ghost use Rattle.lf_verdict.specs.Named.{IsNamed, NoneBrokeSoFar};
 ghost use Rattle.lf_verdict.specs.declared.stop.Stop.TheVariants as stops;
 ghost use Rattle.lf_verdict.specs.inner.Taking.{running_before};
 
 use crate::answer::{Refusal, Verdict};
-use crate::session::batch::{Batch, Judged, Lent, lend};
 use crate::session::breaking::Broken;
 use crate::session::intake::{Intake, Judging};
+use crate::session::share::judged;
+use crate::session::standing::Standing;
+use crate::session::workers::Workers;
 use crate::stop::Stop;
 use lf_codec::{Packed, Places, Told, faults_stand, header_of_bytes, read_so_far};
 use lf_pool::Gate;
@@ -25,15 +29,21 @@ use std::alloc::Global;
 use std::mem;
 use std::thread::Threads;
 
-/// What was fed so far. The last records are read and wait to be judged, and those before them may be with
-/// a thread that judges them. A thread is lent `batch` records or more at a time.
+/// So many batches are read ahead at most before the reader waits for the workers.
+const MOST_BATCHES: usize = 4;
+
+/// So many bytes are read before it is looked whether the workers are done.
+const PART: usize = 16384;
+
+/// What was fed so far. The last records are read and wait to be judged, and those before them may be with the
+/// workers at work. They judge `batch` records or more at a time.
 pub struct Ahead<G> {
     pub intake: Intake,
     pub workers: u32,
     pub batch: usize,
     pub gate: G,
     pub records: Packed,
-    pub lent: Option<Lent>,
+    pub at_work: Option<Workers>,
     /// Where the record is that is judged, where no thread judges it.
     pub places: Places,
 }
@@ -52,78 +62,72 @@ impl<G: Gate + Sync + Send + Copy + 'static> Ahead<G> {
             batch,
             gate,
             records: Packed::new(alloc),
-            lent: None,
+            at_work: None,
             places: Places::new(),
         }
     }
 
-    /// How many threads judge beside the one that reads: one enters the records into their logs, and as many
-    /// as there are workers judge the banks.
+    /// How many threads judge the banks.
     fn threads(&self) -> usize
-        ensures { 1 < result }
+        ensures { 0 < result }
     {
-        self.workers.max(1) as usize + 1
+        self.workers.max(1) as usize
     }
 
     /// Whether records are judged.
     fn is_running(&self) -> bool
         ensures { IsTrue result ↔ IsRunningNow (session_of self.now).judging }
     {
-        if self.lent.is_some() {
+        if self.at_work.is_some() {
             return true;
         }
         matches!(&self.intake.judging, Judging::Running(_))
     }
 
-    /// How the parts stand once all is judged that a thread was lent, with no record to be judged next.
-    fn call_back<R: Threads>(&mut self, rt: &R) -> Result<Batch, NoMemory>
+    /// How the parts stand once the workers are done, and the room for other records.
+    fn call_back<R: Threads>(&mut self, rt: &R) -> Result<(Standing, Packed), NoMemory>
         requires running { IsRunningNow (session_of self.old).judging }
+        requires workers { IfSome self.old.at_work AreWorkers }
         requires taken { (bytes : List ℕ) × HasTaken (session_of self.old) bytes }
         ensures rest { self.new ≡ record self.old {
-          lent = None;
+          at_work = None;
           intake =
               record self.old.intake { judging = self.new.intake.judging };
         } }
-        ensures none { IfOk result (λ batch. batch.records.records ≡ []) }
+        ensures none { IfOk result (λ r. r.1.records ≡ []) }
         ensures taken { (bytes : List ℕ) → HasTaken (session_of self.old) bytes
-            → IfOk result (λ batch. HasTaken (running_before batch.standing self.old.records.records self.old.intake)
-            bytes) }
+            → IfOk result (λ r. HasTaken (running_before r.0 self.old.records.records self.old.intake) bytes) }
     {
         read_so_far();
-        match self.lent.take() {
-            Some(lent) => {
-                let Judged { batch, result } = lent.join(rt);
-                result?;
-                Ok(batch)
-            }
+        match self.at_work.take() {
+            Some(workers) => workers.end(rt),
             None => {
                 let judging = mem::replace(&mut self.intake.judging, Judging::Waiting);
                 let Judging::Running(standing) = judging else {
                     unreachable!()
                 };
-                Ok(Batch::new(self.intake.alloc, standing))
+                Ok((standing, Packed::new(self.intake.alloc)))
             }
         }
     }
 
-    /// The records that were read, to be judged next.
-    fn next_batch<R: Threads>(&mut self, rt: &R) -> Result<Batch, NoMemory>
+    /// How the parts stand, and the records that were read, to be judged next.
+    fn next_batch<R: Threads>(&mut self, rt: &R) -> Result<(Standing, Packed), NoMemory>
         requires running { IsRunningNow (session_of self.old).judging }
+        requires workers { IfSome self.old.at_work AreWorkers }
         requires taken { (bytes : List ℕ) × HasTaken (session_of self.old) bytes }
         ensures rest { self.new ≡ record self.old {
-          lent = None;
+          at_work = None;
           records = self.new.records;
           intake =
               record self.old.intake { judging = self.new.intake.judging };
         } }
         ensures none { OnOk result (self.new.records.records ≡ []) }
         ensures taken { (bytes : List ℕ) → HasTaken (session_of self.old) bytes
-            → IfOk result (λ batch. HasTaken (running_before batch.standing batch.records.records self.old.intake)
-            bytes) }
+            → IfOk result (λ r. HasTaken (running_before r.0 r.1.records self.old.intake) bytes) }
     {
-        let mut batch = self.call_back(rt)?;
-        mem::swap(&mut batch.records, &mut self.records);
-        Ok(batch)
+        let (standing, room) = self.call_back(rt)?;
+        Ok((standing, mem::replace(&mut self.records, room)))
     }
 
     /// Has the records judged that were read, while the caller goes on.
@@ -132,25 +136,21 @@ impl<G: Gate + Sync + Send + Copy + 'static> Ahead<G> {
         rt: &R,
     ) -> Result<(), NoMemory>
         requires running { IsRunningNow (session_of self.old).judging }
+        requires workers { IfSome self.old.at_work AreWorkers }
         requires taken { (bytes : List ℕ) × HasTaken (session_of self.old) bytes }
         ensures shape { self.new.intake.shape ≡ self.old.intake.shape }
         ensures stop { self.new.intake.stop ≡ self.old.intake.stop }
         ensures running { OnOk result (IsRunningNow (session_of self.new).judging) }
+        ensures workers { IfSome self.new.at_work AreWorkers }
         ensures taken { (bytes : List ℕ) → HasTaken (session_of self.old) bytes →
             OnOk result (HasTaken (session_of self.new) bytes) }
     {
         read_so_far();
-        let batch = self.next_batch(rt)?;
-        match lend(rt, self.threads(), self.gate, batch) {
-            Ok(lent) => {
-                end(mem::replace(&mut self.lent, Some(lent)));
-                Ok(())
-            }
-            Err(Judged { batch, result }) => {
-                self.intake.judging = Judging::Running(batch.standing);
-                result
-            }
-        }
+        let (standing, records) = self.next_batch(rt)?;
+        let (alloc, threads) = (self.intake.alloc, self.threads());
+        let workers = Workers::begin(alloc, rt, threads, self.gate, standing, records)?;
+        end(mem::replace(&mut self.at_work, Some(workers)));
+        Ok(())
     }
 
     /// Judges all that was read.
@@ -160,19 +160,32 @@ impl<G: Gate + Sync + Send + Copy + 'static> Ahead<G> {
         requires taken { (bytes : List ℕ) × HasTaken (session_of self.old) bytes }
         ensures shape { self.new.intake.shape ≡ self.old.intake.shape }
         ensures stop { self.new.intake.stop ≡ self.old.intake.stop }
-        ensures alone { self.new.lent ≡ None }
+        ensures alone { self.new.at_work ≡ None }
         ensures none { OnOk result (self.new.records.records ≡ []) }
         ensures taken { (bytes : List ℕ) → HasTaken (session_of self.old) bytes →
             OnOk result (HasTaken self.new.intake bytes) }
     {
-        if self.lent.is_none() && self.records.is_empty() {
+        if self.at_work.is_none() && self.records.is_empty() {
             return Ok(());
         }
         read_so_far();
-        let mut batch = self.next_batch(rt)?;
-        let result = batch.judge_by(rt, self.threads(), &self.gate);
-        self.intake.judging = Judging::Running(batch.standing);
-        result
+        let (standing, records) = self.next_batch(rt)?;
+        let standing = judged(rt, self.threads(), &self.gate, standing, &records)?;
+        self.intake.judging = Judging::Running(standing);
+        Ok(())
+    }
+
+    /// Whether the records that were read should be judged next: enough were read, and no thread judges others,
+    /// or many were.
+    fn is_due(&self) -> bool {
+        let count = self.records.len();
+        if count < self.batch {
+            return false;
+        }
+        match &self.at_work {
+            Some(workers) => workers.are_done() || count / MOST_BATCHES >= self.batch,
+            None => true,
+        }
     }
 
     /// Reads the piece, and hands over what was read where that is enough.
@@ -182,10 +195,12 @@ impl<G: Gate + Sync + Send + Copy + 'static> Ahead<G> {
         piece: &[u8],
     ) -> Result<(), Stop>
         requires running { IsRunningNow (session_of self.old).judging }
+        requires workers { IfSome self.old.at_work AreWorkers }
         requires taken { (bytes : List ℕ) × HasTaken (session_of self.old) bytes }
         ensures shape { self.new.intake.shape ≡ self.old.intake.shape }
         ensures stop { self.new.intake.stop ≡ self.old.intake.stop }
         ensures running { OnOk result (IsRunningNow (session_of self.new).judging) }
+        ensures workers { IfSome self.new.at_work AreWorkers }
         ensures taken { OnOk result ((bytes : List ℕ) → HasTaken (session_of self.old) bytes →
             HasTaken (session_of self.new) (bytes ++ piece.now)) }
         ensures stopped { IfErr result (λ stop. (bytes : List ℕ) → HasTaken (session_of self.old) bytes
@@ -193,8 +208,36 @@ impl<G: Gate + Sync + Send + Copy + 'static> Ahead<G> {
     {
         header_of_bytes();
         self.intake.reader.feed_into(piece, &mut self.records)?;
-        if self.records.len() >= self.batch {
+        if self.is_due() {
             self.hand_over(rt)?;
+        }
+        Ok(())
+    }
+
+    /// Reads the piece in short parts, so that the workers do not wait for long once they are done.
+    fn read_in_parts<R: Threads + Sync + Send + Copy + 'static>(
+        &mut self,
+        rt: &R,
+        piece: &[u8],
+    ) -> Result<(), Stop>
+        requires running { IsRunningNow (session_of self.old).judging }
+        requires workers { IfSome self.old.at_work AreWorkers }
+        requires taken { (bytes : List ℕ) × HasTaken (session_of self.old) bytes }
+        ensures shape { self.new.intake.shape ≡ self.old.intake.shape }
+        ensures stop { self.new.intake.stop ≡ self.old.intake.stop }
+        ensures running { OnOk result (IsRunningNow (session_of self.new).judging) }
+        ensures workers { IfSome self.new.at_work AreWorkers }
+        ensures taken { OnOk result ((bytes : List ℕ) → HasTaken (session_of self.old) bytes →
+            HasTaken (session_of self.new) (bytes ++ piece.now)) }
+        ensures stopped { IfErr result (λ stop. (bytes : List ℕ) → HasTaken (session_of self.old) bytes
+            → HasFedUntil self.new.intake (bytes ++ piece.now) (Some stop)) }
+    {
+        faults_stand();
+        let mut rest = piece;
+        while !rest.is_empty() {
+            let (part, behind) = rest.split_at(rest.len().min(PART));
+            self.read(rt, part)?;
+            rest = behind;
         }
         Ok(())
     }
@@ -204,10 +247,10 @@ impl<G: Gate + Sync + Send + Copy + 'static> Ahead<G> {
         ensures shape { self.new.intake.shape ≡ self.old.intake.shape }
         ensures stopped { self.new.intake.stop ≡ Some stop }
         ensures told { result ≡ tolds.Fault (refusal_of stop) }
-        ensures alone { self.new.lent ≡ None }
+        ensures alone { self.new.at_work ≡ None }
     {
-        if let Some(lent) = self.lent.take() {
-            drop(lent.join(rt));
+        if let Some(workers) = self.at_work.take() {
+            workers.stop(rt);
         }
         self.intake.stop_with(stop)
     }
@@ -219,6 +262,7 @@ impl<G: Gate + Sync + Send + Copy + 'static> Ahead<G> {
         piece: &[u8],
     ) -> Result<(), Told<Refusal>>
         requires running { IsRunningNow (session_of self.old).judging }
+        requires workers { IfSome self.old.at_work AreWorkers }
         requires going { self.old.intake.stop ≡ None }
         requires taken { (bytes : List ℕ) × HasTaken (session_of self.old) bytes }
         ensures ahead { IsAhead self.new }
@@ -227,7 +271,7 @@ impl<G: Gate + Sync + Send + Copy + 'static> Ahead<G> {
             HasFed (session_of self.new) (bytes ++ piece.now) }
         ensures told { result ≡ stop_told self.old.intake.stop self.new.intake.stop }
     {
-        match self.read(rt, piece) {
+        match self.read_in_parts(rt, piece) {
             Ok(()) => Ok(()),
             Err(stop) => Err(self.stop_with(rt, stop)),
         }
@@ -282,7 +326,7 @@ impl<G: Gate + Sync + Send + Copy + 'static> Ahead<G> {
         ensures answer { (bytes : List ℕ) → HasFed (session_of self.old) bytes →
             IsVerdictOrWant self.old.intake.shape bytes result }
         ensures stopped { IfSome self.old.intake.stop (λ stop. result ≡ Verdict.Refused (refusal_of stop)) }
-        ensures alone { self.new.lent ≡ None }
+        ensures alone { self.new.at_work ≡ None }
     {
         if let Some(stop) = self.intake.stop {
             return Verdict::Refused(Refusal::from(stop));
@@ -300,7 +344,7 @@ impl<G: Gate + Sync + Send + Copy + 'static> Ahead<G> {
         requires taken { (bytes : List ℕ) × HasTaken (session_of self.old) bytes }
         ensures shape { self.new.intake.shape ≡ self.old.intake.shape }
         ensures stop { self.new.intake.stop ≡ self.old.intake.stop }
-        ensures alone { self.new.lent ≡ None }
+        ensures alone { self.new.at_work ≡ None }
         ensures ready { OnOk result (self.new.records.records ≡ []) }
         ensures taken { (bytes : List ℕ) → HasTaken (session_of self.old) bytes →
             OnOk result (HasTaken self.new.intake bytes) }
@@ -347,7 +391,7 @@ impl<G: Gate + Sync + Send + Copy + 'static> Ahead<G> {
 
     /// Ends it, where no thread is at work.
     pub fn end(self)
-        requires { self.lent ≡ None }
+        requires { self.at_work ≡ None }
     {
         let Ahead {
             intake: _,
@@ -355,19 +399,19 @@ impl<G: Gate + Sync + Send + Copy + 'static> Ahead<G> {
             batch: _,
             gate: _,
             records: _,
-            lent,
+            at_work,
             places: _,
         } = self;
-        end(lent);
+        end(at_work);
     }
 }
 
-/// No thread is at work.
-fn end(lent: Option<Lent>)
-    requires { lent ≡ None }
+/// No worker is there.
+fn end(at_work: Option<Workers>)
+    requires { at_work ≡ None }
 {
-    match lent {
+    match at_work {
         None => {}
-        Some(_lent) => unreachable!(),
+        Some(_workers) => unreachable!(),
     }
 }

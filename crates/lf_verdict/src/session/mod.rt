@@ -14,11 +14,14 @@ ghost use Rattle.lf_verdict.specs.Final.{IsFinal, IsEarliest, IsUnbroken, NoneBr
 ghost use Rattle.lf_verdict.specs.Session.{IsConfigRefusal, refusal_of, stop_told, IsRefusalSoFar, HasFed};
 
 mod ahead;
-mod batch;
 mod breaking;
 mod intake;
 mod parallel;
+mod promise;
+mod share;
 mod standing;
+mod worker;
+mod workers;
 
 use crate::answer::{Refusal, Verdict};
 use crate::laws::{no_has_no_run, yes_is_legal};

@@ -40,7 +40,8 @@ pub struct ParallelSession<G = NoGate> {
 impl<G> Model for ParallelSession<G> {
     ghost use Rattle.lf_verdict.specs.declared.session.intake.Intake.{Intake};
     ghost use Rattle.lf_verdict.specs.Session.{WasFed};
-    ghost use Rattle.lf_verdict.specs.Ahead.{session_of, IsAhead};
+    ghost use Rattle.lf_verdict.specs.Ahead.{session_of};
+    ghost use Rattle.lf_verdict.specs.inner.Ahead.{IsAhead};
 
     ghost Value = { Intake };
 

@@ -9,7 +9,7 @@ ghost use Rattle.lf_logs.specs.Reordering.{HasOrdered};
 ghost use Rattle.lf_replay.specs.Bytes.{bank_part};
 ghost use Rattle.lf_replay.specs.Step.{IsForStep};
 ghost use Rattle.lf_verdict.specs.Standing.{IsBankAt, IsBankSettled};
-ghost use Rattle.lf_verdict.specs.inner.Batches.{CanTakeAll, TakesOwn, TakesAll};
+ghost use Rattle.lf_verdict.specs.inner.Shares.{CanTakeOwn, TakesOwn, CanTakeAll, TakesAll};
 ghost use Rattle.lf_verdict.specs.inner.Turns.{CanSettle, Settles, CanTake, TakesNext};
 
 use crate::broken_part::Part;
@@ -131,7 +131,7 @@ impl BankJudge {
 
     /// Judges those of the records that are of this bank, in their order.
     fn take_own(&mut self, bank: usize, records: &Packed) -> Result<(), NoMemory>
-        requires { CanTakeAll bank records.now.records self.old }
+        requires { CanTakeOwn bank records.now.records self.old }
         ensures { TakesOwn bank records.now.records self.old result self.new }
     {
         let mut places = Places::new();
@@ -143,11 +143,15 @@ impl BankJudge {
         Ok(())
     }
 
-    /// Judges the records of a batch. A thread has nobody to tell that memory ran out: then that is the outcome.
+    /// Judges the records of a batch, unless memory ran out before. A thread has nobody to tell that memory ran out:
+    /// then that is the outcome.
     pub fn take_all(&mut self, bank: usize, records: &Packed)
         requires { CanTakeAll bank records.now.records self.old }
         ensures { TakesAll bank records.now.records self.old self.new }
     {
+        if let Outcome::NoMemory = self.outcome {
+            return;
+        }
         match self.take_own(bank, records) {
             Ok(()) => {}
             Err(NoMemory) => self.outcome = Outcome::NoMemory,

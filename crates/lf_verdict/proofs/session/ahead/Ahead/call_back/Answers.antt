@@ -1,22 +1,19 @@
 use Rattle.std.proofs.Common.{sym, ◌∙◌}
-use Rattle.lf_verdict.proofs.Aheads.{lent_before, judged_next}
+use Rattle.lf_verdict.proofs.Aheads.{lent_before, if_ok_more, may_follow, judged_next}
 use Rattle.lf_verdict.proofs.session.ahead.Ahead.call_back.Goals as goal
 
-pub returns-in_ok-result-in-Some-clause-none : goal.returns-in_ok-result-in-Some-clause-none
-returns-in_ok-result-in-Some-clause-none g c =
+pub end-requires-clause-follow : goal.end-requires-clause-follow
+end-requires-clause-follow g c =
     let a = c.args.self.now in
-    let lent = c.in-Some.lent in
+    let w = c.in-Some.workers in
     let bytes = c.requires.taken.0 in
-    let before = lent_before a lent bytes (sym c.take.ensures.value ∙ c.in-Some.is) c.requires.taken.1 in
-    let judged = judged_next c.read_so_far.ensures a.intake bytes lent.thread.promise.batch.value a.records.records
-    before c.join-batch.result.result c.join-batch.result.batch c.join-batch.ensures in
-    (rw c.in_ok-result-in-Some.was at judged).0
+    may_follow c.read_so_far.ensures a.intake bytes w.standing.value w.batch.value.records a.records.records
+    (lent_before a w bytes (sym c.take.ensures.value ∙ c.in-Some.is) c.requires.taken.1)
 
-pub returns-in_ok-result-in-Some-clause-taken : goal.returns-in_ok-result-in-Some-clause-taken
-returns-in_ok-result-in-Some-clause-taken g c bytes taken =
+pub returns-in-Some-clause-taken : goal.returns-in-Some-clause-taken
+returns-in-Some-clause-taken g c bytes taken =
     let a = c.args.self.now in
-    let lent = c.in-Some.lent in
-    let before = lent_before a lent bytes (sym c.take.ensures.value ∙ c.in-Some.is) taken in
-    let judged = judged_next c.read_so_far.ensures a.intake bytes lent.thread.promise.batch.value a.records.records
-    before c.join-batch.result.result c.join-batch.result.batch c.join-batch.ensures in
-    (rw c.in_ok-result-in-Some.was at judged).1
+    let w = c.in-Some.workers in
+    if_ok_more c.end.result (λ r judged.
+    judged_next c.read_so_far.ensures a.intake bytes w.standing.value w.batch.value.records a.records.records
+    (lent_before a w bytes (sym c.take.ensures.value ∙ c.in-Some.is) taken) r.0 judged) c.end.ensures.judged

@@ -11,7 +11,7 @@ pub returns-in_err-feed_into-clause-stopped : goal.returns-in_err-feed_into-clau
 returns-in_err-feed_into-clause-stopped g c =
     let a = c.args.self.now in
     let s = a.intake in
-    let lent = lent_records a.lent in
+    let lent = lent_records a.at_work in
     let told = c.in_err-feed_into.field-0.0 in
     if_err_from c.from_residual.result (λ stop is bytes taken.
     packed_stop (record s { reader = c.feed_into.new.self }) s.reader.fault
@@ -21,8 +21,8 @@ returns-in_err-feed_into-clause-stopped g c =
     (taken_too s.reader bytes s.memory.items taken.0 lent a.records.records taken.1.read)) is)
     c.from_residual.ensures.1
 
-pub returns-else-len-self-clause-taken : goal.returns-else-len-self-clause-taken
-returns-else-len-self-clause-taken g c bytes taken =
+pub returns-else-is_due-clause-taken : goal.returns-else-is_due-clause-taken
+returns-else-is_due-clause-taken g c bytes taken =
     let a = c.args.self.now in
     read_ahead c.header_of_bytes.ensures a bytes c.args.piece.now c.feed_into.new.self c.feed_into.new.records taken
     c.in_ok-feed_into.ensures.ok

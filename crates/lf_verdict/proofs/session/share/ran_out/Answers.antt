@@ -2,7 +2,7 @@ use Rattle.std.proofs.Common.{◌≡◌, ℕ, get_or, ap, sym, ◌∙◌, ⊎_el
 use Rattle.std.proofs.lemmas.Bool.{cases_eq}
 use Rattle.lf_verdict.specs.declared.session.standing.bank_judge.BankJudge.{BankJudge}
 use Rattle.lf_verdict.proofs.Batches.{place_at}
-use Rattle.lf_verdict.proofs.session.batch.ran_out.Goals as goal
+use Rattle.lf_verdict.proofs.session.share.ran_out.Goals as goal
 
 pub loop-judge-preserved : goal.loop-judge-preserved
 loop-judge-preserved c bank d lt =

@@ -1,7 +1,7 @@
 use Rattle.std.proofs.Common.{get_or, subst}
 use Rattle.lf_verdict.specs.declared.session.standing.bank_judge.BankJudge.{BankJudge}
-use Rattle.lf_verdict.specs.inner.Batches.{TakesAll}
-use Rattle.lf_verdict.proofs.session.batch.judge_banks.Goals as goal
+use Rattle.lf_verdict.specs.inner.Shares.{TakesAll}
+use Rattle.lf_verdict.proofs.session.share.judge_banks.Goals as goal
 
 pub returns : goal.returns
 returns g c = record {
