@@ -1,13 +1,44 @@
 //! What a run keeps beside its lines and registers: memory, the queue of a port, ready replies.
 
-use lf_rules::{Mask, Op};
-use lf_samples::{C1, TWO_PORTS_TWO_BANKS, block, memory};
+use lf_rules::{Block, Mask, Op};
+use lf_samples::{C1, TWO_PORTS_TWO_BANKS, block, memory, memory_ran_out};
 use lf_state::{
     Data, FlatMemory, Ready, Request, asker_of, drop_head, drop_ready, empty_queues, enqueue, head,
     push, ready_at, ready_for,
 };
+use std::alloc::Global;
 use std::process::Abort;
 use std::test::Fail;
+
+/// A memory with these blocks.
+fn memory_of(alloc: Global, named: &[(u32, Block)]) -> Result<FlatMemory, Fail> {
+    let Ok(flat) = FlatMemory::new(alloc, named) else {
+        return Err(memory_ran_out());
+    };
+    Ok(flat)
+}
+
+/// The part of bank 1 of two.
+fn part_of(alloc: Global, named: &[(u32, Block)]) -> Result<FlatMemory, Fail> {
+    let Ok(flat) = FlatMemory::of_bank(alloc, named, &TWO_PORTS_TWO_BANKS, 1) else {
+        return Err(memory_ran_out());
+    };
+    Ok(flat)
+}
+
+/// Has the memory accept a request.
+fn accept(flat: &mut FlatMemory, request: &Request) -> Result<(), Fail> {
+    let Ok(()) = flat.accept(request) else {
+        return Err(memory_ran_out());
+    };
+    Ok(())
+}
+
+/// Fails unless block 0 and block 1 have these bytes in the second place.
+fn assert_second_bytes(rt: &impl Abort, flat: &FlatMemory, first: u8, second: u8) {
+    assert_eq!(rt; flat.bytes_of(0)[1], first);
+    assert_eq!(rt; flat.bytes_of(1)[1], second);
+}
 
 /// Block 0 is of bank 0, and block 1 of bank 1.
 #[test]
@@ -16,30 +47,34 @@ fn a_bank_has_its_own_blocks(rt: HostRuntime) -> Result<(), Fail> {
         rt.alloc(),
         &[(0, "0011223344556677"), (1, "8899aabbccddeeff")],
     )?;
-    let whole = FlatMemory::new(rt.alloc(), &named).ok().ok_or("no memory")?;
-    assert_eq!(rt; whole.bytes_of(0)[1], 0x11);
-    assert_eq!(rt; whole.bytes_of(1)[1], 0x99);
-    let part = FlatMemory::of_bank(rt.alloc(), &named, &TWO_PORTS_TWO_BANKS, 1)
-        .ok()
-        .ok_or("no memory")?;
-    assert_eq!(rt; part.bytes_of(0)[1], 0);
-    assert_eq!(rt; part.bytes_of(1)[1], 0x99);
+    assert_second_bytes(&rt, &memory_of(rt.alloc(), &named)?, 0x11, 0x99);
+    assert_second_bytes(&rt, &part_of(rt.alloc(), &named)?, 0, 0x99);
     Ok(())
+}
+
+/// Fails unless a load of the first four bytes of block 1 finds these, which are this number.
+fn assert_load(rt: &impl Abort, flat: &FlatMemory, bytes: [u8; 4], number: u64) {
+    let load = Request::of_issue(&C1, Op::Load, 1, 4, 8, &[]);
+    assert_eq!(rt; flat.value_of(&load).as_slice(), bytes.as_slice());
+    assert_eq!(rt; flat.number_of(&load) & 0xffff_ffff, number);
+}
+
+/// Fails unless a store finds nothing, and is of the bytes of this mask.
+fn assert_store(rt: &impl Abort, flat: &FlatMemory, store: &Request, mask: u64) {
+    assert_eq!(rt; flat.value_of(store).len(), 0);
+    assert_eq!(rt; store.store_mask(), mask);
 }
 
 #[test]
 fn a_load_finds_what_a_store_wrote(rt: HostRuntime) -> Result<(), Fail> {
-    let mut flat = FlatMemory::new(rt.alloc(), &[]).ok().ok_or("no memory")?;
+    let mut flat = memory_of(rt.alloc(), &[])?;
     let store = Request::of_issue(&C1, Op::Store, 0, 2, 10, &[7, 9]);
-    let load = Request::of_issue(&C1, Op::Load, 1, 4, 8, &[]);
-    flat.accept(&store).ok().ok_or("no memory")?;
-    assert_eq!(rt; flat.value_of(&load).as_slice(), [0, 0, 7, 9].as_slice());
-    assert_eq!(rt; flat.number_of(&load) & 0xffff_ffff, 0x0907_0000);
-    assert_eq!(rt; flat.value_of(&store).len(), 0);
-    assert_eq!(rt; store.store_mask(), 0b1100);
+    accept(&mut flat, &store)?;
+    assert_load(&rt, &flat, [0, 0, 7, 9], 0x0907_0000);
+    assert_store(&rt, &flat, &store, 0b1100);
     let again = Request::of_issue(&C1, Op::Store, 2, 1, 11, &[5]);
-    flat.accept(&again).ok().ok_or("no memory")?;
-    assert_eq!(rt; flat.value_of(&load).as_slice(), [0, 0, 7, 5].as_slice());
+    accept(&mut flat, &again)?;
+    assert_load(&rt, &flat, [0, 0, 7, 5], 0x0507_0000);
     Ok(())
 }
 
@@ -50,10 +85,10 @@ fn store_to(block: u32, byte: u8) -> Request {
 
 /// Fails unless each block is found that was stored, the n-th one being n times the step.
 fn assert_found<T: Abort + AllocGlobal>(rt: &T, step: u32, count: u32) -> Result<(), Fail> {
-    let mut flat = FlatMemory::new(rt.alloc(), &[]).ok().ok_or("no memory")?;
+    let mut flat = memory_of(rt.alloc(), &[])?;
     for n in 0..count {
         let store = store_to(n.wrapping_mul(step), (n % 256) as u8);
-        flat.accept(&store).ok().ok_or("no memory")?;
+        accept(&mut flat, &store)?;
     }
     for n in 0..count {
         assert_eq!(rt; flat.bytes_of(n.wrapping_mul(step))[0], (n % 256) as u8);
@@ -76,11 +111,15 @@ fn each_of_many_blocks_is_found(rt: HostRuntime) -> Result<(), Fail> {
 #[test]
 fn a_block_carries_its_dirty_bytes(rt: HostRuntime) -> Result<(), Fail> {
     let named = memory(rt.alloc(), &[(0, "0011223344556677")])?;
-    let flat = FlatMemory::new(rt.alloc(), &named).ok().ok_or("no memory")?;
-    assert!(rt; flat.carries(&C1, 0, Mask(0b110), &block("1122")));
-    assert!(rt; !flat.carries(&C1, 0, Mask(0b110), &block("1133")));
-    assert!(rt; flat.carries(&C1, 0, Mask(0), &block("")));
-    assert!(rt; !flat.carries(&C1, 0, Mask(0), &block("11")));
+    let flat = memory_of(rt.alloc(), &named)?;
+    for (mask, bytes, carried) in [
+        (0b110, "1122", true),
+        (0b110, "1133", false),
+        (0, "", true),
+        (0, "11", false),
+    ] {
+        assert_eq!(rt; flat.carries(&C1, 0, Mask(mask), &block(bytes)), carried);
+    }
     Ok(())
 }
 

@@ -1,10 +1,79 @@
 //! A happy call of each function, at both levels, and each refusal.
 
-ghost use Rattle.std.specs.Prelude.{◌≡◌, length};
+ghost use Rattle.std.specs.Prelude.{◌≡◌, ◌<◌, ◌/◌, true, length, IfOk};
+ghost use Rattle.lf_rules.specs.Fits.{is_factor};
+ghost use Rattle.lf_rules.specs.InRange.{IsFrom};
 
-use lf_levels::{LineFault, Lines, One, Two};
+use lf_levels::{Level, LineFault, Lines, One, Two};
 use lf_rules::{Mask, Masks, clean_masks};
+use lf_samples::memory_ran_out;
+use std::alloc::Global;
+use std::process::Abort;
 use std::test::Fail;
+
+/// An empty table.
+fn table<L: Level>(
+    alloc: Global,
+    sets: u32,
+    ways: u32,
+    banks: u32,
+    factor: u32,
+) -> Result<Lines<L>, Fail>
+    requires sets { IsFrom 1 4096 sets }
+    requires ways { IsFrom 1 16 ways }
+    requires banks { IsFrom 1 16 banks }
+    requires factor { is_factor factor ≡ true }
+    ensures { IfOk result (λ lines. lines.factor ≡ factor) }
+{
+    let Ok(lines) = Lines::new(alloc, sets, ways, banks, factor) else {
+        return Err(memory_ran_out());
+    };
+    Ok(lines)
+}
+
+/// Fails unless a table has no line on the block, and answers so when it is filled.
+fn assert_fill(
+    rt: &impl Abort,
+    lines: &mut Lines<One>,
+    block: u32,
+    mask: Mask,
+    answer: Result<(), LineFault>,
+) {
+    assert!(rt; !lines.has(block));
+    assert_eq!(rt; lines.fill(block, mask), answer);
+}
+
+/// Fails unless a table of level two has no line on the block, and answers so when it is filled.
+fn assert_fill_two(
+    rt: &impl Abort,
+    lines: &mut Lines<Two>,
+    second: u32,
+    masks: Masks,
+    answer: Result<(), LineFault>,
+)
+    requires { length masks.items ≡ lines.old.factor }
+    ensures { lines.new.factor ≡ lines.old.factor }
+{
+    assert!(rt; !lines.has(second));
+    assert_eq!(rt; lines.fill(second, masks), answer);
+}
+
+/// Fails unless a line that gains dirty bytes has these then.
+fn assert_mark(rt: &impl Abort, lines: &mut Lines<One>, block: u32, more: Mask, dirty: Mask) {
+    assert!(rt; lines.has(block));
+    lines.mark(block, more);
+    assert_eq!(rt; lines.dirty(block), Some(dirty));
+}
+
+/// Fails unless second-level block 5 has these masks after it gained bytes at one place.
+fn assert_mark_at(rt: &impl Abort, lines: &mut Lines<Two>, place: u32, more: Mask, dirty: &Masks)
+    requires { place < lines.old.factor }
+    ensures { lines.new.factor ≡ lines.old.factor }
+{
+    assert!(rt; lines.has(5));
+    lines.mark_at(5, place, more);
+    assert!(rt; lines.dirty(5) == Some(dirty));
+}
 
 /// The masks of a second-level block of two blocks.
 fn two_masks(first: u64, second: u64) -> Masks
@@ -29,14 +98,11 @@ fn second_mask(lines: &Lines<Two>, second: u32) -> Option<Mask>
 /// Two sets of two ways in one of two banks: block 0 and block 4 are in set 0, block 2 is in set 1.
 #[test]
 fn lines_come_and_go(rt: HostRuntime) -> Result<(), Fail> {
-    let mut lines: Lines<One> = Lines::new(rt.alloc(), 2, 2, 2, 1).ok().ok_or("no memory")?;
+    let mut lines: Lines<One> = table(rt.alloc(), 2, 2, 2, 1)?;
     assert_eq!(rt; lines.dirty(0), None);
-    assert!(rt; !lines.has(0));
-    assert_eq!(rt; lines.fill(0, Mask(3)), Ok(()));
+    assert_fill(&rt, &mut lines, 0, Mask(3), Ok(()));
     assert_eq!(rt; lines.dirty(0), Some(Mask(3)));
-    assert!(rt; lines.has(0));
-    lines.mark(0, Mask(4));
-    assert_eq!(rt; lines.dirty(0), Some(Mask(7)));
+    assert_mark(&rt, &mut lines, 0, Mask(4), Mask(7));
     assert_eq!(rt; lines.evict(0, Mask(3)), Err(LineFault::EvictMask));
     assert_eq!(rt; lines.evict(4, Mask(0)), Err(LineFault::EvictAbsent));
     assert_eq!(rt; lines.evict(0, Mask(7)), Ok(()));
@@ -46,16 +112,14 @@ fn lines_come_and_go(rt: HostRuntime) -> Result<(), Fail> {
 
 #[test]
 fn a_set_has_as_many_lines_as_ways(rt: HostRuntime) -> Result<(), Fail> {
-    let mut lines: Lines<Two> = Lines::new(rt.alloc(), 2, 2, 2, 1).ok().ok_or("no memory")?;
-    assert!(rt; !lines.has(0));
-    assert_eq!(rt; lines.fill(0, clean_masks(1)), Ok(()));
-    assert!(rt; !lines.has(4));
+    let mut lines: Lines<Two> = table(rt.alloc(), 2, 2, 2, 1)?;
+    assert_fill_two(&rt, &mut lines, 0, clean_masks(1), Ok(()));
     assert!(rt; !lines.full(8));
-    assert_eq!(rt; lines.fill(4, clean_masks(1)), Ok(()));
+    assert_fill_two(&rt, &mut lines, 4, clean_masks(1), Ok(()));
     assert!(rt; lines.full(8));
     assert!(rt; !lines.full(2));
-    assert!(rt; !lines.has(8));
-    assert_eq!(rt; lines.fill(8, clean_masks(1)), Err(LineFault::SetFull));
+    let full = Err(LineFault::SetFull);
+    assert_fill_two(&rt, &mut lines, 8, clean_masks(1), full);
     assert_eq!(rt; lines.evict(4, &clean_masks(1)), Ok(()));
     assert!(rt; !lines.full(8));
     Ok(())
@@ -64,39 +128,52 @@ fn a_set_has_as_many_lines_as_ways(rt: HostRuntime) -> Result<(), Fail> {
 /// The greatest table: the 16 blocks are in set 0, as the block after them; block 16 is in set 1.
 #[test]
 fn lines_of_many_sets(rt: HostRuntime) -> Result<(), Fail> {
-    let mut lines: Lines<One> = Lines::new(rt.alloc(), 4096, 16, 16, 1)
-        .ok()
-        .ok_or("no memory")?;
+    let mut lines: Lines<One> = table(rt.alloc(), 4096, 16, 16, 1)?;
     for k in 0..16 {
-        assert!(rt; !lines.has(65_536 * k));
-        assert_eq!(rt; lines.fill(65_536 * k, Mask(0)), Ok(()));
+        assert_fill(&rt, &mut lines, 65_536 * k, Mask(0), Ok(()));
     }
-    assert!(rt; !lines.has(1_048_576));
-    assert_eq!(rt; lines.fill(1_048_576, Mask(0)), Err(LineFault::SetFull));
-    assert!(rt; !lines.has(16));
-    assert_eq!(rt; lines.fill(16, Mask(0)), Ok(()));
+    let full = Err(LineFault::SetFull);
+    assert_fill(&rt, &mut lines, 1_048_576, Mask(0), full);
+    assert_fill(&rt, &mut lines, 16, Mask(0), Ok(()));
     Ok(())
 }
 
-#[test]
-fn level_two_keeps_what_level_one_holds(rt: HostRuntime) -> Result<(), Fail> {
-    let mut inner: Lines<One> = Lines::new(rt.alloc(), 1, 1, 1, 1).ok().ok_or("no memory")?;
-    let mut outer: Lines<Two> = Lines::new(rt.alloc(), 1, 2, 1, 1).ok().ok_or("no memory")?;
-    assert!(rt; !outer.has(5));
-    assert_eq!(rt; outer.fill(5, clean_masks(1)), Ok(()));
+/// Fails unless second-level block 5 may leave, but not while a register has it, until level one has this block of it.
+fn assert_stays<T: Abort + AllocGlobal>(
+    rt: &T,
+    factor: u32,
+    masks: Masks,
+    block: u32,
+) -> Result<(), Fail>
+    requires factor { is_factor factor ≡ true }
+    requires fits { 5 < 0x1_0000_0000 / factor }
+    requires count { length masks.items ≡ factor }
+{
+    let mut inner: Lines<One> = table(rt.alloc(), 1, 1, 1, factor)?;
+    let mut outer: Lines<Two> = table(rt.alloc(), 1, 2, 1, factor)?;
+    assert_fill_two(rt, &mut outer, 5, masks, Ok(()));
     assert!(rt; outer.may_leave(5, &inner, false));
     assert!(rt; !outer.may_leave(5, &inner, true));
-    assert!(rt; !inner.has(5));
-    assert_eq!(rt; inner.fill(5, Mask(0)), Ok(()));
+    assert_fill(rt, &mut inner, block, Mask(0), Ok(()));
     assert!(rt; !outer.may_leave(5, &inner, false));
     Ok(())
 }
 
 #[test]
+fn level_two_keeps_what_level_one_holds(rt: HostRuntime) -> Result<(), Fail> {
+    assert_stays(&rt, 1, clean_masks(1), 5)
+}
+
+/// Second-level blocks of two blocks: second-level block 5 has the blocks 10 and 11.
+#[test]
+fn a_wide_line_stays_while_level_one_has_a_block_of_it(rt: HostRuntime) -> Result<(), Fail> {
+    assert_stays(&rt, 2, two_masks(0, 2), 11)
+}
+
+#[test]
 fn each_block_of_a_wide_line_has_a_mask(rt: HostRuntime) -> Result<(), Fail> {
-    let mut outer: Lines<Two> = Lines::new(rt.alloc(), 1, 2, 1, 2).ok().ok_or("no memory")?;
-    assert!(rt; !outer.has(5));
-    assert_eq!(rt; outer.fill(5, two_masks(0, 2)), Ok(()));
+    let mut outer: Lines<Two> = table(rt.alloc(), 1, 2, 1, 2)?;
+    assert_fill_two(&rt, &mut outer, 5, two_masks(0, 2), Ok(()));
     assert!(rt; outer.has(5));
     outer.mark(5, &two_masks(0, 1));
     assert!(rt; outer.dirty(5) == Some(&two_masks(0, 3)));
@@ -108,40 +185,21 @@ fn each_block_of_a_wide_line_has_a_mask(rt: HostRuntime) -> Result<(), Fail> {
     Ok(())
 }
 
-/// Second-level blocks of two blocks: second-level block 5 has the blocks 10 and 11.
-#[test]
-fn a_wide_line_stays_while_level_one_has_a_block_of_it(rt: HostRuntime) -> Result<(), Fail> {
-    let mut inner: Lines<One> = Lines::new(rt.alloc(), 1, 1, 1, 2).ok().ok_or("no memory")?;
-    let mut outer: Lines<Two> = Lines::new(rt.alloc(), 1, 2, 1, 2).ok().ok_or("no memory")?;
-    assert!(rt; !outer.has(5));
-    assert_eq!(rt; outer.fill(5, two_masks(0, 2)), Ok(()));
-    assert!(rt; outer.may_leave(5, &inner, false));
-    assert!(rt; !inner.has(11));
-    assert_eq!(rt; inner.fill(11, Mask(0)), Ok(()));
-    assert!(rt; !outer.may_leave(5, &inner, false));
-    Ok(())
-}
-
 /// A mark at one place leaves the mask at the other, and a mark of no bytes leaves both.
 #[test]
 fn one_mask_of_a_wide_line_gains_bytes(rt: HostRuntime) -> Result<(), Fail> {
-    let mut outer: Lines<Two> = Lines::new(rt.alloc(), 1, 2, 1, 2).ok().ok_or("no memory")?;
-    assert!(rt; !outer.has(5));
-    assert_eq!(rt; outer.fill(5, two_masks(1, 2)), Ok(()));
-    assert!(rt; outer.has(5));
-    outer.mark_at(5, 1, Mask(4));
-    assert!(rt; outer.dirty(5) == Some(&two_masks(1, 6)));
-    assert!(rt; outer.has(5));
-    outer.mark_at(5, 0, Mask(0));
-    assert!(rt; outer.dirty(5) == Some(&two_masks(1, 6)));
+    let mut outer: Lines<Two> = table(rt.alloc(), 1, 2, 1, 2)?;
+    assert_fill_two(&rt, &mut outer, 5, two_masks(1, 2), Ok(()));
+    let gained = two_masks(1, 6);
+    assert_mark_at(&rt, &mut outer, 1, Mask(4), &gained);
+    assert_mark_at(&rt, &mut outer, 0, Mask(0), &gained);
     Ok(())
 }
 
 #[test]
 fn a_wide_line_goes_with_its_masks(rt: HostRuntime) -> Result<(), Fail> {
-    let mut outer: Lines<Two> = Lines::new(rt.alloc(), 1, 2, 1, 2).ok().ok_or("no memory")?;
-    assert!(rt; !outer.has(5));
-    assert_eq!(rt; outer.fill(5, two_masks(0, 3)), Ok(()));
+    let mut outer: Lines<Two> = table(rt.alloc(), 1, 2, 1, 2)?;
+    assert_fill_two(&rt, &mut outer, 5, two_masks(0, 3), Ok(()));
     assert_eq!(rt; outer.evict(5, &two_masks(3, 0)), Err(LineFault::EvictMask));
     assert_eq!(rt; outer.evict(5, &two_masks(0, 3)), Ok(()));
     Ok(())

@@ -58,6 +58,19 @@ fn assert_released<O: Organisation>(rt: &impl Abort, file: &mut O::File, count: 
     assert!(rt; !O::holds(file, 0));
 }
 
+/// Fails unless stores of these bytes wait for a block, and its release gives these targets, after which none waits.
+fn assert_gives<O: Organisation<Target = Request1>>(
+    rt: &impl Abort,
+    file: &mut O::File,
+    block: u32,
+    bytes: Mask,
+    targets: &[(u16, Request1)],
+) {
+    assert_eq!(rt; O::store_bytes(file, block), bytes);
+    assert_eq!(rt; O::release(file, block).as_slice(), targets);
+    assert_eq!(rt; O::store_bytes(file, block), Mask(0));
+}
+
 /// A primary miss to block 0, a merge, and the release of both; then the same, placed where it was judged.
 fn miss_twice<O: Organisation>(
     rt: &impl Abort,
@@ -193,12 +206,9 @@ fn inverted_release_order(rt: HostRuntime) -> Result<(), Fail> {
         .ok_or("no memory")?;
     assert_eq!(rt; Registers::primary(&mut file, 1, 0, load(0, 1)), Ok(()));
     assert_eq!(rt; Registers::merge(&mut file, 0, 0, load(0, 0)), Ok(()));
-    let targets = Registers::release(&mut file, 0);
-    assert_eq!(rt;
-        targets.as_slice(),
-        [(1, load(0, 1)), (0, load(0, 0))].as_slice()
-    );
-    assert_eq!(rt; Registers::release(&mut file, 0).len(), 0);
+    let targets = [(1, load(0, 1)), (0, load(0, 0))];
+    assert_gives::<Registers>(&rt, &mut file, 0, Mask(0), &targets);
+    assert_gives::<Registers>(&rt, &mut file, 0, Mask(0), &[]);
     assert!(rt; !Registers::holds(&file, 0));
     Ok(())
 }
@@ -270,24 +280,27 @@ fn releases_of_two_blocks(rt: HostRuntime) -> Result<(), Fail> {
     let first = store_of(0, 0x3);
     let second = store_of(2, 0x30);
     let other = store_of(1, 0xc);
-    assert_eq!(rt; Registers::primary(&mut file, 0, 7, first), Ok(()));
-    assert_eq!(rt; Registers::primary(&mut file, 1, 8, other), Ok(()));
-    assert_eq!(rt; Registers::merge(&mut file, 0, 7, second), Ok(()));
-    assert_eq!(rt; Registers::merge(&mut file, 1, 8, load(3, 3)), Ok(()));
-    assert_eq!(rt; Registers::store_bytes(&file, 7), Mask(0x33));
+    for (register, block, target) in [(0, 7, first), (1, 8, other)] {
+        assert_eq!(rt;
+            Registers::primary(&mut file, register, block, target),
+            Ok(())
+        );
+    }
+    for (register, block, target) in [(0, 7, second), (1, 8, load(3, 3))] {
+        assert_eq!(rt;
+            Registers::merge(&mut file, register, block, target),
+            Ok(())
+        );
+    }
     // A target of block 8 waits between those of block 7, and one behind them.
-    let targets = Registers::release(&mut file, 7);
-    assert_eq!(rt; targets.as_slice(), [(0, first), (0, second)].as_slice());
-    assert_eq!(rt; Registers::store_bytes(&file, 7), Mask(0));
+    let targets = [(0, first), (0, second)];
+    assert_gives::<Registers>(&rt, &mut file, 7, Mask(0x33), &targets);
     // The register is free again, and has no bytes of block 7.
     assert_eq!(rt; Registers::primary(&mut file, 0, 9, other), Ok(()));
     assert_eq!(rt; Registers::store_bytes(&file, 9), Mask(0xc));
-    let targets = Registers::release(&mut file, 8);
-    assert_eq!(rt;
-        targets.as_slice(),
-        [(1, other), (1, load(3, 3))].as_slice()
-    );
-    assert_eq!(rt; Registers::release(&mut file, 9).len(), 1);
+    let targets = [(1, other), (1, load(3, 3))];
+    assert_gives::<Registers>(&rt, &mut file, 8, Mask(0xc), &targets);
+    assert_gives::<Registers>(&rt, &mut file, 9, Mask(0xc), &[(0, other)]);
     Ok(())
 }
 
