@@ -127,10 +127,10 @@ TOLD = [
     ("lf_replay_tests", "load_merges_behind_store_by_replay"),
 ]
 
-# A session with several workers goes on without a thread that was refused, or the memory for it: this for the thread
-# that is lent a batch, for the one that enters the records, and for those of the banks.
+# A session with several workers goes on without a thread that was refused, or the memory for it: so many bytes for the
+# thread of the entries and for that of the banks.
 BESIDE = "refused_growth_of_session_by_four_workers"
-THREAD_BYTES = (b"160", b"56", b"32")
+THREAD_BYTES = b"96"
 
 # The status of a test that returned an error. One that an assertion stops ends by a signal.
 FAILED = 101
@@ -229,12 +229,12 @@ def judge_swept(ran, told):
         return None if ran.returncode == 0 else said
     if ran.returncode == FAILED and re.search(r"^error: .*(AllocError|AllocFailed|no memory|no order)", said, re.M):
         return BEFORE
-    is_told = re.search("^want of (memory|a thread)$", said, re.M)
+    is_told = re.search("^(out of memory|a thread was refused)$", said, re.M)
     return None if ran.returncode == FAILED and is_told else said
 
 
 def judge_beside(ran, told):
-    if told and ran.returncode == 0 and (told[1] == b"thread" or told[2] in THREAD_BYTES):
+    if told and ran.returncode == 0 and (told[1] == b"thread" or told[2] == THREAD_BYTES):
         return None
     return judge_swept(ran, told)
 
