@@ -2,14 +2,16 @@
 use Rattle.std.proofs.Common.{ℕ, zero, suc, ◌≡◌, ◌<◌, ◌≤◌, ◌+◌, ◌-◌, Bool, true, false, cond, List, [], ◌∷◌, length}
 use Rattle.std.proofs.Common.{take, drop, get_or}
 use Rattle.std.proofs.Common.{refl, ap, sym, ◌∙◌, arith, length-drop, Some, None, get_or-take, get_or-drop}
-use Rattle.std.proofs.Common.{length-take-le}
+use Rattle.std.proofs.Common.{length-take-le, not}
+use Rattle.std.proofs.Math.Seq.{drop-length}
 use Rattle.std.specs.Prelude.{count_by, slice_set}
 use Rattle.std.specs.List.{position, position_or_len, slice_range}
-use Rattle.std.proofs.lemmas.Bool.{cases_Bool, cases_lt, lt-ltb}
+use Rattle.std.proofs.lemmas.Bool.{cases_Bool, cases_lt, lt-ltb, le-ltb}
+use Rattle.std.proofs.lemmas.List.{drop_more}
 use Rattle.std.proofs.lemmas.List.Quantifiers.{position-Some}
 use Rattle.std.proofs.Math.Logic.{⊎_elim, ◌⊎◌, inl, inr}
 use Rattle.std.proofs.lemmas.List.Sums.{sum_by-cons, sum_by-set, sum_by-take-drop, get_or-le-sum_by}
-use Rattle.std.proofs.lemmas.List.Sums.{count_by-le-length, fails_before_first}
+use Rattle.std.proofs.lemmas.List.Sums.{count_by-le-length, fails_before_first, prefix_len-le-length}
 
 module _ {X : Type 0} (p : X → Bool) where
   -- what an item counts for
@@ -130,3 +132,42 @@ module _ {X : Type 0} (p : X → Bool) where
         part_at xs from many d inside i lt ∙ ap (λ n. get_or xs n d) (omega arith) in
         ap p (sym at) ∙ none-pass (part xs from many d inside) d (ap (position p) (sym same_part) ∙ e) i
         (omega (arith, length-part xs from many d inside))
+
+  -- ---- the first from a place on that passes
+
+  module _ (xs : List X) where
+    -- its place, or the length where none passes
+    abbrev pub first_from : ℕ → ℕ
+    first_from left = left + position_or_len p (drop left xs)
+
+    first-at : (left : ℕ) (d : X) → left < length xs → position_or_len p (drop left xs)
+        ≡ cond (not (p (get_or xs left d))) (1 + position_or_len p (drop (left + 1) xs)) 0
+    first-at left d lt = ap (position_or_len p) (drop_more xs left d lt)
+
+    pub first-start : length xs ≡ first_from (length xs)
+    first-start = omega (arith, ap (position_or_len p) (drop-length xs))
+
+    pub first-here : (left : ℕ) (d : X) → left < length xs → p (get_or xs left d) ≡ true → left ≡ first_from left
+    first-here left d lt e =
+        let none = first-at left d lt
+        ∙ ap (λ b. cond (not b) (1 + position_or_len p (drop (left + 1) xs)) 0) e in
+        omega (arith, none)
+
+    pub first-behind : (left : ℕ) (d : X) → left < length xs → p (get_or xs left d) ≡ false →
+        first_from (left + 1) ≡ first_from left
+    first-behind left d lt e =
+        let one = first-at left d lt
+        ∙ ap (λ b. cond (not b) (1 + position_or_len p (drop (left + 1) xs)) 0) e in
+        omega (arith, one)
+
+    pub first-found : (place : ℕ) → place ≡ first_from 0 → (place ≡ length xs → ⊥) → Some place ≡ position p xs
+    first-found place e other =
+        let same : place ≡ position_or_len p xs = omega (arith, e) in
+        let lt : position_or_len p xs < length xs =
+        omega (arith, same, other, prefix_len-le-length (λ x. not (p x)) xs) in
+        ap Some same
+        ∙ sym (ap (λ b. cond b (Some (position_or_len p xs)) None) (lt-ltb (position_or_len p xs) (length xs) lt))
+
+    pub first-lacking : length xs ≡ first_from 0 → None ≡ position p xs
+    first-lacking e = sym (ap (λ b. cond b (Some (position_or_len p xs)) None)
+        (le-ltb (position_or_len p xs) (length xs) (omega (arith, e))))

@@ -3,13 +3,22 @@ use Rattle.std.proofs.Common.{ℕ, zero, suc, ◌≡◌, Bool, true, List, [], �
 use Rattle.std.proofs.Common.{get_or, Option, Some, None, refl, sym, ap, ◌∙◌, arith, eqb-true}
 use Rattle.std.specs.Prelude.{slice_set}
 use Rattle.std.proofs.lemmas.List.{set-get_or}
-use Rattle.lf_levels.specs.Rows.{Line, is_free, is_key, is_on, way_of, rows_of, FindsWay}
+use Rattle.lf_levels.specs.Rows.{Line, is_free, is_key, is_same, is_on, way_of, rows_of, FindsWay}
 use Rattle.lf_levels.proofs.InWays.{all_free}
 
 -- the key of a block's line
 pub key_is : (block : ℕ) (key : Option ℕ) → is_key block key ≡ true → key ≡ Some block
 key_is block None e = absurd (cc e)
 key_is block (Some other) e = ap Some (eqb-true other block e)
+
+-- a key that is wanted for a block, and one that is wanted for no line
+pub same_key : (block : ℕ) (key : Option ℕ) → is_same (Some block) key ≡ is_key block key
+same_key block None = refl
+same_key block (Some other) = refl
+
+pub same_free : (key : Option ℕ) → is_same None key ≡ is_free key
+same_free None = refl
+same_free (Some other) = refl
 
 module _ {M : Type 0} where
   pub length-rows : (keys : List (Option ℕ)) (dirty : List M) → length dirty ≡ length keys →

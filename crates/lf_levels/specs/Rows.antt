@@ -19,6 +19,13 @@ abbrev pub is_key : ℕ → Option ℕ → Bool
 is_key block None = false
 is_key block (Some other) = other == block
 
+-- are both keys of one block, or both of no line?
+abbrev pub is_same : Option ℕ → Option ℕ → Bool
+is_same None None = true
+is_same None (Some other) = false
+is_same (Some block) None = false
+is_same (Some block) (Some other) = other == block
+
 -- This is a place of so many ways from a place on that passes the test, or none of them does.
 abbrev pub FindsWay : {X : Type 0} → (Option X → Bool) → List (Option X) → ℕ → ℕ → Option ℕ → Type 0
 FindsWay test ways from count (Some place) = (from ≤ place) × (place < from + count) ×

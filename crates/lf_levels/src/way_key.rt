@@ -1,7 +1,7 @@
 //! Which block a way has a line on, or that it is free.
 
 ghost use Rattle.std.specs.Prelude.{◌≡◌, Some, None};
-ghost use Rattle.lf_levels.specs.Rows.{is_free, is_key};
+ghost use Rattle.lf_levels.specs.Rows.{is_same};
 
 use std::marker::Model;
 
@@ -44,19 +44,11 @@ impl WayKey {
         }
     }
 
-    /// Whether the way has the line of the block.
+    /// Whether both are on one block, or both are free.
     #[inline(always)]
-    pub fn is_on(self, block: u32) -> bool
-        ensures { result ≡ is_key block self }
+    pub fn is(self, other: WayKey) -> bool
+        ensures { result ≡ is_same other self }
     {
-        self.code == u64::from(block) + 1
-    }
-
-    /// Whether the way is free.
-    #[inline(always)]
-    pub fn is_free(self) -> bool
-        ensures { result ≡ is_free self }
-    {
-        self.code == 0
+        self.code == other.code
     }
 }

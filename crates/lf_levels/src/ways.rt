@@ -2,7 +2,7 @@
 
 ghost use Rattle.std.specs.Prelude.{◌≡◌, ◌+◌, ◌≤◌, length, replicate, None, IfOk};
 ghost use Rattle.std.specs.List.{position};
-ghost use Rattle.lf_levels.specs.Rows.{is_free, is_key, FindsWay};
+ghost use Rattle.lf_levels.specs.Rows.{is_free, is_key, is_same, FindsWay};
 
 use crate::level::Level;
 use crate::way_key::WayKey;
@@ -27,18 +27,23 @@ pub fn clean_ways<L: Level>(alloc: Global, count: usize) -> Result<Vec<L::Dirty>
     Ok(ways)
 }
 
-/// Where among the ways the line of the block is.
-fn line_place(keys: &[WayKey], block: u32) -> Option<usize>
-    ensures { result ≡ position (is_key block) keys.now }
+/// Where among the ways the first of this key is. Each way is looked at, since a search that ends at the first has a
+/// branch that the processor often predicts wrongly.
+fn place_of(keys: &[WayKey], wanted: WayKey) -> Option<usize>
+    ensures { result ≡ position (is_same wanted) keys.now }
 {
-    keys.iter().position(|key| key.is_on(block))
-}
-
-/// Where among the ways the first is free.
-fn free_place(keys: &[WayKey]) -> Option<usize>
-    ensures { result ≡ position is_free keys.now }
-{
-    keys.iter().position(|key| key.is_free())
+    let mut place = keys.len();
+    let mut left = keys.len();
+    while left > 0 {
+        left -= 1;
+        if keys[left].is(wanted) {
+            place = left;
+        }
+    }
+    if place == keys.len() {
+        return None;
+    }
+    Some(place)
 }
 
 /// Which of the row's ways has the line of the block.
@@ -46,7 +51,7 @@ pub fn find_line(keys: &[WayKey], row: usize, ways: usize, block: u32) -> Option
     requires { row + ways ≤ length keys.now }
     ensures { FindsWay (is_key block) keys.now row ways result }
 {
-    match line_place(&keys[row..row + ways], block) {
+    match place_of(&keys[row..row + ways], WayKey::of(block)) {
         Some(way) => Some(row + way),
         None => None,
     }
@@ -57,7 +62,7 @@ pub fn find_free(keys: &[WayKey], row: usize, ways: usize) -> Option<usize>
     requires { row + ways ≤ length keys.now }
     ensures { FindsWay is_free keys.now row ways result }
 {
-    match free_place(&keys[row..row + ways]) {
+    match place_of(&keys[row..row + ways], WayKey::free()) {
         Some(way) => Some(row + way),
         None => None,
     }
