@@ -1,86 +1,104 @@
--- A search for a block among the registers in use, from the lowest bit of their word on.
-use Rattle.std.proofs.Common.{◌≡◌, ℕ, ◌*◌, ◌%◌, ◌^◌, ◌<◌, true, false, ◌&&◌, ◌==◌, List, inl, inr, bit_and}
-use Rattle.std.proofs.Common.{sym, ap, ◌∙◌, arith, eq-eqb, ne_eqb, subst, slice_index}
-use Rattle.std.specs.Int.{bit_at, bit_not, trailing_zeros, w64}
+-- A search for a block among the registers: a bit for each whose block it is, and of these the ones that are in use.
+use Rattle.std.proofs.Common.{◌≡◌, ℕ, zero, suc, ◌+◌, ◌*◌, ◌%◌, ◌^◌, ◌<◌, ◌≤◌, true, false, ◌&&◌, ◌==◌, List}
+use Rattle.std.proofs.Common.{length, inl, inr, min, bit_and, bit_or, refl, sym, ap, ◌∙◌, arith, eq-eqb, ne_eqb, subst, slice_index}
+use Rattle.std.specs.Int.{bit_at, trailing_zeros, w64}
 use Rattle.std.proofs.lemmas.Bool.{cases_eq, cases_lt, both_ways}
+use Rattle.std.proofs.lemmas.Nat.Bits.{bit_at-trailing_zeros, bit_at_set_same, bit_at_set_other, bit_at-zero}
 use Rattle.std.proofs.lemmas.Nat.{and_le_l}
-use Rattle.std.proofs.lemmas.Nat.Bits.{bit_at-trailing_zeros, bit_at_clear_same, bit_at_clear_other, bit_at-zero}
+use Rattle.std.proofs.lemmas.Nat.Bits.{bit_at_and, bit_at-lt}
 use Rattle.lf_rules.specs.Address.{is_under}
 use Rattle.lf_rules.specs.Registers.{Held, holds, holds_in}
 use Rattle.lf_mshr.specs.Bounds.{IsBelow}
 use Rattle.lf_mshr.specs.Index.{IsIndexed}
 use Rattle.lf_mshr.proofs.Indexed.{holds_in-is, unheld}
 
--- the registers that are left are in use, and no other register holds the block
-pub record IsSearching {T : Type 0} (registers used : ℕ) (held : List (Held T)) (block left : ℕ) : Type 0 where
-  pub in_use : (r : ℕ) → r < 64 → is_under left r ≡ true → is_under used r ≡ true
-  pub others : (r : ℕ) → r < registers → is_under left r ≡ false → holds_in held r block ≡ false
+-- a bit is set for each of the first blocks that is this one
+pub record AreMarks (blocks : List ℕ) (block count marks : ℕ) : Type 0 where
+  pub seen : (at : ℕ) → at < count → is_under marks at ≡ (slice_index blocks at == block)
+  pub unseen : (at : ℕ) → count ≤ at → is_under marks at ≡ false
 
-module _ {T : Type 0} (registers used : ℕ) (blocks : List ℕ) (held : List (Held T))
-    (index : IsIndexed registers used blocks held) (block : ℕ) where
-  pub searching-start : IsSearching registers used held block used
-  searching-start = record {
-    in_use = λ r low e. e;
-    others = λ r below none. sym (holds_in-is registers used blocks held index r block below)
-        ∙ ap (λ b. b && slice_index blocks r == block) none;
+module _ (blocks : List ℕ) (block : ℕ) where
+  pub marks-none : AreMarks blocks block 0 0
+  marks-none = record {
+    seen = λ at lt. absurd (omega (arith, lt));
+    unseen = λ at le. ap (λ n. n == 1) (bit_at-zero at);
   }
 
-  pub searching-end : IsBelow registers held → IsSearching registers used held block 0 → holds held block ≡ false
-  searching-end below search = unheld registers held below block
-      (λ r lt. search.others r lt (ap (λ n. n == 1) (bit_at-zero r)))
+  module _ (count marks : ℕ) (are : AreMarks blocks block count marks) where
+    pub marks-other : (slice_index blocks count ≡ block → ⊥) → AreMarks blocks block (count + 1) marks
+    marks-other ne = record {
+      seen = λ at lt. elim (cases_eq at count) [
+        | inl e ↦ are.unseen at (omega (arith, e))
+            ∙ sym (subst (λ k. (slice_index blocks k == block) ≡ false) (sym e)
+            (ne_eqb (slice_index blocks count) block ne))
+        | inr other ↦ are.seen at (omega (arith, lt, other))
+      ];
+      unseen = λ at le. are.unseen at (omega (arith, le));
+    }
 
-  -- the lowest register that is left
-  module _ (left : ℕ) (search : IsSearching registers used held block left) (some : left ≡ 0 → ⊥)
-      (fits : left < 2 ^ 64) where
+    pub marks-one : count < 64 → slice_index blocks count ≡ block →
+        AreMarks blocks block (count + 1) (bit_or marks (1 * 2 ^ count % 2 ^ 64))
+    marks-one low is = record {
+      seen = λ at lt. elim (cases_eq at count) [
+        | inl e ↦ subst (λ k. is_under (bit_or marks (1 * 2 ^ count % 2 ^ 64)) k ≡ (slice_index blocks k == block))
+            (sym e) (ap (λ n. n == 1) (bit_at_set_same w64 marks count low)
+            ∙ sym (eq-eqb (slice_index blocks count) block is))
+        | inr other ↦ ap (λ n. n == 1) (bit_at_set_other w64 marks count low at other)
+            ∙ are.seen at (omega (arith, lt, other))
+      ];
+      unseen = λ at le. ap (λ n. n == 1) (bit_at_set_other w64 marks count low at (λ e. omega (arith, le, e)))
+          ∙ are.unseen at (omega (arith, le));
+    }
+
+min_one : (a b : ℕ) → a < 2 → b < 2 → (min a b == 1) ≡ ((b == 1) && (a == 1))
+min_one zero zero l m = refl
+min_one zero (suc zero) l m = refl
+min_one (suc zero) zero l m = refl
+min_one (suc zero) (suc zero) l m = refl
+min_one (suc (suc a)) b l m = absurd (omega (arith, l))
+min_one zero (suc (suc b)) l m = absurd (omega (arith, m))
+min_one (suc zero) (suc (suc b)) l m = absurd (omega (arith, m))
+
+both_under : (a b at : ℕ) → is_under (bit_and a b) at ≡ (is_under b at && is_under a at)
+both_under a b at =
+    ap (λ n. n == 1) (bit_at_and a b at) ∙ min_one (bit_at a at) (bit_at b at) (bit_at-lt a at) (bit_at-lt b at)
+
+module _ {T : Type 0} (registers used : ℕ) (blocks : List ℕ) (held : List (Held T))
+    (index : IsIndexed registers used blocks held) (block marks : ℕ) (shown : List ℕ) (same : shown ≡ blocks)
+    (are : (r : ℕ) → r < length shown → is_under marks r ≡ (slice_index shown r == block)) where
+  abbrev holding : ℕ
+  holding = bit_and marks used
+
+  of_block : (r : ℕ) → r < registers → is_under marks r ≡ (slice_index blocks r == block)
+  of_block r below =
+      let long = index.long in
+      are r (omega (arith, below, long, ap length same)) ∙ ap (λ xs. slice_index xs r == block) same
+
+  under_is : (r : ℕ) → r < registers → is_under holding r ≡ holds_in held r block
+  under_is r below =
+      both_under marks used r ∙ ap (λ b. is_under used r && b) (of_block r below)
+      ∙ holds_in-is registers used blocks held index r block below
+
+  pub found-none : IsBelow registers held → holding ≡ 0 → holds held block ≡ false
+  found-none below none = unheld registers held below block
+      (λ r lt. sym (under_is r lt) ∙ ap (λ n. is_under n r) none ∙ ap (λ n. n == 1) (bit_at-zero r))
+
+  module _ (some : holding ≡ 0 → ⊥) (fits : marks < 2 ^ 64) where
     abbrev lowest : ℕ
-    lowest = trailing_zeros w64 left
+    lowest = trailing_zeros w64 holding
 
-    abbrev less : ℕ
-    less = bit_and left (bit_not w64 (1 * 2 ^ lowest % 2 ^ 64))
+    bit : (lowest < 64) × (bit_at holding lowest ≡ 1) × ((i : ℕ) → i < lowest → bit_at holding i ≡ 0)
+    bit = bit_at-trailing_zeros w64 holding (omega (arith, some)) (omega (arith, fits, and_le_l marks used))
 
-    bit : (lowest < 64) × (bit_at left lowest ≡ 1) × ((i : ℕ) → i < lowest → bit_at left i ≡ 0)
-    bit = bit_at-trailing_zeros w64 left (omega (arith, some)) fits
+    is_set : is_under holding lowest ≡ true
+    is_set = ap (λ n. n == 1) bit.1
 
-    used-lowest : is_under used lowest ≡ true
-    used-lowest = search.in_use lowest bit.0 (ap (λ n. n == 1) bit.1)
-
-    pub lowest-lt : lowest < registers
-    lowest-lt = elim (cases_lt lowest registers) [
+    pub found-below : lowest < registers
+    found-below = elim (cases_lt lowest registers) [
       | inl lt ↦ lt
-      | inr le ↦ absurd (both_ways (is_under used lowest) (index.no_others lowest le bit.0) used-lowest)
+      | inr le ↦ absurd (both_ways (is_under holding lowest) (both_under marks used lowest
+          ∙ ap (λ b. b && is_under marks lowest) (index.no_others lowest le bit.0)) is_set)
     ]
 
-    lowest-is : (slice_index blocks lowest == block) ≡ holds_in held lowest block
-    lowest-is = sym (ap (λ b. b && slice_index blocks lowest == block) used-lowest)
-        ∙ holds_in-is registers used blocks held index lowest block lowest-lt
-
-    pub lowest-holds : slice_index blocks lowest ≡ block → holds_in held lowest block ≡ true
-    lowest-holds e = sym lowest-is ∙ eq-eqb (slice_index blocks lowest) block e
-
-    pub less-lt : less < left
-    less-lt =
-        let le = and_le_l left (bit_not w64 (1 * 2 ^ lowest % 2 ^ 64)) in
-        elim (cases_eq less left) [
-          | inl e ↦
-              let gone = bit_at_clear_same w64 left lowest bit.0 in
-              let there = ap (λ n. bit_at n lowest) e in
-              absurd (omega (arith, gone, there, bit.1))
-          | inr ne ↦ omega (arith, le, ne)
-        ]
-
-    -- the search goes on without it
-    pub searching-on : (slice_index blocks lowest ≡ block → ⊥) → IsSearching registers used held block less
-    searching-on other = record {
-      in_use = λ r low e. elim (cases_eq r lowest) [
-        | inl same ↦ subst (λ k. is_under used k ≡ true) (sym same) used-lowest
-        | inr ne ↦ search.in_use r low (sym (kept r low ne) ∙ e)
-      ];
-      others = λ r below e. elim (cases_eq r lowest) [
-        | inl same ↦ subst (λ k. holds_in held k block ≡ false) (sym same)
-            (sym lowest-is ∙ ne_eqb (slice_index blocks lowest) block other)
-        | inr ne ↦ search.others r below (sym (kept r (let w = index.word in omega (arith, below, w)) ne) ∙ e)
-      ];
-    }
-      where
-        kept : (r : ℕ) → r < 64 → (r ≡ lowest → ⊥) → is_under less r ≡ is_under left r
-        kept r low ne = ap (λ n. n == 1) (bit_at_clear_other w64 left lowest bit.0 r low ne)
+    pub found-holds : holds_in held lowest block ≡ true
+    found-holds = sym (under_is lowest found-below) ∙ is_set
