@@ -3,5 +3,6 @@ pub mod Bytes
 pub mod Finds
 pub mod Masked
 pub mod NearBlocks
+pub mod NearKeyed
 pub mod NearWider
 pub mod TwoParts

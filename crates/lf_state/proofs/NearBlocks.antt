@@ -1,10 +1,9 @@
 -- The blocks of a table, looked up by their numbers.
 use Rattle.std.proofs.Common.{◌≡◌, ℕ, ◌+◌, ◌<◌, ◌≤◌, zero, suc, Bool, true, false, cond, List, []}
-use Rattle.std.proofs.Common.{◌∷◌, ◌++◌, length, get_or, Option, Some, None, refl, sym, ap, ◌∙◌, ⊎_elim, arith, subst}
-use Rattle.std.proofs.Common.{set, get_or-set_same, get_or-set_other, length-set, eq-eqb, eqb-true, ne_eqb, replicate}
+use Rattle.std.proofs.Common.{◌∷◌, ◌++◌, length, get_or, Option, Some, None, refl, sym, ap, ◌∙◌, ⊎_elim, arith}
+use Rattle.std.proofs.Common.{set, get_or-set_same, get_or-set_other, length-set, eq-eqb, eqb-true, ne_eqb}
 use Rattle.std.specs.Prelude.{nat_eq}
 use Rattle.std.specs.Map.{lookup}
-use Rattle.std.proofs.lemmas.List.{get_or_read, set-get_or}
 use Rattle.std.proofs.lemmas.Bool.{cases_eq, cond-true, cond-false}
 use Rattle.lf_state.specs.Near.{place_in, blocks_in, IsTable}
 
@@ -92,27 +91,11 @@ count_within [] = omega arith
 count_within (None ∷ places) = omega (arith, count_within places)
 count_within (Some x ∷ places) = omega (arith, count_within places)
 
-pub within_places : (places : List (Option (ℕ × List ℕ))) (i : ℕ) (b : ℕ × List ℕ) → get_or places i None ≡ Some b →
-    i < length places
-within_places [] i b is = absurd (cc)
-within_places (p ∷ places) zero b is = omega arith
-within_places (p ∷ places) (suc i) b is = omega (arith, within_places places i b is)
-
 -- one place has one number
 pub same_number : (a b : ℕ × List ℕ) → Some a ≡ Some b → a.0 ≡ b.0
 same_number a b e = let same : a ≡ b = cc in ap (λ (x : ℕ × List ℕ). x.0) same
 
-pub no_blocks : (n : ℕ) → blocks_in (replicate n None) ≡ []
-no_blocks zero = refl
-no_blocks (suc n) = no_blocks n
-
 -- ---- a table
-
--- a block's place, by the length of the table
-pub leads_to : {count long i : ℕ} (spread : ℕ) (places : List (Option (ℕ × List ℕ))) (block : ℕ) →
-    long ≡ length places → count ≡ long → i ≡ place_in spread count block
-    → i ≡ place_in spread (length places) block
-leads_to spread places block whole all is = is ∙ ap (λ n. place_in spread n block) (all ∙ whole)
 
 -- The table has the block's place, and this stands there.
 pub record IsAtPlace (spread : ℕ) (places : List (Option (ℕ × List ℕ))) (block i : ℕ) (o : Option (ℕ × List ℕ))
@@ -120,17 +103,6 @@ pub record IsAtPlace (spread : ℕ) (places : List (Option (ℕ × List ℕ))) (
   pub leads : i ≡ place_in spread (length places) block
   pub within : i < length places
   pub here : get_or places i None ≡ o
-
-pub at_place : {count end long i : ℕ} {o : Option (ℕ × List ℕ)} (spread : ℕ) (places : List (Option (ℕ × List ℕ)))
-    (block : ℕ) → long ≡ length places → count ≡ long → end ≡ long → i ≡ place_in spread count block →
-    i < end → o ≡ get_or places i o → IsAtPlace spread places block i o
-at_place {i = i} {o = o} spread places block whole all same is inside read =
-    let below : i < length places = omega (arith, whole, same, inside) in
-    record {
-      leads = leads_to spread places block whole all is;
-      within = below;
-      here = sym (get_or_read places i o below read None);
-    }
 
 module _ (spread used : ℕ) (places : List (Option (ℕ × List ℕ))) (table : IsTable spread used places) where
   -- what is not at its place is nowhere
@@ -198,19 +170,3 @@ module _ (spread used : ℕ) (places : List (Option (ℕ × List ℕ))) (table :
       → at q (blocks_in (set places i (Some b))) ≡ cond (nat_eq b.0 q) (Some b.1) (at q (blocks_in places))
   after_same c taken own = after_put used (same_table c taken)
       (λ d is. same_number d c (sym is ∙ put.here ∙ taken) ∙ own)
-
--- a place that was written, or left as it was
-module _ (spread used : ℕ) (places : List (Option (ℕ × List ℕ))) (table : IsTable spread used places) (i block : ℕ)
-    (o : Option (ℕ × List ℕ)) (put : IsAtPlace spread places block i o) where
-  pub left_places : (p : Option (ℕ × List ℕ)) → p ≡ o → set places i p ≡ places
-  left_places p same = ap (set places i) (same ∙ sym put.here) ∙ set-get_or places i None
-
-  pub rewritten_table : (b : Bool) (p : Option (ℕ × List ℕ))
-      → (b ≡ true → (was : List ℕ) × ((bytes : List ℕ) × ((o ≡ Some (block, was)) × (p ≡ Some (block, bytes)))))
-      → ((b ≡ true → ⊥) → p ≡ o) → IsTable spread used (set places i p)
-  rewritten_table true p here other =
-      let h = here refl in
-      subst (λ (q : Option (ℕ × List ℕ)). IsTable spread used (set places i q)) (sym h.1.1.1)
-      (same_table spread used places table i (block, h.1.0) o put (block, h.0) h.1.1.0)
-  rewritten_table false p here other =
-      subst (IsTable spread used) (sym (left_places p (other (λ e. absurd (cc))))) table

@@ -1,12 +1,12 @@
 //! Blocks that stand at their places in a table.
 
-ghost use Rattle.std.specs.Prelude.{◌≡◌, ℕ, ◌+◌, ◌<◌, ◌≤◌, ◌^◌, IsTrue, Some, None, List, [], length, nat_eq};
+ghost use Rattle.std.specs.Prelude.{◌≡◌, ℕ, ◌+◌, ◌<◌, ◌≤◌, ◌^◌, ◌↔◌, IsTrue, Some, None, List, [], length, nat_eq};
 ghost use Rattle.std.specs.Prelude.{slice_index, slice_index_or, option_copied, IfOk};
 ghost use Rattle.std.specs.Map.{lookup};
 ghost use Rattle.lf_state.specs.Bytes.{put};
-ghost use Rattle.lf_state.specs.Near.{blocks_in, goes_second, place_in, IsTable, IsWith};
+ghost use Rattle.lf_state.specs.Near.{blocks_in, places_of, twice, goes_second, place_in, IsKeyedTable, IsWith};
 
-use crate::padded::{Bytes, put};
+use crate::padded::{Bytes, ZEROS, put};
 use lf_rules::NoMemory;
 use std::alloc::Global;
 use std::marker::Model;
@@ -20,28 +20,28 @@ const PLACES_OF_A_BLOCK: usize = 2;
 /// A table of more places grows no more.
 const MOST_PLACES: usize = 1 << 31;
 
-/// A block with its bytes, or none.
-type Place = Option<(u32, Bytes)>;
-
 /// Blocks with their bytes, each at the place that its number says.
 #[derive(Drop)]
 pub struct Near {
     alloc: Global,
     /// A block's number is multiplied by this.
     spread: u32,
-    places: Vec<Place>,
+    /// Which block stands at each place. They are apart from the bytes, so that many fit into the processor's cache.
+    keys: Vec<Option<u32>>,
+    /// The bytes of the block at each place. Where no block stands, they have no meaning.
+    bytes: Vec<Bytes>,
     used: usize,
 }
 
 impl Model for Near {
     ghost use Rattle.std.specs.Prelude.{ℕ, List};
-    ghost use Rattle.lf_state.specs.Near.{blocks_in, IsTable};
+    ghost use Rattle.lf_state.specs.Near.{blocks_in, places_of, IsKeyedTable};
 
     ghost Value = { List (ℕ × List ℕ) };
 
-    ghost view = { λ n. blocks_in n.places.items };
+    ghost view = { λ n. blocks_in (places_of n.keys.items n.bytes.items) };
 
-    ghost invariant = { λ n. IsTable n.spread n.used n.places.items };
+    ghost invariant = { λ n. IsKeyedTable n.spread n.used n.keys.items n.bytes.items };
 }
 
 /// The place of a block in a table of so many places.
@@ -55,64 +55,63 @@ fn place_in(spread: u32, count: usize, block: u32) -> usize
     (u64::from(mixed) * count as u64 >> 32) as usize
 }
 
-/// What stands at a place, if there is such a place and a block stands there.
+/// Whether this block stands at a place.
 #[inline(always)]
-fn entry_at(places: &[Place], at: usize) -> Option<&(u32, Bytes)>
-    ensures { option_copied result ≡ slice_index_or places.now at None }
+fn stands_at(keys: &[Option<u32>], place: usize, block: u32) -> bool
+    ensures { IsTrue result ↔ (slice_index_or keys.now place None ≡ Some block) }
 {
-    match places.get(at)? {
-        Some(entry) => Some(entry),
-        None => None,
+    match keys.get(place) {
+        Some(Some(key)) => *key == block,
+        _ => false,
     }
-}
-
-/// Puts new bytes into the block that stands at a place, if it is this one, and says whether it is.
-#[inline(always)]
-fn rewrite(place: &mut Place, block: u32, offset: usize, new: &[u8]) -> bool
-    requires { offset + length new.now ≤ 64 }
-    ensures here { IsTrue result → (was : List ℕ) × ((bytes : List ℕ) × ((place.old ≡ Some (block, was))
-        × (place.new ≡ Some (block, bytes)) × (slice_index bytes ≡ put (slice_index was) offset new.now))) }
-    ensures other { ¬ IsTrue result → (place.new ≡ place.old)
-        × ((e : ℕ × List ℕ) → place.old ≡ Some e → ¬ (e.0 ≡ block)) }
-{
-    let Some(entry) = place else {
-        return false;
-    };
-    if entry.0 != block {
-        return false;
-    }
-    put(&mut entry.1, offset, new);
-    true
 }
 
 /// Whether a block goes to the second of the two places that its place becomes in a table of so many.
-fn goes_second(spread: u32, count: usize, place: &Place) -> bool
+fn goes_second(spread: u32, count: usize, key: Option<u32>) -> bool
     requires { count ≤ 2 ^ 32 }
-    ensures { result ≡ goes_second spread count place.now }
+    ensures { result ≡ goes_second spread count key }
 {
-    match place {
-        Some(entry) => place_in(spread, count, entry.0) % 2 == 1,
+    match key {
+        Some(block) => place_in(spread, count, block) % 2 == 1,
         None => false,
     }
 }
 
-/// A table of twice as many places for the same blocks.
-fn widened(alloc: Global, spread: u32, places: &[Place]) -> Result<Vec<Place>, NoMemory>
-    requires { length places.now ≤ 2 ^ 31 }
-    ensures same { IfOk result (λ wider. blocks_in wider.items ≡ blocks_in places.now) }
-    ensures table { (used : ℕ) → IsTable spread used places.now →
-        IfOk result (λ wider. IsTable spread used wider.items) }
+/// The keys of a table of twice as many places for the same blocks. Both places that one becomes have its bytes.
+fn widened_keys(
+    alloc: Global,
+    spread: u32,
+    keys: &[Option<u32>],
+) -> Result<Vec<Option<u32>>, NoMemory>
+    requires { length keys.now ≤ 2 ^ 31 }
+    ensures same { (bytes : List (List ℕ)) → IfOk result (λ wider.
+        blocks_in (places_of wider.items (twice bytes)) ≡ blocks_in (places_of keys.now bytes)) }
+    ensures table { (used : ℕ) (bytes : List (List ℕ)) → IsKeyedTable spread used keys.now bytes →
+        IfOk result (λ wider. IsKeyedTable spread used wider.items (twice bytes)) }
 {
-    let count = 2 * places.len();
+    let count = 2 * keys.len();
     let mut wider = Vec::with_capacity(alloc, count)?;
-    for place in places {
-        if goes_second(spread, count, place) {
+    for key in keys {
+        if goes_second(spread, count, *key) {
             wider.push(None)?;
-            wider.push(*place)?;
+            wider.push(*key)?;
         } else {
-            wider.push(*place)?;
+            wider.push(*key)?;
             wider.push(None)?;
         }
+    }
+    Ok(wider)
+}
+
+/// The bytes of a table of twice as many places: those of each place, for both places that it becomes.
+fn widened_bytes(alloc: Global, bytes: &[Bytes]) -> Result<Vec<Bytes>, NoMemory>
+    requires { length bytes.now ≤ 2 ^ 31 }
+    ensures { IfOk result (λ wider. wider.items ≡ twice bytes.now) }
+{
+    let mut wider = Vec::with_capacity(alloc, 2 * bytes.len())?;
+    for one in bytes {
+        wider.push(*one)?;
+        wider.push(*one)?;
     }
     Ok(wider)
 }
@@ -125,7 +124,8 @@ impl Near {
         Near {
             alloc,
             spread,
-            places: Vec::new(alloc),
+            keys: Vec::new(alloc),
+            bytes: Vec::new(alloc),
             used: 0,
         }
     }
@@ -135,10 +135,9 @@ impl Near {
     pub fn get(&self, block: u32) -> Option<&Bytes>
         ensures { option_copied result ≡ lookup (nat_eq block) self.now }
     {
-        let place = place_in(self.spread, self.places.len(), block);
-        let entry = entry_at(&self.places, place)?;
-        if entry.0 == block {
-            Some(&entry.1)
+        let place = place_in(self.spread, self.keys.len(), block);
+        if stands_at(&self.keys, place, block) {
+            Some(&self.bytes[place])
         } else {
             None
         }
@@ -152,11 +151,12 @@ impl Near {
             × IsWith self.old block bytes self.new)) }
         ensures absent { ¬ IsTrue result → (self.new ≡ self.old) × (lookup (nat_eq block) self.old ≡ None) }
     {
-        let place = place_in(self.spread, self.places.len(), block);
-        if place >= self.places.len() {
+        let place = place_in(self.spread, self.keys.len(), block);
+        if !stands_at(&self.keys, place, block) {
             return false;
         }
-        rewrite(&mut self.places[place], block, offset, new)
+        put(&mut self.bytes[place], offset, new);
+        true
     }
 
     /// Makes the first table, or a wider one where the block's place is taken and enough places are used. It says
@@ -164,17 +164,23 @@ impl Near {
     pub fn make_room(&mut self, block: u32) -> Result<bool, NoMemory>
         ensures { self.new ≡ self.old }
     {
-        let count = self.places.len();
+        let count = self.keys.len();
         if count == 0 {
-            self.places = vec![in self.alloc; None; FIRST_PLACES]?;
+            let keys = vec![in self.alloc; None; FIRST_PLACES]?;
+            let bytes = vec![in self.alloc; ZEROS; FIRST_PLACES]?;
+            self.keys = keys;
+            self.bytes = bytes;
             return Ok(false);
         }
         let place = place_in(self.spread, count, block);
-        if self.places[place].is_some()
+        if self.keys[place].is_some()
             && count / PLACES_OF_A_BLOCK <= self.used
             && count <= MOST_PLACES
         {
-            self.places = widened(self.alloc, self.spread, &self.places)?;
+            let keys = widened_keys(self.alloc, self.spread, &self.keys)?;
+            let bytes = widened_bytes(self.alloc, &self.bytes)?;
+            self.keys = keys;
+            self.bytes = bytes;
             return Ok(true);
         }
         Ok(false)
@@ -185,16 +191,17 @@ impl Near {
         ensures added { IsTrue result → IsWith self.old block bytes self.new }
         ensures other { ¬ IsTrue result → (self.new ≡ self.old) × (lookup (nat_eq block) self.old ≡ None) }
     {
-        let place = place_in(self.spread, self.places.len(), block);
-        if place >= self.places.len() {
+        let place = place_in(self.spread, self.keys.len(), block);
+        if place >= self.keys.len() {
             return false;
         }
-        match &self.places[place] {
-            Some(entry) if entry.0 != block => return false,
+        match self.keys[place] {
+            Some(key) if key != block => return false,
             Some(_) => {}
             None => self.used += 1,
         }
-        self.places[place] = Some((block, bytes));
+        self.keys[place] = Some(block);
+        self.bytes[place] = bytes;
         true
     }
 }

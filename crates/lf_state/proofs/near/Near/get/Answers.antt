@@ -1,34 +1,30 @@
-use Rattle.std.proofs.Common.{ℕ, List, get_or, Option, None, ◌∙◌, sym, ap}
-use Rattle.std.specs.Prelude.{option_copied}
-use Rattle.lf_state.proofs.NearBlocks.{at, is_there, leads_to, not_there}
+use Rattle.std.proofs.Common.{ℕ, List, get_or, Option, Some, None, ◌∙◌, sym, ap, refl, arith}
+use Rattle.lf_state.proofs.NearBlocks.{at}
+use Rattle.lf_state.proofs.NearKeyed.{elsewhere, few, here, leads_to}
 use Rattle.lf_state.proofs.near.Near.get.Goals as goal
 
-pub returns-then-entry-block : goal.returns-then-entry-block
-returns-then-entry-block c =
+pub place_in-place-requires : goal.place_in-place-requires
+place_in-place-requires c =
     let n = c.self.inside in
-    sym (ap (at c.args.block) (sym c.self.view_is) ∙ is_there n.spread n.used n.places.items c.self.invariant
-    c.args.block c.place_in-place.result c.in_ok-entry.entry.now
-    (ap (λ (ps : List (Option (ℕ × List ℕ))). get_or ps c.place_in-place.result None) (sym c.deref.ensures.value)
-    ∙ sym c.entry_at.ensures ∙ ap option_copied c.in_ok-entry.was)
-    c.if-entry-block.true)
+    omega (arith, few n.spread n.used n.keys.items n.bytes.items c.self.invariant, n.keys.ok.0, c.len.ensures)
 
-pub returns-in_err-entry : goal.returns-in_err-entry
-returns-in_err-entry c =
+pub returns-then-stands_at : goal.returns-then-stands_at
+returns-then-stands_at c =
     let n = c.self.inside in
-    ap option_copied c.from_residual.ensures
-    ∙ sym (ap (at c.args.block) (sym c.self.view_is) ∙ not_there n.spread n.used n.places.items c.self.invariant
-    c.args.block c.place_in-place.result None
-    (leads_to n.spread n.places.items c.args.block n.places.ok.0 c.len.ensures c.place_in-place.ensures.value)
-    (ap (λ (ps : List (Option (ℕ × List ℕ))). get_or ps c.place_in-place.result None) (sym c.deref.ensures.value)
-    ∙ sym c.in_err-entry.ensures)
-    (λ b is own. absurd (cc)))
+    let i = c.place_in-place.result in
+    sym (ap (at c.args.block) (sym c.self.view_is)
+    ∙ here n.spread n.used n.keys.items n.bytes.items c.self.invariant c.args.block i
+    (leads_to n.spread n.keys.items c.args.block n.keys.ok.0 c.len.ensures c.place_in-place.ensures.value)
+    c.index.result.now
+    (ap (λ (ks : List (Option ℕ)). get_or ks i None) (sym c.deref.ensures.value) ∙ c.if-stands_at.ensures.0 refl)
+    ∙ ap Some (sym c.index.ensures))
 
-pub returns-else-entry-block : goal.returns-else-entry-block
-returns-else-entry-block c =
+pub returns-else-stands_at : goal.returns-else-stands_at
+returns-else-stands_at c =
     let n = c.self.inside in
-    sym (ap (at c.args.block) (sym c.self.view_is) ∙ not_there n.spread n.used n.places.items c.self.invariant
-    c.args.block c.place_in-place.result _
-    (leads_to n.spread n.places.items c.args.block n.places.ok.0 c.len.ensures c.place_in-place.ensures.value)
-    (ap (λ (ps : List (Option (ℕ × List ℕ))). get_or ps c.place_in-place.result None) (sym c.deref.ensures.value)
-    ∙ sym c.entry_at.ensures ∙ ap option_copied c.in_ok-entry.was)
-    (λ b is own. c.if-entry-block.false (cc)))
+    let i = c.place_in-place.result in
+    sym (ap (at c.args.block) (sym c.self.view_is)
+    ∙ elsewhere n.spread n.used n.keys.items n.bytes.items c.self.invariant c.args.block i
+    (leads_to n.spread n.keys.items c.args.block n.keys.ok.0 c.len.ensures c.place_in-place.ensures.value)
+    (λ taken. let no = c.if-stands_at.ensures.1
+    (ap (λ (ks : List (Option ℕ)). get_or ks i None) c.deref.ensures.value ∙ taken) in absurd (cc)))
