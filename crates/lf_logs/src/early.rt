@@ -11,7 +11,7 @@ ghost use Rattle.lf_logs.specs.Reordering.{if_given};
 
 use crate::kept::Kept;
 use crate::short_key::ShortKey;
-use lf_rules::{NoMemory, Record};
+use lf_rules::{NoMemory, Record, wide_remainder};
 use slab::Slab;
 use std::alloc::Global;
 use std::collections::BTreeMap;
@@ -47,6 +47,15 @@ impl Model for Early {
     ghost invariant = { λ e. IsTable e.places.items e.kept.slots };
 }
 
+/// The place of a number in a table of so many places.
+#[inline(always)]
+fn place_of(number: u32, count: usize) -> usize
+    requires { 0 < count }
+    ensures { result ≡ number % count }
+{
+    wide_remainder(u64::from(number), count as u64) as usize
+}
+
 /// The key of the record of this number, where the table has one.
 fn key_of(places: &[ShortKey], kept: &Slab<Kept>, number: u32) -> Option<usize>
     requires { IsTable places.now kept.now.slots }
@@ -59,7 +68,7 @@ fn key_of(places: &[ShortKey], kept: &Slab<Kept>, number: u32) -> Option<usize>
     if places.is_empty() {
         return None;
     }
-    let key = places[number as usize % places.len()].get()?;
+    let key = places[place_of(number, places.len())].get()?;
     match kept.get(key) {
         Some(item) if item.number() == number => Some(key),
         _ => None,
@@ -76,7 +85,7 @@ fn widened(alloc: Global, places: &[ShortKey], kept: &Slab<Kept>) -> Result<Vec<
     let mut wider = vec![in alloc; ShortKey::none(); 2 * places.len()]?;
     for place in places {
         if let Some(key) = place.get() {
-            let to = kept[key].number() as usize % wider.len();
+            let to = place_of(kept[key].number(), wider.len());
             wider[to] = *place;
         }
     }
@@ -100,7 +109,7 @@ fn make_room(
         *places = first;
         return Ok(());
     }
-    if !places[number as usize % places.len()].is_none()
+    if !places[place_of(number, places.len())].is_none()
         && places.len() / PLACES_OF_A_RECORD < kept.len()
     {
         *places = widened(alloc, places, kept)?;
@@ -146,7 +155,7 @@ impl Early {
         let number = item.number;
         make_room(self.alloc, &mut self.places, &self.kept, number)?;
         let waiting = Kept::new(self.alloc, item)?;
-        let place = number as usize % self.places.len();
+        let place = place_of(number, self.places.len());
         if self.places[place].is_none() && self.kept.vacant_key() <= ShortKey::MOST {
             let key = self.kept.insert(waiting)?;
             self.places[place] = ShortKey::of(key);
@@ -171,7 +180,7 @@ impl Early {
             waiting.put_into(item);
             return true;
         };
-        let place = number as usize % self.places.len();
+        let place = place_of(number, self.places.len());
         self.places[place] = ShortKey::none();
         self.kept.remove(key).put_into(item);
         true

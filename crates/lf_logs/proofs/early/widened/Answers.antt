@@ -35,14 +35,15 @@ loop-place-preserved c =
     elim c.match-get.branch [
       | in-Some w ↦
           let len : w.len.result ≡ length c.loop-place.wider.items = w.len.ensures ∙ c.loop-place.wider.ok.0 in
-          let to = w.number.result % w.len.result in
+          let to = w.place_of-to.result in
           rw w.wider-is
           (subst
           (λ (key : Option ℕ). IsWidened places c.args.kept.now.slots (set c.loop-place.wider.items to key) (at + 1))
           (sym (sym c.get.ensures ∙ w.in-Some.is))
           (IsWidened-more places c.args.kept.now.slots c.requires.table c.loop-place.wider.items at w.in-Some.key to
           w.index.result.now (omega (arith, c.loop-place.invariant.len)) (is ∙ w.in-Some.is) w.index.ensures
-          (ap (λ n. n % w.len.result) w.number.ensures ∙ ap (λ n. w.index.result.now.number % n) len)
+          (w.place_of-to.ensures ∙ ap (λ n. n % w.len.result) w.number.ensures
+          ∙ ap (λ n. w.index.result.now.number % n) len)
           c.loop-place.invariant))
       | in_default w ↦ rw w.wider-is
           (IsWidened-skip places c.args.kept.now.slots c.requires.table c.loop-place.wider.items at

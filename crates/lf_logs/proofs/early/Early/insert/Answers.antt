@@ -16,18 +16,18 @@ invariant_of-self-then-vacant_key-le-MOST c =
     let len : c.len.result ≡ length places.items = c.len.ensures ∙ places.ok.0 in
     let some : 0 < length places.items = omega (arith, c.in_ok-make_room.ensures.some, places.ok.0) in
     let none : c.index.result.now ≡ None = c.is_none.ensures.0 c.if-is_none.true in
-    let below : c.args.item.now.number % c.len.result < length places.items =
-    omega (arith, mod_below c.args.item.now.number c.len.result (omega arith)) in
-    let free : get_or places.items (c.args.item.now.number % c.len.result) None ≡ None =
+    let place = c.place_of-place.result in
+    let below : place < length places.items =
+    omega (arith, c.place_of-place.ensures, mod_below c.args.item.now.number c.len.result (omega arith)) in
+    let free : get_or places.items place None ≡ None =
     sym (get_or_read places.items _ _ below c.index.ensures None) ∙ none in
     let updates : Updates c.self.inside.kept c.insert.new.self c.in_ok-key.key (Some c.args.item.now) =
     subst (λ (r : Record). Updates c.self.inside.kept c.insert.new.self c.in_ok-key.key (Some r))
     c.in_ok-waiting.ensures c.in_ok-key.ensures.updates in
-    let place = c.args.item.now.number % c.len.result in
     subst (λ (key : Option ℕ). IsTable (set places.items place key) c.insert.new.self.slots) (sym c.of.ensures)
     (IsTable-insert places.items c.self.inside.kept c.insert.new.self c.in_ok-make_room.ensures.table place
     c.in_ok-key.key c.args.item.now
-    (ap (λ n. c.args.item.now.number % n) len) some free c.in_ok-key.ensures.was_vacant updates)
+    (c.place_of-place.ensures ∙ ap (λ n. c.args.item.now.number % n) len) some free c.in_ok-key.ensures.was_vacant updates)
 
 pub returns-then-vacant_key-le-MOST-clause-own : goal.returns-then-vacant_key-le-MOST-clause-own
 returns-then-vacant_key-le-MOST-clause-own c =
@@ -44,7 +44,7 @@ returns-then-vacant_key-le-MOST-clause-others c k other =
     c.in_ok-key.ensures.updates in
     lookup-parts k e.kept.slots c.insert.new.self.slots e.rest.entries e.rest.entries
     (others-insert c.make_room.new.places.items e.kept c.insert.new.self c.in_ok-make_room.ensures.table
-    (c.args.item.now.number % c.len.result) c.in_ok-key.key c.args.item.now _
+    c.place_of-place.result c.in_ok-key.key c.args.item.now _
     (invariant_of-self-then-vacant_key-le-MOST c) c.in_ok-key.ensures.was_vacant updates k other)
     refl
     ∙ ap (at k) c.self.view_is

@@ -36,10 +36,11 @@ invariant_of-self-2 c =
     let leads : get_or e.places.items (c.args.number % length e.places.items) None ≡ Some c.in-Some.key =
     subst (λ (ps : List (Option ℕ)). get_or ps (c.args.number % length ps) None ≡ Some c.in-Some.key)
     c.deref.ensures.value c.in-Some.ensures.some in
-    let place = c.args.number % c.len.result in
+    let place = c.place_of-place.result in
     subst (λ (key : Option ℕ). IsTable (set e.places.items place key) c.remove-2.new.self.slots) (sym c.none.ensures)
     (IsTable-remove e.places.items e.kept c.remove-2.new.self c.self.invariant place c.in-Some.key
-    (ap (λ n. get_or e.places.items (c.args.number % n) None) (sym same_len) ∙ leads) c.remove-2.ensures.updates)
+    (ap (λ n. get_or e.places.items n None)
+    (c.place_of-place.ensures ∙ ap (λ n. c.args.number % n) (sym same_len)) ∙ leads) c.remove-2.ensures.updates)
 
 pub returns-clause-value : goal.returns-clause-value
 returns-clause-value c =
@@ -57,7 +58,7 @@ returns-clause-others c k other =
     let e = c.self.inside in
     let r = c.in-Some.ensures.number in
     lookup-parts k e.kept.slots c.remove-2.new.self.slots e.rest.entries e.rest.entries
-    (others-remove e.places.items e.kept c.remove-2.new.self c.self.invariant (c.args.number % c.len.result)
+    (others-remove e.places.items e.kept c.remove-2.new.self c.self.invariant c.place_of-place.result
     c.in-Some.key r.0 _ (invariant_of-self-2 c) r.1.0 c.remove-2.ensures.updates k
     (λ is. other (is ∙ r.1.1)))
     refl
