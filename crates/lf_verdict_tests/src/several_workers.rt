@@ -113,7 +113,8 @@ fn broken_by<T: AllocGlobal + Threads + Sync + Send + Copy + 'static>(
     (broken, session.finish(rt))
 }
 
-/// Fails where workers tell something else, or come to another verdict, whatever records they judge at a time.
+/// Fails where workers tell something else, or come to another verdict, whatever records they judge at a time. A piece
+/// has fewer than 200, so with 200 they are judged once it is asked what broke.
 fn assert_broken_by<T: Abort + AllocGlobal + Threads + Sync + Send + Copy + 'static>(
     rt: &T,
     bytes: &[u8],
@@ -121,7 +122,7 @@ fn assert_broken_by<T: Abort + AllocGlobal + Threads + Sync + Send + Copy + 'sta
 ) -> Result<(), Fail> {
     let verdict = by_workers(rt, &C1, bytes, 1);
     for workers in [1u32, 2, 4] {
-        for batch in [1usize, BATCH, 10_000] {
+        for batch in [1usize, BATCH, 200] {
             let (broken, answer) = broken_by(rt, bytes, workers, batch);
             assert_eq!(rt; broken, due);
             assert_eq!(rt; answer, verdict);
@@ -216,25 +217,25 @@ fn judges_inside_at_once(rt: HostRuntime) -> Result<(), Fail> {
     Ok(())
 }
 
-/// Traces that take more than two reads, and the first more records than are judged at a time, so that some
-/// are judged while others are read.
+/// Traces of more bytes than are judged without workers, and the first of so many more that some records are judged
+/// while others are read.
 #[test]
 fn lines_by_several_workers(rt: HostRuntime) -> Result<(), Fail> {
     for (hits, last, line) in [
-        (6000, HIT, "yes events=18009\n"),
+        (13000, HIT, "yes events=39009\n"),
         (
-            3000,
+            7000,
             "L 0 8@0, H 0, R 0=0000000000000001",
-            "no bank=0 number=9008 rule=ReplyData\n",
+            "no bank=0 number=21008 rule=ReplyData\n",
         ),
         (
-            3000,
+            7000,
             "L 0 8@0, L 0 8@0",
-            "no port=0 event=6003 rule=TagBusy\n",
+            "no port=0 event=14003 rule=TagBusy\n",
         ),
     ] {
         let bytes = hits_and(rt.alloc(), hits, last)?;
-        assert!(rt; bytes.len() > 131_072);
+        assert!(rt; bytes.len() > 327_680);
         assert_line_by_workers(&rt, &bytes, line)?;
     }
     Ok(())

@@ -35,12 +35,17 @@ const MOST_BATCHES: usize = 4;
 /// So many bytes are read before it is looked whether the workers are done.
 const PART: usize = 16384;
 
+/// A record has about so many bytes. This decides only from when on there are workers.
+const BYTES_OF_A_RECORD: usize = 20;
+
 /// What was fed so far. The last records are read and wait to be judged, and those before them may be with the
 /// workers at work. They judge `batch` records or more at a time.
 pub struct Ahead<G> {
     pub intake: Intake,
     pub workers: u32,
     pub batch: usize,
+    /// So many bytes more are judged without workers: a trace that is shorter is not worth the threads.
+    pub alone: usize,
     pub gate: G,
     pub records: Packed,
     pub at_work: Option<Workers>,
@@ -60,6 +65,7 @@ impl<G: Gate + Sync + Send + Copy + 'static> Ahead<G> {
             intake: Intake::new(alloc, shape),
             workers,
             batch,
+            alone: batch.saturating_mul(BYTES_OF_A_RECORD),
             gate,
             records: Packed::new(alloc),
             at_work: None,
@@ -313,9 +319,10 @@ impl<G: Gate + Sync + Send + Copy + 'static> Ahead<G> {
         if let Some(stop) = self.intake.stop {
             return Err(Told::Failed(Refusal::from(stop)));
         }
-        if self.workers > 1 && self.is_running() {
+        if self.workers > 1 && self.alone == 0 && self.is_running() {
             return self.feed_ahead(rt, piece);
         }
+        self.alone = self.alone.saturating_sub(piece.len());
         self.feed_alone(rt, piece)
     }
 
@@ -397,6 +404,7 @@ impl<G: Gate + Sync + Send + Copy + 'static> Ahead<G> {
             intake: _,
             workers: _,
             batch: _,
+            alone: _,
             gate: _,
             records: _,
             at_work,
