@@ -1,7 +1,7 @@
 -- A session that reads ahead of its judges.
 use Rattle.std.proofs.Common.{◌≡◌, ℕ, List, [], ◌++◌, Option, Some, None, Result, Ok, Err, sym, ap, ◌∙◌, subst}
 use Rattle.std.proofs.Common.{◌+◌, ◌-◌, ◌∷◌, true, length, get_or, take, drop, refl, append_assoc, arith}
-use Rattle.std.specs.Prelude.{◌==◌, IfOk, IfSome}
+use Rattle.std.specs.Prelude.{◌==◌, IfOk}
 use Rattle.std.specs.Arc.{arc_value}
 use Rattle.std.proofs.lemmas.Bool.{eqb-true}
 use Rattle.std.proofs.lemmas.List.{append-nil, get_or-append_right, take-append-drop}
@@ -11,14 +11,14 @@ use Rattle.lf_rules.specs.Fits.{Bytes}
 use Rattle.lf_codec.specs.Laws.{WhatIsReadFits, HeaderIsOfItsBytes, FaultsStand, AreBytes}
 use Rattle.lf_codec.specs.Packed.{PackedRecords}
 use Rattle.lf_codec.specs.Reading.{Reading}
-use Rattle.lf_codec.specs.Reader.{HasRead, with_records}
+use Rattle.lf_codec.specs.Reader.{told, HasRead, with_records}
 use Rattle.lf_verdict.specs.declared.session.intake.Intake.{Intake}
 use Rattle.lf_verdict.specs.inner.Coming.{MayAllCome}
-use Rattle.lf_verdict.specs.inner.Workers.{AreWorkers}
+use Rattle.lf_verdict.specs.inner.Ahead.{CanRead, ReadsOn}
 use Rattle.lf_verdict.specs.inner.Shares.{MayFollow, StandsAfterNext}
 use Rattle.lf_verdict.specs.declared.stop.Stop.{Stop}
 use Rattle.lf_verdict.specs.declared.stop.Stop.TheVariants as stops
-use Rattle.lf_verdict.specs.Session.{HasTaken, HasFed, HasFedUntil, IsRunningNow}
+use Rattle.lf_verdict.specs.Session.{HasTaken, HasFed, HasFedUntil}
 use Rattle.lf_verdict.specs.declared.session.workers.Workers.{Workers}
 use Rattle.lf_verdict.specs.declared.session.standing.Standing.{Standing}
 use Rattle.lf_verdict.specs.declared.session.ahead.Ahead.{Ahead}
@@ -28,6 +28,7 @@ use Rattle.lf_verdict.specs.Standing.{IsWatch}
 use Rattle.lf_verdict.specs.Ahead.{session_of, lent_records}
 use Rattle.lf_verdict.specs.inner.Taking.{running_before}
 use Rattle.lf_verdict.proofs.Batches.{first_come}
+use Rattle.lf_verdict.proofs.Pieces.{told_fine}
 use Rattle.lf_verdict.proofs.Sessions.{may_all_come, running_more, judged_feed, stop_stays}
 
 -- what was lent stands in front
@@ -164,17 +165,65 @@ none_ahead a bytes alone none fed =
     (subst (λ (xs : List Record). HasFed (record a.intake { reader = with_records xs a.intake.reader }) bytes)
     (sym none) fed)
 
--- ---- a piece that is read in parts
+-- ---- pieces that are read
+
+-- nothing was read yet
+pub reads_none : {G : Type 0} (a : Ahead G) → CanRead a → ReadsOn a a [] (Ok tt)
+reads_none a can = record {
+  shape = refl;
+  stop = refl;
+  running = can.running;
+  workers = can.workers;
+  taken = λ bytes. subst (HasTaken (session_of a)) (sym (append-nil bytes));
+  stopped = tt;
+}
+
+-- a piece was read, and nothing was handed over
+pub reads_more : HeaderIsOfItsBytes → {G : Type 0} (a : Ahead G) (piece : List ℕ) (r : Reading) (rs : PackedRecords) →
+    CanRead a
+    → ((fed : List ℕ) (memory : List (ℕ × Bytes)) (taken : List Record) →
+    HasRead (with_records a.records.records a.intake.reader) fed memory taken
+    → HasRead (with_records rs.records r) (fed ++ piece) memory taken)
+    → told a.intake.reader.fault r.fault ≡ Ok tt
+    → ReadsOn a (record a { intake = record a.intake { reader = r }; records = rs }) piece (Ok tt)
+reads_more law a piece r rs can ok fine = record {
+  shape = refl;
+  stop = refl;
+  running = can.running;
+  workers = can.workers;
+  taken = λ bytes taken.
+      read_ahead law a bytes piece r rs taken ok (told_fine a.intake.reader.fault r.fault taken.1.fine fine);
+  stopped = tt;
+}
+
+-- more can be read behind what was read
+pub can_still : {G : Type 0} (old new : Ahead G) (piece : List ℕ) → CanRead old → ReadsOn old new piece (Ok tt) →
+    CanRead new
+can_still old new piece can read = record {
+  running = read.running;
+  workers = read.workers;
+  taken = (can.taken.0 ++ piece, read.taken can.taken.0 can.taken.1);
+}
+
+-- a part was read behind what was read
+pub reads_both : {G : Type 0} (old mid new : Ahead G) (front part : List ℕ) → ReadsOn old mid front (Ok tt) →
+    ReadsOn mid new part (Ok tt) → ReadsOn old new (front ++ part) (Ok tt)
+reads_both old mid new front part first next = record {
+  shape = next.shape ∙ first.shape;
+  stop = next.stop ∙ first.stop;
+  running = next.running;
+  workers = next.workers;
+  taken = λ bytes taken.
+      subst (HasTaken (session_of new)) (append_assoc bytes front part)
+      (next.taken (bytes ++ front) (first.taken bytes taken));
+  stopped = tt;
+}
 
 -- What stands in front of the rest of the piece was read.
 pub record HasReadPart {G : Type 0} (old new : Ahead G) (piece rest : List ℕ) : Type 0 where
-  pub shape : new.intake.shape ≡ old.intake.shape
-  pub stop : new.intake.stop ≡ old.intake.stop
-  pub running : IsRunningNow (session_of new).judging
-  pub workers : IfSome new.at_work AreWorkers
   pub front : List ℕ
   pub cut : piece ≡ front ++ rest
-  pub taken : (bytes : List ℕ) → HasTaken (session_of old) bytes → HasTaken (session_of new) (bytes ++ front)
+  pub read : ReadsOn old new front (Ok tt)
 
 pub split_there : (n : ℕ) (xs front back : List ℕ) → front ≡ take n xs → back ≡ drop n xs → xs ≡ front ++ back
 split_there n xs front back is_front is_back =
@@ -192,13 +241,20 @@ bytes_behind xs ys are i =
     rw (sym (at ∙ ap (λ (k : ℕ). get_or ys k 0) same)) (are (length xs + i))
 
 -- a part stopped it, and so the whole piece
-pub part_stopped : FaultsStand → (s : Intake) (bytes piece front part behind : List ℕ) (stop : Stop) →
-    piece ≡ front ++ (part ++ behind) → AreBytes piece
-    → HasFedUntil s ((bytes ++ front) ++ part) (Some stop) → HasFedUntil s (bytes ++ piece) (Some stop)
-part_stopped law s bytes piece front part behind stop cut fit at =
-    subst (λ (xs : List ℕ). HasFedUntil s xs (Some stop))
-    (append_assoc (bytes ++ front) part behind ∙ append_assoc bytes front (part ++ behind)
-    ∙ ap (λ (xs : List ℕ). bytes ++ xs) (sym cut))
-    (stop_stays law s ((bytes ++ front) ++ part) behind stop
-    (bytes_behind (front ++ part) behind
-    (subst AreBytes (cut ∙ sym (append_assoc front part behind)) fit)) at)
+pub part_stopped : FaultsStand → {G : Type 0} (old mid new : Ahead G) (piece front part behind : List ℕ) (stop : Stop) →
+    piece ≡ front ++ (part ++ behind) → AreBytes piece → ReadsOn old mid front (Ok tt)
+    → ReadsOn mid new part (Err stop) → ReadsOn old new piece (Err stop)
+part_stopped law old mid new piece front part behind stop cut fit first next = record {
+  shape = next.shape ∙ first.shape;
+  stop = next.stop ∙ first.stop;
+  running = tt;
+  workers = next.workers;
+  taken = tt;
+  stopped = λ bytes taken.
+      subst (λ (xs : List ℕ). HasFedUntil new.intake xs (Some stop))
+      (append_assoc (bytes ++ front) part behind ∙ append_assoc bytes front (part ++ behind)
+      ∙ ap (λ (xs : List ℕ). bytes ++ xs) (sym cut))
+      (stop_stays law new.intake ((bytes ++ front) ++ part) behind stop
+      (bytes_behind (front ++ part) behind (subst AreBytes (cut ∙ sym (append_assoc front part behind)) fit))
+      (next.stopped (bytes ++ front) (first.taken bytes taken)));
+}

@@ -1,14 +1,14 @@
 //! What a session keeps that reads ahead of its judges.
 
-ghost use Rattle.std.specs.Prelude.{◌≡◌, ◌<◌, ◌↔◌, ◌++◌, ℕ, List, [], Some, None, IsSome, IfSome, IfOk, OnOk, IfErr};
+ghost use Rattle.std.specs.Prelude.{◌≡◌, ◌<◌, ◌↔◌, ◌++◌, ℕ, List, [], Some, None, IsSome, IfSome, IfOk, OnOk};
 ghost use Rattle.std.specs.Prelude.{IsTrue, IfNone};
 ghost use Rattle.lf_rules.specs.InRange.{IsShape};
 ghost use Rattle.lf_codec.specs.declared.fault.Told.TheVariants as tolds;
 ghost use Rattle.lf_verdict.specs.declared.answer.Verdict.{Verdict};
 ghost use Rattle.lf_verdict.specs.inner.Ending.{IsVerdictOrWant};
-ghost use Rattle.lf_verdict.specs.Session.{refusal_of, stop_told, HasTaken, HasFed, HasFedUntil, IsRunningNow};
+ghost use Rattle.lf_verdict.specs.Session.{refusal_of, stop_told, HasTaken, HasFed, IsRunningNow};
 ghost use Rattle.lf_verdict.specs.Ahead.{session_of};
-ghost use Rattle.lf_verdict.specs.inner.Ahead.{IsAhead};
+ghost use Rattle.lf_verdict.specs.inner.Ahead.{IsAhead, CanRead, ReadsOn};
 ghost use Rattle.lf_verdict.specs.inner.Workers.{AreWorkers};
 ghost use Rattle.lf_verdict.specs.Final.{IsFinal};
 ghost use Rattle.lf_verdict.specs.Named.{IsNamed, NoneBrokeSoFar};
@@ -92,9 +92,7 @@ impl<G: Gate + Sync + Send + Copy + 'static> Ahead<G> {
 
     /// How the parts stand once the workers are done, and the room for other records.
     fn call_back<R: Threads>(&mut self, rt: &R) -> Result<(Standing, Packed), NoMemory>
-        requires running { IsRunningNow (session_of self.old).judging }
-        requires workers { IfSome self.old.at_work AreWorkers }
-        requires taken { (bytes : List ℕ) × HasTaken (session_of self.old) bytes }
+        requires can { CanRead self.old }
         ensures rest { self.new ≡ record self.old {
           at_work = None;
           intake =
@@ -119,9 +117,7 @@ impl<G: Gate + Sync + Send + Copy + 'static> Ahead<G> {
 
     /// How the parts stand, and the records that were read, to be judged next.
     fn next_batch<R: Threads>(&mut self, rt: &R) -> Result<(Standing, Packed), NoMemory>
-        requires running { IsRunningNow (session_of self.old).judging }
-        requires workers { IfSome self.old.at_work AreWorkers }
-        requires taken { (bytes : List ℕ) × HasTaken (session_of self.old) bytes }
+        requires can { CanRead self.old }
         ensures rest { self.new ≡ record self.old {
           at_work = None;
           records = self.new.records;
@@ -141,9 +137,7 @@ impl<G: Gate + Sync + Send + Copy + 'static> Ahead<G> {
         &mut self,
         rt: &R,
     ) -> Result<(), NoMemory>
-        requires running { IsRunningNow (session_of self.old).judging }
-        requires workers { IfSome self.old.at_work AreWorkers }
-        requires taken { (bytes : List ℕ) × HasTaken (session_of self.old) bytes }
+        requires can { CanRead self.old }
         ensures shape { self.new.intake.shape ≡ self.old.intake.shape }
         ensures stop { self.new.intake.stop ≡ self.old.intake.stop }
         ensures running { OnOk result (IsRunningNow (session_of self.new).judging) }
@@ -200,17 +194,8 @@ impl<G: Gate + Sync + Send + Copy + 'static> Ahead<G> {
         rt: &R,
         piece: &[u8],
     ) -> Result<(), Stop>
-        requires running { IsRunningNow (session_of self.old).judging }
-        requires workers { IfSome self.old.at_work AreWorkers }
-        requires taken { (bytes : List ℕ) × HasTaken (session_of self.old) bytes }
-        ensures shape { self.new.intake.shape ≡ self.old.intake.shape }
-        ensures stop { self.new.intake.stop ≡ self.old.intake.stop }
-        ensures running { OnOk result (IsRunningNow (session_of self.new).judging) }
-        ensures workers { IfSome self.new.at_work AreWorkers }
-        ensures taken { OnOk result ((bytes : List ℕ) → HasTaken (session_of self.old) bytes →
-            HasTaken (session_of self.new) (bytes ++ piece.now)) }
-        ensures stopped { IfErr result (λ stop. (bytes : List ℕ) → HasTaken (session_of self.old) bytes
-            → HasFedUntil self.new.intake (bytes ++ piece.now) (Some stop)) }
+        requires can { CanRead self.old }
+        ensures { ReadsOn self.old self.new piece.now result }
     {
         header_of_bytes();
         self.intake.reader.feed_into(piece, &mut self.records)?;
@@ -226,17 +211,8 @@ impl<G: Gate + Sync + Send + Copy + 'static> Ahead<G> {
         rt: &R,
         piece: &[u8],
     ) -> Result<(), Stop>
-        requires running { IsRunningNow (session_of self.old).judging }
-        requires workers { IfSome self.old.at_work AreWorkers }
-        requires taken { (bytes : List ℕ) × HasTaken (session_of self.old) bytes }
-        ensures shape { self.new.intake.shape ≡ self.old.intake.shape }
-        ensures stop { self.new.intake.stop ≡ self.old.intake.stop }
-        ensures running { OnOk result (IsRunningNow (session_of self.new).judging) }
-        ensures workers { IfSome self.new.at_work AreWorkers }
-        ensures taken { OnOk result ((bytes : List ℕ) → HasTaken (session_of self.old) bytes →
-            HasTaken (session_of self.new) (bytes ++ piece.now)) }
-        ensures stopped { IfErr result (λ stop. (bytes : List ℕ) → HasTaken (session_of self.old) bytes
-            → HasFedUntil self.new.intake (bytes ++ piece.now) (Some stop)) }
+        requires can { CanRead self.old }
+        ensures { ReadsOn self.old self.new piece.now result }
     {
         faults_stand();
         let mut rest = piece;
@@ -267,10 +243,8 @@ impl<G: Gate + Sync + Send + Copy + 'static> Ahead<G> {
         rt: &R,
         piece: &[u8],
     ) -> Result<(), Told<Refusal>>
-        requires running { IsRunningNow (session_of self.old).judging }
-        requires workers { IfSome self.old.at_work AreWorkers }
+        requires can { CanRead self.old }
         requires going { self.old.intake.stop ≡ None }
-        requires taken { (bytes : List ℕ) × HasTaken (session_of self.old) bytes }
         ensures ahead { IsAhead self.new }
         ensures shape { self.new.intake.shape ≡ self.old.intake.shape }
         ensures fed { (bytes : List ℕ) → HasTaken (session_of self.old) bytes →

@@ -6,9 +6,9 @@ pub end-requires-clause-follow : goal.end-requires-clause-follow
 end-requires-clause-follow g c =
     let a = c.args.self.now in
     let w = c.in-Some.workers in
-    let bytes = c.requires.taken.0 in
+    let bytes = c.requires.can.taken.0 in
     may_follow c.read_so_far.ensures a.intake bytes w.standing.value w.batch.value.records a.records.records
-    (lent_before a w bytes (sym c.take.ensures.value ∙ c.in-Some.is) c.requires.taken.1)
+    (lent_before a w bytes (sym c.take.ensures.value ∙ c.in-Some.is) c.requires.can.taken.1)
 
 pub returns-in-Some-clause-taken : goal.returns-in-Some-clause-taken
 returns-in-Some-clause-taken g c bytes taken =

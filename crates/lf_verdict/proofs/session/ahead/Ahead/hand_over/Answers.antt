@@ -9,10 +9,10 @@ use Rattle.lf_verdict.proofs.session.ahead.Ahead.hand_over.Goals as goal
 pub begin-requires-clause-follow : goal.begin-requires-clause-follow
 begin-requires-clause-follow g c κs lives =
     let s = c.args.self.now.intake in
-    let bytes = c.requires.taken.0 in
+    let bytes = c.requires.can.taken.0 in
     let next = c.in_ok-standing in
     may_follow c.read_so_far.ensures s bytes next.standing next.records.records []
-    (alone s bytes next.standing next.records.records (next.ensures.taken bytes c.requires.taken.1))
+    (alone s bytes next.standing next.records.records (next.ensures.taken bytes c.requires.can.taken.1))
 
 pub returns-clause-taken : goal.returns-clause-taken
 returns-clause-taken g c bytes taken =

@@ -1,63 +1,47 @@
-use Rattle.std.proofs.Common.{rules, Err, ◌≡◌, [], ◌++◌, ℕ, List, refl, sym, ap, ◌∙◌, subst, append_assoc, arith}
+use Rattle.std.proofs.Common.{rules, Ok, Err, ◌≡◌, [], ◌++◌, List, ℕ, refl, sym, ap, ◌∙◌, subst, append_assoc, arith}
 use Rattle.std.proofs.lemmas.List.{append-nil}
-use Rattle.lf_verdict.specs.Ahead.{session_of}
-use Rattle.lf_verdict.specs.Session.{HasTaken}
-use Rattle.lf_verdict.proofs.Aheads.{part_stopped, split_there, none_left}
+use Rattle.lf_verdict.specs.inner.Ahead.{ReadsOn}
+use Rattle.lf_verdict.proofs.Aheads.{reads_none, reads_both, can_still, part_stopped, split_there, none_left}
 use Rattle.lf_verdict.proofs.session.ahead.Ahead.read_in_parts.Goals as goal
 
 pub loop-rest-init : goal.loop-rest-init
-loop-rest-init g c = record {
-  shape = refl;
-  stop = refl;
-  running = c.requires.running;
-  workers = c.requires.workers;
-  front = [];
-  cut = refl;
-  taken = λ bytes taken. subst (HasTaken (session_of c.args.self.now)) (sym (append-nil bytes)) taken;
-}
+loop-rest-init g c = record { front = []; cut = refl; read = reads_none c.args.self.now c.requires.can }
 
-pub read-requires-clause-taken : goal.read-requires-clause-taken
-read-requires-clause-taken g c κs within = (
-  c.requires.taken.0 ++ c.loop-rest.invariant.front,
-  c.loop-rest.invariant.taken c.requires.taken.0 c.requires.taken.1,
-)
+pub read-requires-clause-can : goal.read-requires-clause-can
+read-requires-clause-can g c κs within =
+    let loop = c.loop-rest.invariant in
+    can_still c.args.self.now c.loop-rest.self loop.front c.requires.can loop.read
 
-pub returns-in_err-read-clause-stopped : goal.returns-in_err-read-clause-stopped
-returns-in_err-read-clause-stopped g c =
-    let read = c.loop-rest.invariant in
-    let rest = c.loop-rest.rest.now in
+pub returns-in_err-read : goal.returns-in_err-read
+returns-in_err-read g c =
+    let loop = c.loop-rest.invariant in
+    let part = c.split_at.result.0.now in
+    let behind = c.split_at.result.1.now in
     let stop = c.in_err-read.field-0.0 in
     let is : c.from_residual.result ≡ Err stop = search rules in
-    rw is (λ bytes taken.
-    part_stopped c.faults_stand.ensures c.read.new.self.intake bytes c.args.piece.now read.front
-    c.split_at.result.0.now c.split_at.result.1.now stop
-    (read.cut ∙ ap (λ (xs : List ℕ). read.front ++ xs) (split_there c.min.result rest c.split_at.result.0.now
-    c.split_at.result.1.now c.split_at.ensures.front c.split_at.ensures.back))
-    (λ i. omega (arith, c.type_inv.piece i))
-    (c.in_err-read.ensures.stopped (bytes ++ read.front) (read.taken bytes taken)))
+    rw is (part_stopped c.faults_stand.ensures c.args.self.now c.loop-rest.self c.read.new.self c.args.piece.now
+    loop.front part behind stop
+    (loop.cut ∙ ap (λ (xs : List ℕ). loop.front ++ xs) (split_there c.min.result c.loop-rest.rest.now part behind
+    c.split_at.ensures.front c.split_at.ensures.back))
+    (λ i. omega (arith, c.type_inv.piece i)) loop.read c.in_err-read.ensures)
 
 pub loop-rest-preserved : goal.loop-rest-preserved
 loop-rest-preserved g c =
-    let read = c.loop-rest.invariant in
+    let loop = c.loop-rest.invariant in
     let part = c.split_at.result.0.now in
     let behind = c.split_at.result.1.now in
     let split = split_there c.min.result c.loop-rest.rest.now part behind c.split_at.ensures.front
     c.split_at.ensures.back in
     record {
-      shape = c.in_ok-read.ensures.shape ∙ read.shape;
-      stop = c.in_ok-read.ensures.stop ∙ read.stop;
-      running = c.in_ok-read.ensures.running;
-      workers = c.in_ok-read.ensures.workers;
-      front = read.front ++ part;
-      cut = read.cut ∙ ap (λ (xs : List ℕ). read.front ++ xs) split ∙ sym (append_assoc read.front part behind);
-      taken = λ bytes taken.
-          subst (HasTaken (session_of c.read.new.self)) (append_assoc bytes read.front part)
-          (c.in_ok-read.ensures.taken (bytes ++ read.front) (read.taken bytes taken));
+      front = loop.front ++ part;
+      cut = loop.cut ∙ ap (λ (xs : List ℕ). loop.front ++ xs) split ∙ sym (append_assoc loop.front part behind);
+      read = reads_both c.args.self.now c.loop-rest.self c.read.new.self loop.front part loop.read
+          c.in_ok-read.ensures;
     }
 
-pub returns-clause-taken : goal.returns-clause-taken
-returns-clause-taken g c bytes taken =
-    let read = c.loop-rest.invariant in
+pub returns : goal.returns
+returns g c =
+    let loop = c.loop-rest.invariant in
     let none = none_left c.loop-rest.rest.now c.loop-rest-test.ensures in
-    subst (λ (xs : List ℕ). HasTaken (session_of c.loop-rest.self) (bytes ++ xs))
-    (sym (read.cut ∙ ap (λ (xs : List ℕ). read.front ++ xs) none ∙ append-nil read.front)) (read.taken bytes taken)
+    subst (λ (xs : List ℕ). ReadsOn c.args.self.now c.loop-rest.self xs (Ok tt))
+    (sym (loop.cut ∙ ap (λ (xs : List ℕ). loop.front ++ xs) none ∙ append-nil loop.front)) loop.read
