@@ -30,7 +30,8 @@ const BATCH: usize = 16384;
 
 /// Judges a trace while its bytes come, as `Session` does. With more than one worker a thread reads the trace,
 /// another enters what was read into the logs, and as many as there are workers judge the banks, so that a
-/// refusal for memory may come with a later piece. One worker does all in one thread.
+/// refusal for memory may come with a later piece. One worker does all in one thread, and so do several as long as
+/// fewer bytes came than a batch of records has.
 ///
 /// It is ended by `finish` alone, so that no thread is left at work.
 pub struct ParallelSession<G = NoGate> {
@@ -63,8 +64,8 @@ impl ParallelSession {
 
 impl<G: Gate + Sync + Send + Copy + 'static> ParallelSession<G> {
     /// A session for tests, which see by the gate who judges at once: a thread passes it before it judges a bank
-    /// on the records of a batch. Records are judged once so many are read, 16,384 where nothing is said. No answer
-    /// depends on either.
+    /// on the records of a batch. Records are judged once so many are read, 16,384 where nothing is said, and the first
+    /// ones, of 20 bytes for each record of a batch, one by one. No answer depends on any of it.
     pub fn in_batches(
         alloc: Global,
         shape: &Shape,
