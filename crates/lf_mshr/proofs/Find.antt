@@ -1,6 +1,7 @@
 -- A search for a block among the registers: a bit for each whose block it is, and of these the ones that are in use.
-use Rattle.std.proofs.Common.{◌≡◌, ℕ, zero, suc, ◌+◌, ◌*◌, ◌%◌, ◌^◌, ◌<◌, ◌≤◌, true, false, ◌&&◌, ◌==◌, List}
-use Rattle.std.proofs.Common.{length, inl, inr, min, bit_and, bit_or, refl, sym, ap, ◌∙◌, arith, eq-eqb, ne_eqb, subst, slice_index}
+use Rattle.std.proofs.Common.{◌≡◌, ℕ, zero, suc, ◌+◌, ◌-◌, ◌*◌, ◌%◌, ◌^◌, ◌<◌, ◌≤◌, true, false, ◌&&◌, ◌==◌, List}
+use Rattle.std.proofs.Common.{take, get_or-take, length-take-le, subst, slice_index}
+use Rattle.std.proofs.Common.{length, inl, inr, min, bit_and, bit_or, refl, sym, ap, ◌∙◌, arith, eq-eqb, ne_eqb}
 use Rattle.std.specs.Int.{bit_at, trailing_zeros, w64}
 use Rattle.std.proofs.lemmas.Bool.{cases_eq, cases_lt, both_ways}
 use Rattle.std.proofs.lemmas.Nat.Bits.{bit_at-trailing_zeros, bit_at_set_same, bit_at_set_other, bit_at-zero}
@@ -64,41 +65,63 @@ both_under a b at =
     ap (λ n. n == 1) (bit_at_and a b at) ∙ min_one (bit_at a at) (bit_at b at) (bit_at-lt a at) (bit_at-lt b at)
 
 module _ {T : Type 0} (registers used : ℕ) (blocks : List ℕ) (held : List (Held T))
-    (index : IsIndexed registers used blocks held) (block marks : ℕ) (shown : List ℕ) (same : shown ≡ blocks)
-    (are : (r : ℕ) → r < length shown → is_under marks r ≡ (slice_index shown r == block)) where
-  abbrev holding : ℕ
-  holding = bit_and marks used
+    (index : IsIndexed registers used blocks held) (block marks count : ℕ) (shown : List ℕ) (same : shown ≡ blocks)
+    (few : count ≤ 64) (last : 0 < count → is_under used (count - 1) ≡ true)
+    (behind : (r : ℕ) → count ≤ r → is_under used r ≡ false) where
+  -- the last register in use is one of those that there are
+  count-le : count ≤ registers
+  count-le = elim (cases_lt registers count) [
+    | inl lt ↦ absurd (both_ways (is_under used (count - 1))
+        (index.no_others (count - 1) (omega (arith, lt)) (omega (arith, lt, few))) (last (omega (arith, lt))))
+    | inr le ↦ le
+  ]
 
-  of_block : (r : ℕ) → r < registers → is_under marks r ≡ (slice_index blocks r == block)
-  of_block r below =
+  pub shown-long : count ≡ length (take count shown)
+  shown-long =
       let long = index.long in
-      are r (omega (arith, below, long, ap length same)) ∙ ap (λ xs. slice_index xs r == block) same
+      sym (length-take-le count shown (omega (arith, count-le, long, ap length same)))
 
-  under_is : (r : ℕ) → r < registers → is_under holding r ≡ holds_in held r block
-  under_is r below =
-      both_under marks used r ∙ ap (λ b. is_under used r && b) (of_block r below)
-      ∙ holds_in-is registers used blocks held index r block below
+  module _ (are : (r : ℕ) → r < length (take count shown) → is_under marks r
+      ≡ (slice_index (take count shown) r == block)) where
+    abbrev holding : ℕ
+    holding = bit_and marks used
 
-  pub found-none : IsBelow registers held → holding ≡ 0 → holds held block ≡ false
-  found-none below none = unheld registers held below block
-      (λ r lt. sym (under_is r lt) ∙ ap (λ n. is_under n r) none ∙ ap (λ n. n == 1) (bit_at-zero r))
+    of_block : (r : ℕ) → r < count → is_under marks r ≡ (slice_index blocks r == block)
+    of_block r lt =
+        are r (omega (arith, lt, shown-long))
+        ∙ ap (λ x. x == block) (get_or-take count shown r 0 lt ∙ ap (λ xs. slice_index xs r) same)
 
-  module _ (some : holding ≡ 0 → ⊥) (fits : marks < 2 ^ 64) where
-    abbrev lowest : ℕ
-    lowest = trailing_zeros w64 holding
-
-    bit : (lowest < 64) × (bit_at holding lowest ≡ 1) × ((i : ℕ) → i < lowest → bit_at holding i ≡ 0)
-    bit = bit_at-trailing_zeros w64 holding (omega (arith, some)) (omega (arith, fits, and_le_l marks used))
-
-    is_set : is_under holding lowest ≡ true
-    is_set = ap (λ n. n == 1) bit.1
-
-    pub found-below : lowest < registers
-    found-below = elim (cases_lt lowest registers) [
-      | inl lt ↦ lt
-      | inr le ↦ absurd (both_ways (is_under holding lowest) (both_under marks used lowest
-          ∙ ap (λ b. b && is_under marks lowest) (index.no_others lowest le bit.0)) is_set)
+    under_is : (r : ℕ) → r < registers → is_under holding r ≡ holds_in held r block
+    under_is r below = elim (cases_lt r count) [
+      | inl lt ↦ both_under marks used r ∙ ap (λ b. is_under used r && b) (of_block r lt)
+          ∙ holds_in-is registers used blocks held index r block below
+      | inr le ↦
+          let none = behind r le in
+          both_under marks used r ∙ ap (λ b. b && is_under marks r) none
+          ∙ sym (ap (λ b. b && slice_index blocks r == block) none)
+          ∙ holds_in-is registers used blocks held index r block below
     ]
 
-    pub found-holds : holds_in held lowest block ≡ true
-    found-holds = sym (under_is lowest found-below) ∙ is_set
+    pub found-none : IsBelow registers held → holding ≡ 0 → holds held block ≡ false
+    found-none below none = unheld registers held below block
+        (λ r lt. sym (under_is r lt) ∙ ap (λ n. is_under n r) none ∙ ap (λ n. n == 1) (bit_at-zero r))
+
+    module _ (some : holding ≡ 0 → ⊥) (fits : marks < 2 ^ 64) where
+      abbrev lowest : ℕ
+      lowest = trailing_zeros w64 holding
+
+      bit : (lowest < 64) × (bit_at holding lowest ≡ 1) × ((i : ℕ) → i < lowest → bit_at holding i ≡ 0)
+      bit = bit_at-trailing_zeros w64 holding (omega (arith, some)) (omega (arith, fits, and_le_l marks used))
+
+      is_set : is_under holding lowest ≡ true
+      is_set = ap (λ n. n == 1) bit.1
+
+      pub found-below : lowest < registers
+      found-below = elim (cases_lt lowest registers) [
+        | inl lt ↦ lt
+        | inr le ↦ absurd (both_ways (is_under holding lowest) (both_under marks used lowest
+            ∙ ap (λ b. b && is_under marks lowest) (index.no_others lowest le bit.0)) is_set)
+      ]
+
+      pub found-holds : holds_in held lowest block ≡ true
+      found-holds = sym (under_is lowest found-below) ∙ is_set

@@ -1,7 +1,12 @@
 -- A bit of words is set or cleared, and the others stay.
-use Rattle.std.proofs.Common.{◌≡◌, ◌≢◌, ℕ, ◌*◌, ◌/◌, ◌%◌, ◌^◌, ◌<◌, ◌||◌, ◌&&◌, ◌==◌, not, List, length, inl, inr}
+use Rattle.std.proofs.Common.{◌≡◌, ◌≢◌, ℕ, suc, true, false, ◌+◌, ◌-◌, ◌≤◌, ◌*◌, ◌/◌, ◌%◌, ◌^◌, ◌<◌, ◌||◌, ◌&&◌, ◌==◌}
+use Rattle.std.proofs.Common.{not, List, length, inl, inr}
 use Rattle.std.proofs.Common.{sym, ap, ◌∙◌, arith, eq-eqb, ne_eqb, set, slice_index, bit_and, bit_or}
-use Rattle.std.specs.Int.{bit_not, w64}
+use native.Mathlib.Nat.{pow-suc}
+use Rattle.std.specs.Int.{bit_at, bit_not, w64}
+use Rattle.std.specs.Int.Count.{count_leading_zeros, leading_of_zero}
+use Rattle.std.proofs.lemmas.Nat.{leading_length, leading_top}
+use Rattle.std.proofs.lemmas.Nat.Bits.{bit_at_above, bit_at_cat_high}
 use Rattle.std.proofs.lemmas.Bool.{cases_eq}
 use Rattle.std.proofs.lemmas.Grind.{get_or-set_at}
 use Rattle.std.proofs.lemmas.List.{get_or-set_other}
@@ -61,3 +66,28 @@ module _ (words : List ℕ) (bit : ℕ) (there : bit < 64 * length words) where
         | inr ne ↦ other_word new b ne ∙ sym (ap (λ t. not t && is_marked words b)
             (ne_eqb b bit (λ x. ne (ap (λ k. k / 64) x))))
       ]
+
+-- the highest bit of a number is set
+top_bit : (n j : ℕ) → 2 ^ j ≤ n → n < 2 ^ suc j → is_under n j ≡ true
+top_bit n j low high =
+    let whole : n ≡ 1 * 2 ^ j + (n - 2 ^ j) = omega (arith, low) in
+    let rest : n - 2 ^ j < 2 ^ j = omega (arith, low, high, pow-suc 2 j) in
+    let first : j - j ≡ 0 = omega arith in
+    ap (λ k. is_under k j) whole
+    ∙ ap (λ k. k == 1) (bit_at_cat_high 1 j (n - 2 ^ j) j rest (omega arith) ∙ ap (bit_at 1) first)
+
+module _ (word : ℕ) (fits : word < 2 ^ 64) where
+  pub reach-last : 0 < 64 - count_leading_zeros 64 word → is_under word (64 - count_leading_zeros 64 word - 1) ≡ true
+  reach-last some =
+      let positive : 0 < word = elim (cases_eq word 0) [
+        | inl none ↦ absurd (omega (arith, some, ap (count_leading_zeros 64) none ∙ leading_of_zero 64))
+        | inr other ↦ omega (arith, other)
+      ] in
+      let top = leading_top 64 word positive fits in
+      let at : 64 - count_leading_zeros 64 word - 1 ≡ top.0 = omega (arith, top.1) in
+      ap (is_under word) at ∙ top_bit word top.0 top.2 top.3
+
+  pub reach-behind : (bit : ℕ) → 64 - count_leading_zeros 64 word ≤ bit → is_under word bit ≡ false
+  reach-behind bit le =
+      let top = leading_length 64 word fits in
+      ap (λ n. n == 1) (bit_at_above word top.0 bit top.2 (omega (arith, top.1, le)))
