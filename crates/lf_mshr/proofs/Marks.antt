@@ -1,4 +1,4 @@
--- A bit of words is set or cleared, and the others stay.
+-- Bits of words: one is set or cleared while the others stay, and the last that is set.
 use Rattle.std.proofs.Common.{◌≡◌, ◌≢◌, ℕ, suc, true, false, ◌+◌, ◌-◌, ◌≤◌, ◌*◌, ◌/◌, ◌%◌, ◌^◌, ◌<◌, ◌||◌, ◌&&◌, ◌==◌}
 use Rattle.std.proofs.Common.{not, List, length, inl, inr}
 use Rattle.std.proofs.Common.{sym, ap, ◌∙◌, arith, eq-eqb, ne_eqb, set, slice_index, bit_and, bit_or}

@@ -1,4 +1,4 @@
-use Rattle.std.proofs.Common.{◌+◌, ◌≡◌, sym, ap, ◌∙◌, Some, None, arith}
+use Rattle.std.proofs.Common.{◌+◌, sym, ap, ◌∙◌, Some, None, arith}
 use Rattle.std.specs.Prelude.{slice_index_or}
 use Rattle.std.specs.List.{position, slice_range}
 use Rattle.lf_levels.specs.Rows.{is_same}

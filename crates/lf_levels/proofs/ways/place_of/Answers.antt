@@ -1,4 +1,4 @@
-use Rattle.std.proofs.Common.{ℕ, ◌≡◌, ◌<◌, ◌-◌, ◌+◌, length, sym, ◌∙◌, ap, subst, arith}
+use Rattle.std.proofs.Common.{◌≡◌, ◌-◌, ◌+◌, sym, ◌∙◌, ap, arith}
 use Rattle.lf_levels.specs.Rows.{is_same}
 use Rattle.lf_levels.proofs.Counting.{first_from, first-start, first-here, first-behind, first-found, first-lacking}
 use Rattle.lf_levels.proofs.ways.place_of.Goals as goal
