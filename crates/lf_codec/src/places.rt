@@ -12,8 +12,12 @@ use crate::step::fixed_len;
 use lf_rules::{Event, NO_BANK, Record};
 use std::marker::Model;
 
-/// One for each kind, and one for a record that is put whole.
-const COUNT: usize = 16;
+/// One for each kind, one for a record that is put whole, and eight for each kind of which records carry more or
+/// fewer bytes.
+const COUNT: usize = 40;
+
+/// Where a record is put whole.
+const WHOLE: usize = 15;
 
 /// What a place has before a record is written there.
 const BLANK: Record = Record {
@@ -24,7 +28,9 @@ const BLANK: Record = Record {
 };
 
 /// A place for a record of each kind, and which was written last. A record is written over the last one of
-/// its kind, which costs less than to write all of its 320 bytes. So it pays to keep the places.
+/// its kind, which costs less than to write all of its 320 bytes. So it pays to keep the places. Issues, replies and
+/// evictions from level one have more places, by how many bytes they carry: where the last one carried as many, none of
+/// them is cleared.
 #[derive(Drop)]
 pub struct Places {
     records: [Record; COUNT],
@@ -40,7 +46,21 @@ impl Model for Places {
 
     ghost view = { λ p. slice_get p.records p.last };
 
-    ghost invariant = { λ p. length p.records ≡ 16 };
+    ghost invariant = { λ p. length p.records ≡ 40 };
+}
+
+/// The place of a record of this kind that carries so many bytes.
+#[inline(always)]
+fn place_of(kind: Kind, len: usize) -> usize
+    ensures { result < 40 }
+{
+    let digits = (64 - (len as u64).leading_zeros()) as usize;
+    match kind {
+        Kind::Issue => 16 + digits % 8,
+        Kind::Reply => 24 + digits % 8,
+        Kind::Evict1 => 32 + digits % 8,
+        _ => kind as usize,
+    }
 }
 
 impl Places {
@@ -50,6 +70,8 @@ impl Places {
     {
         Places {
             records: [
+                BLANK, BLANK, BLANK, BLANK, BLANK, BLANK, BLANK, BLANK, BLANK, BLANK, BLANK, BLANK,
+                BLANK, BLANK, BLANK, BLANK, BLANK, BLANK, BLANK, BLANK, BLANK, BLANK, BLANK, BLANK,
                 BLANK, BLANK, BLANK, BLANK, BLANK, BLANK, BLANK, BLANK, BLANK, BLANK, BLANK, BLANK,
                 BLANK, BLANK, BLANK, BLANK,
             ],
@@ -88,8 +110,8 @@ impl Places {
     {
         match item {
             Some(item) => {
-                self.last = COUNT - 1;
-                self.records[COUNT - 1] = item;
+                self.last = WHOLE;
+                self.records[WHOLE] = item;
             }
             None => self.last = COUNT,
         }
@@ -109,7 +131,7 @@ impl Places {
         requires parts { AreOfKind header.now head.kind fixed.now bytes.now }
         ensures { self.new ≡ Some (record_of header.now head fixed.now bytes.now) }
     {
-        let at = kind as usize;
+        let at = place_of(kind, bytes.len());
         self.last = at;
         write_record(&mut self.records[at], header, kind, head, fixed, bytes);
     }
