@@ -66,7 +66,7 @@ fn assert_mark(rt: &impl Abort, lines: &mut Lines<One>, block: u32, more: Mask, 
 }
 
 /// Fails unless second-level block 5 has these masks after it gained bytes at one place.
-fn assert_mark_at(rt: &impl Abort, lines: &mut Lines<Two>, place: u32, more: Mask, dirty: &Masks)
+fn assert_mark_at(rt: &impl Abort, lines: &mut Lines<Two>, place: u32, more: Mask, dirty: Masks)
     requires { place < lines.old.factor }
     ensures { lines.new.factor ≡ lines.old.factor }
 {
@@ -176,7 +176,7 @@ fn each_block_of_a_wide_line_has_a_mask(rt: HostRuntime) -> Result<(), Fail> {
     assert_fill_two(&rt, &mut outer, 5, two_masks(0, 2), Ok(()));
     assert!(rt; outer.has(5));
     outer.mark(5, &two_masks(0, 1));
-    assert!(rt; outer.dirty(5) == Some(&two_masks(0, 3)));
+    assert!(rt; outer.dirty(5) == Some(two_masks(0, 3)));
     assert_eq!(rt; second_mask(&outer, 5), Some(Mask(3)));
     assert_eq!(rt;
         outer.evict(4, &two_masks(0, 0)),
@@ -190,9 +190,8 @@ fn each_block_of_a_wide_line_has_a_mask(rt: HostRuntime) -> Result<(), Fail> {
 fn one_mask_of_a_wide_line_gains_bytes(rt: HostRuntime) -> Result<(), Fail> {
     let mut outer: Lines<Two> = table(rt.alloc(), 1, 2, 1, 2)?;
     assert_fill_two(&rt, &mut outer, 5, two_masks(1, 2), Ok(()));
-    let gained = two_masks(1, 6);
-    assert_mark_at(&rt, &mut outer, 1, Mask(4), &gained);
-    assert_mark_at(&rt, &mut outer, 0, Mask(0), &gained);
+    assert_mark_at(&rt, &mut outer, 1, Mask(4), two_masks(1, 6));
+    assert_mark_at(&rt, &mut outer, 0, Mask(0), two_masks(1, 6));
     Ok(())
 }
 

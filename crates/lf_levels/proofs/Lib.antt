@@ -6,3 +6,4 @@ pub mod Rows
 pub mod Searched
 pub mod Joined
 pub mod Marked
+pub mod WayWords

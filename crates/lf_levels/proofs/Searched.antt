@@ -3,7 +3,7 @@ use Rattle.std.proofs.Common.{ℕ, ◌≡◌, ◌<◌, ◌≤◌, ◌+◌, ◌*�
 use Rattle.std.proofs.Common.{Some, None, is_some, refl, sym, ap, ◌∙◌, subst, arith, length-set, replicate}
 use Rattle.std.specs.Prelude.{slice_set, unwrap_or, nat_lt, IsTrue, ◌↔◌}
 use Rattle.std.proofs.lemmas.Bool.{ltb-false, le-ltb, not-true}
-use Rattle.std.proofs.lemmas.List.{length-replicate}
+use Rattle.std.proofs.lemmas.List.{length-replicate, get_or_default}
 use Rattle.lf_rules.specs.Fits.{is_factor}
 use Rattle.lf_rules.specs.Lines.{line_at, has_line, with_line, lines_of_set}
 use Rattle.lf_levels.specs.LineTable.{LineTable, IsLineTable, ChangesOnly, set_in, is_full, after_fill, after_evict}
@@ -178,6 +178,10 @@ module _ {M : Type 0} {set : ℕ → ℕ → ℕ → ℕ → ℕ} {is_line : ℕ
       there : (dirty : M) → dirty ≡ get_or dirties way dirty → line_on block dirty ≡ get_or rows way None
       there dirty e = sym (rows_at keys dirties way dirty is.even
           ∙ ap (λ (key : Option ℕ). way_of key (get_or dirties way dirty)) key_there ∙ ap (line_on block) (sym e))
+
+      -- what is dirty of the line, whatever is read where there is no such way
+      pub dirty_there : (d : M) → get_or dirties way d ≡ get_or dirties way (get_or dirties way d)
+      dirty_there d = get_or_default dirties way d (get_or dirties way d) (dirty_inside (is_key block) way found)
 
       pub line_has : (dirty : M) → dirty ≡ get_or dirties way dirty → is_line factor dirty ≡ true
       line_has dirty e = has-found is.whole block way on_way (record { block = block; dirty = dirty }) (there dirty e)

@@ -5,3 +5,4 @@ pub mod Refusals
 pub mod CleanMasks
 pub mod Rows
 pub mod WayKeys
+pub mod WayWords

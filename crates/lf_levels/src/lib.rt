@@ -8,6 +8,7 @@
 //! Only `new` takes memory: it makes all ways, a row of them for each set.
 #![tactic(auto)]
 
+mod dirty_ways;
 mod divisor;
 mod fault;
 mod level;

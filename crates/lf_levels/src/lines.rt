@@ -1,6 +1,6 @@
 //! A table of lines.
 
-ghost use Rattle.std.specs.Prelude.{◌≡◌, ◌<◌, ◌*◌, true, false, ◌↔◌, IsTrue, Option, Some, None, option_copied};
+ghost use Rattle.std.specs.Prelude.{◌≡◌, ◌<◌, ◌*◌, true, false, ◌↔◌, IsTrue, Option, Some, None};
 ghost use Rattle.std.specs.Prelude.{unwrap_or, IfOk, IfErr, OnErr};
 ghost use Rattle.lf_rules.specs.Fits.{is_factor};
 ghost use Rattle.lf_rules.specs.InRange.{IsFrom};
@@ -9,12 +9,12 @@ ghost use Rattle.lf_levels.specs.LineTable.{IsLineTable, ChangesOnly, set_in, em
 ghost use Rattle.lf_levels.specs.LineTable.{after_evict};
 ghost use Rattle.lf_levels.specs.Refusals.{FillRefusal, TakeOutRefusal};
 
+use crate::dirty_ways::DirtyWays;
 use crate::divisor::Divisor;
 use crate::fault::LineFault;
 use crate::level::{Level, Two};
-use crate::lines_two::gain_at;
 use crate::way_key::WayKey;
-use crate::ways::{clean_ways, find_free, find_line, free_keys};
+use crate::ways::{find_free, find_line, free_keys};
 use lf_rules::{Mask, NoMemory};
 use std::alloc::Global;
 use std::marker::Model;
@@ -29,10 +29,11 @@ pub struct Lines<L: Level> {
     /// Which block each way has a line on: a row of ways for each set, one row after another.
     keys: Vec<WayKey>,
     /// What is dirty of each way's line. Where a way is free, this has no meaning.
-    dirty: Vec<L::Dirty>,
+    dirty: DirtyWays<L>,
 }
 
 impl<L: Level> Model for Lines<L> {
+    ghost use Rattle.std.specs.Prelude.{◌≡◌};
     ghost use Rattle.lf_levels.specs.LineTable.{LineTable};
     ghost use Rattle.lf_levels.specs.Rows.{AreWays, rows_of, lines_of};
 
@@ -44,11 +45,11 @@ impl<L: Level> Model for Lines<L> {
       banks = a.banks;
       factor = a.factor;
       lines =
-          lines_of (rows_of a.keys.items a.dirty.items);
+          lines_of (rows_of a.keys.items a.dirty.ways);
     } };
 
-    ghost invariant = { λ a. AreWays L.set L.is_line a.sets a.ways a.banks a.factor a.keys.items
-        a.dirty.items };
+    ghost invariant = { λ a. (a.dirty.factor ≡ a.factor)
+        × AreWays L.set L.is_line a.sets a.ways a.banks a.factor a.keys.items a.dirty.ways };
 }
 
 impl<L: Level> Lines<L> {
@@ -68,7 +69,7 @@ impl<L: Level> Lines<L> {
     {
         let count = sets as usize * ways as usize;
         let keys = free_keys(alloc, count)?;
-        let dirty = clean_ways::<L>(alloc, count)?;
+        let dirty = DirtyWays::new(alloc, factor, count)?;
         Ok(Lines {
             sets: Divisor::of(sets),
             ways,
@@ -112,14 +113,14 @@ impl<L: Level> Lines<L> {
     }
 
     /// What is dirty of the block's line.
-    pub(crate) fn line(&self, block: u32) -> Option<&L::Dirty>
-        ensures value { option_copied result ≡ line_at self.now.lines block }
+    pub(crate) fn line(&self, block: u32) -> Option<L::Dirty>
+        ensures value { result ≡ line_at self.now.lines block }
         ensures table { IsLineTable L.set L.is_line self.now }
     {
         let Some(way) = find_line(&self.keys, self.row(block), self.ways as usize, block) else {
             return None;
         };
-        Some(&self.dirty[way])
+        Some(self.dirty.get(way))
     }
 
     /// A line comes to a block that has none.
@@ -137,7 +138,7 @@ impl<L: Level> Lines<L> {
             return Err(LineFault::SetFull);
         };
         self.keys[way] = WayKey::of(block);
-        self.dirty[way] = dirty;
+        self.dirty.set(way, &dirty);
         Ok(())
     }
 
@@ -157,7 +158,9 @@ impl<L: Level> Lines<L> {
         let Some(way) = find_line(&self.keys, row, ways, block) else {
             unreachable!()
         };
-        L::join(&mut self.dirty[way], more);
+        let mut dirty = self.dirty.get(way);
+        L::join(&mut dirty, more);
+        self.dirty.set(way, &dirty);
     }
 
     /// The block's line goes, where this is what is dirty of it.
@@ -175,7 +178,8 @@ impl<L: Level> Lines<L> {
         let Some(way) = find_line(&self.keys, row, self.ways as usize, block) else {
             return Err(LineFault::EvictAbsent);
         };
-        if !L::same(self.factor.get(), dirty, &self.dirty[way]) {
+        let kept = self.dirty.get(way);
+        if !L::same(self.factor.get(), dirty, &kept) {
             return Err(LineFault::EvictMask);
         }
         self.keys[way] = WayKey::free();
@@ -202,6 +206,6 @@ impl Lines<Two> {
         let Some(way) = find_line(&self.keys, row, ways, second) else {
             unreachable!()
         };
-        gain_at(&mut self.dirty[way], place, mask);
+        self.dirty.gain_at(way, place, mask);
     }
 }

@@ -19,7 +19,7 @@ impl Lines<One> {
         ensures table { IsLineTable set1_of is_line1 self.now }
     {
         match self.line(block) {
-            Some(mask) => Some(Mask(*mask)),
+            Some(mask) => Some(Mask(mask)),
             None => None,
         }
     }

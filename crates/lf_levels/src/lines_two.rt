@@ -1,12 +1,13 @@
 //! The lines of level two, each with a mask for every first-level block of its block.
 
-ghost use Rattle.std.specs.Prelude.{◌≡◌, ◌<◌, ◌/◌, ◌&&◌, true, false, not, length, Option, Some, None, option_copied};
+ghost use Rattle.std.specs.Prelude.{◌≡◌, ◌<◌, ◌≤◌, ◌/◌, ◌&&◌, true, false, not, length, Option, Some, None};
 ghost use Rattle.std.specs.Prelude.{IfOk, IfErr, OnErr};
 ghost use Rattle.lf_rules.specs.Fits.{is_factor};
-ghost use Rattle.lf_rules.specs.Lines.{line_at, has_line, dirty_masks, same_masks, marked};
+ghost use Rattle.lf_rules.specs.Lines.{line_at, has_line, dirty_masks, same_masks};
 ghost use Rattle.lf_levels.specs.LineTable.{IsLineTable, is_line2, ChangesOnly, is_full, wide_set, after_fill};
 ghost use Rattle.lf_levels.specs.LineTable.{after_evict, joined, joined2, are_absent};
 ghost use Rattle.lf_levels.specs.Refusals.{FillRefusal, WideEvictRefusal};
+ghost use Rattle.lf_levels.specs.WayWords.{masks_of};
 
 use crate::fault::LineFault;
 use crate::level::{One, Two};
@@ -22,10 +23,33 @@ pub fn join_masks(masks: &mut Masks, others: &Masks)
     }
 }
 
+/// A mask for each word.
+pub fn masks_of(words: &[u64]) -> Masks
+    requires { length words.now ≤ 4 }
+    ensures { result ≡ masks_of words.now }
+{
+    let mut masks = Masks::new();
+    for word in words {
+        masks.push(Mask(*word));
+    }
+    masks
+}
+
+/// Puts each mask into the word at its place.
+pub fn put_masks(words: &mut [u64], masks: &Masks)
+    requires { length masks.now.items ≡ length words.old }
+    ensures count { length words.new ≡ length words.old }
+    ensures value { masks_of words.new ≡ masks.now }
+{
+    for i in 0..words.len() {
+        words[i] = masks[i].0;
+    }
+}
+
 impl Lines<Two> {
     /// The dirty masks of the second-level block's line.
-    pub fn dirty(&self, second: u32) -> Option<&Masks>
-        ensures value { option_copied result ≡ line_at self.now.lines second }
+    pub fn dirty(&self, second: u32) -> Option<Masks>
+        ensures value { result ≡ line_at self.now.lines second }
         ensures table { IsLineTable wide_set is_line2 self.now }
     {
         self.line(second)
@@ -81,14 +105,6 @@ impl Lines<Two> {
     {
         are_absent(self.factor(), inner, second) && !in_register
     }
-}
-
-/// The mask at the place gains these bytes.
-pub fn gain_at(masks: &mut Masks, place: u32, mask: Mask)
-    requires { place < length masks.old.items }
-    ensures { masks.new ≡ marked masks.old place mask.0 }
-{
-    masks[place as usize].0 |= mask.0;
 }
 
 /// Whether level one has no line on any block of the second-level block.

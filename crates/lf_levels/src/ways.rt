@@ -4,7 +4,6 @@ ghost use Rattle.std.specs.Prelude.{◌≡◌, ◌+◌, ◌≤◌, length, repli
 ghost use Rattle.std.specs.List.{position};
 ghost use Rattle.lf_levels.specs.Rows.{is_free, is_key, is_same, FindsWay};
 
-use crate::level::Level;
 use crate::way_key::WayKey;
 use lf_rules::NoMemory;
 use std::alloc::Global;
@@ -14,17 +13,6 @@ pub fn free_keys(alloc: Global, count: usize) -> Result<Vec<WayKey>, NoMemory>
     ensures { IfOk result (λ keys. keys.items ≡ replicate count None) }
 {
     Ok(vec![in alloc; WayKey::free(); count]?)
-}
-
-/// What is dirty of so many free ways: nothing.
-pub fn clean_ways<L: Level>(alloc: Global, count: usize) -> Result<Vec<L::Dirty>, NoMemory>
-    ensures { IfOk result (λ ways. length ways.items ≡ count) }
-{
-    let mut ways = Vec::with_capacity(alloc, count)?;
-    for _ in 0..count {
-        ways.push_reserved(L::clean());
-    }
-    Ok(ways)
 }
 
 /// Where among the ways the first of this key is. Each way is looked at, since a search that ends at the first has a

@@ -1,10 +1,9 @@
 //! What a caller sees of a bank's state. Nothing changes here.
 
-ghost use Rattle.std.specs.Prelude.{◌≡◌, true, false, MatchOption, option_copied};
+ghost use Rattle.std.specs.Prelude.{◌≡◌, true, false, MatchOption};
 ghost use Rattle.std.specs.List.{list_any};
 ghost use Rattle.lf_rules.specs.Address.{block_bytes};
 ghost use Rattle.lf_rules.specs.InRange.{IsShape};
-ghost use Rattle.lf_rules.specs.Lines.{line_at};
 ghost use Rattle.lf_rules.specs.Registers.{holds};
 ghost use Rattle.lf_rules.specs.Table.{first_ready, is_ready_for};
 ghost use Rattle.lf_state.specs.Bytes.{flat_of};
@@ -17,7 +16,6 @@ use crate::bank::Bank;
 use crate::bank_step::Step;
 use crate::lookup::{is_among, is_asked};
 use crate::registers::{is_fetched, store_bytes};
-use lf_levels::{Lines, Two};
 use lf_mshr::{Organisation, Request1, Request2};
 use lf_rules::{Block, Mask, Masks, Shape};
 use lf_state::{FlatMemory, ready_for, second_of};
@@ -56,27 +54,6 @@ fn block_bytes(shape: &Shape, memory: &FlatMemory, block: u32) -> Block
     bytes
 }
 
-/// A copy of the masks.
-fn copied(masks: &Masks) -> Masks
-    ensures { result ≡ masks.now }
-{
-    let mut same = Masks::new();
-    let Ok(()) = same.try_extend_from_slice(masks) else {
-        unreachable!()
-    };
-    same
-}
-
-/// A copy of the dirty masks of the second-level block's line.
-fn line2(lines: &Lines<Two>, second: u32) -> Option<Masks>
-    ensures { result ≡ line_at lines.now.lines second }
-{
-    match lines.dirty(second) {
-        Some(masks) => Some(copied(masks)),
-        None => None,
-    }
-}
-
 /// Whether a level-one register holds the block.
 fn is_held<O: Organisation<Target = Request1>>(waiting: &O::File, block: u32) -> bool
     ensures { (shape : Shape) → OfMissed shape (O.seen waiting.now) (λ missed. result ≡ holds missed block) }
@@ -91,7 +68,7 @@ impl<O1: Organisation<Target = Request1>, O2: Organisation<Target = Request2>> B
         let second = second_of(&self.shape, block);
         BlockState {
             line1: self.lines1.dirty(block),
-            line2: line2(&self.lines2, second),
+            line2: self.lines2.dirty(second),
             asked: is_asked(&self.asked, block),
             supplied: is_among(&self.supplied, block),
             held: is_held::<O1>(&self.waiting, block),

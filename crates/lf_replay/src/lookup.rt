@@ -28,12 +28,11 @@ pub fn is_among(blocks: &[u32], block: u32) -> bool
 pub fn are_dirty2(factor: u32, lines: &Lines<Two>, second: u32, masks: &Masks) -> bool
     ensures { result ≡ same_masks factor masks.now (dirty_masks lines.now.lines second) }
 {
-    let none = Masks::new();
     let dirty = match lines.dirty(second) {
         Some(dirty) => dirty,
-        None => &none,
+        None => Masks::new(),
     };
-    same_masks(factor, masks, dirty)
+    same_masks(factor, masks, &dirty)
 }
 
 /// What a level-two register keeps of a block, where level one asked for it.
