@@ -6,3 +6,4 @@ pub mod NearBlocks
 pub mod NearKeyed
 pub mod NearWider
 pub mod TwoParts
+pub mod Moved

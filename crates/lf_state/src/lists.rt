@@ -52,11 +52,20 @@ pub fn drop_asked(asked: &mut Vec<(u32, u16)>, block: u32)
     asked.retain(|a| a.0 != block);
 }
 
-/// The block is no longer among these.
+/// The block is no longer among these. Each is written to its place, the block too, over which the next one comes: a
+/// branch for the block is one that the processor often predicts wrongly.
 pub fn drop_block(blocks: &mut Vec<u32>, block: u32)
     ensures { blocks.new.items ≡ without blocks.old.items block }
 {
-    blocks.retain(|b| *b != block);
+    let mut kept = 0;
+    for at in 0..blocks.len() {
+        let other = blocks[at];
+        blocks[kept] = other;
+        if other != block {
+            kept += 1;
+        }
+    }
+    blocks.truncate(kept);
 }
 
 fn ready_entry(ready: &[Ready], port: u8, tag: u8) -> Option<&Ready>
