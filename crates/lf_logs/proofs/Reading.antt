@@ -9,7 +9,7 @@ use Rattle.lf_rules.specs.declared.event.Record.{Record}
 use Rattle.lf_logs.specs.declared.order.Place.{Place}
 use Rattle.lf_logs.specs.Places.{record_at}
 
-at_inside : {X : Type 0} (xs : List X) (at : ℕ) → IsSome (slice_get xs at) → at < length xs
+pub at_inside : {X : Type 0} (xs : List X) (at : ℕ) → IsSome (slice_get xs at) → at < length xs
 at_inside xs at there = ⊎_elim
     (λ (inside : at < length xs). inside)
     (λ (past : length xs ≤ at). absurd (false≢true (sym (ap is_some (slice_get_past xs at past)) ∙ there)))

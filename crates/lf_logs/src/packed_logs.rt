@@ -4,40 +4,49 @@ ghost use Rattle.std.specs.Prelude.{◌≡◌, ℕ, ◌+◌, ◌<◌, ◌≤◌,
 ghost use Rattle.std.specs.List.{All};
 ghost use Rattle.lf_rules.specs.declared.event.Record.{Record};
 ghost use Rattle.lf_logs.specs.Lists.{logs_of};
-ghost use Rattle.lf_logs.specs.PackedLogs.{lists_at, AreWithin};
+ghost use Rattle.lf_logs.specs.PackedLogs.{lists_at, AreSpotsOf, IsSpotOf};
 
 use crate::log_records::LogRecords;
 use crate::order::Place;
-use lf_codec::Packed;
+use lf_codec::{Packed, Places};
 use lf_rules::{NoMemory, Record};
 use std::alloc::Global;
 use std::marker::Model;
 
-/// The records of a trace by their logs, in the form of their bytes: each takes about the room of these, and four
-/// bytes for its place.
+/// Where a record stands among all records, with the bank that it names and its number: so a walk over all records of
+/// a bank reads no other part of them.
+#[derive(Clone, Copy)]
+struct Spot {
+    at: u32,
+    number: u32,
+    bank: u8,
+}
+
+/// The records of a trace by their logs, in the form of their bytes: each takes about the room of these, and twelve
+/// bytes for its spot.
 #[derive(Drop)]
 pub struct PackedLogs {
     records: Packed,
-    /// For each log the places of its records.
-    places: Vec<Vec<u32>>,
+    /// For each log the spots of its records.
+    spots: Vec<Vec<Spot>>,
 }
 
 impl Model for PackedLogs {
     ghost use Rattle.std.specs.Prelude.{List};
     ghost use Rattle.lf_rules.specs.declared.event.Record.{Record};
-    ghost use Rattle.lf_logs.specs.PackedLogs.{lists_at, AreWithin};
+    ghost use Rattle.lf_logs.specs.PackedLogs.{lists_at, AreSpotsOf};
 
     ghost Value = { List (List Record) };
 
-    ghost view = { λ p. lists_at p.records.records p.places };
+    ghost view = { λ p. lists_at p.records.records p.spots };
 
-    ghost invariant = { λ p. AreWithin p.records.records p.places };
+    ghost invariant = { λ p. AreSpotsOf p.records.records p.spots };
 }
 
-/// So many logs with no place.
-fn no_places(alloc: Global, count: u32) -> Result<Vec<Vec<u32>>, NoMemory>
-    ensures lists { IfOk result (λ places. (rs : List Record) → lists_at rs places ≡ logs_of count []) }
-    ensures within { IfOk result (λ places. (rs : List Record) → AreWithin rs places) }
+/// So many logs with no record.
+fn no_spots(alloc: Global, count: u32) -> Result<Vec<Vec<Spot>>, NoMemory>
+    ensures lists { IfOk result (λ logs. (rs : List Record) → lists_at rs logs ≡ logs_of count []) }
+    ensures spots { IfOk result (λ logs. (rs : List Record) → AreSpotsOf rs logs) }
 {
     let mut logs = Vec::new(alloc);
     for _ in 0..count {
@@ -46,19 +55,33 @@ fn no_places(alloc: Global, count: u32) -> Result<Vec<Vec<u32>>, NoMemory>
     Ok(logs)
 }
 
-/// For each log the places of its records.
-fn places_by_log(alloc: Global, count: u32, records: &Packed) -> Result<Vec<Vec<u32>>, NoMemory>
+/// The spot of the record at this place.
+fn spot_of(records: &Packed, at: usize) -> Spot
+    requires within { at < length records.now.records }
+    requires few { length records.now.records ≤ 2 ^ 29 }
+    ensures spot { IsSpotOf records.now.records result }
+    ensures at { result.at ≡ at }
+{
+    Spot {
+        at: at as u32,
+        number: records.number(at),
+        bank: records.bank(at),
+    }
+}
+
+/// For each log the spots of its records.
+fn spots_by_log(alloc: Global, count: u32, records: &Packed) -> Result<Vec<Vec<Spot>>, NoMemory>
     requires logs { All (λ r. r.log < count) records.now.records }
     requires few { length records.now.records ≤ 2 ^ 29 }
-    ensures lists { IfOk result (λ places. lists_at records.now.records places ≡ logs_of count records.now.records) }
-    ensures within { IfOk result (λ places. AreWithin records.now.records places) }
+    ensures lists { IfOk result (λ logs. lists_at records.now.records logs ≡ logs_of count records.now.records) }
+    ensures spots { IfOk result (λ logs. AreSpotsOf records.now.records logs) }
 {
-    let mut places = no_places(alloc, count)?;
+    let mut logs = no_spots(alloc, count)?;
     for at in 0..records.len() {
         let log = usize::from(records.log(at));
-        places[log].push(at as u32)?;
+        logs[log].push(spot_of(records, at))?;
     }
-    Ok(places)
+    Ok(logs)
 }
 
 impl PackedLogs {
@@ -76,8 +99,8 @@ impl PackedLogs {
         requires few { length records.records ≤ 2 ^ 29 }
         ensures { IfOk result (λ logs. logs ≡ logs_of (ports + banks) records.records) }
     {
-        let places = places_by_log(alloc, ports + banks, &records)?;
-        Ok(PackedLogs { records, places })
+        let spots = spots_by_log(alloc, ports + banks, &records)?;
+        Ok(PackedLogs { records, spots })
     }
 }
 
@@ -85,20 +108,20 @@ impl LogRecords for PackedLogs {
     ghost lists = { λ logs. logs };
 
     fn log_count(&self) -> usize {
-        self.places.len()
+        self.spots.len()
     }
 
     fn log_len(&self, log: usize) -> usize {
-        self.places[log].len()
+        self.spots[log].len()
     }
 
     fn entry(&self, place: Place) -> (u8, u32) {
-        let at = self.places[usize::from(place.log)][place.at as usize] as usize;
-        (self.records.bank(at), self.records.number(at))
+        let Spot { bank, number, .. } = self.spots[usize::from(place.log)][place.at as usize];
+        (bank, number)
     }
 
-    fn lend<'a>(&'a self, place: Place, room: &'a mut Record) -> &'a Record {
-        let at = self.places[usize::from(place.log)][place.at as usize] as usize;
-        self.records.lend(at, room)
+    fn lend<'a>(&'a self, place: Place, room: &'a mut Places) -> &'a Record {
+        let spot = self.spots[usize::from(place.log)][place.at as usize];
+        self.records.lend_from(spot.at as usize, room)
     }
 }

@@ -4,7 +4,7 @@ ghost use Rattle.std.specs.Prelude.{◌≡◌, ◌<◌, ◌≤◌, ◌^◌, ℕ,
 ghost use Rattle.lf_logs.specs.Incomplete.{waits, waits_after};
 ghost use Rattle.lf_stats.specs.Statistics.{unanswered};
 
-use lf_history::room;
+use lf_codec::Places;
 use lf_logs::{LogRecords, Place};
 use lf_rules::Event;
 
@@ -32,7 +32,7 @@ fn waits_at<L: LogRecords>(logs: &L, port: u8) -> [bool; TAGS]
     ensures waits { (tag : ℕ) → tag < 256 → slice_index_or result tag false
         ≡ waits (slice_index_or (L.lists logs.now) port []) tag }
 {
-    let mut room = room();
+    let mut room = Places::new();
     let mut waits = [false; TAGS];
     for at in 0..logs.log_len(usize::from(port)) {
         let place = Place {
