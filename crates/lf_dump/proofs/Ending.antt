@@ -6,7 +6,7 @@ use Rattle.lf_codec.specs.declared.fault.CodecFault.{CodecFault}
 use Rattle.lf_codec.specs.Laws.{AreBytes}
 use Rattle.lf_codec.specs.Reading.{trace_fault}
 use Rattle.lf_stream.specs.Account.{Account, WentOut}
-use Rattle.lf_stream.specs.Gathered.{IsAllRead}
+use Rattle.lf_stream.specs.Gathered.{IsAllRead, GoesOnToLast}
 use Rattle.lf_dump.specs.declared.fault.DumpFault.{DumpFault}
 use Rattle.lf_dump.specs.declared.fault.DumpFault.TheVariants.{Read, Turns, Memory, Write}
 use Rattle.lf_dump.specs.Lines.{closing_of}
@@ -79,15 +79,16 @@ module _ (lines : List ℕ → List ℕ) (a c w x : Account) (turns : ℕ) (last
       })
       (cut_at_end lines a c w x y bytes n all told out)
 
-  pub dumped_whole : (y : Account) (fault : Option CodecFault) → AreBytes bytes → ¬ (0 < y.failures) →
-      fault ≡ trace_fault bytes → WentOut x y (closing_of bytes)
+  pub dumped_whole : (y : Account) (fault : Option CodecFault) → AreBytes bytes → GoesOnToLast a.pieces c.pieces →
+      ¬ (0 < y.failures) → fault ≡ trace_fault bytes → WentOut x y (closing_of bytes)
       → IsDumpedBy lines a c w y turns last (Ok fault)
-  dumped_whole y fault are_bytes written is out = record {
+  dumped_whole y fault are_bytes once written is out = record {
     reads = reads;
     whole = record {
       bytes = bytes;
       are_bytes = are_bytes;
       all = all;
+      once = once;
       is_fault = is;
       out =
           out_on w x y (lines bytes) (closing_of bytes) told out;

@@ -1,14 +1,15 @@
 -- How a dump of chosen lines goes on and ends.
-use Rattle.std.proofs.Common.{◌≡◌, ℕ, ◌+◌, ◌*◌, ◌<◌, ◌≤◌, List, [], ◌∷◌, ◌++◌, length, take, Bool, Option, Some, None}
-use Rattle.std.proofs.Common.{Ok, Err, refl, sym, ap, subst, ◌∙◌, append_assoc, append-nil, arith, inl, inr}
+use Rattle.std.proofs.Common.{◌≡◌, ◌≢◌, ℕ, ◌+◌, ◌*◌, ◌<◌, ◌≤◌, List, [], ◌∷◌, ◌++◌, length, take, Bool, Option}
+use Rattle.std.proofs.Common.{Some, None, Ok, Err, refl, sym, ap, subst, ◌∙◌, append_assoc, append-nil, arith, inl, inr}
 use Rattle.std.specs.Prelude.{IsTrue, ◌↔◌}
 use Rattle.std.specs.List.{concat}
 use Rattle.std.proofs.lemmas.List.{length-append}
 use Rattle.std.specs.Io.KnownBytes.{Consumes, Keeps, IsAtEnd}
 use Rattle.lf_codec.specs.Laws.{FaultsSoFarAreNotTruncated}
 use Rattle.lf_stream.specs.Account.{Account, WentOut}
-use Rattle.lf_stream.specs.Gathered.{IsPartRead}
+use Rattle.lf_stream.specs.Gathered.{IsPartRead, GoesOn}
 use Rattle.lf_stream.proofs.GatheringLemmas.{begun, same_part, more_part, last_part}
+use Rattle.lf_stream.proofs.GatheringLemmas.{goes_from, goes_same, goes_more, goes_to_last}
 use Rattle.lf_stream.proofs.OutputLemmas.{nothing_out}
 use Rattle.lf_dump.specs.declared.choice.Choice.{Choice}
 use Rattle.lf_dump.specs.declared.chosen.Chosen.{Chosen}
@@ -85,6 +86,7 @@ pub record IsChoosing (old new writer writer' : Account) (turn : ℕ) (choice : 
   pub out : List ℕ
   pub chosen_so_far : IsChosen choice printer chosen out bytes
   pub part : IsPartRead HasFault old new bytes
+  pub goes_on : GoesOn old.pieces new.pieces
   pub went : WentOut writer writer' out
   pub size : length bytes ≤ turn * piece_len
 
@@ -106,6 +108,7 @@ choosing_start so_far a w printer chosen shown holds = record {
         refl;
   };
   part = begun HasFault a (none_stands so_far [] refl);
+  goes_on = goes_from a.pieces;
   went = nothing_out w;
   size = omega arith;
 }
@@ -118,6 +121,7 @@ choosing_same a b c w x turn choice printer chosen t pieces known = record {
   out = t.out;
   chosen_so_far = t.chosen_so_far;
   part = same_part HasFault a b c t.bytes t.part pieces known;
+  goes_on = goes_same a.pieces b.pieces c.pieces t.goes_on pieces;
   went = t.went;
   size = omega (arith, t.size);
 }
@@ -134,6 +138,7 @@ module _ (choice : Choice) (a b w x y : Account) (turn turns : ℕ) (printer : P
       record {
         bytes = t.bytes;
         part = t.part;
+        unended = t.goes_on;
         out = subst (WentOut w y) (sym rest_same ∙ sym (append-nil (chosen_lines choice t.bytes)))
             (out_on w x y t.out (rest_of chosen) t.went went);
       }
@@ -201,6 +206,7 @@ module _ (a b c w x : Account) (turn turns : ℕ) (choice : Choice) (old : Print
         out = t.out;
         shown = subst (λ (bs : List ℕ). IsShown bs old) same t.chosen_so_far.shown;
         all = last_part HasFault a b c t.bytes t.part piece pieces known piece_len one_read (λ _. none) (λ _. at_end);
+        once = goes_to_last a.pieces b.pieces c.pieces t.goes_on piece pieces;
         went = t.went;
         holds = subst (λ (bs : List ℕ). HasChosen was t.out bs) same t.chosen_so_far.holds;
       }
@@ -219,17 +225,19 @@ module _ (a b c w x : Account) (turn turns : ℕ) (choice : Choice) (old : Print
           shown = h.1.2.shown;
           all = last_part HasFault a b c t.bytes t.part piece pieces known piece_len one_read
               (λ sound. absurd (sound fault)) (λ sound. absurd (sound fault));
+          once = goes_to_last a.pieces b.pieces c.pieces t.goes_on piece pieces;
           went = out_on w x y t.out h.1.0 t.went h.1.1;
           holds = h.1.2.holds;
         }
 
-    pub choosing_more : (enough : Bool) → ¬ IsTrue enough →
+    pub choosing_more : piece ≢ [] → (enough : Bool) → ¬ IsTrue enough →
         Chooses x y choice new now t.out t.bytes piece (Ok enough) → IsChoosing a c w y (turn + 1) choice new now
-    choosing_more enough not h = record {
+    choosing_more some enough not h = record {
       bytes = t.bytes ++ piece;
       out = t.out ++ h.1.0;
       chosen_so_far = h.1.2;
       part = more_part HasFault a b c t.bytes t.part piece pieces known (λ fault. not (h.0.1 fault));
+      goes_on = goes_more a.pieces b.pieces c.pieces t.goes_on piece pieces some;
       went = out_on w x y t.out h.1.0 t.went h.1.1;
       size = omega (arith, t.size, one_read, length-append t.bytes piece);
     }

@@ -1,6 +1,6 @@
 -- What a dump read and wrote so far.
 use Rattle.std.proofs.Common.{◌≡◌, ℕ, zero, suc, ◌+◌, ◌*◌, ◌≤◌, List, [], ◌∷◌, ◌++◌, length, take, Bool, Ok, Err}
-use Rattle.std.proofs.Common.{refl, sym, ap, subst, ◌∙◌, append_assoc, append-nil, arith, inl}
+use Rattle.std.proofs.Common.{refl, sym, ap, subst, ◌∙◌, append_assoc, append-nil, arith, inl, ◌≢◌}
 use Rattle.std.specs.List.{concat}
 use Rattle.std.specs.Prelude.{IsTrue}
 use Rattle.std.proofs.lemmas.List.{length-append}
@@ -8,8 +8,9 @@ use Rattle.std.proofs.lemmas.List.Folds.{concat-append}
 use Rattle.std.specs.Io.KnownBytes.{Consumes, Keeps, IsAtEnd}
 use Rattle.std.proofs.KnownBytes.{Appends-trans}
 use Rattle.lf_stream.specs.Account.{Account, WentOut}
-use Rattle.lf_stream.specs.Gathered.{IsPartRead, IsAllRead}
+use Rattle.lf_stream.specs.Gathered.{IsPartRead, IsAllRead, GoesOn}
 use Rattle.lf_stream.proofs.GatheringLemmas.{begun, same_part, more_part, last_part}
+use Rattle.lf_stream.proofs.GatheringLemmas.{goes_from, goes_same, goes_more}
 use Rattle.lf_stream.proofs.OutputLemmas.{nothing_out}
 use Rattle.lf_codec.specs.Laws.{FaultsSoFarAreNotTruncated}
 use Rattle.lf_dump.proofs.Faults.{none_stands}
@@ -18,7 +19,7 @@ use Rattle.lf_dump.specs.declared.fault.DumpFault.TheVariants.{Read, Turns, Memo
 use Rattle.lf_dump.specs.declared.printer.Printer.{Printer}
 use Rattle.lf_dump.specs.Lines.{lines_of, closing_of}
 use Rattle.lf_dump.specs.Dump.{HasFault, IsNone, IsShown, Closes, IsToldSoFar, IsToldInPart, IsCutOff, IsStopped}
-use Rattle.lf_dump.specs.Dump.{Shows, piece_len}
+use Rattle.lf_dump.specs.Dump.{IsToldButForOne, Shows, piece_len}
 
 -- ---- bytes that went out
 
@@ -72,6 +73,7 @@ pub record IsTelling (old new writer writer' : Account) (turn : ℕ) (printer : 
   pub bytes : List ℕ
   pub shown : IsShown bytes printer
   pub part : IsPartRead HasFault old new bytes
+  pub goes_on : GoesOn old.pieces new.pieces
   pub out : WentOut writer writer' (lines_of bytes)
   pub size : length bytes ≤ turn * piece_len
 
@@ -80,6 +82,7 @@ pub stops_here : (a b w x : Account) (turn : ℕ) (printer : Printer) → IsTell
 stops_here a b w x turn printer t = record {
   bytes = t.bytes;
   part = t.part;
+  unended = t.goes_on;
   out =
       subst (WentOut w x) (sym (append-nil (lines_of t.bytes))) t.out;
 }
@@ -95,6 +98,26 @@ pub stops_at_end : (lines : List ℕ → List ℕ) (a b w x : Account) (bytes : 
     → IsToldInPart lines a b w x []
 stops_at_end lines a b w x bytes all out = stops_in_part lines a b w x bytes []
     (none_more a b bytes (all_part a b bytes all)) out
+
+-- Nothing was read, and nothing went out.
+pub none_told : (a w : Account) → IsToldButForOne a a w w []
+none_told a w = record {
+  bytes = [];
+  more = [];
+  part = begun IsNone a (λ bad. bad);
+  one_read = omega arith;
+  out = nothing_out w;
+}
+
+pub all_told : (a b w x : Account) (bytes : List ℕ) → IsAllRead HasFault piece_len a b bytes →
+    WentOut w x (lines_of bytes) → IsToldButForOne a b w x []
+all_told a b w x bytes all out = record {
+  bytes = bytes;
+  more = [];
+  part = none_more a b bytes (all_part a b bytes all);
+  one_read = omega arith;
+  out = subst (WentOut w x) (sym (append-nil (lines_of bytes))) out;
+}
 
 -- The last of the lines went out as far as the writer took them.
 pub cut_in_lines : (lines : List ℕ → List ℕ) (a b w x y : Account) (bytes early late : List ℕ) (n : ℕ) →
@@ -149,7 +172,13 @@ module _ (w x y : Account) (line : List ℕ) (out : WentOut x y line) where
 
   pub line_so_far : (lines : List ℕ → List ℕ) (a b : Account) → IsToldSoFar lines a b w x [] →
       IsToldSoFar lines a b w y line
-  line_so_far lines a b t = record { bytes = t.bytes; part = t.part; out = then_line (lines t.bytes) t.out }
+  line_so_far lines a b t = record {
+    bytes = t.bytes;
+    part = t.part;
+    unended = t.unended;
+    out =
+        then_line (lines t.bytes) t.out;
+  }
 
   pub line_in_part : (lines : List ℕ → List ℕ) (a b : Account) → IsToldInPart lines a b w x [] →
       IsToldInPart lines a b w y line
@@ -159,6 +188,16 @@ module _ (w x y : Account) (line : List ℕ) (out : WentOut x y line) where
     part = t.part;
     out =
         then_line (lines t.bytes) t.out;
+  }
+
+  pub line_but_for_one : (a b : Account) → IsToldButForOne a b w x [] → IsToldButForOne a b w y line
+  line_but_for_one a b t = record {
+    bytes = t.bytes;
+    more = t.more;
+    part = t.part;
+    one_read = t.one_read;
+    out =
+        then_line (lines_of t.bytes) t.out;
   }
 
 module _ (lines : List ℕ → List ℕ) (a b w x y : Account) (line : List ℕ) (n : ℕ) (out : WentOut x y (take n line)) where
@@ -182,6 +221,7 @@ telling_start so_far a w printer shown =
       bytes = [];
       shown = shown;
       part = begun HasFault a (none_stands so_far [] refl);
+      goes_on = goes_from a.pieces;
       out =
           nothing_out w;
       size = omega arith;
@@ -195,6 +235,7 @@ telling_same a b c w x turn printer t pieces known = record {
   bytes = t.bytes;
   shown = t.shown;
   part = same_part HasFault a b c t.bytes t.part pieces known;
+  goes_on = goes_same a.pieces b.pieces c.pieces t.goes_on pieces;
   out = t.out;
   size = omega (arith, t.size);
 }
@@ -233,12 +274,13 @@ module _ (a b c w x : Account) (turn : ℕ) (old : Printer) (t : IsTelling a b w
           lines_out h.2.0 h.2.1 h.2.2,
         )
 
-    pub telling_more : (enough : Bool) → ¬ IsTrue enough → Shows x y new t.bytes piece (Ok enough) →
+    pub telling_more : piece ≢ [] → (enough : Bool) → ¬ IsTrue enough → Shows x y new t.bytes piece (Ok enough) →
         IsTelling a c w y (turn + 1) new
-    telling_more enough not h = record {
+    telling_more some enough not h = record {
       bytes = t.bytes ++ piece;
       shown = h.0;
       part = more_part HasFault a b c t.bytes t.part piece pieces known (λ fault. not (h.1.1 fault));
+      goes_on = goes_more a.pieces b.pieces c.pieces t.goes_on piece pieces some;
       out = lines_out h.2.0 h.2.1 h.2.2;
       size = omega (arith, t.size, one_read, length-append t.bytes piece);
     }
@@ -253,3 +295,18 @@ module _ (a b c w x : Account) (turn : ℕ) (old : Printer) (t : IsTelling a b w
     stopped_by Write h =
         cut_in_lines lines_of a c w x y (t.bytes ++ piece) (lines_of t.bytes) h.0 h.2.0
         (more_part IsNone a b c t.bytes (any_part a b t.bytes t.part) piece pieces known (λ bad. bad)) h.1 t.out h.2.1
+
+    -- Memory ran out: the lines of the piece are missing.
+    pub told_but_for_piece : (fault : DumpFault) → fault ≡ Memory → Shows x y new t.bytes piece (Err fault) →
+        IsToldButForOne a c w y []
+    told_but_for_piece Read is h = absurd h
+    told_but_for_piece Turns is h = absurd h
+    told_but_for_piece Memory is same = record {
+      bytes = t.bytes;
+      more = piece;
+      part = more_part IsNone a b c t.bytes (any_part a b t.bytes t.part) piece pieces known (λ bad. bad);
+      one_read = one_read;
+      out = subst (λ (z : Account). WentOut w z (lines_of t.bytes ++ [])) (sym same)
+          (subst (WentOut w x) (sym (append-nil (lines_of t.bytes))) t.out);
+    }
+    told_but_for_piece Write is h = absurd cc

@@ -4,7 +4,7 @@ use Rattle.std.specs.Prelude.{Err, ◌↔◌, IsTrue, string_bytes}
 use Rattle.std.specs.List.{concat}
 use Rattle.lf_codec.specs.Reading.{header_of}
 use Rattle.lf_stream.specs.Account.{Account, WentOut}
-use Rattle.lf_stream.specs.Gathered.{IsAllRead}
+use Rattle.lf_stream.specs.Gathered.{IsAllRead, GoesOnToLast}
 use Rattle.lf_dump.specs.declared.choice.Choice.{Choice}
 use Rattle.lf_dump.specs.declared.chosen.Chosen.{Chosen}
 use Rattle.lf_dump.specs.declared.fault.DumpFault.{DumpFault}
@@ -80,5 +80,6 @@ pub record IsWhollyChosen (old new writer writer' : Account) (turns : ℕ) (prin
   pub out : List ℕ
   pub shown : IsShown bytes printer
   pub all : IsAllRead HasFault piece_len old new bytes
+  pub once : GoesOnToLast old.pieces new.pieces
   pub went : WentOut writer writer' out
   pub holds : HasChosen chosen out bytes

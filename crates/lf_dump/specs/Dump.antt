@@ -8,7 +8,7 @@ use Rattle.lf_codec.specs.Laws.{AreBytes}
 use Rattle.lf_codec.specs.Reader.{HasRead}
 use Rattle.lf_codec.specs.Reading.{reading_of, trace_fault}
 use Rattle.lf_stream.specs.Account.{Account, WentOut}
-use Rattle.lf_stream.specs.Gathered.{IsPartRead, IsAllRead}
+use Rattle.lf_stream.specs.Gathered.{IsPartRead, IsAllRead, GoesOn, GoesOnToLast}
 use Rattle.lf_dump.specs.declared.fault.DumpFault.{DumpFault}
 use Rattle.lf_dump.specs.declared.fault.DumpFault.TheVariants.{Read, Turns, Memory, Write}
 use Rattle.lf_dump.specs.declared.printer.Printer.{Printer}
@@ -37,10 +37,12 @@ pub record IsShown (bytes : List ℕ) (printer : Printer) : Type 0 where
 -- ---- what was read and what went out, from readers and writers at two moments
 -- These are said of the lines that bytes have: all of them, or those that a choice takes.
 
--- The reads answered these bytes, in which no fault stands, and all their lines went out, and then this line.
+-- The reads answered these bytes, in which no fault stands, and none said that the bytes end. All their lines went out,
+-- and then this line.
 pub record IsToldSoFar (lines : List ℕ → List ℕ) (old new writer writer' : Account) (line : List ℕ) : Type 0 where
   pub bytes : List ℕ
   pub part : IsPartRead HasFault old new bytes
+  pub unended : GoesOn old.pieces new.pieces
   pub out : WentOut writer writer' (lines bytes ++ line)
 
 -- The lines of a front of the bytes that the reads answered went out, and then this line.
@@ -49,6 +51,14 @@ pub record IsToldInPart (lines : List ℕ → List ℕ) (old new writer writer' 
   pub more : List ℕ
   pub part : IsPartRead IsNone old new (bytes ++ more)
   pub out : WentOut writer writer' (lines bytes ++ line)
+
+-- All lines of the bytes that the reads answered went out, but for those of at most one read, and then this line.
+pub record IsToldButForOne (old new writer writer' : Account) (line : List ℕ) : Type 0 where
+  pub bytes : List ℕ
+  pub more : List ℕ
+  pub part : IsPartRead IsNone old new (bytes ++ more)
+  pub one_read : length more ≤ piece_len
+  pub out : WentOut writer writer' (lines_of bytes ++ line)
 
 -- ---- the lines behind a text that stops
 
@@ -85,6 +95,7 @@ pub record IsToldWhole (lines : List ℕ → List ℕ) (old new writer writer' :
   pub bytes : List ℕ
   pub are_bytes : AreBytes bytes
   pub all : IsAllRead HasFault piece_len old new bytes
+  pub once : GoesOnToLast old.pieces new.pieces
   pub is_fault : fault ≡ trace_fault bytes
   pub out : WentOut writer writer' (lines bytes ++ closing_of bytes)
 

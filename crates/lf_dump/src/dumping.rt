@@ -4,10 +4,11 @@ ghost use Rattle.std.specs.Prelude.{◌≡◌, ◌≤◌, ◌<◌, ◌+◌, ◌^
 ghost use Rattle.std.specs.Prelude.{IfOk, IfErr, OnOk, IsErrOf};
 ghost use Rattle.lf_stream.specs.Account.{WentOut};
 ghost use Rattle.lf_stream.specs.Counted.{calls_of, failures_of, account_of};
-ghost use Rattle.lf_stream.specs.Gathered.{IsAllRead};
+ghost use Rattle.lf_stream.specs.Gathered.{IsAllRead, GoesOnToLast};
 ghost use Rattle.lf_dump.specs.declared.fault.DumpFault.{DumpFault};
 ghost use Rattle.lf_dump.specs.Lines.{lines_of};
 ghost use Rattle.lf_dump.specs.Dump.{HasFault, IsShown, Shows, IsStopped, stop_line, piece_len, IsDumped};
+ghost use Rattle.lf_dump.specs.Dump.{IsToldButForOne, no_memory_line};
 
 use crate::fault::DumpFault;
 use crate::printer::Printer;
@@ -59,6 +60,9 @@ fn print_lines<S: Source, W: Write>(
     ensures read { IsErrOf result DumpFault.Read ↔ (0 < (S.account source.new).failures) }
     ensures turns { IsErrOf result DumpFault.Turns → (S.account source.new).calls ≡ turns }
     ensures write { IsErrOf result DumpFault.Write ↔ (0 < failures_of writer.new) }
+    ensures once { OnOk result (GoesOnToLast (S.account source.old).pieces (S.account source.new).pieces) }
+    ensures memory { IsErrOf result DumpFault.Memory → IsToldButForOne (S.account source.old) (S.account source.new)
+        (account_of W.contents writer.old) (account_of W.contents writer.new) [] }
 {
     fault_so_far();
     for _turn in 0..turns {
@@ -92,8 +96,10 @@ fn print_text<S: Source, W: Write>(
     requires room { length buffer.old ≡ piece_len }
     requires fresh { IsShown [] printer.old }
     requires writes { failures_of writer.old ≡ 0 }
-    ensures { IsDumped (S.account source.old) (S.account source.new)
+    ensures dumped { IsDumped (S.account source.old) (S.account source.new)
         (account_of W.contents writer.old) (account_of W.contents writer.new) turns (λ _. []) result }
+    ensures memory { IsErrOf result DumpFault.Memory → IsToldButForOne (S.account source.old) (S.account source.new)
+        (account_of W.contents writer.old) (account_of W.contents writer.new) [] }
 {
     print_lines(source, buffer, printer, writer, turns)?;
     let fault = printer.close()?;
@@ -111,8 +117,10 @@ fn print<S: Source, W: Write>(
     requires calls { (S.account source.old).calls ≡ 0 }
     requires failures { (S.account source.old).failures ≡ 0 }
     requires writes { failures_of writer.old ≡ 0 }
-    ensures { IsDumped (S.account source.old) (S.account source.new)
+    ensures dumped { IsDumped (S.account source.old) (S.account source.new)
         (account_of W.contents writer.old) (account_of W.contents writer.new) turns (λ _. []) result }
+    ensures memory { IsErrOf result DumpFault.Memory → IsToldButForOne (S.account source.old) (S.account source.new)
+        (account_of W.contents writer.old) (account_of W.contents writer.new) [] }
 {
     let Ok(mut buffer) = zeros(alloc, PIECE) else {
         return Err(DumpFault::Memory);
@@ -138,7 +146,7 @@ pub(crate) fn stop_line(fault: DumpFault) -> &'static [u8]
 ///
 /// `DumpFault::Read` says that a read failed, and `DumpFault::Turns` that the turns were used up before the
 /// trace was read: then the last line is `refused read trace`. Where a growth was refused it is `refused
-/// memory`. `DumpFault::Write` says that a write failed.
+/// memory`, and the lines of at most one read are missing. `DumpFault::Write` says that a write failed.
 pub fn dump<T: AllocGlobal, R: Read, W: Write>(
     rt: &T,
     reader: &mut Counted<R>,
@@ -148,8 +156,11 @@ pub fn dump<T: AllocGlobal, R: Read, W: Write>(
     requires calls { calls_of reader.old ≡ 0 }
     requires failures { failures_of reader.old ≡ 0 }
     requires writes { failures_of writer.old ≡ 0 }
-    ensures { IsDumped (account_of R.remaining reader.old) (account_of R.remaining reader.new)
+    ensures dumped { IsDumped (account_of R.remaining reader.old) (account_of R.remaining reader.new)
         (account_of W.contents writer.old) (account_of W.contents writer.new) turns stop_line result }
+    ensures memory { IsErrOf result DumpFault.Memory →
+        IsToldButForOne (account_of R.remaining reader.old) (account_of R.remaining reader.new)
+        (account_of W.contents writer.old) (account_of W.contents writer.new) no_memory_line }
 {
     let fault = match print(rt.alloc(), reader, writer, turns) {
         Ok(fault) => return Ok(fault),

@@ -1,12 +1,14 @@
 -- One more read after a part of the stream.
-use Rattle.std.proofs.Common.{◌≡◌, ℕ, ◌≤◌, List, [], ◌∷◌, ◌++◌, sym, ap, ◌∙◌, subst, refl}
-use Rattle.std.proofs.Common.{append_assoc, append-nil, length}
+use Rattle.std.proofs.Common.{◌≡◌, ◌≢◌, ℕ, ◌<◌, ◌≤◌, List, [], ◌∷◌, ◌++◌, sym, ap, ◌∙◌, subst, refl, arith}
+use Rattle.std.proofs.Common.{append_assoc, append-nil, length, take}
 use Rattle.std.specs.List.{concat}
+use Rattle.std.proofs.lemmas.List.{length-take}
 use Rattle.std.proofs.lemmas.List.Folds.{concat-append}
+use Rattle.std.proofs.lemmas.List.Elements.{All-nil, All-push}
 use Rattle.std.specs.Io.KnownBytes.{Consumes, Keeps, IsAtEnd}
 use Rattle.std.proofs.KnownBytes.{Consumes-nil, Consumes-trans, Consumes-kept}
 use Rattle.lf_stream.specs.Account.{Account}
-use Rattle.lf_stream.specs.Gathered.{IsPartRead, IsAllRead}
+use Rattle.lf_stream.specs.Gathered.{IsPartRead, IsAllRead, GoesOn, GoesOnToLast}
 
 module _ (Enough : List ℕ → Type 0) where
   -- Nothing was read yet.
@@ -67,3 +69,29 @@ module _ (Enough : List ℕ → Type 0) where
         given = given_more;
         at_end = at_end;
       }
+
+-- ---- reads that answer some bytes
+
+pub goes_from : (pieces : List (List ℕ)) → GoesOn pieces pieces
+goes_from pieces = ([], sym (append-nil pieces), All-nil (λ piece. piece ≢ []))
+
+module _ (a b c : List (List ℕ)) (on : GoesOn a b) where
+  pub goes_same : c ≡ b → GoesOn a c
+  goes_same same = (on.0, same ∙ on.1, on.2)
+
+  module _ (piece : List ℕ) (pieces : c ≡ b ++ piece ∷ []) where
+    pub goes_more : piece ≢ [] → GoesOn a c
+    goes_more some = (
+      on.0 ++ piece ∷ [],
+      pieces ∙ ap (λ (ps : List (List ℕ)). ps ++ piece ∷ []) on.1 ∙ append_assoc a on.0 (piece ∷ []),
+      All-push (λ piece. piece ≢ []) on.0 piece on.2 some,
+    )
+
+    pub goes_to_last : GoesOnToLast a c
+    goes_to_last = (b, piece, on, pieces)
+
+-- A read into a buffer answered some bytes.
+pub some_read : (n : ℕ) (buffer : List ℕ) → 0 < n → n ≤ length buffer → take n buffer ≢ []
+some_read n buffer some within none =
+    let len : length (take n buffer) ≡ 0 = ap length none in
+    absurd (omega (arith, len, some, within, length-take n buffer))

@@ -1,5 +1,5 @@
 -- What was read piece by piece.
-use Rattle.std.specs.Prelude.{◌≡◌, ℕ, ◌≤◌, List, [], ◌∷◌, ◌++◌, length}
+use Rattle.std.specs.Prelude.{◌≡◌, ◌≢◌, ℕ, ◌≤◌, List, [], ◌∷◌, ◌++◌, length, All}
 use Rattle.std.specs.List.{concat}
 use Rattle.std.specs.Io.KnownBytes.{Consumes, IsAtEnd}
 use Rattle.lf_stream.specs.Account.{Account}
@@ -26,6 +26,14 @@ pub record IsAllRead (HasEnough : List ℕ → Type 0) (most : ℕ) (old new : A
   pub ended : ¬ HasEnough bytes → last ≡ []
   pub given : Consumes old.known new.known bytes
   pub at_end : ¬ HasEnough bytes → IsAtEnd new.known
+
+-- Further reads answered, and each of them some bytes, so none said that the bytes end.
+abbrev pub GoesOn : List (List ℕ) → List (List ℕ) → Type 0
+GoesOn old new = (pieces : List (List ℕ)) × (new ≡ old ++ pieces) × All (λ piece. piece ≢ []) pieces
+
+-- Further reads answered, and each but the last some bytes.
+abbrev pub GoesOnToLast : List (List ℕ) → List (List ℕ) → Type 0
+GoesOnToLast old new = (before : List (List ℕ)) × (last : List ℕ) × GoesOn old before × (new ≡ before ++ last ∷ [])
 
 -- What holds where reading stopped, and not the sink.
 abbrev pub OfReading : {E : Type 0} → Stop E → Type 0 → Type 0

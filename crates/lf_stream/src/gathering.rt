@@ -1,9 +1,9 @@
 //! Reads a stream piece by piece.
 
 ghost use Rattle.std.specs.Prelude.{◌≡◌, ◌≤◌, ◌<◌, ◌↔◌, ◌++◌, ℕ, List, [], length};
-ghost use Rattle.std.specs.Prelude.{IfOk, IfErr, OnOk, IsErrOf, IsTrue};
+ghost use Rattle.std.specs.Prelude.{IfOk, IfErr, OnOk, OnErr, IsErrOf, IsTrue};
 ghost use Rattle.lf_stream.specs.Account.{Account};
-ghost use Rattle.lf_stream.specs.Gathered.{IsPartRead, IsAllRead, OfReading};
+ghost use Rattle.lf_stream.specs.Gathered.{IsPartRead, IsAllRead, GoesOn, GoesOnToLast, OfReading};
 ghost use Rattle.lf_stream.specs.declared.gathering.Stop.{Stop};
 
 use crate::source::Source;
@@ -65,6 +65,9 @@ pub fn gather<S: Source, F: Sink>(
         (F.has_enough (F.setting sink.old)) (S.account source.old) (S.account source.new) bytes)) }
     ensures read { IsErrOf result Stop.Read ↔ (0 < (S.account source.new).failures) }
     ensures turns { IsErrOf result Stop.Turns → (S.account source.new).calls ≡ turns }
+    // A read that answers no bytes is the last one, and then there is no fault.
+    ensures once { OnOk result (GoesOnToLast (S.account source.old).pieces (S.account source.new).pieces) }
+    ensures unended { OnErr result (GoesOn (S.account source.old).pieces (S.account source.new).pieces) }
 {
     for _turn in 0..turns {
         match source.pull(buffer) {

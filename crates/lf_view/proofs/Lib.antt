@@ -1,3 +1,4 @@
+pub mod Found
 pub mod Ordered
 pub mod Pieces
 pub mod Places

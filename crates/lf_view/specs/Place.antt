@@ -1,14 +1,15 @@
 -- The place of a record in a trace: how many records stand before it in the file.
-use Rattle.std.specs.Prelude.{◌≡◌, ℕ, ◌+◌, ◌^◌, ◌-◌, ◌==◌, ◌&&◌, ◌≤◌, min, Bool, List, [], ◌∷◌, if◌then◌else◌, Option}
-use Rattle.std.specs.Prelude.{Some, None, Result, IfOk, IsErrOf, ◌↔◌, ◌<◌}
+use Rattle.std.specs.Prelude.{◌≡◌, ℕ, ◌+◌, ◌^◌, ◌-◌, ◌==◌, ◌&&◌, ◌≤◌, min, Bool, true, List, [], ◌∷◌, length, take}
+use Rattle.std.specs.Prelude.{filter, slice_get, if◌then◌else◌, Option, Some, None, Result, IfOk, IfErr, IsErrOf}
+use Rattle.std.specs.Prelude.{◌↔◌, ◌<◌}
 use Rattle.lf_rules.specs.declared.event.Record.{Record}
 use Rattle.lf_codec.specs.Reader.{HasRead}
 use Rattle.lf_codec.specs.Reading.{reading_of}
 use Rattle.lf_stream.specs.Account.{Account}
-use Rattle.lf_stream.specs.Gathered.{IsAllRead}
+use Rattle.lf_stream.specs.Gathered.{IsPartRead, IsAllRead}
 use Rattle.lf_dump.specs.Dump.{HasFault, piece_len}
 use Rattle.lf_view.specs.declared.fault.ViewFault.{ViewFault}
-use Rattle.lf_view.specs.declared.fault.ViewFault.TheVariants.{Read, Turns}
+use Rattle.lf_view.specs.declared.fault.ViewFault.TheVariants.{Read, Turns, Memory, Write, Order}
 use Rattle.lf_view.specs.declared.place.Sought.{Sought}
 use Rattle.lf_view.specs.declared.place.Sought.TheVariants.{InLog, InBank}
 use Rattle.lf_view.specs.declared.place.Search.{Search}
@@ -55,6 +56,20 @@ begun sought = record { sought = sought; place = 0; before = 0; found = None }
 abbrev pub place_in : Sought → List ℕ → Option ℕ
 place_in sought bytes = (searched (begun sought) (reading_of bytes).records).found
 
+-- ---- the place that is found
+
+-- The record that is sought stands at this place.
+pub record StandsAt (sought : Sought) (records : List Record) (place : ℕ) : Type 0 where
+  pub item : Record
+  pub there : slice_get records place ≡ Some item
+  pub is : is_sought sought (length (filter (is_counted sought) (take place records))) item ≡ true
+
+-- It stands there and at no place before, and where no place is found it stands nowhere.
+abbrev pub IsFirstPlace : Sought → List Record → Option ℕ → Type 0
+IsFirstPlace sought records (Some place) =
+    StandsAt sought records place × ((other : ℕ) → StandsAt sought records other → place ≤ other)
+IsFirstPlace sought records None = (place : ℕ) → ¬ StandsAt sought records place
+
 -- ---- while a trace is read
 
 -- All records that stand in the bytes were searched.
@@ -69,12 +84,28 @@ pub record IsFound (sought : Sought) (old new : Account) (found : Option ℕ) : 
   pub bytes : List ℕ
   pub all : IsAllRead HasFault piece_len old new bytes
   pub place : found ≡ place_in sought bytes
+  -- Of as many records as a place of 64 bits can tell apart, it is the first one that is sought.
+  pub first : length (reading_of bytes).records < 2 ^ 64 → IsFirstPlace sought (reading_of bytes).records found
+
+-- The reads answered these bytes, in which no fault stands.
+pub record IsSearchedSoFar (old new : Account) : Type 0 where
+  pub bytes : List ℕ
+  pub part : IsPartRead HasFault old new bytes
+
+-- What was read where a search stopped. It writes nothing and follows no order.
+abbrev pub IsSearchStopped : Account → Account → ViewFault → Type 0
+IsSearchStopped old new Read = IsSearchedSoFar old new
+IsSearchStopped old new Turns = IsSearchedSoFar old new
+IsSearchStopped old new Memory = Unit {0}
+IsSearchStopped old new Write = ⊥
+IsSearchStopped old new Order = ⊥
 
 -- A search within so many reads.
 pub record IsSearch (sought : Sought) (old new : Account) (turns : ℕ) (answer : Result (Option ℕ) ViewFault) : Type
     0 where
   pub reads : new.calls ≤ turns
   pub found : IfOk answer (IsFound sought old new)
+  pub stopped : IfErr answer (IsSearchStopped old new)
   -- When each fault comes.
   pub read : IsErrOf answer Read ↔ (0 < new.failures)
   pub turns_ran_out : IsErrOf answer Turns → new.calls ≡ turns

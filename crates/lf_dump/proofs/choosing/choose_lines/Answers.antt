@@ -1,6 +1,7 @@
 use Rattle.std.proofs.Common.{◌≡◌, ◌≤◌, ◌<◌, [], take, length, rules, arith, ◌∙◌}
 use Rattle.std.specs.Prelude.{IsTrue}
 use Rattle.std.proofs.lemmas.List.{length-take}
+use Rattle.lf_stream.proofs.GatheringLemmas.{some_read}
 use Rattle.lf_dump.specs.Dump.{piece_len}
 use Rattle.lf_dump.proofs.Stopping.{choosing_same, choosing_more, chosen_at_end, chosen_last, chosen_stop}
 use Rattle.lf_dump.proofs.Stopping.{stopped_by_read, stopped_by_turns}
@@ -63,7 +64,8 @@ loop-turn-preserved g c =
             writes = search (rules, w.in-Ok-false.ensures.write);
             choosing = choosing_more _ _ _ _ _ _ c.args.turns _ _ _ t piece read.pieces read.known.0 one_read
                 (omega (arith, read.calls, so_far.calls)) (read.failures ∙ so_far.failures)
-                _ _ _ w.in-Ok-false.field-0 (λ is. let bad : IsTrue w.in-Ok-false.field-0 = is in cc)
+                _ _ _ (some_read w.in-Ok.n c.pull.new.buffer (search rules) (search rules))
+                w.in-Ok-false.field-0 (λ is. let bad : IsTrue w.in-Ok-false.field-0 = is in cc)
                 (w.in-Ok-false.ensures.chooses _ t.bytes t.out t.chosen_so_far);
           })
       | in-Err+else-ne w ↦

@@ -46,5 +46,5 @@ returns g c =
     let due : c.as_bytes.result.now ≡ closing_of t.bytes = text ∙ c.in_ok-fault.ensures.text t.bytes t.shown in
     let none : failures_of c.put.new.writer ≡ 0 = search (rules, c.in_ok-put.ensures.failed) in
     dumped_whole _ _ _ _ _ c.args.turns _ t.reads (not_some _ t.read) t.bytes t.all told _ _ t.shown.read.are_bytes
-    (not_some _ none)
+    t.once (not_some _ none)
     (c.in_ok-fault.ensures.fault t.bytes t.shown) (rw due at c.in_ok-put.ensures.whole)

@@ -1,8 +1,10 @@
 use Rattle.std.proofs.Common.{◌≡◌, ◌≤◌, [], take, length, rules, arith, ◌∙◌}
 use Rattle.std.specs.Prelude.{IsTrue}
 use Rattle.std.proofs.lemmas.List.{length-take}
+use Rattle.lf_stream.proofs.GatheringLemmas.{goes_to_last, some_read}
 use Rattle.lf_dump.specs.Dump.{piece_len}
-use Rattle.lf_dump.proofs.Telling.{telling_same, telling_more, told_at_end, told_last, stopped_by}
+use Rattle.lf_dump.specs.declared.fault.DumpFault.TheVariants.{Memory}
+use Rattle.lf_dump.proofs.Telling.{telling_same, telling_more, told_at_end, told_last, stopped_by, told_but_for_piece}
 use Rattle.lf_dump.proofs.dumping.print_lines.Goals as goal
 use Rattle.lf_dump.proofs.dumping.print_lines.Goals.{in-Ok+in-Ok-false, in-Err+else-ne}
 
@@ -52,6 +54,7 @@ loop-turn-preserved g c =
             room = search rules;
             writes = search (rules, w.in-Ok-false.ensures.write);
             telling = telling_more _ _ _ _ _ _ _ so_far.telling piece read.pieces read.known.0 one_read _ _
+                (some_read w.in-Ok.n c.pull.new.buffer (search rules) (search rules))
                 w.in-Ok-false.field-0 (λ is. let bad : IsTrue w.in-Ok-false.field-0 = is in cc)
                 (w.in-Ok-false.ensures.shown so_far.telling.bytes so_far.telling.shown);
           })
@@ -65,3 +68,24 @@ loop-turn-preserved g c =
             telling = telling_same _ _ _ _ _ _ _ so_far.telling read.pieces read.known;
           })
     ]
+
+pub returns-in-Ok-eq0-clause-once : goal.returns-in-Ok-eq0-clause-once
+returns-in-Ok-eq0-clause-once g c =
+    let t = c.loop-turn.invariant.telling in
+    goes_to_last _ _ _ t.goes_on (take c.in-Ok-eq0.field-0 c.pull.new.buffer) c.in-Ok-eq0.ensures.read.pieces
+
+pub returns-in-Ok-true-clause-once : goal.returns-in-Ok-true-clause-once
+returns-in-Ok-true-clause-once g c =
+    let t = c.loop-turn.invariant.telling in
+    goes_to_last _ _ _ t.goes_on (take c.in-Ok.n c.pull.new.buffer) c.in-Ok.ensures.read.pieces
+
+pub returns-in-Err-show-clause-memory : goal.returns-in-Err-show-clause-memory
+returns-in-Err-show-clause-memory g c is =
+    let t = c.loop-turn.invariant.telling in
+    let piece = take c.in-Ok.n c.pull.new.buffer in
+    let read = c.in-Ok.ensures.read in
+    let size : length c.pull.new.buffer ≡ piece_len = search rules in
+    let one_read : length piece ≤ piece_len = omega (arith, size, length-take c.in-Ok.n c.pull.new.buffer) in
+    let same : c.in-Err-show.fault ≡ Memory = cc in
+    told_but_for_piece _ _ _ _ _ _ _ t piece read.pieces read.known.0 one_read _ c.show.new.printer
+    c.in-Err-show.fault same (c.in-Err-show.ensures.shown t.bytes t.shown)

@@ -1,5 +1,6 @@
 use Rattle.std.proofs.Common.{◌≡◌, ◌++◌, [], take, rules, arith, refl, ap, sym, ◌∙◌, append-nil, subst}
 use Rattle.lf_stream.proofs.GatheringLemmas.{begun, same_part, more_part, last_part}
+use Rattle.lf_stream.proofs.GatheringLemmas.{goes_from, goes_same, goes_more, goes_to_last, some_read}
 use Rattle.lf_stream.proofs.gathering.gather.Goals as goal
 use Rattle.lf_stream.proofs.gathering.gather.Goals.{in-Ok+in-Ok-false, in-Err+else-ne}
 
@@ -12,6 +13,7 @@ loop-turn-init g c = record {
   bytes = [];
   fed = c.requires.fresh;
   part = begun _ _ c.requires.wanted;
+  goes_on = goes_from _;
 }
 
 pub returns-in-Ok-eq0-clause-all : goal.returns-in-Ok-eq0-clause-all
@@ -58,6 +60,8 @@ loop-turn-preserved g c =
             fed = w.in-Ok-false.ensures.fed so_far.bytes so_far.fed;
             part = more_part _ _ _ _ so_far.bytes so_far.part piece read.pieces read.known.0
                 (λ h. let bad = (w.in-Ok-false.ensures.enough so_far.bytes so_far.fed).1 (rw so_far.setting h) in cc);
+            goes_on = goes_more _ _ _ so_far.goes_on piece read.pieces
+                (some_read w.in-Ok.n c.pull.new.buffer (search rules) (search rules));
           })
       | in-Err+else-ne w ↦
           let read = w.in-Err.ensures.read in
@@ -69,6 +73,7 @@ loop-turn-preserved g c =
             bytes = so_far.bytes;
             fed = so_far.fed;
             part = same_part _ _ _ _ so_far.bytes so_far.part read.pieces read.known;
+            goes_on = goes_same _ _ _ so_far.goes_on read.pieces;
           })
     ]
 
@@ -80,3 +85,21 @@ returns-then-ne-clause-part g c =
 
 pub returns-clause-part : goal.returns-clause-part
 returns-clause-part g c = let so_far = c.loop-turn.invariant in (so_far.bytes, so_far.fed, so_far.part)
+
+pub returns-in-Ok-eq0-clause-once : goal.returns-in-Ok-eq0-clause-once
+returns-in-Ok-eq0-clause-once g c =
+    let so_far = c.loop-turn.invariant in
+    goes_to_last _ _ _ so_far.goes_on (take c.in-Ok-eq0.field-0 c.pull.new.buffer) c.in-Ok-eq0.ensures.read.pieces
+
+pub returns-in-Ok-true-clause-once : goal.returns-in-Ok-true-clause-once
+returns-in-Ok-true-clause-once g c =
+    let so_far = c.loop-turn.invariant in
+    goes_to_last _ _ _ so_far.goes_on (take c.in-Ok.n c.pull.new.buffer) c.in-Ok.ensures.read.pieces
+
+pub returns-then-ne-clause-unended : goal.returns-then-ne-clause-unended
+returns-then-ne-clause-unended g c =
+    let so_far = c.loop-turn.invariant in
+    goes_same _ _ _ so_far.goes_on c.in-Err.ensures.read.pieces
+
+pub returns-clause-unended : goal.returns-clause-unended
+returns-clause-unended g c = c.loop-turn.invariant.goes_on

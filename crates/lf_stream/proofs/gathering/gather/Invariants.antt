@@ -1,6 +1,6 @@
 -- Each turn was a read, none failed, and the sink was fed what they answered, after which more is wanted.
 use Rattle.std.proofs.Common.{◌≡◌, ℕ, List, length}
-use Rattle.lf_stream.specs.Gathered.{IsPartRead}
+use Rattle.lf_stream.specs.Gathered.{IsPartRead, GoesOn}
 use Rattle.lf_stream.proofs.gathering.gather.Given as goal
 
 abbrev pub invariant-loop-turn : goal.invariant-loop-turn
@@ -16,4 +16,5 @@ invariant-loop-turn g l = record {
       (g.S.Source.account l.initial.source)
       (g.S.Source.account l.source)
       bytes;
+  goes_on : GoesOn (g.S.Source.account l.initial.source).pieces (g.S.Source.account l.source).pieces;
 }
