@@ -4,13 +4,16 @@ use Rattle.std.specs.List.{AllByRecursion}
 use Rattle.lf_rules.specs.declared.shape.Shape.{Shape}
 use Rattle.lf_rules.specs.declared.event.Record.{Record}
 use Rattle.lf_rules.specs.Address.{FlatMemory, flat_memory}
-use Rattle.lf_rules.specs.Fits.{Fits}
+use Rattle.lf_rules.specs.Fits.{Bytes, Fits}
 use Rattle.lf_rules.specs.Laws.{RunsAnswerOnce, RunsAreFlat, RunsShare}
 use Rattle.lf_rules.specs.Numbers.{InterleavingsAreNumbered, InterleavingsFit, NumberedIsOne}
-use Rattle.lf_rules.specs.Order.{EntriesKeepNumbers, EntriesKeepAlike, LogsFollow, OrdersInterleave}
+use Rattle.lf_rules.specs.Order.{EntriesKeepNumbers, EntriesKeepAlike, IsOrder, LogsFollow, OrdersInterleave}
+use Rattle.lf_rules.specs.Ring.{skeletons_of}
 use Rattle.lf_rules.specs.Run.{RunsByParts, of_bank, Interleaves, KeepsNumbers, IsSliceRun, IsPortRun, IsRun}
 use Rattle.lf_verdict.specs.Laws.{YesIsLegal}
+use Rattle.lf_verdict.specs.Legal.{IsTraceFor, IsLegal}
 use Rattle.lf_verdict.specs.Parts.{PartsRun}
+use Rattle.lf_verdict.specs.Unordered.{OrderedYesIsLegal}
 use Rattle.lf_verdict.proofs.Traces.{trace_names, trace_fits, trace_banks}
 
 -- the laws that a yes rests on
@@ -45,28 +48,35 @@ runs laws shape memory logs rs few parts interleaves keeps fits =
       λ port lt. subst (IsPortRun shape memory) (sym (interleaves.each port)) (parts.ports port lt),
     )
 
-pub legal_by_parts : Laws → YesIsLegal
-legal_by_parts laws shape bytes events order yes_by_parts =
-    let y = yes_by_parts in
-    let memory = flat_memory y.memory in
-    let is_order = y.least.is_order in
-    let taken = laws.logs y.logs order is_order.entries is_order.taken in
+legal_by_order : Laws → (shape : Shape) (bytes order : List ℕ) (memory : List (ℕ × Bytes)) (logs : List (List Record)) →
+    IsTraceFor shape bytes memory logs → PartsRun shape (flat_memory memory) logs → IsOrder (skeletons_of logs) order →
+    IsLegal shape bytes order
+legal_by_order laws shape bytes order memory logs trace parts is_order =
+    let taken = laws.logs logs order is_order.entries is_order.taken in
     let rs = taken.0 in
-    let named = (laws.interleave y.logs order rs (trace_names shape bytes y.memory y.logs y.trace)).0 taken.1 in
+    let named = (laws.interleave logs order rs (trace_names shape bytes memory logs trace)).0 taken.1 in
     let keeps = (laws.keep rs).1 (subst EntriesKeepNumbers (sym taken.2) is_order.kept) in
-    let fits = laws.fit shape y.logs rs named.0 (trace_fits shape bytes y.memory y.logs y.trace) in
-    let run = runs laws shape memory y.logs rs (trace_banks shape bytes y.memory y.logs y.trace) y.parts named.0 keeps
-    fits in
+    let fits = laws.fit shape logs rs named.0 (trace_fits shape bytes memory logs trace) in
+    let run = runs laws shape (flat_memory memory) logs rs (trace_banks shape bytes memory logs trace) parts named.0
+    keeps fits in
     record {
-      memory = y.memory;
-      logs = y.logs;
-      trace = y.trace;
+      memory = memory;
+      logs = logs;
+      trace = trace;
       interleaving = rs;
       named = taken.1;
       own_order = named.0;
       numbers = keeps;
       run = run;
-      sharing = laws.share shape memory rs run;
-      once = laws.once shape memory rs run;
-      flat = laws.are_flat shape memory rs run;
+      sharing = laws.share shape (flat_memory memory) rs run;
+      once = laws.once shape (flat_memory memory) rs run;
+      flat = laws.are_flat shape (flat_memory memory) rs run;
     }
+
+pub legal_by_parts : Laws → YesIsLegal
+legal_by_parts laws shape bytes events order y =
+    legal_by_order laws shape bytes order y.memory y.logs y.trace y.parts y.least.is_order
+
+pub legal_by_some : Laws → OrderedYesIsLegal
+legal_by_some laws shape bytes events y =
+    legal_by_order laws shape bytes y.ordered.order y.memory y.logs y.trace y.ordered.parts y.ordered.is_order

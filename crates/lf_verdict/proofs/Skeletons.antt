@@ -1,11 +1,11 @@
 -- The skeletons of the logs: whole numbers, and how long an order is.
 use Rattle.std.proofs.Common.{◌≡◌, ℕ, suc, ◌+◌, ◌*◌, ◌<◌, ◌≤◌, Bool, true, false, cond, List, [], ◌∷◌, ◌++◌, map}
-use Rattle.std.proofs.Common.{length, drop, refl, sym, ◌∙◌, ap, subst, arith, inl, inr, eqb-true, sum_by}
+use Rattle.std.proofs.Common.{length, get_or, drop, refl, sym, ◌∙◌, ap, subst, arith, inl, inr, eqb-true, sum_by}
 use Rattle.std.specs.Prelude.{◌==◌}
 use Rattle.std.specs.List.{flat_map, AllByRecursion, All}
 use Rattle.std.specs.Global.{Vec}
 use Rattle.std.proofs.lemmas.Bool.{cases_lt}
-use Rattle.std.proofs.lemmas.List.{length-map, map-append, get_or_past}
+use Rattle.std.proofs.lemmas.List.{length-map, map-append, get_or_past, get_or_default}
 use Rattle.std.proofs.lemmas.List.Concat.{flat_map-cons}
 use Rattle.std.proofs.lemmas.List.Sums.{sum_by-set, sum_by-le}
 use Rattle.std.proofs.lemmas.List.Elements.{All-map, All-weaker}
@@ -73,7 +73,7 @@ names_bank : (banks bank number : ℕ) (event : Event) → FitsBank banks bank n
 names_bank banks bank number Fence fits lt = absurd (omega (arith, fits.0, lt))
 names_bank banks bank number _ fits lt = fits
 
-none_of_bank : (shape : Shape) (bank : ℕ) (rs : List Record) → bank < no_bank → shape.banks ≤ bank →
+pub none_of_bank : (shape : Shape) (bank : ℕ) (rs : List Record) → bank < no_bank → shape.banks ≤ bank →
     AllByRecursion (Fits shape) rs → of_bank bank rs ≡ []
 none_of_bank shape bank [] lt le fits = refl
 none_of_bank shape bank (r ∷ rs) lt le fits = go (r.bank == bank) refl (none_of_bank shape bank rs lt le fits.1)
@@ -115,8 +115,13 @@ one_less logs log x e =
     ]
 
 pub order_len : {T : Type 0} (logs : List (List T)) (order : List ℕ) (xs : List T) → Takes logs order xs →
-    length order ≤ sum_by length logs
-order_len logs [] [] taken = omega arith
+    length order ≡ sum_by length logs
+order_len logs [] [] taken = omega (
+  arith,
+  sum_by-le length 0 logs (λ log d inside.
+      let none : get_or logs log d ≡ [] = get_or_default logs log d [] inside ∙ taken log in
+      omega (arith, ap length none)),
+)
 order_len logs [] (x ∷ xs) taken = absurd taken
 order_len logs (log ∷ order) [] taken = absurd taken
 order_len logs (log ∷ order) (x ∷ xs) taken =

@@ -4,6 +4,7 @@ pub mod Parts
 pub mod Verdict
 pub mod Incomplete
 pub mod Configured
+pub mod Unordered
 pub mod Breaking
 pub mod Final
 pub mod Named

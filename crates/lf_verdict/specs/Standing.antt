@@ -1,5 +1,5 @@
 -- How the parts of a trace stand while its records come.
-use Rattle.std.specs.Prelude.{◌≡◌, ℕ, ◌+◌, ◌<◌, List, length, slice_index_or, None}
+use Rattle.std.specs.Prelude.{◌≡◌, ℕ, ◌+◌, ◌<◌, true, List, length, slice_index_or, None}
 use Rattle.std.specs.List.{AllByRecursion}
 use Rattle.lf_rules.specs.declared.shape.Shape.{Shape}
 use Rattle.lf_rules.specs.declared.event.Record.{Record}
@@ -59,6 +59,8 @@ pub record IsBankJudged (shape : Shape) (memory : FlatMemory) (bank : ℕ) (came
   pub of_bank : judge.step.bank ≡ bank
   pub of_shape : judge.step.state.shape ≡ shape
   pub judged : IsBankAt shape memory bank gave judge.step judge.outcome
+  -- where each came in its turn, they were judged as they came
+  pub turn : judge.in_turn ≡ true → came ≡ gave
 
 -- ... and the next one has not come.
 pub record IsBankSettled (shape : Shape) (memory : FlatMemory) (bank : ℕ) (came gave : List Record)

@@ -15,8 +15,8 @@ use lf_rules::{NoMemory, Ring, Rule};
 /// What is said of a trace.
 #[derive(Debug, Drop, PartialEq)]
 pub enum Verdict {
-    /// The trace is legal. `order` names at each place the log whose next event comes, and is the
-    /// least such list in the order of words. `events` is its length.
+    /// The trace is legal, and has so many events. `order` names at each place the log whose next event comes, and is
+    /// the least such list in the order of words. It is empty where no order was asked for.
     Yes { events: u32, order: Vec<u8> },
     No(Fault),
     Refused(Refusal),

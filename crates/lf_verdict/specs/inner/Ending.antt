@@ -1,5 +1,5 @@
 -- What the check of a trace's logs ends with.
-use Rattle.std.specs.Prelude.{◌≡◌, ℕ, ◌<◌, List, length, slice_index_or, Option, None}
+use Rattle.std.specs.Prelude.{◌≡◌, ℕ, ◌<◌, List, [], length, slice_index_or, Option, None}
 use Rattle.lf_rules.specs.declared.shape.Shape.{Shape}
 use Rattle.lf_rules.specs.declared.event.Record.{Record}
 use Rattle.lf_rules.specs.declared.outcome.Outcome.{Outcome}
@@ -19,6 +19,7 @@ use Rattle.lf_verdict.specs.declared.answer.Verdict.{Verdict}
 use Rattle.lf_verdict.specs.declared.answer.Verdict.TheVariants.{Yes, No, Refused}
 use Rattle.lf_verdict.specs.declared.answer.Refusal.TheVariants as refusals
 use Rattle.lf_verdict.specs.Parts.{HasWholeNumbers, PartsRun}
+use Rattle.lf_verdict.specs.Unordered.{HasOrder, IsOrderedYes}
 use Rattle.lf_verdict.specs.Verdict.{IsFaultOfLogs, IsTraceVerdict}
 
 -- the fault of the logs, or out of memory
@@ -82,3 +83,13 @@ IsLogsIncomplete shape logs verdict found = found ≡ None
 abbrev pub IsVerdictOrWant : Shape → List ℕ → Verdict → Type 0
 IsVerdictOrWant shape bytes (Refused refusals.Memory) = Unit {0}
 IsVerdictOrWant shape bytes verdict = IsTraceVerdict shape bytes verdict
+
+-- ---- where no order is asked for
+
+abbrev pub IsLogsUnordered : Shape → FlatMemory → List (List Record) → Verdict → Type 0
+IsLogsUnordered shape memory logs (Yes events told) = HasOrder shape memory logs events × (told.items ≡ [])
+IsLogsUnordered shape memory logs verdict = IsLogsVerdict shape memory logs verdict
+
+abbrev pub IsUnorderedOrWant : Shape → List ℕ → Verdict → Type 0
+IsUnorderedOrWant shape bytes (Yes events told) = IsOrderedYes shape bytes events × (told.items ≡ [])
+IsUnorderedOrWant shape bytes verdict = IsVerdictOrWant shape bytes verdict

@@ -2,6 +2,7 @@
 
 ghost use Rattle.lf_verdict.specs.Final.{PartFaultsAreFinal, OtherHeadersAreFinal};
 ghost use Rattle.lf_verdict.specs.Named.{OneIsNamed};
+ghost use Rattle.lf_verdict.specs.Unordered.{OrderedYesIsLegal};
 ghost use Rattle.lf_verdict.specs.Laws.{YesIsLegal, NoHasNoRun, VerdictsAreOne, MixturesAreAlike, WorkersAreAlike};
 
 mod collected;
@@ -20,6 +21,18 @@ use lf_rules::{
 /// Where each part of a trace runs and its logs have an order, the trace is legal by that order.
 pub fn yes_is_legal()
     ensures { YesIsLegal }
+{
+    runs_by_parts();
+    runs_are_right();
+    interleavings_are_numbered();
+    numbers_are_whole();
+    orders_interleave();
+    skeletons_follow();
+}
+
+/// Where each part of a trace runs and its logs have some order, the trace is legal by it.
+pub(crate) fn ordered_yes_is_legal()
+    ensures { OrderedYesIsLegal }
 {
     runs_by_parts();
     runs_are_right();

@@ -5,7 +5,7 @@ ghost use Rattle.std.specs.Prelude.{IsTrue, IfNone};
 ghost use Rattle.lf_rules.specs.InRange.{IsShape};
 ghost use Rattle.lf_codec.specs.declared.fault.Told.TheVariants as tolds;
 ghost use Rattle.lf_verdict.specs.declared.answer.Verdict.{Verdict};
-ghost use Rattle.lf_verdict.specs.inner.Ending.{IsVerdictOrWant};
+ghost use Rattle.lf_verdict.specs.inner.Ending.{IsVerdictOrWant, IsUnorderedOrWant};
 ghost use Rattle.lf_verdict.specs.Session.{refusal_of, stop_told, HasTaken, HasFed, IsRunningNow};
 ghost use Rattle.lf_verdict.specs.Ahead.{session_of};
 ghost use Rattle.lf_verdict.specs.inner.Ahead.{IsAhead, CanRead, ReadsOn};
@@ -314,6 +314,24 @@ impl<G: Gate + Sync + Send + Copy + 'static> Ahead<G> {
         }
         match self.settle(rt) {
             Ok(()) => self.intake.conclude().verdict,
+            Err(NoMemory) => Verdict::Refused(Refusal::Memory),
+        }
+    }
+
+    /// The verdict of the bytes that were fed, whose yes tells no order. No thread is left at work.
+    pub fn answer_unordered<R: Threads + Sync>(&mut self, rt: &R) -> Verdict
+        requires fed { (bytes : List ℕ) × HasFed (session_of self.old) bytes }
+        requires ahead { IsAhead self.old }
+        ensures answer { (bytes : List ℕ) → HasFed (session_of self.old) bytes →
+            IsUnorderedOrWant self.old.intake.shape bytes result }
+        ensures stopped { IfSome self.old.intake.stop (λ stop. result ≡ Verdict.Refused (refusal_of stop)) }
+        ensures alone { self.new.at_work ≡ None }
+    {
+        if let Some(stop) = self.intake.stop {
+            return Verdict::Refused(Refusal::from(stop));
+        }
+        match self.settle(rt) {
+            Ok(()) => self.intake.finish_unordered(),
             Err(NoMemory) => Verdict::Refused(Refusal::Memory),
         }
     }

@@ -3,7 +3,7 @@
 ghost use Rattle.std.specs.Prelude.{◌≡◌, ◌<◌, ◌++◌, ℕ, List, [], Some, None, IsSome, IfSome, IfNone, IfOk, Ok, OnOk};
 ghost use Rattle.std.specs.Prelude.{option_to_list};
 ghost use Rattle.lf_rules.specs.InRange.{IsShape};
-ghost use Rattle.lf_verdict.specs.inner.Ending.{IsVerdictOrWant};
+ghost use Rattle.lf_verdict.specs.inner.Ending.{IsVerdictOrWant, IsUnorderedOrWant};
 ghost use Rattle.lf_verdict.specs.Standing.{IsWatch, IsKnown, StandsAfterAll};
 ghost use Rattle.lf_verdict.specs.inner.Noting.{EndsInRange};
 ghost use Rattle.lf_verdict.specs.Named.{IsNamed, NoneBrokeSoFar};
@@ -396,6 +396,38 @@ impl Intake {
             verdict: judged.verdict,
             broken: found,
             incomplete: judged.incomplete,
+        }
+    }
+
+    /// The verdict of the bytes that were fed, once what came is judged. A yes tells no order.
+    fn judged_unordered(&mut self) -> Verdict
+        requires taken { (bytes : List ℕ) × HasTaken self.old bytes }
+        requires drained { IsDrained self.old.judging self.old.reader self.old.memory.items }
+        ensures { (bytes : List ℕ) → HasTaken self.old bytes → IsUnorderedOrWant self.old.shape bytes result }
+    {
+        exact_reading();
+        if let Err(told) = self.reader.finish() {
+            return Verdict::Refused(Refusal::from(Stop::from(told)));
+        }
+        match &mut self.judging {
+            Judging::Waiting => unreachable!(),
+            Judging::Another(field) => Verdict::Refused(Refusal::Header(*field)),
+            Judging::Running(standing) => standing.judged_unordered(self.alloc),
+        }
+    }
+
+    /// The verdict of the bytes that were fed. A yes tells no order.
+    pub fn finish_unordered(&mut self) -> Verdict
+        requires { (bytes : List ℕ) × HasFed self.old bytes }
+        ensures answer { (bytes : List ℕ) → HasFed self.old bytes → IsUnorderedOrWant self.old.shape bytes result }
+        ensures stopped { IfSome self.old.stop (λ stop. result ≡ Verdict.Refused (refusal_of stop)) }
+    {
+        if let Some(stop) = self.stop {
+            return Verdict::Refused(Refusal::from(stop));
+        }
+        match self.take_all() {
+            Ok(()) => self.judged_unordered(),
+            Err(NoMemory) => Verdict::Refused(Refusal::Memory),
         }
     }
 

@@ -8,13 +8,14 @@ ghost use Rattle.lf_verdict.specs.declared.answer.Verdict.{Verdict};
 ghost use Rattle.lf_verdict.specs.declared.answer.Refusal.{Refusal};
 ghost use Rattle.lf_verdict.specs.Verdict.{IsDecided, IsVerdictOf, IsLegalYes};
 ghost use Rattle.lf_verdict.specs.Laws.{IsRunlessNo};
+ghost use Rattle.lf_verdict.specs.Unordered.{IsLegalUnordered, IsUnordered};
 ghost use Rattle.lf_verdict.specs.Final.{IsFinal};
 ghost use Rattle.lf_verdict.specs.Named.{IsNamed, NoneBrokeSoFar};
 ghost use Rattle.lf_verdict.specs.Session.{refusal_of, stop_told, IsRefusalSoFar, HasFed};
 ghost use Rattle.lf_verdict.specs.declared.stop.Stop.TheVariants as stops;
 
 use crate::answer::{Refusal, Verdict};
-use crate::laws::{no_has_no_run, yes_is_legal};
+use crate::laws::{no_has_no_run, ordered_yes_is_legal, yes_is_legal};
 use crate::session::ahead::Ahead;
 use crate::session::breaking::Broken;
 use lf_codec::Told;
@@ -137,6 +138,25 @@ impl<G: Gate + Sync + Send + Copy + 'static> ParallelSession<G> {
         no_has_no_run();
         let ParallelSession { mut ahead } = self;
         let verdict = ahead.answer(rt);
+        ahead.end();
+        verdict
+    }
+
+    /// The verdict of the bytes that were fed, as `finish` answers it, but without the order of a yes: the list is
+    /// empty. Where each record of a bank came in the turn of its number, no order is looked for, which takes less
+    /// time and memory.
+    pub fn finish_unordered<R: Threads + Sync>(self, rt: &R) -> Verdict
+        ensures legal { (bytes : List ℕ) → HasFed self bytes → IsLegalUnordered self.shape bytes result }
+        ensures runless { (bytes : List ℕ) → HasFed self bytes → IsRunlessNo self.shape bytes result }
+        ensures verdict { (bytes : List ℕ) → HasFed self bytes → IsDecided result →
+            IsUnordered self.shape 1 bytes result }
+        ensures stopped { IfSome self.stop (λ stop. result ≡ Verdict.Refused (refusal_of stop)) }
+        ensures thread { ¬ (result ≡ Verdict.Refused Refusal.Thread) }
+    {
+        ordered_yes_is_legal();
+        no_has_no_run();
+        let ParallelSession { mut ahead } = self;
+        let verdict = ahead.answer_unordered(rt);
         ahead.end();
         verdict
     }

@@ -1,6 +1,6 @@
 //! A bank, judged while its records come.
 
-ghost use Rattle.std.specs.Prelude.{◌≡◌, ◌<◌, ℕ, List, [], ◌∷◌, ◌++◌, length, IfOk, OnOk};
+ghost use Rattle.std.specs.Prelude.{◌≡◌, ◌<◌, ℕ, false, List, [], ◌∷◌, ◌++◌, length, IfOk, OnOk};
 ghost use Rattle.lf_rules.specs.declared.shape.Shape.{Shape};
 ghost use Rattle.lf_rules.specs.declared.event.Record.{Record};
 ghost use Rattle.lf_rules.specs.Address.{FlatMemory, flat_memory};
@@ -26,6 +26,8 @@ pub struct BankJudge {
     pub order: Reorder,
     pub step: Step,
     pub outcome: Outcome,
+    /// Whether each record so far came in the turn of its number.
+    pub in_turn: bool,
 }
 
 impl Part for BankJudge {
@@ -52,6 +54,7 @@ impl BankJudge {
             order: Reorder::new(alloc, bank),
             step: Step::new(alloc, shape, memory, u32::from(bank))?,
             outcome: Outcome::Passed,
+            in_turn: true,
         })
     }
 
@@ -59,6 +62,7 @@ impl BankJudge {
     fn judge(&mut self, item: &Record) -> Result<(), NoMemory>
         requires { IsForStep self.old.step item.now }
         ensures order { self.new.order ≡ self.old.order }
+        ensures in_turn { self.new.in_turn ≡ self.old.in_turn }
         ensures bank { self.new.step.bank ≡ self.old.step.bank }
         ensures shape { self.new.step.state.shape ≡ self.old.step.state.shape }
         ensures judged { (shape : Shape) (memory : FlatMemory) (bank : ℕ) (rs : List Record) →
@@ -108,11 +112,12 @@ impl BankJudge {
     #[inline(never)]
     fn keep(&mut self, item: &Record) -> Result<(), NoMemory>
         requires { item.now.bank ≡ self.old.order.bank }
-        ensures rest { self.new ≡ record self.old { order = self.new.order } }
+        ensures rest { self.new ≡ record self.old { order = self.new.order; in_turn = false } }
         ensures bank { self.new.order.bank ≡ self.old.order.bank }
         ensures put { (put : List Record) (gave : List Record) → HasOrdered self.old.order put gave
             → OnOk result (HasOrdered self.new.order (put ++ item.now ∷ []) gave) }
     {
+        self.in_turn = false;
         self.order.put_lent(item)
     }
 

@@ -15,6 +15,7 @@ mod log_entries;
 mod new;
 mod placeholder;
 mod port_judge;
+mod unordered;
 mod verdict;
 
 use crate::session::breaking::{FirstBreak, PartFault, Upon, Watch};

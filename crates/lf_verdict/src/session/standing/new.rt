@@ -56,7 +56,9 @@ fn bank_judges(alloc: Global, shape: &Shape, memory: &Memory) -> Result<Vec<Bank
 }
 
 impl Standing {
-    /// No record has come. `memory` is the whole memory of the trace, and the first record begins at `start`.
+    /// No record has come. `memory` is the whole memory of the trace, and the first record begins at `start`. It is
+    /// apart, since its frame is large, and the function that calls it is called for each memory record.
+    #[inline(never)]
     pub fn new(
         alloc: Global,
         shape: &Shape,

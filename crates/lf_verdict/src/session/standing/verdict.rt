@@ -43,7 +43,7 @@ impl Judged {
 
 impl Standing {
     /// The least number of the lowest bank that is missing or double.
-    fn judge_numbers(&self) -> Result<(), Ending>
+    pub(super) fn judge_numbers(&self) -> Result<(), Ending>
         requires { length self.now.banks.items ≤ 16 }
         ensures whole { (shape : Shape) (memory : FlatMemory) (records : List Record) →
             StandsAfterAll shape memory records self.now
@@ -61,7 +61,7 @@ impl Standing {
     }
 
     /// The lowest port that is broken, then the lowest bank.
-    fn judge_rules(&self) -> Result<(), Ending>
+    pub(super) fn judge_rules(&self) -> Result<(), Ending>
         requires ports { length self.now.entries.ports.items ≤ 16 }
         requires banks { length self.now.banks.items ≤ 16 }
         ensures run { (shape : Shape) (memory : FlatMemory) (records : List Record) →
