@@ -35,9 +35,8 @@ use Rattle.lf_engine.specs.Run.{piece_len, stopped_outcome, GaveSound}
 use Rattle.lf_engine.proofs.RunLemmas.{IsKept, IsFreeUnless, HasNoFault, MeansOfNo, MeansNothingElse}
 
 -- A trace has no fault.
-trace_has_none : ReadingIsExact → (bytes : List ℕ) (h : Header) (memory : List (ℕ × Bytes)) (records : List Record) →
-    AreBytes bytes
-    → IsTrace bytes h memory records → ¬ HasFault bytes
+pub trace_has_none : ReadingIsExact → (bytes : List ℕ) (h : Header) (memory : List (ℕ × Bytes))
+    (records : List Record) → AreBytes bytes → IsTrace bytes h memory records → ¬ HasFault bytes
 trace_has_none exact bytes h memory records are trace (fault, is, other) =
     let none = ((exact bytes h memory records are).1 trace).0 in
     let bad : None ≡ Some fault = sym none ∙ is in
@@ -257,7 +256,7 @@ text_free text workers bytes all (No f) h = inl (h.0, (h.1.shape, h.1.configured
 text_free text workers bytes all (Yes events order) h = inl (h.0, (h.1.shape, h.1.configured))
 
 -- The verdict for a shape is that for each text that says it.
-verdict_for : (text : List ℕ) (shape : Shape) (workers : ℕ) (bytes : List ℕ) (v : Verdict) →
+pub verdict_for : (text : List ℕ) (shape : Shape) (workers : ℕ) (bytes : List ℕ) (v : Verdict) →
     configuration_of text ≡ Ok shape
     → IsVerdictOf shape workers bytes v → IsVerdictFor text workers bytes v
 verdict_for text shape workers bytes (Refused (Workers n)) e h = h
@@ -326,7 +325,7 @@ fault_is_none text shape (told.Range key) h e = cc
 fault_is_none text shape told.NoMemory h e = h
 
 -- a refusal that comes before the trace is asked for is the verdict of any bytes
-refused_verdict : (old new : Account) (text : List ℕ) (workers : ℕ) (r : Refusal) → IsRefusedFirst text workers r
+pub refused_verdict : (old new : Account) (text : List ℕ) (workers : ℕ) (r : Refusal) → IsRefusedFirst text workers r
     → IsDecided (Refused r)
     → IsVerdictOfRead old new (IsAsked text workers) (IsVerdictFor text workers) (Refused r)
 refused_verdict old new text workers (Workers n) h judged =
@@ -352,7 +351,7 @@ refused_first text workers ok (Format fault) is = absurd is
 refused_first text workers ok (OtherHeader field) is = absurd is
 refused_first text workers ok Thread is = absurd is
 
-not_thread : (text : List ℕ) (workers : ℕ) (r : Refusal) → IsRefusedFirst text workers r → r ≢ Thread
+pub not_thread : (text : List ℕ) (workers : ℕ) (r : Refusal) → IsRefusedFirst text workers r → r ≢ Thread
 not_thread text workers (Workers n) h = λ e. cc
 not_thread text workers (Config f) h = λ e. cc
 not_thread text workers (Format f) h = absurd h

@@ -1,4 +1,5 @@
 pub mod JudgingLemmas
+pub mod UnorderedLemmas
 pub mod RunLemmas
 pub mod GatheringLemmas
 pub mod ReportLemmas

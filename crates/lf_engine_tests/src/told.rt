@@ -3,7 +3,7 @@
 ghost use Rattle.lf_rules.specs.InRange.{IsShape};
 
 use crate::streams::Pieces;
-use lf_engine::{Counted, run, run_shape};
+use lf_engine::{Counted, run, run_check, run_shape};
 use lf_rules::Shape;
 use lf_samples::trace_of;
 use std::process::Abort;
@@ -53,7 +53,22 @@ pub fn assert_told<T: Abort + AllocGlobal + Threads + Sync + Send + Copy + 'stat
     assert_line(rt, shape, &bytes, line)
 }
 
-/// Fails where another line is written of these bytes for the configuration.
+/// Fails where another line is written of these bytes where no order is asked for.
+fn assert_checked<T: Abort + AllocGlobal + Threads + Sync + Send + Copy + 'static>(
+    rt: &T,
+    config: &str,
+    bytes: &[u8],
+    line: &str,
+) -> Result<(), Fail> {
+    let mut reader = Counted::new(Pieces::new(bytes, 50));
+    let mut writer = Counted::new(Vec::new(rt.alloc()));
+    let answer = run_check(rt, &mut reader, &mut writer, config, 1, 1000);
+    assert!(rt; answer.is_ok());
+    assert_eq!(rt; std::str::from_utf8(writer.inner()), Ok(line));
+    Ok(())
+}
+
+/// Fails where another line is written of these bytes for the configuration, with an order or without.
 pub fn assert_configured<T: Abort + AllocGlobal + Threads + Sync + Send + Copy + 'static>(
     rt: &T,
     config: &str,
@@ -65,5 +80,5 @@ pub fn assert_configured<T: Abort + AllocGlobal + Threads + Sync + Send + Copy +
     let answer = run(rt, &mut reader, &mut writer, config, 1, 1000);
     assert!(rt; answer.is_ok());
     assert_eq!(rt; std::str::from_utf8(writer.inner()), Ok(line));
-    Ok(())
+    assert_checked(rt, config, bytes, line)
 }

@@ -3,7 +3,7 @@
 use crate::configuration::{bytes_at, text_in};
 use crate::progress::reader_of;
 use crate::{refused, status_of, status_of_completion};
-use lf_engine::{Counted, are_workers, run, run_complete};
+use lf_engine::{Counted, are_workers, run_check, run_complete};
 use std::io;
 use std::io::Read;
 use std::process::ExitCode;
@@ -67,7 +67,7 @@ fn judge<T: Print + AllocGlobal + Threads + Sync + Send + Copy + 'static, R: Rea
 ) -> ExitCode {
     let mut reader = Counted::new(trace);
     let mut writer = Counted::new(io::writer(rt));
-    status_of(&run(rt, &mut reader, &mut writer, config, workers, u32::MAX))
+    status_of(&run_check(rt, &mut reader, &mut writer, config, workers, u32::MAX))
 }
 
 /// Judges with one worker, and asks whether each request has a reply.
