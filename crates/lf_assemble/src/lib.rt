@@ -13,8 +13,6 @@ mod due;
 mod fault;
 mod refusal;
 mod spelling;
-#[cfg(test)]
-mod tests;
 
 pub use assembling::assemble;
 pub use fault::{AssembleCause, AssembleFault, Part};

@@ -8,8 +8,6 @@
 mod logs;
 mod packing;
 mod parts;
-#[cfg(test)]
-mod tests;
 
 pub use logs::packed_logs_in;
 pub use packing::{Packing, packed_in};

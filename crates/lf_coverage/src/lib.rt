@@ -17,8 +17,6 @@ mod request;
 mod sight;
 mod standing;
 mod tally;
-#[cfg(test)]
-mod tests;
 mod text;
 
 pub use coverage::{Coverage, cover};

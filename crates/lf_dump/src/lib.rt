@@ -15,8 +15,6 @@ mod dumping;
 mod fault;
 mod lines;
 mod printer;
-#[cfg(test)]
-mod tests;
 
 pub use choice::Choice;
 pub use choosing::dump_chosen;

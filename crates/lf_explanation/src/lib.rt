@@ -13,8 +13,6 @@ mod found;
 mod origins;
 mod sentence;
 mod state;
-#[cfg(test)]
-mod tests;
 
 pub use carried::{all_beyond, first_difference, masks_of};
 pub use explained::Explained;

@@ -15,8 +15,6 @@ mod numbers;
 mod object;
 mod record;
 mod state;
-#[cfg(test)]
-mod tests;
 mod usage;
 
 pub use answer::{Answer, Told, explained_json, no_memory_json, not_read_json, refused_json};

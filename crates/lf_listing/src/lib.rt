@@ -6,8 +6,6 @@
 
 mod listing;
 mod mark;
-#[cfg(test)]
-mod tests;
 
 pub use lf_rules::NoMemory;
 pub use listing::{Listing, RecordLine, RecordLines};

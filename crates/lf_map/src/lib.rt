@@ -10,8 +10,6 @@
 mod fault;
 mod line;
 mod number;
-#[cfg(test)]
-mod tests;
 mod times;
 
 pub use fault::{MapCause, MapFault};

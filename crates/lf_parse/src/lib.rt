@@ -13,8 +13,6 @@ mod fault;
 mod field;
 mod line;
 mod scan;
-#[cfg(test)]
-mod tests;
 mod word;
 
 pub use defaults::Defaults;

@@ -5,6 +5,8 @@
 #[cfg(test)]
 mod configuration;
 #[cfg(test)]
+mod coverage;
+#[cfg(test)]
 mod fitting;
 #[cfg(test)]
 mod growth;
@@ -14,3 +16,5 @@ mod rechecks;
 mod recording;
 #[cfg(test)]
 mod statistics;
+#[cfg(test)]
+mod usage;

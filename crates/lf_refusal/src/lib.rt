@@ -18,8 +18,6 @@ mod format;
 mod header;
 mod lines;
 mod part;
-#[cfg(test)]
-mod tests;
 
 pub use bytes::{header_at, up_to};
 pub use config::ConfigRefusal;

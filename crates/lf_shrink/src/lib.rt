@@ -15,8 +15,6 @@ mod requests;
 mod search;
 mod shrink;
 mod tags;
-#[cfg(test)]
-mod tests;
 mod text;
 
 pub use broken::RuleFault;

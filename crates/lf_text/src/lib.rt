@@ -10,8 +10,6 @@
 mod data;
 mod line;
 mod record;
-#[cfg(test)]
-mod tests;
 
 pub use data::Data;
 pub use line::{PlacedLine, TextLine};

@@ -9,8 +9,6 @@ mod bank;
 mod counts;
 mod laws;
 mod queue;
-#[cfg(test)]
-mod tests;
 mod traffic;
 
 pub use counts::Counts;

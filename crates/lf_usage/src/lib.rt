@@ -10,8 +10,6 @@ mod change;
 mod level;
 mod port;
 mod tally;
-#[cfg(test)]
-mod tests;
 mod text;
 mod usage;
 

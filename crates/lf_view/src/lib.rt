@@ -16,8 +16,6 @@ mod order;
 mod place;
 mod queues;
 mod records;
-#[cfg(test)]
-mod tests;
 mod viewing;
 
 pub use drawing::Drawing;

@@ -18,8 +18,6 @@ mod register_changes;
 mod registers;
 mod save;
 mod signal;
-#[cfg(test)]
-mod tests;
 mod told;
 mod traffic_changes;
 mod variable;

@@ -9,8 +9,6 @@
 mod cause;
 mod not_complete;
 mod not_legal;
-#[cfg(test)]
-mod tests;
 mod text;
 mod why;
 

@@ -21,8 +21,6 @@ mod output;
 mod progress;
 mod shrink;
 mod stats;
-#[cfg(test)]
-mod tests;
 mod trace;
 mod view;
 mod watch;
