@@ -1,7 +1,7 @@
 //! A trace of one record, taken apart.
 
-use lf_contents::{Packing, Parts, Trace, packed_in, parts_in, records_in, trace_in};
 use lf_codec::Header;
+use lf_contents::{Packing, Parts, Trace, packed_in, parts_in, records_in, trace_in};
 use std::test::Fail;
 
 /// A load that hits nothing yet: the header, one memory record, one event record and the end.

@@ -1,10 +1,10 @@
 //! Answers, with their texts written out.
 
-use lf_json::{Answer, Told, explained_json, refused_json};
 use lf_codec::Packed;
 use lf_explain::{BlockState, Broken, Expected, NamedBlock};
 use lf_explanation::Explanation;
 use lf_history::History;
+use lf_json::{Answer, Told, explained_json, refused_json};
 use lf_listing::Marks;
 use lf_numbering::Reason;
 use lf_origins::{Origins, StatePart};

@@ -2,13 +2,13 @@
 
 ghost use Rattle.lf_rules.specs.InRange.{IsShape};
 
-use lf_why::{Asked, Judgement, NotComplete, Why, WhyText, why_of};
 use lf_history::packed;
 use lf_listing::marks_of;
 use lf_map::Times;
 use lf_rules::Shape;
 use lf_samples::{C1, LOAD, LOADED, memory_ran_out, records, trace_of};
 use lf_verdict::{Incomplete, Session};
+use lf_why::{Asked, Judgement, NotComplete, Why, WhyText, why_of};
 use std::test::Fail;
 
 /// The text of why the verdict on these bytes is what it is, with at most one record before; empty where nothing is

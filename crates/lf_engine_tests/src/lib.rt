@@ -22,6 +22,8 @@ mod explained;
 #[cfg(test)]
 mod gathered;
 #[cfg(test)]
+mod growth;
+#[cfg(test)]
 mod hostile;
 #[cfg(test)]
 mod lines;
@@ -37,3 +39,5 @@ mod traces;
 mod versions;
 #[cfg(test)]
 mod watched;
+#[cfg(test)]
+mod workers;

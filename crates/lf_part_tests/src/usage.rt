@@ -3,9 +3,9 @@
 ghost use Rattle.std.specs.Prelude.{◌≡◌};
 ghost use Rattle.lf_rules.specs.InRange.{IsShape};
 
-use lf_usage::{Usage, UsageText, usage_of};
 use lf_logs::bank_order;
 use lf_rules::{Block, Event, Level, Logs, Op, OrgShape, Record, Shape, WideBlock};
+use lf_usage::{Usage, UsageText, usage_of};
 use std::alloc::Global;
 use std::test::Fail;
 

@@ -6,6 +6,9 @@ pub const LOAD: &str = "L 0 8@0, P 0 0, SP 0 0, F2 0, F1 0";
 /// Its reply.
 pub const LOADED: &str = "R 0=0000000000000000";
 
+/// A load that hits then, and its reply.
+pub const HIT: &str = "L 0 8@0, H 0, R 0=0000000000000000";
+
 /// A store of two bytes that misses both levels, up to the fill of level one.
 pub const STORE: &str = "S 0 2@0=aabb, P 0 0, SP 0 0, F2 0, F1 0";
 

@@ -12,7 +12,7 @@ mod writing;
 
 pub use events::event;
 pub use examples::{
-    CYCLE_OF_TWO_LOGS, EMPTY_TRACE, FENCE_LAST, LOAD, LOAD_MERGES_BEHIND_STORE,
+    CYCLE_OF_TWO_LOGS, EMPTY_TRACE, FENCE_LAST, HIT, LOAD, LOAD_MERGES_BEHIND_STORE,
     LOAD_MISSES_BOTH_LEVELS, LOADED, LOWEST_BANK, STORE,
 };
 pub use growth::{memory_ran_out, thread_refused};
@@ -23,4 +23,4 @@ pub use shapes::{
     IMPLICIT, INVERTED, INVERTED_BELOW, TWO_PORTS_TWO_BANKS, TWO_PORTS_TWO_BANKS_TEXT,
     TWO_REGISTERS, changed,
 };
-pub use writing::{trace, trace_of, trace_of_version};
+pub use writing::{hits_and, trace, trace_of, trace_of_version};

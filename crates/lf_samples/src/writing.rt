@@ -1,6 +1,8 @@
 //! Traces as bytes.
 
+use crate::examples::{HIT, LOAD, LOADED};
 use crate::lists::records;
+use crate::shapes::C1;
 use lf_rules::{Event, Memory, Op, Record, Shape};
 use std::alloc::{AllocError, Global};
 use std::test::Fail;
@@ -43,6 +45,18 @@ pub fn trace_of_version(
 ) -> Result<Vec<u8>, Fail> {
     let records = records(alloc, shape, parts)?;
     Ok(trace(alloc, version, shape, &Vec::new(alloc), &records)?)
+}
+
+/// The bytes of a load that misses both levels, of so many that hit, and of these events.
+pub fn hits_and(alloc: Global, hits: u32, last: &str) -> Result<Vec<u8>, Fail> {
+    let mut parts = Vec::new(alloc);
+    parts.push(LOAD)?;
+    parts.push(LOADED)?;
+    for _ in 0..hits {
+        parts.push(HIT)?;
+    }
+    parts.push(last)?;
+    trace_of(alloc, &C1, &parts)
 }
 
 fn put_header(

@@ -6,8 +6,8 @@ ghost use Rattle.lf_rules.specs.Fits.{Fits};
 ghost use Rattle.lf_rules.specs.InRange.{IsShape};
 ghost use Rattle.lf_explanation.specs.Explanation.{HasBank};
 
-use lf_explanation::{Breach, Explained, Explanation, explain};
 use lf_codec::Packed;
+use lf_explanation::{Breach, Explained, Explanation, explain};
 use lf_history::packed;
 use lf_listing::{Listing, Marks};
 use lf_rules::{Block, Event, Level, Op, OrgShape, Record, Rule, Shape, fits};

@@ -1,7 +1,7 @@
 //! The lines of records, with their texts written out.
 
-use lf_listing::{Listing, Marks, RecordLine, RecordLines, marks_of};
 use lf_history::packed;
+use lf_listing::{Listing, Marks, RecordLine, RecordLines, marks_of};
 use lf_map::Times;
 use lf_rules::{Block, Event, Op, Record};
 use std::alloc::Global;

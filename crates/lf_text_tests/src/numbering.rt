@@ -1,9 +1,9 @@
 //! Reasons, with their texts written out.
 
-use lf_numbering::{NoMemory, Reason, Reasoned};
 use lf_codec::Packed;
 use lf_history::packed;
 use lf_listing::{Listing, Marks};
+use lf_numbering::{NoMemory, Reason, Reasoned};
 use lf_rules::{Block, Event, Knot, Op, Record};
 use std::alloc::{AllocError, Global};
 use std::process::Abort;

@@ -1,9 +1,9 @@
 //! What the state of a rule comes from, with the texts written out.
 
-use lf_origins::{BrokenRule, Origins, OriginsText, origins_of};
 use lf_codec::Packed;
 use lf_history::{packed, places_in_order};
 use lf_listing::{Listing, Marks};
+use lf_origins::{BrokenRule, Origins, OriginsText, origins_of};
 use lf_rules::{Block, Event, Level, Mask, Masks, Op, OrgShape, Record, Rule, Shape, WideBlock};
 use std::alloc::{AllocError, Global};
 use std::process::Abort;

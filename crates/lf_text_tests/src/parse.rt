@@ -1,7 +1,7 @@
 //! Lines with what they say.
 
-use lf_parse::{Defaults, Expected, Line, Name, TextFault, read_line};
 use lf_codec::Header;
+use lf_parse::{Defaults, Expected, Line, Name, TextFault, read_line};
 use lf_rules::{Block, Event, Mask, Masks, Op, Record, WideBlock};
 use std::process::Abort;
 use std::test::Fail;

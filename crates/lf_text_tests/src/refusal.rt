@@ -1,8 +1,8 @@
 //! Refusals, with their texts written out.
 
-use lf_refusal::{ConfigRefusal, FormatRefusal, HeaderRefusal};
 use lf_codec::{CodecCause, CodecFault, Header};
 use lf_config::{ConfigFault, Key, LevelKey, Part};
+use lf_refusal::{ConfigRefusal, FormatRefusal, HeaderRefusal};
 use lf_rules::{Level, OrgShape, Shape};
 use std::process::Abort;
 use std::test::Fail;

@@ -1,8 +1,8 @@
 //! Lines of a trace, with their texts written out.
 
-use lf_text::{PlacedLine, TextLine};
 use lf_codec::Header;
 use lf_rules::{Block, Event, Mask, Masks, Op, Record, WideBlock};
+use lf_text::{PlacedLine, TextLine};
 use std::process::Abort;
 use std::test::Fail;
 

@@ -1,7 +1,7 @@
 //! The blocks and the dirty lines of a few records.
 
-use lf_traffic::{Counts, Traffic, dirty_seconds_are_of_the_rules, flows_are_of_the_rules};
 use lf_rules::{Block, Event, Mask, Op, Record, WideBlock};
+use lf_traffic::{Counts, Traffic, dirty_seconds_are_of_the_rules, flows_are_of_the_rules};
 use std::test::Fail;
 
 fn record(log: u8, event: Event) -> Record {

@@ -1,8 +1,8 @@
 //! A trace with its wave written out.
 
-use lf_view::{Drawing, Sought, ViewFault, place_of, view, yes_is_drawn_in_its_order};
 use lf_codec::CodecFault;
 use lf_stream::Counted;
+use lf_view::{Drawing, Sought, ViewFault, place_of, view, yes_is_drawn_in_its_order};
 use lf_wave::View;
 use std::test::Fail;
 

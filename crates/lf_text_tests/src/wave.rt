@@ -1,9 +1,9 @@
 //! Waves and files of signals, with their texts written out.
 
-use lf_wave::{Marker, SaveFile, View, Wave};
 use lf_codec::Header;
 use lf_map::Times;
 use lf_rules::{Block, Event, Level, Op, OrgShape, Record, Rule, Shape, WideBlock};
+use lf_wave::{Marker, SaveFile, View, Wave};
 use std::test::Fail;
 
 const HEADER: Header = Header {

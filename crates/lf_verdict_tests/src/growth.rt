@@ -3,16 +3,14 @@
 //! its own, so in a run with one growth refused it was one of the call.
 
 use crate::examples::cycle_of;
-use crate::several_workers::{HIT, hits_and};
 use lf_codec::Told;
-use lf_engine::{Counted, run};
 use lf_rules::Rule;
 use lf_samples::{
-    C1, C1_TEXT, CYCLE_OF_TWO_LOGS, EMPTY_TRACE, FOUR_BANKS_TEXT, LOAD_MERGES_BEHIND_STORE,
-    LOAD_MISSES_BOTH_LEVELS, LOWEST_BANK, TWO_PORTS_TWO_BANKS_TEXT, memory_ran_out, thread_refused,
+    C1, C1_TEXT, CYCLE_OF_TWO_LOGS, EMPTY_TRACE, FOUR_BANKS_TEXT, HIT, LOAD_MERGES_BEHIND_STORE,
+    LOAD_MISSES_BOTH_LEVELS, LOWEST_BANK, TWO_PORTS_TWO_BANKS_TEXT, hits_and, memory_ran_out,
+    thread_refused,
 };
 use lf_verdict::{Fault, NoGate, ParallelSession, Refusal, Session, Verdict, check};
-use std::io::Cursor;
 use std::process::Abort;
 use std::sync::Wait;
 use std::test::Fail;
@@ -171,66 +169,4 @@ fn refused_growth_of_session_by_four_workers(rt: HostRuntime) -> Result<(), Fail
         }
         other => assert_due(&rt, &other, &Due::Yes(&[])),
     }
-}
-
-/// By `run`, which writes this line.
-fn assert_run<T: Abort + AllocGlobal + Threads + Sync + Send + Copy + 'static>(
-    rt: &T,
-    config: &str,
-    bytes: &[u8],
-    due: &Due<'_>,
-    line: &str,
-) -> Result<(), Fail> {
-    let mut reader = Counted::new(bytes);
-    let mut writer = Counted::new(Cursor::new([0u8; 64]));
-    let Ok(verdict) = run(rt, &mut reader, &mut writer, config, 1, 1000) else {
-        return Err(Fail::new("a read or a write failed"));
-    };
-    let is_refused = verdict == Verdict::Refused(Refusal::Memory);
-    let line = if is_refused { "refused memory\n" } else { line };
-    let page = writer.inner();
-    assert_eq!(rt; page.position(), line.len() as u64);
-    assert!(rt; page.get_ref().starts_with(line.as_bytes()));
-    assert_due(rt, &verdict, due)
-}
-
-#[test]
-fn refused_growth_of_run_on_empty_trace(rt: HostRuntime) -> Result<(), Fail> {
-    assert_run(&rt, C1_TEXT, &EMPTY_TRACE, &Due::Yes(&[]), "yes events=0\n")
-}
-
-#[test]
-fn refused_growth_of_run_on_load_misses_both_levels(rt: HostRuntime) -> Result<(), Fail> {
-    let line = "yes events=6\n";
-    assert_run(
-        &rt,
-        C1_TEXT,
-        &LOAD_MISSES_BOTH_LEVELS,
-        &MISSES_BOTH_LEVELS,
-        line,
-    )
-}
-
-#[test]
-fn refused_growth_of_run_on_load_merges_behind_store(rt: HostRuntime) -> Result<(), Fail> {
-    let line = "yes events=9\n";
-    assert_run(
-        &rt,
-        C1_TEXT,
-        &LOAD_MERGES_BEHIND_STORE,
-        &MERGES_BEHIND_STORE,
-        line,
-    )
-}
-
-#[test]
-fn refused_growth_of_run_on_cycle_of_two_logs(rt: HostRuntime) -> Result<(), Fail> {
-    let config = TWO_PORTS_TWO_BANKS_TEXT;
-    assert_run(
-        &rt,
-        config,
-        &CYCLE_OF_TWO_LOGS,
-        &two_logs(),
-        "no cycle logs=0,1\n",
-    )
 }

@@ -1,12 +1,11 @@
-//! Sessions with several workers answer as one with one, and so does the engine.
+//! Sessions with several workers answer as one with one.
 
 ghost use Rattle.lf_rules.specs.InRange.{IsShape};
 
 use crate::verdicts::{format_fault, port_fault};
 use lf_codec::CodecCause;
-use lf_engine::{Counted, run_shape};
 use lf_rules::{Rule, Shape};
-use lf_samples::{C1, FOUR_BANKS, LOAD, LOADED, trace_of};
+use lf_samples::{C1, FOUR_BANKS, HIT, LOAD, LOADED, hits_and, trace_of};
 use lf_verdict::{Broken, Fault, Gate, HeaderField, NoGate, ParallelSession, PartFault, Verdict};
 use std::alloc::Global;
 use std::process::Abort;
@@ -15,23 +14,8 @@ use std::test::Fail;
 use std::thread;
 use std::thread::Threads;
 
-/// A load that hits, and its reply.
-pub const HIT: &str = "L 0 8@0, H 0, R 0=0000000000000000";
-
 /// A trace has many pieces of this length.
 const PIECE: usize = 2048;
-
-/// The bytes of a load that misses both levels, of so many that hit, and of these events.
-pub fn hits_and(alloc: Global, hits: u32, last: &str) -> Result<Vec<u8>, Fail> {
-    let mut parts = Vec::new(alloc);
-    parts.push(LOAD)?;
-    parts.push(LOADED)?;
-    for _ in 0..hits {
-        parts.push(HIT)?;
-    }
-    parts.push(last)?;
-    trace_of(alloc, &C1, &parts)
-}
 
 /// So few records are judged at a time that a thread is lent some after each piece.
 const BATCH: usize = 64;
@@ -157,22 +141,6 @@ fn what_broke_by_several_workers(rt: HostRuntime) -> Result<(), Fail> {
     assert_broken_by(&rt, &other, Some(Broken::Header(HeaderField::Banks)))
 }
 
-/// Fails where the engine writes another line by a number of workers.
-fn assert_line_by_workers<T: Abort + AllocGlobal + Threads + Sync + Send + Copy + 'static>(
-    rt: &T,
-    bytes: &[u8],
-    line: &str,
-) -> Result<(), Fail> {
-    for workers in [1u32, 2, 4, 16] {
-        let mut reader = Counted::new(bytes);
-        let mut writer = Counted::new(Vec::new(rt.alloc()));
-        let answer = run_shape(rt, &mut reader, &mut writer, &C1, workers, 1000);
-        assert!(rt; answer.is_ok());
-        assert_eq!(rt; std::str::from_utf8(writer.inner()), Ok(line));
-    }
-    Ok(())
-}
-
 /// Holds each of the first two judges until both have entered.
 #[derive(Drop)]
 struct Pair {
@@ -214,29 +182,5 @@ fn judges_inside_at_once(rt: HostRuntime) -> Result<(), Fail> {
     let is_yes = matches!(session.finish(&rt), Verdict::Yes { .. });
     assert!(rt; is_yes);
     assert_eq!(rt; pair.met.load(Ordering::SeqCst), 2);
-    Ok(())
-}
-
-/// Traces of more bytes than are judged without workers, and the first of so many more that some records are judged
-/// while others are read.
-#[test]
-fn lines_by_several_workers(rt: HostRuntime) -> Result<(), Fail> {
-    for (hits, last, line) in [
-        (13000, HIT, "yes events=39009\n"),
-        (
-            7000,
-            "L 0 8@0, H 0, R 0=0000000000000001",
-            "no bank=0 number=21008 rule=ReplyData\n",
-        ),
-        (
-            7000,
-            "L 0 8@0, L 0 8@0",
-            "no port=0 event=14003 rule=TagBusy\n",
-        ),
-    ] {
-        let bytes = hits_and(rt.alloc(), hits, last)?;
-        assert!(rt; bytes.len() > 327_680);
-        assert_line_by_workers(&rt, &bytes, line)?;
-    }
     Ok(())
 }
