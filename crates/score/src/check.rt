@@ -83,7 +83,7 @@ fn judge_complete<T: Print + AllocGlobal, R: Read + Drop>(
 }
 
 /// How a trace is judged.
-#[derive(Clone, Copy, Debug, PartialEq, Eq)]
+#[derive(Clone, Copy)]
 pub struct CheckOptions {
     /// So many threads judge it.
     pub workers: u16,

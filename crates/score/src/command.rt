@@ -17,7 +17,7 @@ use std::alloc::{AllocError, Global};
 const VERSION: &str = "0.2.0\nrattle-kit-13f logic dac8208d650f15bf";
 
 /// A command, with the words that it was given.
-#[derive(Clone, Copy, Debug, PartialEq, Eq)]
+#[derive(Clone, Copy)]
 pub enum Request<'a> {
     /// Judge the trace in a file for the configuration in a file.
     Check {

@@ -38,7 +38,7 @@ Examples:
 pub const DEMO_TURNS: u32 = 10_000_000;
 
 /// What a demonstration came to.
-#[derive(Debug, Drop)]
+#[derive(Drop)]
 pub enum Demonstration {
     /// Its trace of so many events is written.
     Written(u32),

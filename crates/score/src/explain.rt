@@ -152,7 +152,7 @@ fn not_judged<T: Print + AllocGlobal, D: fmt::Display>(
 }
 
 /// What `explain` is asked for beside the verdict.
-#[derive(Clone, Copy, Debug, PartialEq, Eq)]
+#[derive(Clone, Copy)]
 pub struct ExplainOptions<'a> {
     /// How many records before one that breaks a rule are told.
     pub events: u16,

@@ -15,7 +15,7 @@ const STANDARD_OUTPUT: &str = "-";
 const PART: &str = ".part";
 
 /// What a path to write to stands for.
-#[derive(Clone, Copy, Debug, PartialEq, Eq)]
+#[derive(Clone, Copy)]
 pub enum Target {
     StandardOutput,
     /// What is there is no regular file, as a device or a pipe. It is written to.

@@ -76,7 +76,7 @@ Examples:
 const BEFORE: u64 = 200;
 
 /// The places of the first and the last record that are asked for.
-#[derive(Clone, Copy, Debug, PartialEq, Eq)]
+#[derive(Clone, Copy)]
 pub struct Window {
     pub from: Option<u64>,
     pub to: Option<u64>,
@@ -97,7 +97,7 @@ impl Window {
 }
 
 /// What `view` is asked for.
-#[derive(Clone, Copy, Debug, PartialEq, Eq)]
+#[derive(Clone, Copy)]
 pub struct ViewOptions<'a> {
     pub window: Window,
     /// The file in which a recorder wrote the time of each record.
