@@ -1,10 +1,13 @@
-//! Tests of `lf_engine` and `lf_stream`, in a crate of their own so that they are proved once.
+//! Tests of `lf_engine`, `lf_stream` and `lf_shrink`, and of what is told of a verdict, in a crate of their own so that
+//! each is proved once.
 #![tactic(auto)]
 
 #[cfg(test)]
 mod complete;
 #[cfg(test)]
 mod configured;
+#[cfg(test)]
+mod contents;
 #[cfg(test)]
 mod counts;
 #[cfg(test)]
@@ -26,7 +29,11 @@ mod growth;
 #[cfg(test)]
 mod hostile;
 #[cfg(test)]
+mod json;
+#[cfg(test)]
 mod lines;
+#[cfg(test)]
+mod shrink;
 #[cfg(test)]
 mod statistics;
 #[cfg(test)]
@@ -39,5 +46,7 @@ mod traces;
 mod versions;
 #[cfg(test)]
 mod watched;
+#[cfg(test)]
+mod why;
 #[cfg(test)]
 mod workers;

@@ -7,7 +7,7 @@ use Rattle.lf_verdict.specs.Verdict.{IsDecided, IsVerdictOf}
 use Rattle.lf_why.specs.NotLegal.{IsEarliestIf}
 use Rattle.lf_why.specs.Why.{IsIncompleteIf}
 use Rattle.lf_why.proofs.Earliest.{earliest_of}
-use Rattle.lf_answer_tests.proofs.why.told.Goals as goal
+use Rattle.lf_engine_tests.proofs.why.told.Goals as goal
 
 none_asked : (shape : Shape) (bytes : List ℕ) (v : Verdict) → IsIncompleteIf shape bytes v None
 none_asked shape bytes (Yes events order) = tt
