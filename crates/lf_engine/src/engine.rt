@@ -1,7 +1,7 @@
 //! Reads the bytes of a trace, judges them and writes the line of the verdict.
 
 ghost use Rattle.std.specs.Prelude.{◌≡◌, ◌≢◌, ◌<◌, ◌↔◌, ℕ, take, Result, Ok, Err, string_bytes};
-ghost use Rattle.std.specs.Prelude.{IfOk, IfErr, IsErrOf, IsTrue};
+ghost use Rattle.std.specs.Prelude.{IfOk, IfErr, IsErrOf};
 ghost use Rattle.lf_rules.specs.InRange.{IsShape};
 ghost use Rattle.lf_config.specs.Configuration.{configuration_of};
 ghost use Rattle.lf_verdict.specs.declared.answer.Verdict.{Verdict};
@@ -30,13 +30,6 @@ use std::thread::Threads;
 
 /// The most bytes that one read asks for.
 pub const PIECE: usize = 65536;
-
-/// Whether there can be so many workers.
-pub fn are_workers(workers: u32) -> bool
-    ensures { IsTrue result ↔ IsWorkerCount workers }
-{
-    is_worker_count(workers)
-}
 
 /// Reads and judges.
 fn judge<T: AllocGlobal + Threads + Sync + Send + Copy + 'static, S: Source>(
@@ -81,7 +74,7 @@ fn decide<T: AllocGlobal + Threads + Sync + Send + Copy + 'static, S: Source>(
     ensures outcome { IsOutcome (S.account source.old) (S.account source.new)
         (IsWorkerCount workers) (IsLegal shape.now) (IsVerdictOf shape.now workers) turns result }
 {
-    if !are_workers(workers) {
+    if !is_worker_count(workers) {
         return Ok(Verdict::Refused(Refusal::Workers(workers)));
     }
     judge(rt, source, shape, workers, turns)
@@ -94,7 +87,7 @@ pub fn shape_for(alloc: Global, config: &str, workers: u32) -> Result<Shape, Ref
     ensures in_range { IfOk result IsShape }
     ensures refused { IfErr result (IsRefusedFirst config.now workers) }
 {
-    if !are_workers(workers) {
+    if !is_worker_count(workers) {
         return Err(Refusal::Workers(workers));
     }
     Ok(read(alloc, config)?)

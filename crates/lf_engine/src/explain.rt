@@ -39,7 +39,7 @@ use std::alloc::Global;
 use std::io::{Read, Write};
 
 /// What a run that explains came to.
-#[derive(Debug, Drop)]
+#[derive(Drop)]
 pub struct Explained {
     pub verdict: Verdict,
     /// The first request of a legal trace that has no reply, where one has none and complete traces are asked for.

@@ -29,7 +29,7 @@ mod watching;
 
 pub use check::run_check;
 pub use complete::{Completion, run_complete};
-pub use engine::{are_workers, run, run_shape, shape_for};
+pub use engine::{run, run_shape, shape_for};
 pub use explain::run_explain;
 pub use explain_json::run_explain_json;
 pub use fault::RunFault;

@@ -17,7 +17,7 @@ use lf_verdict::{Broken, Incomplete, Verdict};
 use std::alloc::{AllocError, Global};
 
 /// Which lines are wanted of a trace that is legal.
-#[derive(Clone, Copy, Debug, PartialEq, Eq)]
+#[derive(Clone, Copy)]
 pub enum Wanted {
     Statistics,
     Coverage,

@@ -3,7 +3,8 @@
 use crate::configuration::{bytes_at, text_in};
 use crate::progress::reader_of;
 use crate::{refused, status_of, status_of_completion};
-use lf_engine::{Counted, are_workers, run_check, run_complete};
+use lf_engine::{Counted, run_check, run_complete};
+use lf_verdict::is_worker_count;
 use std::io;
 use std::io::Read;
 use std::process::ExitCode;
@@ -101,7 +102,7 @@ where
     T::File: Drop,
 {
     let workers = u32::from(options.workers);
-    if !are_workers(workers) {
+    if !is_worker_count(workers) {
         return Ok(judge(rt, "", io::empty(), workers));
     }
     let read = bytes_at(rt, config);

@@ -7,7 +7,7 @@ use Rattle.lf_engine.proofs.engine.shape_for.Goals as goal
 pub returns-in_err-read-clause-refused : goal.returns-in_err-read-clause-refused
 returns-in_err-read-clause-refused c =
     let text = c.args.config.now in
-    let ok = c.if-not-are_workers.ensures.0 refl in
+    let ok = c.if-not-is_worker_count.ensures.0 refl in
     if_err_from c.from_residual.result
     (λ refusal is. subst (IsRefusedFirst text c.args.workers) (sym is)
     (refused_first text c.args.workers ok _
