@@ -2,6 +2,7 @@
 
 from __future__ import annotations
 
+import os
 import re
 import shutil
 import subprocess
@@ -81,7 +82,7 @@ class CacheChecks:
         self.checks.check(f"examples/systemverilog: {name}", function)
 
     def all(self) -> None:
-        with ThreadPoolExecutor(max_workers=2) as pool:
+        with ThreadPoolExecutor(max_workers=os.cpu_count()) as pool:
             built = {name: pool.submit(cache.make, "build") for name, cache in self.caches.items()}
             for name, cache in self.caches.items():
                 self.check(f"{name}: built without a warning", partial(is_built, built[name]))
