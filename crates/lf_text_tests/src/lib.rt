@@ -25,6 +25,8 @@ mod refusal;
 #[cfg(test)]
 mod text;
 #[cfg(test)]
+mod traces;
+#[cfg(test)]
 mod traffic;
 #[cfg(test)]
 mod view;

@@ -1,16 +1,11 @@
 //! A trace with its wave written out.
 
+use crate::traces::TRACE;
 use lf_codec::CodecFault;
 use lf_stream::Counted;
 use lf_view::{Drawing, Sought, ViewFault, place_of, view, yes_is_drawn_in_its_order};
 use lf_wave::View;
 use std::test::Fail;
-
-/// A load that hits nothing yet: the header, one memory record, one event record and the end.
-const TRACE: [u8; 56] = [
-    0x4c, 0x46, 0x54, 0x53, 1, 0, 1, 1, 8, 0, 0, 0, 1, 0, 0, 0, 3, 0, 0, 0, 1, 2, 3, 4, 5, 6, 7, 8,
-    1, 0, 0, 0, 0, 0, 0, 0, 0, 0, 8, 0, 0, 0, 0, 0, 0, 0, 0, 0, 0, 0, 0, 0, 1, 0, 0, 0,
-];
 
 const VIEW: View = View {
     from: 0,
