@@ -1,5 +1,5 @@
 -- What a session has seen of a trace.
-use Rattle.std.specs.Prelude.{◌≡◌, ℕ, List, [], length, Option, Some, None, Result, Ok, Err}
+use Rattle.std.specs.Prelude.{◌≡◌, ℕ, true, List, [], length, Option, Some, None, Result, Ok, Err}
 use Rattle.lf_rules.specs.declared.event.Record.{Record}
 use Rattle.lf_rules.specs.declared.shape.Shape.{Shape}
 use Rattle.lf_rules.specs.Address.{flat_memory}
@@ -70,10 +70,15 @@ abbrev pub IsRunningNow : Judging → Type 0
 IsRunningNow (Running running) = Unit {0}
 IsRunningNow _ = ⊥
 
--- The records are judged one after another, so that it is known upon which a part broke first.
-abbrev pub IsInTurn : Judging → Type 0
-IsInTurn (Running running) = IsKnown running.watch
-IsInTurn _ = Unit {0}
+-- While records are judged, it is known upon which a part broke first.
+abbrev pub IsWatched : Judging → Type 0
+IsWatched (Running running) = IsKnown running.watch
+IsWatched _ = Unit {0}
+
+-- The records are watched, and judged one after another, so that it is known upon which a part broke first.
+pub record IsInTurn (s : Intake) : Type 0 where
+  pub asked : s.watched ≡ true
+  pub known : IsWatched s.judging
 
 -- Nothing stopped the session and it has judged the records that it took, or a fault that stands in the bytes stopped
 -- it, or memory ran out.

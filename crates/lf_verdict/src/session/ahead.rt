@@ -62,7 +62,7 @@ impl<G: Gate + Sync + Send + Copy + 'static> Ahead<G> {
         ensures ahead { IsAhead result }
     {
         Ahead {
-            intake: Intake::new(alloc, shape),
+            intake: Intake::new(alloc, shape, false),
             workers,
             batch,
             alone: batch.saturating_mul(BYTES_OF_A_RECORD),

@@ -1,7 +1,7 @@
 //! What a session keeps of the bytes that it was fed.
 
 ghost use Rattle.std.specs.Prelude.{◌≡◌, ◌<◌, ◌++◌, ℕ, List, [], Some, None, IsSome, IfSome, IfNone, IfOk, Ok, OnOk};
-ghost use Rattle.std.specs.Prelude.{option_to_list};
+ghost use Rattle.std.specs.Prelude.{option_to_list, IsTrue};
 ghost use Rattle.lf_rules.specs.InRange.{IsShape};
 ghost use Rattle.lf_verdict.specs.inner.Ending.{IsVerdictOrWant, IsUnorderedOrWant};
 ghost use Rattle.lf_verdict.specs.Standing.{IsWatch, IsKnown, StandsAfterAll};
@@ -52,6 +52,8 @@ pub struct Intake {
     pub memory: Memory,
     pub judging: Judging,
     pub stop: Option<Stop>,
+    /// Whether it is noted upon which record a part breaks first.
+    pub watched: bool,
 }
 
 /// Takes the records that the reader has found, so that it need not keep them.
@@ -130,12 +132,12 @@ fn judge_placed(
 }
 
 impl Intake {
-    /// Nothing was fed yet.
-    pub fn new(alloc: Global, shape: &Shape) -> Intake
+    /// Nothing was fed yet. Where it is `watched`, it is noted upon which record a part breaks first, which takes time.
+    pub fn new(alloc: Global, shape: &Shape, watched: bool) -> Intake
         requires { IsShape shape.now }
         ensures shape { result.shape ≡ shape.now }
         ensures fed { HasFed result [] }
-        ensures in_turn { IsInTurn result.judging }
+        ensures in_turn { IsTrue watched → IsInTurn result }
     {
         Intake {
             alloc,
@@ -144,6 +146,7 @@ impl Intake {
             memory: Vec::new(alloc),
             judging: Judging::Waiting,
             stop: None,
+            watched,
         }
     }
 
@@ -163,6 +166,7 @@ impl Intake {
         ensures stop { self.new.stop ≡ self.old.stop }
         ensures taken { (bytes : List ℕ) → HasTaken self.old bytes → OnOk result (HasTaken self.new bytes) }
         ensures waiting { self.new.judging ≡ Waiting }
+        ensures watched { self.new.watched ≡ self.old.watched }
         ensures none { OnOk result (self.new.reader.memory ≡ []) }
     {
         while let Some(item) = self.reader.take_memory() {
@@ -178,7 +182,7 @@ impl Intake {
         ensures stop { self.new.stop ≡ self.old.stop }
         ensures taken { (bytes : List ℕ) → HasTaken self.old bytes → OnOk result (HasTaken self.new bytes) }
         ensures drained { OnOk result (IsDrained self.new.judging self.new.reader self.new.memory.items) }
-        ensures in_turn { IsInTurn self.old.judging → IsInTurn self.new.judging }
+        ensures in_turn { IsInTurn self.old → IsInTurn self.new }
     {
         self.prepare()?;
         self.judge()
@@ -191,7 +195,7 @@ impl Intake {
         ensures stop { self.new.stop ≡ self.old.stop }
         ensures taken { (bytes : List ℕ) → HasTaken self.old bytes → OnOk result (HasTaken self.new bytes) }
         ensures lacking { OnOk result (IsLackingIf self.new.judging self.new.reader self.new.memory.items) }
-        ensures in_turn { IsInTurn self.old.judging → IsInTurn self.new.judging }
+        ensures in_turn { IsInTurn self.old → IsInTurn self.new }
     {
         let Judging::Waiting = self.judging else {
             return Ok(());
@@ -208,7 +212,7 @@ impl Intake {
         ensures stop { self.new.stop ≡ self.old.stop }
         ensures taken { (bytes : List ℕ) → HasTaken self.old bytes → OnOk result (HasTaken self.new bytes) }
         ensures drained { OnOk result (IsDrained self.new.judging self.new.reader self.new.memory.items) }
-        ensures in_turn { IsInTurn self.old.judging → IsInTurn self.new.judging }
+        ensures in_turn { IsInTurn self.old → IsInTurn self.new }
     {
         match &mut self.judging {
             Judging::Waiting => Ok(()),
@@ -231,7 +235,7 @@ impl Intake {
             { reader = with_record place.now self.old.reader }) bytes
             → OnOk result (HasTaken self.new bytes) }
         ensures drained { OnOk result (IsDrained self.new.judging self.new.reader self.new.memory.items) }
-        ensures in_turn { IsInTurn self.old.judging → IsInTurn self.new.judging }
+        ensures in_turn { IsInTurn self.old → IsInTurn self.new }
     {
         match &mut self.judging {
             Judging::Running(standing) => judge_placed(&mut self.reader, standing, place),
@@ -248,7 +252,7 @@ impl Intake {
         ensures stop { self.new.stop ≡ self.old.stop }
         ensures taken { (bytes : List ℕ) → HasTaken self.old bytes → OnOk result (HasTaken self.new bytes) }
         ensures lacking { OnOk result (IsLackingIf self.new.judging self.new.reader self.new.memory.items) }
-        ensures in_turn { IsInTurn self.new.judging }
+        ensures in_turn { IsInTurn self.old → IsInTurn self.new }
     {
         read_so_far();
         let Some(header) = self.reader.header() else {
@@ -259,8 +263,8 @@ impl Intake {
             return Ok(());
         }
         if self.memory.len() as u64 == u64::from(header.memory_count) {
-            let start = first_offset(&header);
-            let standing = Standing::new(self.alloc, &self.shape, &self.memory, start)?;
+            let (start, watched) = (first_offset(&header), self.watched);
+            let standing = Standing::new(self.alloc, &self.shape, &self.memory, start, watched)?;
             self.judging = Judging::Running(standing);
         }
         Ok(())
@@ -273,7 +277,7 @@ impl Intake {
         ensures fed { (bytes : List ℕ) → HasFed self.old bytes → HasFed self.new (bytes ++ piece.now) }
         ensures told { result ≡ stop_told self.old.stop self.new.stop }
         ensures failed { IsSome self.old.stop → self.new ≡ self.old }
-        ensures in_turn { IsInTurn self.old.judging → IsInTurn self.new.judging }
+        ensures in_turn { IsInTurn self.old → IsInTurn self.new }
     {
         faults_stand();
         if let Some(stop) = self.stop {
@@ -298,7 +302,7 @@ impl Intake {
         ensures some { IfOk result (TakesSome bytes.now) }
         ensures fed { (fed : List ℕ) → HasFed self.old fed → HasFed self.new (fed ++ bytes_taken result bytes.now) }
         ensures told { answer_of result ≡ stop_told self.old.stop self.new.stop }
-        ensures in_turn { IsInTurn self.old.judging → IsInTurn self.new.judging }
+        ensures in_turn { IsInTurn self.old → IsInTurn self.new }
     {
         header_of_bytes();
         let n = match self.reader.feed_some(bytes) {
@@ -319,7 +323,7 @@ impl Intake {
         ensures some { IfOk result (TakesSome bytes.now) }
         ensures fed { (fed : List ℕ) → HasFed self.old fed → HasFed self.new (fed ++ bytes_taken result bytes.now) }
         ensures told { answer_of result ≡ stop_told self.old.stop self.new.stop }
-        ensures in_turn { IsInTurn self.old.judging → IsInTurn self.new.judging }
+        ensures in_turn { IsInTurn self.old → IsInTurn self.new }
     {
         let Judging::Running(_) = self.judging else {
             return self.feed_some(bytes);
@@ -365,7 +369,7 @@ impl Intake {
         ensures stopped { IfSome self.old.stop (λ stop. result.verdict ≡ Verdict.Refused (refusal_of stop)) }
         ensures stands { (bytes : List ℕ) → HasFed self.old bytes →
             IfSome result.broken (IsFinal self.old.shape bytes) }
-        ensures earliest { IsInTurn self.old.judging → (bytes : List ℕ) → HasFed self.old bytes
+        ensures earliest { IsInTurn self.old → (bytes : List ℕ) → HasFed self.old bytes
             → IfSome result.broken (IsEarliest self.old.shape bytes) }
         ensures none { IsDecided result.verdict → (bytes : List ℕ) → HasFed self.old bytes
             → IfNone result.broken (NoneBrokeInTrace self.old.shape bytes) }
@@ -448,7 +452,7 @@ impl Intake {
     pub fn broken(&self) -> Option<Broken>
         requires { (bytes : List ℕ) × HasFed self.now bytes }
         ensures stands { (bytes : List ℕ) → HasFed self.now bytes → IfSome result (IsFinal self.now.shape bytes) }
-        ensures earliest { IsInTurn self.now.judging → (bytes : List ℕ) → HasFed self.now bytes
+        ensures earliest { IsInTurn self.now → (bytes : List ℕ) → HasFed self.now bytes
             → IfSome result (IsEarliest self.now.shape bytes) }
         ensures none { (bytes : List ℕ) → IfNone result (IsUnbroken self.now bytes) }
     {

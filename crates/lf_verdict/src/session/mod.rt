@@ -50,7 +50,7 @@ impl Model for Session {
 
     ghost view = { λ s. s.intake };
 
-    ghost invariant = { λ s. WasFed s.intake × IsInTurn s.intake.judging };
+    ghost invariant = { λ s. WasFed s.intake × IsInTurn s.intake };
 }
 
 impl Session {
@@ -61,7 +61,7 @@ impl Session {
         ensures fed { HasFed result [] }
     {
         Session {
-            intake: Intake::new(alloc, shape),
+            intake: Intake::new(alloc, shape, true),
             places: Places::new(),
         }
     }

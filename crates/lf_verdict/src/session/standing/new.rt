@@ -1,7 +1,8 @@
 //! The parts of a trace before its first record.
 
-ghost use Rattle.std.specs.Prelude.{◌≡◌, ◌+◌, ◌≤◌, ◌<◌, ℕ, [], IfOk, length, replicate, slice_index_or};
-ghost use Rattle.lf_rules.specs.Address.{flat_memory};
+ghost use Rattle.std.specs.Prelude.{◌≡◌, ◌+◌, ◌≤◌, ◌<◌, ℕ, [], IfOk, IsTrue, length, replicate, slice_index_or};
+ghost use Rattle.lf_rules.specs.declared.shape.Shape.{Shape};
+ghost use Rattle.lf_rules.specs.Address.{FlatMemory, flat_memory};
 ghost use Rattle.lf_rules.specs.InRange.{IsShape};
 ghost use Rattle.lf_join.specs.Join.{skeleton_lists};
 ghost use Rattle.lf_replay.specs.Bytes.{bank_part};
@@ -55,20 +56,34 @@ fn bank_judges(alloc: Global, shape: &Shape, memory: &Memory) -> Result<Vec<Bank
     Ok(judges)
 }
 
+/// What is known before the first record, which begins at `start`.
+fn first_watch(start: u64, watched: bool) -> Watch
+    ensures watch { (shape : Shape) (memory : FlatMemory) → IsWatch start shape memory [] result }
+    ensures known { IsTrue watched → IsKnown result }
+{
+    if watched {
+        Watch::Whole { next: start }
+    } else {
+        Watch::Unknown
+    }
+}
+
 impl Standing {
-    /// No record has come. `memory` is the whole memory of the trace, and the first record begins at `start`. It is
-    /// apart, since its frame is large, and the function that calls it is called for each memory record.
+    /// No record has come. `memory` is the whole memory of the trace, and the first record begins at `start`. Where it
+    /// is `watched`, it is noted upon which record a part breaks first. It is apart, since its frame is large, and the
+    /// function that calls it is called for each memory record.
     #[inline(never)]
     pub fn new(
         alloc: Global,
         shape: &Shape,
         memory: &Memory,
         start: u64,
+        watched: bool,
     ) -> Result<Standing, NoMemory>
         requires { IsShape shape.now }
         ensures stands { IfOk result (StandsAfterAll shape.now (flat_memory memory.now.items) []) }
         ensures watched { IfOk result (λ s. IsWatch start shape.now (flat_memory memory.now.items) [] s.watch) }
-        ensures known { IfOk result (λ s. IsKnown s.watch) }
+        ensures known { IsTrue watched → IfOk result (λ s. IsKnown s.watch) }
     {
         let logs = empty_logs(alloc, shape.ports + shape.banks)?;
         let ports = port_judges(alloc, shape)?;
@@ -77,7 +92,7 @@ impl Standing {
         Ok(Standing {
             entries,
             banks,
-            watch: Watch::Whole { next: start },
+            watch: first_watch(start, watched),
         })
     }
 }

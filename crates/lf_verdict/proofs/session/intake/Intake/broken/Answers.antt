@@ -3,7 +3,7 @@ use Rattle.std.specs.Prelude.{IfSome, IfNone}
 use Rattle.lf_verdict.specs.declared.session.intake.Intake.{Intake}
 use Rattle.lf_verdict.specs.declared.session.intake.Judging.{Judging}
 use Rattle.lf_verdict.specs.declared.stop.Stop.{Stop}
-use Rattle.lf_verdict.specs.Session.{IsJudging, IsInTurn, HasJudged}
+use Rattle.lf_verdict.specs.Session.{IsJudging, IsWatched, HasJudged}
 use Rattle.lf_codec.specs.declared.header.Header.{Header}
 use Rattle.lf_verdict.specs.Breaking.{first_offset}
 use Rattle.lf_verdict.specs.inner.Noting.{IsPartBroken}
@@ -79,7 +79,7 @@ returns-in-Running-clause-earliest c turn bytes fed =
     earliest_if s.shape bytes s.memory.items m.0 c.broken.result begins
     (subst (λ (h : Header). IfSome c.broken.result (IsPartBroken (first_offset h s.memory.items) s.shape
     (flat_memory s.memory.items) m.0)) (sym same) some)
-    (c.broken.ensures.named (subst IsInTurn c.in-Running.is turn))
+    (c.broken.ensures.named (subst IsWatched c.in-Running.is turn.known))
 
 pub returns-in-Running-clause-none : goal.returns-in-Running-clause-none
 returns-in-Running-clause-none c bytes =

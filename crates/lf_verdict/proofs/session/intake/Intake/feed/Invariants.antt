@@ -7,7 +7,7 @@ invariant-loop-at l = record {
   within : l.at ≤ length l.piece;
   shape : l.self.shape ≡ l.fn.self.shape;
   going : l.self.stop ≡ None;
-  in_turn : IsInTurn l.fn.self.judging → IsInTurn l.self.judging;
+  in_turn : IsInTurn l.fn.self → IsInTurn l.self;
   fed : (bytes : List ℕ) → HasFed l.fn.self bytes → HasFed l.self (bytes ++ take l.at l.piece);
 }
 

@@ -4,8 +4,13 @@ use Rattle.lf_verdict.specs.Session.{HasTaken}
 use Rattle.lf_verdict.proofs.session.intake.Intake.take_memory.Given as goal
 
 abbrev pub invariant-loop-item : goal.invariant-loop-item
-invariant-loop-item l = (l.self.shape ≡ l.fn.self.shape) × (l.self.stop ≡ l.fn.self.stop) ×
-    (l.self.judging ≡ Waiting) × ((bytes : List ℕ) → HasTaken l.fn.self bytes → HasTaken l.self bytes)
+invariant-loop-item l = record {
+  shape : l.self.shape ≡ l.fn.self.shape;
+  stop : l.self.stop ≡ l.fn.self.stop;
+  waiting : l.self.judging ≡ Waiting;
+  watched : l.self.watched ≡ l.fn.self.watched;
+  taken : (bytes : List ℕ) → HasTaken l.fn.self bytes → HasTaken l.self bytes;
+}
 
 abbrev pub decreases-loop-item : goal.decreases-loop-item
 decreases-loop-item l = length l.self.reader.memory

@@ -5,8 +5,6 @@ use Rattle.lf_rules.specs.Address.{flat_memory}
 use Rattle.lf_replay.specs.Bytes.{bank_part}
 use Rattle.std.proofs.Common.{get_or}
 use Rattle.lf_verdict.specs.Standing.{IsBankSettled}
-use Rattle.lf_verdict.proofs.Breaks.{none_broke_nothing}
-use Rattle.lf_verdict.proofs.Lengths.{offset_of_first}
 use Rattle.lf_verdict.proofs.Opened.{no_entries, nothing_at, length-nothing}
 use Rattle.lf_verdict.proofs.session.standing.Standing.new.Goals as goal
 
@@ -31,8 +29,4 @@ returns-clause-stands c =
     }
 
 pub returns-clause-watched : goal.returns-clause-watched
-returns-clause-watched c = (
-  none_broke_nothing c.args.shape.now (flat_memory c.args.memory.now.items),
-  offset_of_first
-      c.args.start,
-)
+returns-clause-watched c = c.first_watch.ensures.watch c.args.shape.now (flat_memory c.args.memory.now.items)
