@@ -8,7 +8,7 @@ use Rattle.lf_verdict.specs.declared.answer.Refusal.TheVariants.{Workers, Config
 use Rattle.lf_verdict.specs.declared.session.intake.Intake.{Intake}
 use Rattle.lf_verdict.specs.Session.{HasFed, IsRefusalSoFar}
 use Rattle.lf_stream.specs.Account.{Account}
-use Rattle.lf_stream.specs.Gathered.{IsPartRead}
+use Rattle.lf_stream.specs.Gathered.{IsPartRead, GoesOn}
 use Rattle.lf_engine.specs.Gathered.{HasFault}
 
 -- What holds holds where a call succeeded.
@@ -38,3 +38,4 @@ pub record IsGathering (old new : Account) (session : Intake) : Type 0 where
   pub fed : HasFed session bytes
   pub are_bytes : AreBytes bytes
   pub part : IsPartRead HasFault old new bytes
+  pub goes_on : GoesOn old.pieces new.pieces

@@ -1,6 +1,6 @@
 -- Laws of the verdicts for a shape and for a configuration.
 use Rattle.std.proofs.Common.{◌≡◌, ◌≢◌, ℕ, ◌<◌, ◌≤◌, List, None, Some, Result, Ok, Err, sym, ◌∙◌, subst, refl, inl}
-use Rattle.std.proofs.Common.{inr, [], arith, ◌↔◌}
+use Rattle.std.proofs.Common.{inl, inr, [], arith, ◌↔◌}
 use Rattle.std.specs.Prelude.{IsErrOf}
 use Rattle.lf_rules.specs.declared.shape.Shape.{Shape}
 use Rattle.lf_rules.specs.Fits.{Bytes}
@@ -27,9 +27,10 @@ use Rattle.lf_verdict.proofs.One.{any_workers}
 use Rattle.lf_stream.specs.Account.{Account}
 use Rattle.lf_stream.specs.declared.gathering.Stop.{Stop}
 use Rattle.lf_stream.specs.declared.gathering.Stop.TheVariants as stops
-use Rattle.lf_stream.specs.Gathered.{IsAllRead, IsPartRead, OfReading}
+use Rattle.lf_stream.specs.Gathered.{IsAllRead, IsPartRead, GoesOn, OfReading}
+use Rattle.lf_stream.proofs.GatheringLemmas.{goes_from}
 use Rattle.lf_engine.specs.declared.fault.RunFault.{RunFault}
-use Rattle.lf_engine.specs.Gathered.{HasFault}
+use Rattle.lf_engine.specs.Gathered.{HasFault, EndsOnce}
 use Rattle.lf_engine.specs.Run.{IsAsked, IsRefusedFirst, IsVerdictOfRead, IsLegalRead, IfYes, IsOutcome, Reads}
 use Rattle.lf_engine.specs.Run.{piece_len, stopped_outcome, GaveSound}
 use Rattle.lf_engine.proofs.RunLemmas.{IsKept, IsFreeUnless, HasNoFault, MeansOfNo, MeansNothingElse}
@@ -118,15 +119,17 @@ all_read old new most bytes len are all = record {
 
 -- What a session says of all that was read is what the run came to.
 pub finished : (old new : Account) (shape : Shape) (workers turns : ℕ) (session : Intake) (v : Verdict)
-    → session.shape ≡ shape → IsWorkerCount workers → new.calls ≤ turns → ¬ (0 < new.failures)
+    → session.shape ≡ shape → IsWorkerCount workers → new.calls ≤ turns → EndsOnce old.pieces new.pieces
+    → ¬ (0 < new.failures)
     → (bytes : List ℕ) → HasFed session bytes → Reads old new bytes
     → ((bytes : List ℕ) → HasFed session bytes → IsLegalYes session.shape bytes v)
     → ((bytes : List ℕ) → HasFed session bytes → IsDecided v → IsVerdictOf session.shape 1 bytes v)
     → ¬ (v ≡ Refused Thread)
     → IsOutcome old new (IsWorkerCount workers) (IsLegal shape) (IsVerdictOf shape workers) turns (Ok v)
-finished old new shape workers turns session v same count few none bytes fed read legal verdict thread = record {
+finished old new shape workers turns session v same count few once none bytes fed read legal verdict thread = record {
   reads = few;
   unread = λ unasked. absurd (unasked count);
+  once = once;
   verdict = λ judged. record {
     bytes = bytes;
     reads = λ _. read;
@@ -149,12 +152,13 @@ of_reading (stops.Sink e) f p = tt
 -- What a run comes to whose reading stopped, by what is known of the reads.
 stopped_run : (old new : Account) (asked : Type 0) (IsLegal : List ℕ → List ℕ → Type 0)
     (IsVerdict : List ℕ → Verdict → Type 0) (turns : ℕ) (stop : Stop NoMemory) → asked → new.calls ≤ turns
-    → OfReading stop (GaveSound old new) → (stop ≡ stops.Read ↔ 0 < new.failures)
+    → GoesOn old.pieces new.pieces → OfReading stop (GaveSound old new) → (stop ≡ stops.Read ↔ 0 < new.failures)
     → (stop ≡ stops.Turns → new.calls ≡ turns)
     → IsOutcome old new asked IsLegal IsVerdict turns (stopped_outcome stop)
-stopped_run old new asked IsLegal IsVerdict turns stops.Read wanted few gave failed turned = record {
+stopped_run old new asked IsLegal IsVerdict turns stops.Read wanted few on gave failed turned = record {
   reads = few;
   unread = λ unasked. absurd (unasked wanted);
+  once = inl on;
   verdict = tt;
   legal = tt;
   no_thread = λ e. cc;
@@ -163,9 +167,10 @@ stopped_run old new asked IsLegal IsVerdict turns stops.Read wanted few gave fai
   sound = gave;
   no_write = λ e. cc;
 }
-stopped_run old new asked IsLegal IsVerdict turns stops.Turns wanted few gave failed turned = record {
+stopped_run old new asked IsLegal IsVerdict turns stops.Turns wanted few on gave failed turned = record {
   reads = few;
   unread = λ unasked. absurd (unasked wanted);
+  once = inl on;
   verdict = tt;
   legal = tt;
   no_thread = λ e. cc;
@@ -174,9 +179,10 @@ stopped_run old new asked IsLegal IsVerdict turns stops.Turns wanted few gave fa
   sound = gave;
   no_write = λ e. cc;
 }
-stopped_run old new asked IsLegal IsVerdict turns (stops.Sink e) wanted few gave failed turned = record {
+stopped_run old new asked IsLegal IsVerdict turns (stops.Sink e) wanted few on gave failed turned = record {
   reads = few;
   unread = λ unasked. absurd (unasked wanted);
+  once = inl on;
   verdict = λ decided. absurd decided;
   legal = tt;
   no_thread = λ e. cc;
@@ -189,14 +195,14 @@ stopped_run old new asked IsLegal IsVerdict turns (stops.Sink e) wanted few gave
 -- ... where that is a fault
 pub reading_stopped : (old new : Account) (asked : Type 0) (IsLegal : List ℕ → List ℕ → Type 0)
     (IsVerdict : List ℕ → Verdict → Type 0) (turns : ℕ) (stop : Stop NoMemory) (Fed : List ℕ → Type 0) (e : RunFault)
-    → asked → new.calls ≤ turns
+    → asked → new.calls ≤ turns → GoesOn old.pieces new.pieces
     → OfReading stop ((bytes : List ℕ) × Fed bytes × IsPartRead HasFault old new bytes)
     → (IsErrOf {T = Unit {0}} (Err stop) stops.Read ↔ (0 < new.failures))
     → (IsErrOf {T = Unit {0}} (Err stop) stops.Turns → new.calls ≡ turns)
     → Err e ≡ stopped_outcome stop → IsOutcome old new asked IsLegal IsVerdict turns (Err e)
-reading_stopped old new asked IsLegal IsVerdict turns stop Fed e wanted few part failed turned is =
+reading_stopped old new asked IsLegal IsVerdict turns stop Fed e wanted few on part failed turned is =
     subst (IsOutcome old new asked IsLegal IsVerdict turns) (sym is)
-    (stopped_run old new asked IsLegal IsVerdict turns stop wanted few
+    (stopped_run old new asked IsLegal IsVerdict turns stop wanted few on
     (of_reading stop (λ (p : (bytes : List ℕ) × Fed bytes × IsPartRead HasFault old new bytes). (p.0, p.2)) part)
     (λ is_read. failed.0 cc, λ bad. let was = failed.1 bad in cc) (λ is_turns. turned cc))
 
@@ -289,6 +295,7 @@ pub outcome_for : (old new : Account) (text : List ℕ) (shape : Shape) (workers
     → IsOutcome old new (IsAsked text workers) (IsLegalFor text) (IsVerdictFor text workers) turns outcome
 outcome_for old new text shape workers turns (Ok v) e count h = record {
   reads = h.reads;
+  once = h.once;
   unread = λ unasked. absurd (unasked (count, (shape, e)));
   verdict = λ judged. let is = h.verdict judged in record {
     bytes = is.bytes;
@@ -304,6 +311,7 @@ outcome_for old new text shape workers turns (Ok v) e count h = record {
 }
 outcome_for old new text shape workers turns (Err f) e count h = record {
   reads = h.reads;
+  once = h.once;
   unread = λ unasked. absurd (unasked (count, (shape, e)));
   verdict = tt;
   legal = tt;
@@ -365,6 +373,7 @@ pub refused_outcome : (a : Account) (text : List ℕ) (workers turns : ℕ) (r :
 refused_outcome a text workers turns r h calls failures = record {
   reads = omega (arith, calls);
   unread = λ _. refl;
+  once = inl (goes_from a.pieces);
   verdict = refused_verdict a a text workers r h;
   legal = tt;
   no_thread = λ e. not_thread text workers r h cc;

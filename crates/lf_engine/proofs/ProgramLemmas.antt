@@ -55,6 +55,7 @@ module _ (old new writer writer' : Account)
       record {
         reads = h.reads;
         unread = h.unread;
+        once = h.once;
         legal = legal_of said (λ other. (of_said other).legal);
         legal_whole = told_legal old new asked L V sound turns outcome said h follows;
         runless = told_runless old new asked L V N means turns outcome said h follows;

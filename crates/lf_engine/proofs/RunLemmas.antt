@@ -24,6 +24,7 @@ outcome_told old new asked L V turns (Ok v) (Ok w) h (inl e) =
 outcome_told old new asked L V turns (Ok v) (Ok w) h (inr e) = rw e (record {
   reads = h.reads;
   unread = h.unread;
+  once = h.once;
   verdict = λ judged. absurd judged;
   legal = tt;
   no_thread = λ x. cc;

@@ -15,6 +15,8 @@ use Rattle.lf_verdict.specs.Unordered.{IsUnordered, IsUnorderedFor, IsLegalBySom
 use Rattle.lf_verdict.specs.Verdict.{IsWorkerCount, IsDecided}
 use Rattle.lf_verdict.proofs.One.{any_workers}
 use Rattle.lf_stream.specs.Account.{Account}
+use Rattle.lf_stream.proofs.GatheringLemmas.{goes_from}
+use Rattle.lf_engine.specs.Gathered.{EndsOnce}
 use Rattle.lf_engine.specs.declared.fault.RunFault.{RunFault}
 use Rattle.lf_engine.specs.Run.{IsAsked, IsRefusedFirst, IsVerdictOfRead, IsLegalRead, IfYes, IsOutcome, Reads}
 use Rattle.lf_engine.proofs.JudgingLemmas.{text_kept, text_free, text_runless, trace_has_none, verdict_for}
@@ -41,16 +43,18 @@ legal_read old new shape (Refused f) bytes reads h = tt
 
 -- What a session says of all that was read is what the run came to.
 pub finished_unordered : (old new : Account) (shape : Shape) (workers turns : ℕ) (session : Intake) (v : Verdict)
-    → session.shape ≡ shape → IsWorkerCount workers → new.calls ≤ turns → ¬ (0 < new.failures)
+    → session.shape ≡ shape → IsWorkerCount workers → new.calls ≤ turns → EndsOnce old.pieces new.pieces
+    → ¬ (0 < new.failures)
     → (bytes : List ℕ) → HasFed session bytes → Reads old new bytes
     → ((bytes : List ℕ) → HasFed session bytes → IsLegalUnordered session.shape bytes v)
     → ((bytes : List ℕ) → HasFed session bytes → IsDecided v → IsUnordered session.shape 1 bytes v)
     → ¬ (v ≡ Refused Thread)
     → IsOutcome old new (IsWorkerCount workers) (IsLegalBySome shape) (IsUnordered shape workers) turns (Ok v)
-finished_unordered old new shape workers turns session v same count few none bytes fed read legal verdict thread =
+finished_unordered old new shape workers turns session v same count few once none bytes fed read legal verdict thread =
     record {
       reads = few;
       unread = λ unasked. absurd (unasked count);
+      once = once;
       verdict = λ judged. record {
         bytes = bytes;
         reads = λ _. read;
@@ -117,6 +121,7 @@ pub unordered_outcome : (old new : Account) (text : List ℕ) (shape : Shape) (w
     → IsOutcome old new (IsAsked text workers) (IsLegalBySomeFor text) (IsUnorderedFor text workers) turns outcome
 unordered_outcome old new text shape workers turns (Ok v) e count h = record {
   reads = h.reads;
+  once = h.once;
   unread = λ unasked. absurd (unasked (count, (shape, e)));
   verdict = λ judged. let is = h.verdict judged in record {
     bytes = is.bytes;
@@ -132,6 +137,7 @@ unordered_outcome old new text shape workers turns (Ok v) e count h = record {
 }
 unordered_outcome old new text shape workers turns (Err f) e count h = record {
   reads = h.reads;
+  once = h.once;
   unread = λ unasked. absurd (unasked (count, (shape, e)));
   verdict = tt;
   legal = tt;
@@ -155,6 +161,7 @@ pub unordered_refused : (a : Account) (text : List ℕ) (workers turns : ℕ) (r
 unordered_refused a text workers turns r h calls failures = record {
   reads = omega (arith, calls);
   unread = λ _. refl;
+  once = inl (goes_from a.pieces);
   verdict = refused_read a a text workers r h;
   legal = tt;
   no_thread = λ e. not_thread text workers r h cc;

@@ -18,7 +18,7 @@ use Rattle.lf_stream.specs.Gathered.{IsPartRead, IsAllRead}
 use Rattle.lf_engine.specs.declared.fault.RunFault.{RunFault}
 use Rattle.lf_engine.specs.declared.fault.RunFault.TheVariants.{Read, Turns, Write}
 use Rattle.lf_engine.specs.Line.{line_of, not_read_line}
-use Rattle.lf_engine.specs.Gathered.{HasFault}
+use Rattle.lf_engine.specs.Gathered.{HasFault, EndsOnce}
 
 -- ---- what is read
 
@@ -82,6 +82,7 @@ pub record IsOutcome (old new : Account) (asked : Type 0) (IsLegal : List ℕ �
     (IsVerdict : List ℕ → Verdict → Type 0) (turns : ℕ) (outcome : Result Verdict RunFault) : Type 0 where
   pub reads : new.calls ≤ turns
   pub unread : ¬ asked → new ≡ old
+  pub once : EndsOnce old.pieces new.pieces
   pub verdict : IfOk outcome (λ v. IsDecided v → IsVerdictOfRead old new asked IsVerdict v)
   pub legal : IfOk outcome (λ v. IfYes v (IsLegalRead old new IsLegal))
   pub no_thread : outcome ≢ Ok (Refused Thread)
@@ -124,6 +125,8 @@ pub record IsRunWriting (reader reader' writer writer' : Account) (asked : Type 
   -- No more reads than the caller allows, and none where the trace is not asked for.
   pub reads : reader'.calls ≤ turns
   pub unread : ¬ asked → reader' ≡ reader
+  -- A read that answers no bytes is the last one.
+  pub once : EndsOnce reader.pieces reader'.pieces
   -- A yes means that the bytes that the reader answered are a legal trace, and so are all that it had.
   pub legal : IfOk answer (λ v. IfYes v (IsLegalRead reader reader' IsLegal))
   pub legal_whole : IfOk answer (λ v. IfSome reader.known (λ bytes. IfYes v (IsLegal bytes)))

@@ -23,7 +23,7 @@ use Rattle.lf_engine.specs.declared.watch.Watched.{Watched}
 use Rattle.lf_engine.specs.declared.watch.Watched.TheVariants as watched
 use Rattle.lf_engine.specs.declared.watching.Fed.{Fed}
 use Rattle.lf_engine.specs.declared.watching.Fed.TheVariants as fed
-use Rattle.lf_engine.specs.Gathered.{HasFault}
+use Rattle.lf_engine.specs.Gathered.{HasFault, EndsOnce}
 use Rattle.lf_engine.specs.Line.{line_of, not_read_line}
 use Rattle.lf_engine.specs.Run.{IsAsked, IsOutcome}
 
@@ -64,6 +64,8 @@ IsWatched most old new session (Some found) = IsBrokenRead old new session.shape
 pub record IsBrokenWithin (old new : Account) (shape : Shape) (turns : ℕ) (found : Broken) : Type 0 where
   pub reads : new.calls ≤ turns
   pub fine : ¬ (0 < new.failures)
+  -- A read that answers no bytes is the last one.
+  pub once : EndsOnce old.pieces new.pieces
   pub read : IsBrokenRead old new shape found
 
 -- What a run for a shape came to: a verdict as that of a run which reads to the end, or what broke.

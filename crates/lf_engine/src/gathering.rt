@@ -1,13 +1,13 @@
 //! Reads the bytes of a trace and judges them by several workers.
 
 ghost use Rattle.std.specs.Prelude.{◌≡◌, ◌≤◌, ◌<◌, ◌↔◌, ◌++◌, ℕ, List, [], None, length};
-ghost use Rattle.std.specs.Prelude.{IfOk, IfErr, OnOk, IsErrOf, IsTrue};
+ghost use Rattle.std.specs.Prelude.{IfOk, IfErr, OnOk, OnErr, IsErrOf, IsTrue};
 ghost use Rattle.lf_codec.specs.Laws.{AreBytes};
 ghost use Rattle.lf_codec.specs.Reader.{fault_in};
 ghost use Rattle.lf_codec.specs.Reading.{fault_so_far};
 ghost use Rattle.lf_verdict.specs.Session.{HasFed, IsRefusalSoFar};
 ghost use Rattle.lf_stream.specs.declared.gathering.Stop.{Stop};
-ghost use Rattle.lf_stream.specs.Gathered.{IsPartRead, IsAllRead, OfReading};
+ghost use Rattle.lf_stream.specs.Gathered.{IsPartRead, IsAllRead, GoesOn, GoesOnToLast, OfReading};
 ghost use Rattle.lf_engine.specs.Gathered.{HasFault};
 
 use lf_codec::{Told, fault_so_far};
@@ -75,6 +75,9 @@ pub fn gather_by<T: Threads + Sync + Send + Copy + 'static, S: Source>(
         HasFault (S.account source.old) (S.account source.new) bytes)) }
     ensures read { IsErrOf result Stop.Read ↔ (0 < (S.account source.new).failures) }
     ensures turns { IsErrOf result Stop.Turns → (S.account source.new).calls ≡ turns }
+    // A read that answers no bytes is the last one, and then there is no fault.
+    ensures once { OnOk result (GoesOnToLast (S.account source.old).pieces (S.account source.new).pieces) }
+    ensures unended { OnErr result (GoesOn (S.account source.old).pieces (S.account source.new).pieces) }
 {
     fault_so_far();
     for _turn in 0..turns {

@@ -1,11 +1,11 @@
 //! Reads the bytes of a trace and judges them, no further than to the piece with which something broke for good.
 
 ghost use Rattle.std.specs.Prelude.{◌≡◌, ◌≤◌, ◌<◌, ◌↔◌, ◌++◌, ℕ, List, [], length};
-ghost use Rattle.std.specs.Prelude.{IfOk, IfErr, IsErrOf};
+ghost use Rattle.std.specs.Prelude.{IfOk, IfErr, OnOk, OnErr, IsErrOf};
 ghost use Rattle.lf_codec.specs.Laws.{AreBytes};
 ghost use Rattle.lf_verdict.specs.Session.{HasFed};
 ghost use Rattle.lf_stream.specs.declared.gathering.Stop.{Stop};
-ghost use Rattle.lf_stream.specs.Gathered.{IsPartRead, OfReading};
+ghost use Rattle.lf_stream.specs.Gathered.{IsPartRead, GoesOn, GoesOnToLast, OfReading};
 ghost use Rattle.lf_engine.specs.Gathered.{HasFault};
 ghost use Rattle.lf_engine.specs.Watch.{IsFed, IsWatched};
 
@@ -67,6 +67,9 @@ pub fn gather_watching<S: Source>(
         HasFault (S.account source.old) (S.account source.new) bytes)) }
     ensures read { IsErrOf result Stop.Read ↔ (0 < (S.account source.new).failures) }
     ensures turns { IsErrOf result Stop.Turns → (S.account source.new).calls ≡ turns }
+    // A read that answers no bytes is the last one, and then there is no fault.
+    ensures once { OnOk result (GoesOnToLast (S.account source.old).pieces (S.account source.new).pieces) }
+    ensures unended { OnErr result (GoesOn (S.account source.old).pieces (S.account source.new).pieces) }
 {
     fault_so_far();
     for _turn in 0..turns {

@@ -1,4 +1,4 @@
-use Rattle.std.proofs.Common.{◌≡◌, [], Err, ◌∙◌, refl, arith, subst, rules}
+use Rattle.std.proofs.Common.{inr, ◌≡◌, [], Err, ◌∙◌, refl, arith, subst, rules}
 use Rattle.lf_rules.specs.declared.shape.Shape.{Shape}
 use Rattle.lf_verdict.specs.Incomplete.{IsIncompleteFor}
 use Rattle.lf_engine.proofs.CompletionLemmas.{completion_read}
@@ -14,7 +14,7 @@ returns-in-Ok-gather-clause-outcome g c =
     let got = c.in-Ok-gather.ensures in
     let (bytes, was, all) = got.all in
     finished _ _ _ 1 _ c.gather.new.sink.session c.conclude-end.result.verdict (got.setting ∙ c.for_shape.ensures.shape)
-    (omega arith, omega arith) got.reads
+    (omega arith, omega arith) got.reads (inr got.once)
     (λ failed. let bad = got.read.1 failed in cc)
     bytes was.0 (all_read _ _ _ bytes (search rules) was.1 all)
     c.conclude-end.ensures.legal c.conclude-end.ensures.verdict c.conclude-end.ensures.thread
@@ -33,5 +33,5 @@ pub returns-in_err-stopped-in-Err-clause-outcome : goal.returns-in_err-stopped-i
 returns-in_err-stopped-in-Err-clause-outcome g c =
     let got = c.in-Err.ensures in
     let is : c.from_residual.result ≡ Err c.in_err-stopped-in-Err.field-0.0 = search rules in
-    rw is (reading_stopped _ _ _ _ _ _ c.in-Err.stop _ _ (omega arith, omega arith) got.reads
+    rw is (reading_stopped _ _ _ _ _ _ c.in-Err.stop _ _ (omega arith, omega arith) got.reads got.unended
     got.part got.read got.turns c.in_err-stopped-in-Err.ensures.outcome)

@@ -2,6 +2,7 @@ use Rattle.std.proofs.Common.{◌++◌, [], ◌≡◌, take, rules, arith, refl,
 use Rattle.lf_codec.specs.Laws.{AreBytes}
 use Rattle.lf_verdict.specs.Session.{HasFed}
 use Rattle.lf_stream.proofs.GatheringLemmas.{begun, same_part, more_part, last_part}
+use Rattle.lf_stream.proofs.GatheringLemmas.{goes_from, goes_same, goes_more, goes_to_last, some_read}
 use Rattle.lf_engine.specs.Gathered.{HasFault}
 use Rattle.lf_engine.specs.Watch.{IsBrokenFor}
 use Rattle.lf_engine.proofs.GatheringLemmas.{none_stands}
@@ -19,6 +20,7 @@ loop-turn-init g c = record {
     fed = c.requires.fresh;
     are_bytes = search rules;
     part = begun _ _ (none_stands c.fault_so_far.ensures.other [] refl);
+    goes_on = goes_from _;
   };
 }
 
@@ -94,6 +96,8 @@ loop-turn-preserved g c = record {
               are_bytes = w.in-Ok-More.ensures.are_bytes so_far.bytes so_far.are_bytes;
               part = more_part _ _ _ _ so_far.bytes so_far.part piece read.pieces read.known.0
                   (rw w.in-Ok-More.field-0-is at (w.in-Ok-More.ensures.told so_far.bytes so_far.fed));
+              goes_on = goes_more _ _ _ so_far.goes_on piece read.pieces
+                  (some_read w.in-Ok.n c.pull.new.buffer (search rules) (search rules));
             })
         | in-Err+else-ne w ↦
             let read = w.in-Err.ensures.read in
@@ -102,6 +106,7 @@ loop-turn-preserved g c = record {
               fed = so_far.fed;
               are_bytes = so_far.are_bytes;
               part = same_part _ _ _ _ so_far.bytes so_far.part read.pieces read.known;
+              goes_on = goes_same _ _ _ so_far.goes_on read.pieces;
             })
       ];
 }
@@ -114,3 +119,25 @@ returns-then-ne-clause-part g c =
 
 pub returns-clause-part : goal.returns-clause-part
 returns-clause-part g c = let so_far = c.loop-turn.invariant.gathered in (so_far.bytes, so_far.part)
+
+pub returns-in-Ok-eq0-clause-once : goal.returns-in-Ok-eq0-clause-once
+returns-in-Ok-eq0-clause-once g c =
+    goes_to_last _ _ _ c.loop-turn.invariant.gathered.goes_on (take c.in-Ok-eq0.field-0 c.pull.new.buffer)
+    c.in-Ok-eq0.ensures.read.pieces
+
+pub returns-in-Ok-Fault-clause-once : goal.returns-in-Ok-Fault-clause-once
+returns-in-Ok-Fault-clause-once g c =
+    goes_to_last _ _ _ c.loop-turn.invariant.gathered.goes_on (take c.in-Ok.n c.pull.new.buffer)
+    c.in-Ok.ensures.read.pieces
+
+pub returns-in-Ok-Broken-clause-once : goal.returns-in-Ok-Broken-clause-once
+returns-in-Ok-Broken-clause-once g c =
+    goes_to_last _ _ _ c.loop-turn.invariant.gathered.goes_on (take c.in-Ok.n c.pull.new.buffer)
+    c.in-Ok.ensures.read.pieces
+
+pub returns-then-ne-clause-unended : goal.returns-then-ne-clause-unended
+returns-then-ne-clause-unended g c =
+    goes_same _ _ _ c.loop-turn.invariant.gathered.goes_on c.in-Err.ensures.read.pieces
+
+pub returns-clause-unended : goal.returns-clause-unended
+returns-clause-unended g c = c.loop-turn.invariant.gathered.goes_on
