@@ -27,10 +27,10 @@ use Rattle.lf_verdict.proofs.One.{any_workers}
 use Rattle.lf_stream.specs.Account.{Account}
 use Rattle.lf_stream.specs.declared.gathering.Stop.{Stop}
 use Rattle.lf_stream.specs.declared.gathering.Stop.TheVariants as stops
-use Rattle.lf_stream.specs.Gathered.{IsAllRead, IsPartRead, GoesOn, OfReading}
+use Rattle.lf_stream.specs.Gathered.{IsAllRead, IsPartRead, GoesOn, EndsOnce, OfReading}
 use Rattle.lf_stream.proofs.GatheringLemmas.{goes_from}
 use Rattle.lf_engine.specs.declared.fault.RunFault.{RunFault}
-use Rattle.lf_engine.specs.Gathered.{HasFault, EndsOnce}
+use Rattle.lf_engine.specs.Gathered.{HasFault}
 use Rattle.lf_engine.specs.Run.{IsAsked, IsRefusedFirst, IsVerdictOfRead, IsLegalRead, IfYes, IsOutcome, Reads}
 use Rattle.lf_engine.specs.Run.{piece_len, stopped_outcome, GaveSound}
 use Rattle.lf_engine.proofs.RunLemmas.{IsKept, IsFreeUnless, HasNoFault, MeansOfNo, MeansNothingElse}

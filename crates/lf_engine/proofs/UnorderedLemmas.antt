@@ -16,7 +16,7 @@ use Rattle.lf_verdict.specs.Verdict.{IsWorkerCount, IsDecided}
 use Rattle.lf_verdict.proofs.One.{any_workers}
 use Rattle.lf_stream.specs.Account.{Account}
 use Rattle.lf_stream.proofs.GatheringLemmas.{goes_from}
-use Rattle.lf_engine.specs.Gathered.{EndsOnce}
+use Rattle.lf_stream.specs.Gathered.{EndsOnce}
 use Rattle.lf_engine.specs.declared.fault.RunFault.{RunFault}
 use Rattle.lf_engine.specs.Run.{IsAsked, IsRefusedFirst, IsVerdictOfRead, IsLegalRead, IfYes, IsOutcome, Reads}
 use Rattle.lf_engine.proofs.JudgingLemmas.{text_kept, text_free, text_runless, trace_has_none, verdict_for}

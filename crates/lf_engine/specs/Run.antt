@@ -14,11 +14,11 @@ use Rattle.lf_verdict.specs.Configured.{IsConfigFault}
 use Rattle.lf_stream.specs.Account.{Account, WentOut}
 use Rattle.lf_stream.specs.declared.gathering.Stop.{Stop}
 use Rattle.lf_stream.specs.declared.gathering.Stop.TheVariants as stops
-use Rattle.lf_stream.specs.Gathered.{IsPartRead, IsAllRead}
+use Rattle.lf_stream.specs.Gathered.{IsPartRead, IsAllRead, EndsOnce}
 use Rattle.lf_engine.specs.declared.fault.RunFault.{RunFault}
 use Rattle.lf_engine.specs.declared.fault.RunFault.TheVariants.{Read, Turns, Write}
 use Rattle.lf_engine.specs.Line.{line_of, not_read_line}
-use Rattle.lf_engine.specs.Gathered.{HasFault, EndsOnce}
+use Rattle.lf_engine.specs.Gathered.{HasFault}
 
 -- ---- what is read
 

@@ -16,14 +16,14 @@ use Rattle.lf_verdict.specs.Session.{HasFed}
 use Rattle.lf_verdict.specs.Text.{broken_text}
 use Rattle.lf_verdict.specs.Verdict.{IsWorkerCount, IsVerdictOf}
 use Rattle.lf_stream.specs.Account.{Account, WentOut}
-use Rattle.lf_stream.specs.Gathered.{IsPartRead, IsAllRead}
+use Rattle.lf_stream.specs.Gathered.{IsPartRead, IsAllRead, EndsOnce}
 use Rattle.lf_engine.specs.declared.fault.RunFault.{RunFault}
 use Rattle.lf_engine.specs.declared.fault.RunFault.TheVariants.{Write}
 use Rattle.lf_engine.specs.declared.watch.Watched.{Watched}
 use Rattle.lf_engine.specs.declared.watch.Watched.TheVariants as watched
 use Rattle.lf_engine.specs.declared.watching.Fed.{Fed}
 use Rattle.lf_engine.specs.declared.watching.Fed.TheVariants as fed
-use Rattle.lf_engine.specs.Gathered.{HasFault, EndsOnce}
+use Rattle.lf_engine.specs.Gathered.{HasFault}
 use Rattle.lf_engine.specs.Line.{line_of, not_read_line}
 use Rattle.lf_engine.specs.Run.{IsAsked, IsOutcome}
 

@@ -1,5 +1,5 @@
 -- What was read piece by piece.
-use Rattle.std.specs.Prelude.{◌≡◌, ◌≢◌, ℕ, ◌≤◌, List, [], ◌∷◌, ◌++◌, length, All}
+use Rattle.std.specs.Prelude.{◌≡◌, ◌≢◌, ◌⊎◌, ℕ, ◌≤◌, List, [], ◌∷◌, ◌++◌, length, All}
 use Rattle.std.specs.List.{concat}
 use Rattle.std.specs.Io.KnownBytes.{Consumes, IsAtEnd}
 use Rattle.lf_stream.specs.Account.{Account}
@@ -34,6 +34,10 @@ GoesOn old new = (pieces : List (List ℕ)) × (new ≡ old ++ pieces) × All (�
 -- Further reads answered, and each but the last some bytes.
 abbrev pub GoesOnToLast : List (List ℕ) → List (List ℕ) → Type 0
 GoesOnToLast old new = (before : List (List ℕ)) × (last : List ℕ) × GoesOn old before × (new ≡ before ++ last ∷ [])
+
+-- Further reads answered. Where one of them answered no bytes, it was the last.
+abbrev pub EndsOnce : List (List ℕ) → List (List ℕ) → Type 0
+EndsOnce old new = GoesOn old new ⊎ GoesOnToLast old new
 
 -- What holds where reading stopped, and not the sink.
 abbrev pub OfReading : {E : Type 0} → Stop E → Type 0 → Type 0

@@ -1,8 +1,9 @@
 -- What a view of a drawing comes to, from what the drawer did.
-use Rattle.std.proofs.Common.{◌≡◌, ◌≢◌, ℕ, ◌<◌, ◌≤◌, List, Option, Result, Ok, Err, sym, ap, subst, arith}
+use Rattle.std.proofs.Common.{inl, ◌≡◌, ◌≢◌, ℕ, ◌<◌, ◌≤◌, List, Option, Result, Ok, Err, sym, ap, subst, arith}
 use Rattle.std.specs.Prelude.{IsErrOf, ◌↔◌}
 use Rattle.lf_stream.specs.Account.{Account, WentOut}
-use Rattle.lf_stream.specs.Gathered.{IsAllRead}
+use Rattle.lf_stream.specs.Gathered.{IsAllRead, EndsOnce}
+use Rattle.lf_stream.proofs.GatheringLemmas.{goes_from}
 use Rattle.lf_codec.specs.declared.fault.CodecFault.{CodecFault}
 use Rattle.lf_codec.specs.Laws.{AreBytes}
 use Rattle.lf_dump.specs.Dump.{HasFault, piece_len}
@@ -40,7 +41,7 @@ same_err e f is =
     let inner : e ≡ f = cc in ap (λ (k : ViewFault). Err k) inner
 
 module _ (drawing other : Drawing) (same : other ≡ drawing) (old new writer writer' : Account) (turns : ℕ)
-    (reads : new.calls ≤ turns) where
+    (reads : new.calls ≤ turns) (once : EndsOnce old.pieces new.pieces) where
   pub viewed_until : (fault : ViewFault) → IsStopped other old new writer writer' fault →
       (IsErrOf {T = Unit {0}} (Err fault) Read ↔ (0 < new.failures)) →
       (IsErrOf {T = Unit {0}} (Err fault) Turns → new.calls ≡ turns) →
@@ -48,6 +49,7 @@ module _ (drawing other : Drawing) (same : other ≡ drawing) (old new writer wr
       IsViewed drawing old new writer writer' turns (Err fault)
   viewed_until fault stopped read ran_out write = record {
     reads = reads;
+    once = once;
     whole = tt;
     stopped = subst (λ (d : Drawing). IsStopped d old new writer writer' fault) same stopped;
     read = (λ is. read.0 (same_err fault Read is), λ some. same_err fault Read (read.1 some));
@@ -60,6 +62,7 @@ pub no_room : (drawing : Drawing) (a w : Account) (turns : ℕ) → a.calls ≡ 
     IsViewed drawing a a w w turns (Err Memory)
 no_room drawing a w turns calls failures writes = record {
   reads = omega (arith, calls);
+  once = inl (goes_from a.pieces);
   whole = tt;
   stopped = nothing_viewed drawing a w;
   read = (λ is. absurd cc, λ some. absurd (omega (arith, some, failures)));
@@ -70,6 +73,7 @@ no_room drawing a w turns calls failures writes = record {
 -- ---- to the end
 
 module _ (drawing : Drawing) (old new writer writer' : Account) (turns : ℕ) (reads : new.calls ≤ turns)
+    (once : EndsOnce old.pieces new.pieces)
     (read : IsErrOf {T = Unit {0}} (Ok tt) Read ↔ (0 < new.failures))
     (write : IsErrOf {T = Unit {0}} (Ok tt) Write ↔ (0 < writer'.failures)) (bytes : List ℕ)
     (are_bytes : AreBytes bytes) (all : IsAllRead HasFault piece_len old new bytes)
@@ -84,6 +88,7 @@ module _ (drawing : Drawing) (old new writer writer' : Account) (turns : ℕ) (r
       IsViewed drawing old new writer writer' turns answer
   viewed_to_end (Ok fault) closes = record {
     reads = reads;
+    once = once;
     whole = record {
       bytes = bytes;
       are_bytes = are_bytes;
@@ -101,6 +106,7 @@ module _ (drawing : Drawing) (old new writer writer' : Account) (turns : ℕ) (r
       let order = closes.0 in
       record {
         reads = reads;
+        once = once;
         whole = tt;
         stopped = subst (IsStopped drawing old new writer writer') (sym order) (record {
           bytes = bytes;

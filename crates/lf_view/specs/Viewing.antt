@@ -9,7 +9,7 @@ use Rattle.lf_codec.specs.Laws.{AreBytes}
 use Rattle.lf_codec.specs.Reader.{HasRead}
 use Rattle.lf_codec.specs.Reading.{reading_of, header_of, header_now, trace_fault}
 use Rattle.lf_stream.specs.Account.{Account, WentOut}
-use Rattle.lf_stream.specs.Gathered.{IsPartRead, IsAllRead}
+use Rattle.lf_stream.specs.Gathered.{IsPartRead, IsAllRead, EndsOnce}
 use Rattle.lf_dump.specs.Dump.{HasFault, IsNone, piece_len}
 use Rattle.lf_wave.specs.Head.{head_text}
 use Rattle.lf_wave.specs.Wave.{undrawn, drawn_after, wave_from}
@@ -131,6 +131,8 @@ IsStopped drawing old new writer writer' Order = IsOutOfOrder drawing old new wr
 pub record IsViewed (drawing : Drawing) (old new writer writer' : Account) (turns : ℕ)
     (answer : Result (Option CodecFault) ViewFault) : Type 0 where
   pub reads : new.calls ≤ turns
+  -- A read that answers no bytes is the last one.
+  pub once : EndsOnce old.pieces new.pieces
   pub whole : IfOk answer (IsViewedWhole drawing old new writer writer')
   pub stopped : IfErr answer (IsStopped drawing old new writer writer')
   -- When each fault comes.

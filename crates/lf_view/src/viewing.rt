@@ -4,7 +4,7 @@ ghost use Rattle.std.specs.Prelude.{◌≡◌, ◌≤◌, ◌<◌, ◌+◌, ◌^
 ghost use Rattle.std.specs.Prelude.{IfErr, OnOk, IsErrOf};
 ghost use Rattle.lf_stream.specs.Account.{WentOut};
 ghost use Rattle.lf_stream.specs.Counted.{calls_of, failures_of, account_of};
-ghost use Rattle.lf_stream.specs.Gathered.{IsAllRead};
+ghost use Rattle.lf_stream.specs.Gathered.{IsAllRead, EndsOnce};
 ghost use Rattle.lf_dump.specs.Dump.{HasFault, piece_len};
 ghost use Rattle.lf_view.specs.declared.drawing.Drawing.{Drawing};
 ghost use Rattle.lf_view.specs.declared.fault.ViewFault.{ViewFault};
@@ -54,6 +54,8 @@ fn view_pieces<S: Source, W: Write>(
     requires fresh { IsDrawn (drawing_of drawer.old) [] drawer.old }
     requires writes { failures_of writer.old ≡ 0 }
     ensures reads { (S.account source.new).calls ≤ turns }
+    // A read that answers no bytes is the last one.
+    ensures once { EndsOnce (S.account source.old).pieces (S.account source.new).pieces }
     ensures all { OnOk result ((bytes : List ℕ) × IsDrawn (drawing_of drawer.old) bytes drawer.new
         × IsAllRead HasFault piece_len (S.account source.old) (S.account source.new) bytes
         × WentOut (account_of W.contents writer.old) (account_of W.contents writer.new)

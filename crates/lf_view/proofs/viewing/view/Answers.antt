@@ -28,7 +28,7 @@ returns-in-Ok-view_pieces g c =
     let drawn = subst (λ (d : Drawing). IsDrawn d all.0 c.view_pieces.new.drawer) same all.1 in
     viewed_to_end drawing (account_of g.R.Read.remaining c.args.reader.now)
     (account_of g.R.Read.remaining c.view_pieces.new.source) (account_of g.W.Write.contents c.args.writer.now)
-    (account_of g.W.Write.contents c.view_pieces.new.writer) c.args.turns told.reads told.read told.write all.0
+    (account_of g.W.Write.contents c.view_pieces.new.writer) c.args.turns told.reads told.once told.read told.write all.0
     drawn.read.are_bytes all.2 (subst (λ (d : Drawing). WentOut (account_of g.W.Write.contents c.args.writer.now)
     (account_of g.W.Write.contents c.view_pieces.new.writer) (wave_of d all.0)) same all.3) c.close.result
     (c.close.ensures drawing all.0 drawn)
@@ -39,4 +39,4 @@ returns g c =
     let told = c.in-Err.ensures in
     viewed_until c.args.drawing (drawing_of drawer)
     (draws_itself c.args.drawing drawer c.new-drawer.ensures) _ _ _ _
-    c.args.turns told.reads c.in-Err.fault told.stopped told.read told.turns told.write
+    c.args.turns told.reads told.once c.in-Err.fault told.stopped told.read told.turns told.write

@@ -1,10 +1,11 @@
-use Rattle.std.proofs.Common.{◌≡◌, ◌≤◌, [], take, length, rules, arith, ◌∙◌}
+use Rattle.std.proofs.Common.{inl, inr, ◌≡◌, ◌≤◌, [], take, length, rules, arith, ◌∙◌}
 use Rattle.std.specs.Prelude.{IsTrue}
 use Rattle.std.proofs.lemmas.List.{length-take}
 use Rattle.lf_dump.specs.Dump.{piece_len}
 use Rattle.lf_view.proofs.Telling.{telling_start, telling_same, telling_more, told_at_end, told_last, stopped_by}
 use Rattle.lf_view.specs.declared.fault.ViewFault.TheVariants.{Read, Turns}
 use Rattle.lf_stream.specs.Counted.{account_of}
+use Rattle.lf_stream.proofs.GatheringLemmas.{goes_from, goes_same, goes_more, goes_to_last, some_read}
 use Rattle.lf_view.specs.Viewing.{drawing_of}
 use Rattle.lf_view.proofs.Viewed.{never_read, never_turns}
 use Rattle.lf_view.proofs.viewing.view_pieces.Goals as goal
@@ -16,6 +17,7 @@ loop-turn-init g c = record {
   failures = c.requires.failures;
   room = c.requires.room;
   writes = c.requires.writes;
+  goes_on = goes_from _;
   telling = telling_start c.fault_so_far.ensures.other (drawing_of c.args.drawer.now)
       (g.S.Source.account c.args.source.now) (account_of g.W.Write.contents c.args.writer.now) c.args.drawer.now
       c.requires.fresh;
@@ -87,6 +89,8 @@ loop-turn-preserved g c =
             failures = read.failures ∙ so_far.failures;
             room = search rules;
             writes = search (rules, w.in-Ok-false.ensures.write);
+            goes_on = goes_more _ _ _ so_far.goes_on piece read.pieces
+                (some_read w.in-Ok.n c.pull.new.buffer (search rules) (search rules));
             telling = telling_more _ _ _ _ _ _ _ _ so_far.telling piece read.pieces read.known.0 one_read _ _
                 w.in-Ok-false.field-0 (λ is. let bad : IsTrue w.in-Ok-false.field-0 = is in cc)
                 (w.in-Ok-false.ensures.shown _ so_far.telling.bytes so_far.telling.drawn);
@@ -98,6 +102,28 @@ loop-turn-preserved g c =
             failures = search (rules, read.failures, so_far.failures);
             room = search rules;
             writes = so_far.writes;
+            goes_on = goes_same _ _ _ so_far.goes_on read.pieces;
             telling = telling_same _ _ _ _ _ _ _ _ so_far.telling read.pieces read.known;
           })
     ]
+
+pub returns-in-Ok-eq0-clause-once : goal.returns-in-Ok-eq0-clause-once
+returns-in-Ok-eq0-clause-once g c =
+    inr (goes_to_last _ _ _ c.loop-turn.invariant.goes_on (take c.in-Ok-eq0.field-0 c.pull.new.buffer)
+    c.in-Ok-eq0.ensures.read.pieces)
+
+pub returns-in-Ok-true-clause-once : goal.returns-in-Ok-true-clause-once
+returns-in-Ok-true-clause-once g c =
+    inr (goes_to_last _ _ _ c.loop-turn.invariant.goes_on (take c.in-Ok.n c.pull.new.buffer)
+    c.in-Ok.ensures.read.pieces)
+
+pub returns-in-Err-show-clause-once : goal.returns-in-Err-show-clause-once
+returns-in-Err-show-clause-once g c =
+    inr (goes_to_last _ _ _ c.loop-turn.invariant.goes_on (take c.in-Ok.n c.pull.new.buffer)
+    c.in-Ok.ensures.read.pieces)
+
+pub returns-then-ne-clause-once : goal.returns-then-ne-clause-once
+returns-then-ne-clause-once g c = inl (goes_same _ _ _ c.loop-turn.invariant.goes_on c.in-Err.ensures.read.pieces)
+
+pub returns-clause-once : goal.returns-clause-once
+returns-clause-once g c = inl c.loop-turn.invariant.goes_on

@@ -1,6 +1,7 @@
 -- Each turn was a read, none failed, and the wave of what they answered, in which no fault stands, went out.
 use Rattle.std.proofs.Common.{◌≡◌, length}
 use Rattle.lf_stream.specs.Counted.{failures_of, account_of}
+use Rattle.lf_stream.specs.Gathered.{GoesOn}
 use Rattle.lf_dump.specs.Dump.{piece_len}
 use Rattle.lf_view.specs.Viewing.{drawing_of}
 use Rattle.lf_view.proofs.Telling.{IsTelling}
@@ -12,6 +13,7 @@ invariant-loop-turn g l = record {
   failures : (g.S.Source.account l.source).failures ≡ 0;
   room : length l.buffer ≡ piece_len;
   writes : failures_of l.writer ≡ 0;
+  goes_on : GoesOn (g.S.Source.account l.initial.source).pieces (g.S.Source.account l.source).pieces;
   telling : IsTelling
       (drawing_of l.initial.drawer)
       (g.S.Source.account l.initial.source)
