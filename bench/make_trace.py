@@ -5,6 +5,7 @@ size, for benchmarks and as an example of how a model of your own records a trac
     make_trace.py --events 100000 --ports 4 --banks 4 --out big.lfts --config big.toml
     make_trace.py --version 3 --factor 2 --out wide.lfts --config wide.toml
     make_trace.py --log-by-log --out logs.lfts --config logs.toml
+    make_trace.py --mixed --out mixed.lfts --config mixed.toml
 
 In versions 2 and 3 a port drains its tags now and then and records a fence. In version 3 a block of
 level two may be 2 or 4 blocks of level one. Both levels hold copies of the bytes, as a cache does.
@@ -31,6 +32,7 @@ from lfts import LOAD, STORE  # noqa: E402
 
 Memory = Dict[int, bytearray]
 Out = Union[str, BinaryIO]
+Logs = List[List[bytes]]
 Asked = TypeVar("Asked")
 Held = TypeVar("Held")
 
@@ -61,6 +63,7 @@ class Shape:
     fences: int
     crowded: int
     log_by_log: bool
+    mixed: bool
     out: str
     config: Optional[str]
 
@@ -355,16 +358,35 @@ def drive(shape: Shape, recorder: lfts.Recorder, memory: Memory, chance: random.
             bank.step()
 
 
-def log_by_log(trace: bytes) -> bytes:
-    """The trace with the records of each log together."""
+def in_logs(trace: bytes, arranged: Callable[[Logs], List[bytes]]) -> bytes:
+    """The same trace with the records of its logs, each in its own order, arranged in this way."""
     reader = lfts.Reader(trace)
     first = bytearray(reader.header.encode(reader.memory_records))
-    logs = [bytearray() for _ in range(reader.header.logs)]
+    logs: Logs = [[] for _ in range(reader.header.logs)]
     for item in reader:
-        part = logs[item.log] if isinstance(item, lfts.Record) else first
-        part += item.encode()
+        if isinstance(item, lfts.Record):
+            logs[item.log].append(item.encode())
+        else:
+            first += item.encode()
     end = trace[-8:]
-    return b"".join((first, *logs, end))
+    return b"".join((first, *arranged(logs), end))
+
+
+def log_by_log(logs: Logs) -> List[bytes]:
+    """One log after another."""
+    return [record for log in logs for record in log]
+
+
+def mixed(chance: random.Random) -> Callable[[Logs], List[bytes]]:
+    """All logs mixed at random: of all ways to mix them each is as likely as any other."""
+
+    def mix(logs: Logs) -> List[bytes]:
+        turns = [log for log, records in enumerate(logs) for _ in records]
+        chance.shuffle(turns)
+        left = [iter(records) for records in logs]
+        return [next(left[log]) for log in turns]
+
+    return mix
 
 
 def configuration(shape: Shape) -> str:
@@ -407,7 +429,9 @@ def main() -> None:
         metavar="PERCENT",
         help="how many of a hundred requests go to bank 0 whatever the block, so that one bank has most events",
     )
-    parser.add_argument("--log-by-log", action="store_true", help="write the records of each log together")
+    order = parser.add_mutually_exclusive_group()
+    order.add_argument("--log-by-log", action="store_true", help="write the records of each log together")
+    order.add_argument("--mixed", action="store_true", help="write the logs mixed at random, each in its own order")
     parser.add_argument("--out", required=True, help="the trace to write")
     parser.add_argument("--config", help="the configuration to write")
     for name, default in (("ports", 4), ("banks", 4), ("block", 32), ("tags", 16)):
@@ -423,10 +447,11 @@ def main() -> None:
         parser.error("before version 3 a second-level block is one block")
     if shape.version == 1:
         shape.fences = 0
-    if shape.log_by_log:
+    if shape.log_by_log or shape.mixed:
         trace = io.BytesIO()
         recorder = run(shape, trace)
-        pathlib.Path(shape.out).write_bytes(log_by_log(trace.getvalue()))
+        arranged = mixed(random.Random(shape.seed)) if shape.mixed else log_by_log
+        pathlib.Path(shape.out).write_bytes(in_logs(trace.getvalue(), arranged))
     else:
         recorder = run(shape, shape.out)
     if shape.config:

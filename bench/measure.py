@@ -28,7 +28,10 @@ TRACES = (
     ("1,000,000", "--events 1000000"),
     ("1,000,000, log by log", "--events 1000000 --log-by-log"),
     ("1,000,000, version 3, factor 4", "--events 1000000 --version 3 --factor 4"),
-    ("1,000,000, 16 ports, 16 banks, inverted", "--events 1000000 --ports 16 --banks 16 --organisation1 inverted --organisation2 inverted"),
+    (
+        "1,000,000, 16 ports, 16 banks, inverted",
+        "--events 1000000 --ports 16 --banks 16 --organisation1 inverted --organisation2 inverted",
+    ),
     ("1,000,000, one bank has most", "--events 1000000 --crowded 90"),
     ("1,000,000, each access hits", "--events 1000000 --footprint 256"),
     ("1,000,000, nearly each access misses", "--events 1000000 --sets1 1 --ways1 1 --sets2 1 --ways2 2"),
@@ -39,6 +42,7 @@ HERE = os.path.dirname(os.path.abspath(__file__))
 @dataclass
 class Run:
     """One run: seconds of processor time, seconds on the clock, megabytes, exit status."""
+
     processor: float
     clock: float
     memory: float
@@ -76,15 +80,18 @@ def ratio(runs, others, time_of):
 def row(name, options, commands, work):
     """The commands take turns; the first is the one that the row is about, the last are its runs with more workers."""
     trace, shape = work + "/trace.lfts", work + "/shape.toml"
-    subprocess.run([sys.executable, HERE + "/make_trace.py", "--out", trace, "--config", shape, *options.split()],
-                   check=True, stdout=subprocess.DEVNULL)
+    subprocess.run(
+        [sys.executable, HERE + "/make_trace.py", "--out", trace, "--config", shape, *options.split()],
+        check=True,
+        stdout=subprocess.DEVNULL,
+    )
     words = {"trace": trace, "shape": shape}
     runs, at_once = [[] for _ in commands], []
     for _ in range(TURNS):
         for own, command in zip(runs, commands):
             own.append(run([word.format(**words) for word in command]))
         at_once.append(run_at_once([word.format(**words) for word in commands[0]]))
-    one, others, more = runs[0], runs[1:-len(WORKERS)], runs[-len(WORKERS):]
+    one, others, more = runs[0], runs[1 : -len(WORKERS)], runs[-len(WORKERS) :]
     if any(r.status for own in (one, *more) for r in own):
         print(f"| {name} | NOT YES |", flush=True)
         return
