@@ -1,0 +1,107 @@
+//! Whether some order of all events keeps the order of each log and the numbers of each bank.
+
+/// An event that names a bank.
+#[derive(Clone, Copy)]
+struct Place {
+    bank: u8,
+    number: u32,
+}
+
+/// The events of each log in order. A fence waits for nothing, so it is left out.
+pub struct Order {
+    logs: Vec<Vec<Place>>,
+    banks: usize,
+}
+
+impl Order {
+    /// No events yet.
+    pub fn new(logs: usize, banks: usize) -> Order {
+        Order {
+            logs: vec![Vec::new(); logs],
+            banks,
+        }
+    }
+
+    /// Adds an event to the end of a log.
+    #[inline(always)]
+    pub fn add(&mut self, log: usize, bank: u8, number: u32) {
+        self.logs[log].push(Place { bank, number });
+    }
+
+    /// Whether there is such an order. The numbers of each bank are those from 0 on, each once.
+    pub fn exists(&self) -> bool {
+        let mut walk = Walk {
+            rest: self.logs.iter().map(Vec::as_slice).collect(),
+            next: vec![0; self.banks],
+            waiting: vec![0; self.banks],
+        };
+        let mut ready: Vec<usize> = (0..self.logs.len()).collect();
+        while let Some(log) = ready.pop() {
+            walk.go(log, &mut ready);
+        }
+        walk.rest.iter().all(|rest| rest.is_empty())
+    }
+}
+
+/// How far the events have been put in order.
+struct Walk<'order> {
+    /// The events of each log that are left.
+    rest: Vec<&'order [Place]>,
+    /// The next number of each bank.
+    next: Vec<u32>,
+    /// For each bank the logs that wait for it, a bit for each: their first event left is one of the bank,
+    /// and not yet its next.
+    waiting: Vec<u32>,
+}
+
+impl Walk<'_> {
+    /// Takes the events of a log until one has to wait. The logs that can go on then are ready.
+    fn go(&mut self, log: usize, ready: &mut Vec<usize>) {
+        while let Some((&Place { bank, number }, rest)) = self.rest[log].split_first() {
+            let bank = usize::from(bank);
+            if number != self.next[bank] {
+                self.waiting[bank] |= 1 << log;
+                return;
+            }
+            self.rest[log] = rest;
+            self.next[bank] += 1;
+            if self.waiting[bank] != 0 {
+                ready.extend(self.wake(bank));
+            }
+        }
+    }
+
+    /// The waiting log that has the next event of a bank. It waits no longer.
+    fn wake(&mut self, bank: usize) -> Option<usize> {
+        let is_next = |log: &usize| {
+            self.rest[*log]
+                .first()
+                .is_some_and(|first| first.number == self.next[bank])
+        };
+        let log = (0..self.rest.len())
+            .filter(|log| self.waiting[bank] >> log & 1 == 1)
+            .find(is_next)?;
+        self.waiting[bank] &= !(1 << log);
+        Some(log)
+    }
+}
+
+#[cfg(test)]
+mod tests {
+    use super::*;
+
+    fn exists(logs: &[&[(u8, u32)]]) -> bool {
+        let mut order = Order::new(logs.len(), 2);
+        for (log, events) in logs.iter().enumerate() {
+            events.iter().for_each(|&(bank, number)| order.add(log, bank, number));
+        }
+        order.exists()
+    }
+
+    #[test]
+    fn logs_that_wait_for_one_another_have_no_order() {
+        assert!(exists(&[&[(0, 0), (1, 1)], &[(1, 0), (0, 1)]]));
+        assert!(!exists(&[&[(0, 1), (1, 0)], &[(1, 1), (0, 0)]]));
+        assert!(!exists(&[&[(0, 1), (0, 0)]]));
+    }
+}
