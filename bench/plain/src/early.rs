@@ -1,6 +1,7 @@
 //! Records that are read before their turn. They are kept as their own bytes until the records before them
 //! in their bank were read.
 
+use crate::record::number_of;
 use std::collections::BTreeMap;
 use std::num::NonZeroU16;
 
@@ -64,119 +65,111 @@ impl Chunks {
         self.used = 0;
     }
 
+    #[inline(always)]
+    fn bytes(&self, place: Place) -> &[u8] {
+        &self.chunks[place.chunk as usize].bytes[usize::from(place.start)..][..usize::from(place.length.get())]
+    }
+
     /// Gives the room of a record back. Its bytes stay until the next record is put.
     #[inline(always)]
-    fn take(&mut self, place: Place) -> &[u8] {
+    fn release(&mut self, place: Place) {
         let chunk = &mut self.chunks[place.chunk as usize];
         chunk.records -= 1;
         if chunk.records == 0 && place.chunk as usize != self.current {
             self.free.push(place.chunk);
         }
-        &chunk.bytes[usize::from(place.start)..][..usize::from(place.length.get())]
     }
 }
 
-/// The place of the record with a number.
-#[derive(Clone, Copy, Default)]
-struct Entry {
-    number: u32,
-    place: Option<Place>,
-}
-
-/// The places of records by number. Each number has one slot, which is enough if the numbers are not far
-/// apart. A number whose slot is taken in a large table is kept aside.
-#[derive(Default)]
-struct Table {
-    /// As many as a power of two, or none.
-    slots: Vec<Entry>,
-    held: usize,
-    aside: BTreeMap<u32, Place>,
-}
-
-impl Table {
-    fn slot(&self, number: u32) -> usize {
-        number as usize & (self.slots.len() - 1)
-    }
-
-    fn find(&self, number: u32) -> Option<Place> {
-        let entry = self.slots.get(number as usize & self.slots.len().wrapping_sub(1))?;
-        match entry.place {
-            Some(place) if entry.number == number => Some(place),
-            _ => self.aside.get(&number).copied(),
-        }
-    }
-
-    fn put(&mut self, number: u32, place: Place) {
-        while self.slots.is_empty() || self.slots[self.slot(number)].place.is_some() {
-            if self.slots.len() / 16 >= self.held + 64 {
-                self.aside.insert(number, place);
-                return;
-            }
-            self.grow();
-        }
-        self.held += 1;
-        let slot = self.slot(number);
-        self.slots[slot] = Entry {
-            number,
-            place: Some(place),
-        };
-    }
-
-    /// Doubles the slots. No two records of different slots come into one.
-    fn grow(&mut self) {
-        let longer = vec![Entry::default(); (2 * self.slots.len()).max(64)];
-        let shorter = std::mem::replace(&mut self.slots, longer);
-        for entry in shorter.into_iter().filter(|entry| entry.place.is_some()) {
-            let slot = self.slot(entry.number);
-            self.slots[slot] = entry;
-        }
-    }
-
-    #[inline(always)]
-    fn take(&mut self, number: u32) -> Option<Place> {
-        let slot = number as usize & self.slots.len().wrapping_sub(1);
-        let entry = self.slots.get_mut(slot)?;
-        if entry.number == number && entry.place.is_some() {
-            self.held -= 1;
-            return entry.place.take();
-        }
-        if self.aside.is_empty() {
-            return None;
-        }
-        self.aside.remove(&number)
-    }
-}
-
-/// The early records of a bank.
+/// The early records of a bank. Each number has one slot for the place of its record, which is enough if the
+/// numbers that wait are not far apart. A number whose slot is taken in a large table is kept aside.
 #[derive(Default)]
 pub struct Early {
     chunks: Chunks,
-    table: Table,
+    /// As many as a power of two, or none.
+    slots: Vec<Option<Place>>,
+    /// How many slots are taken.
+    taken: usize,
+    aside: BTreeMap<u32, Place>,
 }
 
 impl Early {
     /// Whether no record waits.
-    #[inline(always)]
     pub fn is_empty(&self) -> bool {
-        self.table.held == 0 && self.table.aside.is_empty()
+        self.taken == 0 && self.aside.is_empty()
+    }
+
+    /// False if the record with this number does not wait, as a first look shows.
+    #[inline(always)]
+    pub fn may_hold(&self, number: u32) -> bool {
+        self.slots.get(self.slot(number)).is_some_and(Option::is_some) || !self.aside.is_empty()
+    }
+
+    #[inline(always)]
+    fn slot(&self, number: u32) -> usize {
+        number as usize & self.slots.len().wrapping_sub(1)
+    }
+
+    /// The record in the slot of this number, if it is the record with this number.
+    #[inline(always)]
+    fn in_slot(&self, number: u32) -> Option<Place> {
+        let place = self.slots.get(self.slot(number)).copied().flatten()?;
+        (number_of(self.chunks.bytes(place)) == number).then_some(place)
     }
 
     /// Keeps the bytes of a record. False if a record with this number waits.
     pub fn keep(&mut self, number: u32, bytes: &[u8]) -> bool {
-        if self.table.find(number).is_some() {
+        if self.in_slot(number).is_some() || self.aside.contains_key(&number) {
             return false;
         }
-        if let Some(place) = self.chunks.put(bytes) {
-            self.table.put(number, place);
+        let place = self.chunks.put(bytes);
+        if self.make_slot(number) {
+            let slot = self.slot(number);
+            self.slots[slot] = place;
+            self.taken += 1;
+        } else {
+            self.aside.extend(place.map(|place| (number, place)));
         }
         true
+    }
+
+    /// Grows the table until the slot of a number is free. False if it would become too large for what it
+    /// holds.
+    fn make_slot(&mut self, number: u32) -> bool {
+        while self.slots.get(self.slot(number)).is_none_or(Option::is_some) {
+            if self.slots.len() / 16 >= self.taken + 64 {
+                return false;
+            }
+            self.grow();
+        }
+        true
+    }
+
+    /// Doubles the slots. Records of different slots stay in different slots.
+    fn grow(&mut self) {
+        let longer = vec![None; (2 * self.slots.len()).max(64)];
+        let shorter = std::mem::replace(&mut self.slots, longer);
+        for place in shorter.into_iter().flatten() {
+            let slot = self.slot(number_of(self.chunks.bytes(place)));
+            self.slots[slot] = Some(place);
+        }
     }
 
     /// The bytes of the record with this number, if it waits. It waits no longer.
     #[inline(always)]
     pub fn take(&mut self, number: u32) -> Option<&[u8]> {
-        let place = self.table.take(number)?;
-        Some(self.chunks.take(place))
+        let place = match self.in_slot(number) {
+            Some(place) => {
+                let slot = self.slot(number);
+                self.slots[slot] = None;
+                self.taken -= 1;
+                place
+            }
+            None if self.aside.is_empty() => return None,
+            None => self.aside.remove(&number)?,
+        };
+        self.chunks.release(place);
+        Some(self.chunks.bytes(place))
     }
 }
 
@@ -186,14 +179,15 @@ mod tests {
 
     #[test]
     fn each_record_is_found_once() {
+        let record = |number: u32| [&[0; 4], &number.to_le_bytes()[..], &[7; 28]].concat();
+        let numbers = || [7, 71, 135, u32::MAX, 0, 1 << 30].into_iter().chain(1000..9000);
         let mut early = Early::default();
-        let numbers = [7, 71, 135, u32::MAX, 0, 1 << 30].into_iter().chain(1000..9000);
-        for number in numbers.clone() {
-            assert!(early.keep(number, &number.to_le_bytes().repeat(9)));
-            assert!(!early.keep(number, b"again"));
+        for number in numbers() {
+            assert!(early.keep(number, &record(number)));
+            assert!(!early.keep(number, &record(number)));
         }
-        for number in numbers {
-            assert_eq!(early.take(number), Some(&number.to_le_bytes().repeat(9)[..]));
+        for number in numbers() {
+            assert_eq!(early.take(number), Some(&record(number)[..]));
             assert_eq!(early.take(number), None);
         }
         assert!(early.is_empty());

@@ -35,6 +35,12 @@ impl<'piece> Input<'piece> {
         self.rest.len()
     }
 
+    /// The bytes from here to a later place of the same piece.
+    #[inline(always)]
+    pub fn until(&self, later: &Input<'piece>) -> &'piece [u8] {
+        &self.rest[..self.left() - later.left()]
+    }
+
     /// The next N bytes.
     #[inline(always)]
     pub fn array<const N: usize>(&mut self) -> Result<[u8; N], Stop> {

@@ -38,22 +38,21 @@ impl Numbered {
     #[inline(always)]
     fn take(&mut self, layout: &Layout, record: &Record<'_>) {
         if record.number != self.next {
-            self.keep(record);
+            self.keep(record.number, record.bytes);
             return;
         }
         self.next += 1;
         if self.broken.is_none() {
             self.broken = self.bank.step(record).err().map(|rule| (record.number, rule));
         }
-        if !self.early.is_empty() {
+        if self.early.may_hold(self.next) {
             self.settle(layout);
         }
     }
 
     #[inline(never)]
-    fn keep(&mut self, record: &Record<'_>) {
-        let number = record.number;
-        let is_new = number > self.next && self.early.keep(number, record.bytes);
+    fn keep(&mut self, number: u32, bytes: &[u8]) {
+        let is_new = number > self.next && self.early.keep(number, bytes);
         if !is_new && self.double.is_none_or(|double| number < double) {
             self.double = Some(number);
         }

@@ -78,12 +78,20 @@ impl Walk<'_> {
                 .first()
                 .is_some_and(|first| first.number == self.next[bank])
         };
-        let log = (0..self.rest.len())
-            .filter(|log| self.waiting[bank] >> log & 1 == 1)
-            .find(is_next)?;
+        let log = set_bits(self.waiting[bank]).find(is_next)?;
         self.waiting[bank] &= !(1 << log);
         Some(log)
     }
+}
+
+/// The places of the bits that are set, rising.
+fn set_bits(mask: u32) -> impl Iterator<Item = usize> {
+    let mut rest = mask;
+    std::iter::from_fn(move || {
+        let lowest = rest.trailing_zeros();
+        rest &= rest.wrapping_sub(1);
+        (lowest < u32::BITS).then_some(lowest as usize)
+    })
 }
 
 #[cfg(test)]

@@ -175,6 +175,12 @@ impl Counts {
     }
 }
 
+/// The number in the head of a whole record.
+#[inline(always)]
+pub fn number_of(record: &[u8]) -> u32 {
+    u32::from_le_bytes([record[4], record[5], record[6], record[7]])
+}
+
 /// The first 8 bytes of a record.
 struct Head {
     kind: u8,
@@ -232,10 +238,11 @@ impl Layout {
         }
     }
 
-    /// The first record of the bytes, checked. `Stop::End` if it is the end record.
+    /// The next record, checked. `Stop::End` if it is the end record. The input goes on behind the record, or
+    /// stays where it is if there is none.
     #[inline(always)]
-    pub fn record<'piece>(&self, counts: &Counts, bytes: &'piece [u8]) -> Result<Record<'piece>, Stop> {
-        let mut input = Input::new(bytes);
+    pub fn record<'piece>(&self, counts: &Counts, from: &mut Input<'piece>) -> Result<Record<'piece>, Stop> {
+        let mut input = *from;
         let head = Head::read(&mut input)?;
         if head.kind == kind::END {
             need((head.log, head.bank, head.zero) == (0, 0, 0), FormatFault::Reserved)?;
@@ -247,7 +254,16 @@ impl Layout {
             counts.logs[usize::from(head.log) % MOST_LOGS] < self.log_limit,
             FormatFault::TooMany,
         )?;
-        self.rest(&head, input, bytes)
+        let event = self.event(&head, &mut input)?;
+        let bytes = from.until(&input);
+        *from = input;
+        Ok(Record {
+            log: head.log,
+            bank: head.bank,
+            number: head.number,
+            event,
+            bytes,
+        })
     }
 
     /// A record that was read before, from its own bytes.
@@ -255,13 +271,7 @@ impl Layout {
     pub fn reread<'piece>(&self, bytes: &'piece [u8]) -> Result<Record<'piece>, Stop> {
         let mut input = Input::new(bytes);
         let head = Head::read(&mut input)?;
-        self.rest(&head, input, bytes)
-    }
-
-    #[inline(always)]
-    fn rest<'piece>(&self, head: &Head, mut input: Input<'piece>, bytes: &'piece [u8]) -> Result<Record<'piece>, Stop> {
-        let event = self.event(head, &mut input)?;
-        let (bytes, _) = bytes.split_at(bytes.len() - input.left());
+        let event = self.event(&head, &mut input)?;
         Ok(Record {
             log: head.log,
             bank: head.bank,

@@ -1,7 +1,7 @@
 //! A trace file: its header, its memory records and its event records, read in pieces.
 
 use crate::answer::{FormatFault, Refusal};
-use crate::input::Stop;
+use crate::input::{Input, Stop};
 use crate::record::{Counts, Header, Layout, Record};
 use std::io::{self, ErrorKind, Read};
 
@@ -146,17 +146,17 @@ impl<R: Read> Trace<R> {
     /// Visits the records that are whole in the buffer.
     #[inline(always)]
     fn visit_piece(&mut self, layout: &Layout, visit: &mut impl FnMut(&Record<'_>)) -> Stop {
-        let mut start = self.pieces.start;
+        let mut input = Input::new(&self.pieces.buffer[self.pieces.start..self.pieces.end]);
         let stop = loop {
-            let record = match layout.record(&self.counts, &self.pieces.buffer[start..self.pieces.end]) {
-                Ok(record) => record,
+            match layout.record(&self.counts, &mut input) {
+                Ok(record) => {
+                    self.counts.add(record.log);
+                    visit(&record);
+                }
                 Err(stop) => break stop,
-            };
-            self.counts.add(record.log);
-            visit(&record);
-            start += record.bytes.len();
+            }
         };
-        self.pieces.start = start;
+        self.pieces.start = self.pieces.end - input.left();
         stop
     }
 
