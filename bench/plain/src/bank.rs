@@ -228,9 +228,9 @@ impl Bank {
                 dirty: 0,
             });
             let block = (second << self.factor_shift) + index;
-            match self.initial.binary_search_by_key(&block, |&(named, _)| named) {
-                Ok(found) => self.memory.extend_from_slice(&self.initial[found].1),
-                Err(_) => self.memory.resize(self.memory.len() + self.length, 0),
+            match self.initial.find(block) {
+                Some(bytes) => self.memory.extend_from_slice(bytes),
+                None => self.memory.resize(self.memory.len() + self.length, 0),
             }
         }
     }
@@ -308,14 +308,15 @@ impl Bank {
     fn merge(&mut self, port: u8, tag: u8, register: u16) -> Result<(), Rule> {
         let request = self.head(port, tag)?;
         let cell = self.find(request.block).ok_or(Rule::NotInFlight)?;
-        let State::InFlight { register: home, .. } = self.blocks[cell].state else {
+        let State::InFlight { register: primary, .. } = self.blocks[cell].state else {
             return Err(Rule::NotInFlight);
         };
         let destination = self.shape.destination(port, tag);
-        self.registers1.merge(register, home, destination, request.position())?;
+        self.registers1
+            .merge(register, primary, destination, request.position())?;
         let reply = self.accept(port, &request, cell);
         self.registers1
-            .place(home, register, request.position(), Target { destination, reply });
+            .place(primary, register, request.position(), Target { destination, reply });
         Ok(())
     }
 
@@ -324,14 +325,14 @@ impl Bank {
         let state = self
             .find(request.block)
             .map_or(State::Absent, |cell| self.blocks[cell].state);
-        let home = match state {
+        let primary = match state {
             State::Absent => None,
             State::InFlight { register, .. } => Some(register),
             State::Present => return Err(Rule::Present),
         };
         let has_room = self
             .registers1
-            .has_room(home, self.shape.destination(port, tag), request.position());
+            .has_room(primary, self.shape.destination(port, tag), request.position());
         need(!has_room, Rule::NeedlessStall)
     }
 
@@ -415,14 +416,14 @@ impl Bank {
 
     fn second_merge(&mut self, block: u32, register: u16) -> Result<(), Rule> {
         let (cell, destination, second) = self.asked(block)?;
-        let home = match second {
+        let primary = match second {
             SecondState::Absent => return Err(Rule::NotInFlight),
             SecondState::InFlight { register } => register,
             SecondState::Present => return Err(Rule::SecondPresent),
         };
         self.registers2
-            .merge(register, home, destination, self.position2(block))?;
-        self.registers2.place(home, register, self.position2(block), cell);
+            .merge(register, primary, destination, self.position2(block))?;
+        self.registers2.place(primary, register, self.position2(block), cell);
         self.blocks[cell].state = State::InFlight {
             register: destination,
             fetch: Fetch::Missed,
@@ -432,12 +433,12 @@ impl Bank {
 
     fn second_stall(&mut self, block: u32) -> Result<(), Rule> {
         let (_, destination, second) = self.asked(block)?;
-        let home = match second {
+        let primary = match second {
             SecondState::Absent => None,
             SecondState::InFlight { register } => Some(register),
             SecondState::Present => return Err(Rule::SecondPresent),
         };
-        let has_room = self.registers2.has_room(home, destination, self.position2(block));
+        let has_room = self.registers2.has_room(primary, destination, self.position2(block));
         need(!has_room, Rule::NeedlessStall)
     }
 

@@ -2,6 +2,7 @@
 //!
 //! It has lines `key = number`, `key = "word"`, `[level1]` and `[level2]`, empty lines and comments.
 
+use crate::answer::need;
 use crate::shape::{Level, Organisation, Shape};
 use std::collections::BTreeMap;
 use std::ops::RangeInclusive;
@@ -12,9 +13,12 @@ enum Value {
     Word(String),
 }
 
-/// What is left of the configuration. The keys of the levels begin with `level1.` or `level2.`.
+/// The entries of a configuration. A key of a level begins with `level1.` or `level2.`.
+#[derive(Default)]
 struct Entries {
     values: BTreeMap<String, Value>,
+    /// The tables whose lines were read, as their keys begin.
+    tables: Vec<&'static str>,
 }
 
 /// Reads a configuration. An error is the words that say what is wrong with it, printable and on one line.
@@ -41,29 +45,36 @@ pub fn read(text: &str) -> Result<Shape, String> {
 
 impl Entries {
     fn read(text: &str) -> Result<Entries, String> {
-        let mut values = BTreeMap::new();
-        let mut tables = vec![""];
+        let mut entries = Entries::default();
         for (index, line) in text.lines().enumerate() {
-            let wrong = |what: &str| format!("line={} {what}", index + 1);
-            let line = line.split('#').next().unwrap_or("").trim_matches([' ', '\t']);
-            if line.starts_with('[') {
-                let table = prefix(line).ok_or_else(|| wrong("is not [level1] or [level2]"))?;
-                tables.push(table);
-            } else if !line.is_empty() {
-                let (key, value) = entry(line).ok_or_else(|| wrong("is not a key and a number or a word"))?;
-                let key = format!("{}{key}", tables[tables.len() - 1]);
-                if values.insert(key, value).is_some() {
-                    return Err(wrong("has a key again"));
-                }
-            }
+            entries.add(line).map_err(|what| format!("line={} {what}", index + 1))?;
         }
-        tables.sort_unstable();
-        let again = tables.windows(2).any(|pair| pair[0] == pair[1]);
-        if again {
-            Err("has a table again".to_string())
-        } else {
-            Ok(Entries { values })
+        Ok(entries)
+    }
+
+    /// Adds a line. An error says what is wrong with it.
+    fn add(&mut self, line: &str) -> Result<(), &'static str> {
+        if line.contains(|character: char| character.is_control() && character != '\t') {
+            return Err("has a control character");
         }
+        let line = trimmed(line.split('#').next().unwrap_or(""));
+        if line.starts_with('[') {
+            return self.add_table(line);
+        }
+        if line.is_empty() {
+            return Ok(());
+        }
+        let (key, value) = entry(line).ok_or("is not a key and a number or a word")?;
+        let key = format!("{}{key}", self.tables.last().unwrap_or(&""));
+        let before = self.values.insert(key, value);
+        need(before.is_none(), "has a key that was there before")
+    }
+
+    fn add_table(&mut self, line: &str) -> Result<(), &'static str> {
+        let table = prefix(line).ok_or("is not [level1] or [level2]")?;
+        need(!self.tables.contains(&table), "has a table that was there before")?;
+        self.tables.push(table);
+        Ok(())
     }
 
     fn has(&self, key: &str) -> bool {
@@ -74,20 +85,20 @@ impl Entries {
         match self.values.remove(key) {
             None => Err(format!("missing key {key}")),
             Some(Value::Number(number)) if range.contains(&number) => Ok(number),
-            Some(_) => Err(format!(
-                "{key} is not a number from {} to {}",
-                range.start(),
-                range.end()
-            )),
+            Some(_) => {
+                let (least, most) = range.into_inner();
+                Err(format!("{key} is not a number from {least} to {most}"))
+            }
         }
     }
 
     fn choice(&mut self, key: &str, choices: &[u32]) -> Result<u32, String> {
         let number = self.number(key, 1..=64)?;
-        let is_one = choices.contains(&number);
-        is_one
-            .then_some(number)
-            .ok_or_else(|| format!("{key} is not one of {choices:?}"))
+        if choices.contains(&number) {
+            Ok(number)
+        } else {
+            Err(format!("{key} is not one of {choices:?}"))
+        }
     }
 
     /// A number that may be absent.
@@ -124,10 +135,13 @@ impl Entries {
     }
 }
 
+fn trimmed(text: &str) -> &str {
+    text.trim_matches([' ', '\t'])
+}
+
 /// What the keys after the line of a table begin with.
 fn prefix(line: &str) -> Option<&'static str> {
-    let name = line.strip_prefix('[')?.strip_suffix(']')?.trim_matches([' ', '\t']);
-    match name {
+    match trimmed(line.strip_prefix('[')?.strip_suffix(']')?) {
         "level1" => Some("level1."),
         "level2" => Some("level2."),
         _ => None,
@@ -136,26 +150,25 @@ fn prefix(line: &str) -> Option<&'static str> {
 
 fn entry(line: &str) -> Option<(&str, Value)> {
     let (key, value) = line.split_once('=')?;
-    let key = key.trim_matches([' ', '\t']);
-    let is_plain = !key.is_empty()
-        && key
-            .bytes()
-            .all(|byte| byte.is_ascii_alphanumeric() || b"_-".contains(&byte));
-    is_plain.then_some(())?;
-    Some((key, parse_value(value.trim_matches([' ', '\t']))?))
+    let key = trimmed(key);
+    let is_plain = |byte: u8| byte.is_ascii_alphanumeric() || byte == b'_' || byte == b'-';
+    if key.is_empty() || !key.bytes().all(is_plain) {
+        return None;
+    }
+    Some((key, parse_value(trimmed(value))?))
 }
 
 /// A decimal number without sign or leading zeros, or letters in double quotes.
 fn parse_value(text: &str) -> Option<Value> {
     if let Some(quoted) = text.strip_prefix('"') {
         let word = quoted.strip_suffix('"')?;
-        return word
-            .bytes()
-            .all(|byte| byte.is_ascii_alphabetic())
-            .then(|| Value::Word(word.to_string()));
+        let is_plain = word.bytes().all(|byte| byte.is_ascii_alphabetic());
+        return is_plain.then(|| Value::Word(word.to_string()));
     }
-    let is_plain = text == "0" || !text.starts_with('0') && text.bytes().all(|byte| byte.is_ascii_digit());
-    is_plain.then_some(())?;
+    let has_leading_zero = text.len() > 1 && text.starts_with('0');
+    if has_leading_zero || !text.bytes().all(|byte| byte.is_ascii_digit()) {
+        return None;
+    }
     text.parse().ok().map(Value::Number)
 }
 

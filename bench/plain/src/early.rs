@@ -30,12 +30,15 @@ struct Chunks {
 
 struct Chunk {
     bytes: Box<[u8]>,
+    /// How many of its records wait.
     records: u32,
 }
 
 impl Chunks {
-    fn put(&mut self, bytes: &[u8]) -> Option<Place> {
-        let length = NonZeroU16::new(bytes.len().try_into().ok()?)?;
+    /// Keeps the bytes of a record, which are 8 to 300.
+    fn put(&mut self, bytes: &[u8]) -> Place {
+        let length = u16::try_from(bytes.len()).ok().and_then(NonZeroU16::new);
+        let length = length.expect("a record has 8 to 300 bytes");
         if self.chunks.is_empty() || self.used + bytes.len() > CHUNK {
             self.open_chunk();
         }
@@ -44,13 +47,14 @@ impl Chunks {
         chunk.bytes[start..][..bytes.len()].copy_from_slice(bytes);
         chunk.records += 1;
         self.used += bytes.len();
-        Some(Place {
+        Place {
             chunk: self.current as u32,
             start: start as u16,
             length,
-        })
+        }
     }
 
+    /// Goes on in a chunk without records, or in a new one.
     fn open_chunk(&mut self) {
         if self.chunks.get(self.current).is_some_and(|chunk| chunk.records == 0) {
             self.free.push(self.current as u32);
@@ -99,7 +103,7 @@ impl Early {
         self.taken == 0 && self.aside.is_empty()
     }
 
-    /// False if the record with this number does not wait, as a first look shows.
+    /// False only if no record with this number waits. It is faster than to find the record.
     #[inline(always)]
     pub fn may_hold(&self, number: u32) -> bool {
         self.slots.get(self.slot(number)).is_some_and(Option::is_some) || !self.aside.is_empty()
@@ -125,10 +129,10 @@ impl Early {
         let place = self.chunks.put(bytes);
         if self.make_slot(number) {
             let slot = self.slot(number);
-            self.slots[slot] = place;
+            self.slots[slot] = Some(place);
             self.taken += 1;
         } else {
-            self.aside.extend(place.map(|place| (number, place)));
+            self.aside.insert(number, place);
         }
         true
     }

@@ -25,6 +25,7 @@ pub struct Input<'piece> {
 }
 
 impl<'piece> Input<'piece> {
+    /// All bytes of a piece.
     pub fn new(rest: &'piece [u8]) -> Input<'piece> {
         Input { rest }
     }

@@ -20,6 +20,7 @@ struct Numbered {
     early: Early,
     /// The lowest number that two records have.
     double: Option<u32>,
+    /// The lowest number whose event breaks a rule, and the rule. Later events are not judged.
     broken: Option<(u32, Rule)>,
 }
 
@@ -63,8 +64,8 @@ impl Numbered {
     fn settle(&mut self, layout: &Layout) {
         while let Some(bytes) = self.early.take(self.next) {
             if self.broken.is_none() {
-                let step = layout.reread(bytes).map(|record| self.bank.step(&record));
-                self.broken = step.unwrap_or(Ok(())).err().map(|rule| (self.next, rule));
+                let record = layout.reread(bytes).expect("the record was checked when it came");
+                self.broken = self.bank.step(&record).err().map(|rule| (self.next, rule));
             }
             self.next += 1;
         }
@@ -117,17 +118,31 @@ impl Judge {
 
     /// The first fault, in the order of the checks.
     fn fault(&self) -> Option<Fault> {
-        let banks = || self.banks.iter().enumerate();
-        let ports = || self.ports.iter().enumerate();
-        let numbering = banks().find_map(|(bank, numbered)| numbered.numbering(bank));
-        let of_port =
-            |(port, judged): (usize, &Port)| judged.broken().map(|(event, rule)| Fault::Port { port, event, rule });
-        let of_bank =
-            |(bank, judged): (usize, &Numbered)| judged.broken.map(|(number, rule)| Fault::Bank { bank, number, rule });
-        let rule = || ports().find_map(of_port).or_else(|| banks().find_map(of_bank));
-        numbering
-            .or_else(rule)
+        self.numbering_fault()
+            .or_else(|| self.port_fault())
+            .or_else(|| self.bank_fault())
             .or_else(|| (!self.order.exists()).then_some(Fault::Cycle))
+    }
+
+    fn numbering_fault(&self) -> Option<Fault> {
+        let mut banks = self.banks.iter().enumerate();
+        banks.find_map(|(bank, judged)| judged.numbering(bank))
+    }
+
+    fn port_fault(&self) -> Option<Fault> {
+        let mut ports = self.ports.iter().enumerate();
+        ports.find_map(|(port, judged)| {
+            let (event, rule) = judged.broken()?;
+            Some(Fault::Port { port, event, rule })
+        })
+    }
+
+    fn bank_fault(&self) -> Option<Fault> {
+        let mut banks = self.banks.iter().enumerate();
+        banks.find_map(|(bank, judged)| {
+            let (number, rule) = judged.broken?;
+            Some(Fault::Bank { bank, number, rule })
+        })
     }
 }
 

@@ -30,21 +30,21 @@ impl Order {
 
     /// Whether there is such an order. The numbers of each bank are those from 0 on, each once.
     pub fn exists(&self) -> bool {
-        let mut walk = Walk {
+        let mut progress = Progress {
             rest: self.logs.iter().map(Vec::as_slice).collect(),
             next: vec![0; self.banks],
             waiting: vec![0; self.banks],
         };
         let mut ready: Vec<usize> = (0..self.logs.len()).collect();
         while let Some(log) = ready.pop() {
-            walk.go(log, &mut ready);
+            progress.advance(log, &mut ready);
         }
-        walk.rest.iter().all(|rest| rest.is_empty())
+        progress.rest.iter().all(|rest| rest.is_empty())
     }
 }
 
 /// How far the events have been put in order.
-struct Walk<'order> {
+struct Progress<'order> {
     /// The events of each log that are left.
     rest: Vec<&'order [Place]>,
     /// The next number of each bank.
@@ -54,9 +54,9 @@ struct Walk<'order> {
     waiting: Vec<u32>,
 }
 
-impl Walk<'_> {
+impl Progress<'_> {
     /// Takes the events of a log until one has to wait. The logs that can go on then are ready.
-    fn go(&mut self, log: usize, ready: &mut Vec<usize>) {
+    fn advance(&mut self, log: usize, ready: &mut Vec<usize>) {
         while let Some((&Place { bank, number }, rest)) = self.rest[log].split_first() {
             let bank = usize::from(bank);
             if number != self.next[bank] {
@@ -66,13 +66,13 @@ impl Walk<'_> {
             self.rest[log] = rest;
             self.next[bank] += 1;
             if self.waiting[bank] != 0 {
-                ready.extend(self.wake(bank));
+                ready.extend(self.release(bank));
             }
         }
     }
 
     /// The waiting log that has the next event of a bank. It waits no longer.
-    fn wake(&mut self, bank: usize) -> Option<usize> {
+    fn release(&mut self, bank: usize) -> Option<usize> {
         let is_next = |log: &usize| {
             self.rest[*log]
                 .first()

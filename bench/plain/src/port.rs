@@ -11,6 +11,7 @@ pub struct Port {
     outstanding: u32,
     /// How many records the log has so far.
     records: u32,
+    /// The place in the log of the first event that breaks a rule, and the rule. Later events are not judged.
     broken: Option<(u32, Rule)>,
 }
 

@@ -221,6 +221,7 @@ pub struct Layout {
 }
 
 impl Layout {
+    /// The layout of the records behind a header.
     pub fn new(header: &Header) -> Layout {
         Layout {
             ports: header.ports,

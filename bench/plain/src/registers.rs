@@ -14,7 +14,7 @@ struct Register<T> {
     targets: Vec<(u16, T)>,
 }
 
-/// The registers of a level. A block in flight is known by its home, the register of its primary miss.
+/// The registers of a level. A block in flight is named by the register of its primary miss.
 pub struct RegisterFile<T> {
     organisation: Organisation,
     registers: Vec<Register<T>>,
@@ -23,6 +23,7 @@ pub struct RegisterFile<T> {
 }
 
 impl<T> RegisterFile<T> {
+    /// So many registers, all of them free.
     pub fn new(organisation: Organisation, registers: u32) -> RegisterFile<T> {
         let register = || Register {
             count: 0,
@@ -45,13 +46,13 @@ impl<T> RegisterFile<T> {
         need(found.count == 0, Rule::RegisterBusy)
     }
 
-    /// Judges the register of a merge. The errors are RegisterRange, WrongRegister and MergeFull.
-    pub fn merge(&self, register: u16, home: u16, destination: u16, position: u8) -> Result<(), Rule> {
+    /// Judges the register of a merge into a block whose primary miss is in the register `primary`. The errors are RegisterRange, WrongRegister and MergeFull.
+    pub fn merge(&self, register: u16, primary: u16, destination: u16, position: u8) -> Result<(), Rule> {
         let found = self.registers.get(usize::from(register)).ok_or(Rule::RegisterRange)?;
         let right = if self.organisation == Organisation::Inverted {
             destination
         } else {
-            home
+            primary
         };
         need(register == right, Rule::WrongRegister)?;
         need(self.has_place(found, position), Rule::MergeFull)
@@ -66,28 +67,29 @@ impl<T> RegisterFile<T> {
         }
     }
 
-    /// Whether some register can take a target. `home` is that of its block, if the block is in flight.
-    pub fn has_room(&self, home: Option<u16>, destination: u16, position: u8) -> bool {
-        match (self.organisation, home) {
+    /// Whether some register can take a target. `primary` is the register of its block's primary
+    /// miss, if the block is in flight.
+    pub fn has_room(&self, primary: Option<u16>, destination: u16, position: u8) -> bool {
+        match (self.organisation, primary) {
             (Organisation::Inverted, _) => self.has_place(&self.registers[usize::from(destination)], position),
-            (_, Some(home)) => self.has_place(&self.registers[usize::from(home)], position),
+            (_, Some(primary)) => self.has_place(&self.registers[usize::from(primary)], position),
             (_, None) => self.free > 0,
         }
     }
 
-    /// Places a target whose register was judged. The target of a primary miss is at home.
-    pub fn place(&mut self, home: u16, register: u16, position: u8, target: T) {
+    /// Places a target whose register was judged. A primary miss is placed in its own register.
+    pub fn place(&mut self, primary: u16, register: u16, position: u8, target: T) {
         let taken = &mut self.registers[usize::from(register)];
         self.free -= usize::from(taken.count == 0);
         taken.count += 1;
         taken.positions |= 1 << position;
-        self.registers[usize::from(home)].targets.push((register, target));
+        self.registers[usize::from(primary)].targets.push((register, target));
     }
 
-    /// Releases all targets of the block at home, in the order of acceptance.
-    pub fn release(&mut self, home: u16, mut serve: impl FnMut(T)) {
+    /// Releases all targets of the block whose primary miss is in a register, in the order of acceptance.
+    pub fn release(&mut self, primary: u16, mut serve: impl FnMut(T)) {
         // The list goes back empty, so that its room is used again.
-        let mut targets = std::mem::take(&mut self.registers[usize::from(home)].targets);
+        let mut targets = std::mem::take(&mut self.registers[usize::from(primary)].targets);
         for (register, target) in targets.drain(..) {
             let released = &mut self.registers[usize::from(register)];
             self.free += usize::from(released.count > 0);
@@ -95,7 +97,7 @@ impl<T> RegisterFile<T> {
             released.positions = 0;
             serve(target);
         }
-        self.registers[usize::from(home)].targets = targets;
+        self.registers[usize::from(primary)].targets = targets;
     }
 }
 

@@ -64,8 +64,23 @@ impl<R: Read> Pieces<R> {
     }
 }
 
-/// The blocks that memory records name, rising, each with its bytes.
-pub type Memory = Vec<(u32, Box<[u8]>)>;
+/// The memory before the first event: the blocks that memory records name.
+pub struct Memory {
+    /// The numbers of the blocks, rising.
+    blocks: Vec<u32>,
+    /// The bytes of the blocks, in the same order.
+    bytes: Vec<u8>,
+    /// The bytes of one block.
+    length: usize,
+}
+
+impl Memory {
+    /// The bytes of a block that is named. A block that is not named is zero.
+    pub fn find(&self, block: u32) -> Option<&[u8]> {
+        let place = self.blocks.binary_search(&block).ok()?;
+        Some(&self.bytes[place * self.length..][..self.length])
+    }
+}
 
 /// A trace that is being read.
 pub struct Trace<R> {
@@ -74,6 +89,7 @@ pub struct Trace<R> {
 }
 
 impl<R: Read> Trace<R> {
+    /// A trace of which nothing was read yet.
     pub fn new(source: R) -> Trace<R> {
         Trace {
             pieces: Pieces::new(source),
@@ -95,7 +111,7 @@ impl<R: Read> Trace<R> {
         part.ok_or(truncated)
     }
 
-    /// Reads the header, which comes first.
+    /// Reads the header, which comes first. The errors are those of its bytes, Truncated and a failed read.
     pub fn header(&mut self) -> Result<Header, Refusal> {
         let mut bytes = [0; Header::LENGTH];
         bytes.copy_from_slice(self.part(Header::LENGTH)?);
@@ -104,27 +120,32 @@ impl<R: Read> Trace<R> {
         Ok(header)
     }
 
-    /// Reads the memory records, which follow the header. Their number is only a promise of the header, so
-    /// the memory grows with the bytes that were read.
+    /// Reads the memory records, which follow the header. Their count in the header may be wrong, so the
+    /// memory grows only with the bytes that were read.
     pub fn memory(&mut self, header: &Header) -> Result<Memory, Refusal> {
-        let mut memory = Memory::new();
+        let mut memory = Memory {
+            blocks: Vec::new(),
+            bytes: Vec::new(),
+            length: header.block as usize,
+        };
         for _ in 0..header.memory_records {
-            let before = memory.last().map(|&(block, _)| block);
-            memory.push(self.memory_record(header.block as usize, before)?);
+            self.memory_record(&mut memory)?;
         }
         Ok(memory)
     }
 
-    fn memory_record(&mut self, length: usize, before: Option<u32>) -> Result<(u32, Box<[u8]>), Refusal> {
+    fn memory_record(&mut self, memory: &mut Memory) -> Result<(), Refusal> {
         let mut number = [0; 4];
         number.copy_from_slice(self.part(4)?);
         let block = u32::from_le_bytes(number);
-        if before.is_some_and(|before| block <= before) {
+        if memory.blocks.last().is_some_and(|&before| block <= before) {
             return Err(self.refused(FormatFault::MemoryOrder));
         }
-        let bytes = self.part(4 + length)?[4..].into();
-        self.pieces.start += 4 + length;
-        Ok((block, bytes))
+        let record = self.part(4 + memory.length)?;
+        memory.blocks.push(block);
+        memory.bytes.extend_from_slice(&record[4..]);
+        self.pieces.start += 4 + memory.length;
+        Ok(())
     }
 
     /// Reads the event records and the end record, and visits each event. The number of events.
