@@ -3,7 +3,7 @@
 use crate::answer::{need, Rule};
 use crate::bytes::{agree_outside, agree_under};
 use crate::input::value;
-use crate::record::{Event, Record};
+use crate::record::{Event, Record, Request};
 use crate::registers::RegisterFile;
 use crate::shape::Shape;
 use crate::trace::Memory;
@@ -11,7 +11,7 @@ use std::collections::{HashMap, VecDeque};
 use std::hash::{BuildHasherDefault, Hasher};
 use std::rc::Rc;
 
-/// A fast hash of block numbers, which nobody chooses to do harm.
+/// A fast hash of block numbers. Numbers that are chosen to have one hash would only make it slow.
 #[derive(Default)]
 struct BlockHasher {
     state: u64,
@@ -53,6 +53,15 @@ enum State {
     Present,
 }
 
+impl State {
+    /// Level two supplies a block that it fetched.
+    fn supply(&mut self) {
+        if let State::InFlight { fetch, .. } = self {
+            *fetch = Fetch::Supplied;
+        }
+    }
+}
+
 /// A first-level block.
 #[derive(Clone, Copy)]
 struct Block {
@@ -71,30 +80,6 @@ enum SecondState {
     Present,
 }
 
-/// A request that was not accepted yet.
-#[derive(Clone, Copy)]
-struct Request {
-    store: bool,
-    tag: u8,
-    size: u8,
-    /// The place of its first byte in its block.
-    offset: u8,
-    block: u32,
-    value: u64,
-}
-
-impl Request {
-    /// The bytes of its block that it touches.
-    fn mask(&self) -> u64 {
-        ((1 << self.size) - 1) << self.offset
-    }
-
-    /// The word of its block that it touches.
-    fn position(&self) -> u8 {
-        self.offset / 8
-    }
-}
-
 /// The data of a reply. Those of a store's reply have the size 0.
 #[derive(Clone, Copy)]
 struct Reply {
@@ -109,13 +94,15 @@ struct Target {
 }
 
 /// The state of a bank. A cell is the place of a first-level block in `blocks` and `memory`. The cells of a
-/// second-level block are neighbours, so a cell is also a place in `seconds`.
+/// second-level block follow one another, and a cell shifted by `factor_shift` is its place in `seconds`.
 pub struct Bank {
     shape: Shape,
+    /// The binary logarithm of the blocks of a second-level block.
     factor_shift: u32,
     /// The bytes of a block.
     length: usize,
     initial: Rc<Memory>,
+    /// The place in `seconds` of each second-level block that had a primary miss.
     places: HashMap<u32, u32, BuildHasherDefault<BlockHasher>>,
     seconds: Vec<SecondState>,
     blocks: Vec<Block>,
@@ -158,24 +145,7 @@ impl Bank {
     #[inline(always)]
     pub fn step(&mut self, record: &Record<'_>) -> Result<(), Rule> {
         match record.event {
-            Event::Issue {
-                store,
-                tag,
-                size,
-                block,
-                offset,
-                value,
-            } => self.issue(
-                record.log,
-                Request {
-                    store,
-                    tag,
-                    size,
-                    offset,
-                    block,
-                    value,
-                },
-            ),
+            Event::Issue(request) => self.issue(record.log, request),
             Event::Reply { tag, size, value } => self.reply(record.log, tag, Reply { size, value }),
             Event::Hit { port, tag } => self.hit(port, tag),
             Event::Primary { port, tag, register } => self.primary(port, tag, register),
@@ -193,12 +163,12 @@ impl Bank {
         }
     }
 
-    /// The place of a second-level block that some event named before.
+    /// The place of a second-level block that had a primary miss.
     fn find_second(&self, second: u32) -> Option<usize> {
         self.places.get(&second).map(|&place| place as usize)
     }
 
-    /// The cell of a block of a second-level block that some event named before.
+    /// The cell of a block, if its second-level block had a primary miss.
     fn find(&self, block: u32) -> Option<usize> {
         self.find_second(block >> self.factor_shift)
             .map(|place| self.cell_at(place, block))
@@ -455,10 +425,9 @@ impl Bank {
         need(agree, Rule::FillData)?;
         self.lines2[set] += 1;
         self.seconds[place] = SecondState::Present;
+        let fetched = &mut self.blocks[first..][..self.shape.factor as usize];
+        fetched.iter_mut().for_each(|block| block.dirty = 0);
         let blocks = &mut self.blocks;
-        blocks[first..][..self.shape.factor as usize]
-            .iter_mut()
-            .for_each(|block| block.dirty = 0);
         self.registers2.release(register, |cell| blocks[cell].state.supply());
         Ok(())
     }
@@ -481,14 +450,5 @@ impl Bank {
         self.lines2[self.shape.set2(second)] -= 1;
         self.seconds[place] = SecondState::Absent;
         Ok(())
-    }
-}
-
-impl State {
-    /// Level two supplies a block that it fetched.
-    fn supply(&mut self) {
-        if let State::InFlight { fetch, .. } = self {
-            *fetch = Fetch::Supplied;
-        }
     }
 }

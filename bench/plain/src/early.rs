@@ -1,19 +1,44 @@
 //! Records that are read before their turn. They are kept as their own bytes until the records before them
 //! in their bank were read.
 
-use crate::record::number_of;
 use std::collections::BTreeMap;
-use std::num::NonZeroU16;
+use std::num::NonZeroU32;
 
 /// The bytes of a chunk.
 const CHUNK: usize = 1 << 16;
 
-/// Where the bytes of a record are.
+/// Records begin at multiples of so many bytes in their chunk.
+const STEP: usize = 4;
+
+/// Where a record is: the steps before it in all chunks, and one more, so that no place is 0. There are
+/// enough places, since all records of a bank have less than 2^34 bytes: those of its own log have at most
+/// 300 each, those of 16 ports at most 28 each, and a log has at most 2^24.
 #[derive(Clone, Copy)]
-struct Place {
-    chunk: u32,
-    start: u16,
-    length: NonZeroU16,
+struct Place(NonZeroU32);
+
+impl Place {
+    fn new(chunk: usize, start: usize) -> Place {
+        let steps = (chunk * CHUNK + start) / STEP + 1;
+        let place = u32::try_from(steps).ok().and_then(NonZeroU32::new);
+        Place(place.expect("the records of a bank have less than 2^34 bytes"))
+    }
+
+    #[inline(always)]
+    fn steps(self) -> usize {
+        self.0.get() as usize - 1
+    }
+
+    /// The chunk that the record is in.
+    #[inline(always)]
+    fn chunk(self) -> usize {
+        self.steps() / (CHUNK / STEP)
+    }
+
+    /// Where the record begins in its chunk.
+    #[inline(always)]
+    fn start(self) -> usize {
+        self.steps() % (CHUNK / STEP) * STEP
+    }
 }
 
 /// The bytes of records one behind the other, in the order in which they were read. A chunk whose records
@@ -22,7 +47,7 @@ struct Place {
 struct Chunks {
     chunks: Vec<Chunk>,
     /// The chunks without records, but for the last one that records were put into.
-    free: Vec<u32>,
+    free: Vec<usize>,
     /// The chunk that records are put into, and how much of it is used.
     current: usize,
     used: usize,
@@ -35,10 +60,8 @@ struct Chunk {
 }
 
 impl Chunks {
-    /// Keeps the bytes of a record, which are 8 to 300.
+    /// Keeps the bytes of a record.
     fn put(&mut self, bytes: &[u8]) -> Place {
-        let length = u16::try_from(bytes.len()).ok().and_then(NonZeroU16::new);
-        let length = length.expect("a record has 8 to 300 bytes");
         if self.chunks.is_empty() || self.used + bytes.len() > CHUNK {
             self.open_chunk();
         }
@@ -46,20 +69,16 @@ impl Chunks {
         let chunk = &mut self.chunks[self.current];
         chunk.bytes[start..][..bytes.len()].copy_from_slice(bytes);
         chunk.records += 1;
-        self.used += bytes.len();
-        Place {
-            chunk: self.current as u32,
-            start: start as u16,
-            length,
-        }
+        self.used = (start + bytes.len()).next_multiple_of(STEP);
+        Place::new(self.current, start)
     }
 
     /// Goes on in a chunk without records, or in a new one.
     fn open_chunk(&mut self) {
         if self.chunks.get(self.current).is_some_and(|chunk| chunk.records == 0) {
-            self.free.push(self.current as u32);
+            self.free.push(self.current);
         }
-        self.current = self.free.pop().map_or(self.chunks.len(), |chunk| chunk as usize);
+        self.current = self.free.pop().unwrap_or(self.chunks.len());
         if self.current == self.chunks.len() {
             self.chunks.push(Chunk {
                 bytes: vec![0; CHUNK].into_boxed_slice(),
@@ -69,29 +88,33 @@ impl Chunks {
         self.used = 0;
     }
 
+    /// Gives the room of a record back. The bytes from its first on stay until the next record is put.
     #[inline(always)]
-    fn bytes(&self, place: Place) -> &[u8] {
-        &self.chunks[place.chunk as usize].bytes[usize::from(place.start)..][..usize::from(place.length.get())]
-    }
-
-    /// Gives the room of a record back. Its bytes stay until the next record is put.
-    #[inline(always)]
-    fn release(&mut self, place: Place) {
-        let chunk = &mut self.chunks[place.chunk as usize];
+    fn take(&mut self, place: Place) -> &[u8] {
+        let number = place.chunk();
+        let chunk = &mut self.chunks[number];
         chunk.records -= 1;
-        if chunk.records == 0 && place.chunk as usize != self.current {
-            self.free.push(place.chunk);
+        if chunk.records == 0 && number != self.current {
+            self.free.push(number);
         }
+        &chunk.bytes[place.start()..]
     }
 }
 
-/// The early records of a bank. Each number has one slot for the place of its record, which is enough if the
-/// numbers that wait are not far apart. A number whose slot is taken in a large table is kept aside.
+/// A slot of the table of early records: the record with a number, if there is one.
+#[derive(Clone, Copy, Default)]
+struct Slot {
+    number: u32,
+    place: Option<Place>,
+}
+
+/// The early records of a bank. Each number has one slot, which is enough if the numbers that wait are not
+/// far apart. A number whose slot is taken in a large table is kept aside.
 #[derive(Default)]
 pub struct Early {
     chunks: Chunks,
     /// As many as a power of two, or none.
-    slots: Vec<Option<Place>>,
+    slots: Vec<Slot>,
     /// How many slots are taken.
     taken: usize,
     aside: BTreeMap<u32, Place>,
@@ -106,30 +129,38 @@ impl Early {
     /// False only if no record with this number waits. It is faster than to find the record.
     #[inline(always)]
     pub fn may_hold(&self, number: u32) -> bool {
-        self.slots.get(self.slot(number)).is_some_and(Option::is_some) || !self.aside.is_empty()
+        self.is_taken(number) || !self.aside.is_empty()
     }
 
     #[inline(always)]
-    fn slot(&self, number: u32) -> usize {
+    fn index(&self, number: u32) -> usize {
         number as usize & self.slots.len().wrapping_sub(1)
     }
 
-    /// The record in the slot of this number, if it is the record with this number.
+    /// Whether some record is in the slot of this number.
     #[inline(always)]
-    fn in_slot(&self, number: u32) -> Option<Place> {
-        let place = self.slots.get(self.slot(number)).copied().flatten()?;
-        (number_of(self.chunks.bytes(place)) == number).then_some(place)
+    fn is_taken(&self, number: u32) -> bool {
+        let slot = self.slots.get(self.index(number));
+        slot.is_some_and(|slot| slot.place.is_some())
+    }
+
+    fn holds(&self, number: u32) -> bool {
+        let in_slot = self.is_taken(number) && self.slots[self.index(number)].number == number;
+        in_slot || self.aside.contains_key(&number)
     }
 
     /// Keeps the bytes of a record. False if a record with this number waits.
     pub fn keep(&mut self, number: u32, bytes: &[u8]) -> bool {
-        if self.in_slot(number).is_some() || self.aside.contains_key(&number) {
+        if self.holds(number) {
             return false;
         }
         let place = self.chunks.put(bytes);
         if self.make_slot(number) {
-            let slot = self.slot(number);
-            self.slots[slot] = Some(place);
+            let index = self.index(number);
+            self.slots[index] = Slot {
+                number,
+                place: Some(place),
+            };
             self.taken += 1;
         } else {
             self.aside.insert(number, place);
@@ -140,7 +171,7 @@ impl Early {
     /// Grows the table until the slot of a number is free. False if it would become too large for what it
     /// holds.
     fn make_slot(&mut self, number: u32) -> bool {
-        while self.slots.get(self.slot(number)).is_none_or(Option::is_some) {
+        while self.slots.is_empty() || self.is_taken(number) {
             if self.slots.len() / 16 >= self.taken + 64 {
                 return false;
             }
@@ -151,29 +182,29 @@ impl Early {
 
     /// Doubles the slots. Records of different slots stay in different slots.
     fn grow(&mut self) {
-        let longer = vec![None; (2 * self.slots.len()).max(64)];
+        let longer = vec![Slot::default(); (2 * self.slots.len()).max(64)];
         let shorter = std::mem::replace(&mut self.slots, longer);
-        for place in shorter.into_iter().flatten() {
-            let slot = self.slot(number_of(self.chunks.bytes(place)));
-            self.slots[slot] = Some(place);
+        for slot in shorter.into_iter().filter(|slot| slot.place.is_some()) {
+            let index = self.index(slot.number);
+            self.slots[index] = slot;
         }
     }
 
-    /// The bytes of the record with this number, if it waits. It waits no longer.
+    /// The bytes from the first of the record with this number on, if it waits. It waits no longer.
     #[inline(always)]
     pub fn take(&mut self, number: u32) -> Option<&[u8]> {
-        let place = match self.in_slot(number) {
-            Some(place) => {
-                let slot = self.slot(number);
-                self.slots[slot] = None;
+        let index = self.index(number);
+        let slot = self.slots.get_mut(index)?;
+        let place = match slot.place {
+            Some(place) if slot.number == number => {
+                slot.place = None;
                 self.taken -= 1;
                 place
             }
-            None if self.aside.is_empty() => return None,
-            None => self.aside.remove(&number)?,
+            _ if self.aside.is_empty() => return None,
+            _ => self.aside.remove(&number)?,
         };
-        self.chunks.release(place);
-        Some(self.chunks.bytes(place))
+        Some(self.chunks.take(place))
     }
 }
 
@@ -183,7 +214,7 @@ mod tests {
 
     #[test]
     fn each_record_is_found_once() {
-        let record = |number: u32| [&[0; 4], &number.to_le_bytes()[..], &[7; 28]].concat();
+        let record = |number: u32| number.to_be_bytes().repeat(2 + number as usize % 70);
         let numbers = || [7, 71, 135, u32::MAX, 0, 1 << 30].into_iter().chain(1000..9000);
         let mut early = Early::default();
         for number in numbers() {
@@ -191,7 +222,9 @@ mod tests {
             assert!(!early.keep(number, &record(number)));
         }
         for number in numbers() {
-            assert_eq!(early.take(number), Some(&record(number)[..]));
+            assert!(early
+                .take(number)
+                .is_some_and(|bytes| bytes.starts_with(&record(number))));
             assert_eq!(early.take(number), None);
         }
         assert!(early.is_empty());

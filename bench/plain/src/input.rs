@@ -18,7 +18,7 @@ impl From<FormatFault> for Stop {
     }
 }
 
-/// The bytes that were not read yet.
+/// The bytes that were not read yet. Numbers are little-endian.
 #[derive(Clone, Copy)]
 pub struct Input<'piece> {
     rest: &'piece [u8],
@@ -50,6 +50,24 @@ impl<'piece> Input<'piece> {
         Ok(*array)
     }
 
+    /// The next 2 bytes as a number.
+    #[inline(always)]
+    pub fn u16(&mut self) -> Result<u16, Stop> {
+        self.array().map(u16::from_le_bytes)
+    }
+
+    /// The next 4 bytes as a number.
+    #[inline(always)]
+    pub fn u32(&mut self) -> Result<u32, Stop> {
+        self.array().map(u32::from_le_bytes)
+    }
+
+    /// The next 8 bytes as a number.
+    #[inline(always)]
+    pub fn u64(&mut self) -> Result<u64, Stop> {
+        self.array().map(u64::from_le_bytes)
+    }
+
     /// The next bytes, where they stand.
     #[inline(always)]
     pub fn slice(&mut self, length: usize) -> Result<&'piece [u8], Stop> {
@@ -68,14 +86,21 @@ impl<'piece> Input<'piece> {
 /// The number that at most 8 bytes are, lowest byte first.
 #[inline(always)]
 pub fn value(bytes: &[u8]) -> u64 {
-    match *bytes {
-        [byte] => u64::from(byte),
-        [b0, b1] => u64::from(u16::from_le_bytes([b0, b1])),
-        [b0, b1, b2, b3] => u64::from(u32::from_le_bytes([b0, b1, b2, b3])),
-        [b0, b1, b2, b3, b4, b5, b6, b7] => u64::from_le_bytes([b0, b1, b2, b3, b4, b5, b6, b7]),
+    match bytes.len() {
+        1 => u64::from(bytes[0]),
+        2 => u64::from(u16::from_le_bytes(first(bytes))),
+        4 => u64::from(u32::from_le_bytes(first(bytes))),
+        8 => u64::from_le_bytes(first(bytes)),
         _ => bytes
             .iter()
             .rev()
             .fold(0, |number, &byte| number << 8 | u64::from(byte)),
     }
+}
+
+#[inline(always)]
+fn first<const N: usize>(bytes: &[u8]) -> [u8; N] {
+    let mut array = [0; N];
+    array.copy_from_slice(&bytes[..N]);
+    array
 }

@@ -1,7 +1,7 @@
 //! One port: which of its tags are busy, and the rules that its log may break.
 
 use crate::answer::{need, Rule};
-use crate::record::{Event, Record};
+use crate::record::{Event, Record, Request};
 
 /// The state of a port after the records of its log so far.
 pub struct Port {
@@ -43,7 +43,7 @@ impl Port {
     #[inline(always)]
     fn step(&mut self, record: &Record<'_>) -> Result<(), Rule> {
         match record.event {
-            Event::Issue { tag, .. } => {
+            Event::Issue(Request { tag, .. }) => {
                 let busy = self.busy.get_mut(usize::from(tag)).ok_or(Rule::TagRange)?;
                 need(busy.is_none(), Rule::TagBusy)?;
                 *busy = Some(record.bank);

@@ -3,18 +3,37 @@
 use crate::answer::{need, FormatFault};
 use crate::input::{value, Input, Stop};
 
+/// A load or a store.
+#[derive(Clone, Copy)]
+pub struct Request {
+    pub store: bool,
+    pub tag: u8,
+    /// 1, 2, 4 or 8 bytes.
+    pub size: u8,
+    /// The place of its first byte in its block.
+    pub offset: u8,
+    pub block: u32,
+    /// What a store writes. That of a load is 0.
+    pub value: u64,
+}
+
+impl Request {
+    /// The bytes of its block that it touches.
+    pub fn mask(&self) -> u64 {
+        ((1 << self.size) - 1) << self.offset
+    }
+
+    /// The word of its block that it touches.
+    pub fn position(&self) -> u8 {
+        self.offset / 8
+    }
+}
+
 /// What happened. Blocks are first-level blocks, but those of Fill2 and Evict2 are second-level blocks.
 #[derive(Clone, Copy)]
 pub enum Event<'piece> {
-    /// The offset is in bytes, the value of a load is 0.
-    Issue {
-        store: bool,
-        tag: u8,
-        size: u8,
-        block: u32,
-        offset: u8,
-        value: u64,
-    },
+    Issue(Request),
+    /// The size is 0 for the reply to a store, and 1, 2, 4 or 8 bytes for the reply to a load.
     Reply {
         tag: u8,
         size: u8,
@@ -78,14 +97,14 @@ pub enum Event<'piece> {
 /// An event with its place in the trace.
 #[derive(Clone, Copy)]
 pub struct Record<'piece> {
-    /// Ports come first, then banks.
+    /// The log that it is in. Ports come first, then banks.
     pub log: u8,
-    /// `NO_BANK` for a fence.
+    /// The bank that it names, `NO_BANK` for a fence.
     pub bank: u8,
     /// The bank's number of the event.
     pub number: u32,
     pub event: Event<'piece>,
-    /// The record's own bytes.
+    /// The bytes that it was read from, which begin with its own.
     pub bytes: &'piece [u8],
 }
 
@@ -118,13 +137,17 @@ mod kind {
 /// The first 16 bytes of a trace.
 #[derive(Clone, Copy, PartialEq, Eq, Debug)]
 pub struct Header {
+    /// 1, 2 or 3.
     pub version: u16,
+    /// 1 to 16.
     pub ports: u32,
+    /// 1 to 16.
     pub banks: u32,
     /// The bytes of a first-level block.
     pub block: u32,
     /// The first-level blocks of a second-level block.
     pub factor: u32,
+    /// How many memory records follow it.
     pub memory_records: u32,
 }
 
@@ -134,11 +157,11 @@ impl Header {
 
     /// Reads and checks the header. The errors are Magic, Version, HeaderRange and Reserved.
     pub fn read(bytes: &[u8; Header::LENGTH]) -> Result<Header, FormatFault> {
-        let [magic @ .., v0, v1, ports, banks, n0, n1, f0, f1, m0, m1, m2, m3] = *bytes;
-        let version = u16::from_le_bytes([v0, v1]);
-        let block = u16::from_le_bytes([n0, n1]);
-        let last = u16::from_le_bytes([f0, f1]);
-        need(magic == *b"LFTS", FormatFault::Magic)?;
+        let (ports, banks) = (bytes[6], bytes[7]);
+        let version = value(&bytes[4..6]) as u16;
+        let block = value(&bytes[8..10]) as u32;
+        let last = value(&bytes[10..12]) as u32;
+        need(bytes.starts_with(b"LFTS"), FormatFault::Magic)?;
         need((1..=3).contains(&version), FormatFault::Version)?;
         need(
             (1..=16).contains(&ports) && (1..=16).contains(&banks),
@@ -151,9 +174,9 @@ impl Header {
             version,
             ports: ports.into(),
             banks: banks.into(),
-            block: block.into(),
-            factor: if version == 3 { last.into() } else { 1 },
-            memory_records: u32::from_le_bytes([m0, m1, m2, m3]),
+            block,
+            factor: if version == 3 { last } else { 1 },
+            memory_records: value(&bytes[12..16]) as u32,
         })
     }
 }
@@ -173,12 +196,6 @@ impl Counts {
         self.logs[usize::from(log) % MOST_LOGS] += 1;
         self.events += 1;
     }
-}
-
-/// The number in the head of a whole record.
-#[inline(always)]
-pub fn number_of(record: &[u8]) -> u32 {
-    u32::from_le_bytes([record[4], record[5], record[6], record[7]])
 }
 
 /// The first 8 bytes of a record.
@@ -267,7 +284,7 @@ impl Layout {
         })
     }
 
-    /// A record that was read before, from its own bytes.
+    /// A record that was read before. The bytes begin with its own.
     #[inline(always)]
     pub fn reread<'piece>(&self, bytes: &'piece [u8]) -> Result<Record<'piece>, Stop> {
         let mut input = Input::new(bytes);
@@ -346,31 +363,30 @@ impl Layout {
         let offset = (address as usize & (self.block - 1)) as u8;
         let store = op == 1;
         let value = if store { input.value(size)? } else { 0 };
-        Ok(Event::Issue {
+        Ok(Event::Issue(Request {
             store,
             tag,
             size,
             block,
             offset,
             value,
-        })
+        }))
     }
 
     /// The block that level one asked for.
     #[inline(always)]
     fn asked(&self, bank: u32, input: &mut Input<'_>) -> Result<u32, Stop> {
-        let block = u32::from_le_bytes(input.array()?);
+        let block = input.u32()?;
         self.check_bank(block >> self.factor_shift, bank)?;
         Ok(block)
     }
 
     #[inline(always)]
     fn second_miss(&self, bank: u32, input: &mut Input<'_>) -> Result<(u32, u16), Stop> {
-        let [b0, b1, b2, b3, r0, r1, zero @ ..] = input.array::<8>()?;
-        let block = u32::from_le_bytes([b0, b1, b2, b3]);
+        let (block, register, zero) = (input.u32()?, input.u16()?, input.u16()?);
         self.check_bank(block >> self.factor_shift, bank)?;
-        need(zero == [0, 0], FormatFault::Reserved)?;
-        Ok((block, u16::from_le_bytes([r0, r1])))
+        need(zero == 0, FormatFault::Reserved)?;
+        Ok((block, register))
     }
 
     #[inline(always)]
@@ -384,9 +400,7 @@ impl Layout {
 
     #[inline(always)]
     fn evict1<'piece>(&self, bank: u32, input: &mut Input<'piece>) -> Result<Event<'piece>, Stop> {
-        let [b0, b1, b2, b3, mask @ ..] = input.array::<12>()?;
-        let block = u32::from_le_bytes([b0, b1, b2, b3]);
-        let mask = u64::from_le_bytes(mask);
+        let (block, mask) = (input.u32()?, input.u64()?);
         self.check_bank(block >> self.factor_shift, bank)?;
         need(mask & self.outside_masks == 0, FormatFault::MaskRange)?;
         Ok(Event::Evict1 {
@@ -404,7 +418,7 @@ impl Layout {
 
     #[inline(always)]
     fn fill2<'piece>(&self, bank: u32, input: &mut Input<'piece>) -> Result<Event<'piece>, Stop> {
-        let block = u32::from_le_bytes(input.array()?);
+        let block = input.u32()?;
         self.check_second(block, bank)?;
         Ok(Event::Fill2 {
             block,
@@ -414,7 +428,7 @@ impl Layout {
 
     #[inline(always)]
     fn evict2<'piece>(&self, bank: u32, input: &mut Input<'piece>) -> Result<Event<'piece>, Stop> {
-        let block = u32::from_le_bytes(input.array()?);
+        let block = input.u32()?;
         let masks = input.slice(8 << self.factor_shift)?;
         self.check_second(block, bank)?;
         let (mut all, mut length) = (0, 0);
@@ -454,6 +468,6 @@ fn request(input: &mut Input<'_>) -> Result<(u8, u8), Stop> {
 /// The port, the tag and the register of a missed request.
 #[inline(always)]
 fn miss(input: &mut Input<'_>) -> Result<(u8, u8, u16), Stop> {
-    let [port, tag, register @ ..] = input.array::<4>()?;
-    Ok((port, tag, u16::from_le_bytes(register)))
+    let [port, tag] = input.array()?;
+    Ok((port, tag, input.u16()?))
 }

@@ -46,7 +46,8 @@ impl<T> RegisterFile<T> {
         need(found.count == 0, Rule::RegisterBusy)
     }
 
-    /// Judges the register of a merge into a block whose primary miss is in the register `primary`. The errors are RegisterRange, WrongRegister and MergeFull.
+    /// Judges the register of a merge. `primary` is the register of its block's primary miss. The errors are
+    /// RegisterRange, WrongRegister and MergeFull.
     pub fn merge(&self, register: u16, primary: u16, destination: u16, position: u8) -> Result<(), Rule> {
         let found = self.registers.get(usize::from(register)).ok_or(Rule::RegisterRange)?;
         let right = if self.organisation == Organisation::Inverted {
@@ -67,8 +68,8 @@ impl<T> RegisterFile<T> {
         }
     }
 
-    /// Whether some register can take a target. `primary` is the register of its block's primary
-    /// miss, if the block is in flight.
+    /// Whether some register can take a target. `primary` is the register of its block's primary miss, if the
+    /// block is in flight.
     pub fn has_room(&self, primary: Option<u16>, destination: u16, position: u8) -> bool {
         match (self.organisation, primary) {
             (Organisation::Inverted, _) => self.has_place(&self.registers[usize::from(destination)], position),
