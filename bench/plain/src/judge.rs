@@ -47,7 +47,7 @@ impl Numbered {
             self.broken = self.bank.step(record).err().map(|rule| (record.number, rule));
         }
         if self.early.may_hold(self.next) {
-            self.settle(layout);
+            self.take_early(layout);
         }
     }
 
@@ -61,7 +61,7 @@ impl Numbered {
 
     /// Takes the early records whose turn it is.
     #[inline(never)]
-    fn settle(&mut self, layout: &Layout) {
+    fn take_early(&mut self, layout: &Layout) {
         while let Some(bytes) = self.early.take(self.next) {
             if self.broken.is_none() {
                 let record = layout.reread(bytes).expect("the record was checked when it came");
