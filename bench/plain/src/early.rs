@@ -221,12 +221,11 @@ mod tests {
             assert!(early.keep(number, &record(number)));
             assert!(!early.keep(number, &record(number)));
         }
-        for number in numbers() {
-            assert!(early
-                .take(number)
-                .is_some_and(|bytes| bytes.starts_with(&record(number))));
-            assert_eq!(early.take(number), None);
-        }
-        assert!(early.is_empty());
+        let is_found = |number| {
+            let bytes = early.take(number);
+            bytes.is_some_and(|bytes| bytes.starts_with(&record(number)))
+        };
+        assert!(numbers().all(is_found));
+        assert!(numbers().all(|number| early.take(number).is_none()) && early.is_empty());
     }
 }
