@@ -5,9 +5,9 @@
     compare.py --turns 25 AFTER BEFORE                       both with bench/plain
     compare.py --no-plain --only mixed BEFORE AFTER          the second with the first
 
-Each turn runs all programs once on the trace, with one worker and at normal priority, so that all meet the same machine.
-A row for each trace and program has its least and its median processor time, and both divided by those of the first
-program, which is bench/plain where that is measured. It is built with cargo, and left out where there is none.
+Each turn runs all programs once on the trace, with one worker and at normal priority, so that all meet the same
+machine. A row for each trace and program has its least and its median processor time, and both divided by those of the
+first program, which is bench/plain where that is measured. It is built with cargo, and left out where there is none.
 
 Stop everything else first. Where the ratio of the least times and that of the medians differ much, the machine was not
 quiet: take more turns."""
