@@ -24,6 +24,8 @@ import tempfile
 from pathlib import Path
 from typing import NamedTuple
 
+from measure import run
+
 HERE = Path(__file__).resolve().parent
 PLAIN = HERE / "plain"
 INVERTED = "--organisation1 inverted --organisation2 inverted"
@@ -56,14 +58,10 @@ def built_plain(folder: Path) -> list[Program]:
 
 def milliseconds(words: list[str]) -> float:
     """The processor time of one run, which must say yes."""
-    child = os.fork()
-    if child == 0:
-        os.dup2(os.open(os.devnull, os.O_WRONLY), 1)
-        os.execv(words[0], words)
-    _, status, used = os.wait4(child, 0)
-    if status:
-        sys.exit(f"{' '.join(words)}: the status is {os.waitstatus_to_exitcode(status)}, and not 0")
-    return float(used.ru_utime + used.ru_stime) * 1000
+    ran = run(words)
+    if ran.status:
+        sys.exit(f"{' '.join(words)}: the status is {os.waitstatus_to_exitcode(ran.status)}, and not 0")
+    return ran.processor * 1000
 
 
 def rows(name: str, options: str, events: int, turns: int, programs: list[Program], folder: Path) -> None:
@@ -86,8 +84,8 @@ def rows(name: str, options: str, events: int, turns: int, programs: list[Progra
 def main() -> None:
     parser = argparse.ArgumentParser(description=__doc__, formatter_class=argparse.RawDescriptionHelpFormatter)
     parser.add_argument("programs", nargs="+", type=Path, metavar="PROGRAM", help="a build of `score`")
-    parser.add_argument("--turns", type=int, default=15)
-    parser.add_argument("--events", type=int, default=1_000_000)
+    parser.add_argument("--turns", type=int, default=15, help="15 where nothing is said")
+    parser.add_argument("--events", type=int, default=1_000_000, help="a million where nothing is said")
     parser.add_argument("--only", choices=TRACES, metavar="TRACE", help=f"one trace: {', '.join(TRACES)}")
     parser.add_argument("--no-plain", action="store_true", help="compare the programs with the first of them")
     words = parser.parse_args()

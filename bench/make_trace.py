@@ -358,8 +358,8 @@ def drive(shape: Shape, recorder: lfts.Recorder, memory: Memory, chance: random.
             bank.step()
 
 
-def in_logs(trace: bytes, arranged: Callable[[Logs], List[bytes]]) -> bytes:
-    """The same trace with the records of its logs, each in its own order, arranged in this way."""
+def rearranged(trace: bytes, arrange: Callable[[Logs], List[bytes]]) -> bytes:
+    """The same trace with its records in another order, which `arrange` makes of the logs."""
     reader = lfts.Reader(trace)
     first = bytearray(reader.header.encode(reader.memory_records))
     logs: Logs = [[] for _ in range(reader.header.logs)]
@@ -369,7 +369,7 @@ def in_logs(trace: bytes, arranged: Callable[[Logs], List[bytes]]) -> bytes:
         else:
             first += item.encode()
     end = trace[-8:]
-    return b"".join((first, *arranged(logs), end))
+    return b"".join((first, *arrange(logs), end))
 
 
 def log_by_log(logs: Logs) -> List[bytes]:
@@ -450,8 +450,8 @@ def main() -> None:
     if shape.log_by_log or shape.mixed:
         trace = io.BytesIO()
         recorder = run(shape, trace)
-        arranged = mixed(random.Random(shape.seed)) if shape.mixed else log_by_log
-        pathlib.Path(shape.out).write_bytes(in_logs(trace.getvalue(), arranged))
+        arrange = mixed(random.Random(shape.seed)) if shape.mixed else log_by_log
+        pathlib.Path(shape.out).write_bytes(rearranged(trace.getvalue(), arrange))
     else:
         recorder = run(shape, shape.out)
     if shape.config:

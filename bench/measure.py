@@ -11,6 +11,8 @@ and with 4 workers to it, the ratio of four runs with 1 worker each at once to i
 most memory that the program held with 1 worker, and that over the size of the file. All take turns, so that
 each meets the same machine."""
 
+from __future__ import annotations
+
 import os
 import shutil
 import subprocess
@@ -18,6 +20,7 @@ import sys
 import tempfile
 import time
 from dataclasses import dataclass
+from typing import Callable, Sequence
 
 TURNS = 5
 WORKERS = (2, 4)
@@ -49,21 +52,23 @@ class Run:
     status: int
 
 
-def started(words):
+def started(words: Sequence[str]) -> int:
+    """The process that runs the program, without its output."""
     child = os.fork()
     if child == 0:
         os.dup2(os.open(os.devnull, os.O_WRONLY), 1)
-        os.execv(words[0], words)
+        os.execv(words[0], list(words))
     return child
 
 
-def run(words):
+def run(words: Sequence[str]) -> Run:
+    """Runs the program to its end."""
     start = time.monotonic()
     _, status, used = os.wait4(started(words), 0)
     return Run(used.ru_utime + used.ru_stime, time.monotonic() - start, used.ru_maxrss / 1024, status)
 
 
-def run_at_once(words):
+def run_at_once(words: Sequence[str]) -> float:
     """The seconds on the clock of so many runs that begin together, until the last has ended."""
     start = time.monotonic()
     for child in [started(words) for _ in range(AT_ONCE)]:
@@ -71,13 +76,13 @@ def run_at_once(words):
     return time.monotonic() - start
 
 
-def ratio(runs, others, time_of):
+def ratio(runs: Sequence[Run], others: Sequence[Run], time_of: Callable[[Run], float]) -> str:
     """The least time of the runs over that of the others, where these have one."""
     other = min(map(time_of, others))
     return f"{min(map(time_of, runs)) / other:.2f}" if other and all(r.status == 0 for r in others) else "none"
 
 
-def row(name, options, commands, work):
+def row(name: str, options: str, commands: Sequence[Sequence[str]], work: str) -> None:
     """The commands take turns; the first is the one that the row is about, the last are its runs with more workers."""
     trace, shape = work + "/trace.lfts", work + "/shape.toml"
     subprocess.run(
@@ -86,7 +91,8 @@ def row(name, options, commands, work):
         stdout=subprocess.DEVNULL,
     )
     words = {"trace": trace, "shape": shape}
-    runs, at_once = [[] for _ in commands], []
+    runs: list[list[Run]] = [[] for _ in commands]
+    at_once: list[float] = []
     for _ in range(TURNS):
         for own, command in zip(runs, commands):
             own.append(run([word.format(**words) for word in command]))
@@ -104,7 +110,7 @@ def row(name, options, commands, work):
     print(f"| {' | '.join(cells)} |", flush=True)
 
 
-def main():
+def main() -> None:
     checks = [[os.path.abspath(program), "check", "{shape}", "{trace}"] for program in sys.argv[1:3]]
     by_workers = [[*checks[0], "--workers", str(workers)] for workers in WORKERS]
     columns = ["events", "answer", "processor time", *["over before"] * (len(checks) - 1)]
