@@ -28,8 +28,8 @@ returns-in-Ok-view_pieces g c =
     let drawn = subst (λ (d : Drawing). IsDrawn d all.0 c.view_pieces.new.drawer) same all.1 in
     viewed_to_end drawing (account_of g.R.Read.remaining c.args.reader.now)
     (account_of g.R.Read.remaining c.view_pieces.new.source) (account_of g.W.Write.contents c.args.writer.now)
-    (account_of g.W.Write.contents c.view_pieces.new.writer) c.args.turns told.reads told.once told.read told.write all.0
-    drawn.read.are_bytes all.2 (subst (λ (d : Drawing). WentOut (account_of g.W.Write.contents c.args.writer.now)
+    (account_of g.W.Write.contents c.view_pieces.new.writer) c.args.turns told.reads told.once told.read told.write
+    all.0 drawn.read.are_bytes all.2 (subst (λ (d : Drawing). WentOut (account_of g.W.Write.contents c.args.writer.now)
     (account_of g.W.Write.contents c.view_pieces.new.writer) (wave_of d all.0)) same all.3) c.close.result
     (c.close.ensures drawing all.0 drawn)
 
