@@ -17,4 +17,6 @@ mod recording;
 #[cfg(test)]
 mod statistics;
 #[cfg(test)]
+mod tallies;
+#[cfg(test)]
 mod usage;

@@ -11,7 +11,7 @@ use std::alloc::Global;
 use std::test::Fail;
 
 /// One port and one bank. The levels change no count.
-fn shape() -> Shape
+pub fn shape() -> Shape
     ensures in_range { IsShape result }
     ensures ports { result.ports ≡ 1 }
     ensures banks { result.banks ≡ 1 }

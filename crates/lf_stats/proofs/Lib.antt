@@ -6,4 +6,11 @@ mod Waits
 pub mod Sizes
 pub mod Pushed
 pub mod Lines
+pub mod Queues
+pub mod Tallied
+pub mod Accepting
+mod Taken
+pub mod Complete
+pub mod Pieces
+pub mod Reading
 mod Examples

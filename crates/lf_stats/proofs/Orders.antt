@@ -6,12 +6,11 @@ use Rattle.std.specs.List.{count_by, slice_get}
 use Rattle.std.proofs.lemmas.List.{length-append, length-take, length-map}
 use Rattle.std.proofs.lemmas.List.Sums.{sum_by_push, count_by-le-length, length-filter}
 use Rattle.std.specs.Global.{Vec}
-use Rattle.std.specs.BTreeMap.{btree_map_len}
 use Rattle.lf_rules.specs.declared.shape.Shape.{Shape}
 use Rattle.lf_rules.specs.declared.event.Record.{Record}
 use Rattle.lf_rules.specs.declared.event.Event.{Event}
 use Rattle.lf_rules.specs.declared.event.Event.TheVariants.{Primary, Merge, Fill1}
-use Rattle.lf_stats.specs.declared.held.Held.{Held}
+use Rattle.lf_stats.specs.Standing.{Holding}
 use Rattle.lf_stats.specs.Standing.{AreAlike, IsHeld, named, next_of, registers_of}
 use Rattle.lf_stats.proofs.Distinct.{distinct-le-length}
 use Rattle.lf_stats.proofs.Holds.{count_is}
@@ -48,7 +47,7 @@ hold_le : (next : Option ℕ) (register : ℕ) (holds : List (ℕ × ℕ)) →
 hold_le None register holds = omega arith
 hold_le (Some block) register holds = omega (arith, length-append holds ((block, register) ∷ []))
 
-held_by_le : (next : ℕ → Option ℕ) (event : Event) (holds : List (ℕ × ℕ)) →
+pub held_by_le : (next : ℕ → Option ℕ) (event : Event) (holds : List (ℕ × ℕ)) →
     length (held_by next event holds) ≤ suc (length holds)
 held_by_le next (Primary port tag register) holds = hold_le (next port) register holds
 held_by_le next (Merge port tag register) holds = hold_le (next port) register holds
@@ -74,7 +73,7 @@ module _ (shape : Shape) (rs : List Record) (n : ℕ) (r : Record) (here : slice
   pub held_next : ((port : ℕ) → port < 256 → get_or (map (λ (v : Vec ℕ). v.items) blocks) port []
       ≡ issued shape port rs)
       → ((port : ℕ) → port < 256 → get_or counts port 0 ≡ accepted port (take n rs))
-      → (before after : Held)
+      → (before after : Holding)
       → ((next : ℕ → Option ℕ) (holds : List (ℕ × ℕ)) → AreAlike next (next_of blocks counts) → IsHeld before holds →
       IsHeld after (held_by next r.event holds))
       → IsHeld before (held shape rs n) → IsHeld after (held shape rs (n + 1))
@@ -87,8 +86,8 @@ module _ (shape : Shape) (rs : List Record) (n : ℕ) (r : Record) (here : slice
       subst (IsHeld after) (sym (held_at shape rs n r here)) (step (next_block shape rs n) (held shape rs n) alike now)
 
 -- so many registers are held at most
-pub registers_le : (kept : Held) (shape : Shape) (rs : List Record) (n : ℕ) → IsHeld kept (held shape rs n) →
-    btree_map_len kept.times.0 ≤ n
+pub registers_le : (kept : Holding) (shape : Shape) (rs : List Record) (n : ℕ) → IsHeld kept (held shape rs n) →
+    length kept.times ≤ n
 registers_le kept shape rs n told =
     let holds = held shape rs n in
     omega (
@@ -100,7 +99,7 @@ registers_le kept shape rs n told =
           shape rs n,
     )
 
-pub named_le : (kept : Held) (shape : Shape) (rs : List Record) (n register : ℕ) → IsHeld kept (held shape rs n) →
+pub named_le : (kept : Holding) (shape : Shape) (rs : List Record) (n register : ℕ) → IsHeld kept (held shape rs n) →
     named kept register ≤ n
 named_le kept shape rs n register told =
     let holds = held shape rs n in

@@ -1,12 +1,12 @@
 -- What is kept of the registers that are held.
 use Rattle.std.specs.Prelude.{◌≡◌, ℕ, ◌<◌, ◌==◌, List, [], map, filter, Option, Some, None, unwrap_or, slice_get}
-use Rattle.std.specs.Prelude.{slice_index, slice_index_or}
+use Rattle.std.specs.Prelude.{length, slice_index, slice_index_or}
 use Rattle.std.specs.Global.{Vec}
-use Rattle.std.specs.BTreeMap.{BTreeMap, get, btree_map_len}
+use Rattle.std.specs.BTreeMap.{BTreeMap, is_at}
+use Rattle.std.specs.Map.{lookup}
 use Rattle.std.specs.Ordering.{nat_cmp}
 use Rattle.lf_rules.specs.Numbers.{times}
 use Rattle.lf_stats.specs.declared.held.Times.{Times}
-use Rattle.lf_stats.specs.declared.held.Held.{Held}
 use Rattle.lf_stats.specs.Statistics.{distinct}
 
 abbrev pub registers_of : List (ℕ × ℕ) → List ℕ
@@ -20,8 +20,11 @@ abbrev pub items_in : Option (Vec ℕ) → List ℕ
 items_in None = []
 items_in (Some registers) = registers.items
 
+abbrev pub items_of : List (ℕ × Vec ℕ) → ℕ → List ℕ
+items_of entries block = items_in (lookup (is_at (nat_cmp block)) entries)
+
 abbrev pub items_at : BTreeMap ℕ (Vec ℕ) → ℕ → List ℕ
-items_at by_block block = items_in (get nat_cmp by_block block)
+items_at by_block block = items_of by_block.entries block
 
 -- a count is kept where it is not 0
 abbrev pub IsCount : Option ℕ → ℕ → Type 0
@@ -29,17 +32,25 @@ IsCount None n = n ≡ 0
 IsCount (Some k) n = (k ≡ n) × (0 < n)
 
 -- how often each of these registers is named, and how many registers are
-pub record AreTimes (kept : Times) (registers : List ℕ) : Type 0 where
-  pub each : (register : ℕ) → IsCount (get nat_cmp kept.0 register) (times register registers)
-  pub count : btree_map_len kept.0 ≡ distinct registers
+pub record AreTimesIn (entries : List (ℕ × ℕ)) (registers : List ℕ) : Type 0 where
+  pub each : (register : ℕ) → IsCount (lookup (is_at (nat_cmp register)) entries) (times register registers)
+  pub count : length entries ≡ distinct registers
 
-abbrev pub named : Held → ℕ → ℕ
-named held register = unwrap_or (get nat_cmp held.times.0 register) 0
+abbrev pub AreTimes : Times → List ℕ → Type 0
+AreTimes kept registers = AreTimesIn kept.0.entries registers
+
+-- what is kept of the registers that are held: for each block those that its misses named, and how often each is named
+pub record Holding : Type 0 where
+  pub by_block : List (ℕ × Vec ℕ)
+  pub times : List (ℕ × ℕ)
+
+abbrev pub named : Holding → ℕ → ℕ
+named held register = unwrap_or (lookup (is_at (nat_cmp register)) held.times) 0
 
 -- what is kept tells of these blocks, each with a register that is held for it
-pub record IsHeld (held : Held) (holds : List (ℕ × ℕ)) : Type 0 where
-  pub blocks : (block : ℕ) → items_at held.by_block block ≡ held_for block holds
-  pub times : AreTimes held.times (registers_of holds)
+pub record IsHeld (held : Holding) (holds : List (ℕ × ℕ)) : Type 0 where
+  pub blocks : (block : ℕ) → items_of held.by_block block ≡ held_for block holds
+  pub times : AreTimesIn held.times (registers_of holds)
 
 -- the block that is accepted next of each port
 abbrev pub next_of : List (Vec ℕ) → List ℕ → ℕ → Option ℕ

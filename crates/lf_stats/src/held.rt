@@ -1,8 +1,9 @@
 //! Which registers are held.
 
-ghost use Rattle.std.specs.Prelude.{◌≡◌, ℕ, ◌+◌, ◌<◌, ◌^◌, List, [], ◌∷◌, ◌++◌, not, ◌==◌, filter, Some, unwrap_or};
+ghost use Rattle.std.specs.Prelude.{◌≡◌, ℕ, ◌+◌, ◌<◌, ◌^◌, List, [], ◌∷◌, ◌++◌, not, ◌==◌, filter};
+ghost use Rattle.std.specs.Prelude.{length, Some, unwrap_or};
 ghost use Rattle.std.specs.Prelude.{OnOk, if◌then◌else◌};
-ghost use Rattle.std.specs.BTreeMap.{get, btree_map_len};
+ghost use Rattle.std.specs.BTreeMap.{get};
 ghost use Rattle.std.specs.Ordering.{nat_cmp};
 ghost use Rattle.lf_stats.specs.Standing.{AreTimes, items_at};
 ghost use Rattle.lf_stats.specs.Statistics.{distinct};
@@ -10,6 +11,7 @@ ghost use Rattle.lf_stats.specs.Statistics.{distinct};
 use lf_rules::NoMemory;
 use std::alloc::Global;
 use std::collections::BTreeMap;
+use std::marker::Model;
 
 /// How often each register is named.
 #[derive(Drop)]
@@ -77,6 +79,14 @@ pub(crate) struct Held {
     times: Times,
 }
 
+impl Model for Held {
+    ghost use Rattle.lf_stats.specs.Standing.{Holding};
+
+    ghost Value = { Holding };
+
+    ghost view = { λ h. record { by_block = h.by_block.entries; times = h.times.0.entries } };
+}
+
 impl Held {
     ghost use Rattle.lf_stats.specs.Standing.{IsHeld, named, registers_of};
 
@@ -113,7 +123,7 @@ impl Held {
 
     /// How many registers are held.
     pub fn distinct(&self) -> u32
-        requires few { btree_map_len self.now.times.0 < 2 ^ 32 }
+        requires few { length self.now.times < 2 ^ 32 }
         ensures { (holds : List (ℕ × ℕ)) → IsHeld self.now holds → result ≡ distinct (registers_of holds) }
     {
         self.times.0.len() as u32

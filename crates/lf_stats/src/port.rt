@@ -9,10 +9,10 @@ use lf_logs::{LogRecords, Place};
 use lf_rules::Event;
 
 /// As many as there are tags.
-const TAGS: usize = 256;
+pub(crate) const TAGS: usize = 256;
 
 /// What waits after the event.
-fn note(waits: &mut [bool; TAGS], event: &Event)
+pub(crate) fn note(waits: &mut [bool; TAGS], event: &Event)
     ensures len { length waits.new ≡ length waits.old }
     ensures waits { (tag : ℕ) → tag < 256 → slice_index_or waits.new tag false
         ≡ waits_after tag (slice_index_or waits.old tag false) event.now }
@@ -44,7 +44,7 @@ fn waits_at<L: LogRecords>(logs: &L, port: u8) -> [bool; TAGS]
     waits
 }
 
-fn count(waits: &[bool]) -> usize
+pub(crate) fn count(waits: &[bool]) -> usize
     ensures { result ≡ length (filter (λ waits. waits) waits.now) }
 {
     waits.iter().filter(|waits| **waits).count()

@@ -32,7 +32,7 @@ fn of_bank<L: LogRecords>(
 }
 
 /// Counts over the records of a trace, however they are kept, whose banks' numbers are whole.
-pub fn stats_of<L: LogRecords>(alloc: Global, shape: &Shape, logs: &L) -> Result<Stats, NoMemory>
+fn stats_of<L: LogRecords>(alloc: Global, shape: &Shape, logs: &L) -> Result<Stats, NoMemory>
     requires in_range { IsShape shape.now }
     requires logs { length (L.lists logs.now) ≡ shape.now.ports + shape.now.banks }
     requires short { All (λ log. length log ≤ 2 ^ 24) (L.lists logs.now) }

@@ -1,10 +1,11 @@
-use Rattle.std.proofs.Common.{[], ◌∷◌, ◌++◌, cond, eqb, sym, ap, ◌∙◌}
-use Rattle.lf_stats.specs.Standing.{registers_of}
+use Rattle.std.proofs.Common.{[], ◌∷◌, ◌++◌, cond, eqb, sym, ap, ◌∙◌, subst}
+use Rattle.lf_stats.specs.Standing.{Holding, IsHeld, registers_of}
 use Rattle.lf_stats.proofs.Holds.{times_same, registers_push, held_for_push}
 use Rattle.lf_stats.proofs.held.Held.hold.Goals as goal
 
 pub returns : goal.returns
-returns c holds told =
+returns c holds held =
+    let told = subst (λ (h : Holding). IsHeld h holds) (sym c.self.view_is) held in
     let block = c.args.block in
     let register = c.args.register in
     record {
