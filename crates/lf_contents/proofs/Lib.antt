@@ -1,3 +1,3 @@
-mod Split
+pub mod Split
 mod Taken
 mod Within

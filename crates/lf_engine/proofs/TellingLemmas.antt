@@ -1,19 +1,25 @@
 -- Laws of what a run for statistics or for the coverage comes to and tells.
 use Rattle.std.proofs.Common.{◌≡◌, ℕ, List, Option, None, Some, Result, Ok, Err, IfOk, String, string_bytes, sym, ap}
-use Rattle.std.proofs.Common.{◌∙◌, subst, refl, inl, inr}
+use Rattle.std.proofs.Common.{◌∙◌, subst, refl, inl, inr, ◌⊎◌, ⊎_elim, OnErr}
 use Rattle.std.specs.Global.{Global}
 use Rattle.lf_rules.specs.declared.shape.Shape.{Shape}
+use Rattle.lf_rules.specs.InRange.{IsShape}
+use Rattle.lf_config.specs.Configuration.{configuration_of}
 use Rattle.lf_verdict.specs.declared.answer.Verdict.{Verdict}
 use Rattle.lf_verdict.specs.declared.answer.Verdict.TheVariants.{Yes, No, Refused}
+use Rattle.lf_verdict.specs.declared.answer.Refusal.TheVariants.{Memory}
 use Rattle.lf_verdict.specs.Verdict.{IsDecided, IsVerdictOf}
 use Rattle.lf_stream.specs.Account.{Account}
 use Rattle.lf_engine.specs.declared.fault.RunFault.{RunFault}
 use Rattle.lf_engine.specs.declared.report.Report.{Report}
+use Rattle.lf_engine.specs.declared.report.Tallied.{Tallied}
 use Rattle.lf_engine.specs.declared.report.Wanted.{Wanted}
+use Rattle.lf_engine.specs.declared.report.Wanted.TheVariants.{Statistics}
 use Rattle.lf_contents.specs.Logs.{IsCountable}
-use Rattle.lf_engine.specs.Report.{IsWritten, IsYesVerdict, HasLinesIfYes, verdict_in, FollowsLines}
+use Rattle.lf_engine.specs.Report.{ArePrintedFor, IsTallyOf, IsTalliedRead, IsWritten, IsYesVerdict, HasLinesFor}
+use Rattle.lf_engine.specs.Report.{HasLinesIfYes, verdict_in, FollowsLines}
 use Rattle.lf_engine.specs.Report.{FollowsReport, lines_or, report_text}
-use Rattle.lf_engine.specs.Run.{Follows, outcome_line}
+use Rattle.lf_engine.specs.Run.{Follows, IsOutcome, Reads, outcome_line}
 
 -- A trace whose verdict is a yes can be counted.
 pub countable_yes : (shape : Shape) (bytes : List ℕ) (v : Verdict) → IsYesVerdict v → IsVerdictOf shape 1 bytes v →
@@ -32,6 +38,90 @@ pub judged_yes : (v : Verdict) → IsYesVerdict v → IsDecided v
 judged_yes (Yes events order) is = tt
 judged_yes (No f) is = absurd is
 judged_yes (Refused f) is = absurd is
+
+-- ---- a yes and its lines
+
+module _ {E : Type 0} (v : Verdict) (lines : Result (String Global) E) (report : Report)
+    (told : IfOk lines (λ text. report ≡ record { verdict = v; lines = Some text }))
+    (refused : OnErr lines (report ≡ record { verdict = Refused Memory; lines = None })) where
+  pub follows_with : Follows (Ok v) (Ok report.verdict)
+  follows_with = go lines told refused
+    where
+      go : (r : Result (String Global) E) → IfOk r (λ text. report ≡ record { verdict = v; lines = Some text })
+          → OnErr r (report ≡ record { verdict = Refused Memory; lines = None }) → Follows (Ok v) (Ok report.verdict)
+      go (Ok text) told refused = inl (ap (λ (r : Report). r.verdict) told)
+      go (Err e) told refused = inr (ap (λ (r : Report). r.verdict) refused)
+
+  pub lines_with : (wanted : Wanted) (shape : Shape) (bytes : List ℕ) → IsYesVerdict v
+      → IfOk lines (λ text. ArePrintedFor wanted shape bytes (string_bytes text))
+      → HasLinesFor wanted shape bytes report.verdict report.lines
+  lines_with wanted shape bytes is printed = go lines told refused printed
+    where
+      go : (r : Result (String Global) E) → IfOk r (λ text. report ≡ record { verdict = v; lines = Some text })
+          → OnErr r (report ≡ record { verdict = Refused Memory; lines = None })
+          → IfOk r (λ text. ArePrintedFor wanted shape bytes (string_bytes text))
+          → HasLinesFor wanted shape bytes report.verdict report.lines
+      go (Ok text) told refused printed =
+          subst (λ (r : Report). HasLinesFor wanted shape bytes r.verdict r.lines) (sym told) (is, printed)
+      go (Err e) told refused printed =
+          subst (λ (r : Report). HasLinesFor wanted shape bytes r.verdict r.lines) (sym refused) (λ no. no)
+
+-- ---- what a run came to, once its lines are made
+
+module _ (old new : Account) (asked : Type 0) (IsLegal : List ℕ → List ℕ → Type 0)
+    (IsVerdict : List ℕ → Verdict → Type 0) (turns : ℕ) (v : Verdict)
+    (judged : IsOutcome old new asked IsLegal IsVerdict turns (Ok v)) where
+  refused_outcome : IsOutcome old new asked IsLegal IsVerdict turns (Ok (Refused Memory))
+  refused_outcome = record {
+    reads = judged.reads;
+    unread = judged.unread;
+    once = judged.once;
+    verdict = λ decided. absurd decided;
+    legal = tt;
+    no_thread = λ e. cc;
+    read = (λ e. absurd (cc), λ failed. let bad = judged.read.1 failed in absurd (cc));
+    turned = λ e. absurd (cc);
+    sound = tt;
+    no_write = λ e. cc;
+  }
+
+  pub outcome_with : (w : Verdict) → Follows (Ok v) (Ok w) → IsOutcome old new asked IsLegal IsVerdict turns (Ok w)
+  outcome_with w (inl same) =
+      subst (λ (x : Verdict). IsOutcome old new asked IsLegal IsVerdict turns (Ok x)) (sym same) judged
+  outcome_with w (inr memory) =
+      subst (λ (x : Verdict). IsOutcome old new asked IsLegal IsVerdict turns (Ok x)) (sym memory) refused_outcome
+
+-- ---- what was counted
+
+yes_or : (v : Verdict) → IsYesVerdict v ⊎ ¬ IsYesVerdict v
+yes_or (Yes events order) = inl tt
+yes_or (No f) = inr (λ is. is)
+yes_or (Refused f) = inr (λ is. is)
+
+printed_if : (wanted : Wanted) (shape : Shape) (old new : Account) (config bytes : List ℕ) (v : Verdict)
+    (lines : Option (String Global)) → configuration_of config ≡ Ok shape → Reads old new bytes
+    → HasLinesFor wanted shape bytes v lines → HasLinesIfYes wanted old new config v lines
+printed_if wanted shape old new config bytes v (Some text) configured reads has = (
+  has.0,
+  record { bytes = bytes; reads = reads; shape = shape; configured = configured; printed = has.1 },
+)
+printed_if wanted shape old new config bytes v None configured reads has = has
+
+-- The lines of what was read and counted go with a yes.
+pub counted_lines : (shape : Shape) (old new : Account) (config : List ℕ) (t : Tallied) (report : Report)
+    → IsShape shape → configuration_of config ≡ Ok shape → (IsDecided t.verdict → IsTalliedRead shape old new t)
+    → ((shape : Shape) (bytes : List ℕ) → IsShape shape → IsYesVerdict t.verdict → IsVerdictOf shape 1 bytes t.verdict
+    → IsTallyOf shape bytes t.tally → HasLinesFor Statistics shape bytes report.verdict report.lines)
+    → (¬ IsYesVerdict t.verdict → report ≡ record { verdict = t.verdict; lines = None })
+    → HasLinesIfYes Statistics old new config report.verdict report.lines
+counted_lines shape old new config t report in_range configured read lines other = ⊎_elim
+    (λ (is : IsYesVerdict t.verdict).
+    let all = read (judged_yes t.verdict is) in
+    printed_if Statistics shape old new config all.bytes report.verdict report.lines configured all.reads
+    (lines shape all.bytes in_range is all.verdict all.counted))
+    (λ (other_is : ¬ IsYesVerdict t.verdict).
+    subst (λ (r : Report). HasLinesIfYes Statistics old new config r.verdict r.lines) (sym (other other_is)) other_is)
+    (yes_or t.verdict)
 
 follows_lines : (lines : Option (String Global)) (v : Verdict) (said : Result Verdict RunFault) →
     FollowsLines lines v said → Follows (Ok v) said

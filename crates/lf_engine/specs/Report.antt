@@ -8,6 +8,7 @@ use Rattle.lf_config.specs.Configuration.{configuration_of}
 use Rattle.lf_stats.specs.declared.counts.Stats.{Stats}
 use Rattle.lf_stats.specs.Answer.{AreStats}
 use Rattle.lf_stats.specs.Text.{stats_text}
+use Rattle.lf_stats.specs.TraceTally.{Counting, HasCounted}
 use Rattle.lf_coverage.specs.declared.coverage.Coverage.{Coverage}
 use Rattle.lf_coverage.specs.Coverage.{IsCoverage}
 use Rattle.lf_coverage.specs.Text.{coverage_text}
@@ -15,10 +16,14 @@ use Rattle.lf_coverage.specs.Data.{data_text}
 use Rattle.lf_verdict.specs.declared.answer.Verdict.{Verdict}
 use Rattle.lf_verdict.specs.declared.answer.Verdict.TheVariants.{Yes}
 use Rattle.lf_verdict.specs.Legal.{IsTraceFor}
+use Rattle.lf_verdict.specs.Verdict.{IsVerdictOf}
 use Rattle.lf_stream.specs.Account.{Account}
 use Rattle.lf_engine.specs.declared.fault.RunFault.{RunFault}
+use Rattle.lf_engine.specs.declared.report.CoverageForm.{CoverageForm}
+use Rattle.lf_engine.specs.declared.report.CoverageForm.TheVariants as forms
 use Rattle.lf_engine.specs.declared.report.Judged.{Judged}
 use Rattle.lf_engine.specs.declared.report.Report.{Report}
+use Rattle.lf_engine.specs.declared.report.Tallied.{Tallied}
 use Rattle.lf_engine.specs.declared.report.Wanted.{Wanted}
 use Rattle.lf_engine.specs.declared.report.Wanted.TheVariants as wants
 use Rattle.lf_engine.specs.Run.{Reads, Follows, outcome_line}
@@ -53,6 +58,11 @@ pub record AreDataLines (shape : Shape) (bytes text : List ℕ) : Type 0 where
   pub covered : IsCoverageOf shape bytes coverage
   pub lines : text ≡ data_text coverage
 
+-- the coverage in this form
+abbrev pub wanted_of : CoverageForm → Wanted
+wanted_of forms.Lines = wants.Coverage
+wanted_of forms.Data = wants.Data
+
 abbrev pub ArePrintedFor : Wanted → Shape → List ℕ → List ℕ → Type 0
 ArePrintedFor wants.Statistics shape bytes text = AreStatisticsLines shape bytes text
 ArePrintedFor wants.Coverage shape bytes text = AreCoverageLines shape bytes text
@@ -74,6 +84,18 @@ IsWritten wanted old new config answer text = text ≡ outcome_line answer
 
 -- ---- before it is written
 
+-- what was counted of these bytes
+abbrev pub IsTallyOf : Shape → List ℕ → Option Counting → Type 0
+IsTallyOf shape bytes (Some tally) = HasCounted shape bytes tally
+IsTallyOf shape bytes None = ⊥
+
+-- The verdict is that of the bytes that the reader answered, and they were counted.
+pub record IsTalliedRead (shape : Shape) (old new : Account) (t : Tallied) : Type 0 where
+  pub bytes : List ℕ
+  pub reads : Reads old new bytes
+  pub verdict : IsVerdictOf shape 1 bytes t.verdict
+  pub counted : IsTallyOf shape bytes t.tally
+
 abbrev pub IsYesVerdict : Verdict → Type 0
 IsYesVerdict (Yes events order) = Unit {0}
 IsYesVerdict _ = ⊥
@@ -94,6 +116,10 @@ HasLinesIfYes wanted old new config verdict None = ¬ IsYesVerdict verdict
 abbrev pub judged_in : Result Judged RunFault → Result Verdict RunFault
 judged_in (Ok judged) = Ok judged.verdict
 judged_in (Err fault) = Err fault
+
+abbrev pub tallied_in : Result Tallied RunFault → Result Verdict RunFault
+tallied_in (Ok tallied) = Ok tallied.verdict
+tallied_in (Err fault) = Err fault
 
 abbrev pub verdict_in : Result Report RunFault → Result Verdict RunFault
 verdict_in (Ok report) = Ok report.verdict

@@ -1,9 +1,9 @@
 //! The engine of the scoreboard: a trace comes from a reader, is judged while it is read, and the line
 //! of its verdict goes to a writer.
 //!
-//! `run` judges for the text of a configuration, `run_shape` for a shape. `run_check` judges as `run` does, but asks for
-//! no order. `run_stats` also counts over a trace that is legal, and writes the lines of its statistics, `run_cover`
-//! those of its coverage, and `run_cover_data` the coverage as a file of Verilator.
+//! `run` judges for the text of a configuration, `run_shape` for a shape. `run_check` judges as `run` does, but asks
+//! for no order. `run_stats` also counts over a trace that is legal, and writes the lines of its statistics,
+//! `run_cover` those of its coverage, and `run_cover_data` the coverage as a file of Verilator.
 //! `run_complete` asks whether each request of a legal trace has a reply. `run_explain` also writes why the
 //! verdict is what it is, and `run_explain_json` the same as JSON. `run_watch` reads no further than to the piece with
 //! which a trace broke for good.
@@ -24,6 +24,7 @@ mod keeping;
 mod line;
 mod report;
 mod statistics;
+mod tallying;
 mod watch;
 mod watching;
 

@@ -1,18 +1,23 @@
-//! The statistics and the coverage of a trace that was kept.
+//! The statistics of a trace that was counted, and the coverage of a trace that was kept.
 
-ghost use Rattle.std.specs.Prelude.{◌≡◌, IfOk, string_bytes};
+ghost use Rattle.std.specs.Prelude.{◌≡◌, ℕ, List, IfOk, string_bytes};
 ghost use Rattle.lf_rules.specs.InRange.{IsShape};
+ghost use Rattle.lf_rules.specs.declared.shape.Shape.{Shape};
 ghost use Rattle.lf_stats.specs.Text.{stats_text};
+ghost use Rattle.lf_stats.specs.TraceTally.{HasCounted};
 ghost use Rattle.lf_coverage.specs.Text.{coverage_text};
 ghost use Rattle.lf_coverage.specs.Data.{data_text};
 ghost use Rattle.lf_contents.specs.Logs.{IsCountable};
-ghost use Rattle.lf_engine.specs.Report.{AreStatisticsOf, AreStatisticsLines, IsCoverageOf, AreCoverageLines};
-ghost use Rattle.lf_engine.specs.Report.{AreDataLines, ArePrintedFor};
+ghost use Rattle.lf_verdict.specs.Verdict.{IsVerdictOf};
+ghost use Rattle.lf_verdict.specs.declared.answer.Verdict.{Verdict};
+ghost use Rattle.lf_engine.specs.Report.{AreStatisticsLines, IsCoverageOf, AreCoverageLines, AreDataLines};
+ghost use Rattle.lf_engine.specs.Report.{ArePrintedFor, IsYesVerdict, wanted_of};
 
+use lf_codec::one_trace;
 use lf_contents::packed_logs_in;
 use lf_coverage::{Coverage, CoverageData, cover};
-use lf_rules::{NoMemory, Shape};
-use lf_stats::{Stats, stats_of};
+use lf_rules::{NoMemory, Shape, numbers_are_whole};
+use lf_stats::{Stats, TraceTally, slice_runs_accept_issued};
 use lf_verdict::{Broken, Incomplete, Verdict};
 use std::alloc::{AllocError, Global};
 
@@ -22,6 +27,14 @@ pub enum Wanted {
     Statistics,
     Coverage,
     /// The coverage as Verilator's file `coverage.dat` has it.
+    Data,
+}
+
+/// How the coverage is written.
+#[derive(Clone, Copy)]
+pub enum CoverageForm {
+    Lines,
+    /// As Verilator's file `coverage.dat`.
     Data,
 }
 
@@ -36,21 +49,18 @@ pub struct Judged {
     pub incomplete: Option<Incomplete>,
 }
 
+/// A verdict, and what was counted of the trace that it is of. Nothing is, where memory ran out or it was not read.
+#[derive(Drop)]
+pub struct Tallied {
+    pub verdict: Verdict,
+    pub tally: Option<TraceTally>,
+}
+
 /// What a run came to: a verdict, and the lines that are told of it, where there are any.
 #[derive(Drop)]
 pub struct Report {
     pub verdict: Verdict,
     pub lines: Option<String>,
-}
-
-/// The statistics of the trace in these bytes.
-fn statistics_of(alloc: Global, shape: &Shape, bytes: &[u8]) -> Result<Stats, NoMemory>
-    requires in_range { IsShape shape.now }
-    requires countable { IsCountable shape.now bytes.now }
-    ensures { IfOk result (AreStatisticsOf shape.now bytes.now) }
-{
-    let logs = packed_logs_in(alloc, shape, bytes)?;
-    stats_of(alloc, shape, &logs)
 }
 
 /// The coverage of the trace in these bytes.
@@ -82,13 +92,16 @@ fn text_of_data(alloc: Global, coverage: &Coverage) -> Result<String, AllocError
     format!(in alloc; "{shown}")
 }
 
-/// The lines of the statistics of the trace in these bytes.
-fn statistics_lines(alloc: Global, shape: &Shape, bytes: &[u8]) -> Result<String, NoMemory>
-    requires in_range { IsShape shape.now }
-    requires countable { IsCountable shape.now bytes.now }
-    ensures { IfOk result (λ text. AreStatisticsLines shape.now bytes.now (string_bytes text)) }
+/// The lines of the statistics of the trace that was counted.
+pub fn statistics_lines(alloc: Global, tally: &TraceTally) -> Result<String, NoMemory>
+    ensures { (shape : Shape) (bytes : List ℕ) (verdict : Verdict) → IsShape shape → HasCounted shape bytes tally.now
+        → IsYesVerdict verdict → IsVerdictOf shape 1 bytes verdict
+        → IfOk result (λ text. AreStatisticsLines shape bytes (string_bytes text)) }
 {
-    let counts = statistics_of(alloc, shape, bytes)?;
+    numbers_are_whole();
+    one_trace();
+    slice_runs_accept_issued();
+    let counts = tally.stats(alloc)?;
     match text_of(alloc, &counts) {
         Ok(text) => Ok(text),
         Err(_) => Err(NoMemory),
@@ -121,20 +134,19 @@ fn data_lines(alloc: Global, shape: &Shape, bytes: &[u8]) -> Result<String, NoMe
     }
 }
 
-/// The lines that are wanted of the trace in these bytes.
-pub fn lines_of(
+/// The coverage that is wanted of the trace in these bytes.
+pub fn covered_lines(
     alloc: Global,
     shape: &Shape,
     bytes: &[u8],
-    wanted: Wanted,
+    form: CoverageForm,
 ) -> Result<String, NoMemory>
     requires in_range { IsShape shape.now }
     requires countable { IsCountable shape.now bytes.now }
-    ensures { IfOk result (λ text. ArePrintedFor wanted shape.now bytes.now (string_bytes text)) }
+    ensures { IfOk result (λ text. ArePrintedFor (wanted_of form) shape.now bytes.now (string_bytes text)) }
 {
-    match wanted {
-        Wanted::Statistics => statistics_lines(alloc, shape, bytes),
-        Wanted::Coverage => coverage_lines(alloc, shape, bytes),
-        Wanted::Data => data_lines(alloc, shape, bytes),
+    match form {
+        CoverageForm::Lines => coverage_lines(alloc, shape, bytes),
+        CoverageForm::Data => data_lines(alloc, shape, bytes),
     }
 }

@@ -1,9 +1,12 @@
 //! Reads the bytes of a trace, judges them, and writes their statistics or their coverage.
 
-ghost use Rattle.std.specs.Prelude.{◌≡◌, ◌≢◌, ◌<◌, ◌↔◌, ℕ, List, take, Ok, Err, IfOk, IsErrOf, Result};
+ghost use Rattle.std.specs.Prelude.{◌≡◌, ◌≢◌, ◌<◌, ◌↔◌, ℕ, List, take, Some, None, Ok, Err, IfOk, OnErr, IsErrOf};
+ghost use Rattle.std.specs.Prelude.{Result};
 ghost use Rattle.lf_rules.specs.InRange.{IsShape};
+ghost use Rattle.lf_rules.specs.declared.shape.Shape.{Shape};
 ghost use Rattle.lf_config.specs.Configuration.{configuration_of};
 ghost use Rattle.lf_verdict.specs.declared.answer.Verdict.{Verdict};
+ghost use Rattle.lf_verdict.specs.declared.answer.Verdict.TheVariants.{Refused};
 ghost use Rattle.lf_verdict.specs.declared.answer.Refusal.{Refusal};
 ghost use Rattle.lf_verdict.specs.Incomplete.{IsIncompleteFor};
 ghost use Rattle.lf_verdict.specs.Verdict.{IsWorkerCount, IsDecided, IsVerdictOf};
@@ -13,16 +16,20 @@ ghost use Rattle.lf_stream.specs.Account.{WentOut};
 ghost use Rattle.lf_stream.specs.Counted.{calls_of, failures_of, account_of};
 ghost use Rattle.lf_engine.specs.declared.fault.RunFault.{RunFault};
 ghost use Rattle.lf_why.specs.NotLegal.{IsEarliestIf};
-ghost use Rattle.lf_engine.specs.Report.{HasLinesFor, HasLinesIfYes, IsWritten};
-ghost use Rattle.lf_engine.specs.Report.{judged_in, verdict_in, FollowsReport, report_text};
+ghost use Rattle.lf_engine.specs.Report.{HasLinesFor, HasLinesIfYes, IsTallyOf, IsTalliedRead, IsWritten, IsYesVerdict};
+ghost use Rattle.lf_engine.specs.Report.{judged_in, tallied_in, verdict_in, FollowsReport, report_text, wanted_of};
 ghost use Rattle.lf_engine.specs.Run.{IsAsked, IsOutcome, Reads, Follows, IsRunWriting};
 
 use crate::engine::{PIECE, shape_for, tell};
 use crate::fault::{RunFault, stopped};
 use crate::keeping::Keeping;
-use crate::report::{Judged, Report, Wanted, lines_of};
+use crate::report::{
+    CoverageForm, Judged, Report, Tallied, Wanted, covered_lines, statistics_lines,
+};
+use crate::tallying::Tallying;
 use lf_codec::{exact_reading, fault_so_far, faults_stand};
-use lf_rules::Shape;
+use lf_rules::{NoMemory, Shape};
+use lf_stats::TraceTally;
 use lf_stream::{Counted, Source, gather, put, zeros};
 use lf_verdict::{Refusal, Session, Verdict, no_has_no_run};
 use std::alloc::Global;
@@ -83,32 +90,154 @@ pub fn judge_and_keep<T: AllocGlobal, S: Source>(
     }
 }
 
-/// The lines that are wanted go with a yes. Where they are refused memory, that is the verdict.
-fn report_of(alloc: Global, shape: &Shape, bytes: &[u8], verdict: Verdict, wanted: Wanted) -> Report
-    requires shape { IsShape shape.now }
-    requires judged { IsDecided verdict → IsVerdictOf shape.now 1 bytes.now verdict }
-    ensures follows { Follows (Ok verdict) (Ok result.verdict) }
-    ensures lines { HasLinesFor wanted shape.now bytes.now result.verdict result.lines }
+/// A verdict without lines.
+fn no_lines(verdict: Verdict) -> Report
+    ensures verdict { result.verdict ≡ verdict }
+    ensures lines { result.lines ≡ None }
 {
-    if !matches!(&verdict, Verdict::Yes { .. }) {
-        return Report {
-            verdict,
-            lines: None,
-        };
+    Report {
+        verdict,
+        lines: None,
     }
-    match lines_of(alloc, shape, bytes, wanted) {
+}
+
+/// A yes and its lines. Where these are refused memory, that is the verdict.
+fn yes_with(verdict: Verdict, lines: Result<String, NoMemory>) -> Report
+    ensures told { IfOk lines (λ text. result ≡ record { verdict = verdict; lines = Some text }) }
+    ensures refused { OnErr lines (result ≡ record { verdict = Refused Refusal.Memory; lines = None }) }
+{
+    match lines {
         Ok(text) => Report {
             verdict,
             lines: Some(text),
         },
-        Err(_) => Report {
-            verdict: Verdict::Refused(Refusal::Memory),
-            lines: None,
-        },
+        Err(_) => no_lines(Verdict::Refused(Refusal::Memory)),
+    }
+}
+
+/// A verdict, with the statistics of what was counted where it is a yes.
+fn counted_report(alloc: Global, tallied: Tallied) -> Report
+    ensures follows { Follows (Ok tallied.verdict) (Ok result.verdict) }
+    ensures yes { (shape : Shape) (bytes : List ℕ) → IsShape shape → IsYesVerdict tallied.verdict
+        → IsVerdictOf shape 1 bytes tallied.verdict → IsTallyOf shape bytes tallied.tally
+        → HasLinesFor Wanted.Statistics shape bytes result.verdict result.lines }
+    ensures other { ¬ IsYesVerdict tallied.verdict → result ≡ record { verdict = tallied.verdict; lines = None } }
+{
+    let Tallied { verdict, tally } = tallied;
+    if !matches!(&verdict, Verdict::Yes { .. }) {
+        return no_lines(verdict);
+    }
+    match tally {
+        Some(tally) => yes_with(verdict, statistics_lines(alloc, &tally)),
+        None => no_lines(verdict),
+    }
+}
+
+/// A verdict, with the coverage of the bytes where it is a yes.
+fn covered_report(
+    alloc: Global,
+    shape: &Shape,
+    bytes: &[u8],
+    verdict: Verdict,
+    form: CoverageForm,
+) -> Report
+    requires shape { IsShape shape.now }
+    requires judged { IsDecided verdict → IsVerdictOf shape.now 1 bytes.now verdict }
+    ensures follows { Follows (Ok verdict) (Ok result.verdict) }
+    ensures lines { HasLinesFor (wanted_of form) shape.now bytes.now result.verdict result.lines }
+{
+    if !matches!(&verdict, Verdict::Yes { .. }) {
+        return no_lines(verdict);
+    }
+    yes_with(verdict, covered_lines(alloc, shape, bytes, form))
+}
+
+/// A verdict for which nothing was counted.
+fn untallied(verdict: Verdict) -> Tallied
+    ensures { result ≡ record { verdict = verdict; tally = None } }
+{
+    Tallied {
+        verdict,
+        tally: None,
+    }
+}
+
+/// Reads, judges and counts. Nothing that was read is kept.
+fn judge_and_count<T: AllocGlobal, S: Source>(
+    rt: &T,
+    source: &mut S,
+    shape: &Shape,
+    turns: u32,
+) -> Result<Tallied, RunFault>
+    requires calls { (S.account source.old).calls ≡ 0 }
+    requires failures { (S.account source.old).failures ≡ 0 }
+    requires shape { IsShape shape.now }
+    ensures outcome { IsOutcome (S.account source.old) (S.account source.new)
+        (IsWorkerCount 1) (IsLegal shape.now) (IsVerdictOf shape.now 1) turns (tallied_in result) }
+    ensures tallied { IfOk result (λ t. IsDecided t.verdict →
+        IsTalliedRead shape.now (S.account source.old) (S.account source.new) t) }
+{
+    fault_so_far();
+    let Ok(tally) = TraceTally::new(rt.alloc(), shape) else {
+        return Ok(untallied(Verdict::Refused(Refusal::Memory)));
+    };
+    let Ok(mut buffer) = zeros(rt.alloc(), PIECE) else {
+        return Ok(untallied(Verdict::Refused(Refusal::Memory)));
+    };
+    let session = Session::for_shape(rt.alloc(), shape);
+    let mut tallying = Tallying { session, tally };
+    match gather(source, buffer.as_mut_slice(), &mut tallying, turns) {
+        Ok(()) => {
+            let Tallying { session, tally } = tallying;
+            Ok(Tallied {
+                verdict: session.finish(),
+                tally: Some(tally),
+            })
+        }
+        Err(stop) => Ok(untallied(stopped(stop)?)),
     }
 }
 
 /// Reads, judges and counts for the shape.
+fn count_for<T: AllocGlobal, S: Source>(
+    rt: &T,
+    source: &mut S,
+    shape: &Shape,
+    turns: u32,
+) -> Result<Report, RunFault>
+    requires calls { (S.account source.old).calls ≡ 0 }
+    requires failures { (S.account source.old).failures ≡ 0 }
+    requires shape { IsShape shape.now }
+    ensures outcome { IsOutcome (S.account source.old) (S.account source.new)
+        (IsWorkerCount 1) (IsLegal shape.now) (IsVerdictOf shape.now 1) turns (verdict_in result) }
+    ensures lines { (config : List ℕ) → configuration_of config ≡ Ok shape.now → IfOk result (λ r. HasLinesIfYes
+        Wanted.Statistics (S.account source.old) (S.account source.new) config r.verdict r.lines) }
+{
+    let tallied = judge_and_count(rt, source, shape, turns)?;
+    Ok(counted_report(rt.alloc(), tallied))
+}
+
+/// Reads, judges and covers for the shape.
+fn cover_for<T: AllocGlobal, S: Source>(
+    rt: &T,
+    source: &mut S,
+    shape: &Shape,
+    turns: u32,
+    form: CoverageForm,
+) -> Result<Report, RunFault>
+    requires calls { (S.account source.old).calls ≡ 0 }
+    requires failures { (S.account source.old).failures ≡ 0 }
+    requires shape { IsShape shape.now }
+    ensures outcome { IsOutcome (S.account source.old) (S.account source.new)
+        (IsWorkerCount 1) (IsLegal shape.now) (IsVerdictOf shape.now 1) turns (verdict_in result) }
+    ensures lines { (config : List ℕ) → configuration_of config ≡ Ok shape.now → IfOk result (λ r. HasLinesIfYes
+        (wanted_of form) (S.account source.old) (S.account source.new) config r.verdict r.lines) }
+{
+    let Judged { verdict, bytes, .. } = judge_and_keep(rt, source, shape, turns)?;
+    Ok(covered_report(rt.alloc(), shape, bytes.as_slice(), verdict, form))
+}
+
+/// Reads, judges and writes down what is wanted, for the shape.
 fn report_for<T: AllocGlobal, S: Source>(
     rt: &T,
     source: &mut S,
@@ -124,8 +253,11 @@ fn report_for<T: AllocGlobal, S: Source>(
     ensures lines { (config : List ℕ) → configuration_of config ≡ Ok shape.now → IfOk result (λ r.
         HasLinesIfYes wanted (S.account source.old) (S.account source.new) config r.verdict r.lines) }
 {
-    let Judged { verdict, bytes, .. } = judge_and_keep(rt, source, shape, turns)?;
-    Ok(report_of(rt.alloc(), shape, bytes.as_slice(), verdict, wanted))
+    match wanted {
+        Wanted::Statistics => count_for(rt, source, shape, turns),
+        Wanted::Coverage => cover_for(rt, source, shape, turns, CoverageForm::Lines),
+        Wanted::Data => cover_for(rt, source, shape, turns, CoverageForm::Data),
+    }
 }
 
 /// Judges the configuration, and only then reads.
@@ -146,10 +278,7 @@ fn report_configured<T: AllocGlobal, S: Source>(
 {
     match shape_for(rt.alloc(), config, 1) {
         Ok(shape) => report_for(rt, source, &shape, turns, wanted),
-        Err(refusal) => Ok(Report {
-            verdict: Verdict::Refused(refusal),
-            lines: None,
-        }),
+        Err(refusal) => Ok(no_lines(Verdict::Refused(refusal))),
     }
 }
 
