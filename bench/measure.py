@@ -8,8 +8,8 @@ A row for each trace: the least processor time of five turns, its ratio to that 
 build is given, its ratio to that of plain/decode.rs where there is a Rust compiler (a program that decodes
 the same trace and counts its records), the least time on the clock with 1 worker, the ratios of that with 2
 and with 4 workers to it, the ratio of four runs with 1 worker each at once to it (1 on four idle cores), the
-most memory that the program held with 1 worker, and that over the size of the file. All take turns, so that
-each meets the same machine."""
+most memory that the program held with 1 worker (with the package `time`), and the size of the file. All take
+turns, so that each meets the same machine."""
 
 from __future__ import annotations
 
@@ -44,11 +44,10 @@ HERE = os.path.dirname(os.path.abspath(__file__))
 
 @dataclass
 class Run:
-    """One run: seconds of processor time, seconds on the clock, megabytes, exit status."""
+    """One run: seconds of processor time, seconds on the clock, exit status."""
 
     processor: float
     clock: float
-    memory: float
     status: int
 
 
@@ -65,7 +64,17 @@ def run(words: Sequence[str]) -> Run:
     """Runs the program to its end."""
     start = time.monotonic()
     _, status, used = os.wait4(started(words), 0)
-    return Run(used.ru_utime + used.ru_stime, time.monotonic() - start, used.ru_maxrss / 1024, status)
+    return Run(used.ru_utime + used.ru_stime, time.monotonic() - start, status)
+
+
+def megabytes(words: Sequence[str]) -> str:
+    """The most memory that the program holds. time(1) measures it, since a child of Python begins with what Python
+    holds, which is more than the program needs."""
+    measure = shutil.which("time")
+    if not measure:
+        return "unknown"
+    ran = subprocess.run([measure, "-f", "%M", *words], stdout=subprocess.DEVNULL, stderr=subprocess.PIPE, text=True)
+    return f"{int(ran.stderr.split()[-1]) / 1024:.0f} MB"
 
 
 def run_at_once(words: Sequence[str]) -> float:
@@ -101,12 +110,11 @@ def row(name: str, options: str, commands: Sequence[Sequence[str]], work: str) -
     if any(r.status for own in (one, *more) for r in own):
         print(f"| {name} | NOT YES |", flush=True)
         return
-    memory, size = max(r.memory for r in one), os.path.getsize(trace) / 1048576
     cells = [name, "yes", f"{min(r.processor for r in one) * 1000:.0f} ms"]
     cells += [ratio(one, own, lambda r: r.processor) for own in others]
     cells += [f"{min(r.clock for r in one) * 1000:.0f} ms", *(ratio(own, one, lambda r: r.clock) for own in more)]
     cells += [f"{min(at_once) / min(r.clock for r in one):.2f}"]
-    cells += [f"{memory:.0f} MB", f"{size:.1f} MB", f"{memory / size:.2f}"]
+    cells += [megabytes([word.format(**words) for word in commands[0]]), f"{os.path.getsize(trace) / 1048576:.1f} MB"]
     print(f"| {' | '.join(cells)} |", flush=True)
 
 
@@ -120,7 +128,7 @@ def main() -> None:
             checks.append([work + "/decode", "{trace}"])
             columns.append("over plain reading")
         columns += ["time", *(f"{workers} workers over 1" for workers in WORKERS), f"{AT_ONCE} runs at once over 1"]
-        columns += ["memory", "file", "memory over file"]
+        columns += ["memory", "file"]
         print(f"| {' | '.join(columns)} |\n|{'---|' * len(columns)}")
         for name, options in TRACES:
             row(name, options, checks + by_workers, work)
