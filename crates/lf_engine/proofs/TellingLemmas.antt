@@ -19,7 +19,7 @@ use Rattle.lf_contents.specs.Logs.{IsCountable}
 use Rattle.lf_engine.specs.Report.{ArePrintedFor, IsTallyOf, IsTalliedRead, IsWritten, IsYesVerdict, HasLinesFor}
 use Rattle.lf_engine.specs.Report.{HasLinesIfYes, verdict_in, FollowsLines}
 use Rattle.lf_engine.specs.Report.{FollowsReport, lines_or, report_text}
-use Rattle.lf_engine.specs.Run.{Follows, IsOutcome, Reads, outcome_line}
+use Rattle.lf_engine.specs.Run.{Follows, Reads, outcome_line}
 
 -- A trace whose verdict is a yes can be counted.
 pub countable_yes : (shape : Shape) (bytes : List ℕ) (v : Verdict) → IsYesVerdict v → IsVerdictOf shape 1 bytes v →
@@ -65,31 +65,6 @@ module _ {E : Type 0} (v : Verdict) (lines : Result (String Global) E) (report :
           subst (λ (r : Report). HasLinesFor wanted shape bytes r.verdict r.lines) (sym told) (is, printed)
       go (Err e) told refused printed =
           subst (λ (r : Report). HasLinesFor wanted shape bytes r.verdict r.lines) (sym refused) (λ no. no)
-
--- ---- what a run came to, once its lines are made
-
-module _ (old new : Account) (asked : Type 0) (IsLegal : List ℕ → List ℕ → Type 0)
-    (IsVerdict : List ℕ → Verdict → Type 0) (turns : ℕ) (v : Verdict)
-    (judged : IsOutcome old new asked IsLegal IsVerdict turns (Ok v)) where
-  refused_outcome : IsOutcome old new asked IsLegal IsVerdict turns (Ok (Refused Memory))
-  refused_outcome = record {
-    reads = judged.reads;
-    unread = judged.unread;
-    once = judged.once;
-    verdict = λ decided. absurd decided;
-    legal = tt;
-    no_thread = λ e. cc;
-    read = (λ e. absurd (cc), λ failed. let bad = judged.read.1 failed in absurd (cc));
-    turned = λ e. absurd (cc);
-    sound = tt;
-    no_write = λ e. cc;
-  }
-
-  pub outcome_with : (w : Verdict) → Follows (Ok v) (Ok w) → IsOutcome old new asked IsLegal IsVerdict turns (Ok w)
-  outcome_with w (inl same) =
-      subst (λ (x : Verdict). IsOutcome old new asked IsLegal IsVerdict turns (Ok x)) (sym same) judged
-  outcome_with w (inr memory) =
-      subst (λ (x : Verdict). IsOutcome old new asked IsLegal IsVerdict turns (Ok x)) (sym memory) refused_outcome
 
 -- ---- what was counted
 
