@@ -11,3 +11,5 @@ pub mod RingLemmas
 pub mod Confluence
 pub mod OneRing
 pub mod OwnEntries
+pub mod Reached
+pub mod RunOn

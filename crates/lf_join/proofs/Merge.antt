@@ -119,7 +119,7 @@ pub record Ongoing (skeletons : List (List (ℕ × ℕ))) (order places next : L
   pub places_len : length places ≡ 32
   pub next_len : length next ≡ 256
 
-zeros : (n k : ℕ) → slice_index (replicate n 0) k ≡ 0
+pub zeros : (n k : ℕ) → slice_index (replicate n 0) k ≡ 0
 zeros zero k = refl
 zeros (suc n) zero = refl
 zeros (suc n) (suc k) = zeros n k
@@ -176,21 +176,61 @@ module _ (skeletons : List (List (ℕ × ℕ))) (order places next : List ℕ) w
   false_true : (b : Bool) → b ≡ false → b ≡ true → ⊥
   false_true b f t = cc
 
+  -- The log's next entry goes.
+  pub at_more : (at : IsAt skeletons order places next) → length places ≡ 32 → length next ≡ 256 → (log : ℕ)
+      (new_places new_next : List ℕ) → log < 32 → can_go skeletons places next log ≡ true
+      → Advances skeletons places next log new_places new_next → IsAt skeletons (order ++ log ∷ []) new_places new_next
+  at_more at places_len next_len log new_places new_next within can a =
+      record {
+        gone = at.gone ++ x ∷ [];
+        left = after_next at.left log;
+        taken = taken_more skeletons order at.gone at.left log x at.taken goes.first;
+        kept = kept_more at.gone x goes.carries at.kept;
+        placed = placed;
+        counted = λ bank lt. counted bank lt ∙ sym (ap (λ (f : ℕ → ℕ). f bank) (next_more at.gone x));
+      }
+    where
+      x : ℕ × ℕ
+      x = a.entry
+
+      goes : Goes at.left (next_number at.gone) log
+      goes = goes_from_test at log x can a.there
+
+      placed : (n : ℕ) → log_at (after_next at.left log) n ≡ drop (slice_index new_places n) (log_at skeletons n)
+      placed n = elim (cases_eq n log) [
+        | inl same ↦ subst (λ k. log_at (after_next at.left log) k
+            ≡ drop (slice_index new_places k) (log_at skeletons k)) (sym same)
+            (after_same at.left log ∙ ap (drop 1) (at.placed log)
+            ∙ drop-drop 1 (slice_index places log) (log_at skeletons log)
+            ∙ ap (λ k. drop k (log_at skeletons log))
+            (sym (ap (λ (ps : List ℕ). slice_index ps log) a.moved
+            ∙ get_or-set_same places log (slice_index places log + 1) 0 (omega (arith, places_len, within)))))
+        | inr apart ↦ after_other at.left log n apart ∙ at.placed n
+            ∙ ap (λ k. drop k (log_at skeletons n)) (sym (ap (λ (ps : List ℕ). slice_index ps n) a.moved
+            ∙ get_or-set_other places log n (slice_index places log + 1) 0 apart))
+      ]
+
+      counted : (bank : ℕ) → bank < no_bank → slice_index new_next bank ≡ bump (next_number at.gone) x.0 bank
+      counted bank lt = elim (cases_eq bank x.0) [
+        | inl same ↦ subst (λ k. slice_index new_next k ≡ bump (next_number at.gone) x.0 k) (sym same)
+            (ap (λ (ns : List ℕ). slice_index ns x.0) a.counted
+            ∙ get_or-set_same next x.0 (x.1 + 1) 0 (let is_bank = a.is_bank in omega (arith, next_len))
+            ∙ ap (λ k. k + 1) (goes.carries (subst (λ k. k < no_bank) same lt))
+            ∙ sym (bump_same (next_number at.gone) x.0 x.0 refl))
+        | inr apart ↦ ap (λ (ns : List ℕ). slice_index ns bank) a.counted
+            ∙ get_or-set_other next x.0 bank (x.1 + 1) 0 apart
+            ∙ at.counted bank lt ∙ sym (bump_other (next_number at.gone) x.0 bank (λ e. apart (sym e)))
+      ]
+
   pub one_more : (o : Ongoing skeletons order places next) (log : ℕ) (new_places new_next : List ℕ) → log < 32 →
       can_go skeletons places next log ≡ true
       → ((k : ℕ) → k < log → can_go skeletons places next k ≡ false) →
       Advances skeletons places next log new_places new_next →
       Ongoing skeletons (order ++ log ∷ []) new_places new_next
+  unfolding at_more
   one_more o log new_places new_next within can none_below a =
       record {
-        is_at = record {
-          gone = o.is_at.gone ++ x ∷ [];
-          left = after_next o.is_at.left log;
-          taken = taken_more skeletons order o.is_at.gone o.is_at.left log x o.is_at.taken goes.first;
-          kept = kept_more o.is_at.gone x goes.carries o.is_at.kept;
-          placed = placed;
-          counted = λ bank lt. counted bank lt ∙ sym (ap (λ (f : ℕ → ℕ). f bank) (next_more o.is_at.gone x));
-        };
+        is_at = at_more o.is_at o.places_len o.next_len log new_places new_next within can a;
         least = λ rest is. subst (λ (os : List ℕ). IsLeastRun skeletons (λ _. 0) os)
             (sym (append_assoc order (log ∷ []) rest))
             (o.least (log ∷ rest) (least_goes_first o.is_at.left (next_number o.is_at.gone) log goes below rest
@@ -209,33 +249,6 @@ module _ (skeletons : List (List (ℕ × ℕ))) (order places next : List ℕ) w
 
       below : (k : ℕ) → k < log → Goes o.is_at.left (next_number o.is_at.gone) k → ⊥
       below k lt g = false_true (can_go skeletons places next k) (none_below k lt) (test_from_goes o.is_at k g)
-
-      placed : (n : ℕ) → log_at (after_next o.is_at.left log) n ≡ drop (slice_index new_places n) (log_at skeletons n)
-      placed n = elim (cases_eq n log) [
-        | inl same ↦ subst (λ k. log_at (after_next o.is_at.left log) k
-            ≡ drop (slice_index new_places k) (log_at skeletons k)) (sym same)
-            (after_same o.is_at.left log ∙ ap (drop 1) (o.is_at.placed log)
-            ∙ drop-drop 1 (slice_index places log) (log_at skeletons log)
-            ∙ ap (λ k. drop k (log_at skeletons log))
-            (sym (ap (λ (ps : List ℕ). slice_index ps log) a.moved
-            ∙ get_or-set_same places log (slice_index places log + 1) 0 (let len = o.places_len in omega arith))))
-        | inr apart ↦ after_other o.is_at.left log n apart ∙ o.is_at.placed n
-            ∙ ap (λ k. drop k (log_at skeletons n)) (sym (ap (λ (ps : List ℕ). slice_index ps n) a.moved
-            ∙ get_or-set_other places log n (slice_index places log + 1) 0 apart))
-      ]
-
-      counted : (bank : ℕ) → bank < no_bank → slice_index new_next bank ≡ bump (next_number o.is_at.gone) x.0 bank
-      counted bank lt = elim (cases_eq bank x.0) [
-        | inl same ↦ subst (λ k. slice_index new_next k ≡ bump (next_number o.is_at.gone) x.0 k) (sym same)
-            (ap (λ (ns : List ℕ). slice_index ns x.0) a.counted
-            ∙ get_or-set_same next x.0 (x.1 + 1) 0 (let is_bank = a.is_bank in let len = o.next_len in
-            omega arith)
-            ∙ ap (λ k. k + 1) (goes.carries (subst (λ k. k < no_bank) same lt))
-            ∙ sym (bump_same (next_number o.is_at.gone) x.0 x.0 refl))
-        | inr apart ↦ ap (λ (ns : List ℕ). slice_index ns bank) a.counted
-            ∙ get_or-set_other next x.0 bank (x.1 + 1) 0 apart
-            ∙ o.is_at.counted bank lt ∙ sym (bump_other (next_number o.is_at.gone) x.0 bank (λ e. apart (sym e)))
-      ]
 
   pub all_gone : Ongoing skeletons order places next → ((log : ℕ) → can_go skeletons places next log ≡ false) →
       IsMerged skeletons order places next

@@ -7,9 +7,11 @@ mod heads;
 mod laws;
 mod log_set;
 mod order;
+mod progress;
 mod roster;
 
 pub use check::check_cycle;
-pub use laws::joins_are_one;
+pub use laws::{entries_stay, joins_are_one};
 pub use lf_rules::{Knot, Ring, Skeleton};
 pub use order::{JoinFault, join};
+pub use progress::Progress;

@@ -1,6 +1,6 @@
 //! Orders and rings worked out by hand.
 
-use lf_join::{JoinFault, check_cycle, join, joins_are_one};
+use lf_join::{JoinFault, Progress, check_cycle, entries_stay, join, joins_are_one};
 use lf_rules::{Knot, Ring};
 use std::test::Fail;
 
@@ -104,6 +104,29 @@ fn no_logs(rt: HostRuntime) -> Result<(), Fail> {
 }
 
 #[test]
+fn entries_that_go(rt: HostRuntime) -> Result<(), Fail> {
+    // One that comes in the turn of its number goes, and a fence may always go.
+    let mut progress = Progress::new();
+    assert!(rt; progress.pass(1, (0, 0)));
+    assert_eq!(rt; progress.gone(0), 0);
+    assert_eq!(rt; progress.gone(1), 1);
+    let mut progress = Progress::new();
+    assert!(rt; progress.pass(0, (255, 7)));
+    let mut progress = Progress::new();
+    assert!(rt; !progress.pass(0, (0, 1)));
+    assert_eq!(rt; progress.gone(0), 0);
+    Ok(())
+}
+
+#[test]
+fn nothing_is_left(rt: HostRuntime) -> Result<(), Fail> {
+    let progress = Progress::new();
+    assert!(rt; progress.finish(&[]).is_ok());
+    Ok(())
+}
+
+#[test]
 fn laws() {
     joins_are_one();
+    entries_stay();
 }
