@@ -1,5 +1,5 @@
 -- Laws of the verdicts whose yes tells no order.
-use Rattle.std.proofs.Common.{◌≡◌, ℕ, ◌<◌, ◌≤◌, List, Result, Ok, Err, subst, refl, inl, inr, arith}
+use Rattle.std.proofs.Common.{◌≡◌, ℕ, ◌<◌, ◌≤◌, List, Result, Ok, Err, subst, refl, inl, arith}
 use Rattle.lf_rules.specs.declared.shape.Shape.{Shape}
 use Rattle.lf_codec.specs.Laws.{ReadingIsExact, FaultsSoFarAreNotTruncated, FaultsStand}
 use Rattle.lf_config.specs.Configuration.{configuration_of}

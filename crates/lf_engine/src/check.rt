@@ -36,10 +36,10 @@ fn judge_unordered<T: AllocGlobal + Threads + Sync + Send + Copy + 'static, S: S
     let Ok(mut buffer) = zeros(rt.alloc(), PIECE) else {
         return Ok(Verdict::Refused(Refusal::Memory));
     };
-    let mut session = ParallelSession::for_shape(rt.alloc(), shape, workers);
+    let mut session = ParallelSession::unordered(rt.alloc(), shape, workers);
     let gathered = gather_by(rt, source, buffer.as_mut_slice(), &mut session, turns);
     // Also after a failed read, so that no thread is left at work.
-    let verdict = session.finish_unordered(rt);
+    let verdict = session.finish(rt);
     match gathered {
         Ok(()) => Ok(verdict),
         Err(stop) => stopped(stop),

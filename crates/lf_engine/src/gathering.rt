@@ -42,6 +42,7 @@ fn feed<T: Threads + Sync + Send + Copy + 'static>(
     piece: &[u8],
 ) -> Result<bool, NoMemory>
     ensures shape { session.new.shape ≡ session.old.shape }
+    ensures asked { session.new.asked ≡ session.old.asked }
     ensures fed { (bytes : List ℕ) → HasFed session.old bytes → HasFed session.new (bytes ++ piece.now) }
     ensures told { (bytes : List ℕ) → HasFed session.old bytes →
         IfOk result (λ broken. IsTrue broken ↔ HasFault (bytes ++ piece.now)) }
@@ -69,6 +70,7 @@ pub fn gather_by<T: Threads + Sync + Send + Copy + 'static, S: Source>(
     requires fresh { HasFed session.old [] }
     ensures reads { (S.account source.new).calls ≤ turns }
     ensures shape { session.new.shape ≡ session.old.shape }
+    ensures asked { session.new.asked ≡ session.old.asked }
     ensures all { OnOk result ((bytes : List ℕ) × HasFed session.new bytes × AreBytes bytes × IsAllRead
         HasFault (length buffer.old) (S.account source.old) (S.account source.new) bytes) }
     ensures part { IfErr result (λ e. OfReading e ((bytes : List ℕ) × IsPartRead

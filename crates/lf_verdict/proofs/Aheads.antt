@@ -100,7 +100,7 @@ module _ (law : WhatIsReadFits) (s : Intake) (bytes : List ℕ) (start : Standin
       judging = running_more s.shape bytes s.memory.items taken.0 (taken.0 ++ next) start end taken.1.judging
           (judged.stands s.shape (flat_memory s.memory.items) taken.0 taken.1.judging.stands may)
           (subst (λ (w : Watch). IsWatch (first_offset taken.1.judging.header s.memory.items) s.shape
-          (flat_memory s.memory.items) (taken.0 ++ next) w) (sym judged.unknown) tt);
+          (flat_memory s.memory.items) (taken.0 ++ next) w) (sym judged.unknown) tt) judged.keeps;
     },
   )
 
@@ -171,6 +171,7 @@ none_ahead a bytes alone none fed =
 pub reads_none : {G : Type 0} (a : Ahead G) → CanRead a → ReadsOn a a [] (Ok tt)
 reads_none a can = record {
   shape = refl;
+  asked = refl;
   stop = refl;
   running = can.running;
   workers = can.workers;
@@ -188,6 +189,7 @@ pub reads_more : HeaderIsOfItsBytes → {G : Type 0} (a : Ahead G) (piece : List
     → ReadsOn a (record a { intake = record a.intake { reader = r }; records = rs }) piece (Ok tt)
 reads_more law a piece r rs can ok fine = record {
   shape = refl;
+  asked = refl;
   stop = refl;
   running = can.running;
   workers = can.workers;
@@ -210,6 +212,7 @@ pub reads_both : {G : Type 0} (old mid new : Ahead G) (front part : List ℕ) �
     ReadsOn mid new part (Ok tt) → ReadsOn old new (front ++ part) (Ok tt)
 reads_both old mid new front part first next = record {
   shape = next.shape ∙ first.shape;
+  asked = next.asked ∙ first.asked;
   stop = next.stop ∙ first.stop;
   running = next.running;
   workers = next.workers;
@@ -246,6 +249,7 @@ pub part_stopped : FaultsStand → {G : Type 0} (old mid new : Ahead G) (piece f
     → ReadsOn mid new part (Err stop) → ReadsOn old new piece (Err stop)
 part_stopped law old mid new piece front part behind stop cut fit first next = record {
   shape = next.shape ∙ first.shape;
+  asked = next.asked ∙ first.asked;
   stop = next.stop ∙ first.stop;
   running = tt;
   workers = next.workers;

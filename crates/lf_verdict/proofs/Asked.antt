@@ -33,7 +33,8 @@ module _ (s : Intake) (bytes : List ℕ) (records : List Record) (judged : HasJu
   none_yet lacking agrees = record { header = agrees; parts = λ begun. absurd (not_begun lacking begun) }
 
   module _ (fits : WhatIsReadFits) (running : Standing)
-      (run : IsRunning s.shape bytes s.memory.items records running) (empty : s.reader.records ≡ []) where
+      (run : IsRunning s.shape s.asked.ordered bytes s.memory.items records running)
+      (empty : s.reader.records ≡ []) where
     memory_is : s.memory.items ≡ (reading_of bytes).memory
     memory_is = sym (begins_fed fits s bytes records running judged run).memory_is
 

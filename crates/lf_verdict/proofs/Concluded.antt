@@ -43,8 +43,9 @@ none_in_trace exact fits s bytes records judged drained unbroken memory logs t =
         (sym read_as.3 ∙ all_records)
         (subst (λ (m : List (ℕ × Bytes)). IsTrace bytes t.header m t.records) (sym read_as.2 ∙ all_memory) t.trace)
 
-    go : (j : Judging) → IsJudging s.shape bytes s.memory.items records j → IsDrained j s.reader s.memory.items →
-        IsUnbrokenSoFar s bytes j records → NoneBroke s.shape (flat_memory memory) t.records
+    go : (j : Judging) → IsJudging s.shape s.asked.ordered bytes s.memory.items records j →
+        IsDrained j s.reader s.memory.items → IsUnbrokenSoFar s bytes j records →
+        NoneBroke s.shape (flat_memory memory) t.records
     go Waiting judging lacking none =
         absurd (waits_no_more exact bytes s.reader t.header s.memory.items records judged.read whole lacking)
     go (Running running) run empty none =

@@ -390,7 +390,8 @@ few_more xs (y ∷ ys) le = absurd (omega (arith, length-append xs (y ∷ ys)))
 -- the bytes begin a trace with the records that the session took
 pub begins_fed : WhatIsReadFits → (s : Intake) (bytes : List ℕ) (records : List Record) (running : Standing) →
     HasJudged s bytes records
-    → IsRunning s.shape bytes s.memory.items records running → Begins s.shape bytes s.memory.items records
+    → IsRunning s.shape s.asked.ordered bytes s.memory.items records running →
+    Begins s.shape bytes s.memory.items records
 begins_fed fits s bytes records running judged run =
     let memory_is : (reading_of bytes).memory ≡ s.memory.items ++ s.reader.memory =
     ap (λ (q : Reading). q.memory) judged.read.same in
@@ -409,7 +410,7 @@ begins_fed fits s bytes records running judged run =
 
 pub begins_fed-header : (fits : WhatIsReadFits) (s : Intake) (bytes : List ℕ) (records : List Record)
     (running : Standing) (judged : HasJudged s bytes records)
-    (run : IsRunning s.shape bytes s.memory.items records running) →
+    (run : IsRunning s.shape s.asked.ordered bytes s.memory.items records running) →
     (begins_fed fits s bytes records running judged run).header ≡ run.header
 unfolding begins_fed
 begins_fed-header fits s bytes records running judged run = refl

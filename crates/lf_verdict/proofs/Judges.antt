@@ -1,8 +1,6 @@
 -- A port and a bank, judged one record further.
-use Rattle.std.proofs.Common.{◌≡◌, ℕ, zero, suc, ◌<◌, List, [], ◌∷◌, ◌++◌, length, Some, None, refl, sym, ap, ◌∙◌}
-use Rattle.std.proofs.Common.{false, subst, arith}
-use Rattle.std.specs.List.{AllByRecursion, slice_get}
-use Rattle.std.proofs.lemmas.Bool.{false≢true}
+use Rattle.std.proofs.Common.{◌≡◌, ℕ, zero, suc, List, [], ◌∷◌, ◌++◌, length, Some, None, refl, sym, ◌∙◌, subst}
+use Rattle.std.specs.List.{AllByRecursion}
 use Rattle.std.proofs.lemmas.List.{append-nil}
 use Rattle.lf_rules.specs.declared.shape.Shape.{Shape}
 use Rattle.lf_rules.specs.declared.event.Record.{Record}
@@ -49,27 +47,6 @@ bank_kept shape memory bank rs r step outcomes.NoMemory broken at = at
 
 -- ---- a bank's records in turn
 
-get-below : (rs : List Record) (k : ℕ) (r : Record) → slice_get rs k ≡ Some r → k < length rs
-get-below [] k r e = absurd (cc)
-get-below (x ∷ rs) zero r e = omega arith
-get-below (x ∷ rs) (suc k) r e = omega (arith, get-below rs k r e)
-
-all_got : (P : Record → Type 0) (rs : List Record) → ((k : ℕ) (r : Record) → slice_get rs k ≡ Some r → P r) →
-    AllByRecursion P rs
-all_got P [] each = tt
-all_got P (x ∷ rs) each = (each 0 x refl, all_got P rs (λ k r e. each (suc k) r e))
-
--- where all records were given out as they came, none waits
-none_waits : (o : Reordering) (rs : List Record) (r : Record) → HasOrdered o rs rs →
-    first_with (length rs) rs ≡ Some r → ⊥
-none_waits o rs r has waits =
-    let below : r.number < length rs =
-    first_with-all (λ (x : Record). x.number < length rs) (length rs) rs r
-    (all_got (λ (x : Record). x.number < length rs) rs (λ k x e.
-    let inside : k < length rs = get-below rs k x e in
-    omega (arith, inside, first_with-number k rs x (sym (has.given k inside) ∙ e)))) waits in
-    omega (arith, below, first_with-number (length rs) rs r waits)
-
 module _ (shape : Shape) (memory : FlatMemory) (bank : ℕ) (came gave : List Record) (old : BankJudge)
     (judged : IsBankJudged shape memory bank came gave old) where
   pub turn_fits : (r : Record) → Some r ≡ first_with (length gave) came → IsForStep old.step r
@@ -81,11 +58,11 @@ module _ (shape : Shape) (memory : FlatMemory) (bank : ℕ) (came gave : List Re
 
   pub judged_more : (r : Record) (new : BankJudge) → Some r ≡ first_with (length gave) came →
       HasOrdered new.order came (gave ++ r ∷ []) → new.order.bank ≡ old.order.bank
-      → new.in_turn ≡ old.in_turn → new.step.bank ≡ old.step.bank → new.step.state.shape ≡ old.step.state.shape
+      → new.step.bank ≡ old.step.bank → new.step.state.shape ≡ old.step.state.shape
       → (r.number ≡ length gave → IsBankAt shape memory bank gave old.step old.outcome →
       IsBankAt shape memory bank (gave ++ r ∷ []) new.step new.outcome)
       → IsBankJudged shape memory bank came (gave ++ r ∷ []) new
-  judged_more r new turn ordered same_order same_turn same_bank same_shape goes = record {
+  judged_more r new turn ordered same_order same_bank same_shape goes = record {
     fit = judged.fit;
     named = judged.named;
     ordered = ordered;
@@ -93,10 +70,6 @@ module _ (shape : Shape) (memory : FlatMemory) (bank : ℕ) (came gave : List Re
     of_bank = same_bank ∙ judged.of_bank;
     of_shape = same_shape ∙ judged.of_shape;
     judged = goes (first_with-number (length gave) came r (sym turn)) judged.judged;
-    turn = λ t.
-        let same : came ≡ gave = judged.turn (sym same_turn ∙ t) in
-        absurd (none_waits old.order gave r (subst (λ rs. HasOrdered old.order rs gave) same judged.ordered)
-        (ap (first_with (length gave)) (sym same) ∙ sym turn));
   }
 
   pub judged_all : (order : Reordering) → None ≡ first_with (length gave) came → HasOrdered order came (gave ++ []) →
@@ -111,7 +84,6 @@ module _ (shape : Shape) (memory : FlatMemory) (bank : ℕ) (came gave : List Re
       of_bank = judged.of_bank;
       of_shape = judged.of_shape;
       judged = judged.judged;
-      turn = judged.turn;
     };
     drained = sym turn;
   }
@@ -123,7 +95,7 @@ module _ (shape : Shape) (memory : FlatMemory) (bank : ℕ) (came gave : List Re
 
   pub judged_put : (r : Record) (order : Reordering) → Fits shape r → r.bank ≡ bank →
       HasOrdered order (came ++ r ∷ []) gave → order.bank ≡ old.order.bank
-      → IsBankJudged shape memory bank (came ++ r ∷ []) gave (record old { order = order; in_turn = false })
+      → IsBankJudged shape memory bank (came ++ r ∷ []) gave (record old { order = order })
   judged_put r order fits named ordered same = record {
     fit = all_push (Fits shape) came r judged.fit fits;
     named = all_push (λ r. r.bank ≡ bank) came r judged.named named;
@@ -132,17 +104,16 @@ module _ (shape : Shape) (memory : FlatMemory) (bank : ℕ) (came gave : List Re
     of_bank = judged.of_bank;
     of_shape = judged.of_shape;
     judged = judged.judged;
-    turn = λ t. absurd (false≢true t);
   }
 
   -- a record that was passed on in its turn
   pub judged_pass : (r : Record) (new : BankJudge) → Fits shape r → r.bank ≡ bank → r.number ≡ length gave →
       HasOrdered new.order (came ++ r ∷ []) (gave ++ r ∷ []) → new.order.bank ≡ old.order.bank
-      → new.in_turn ≡ old.in_turn → new.step.bank ≡ old.step.bank → new.step.state.shape ≡ old.step.state.shape
+      → new.step.bank ≡ old.step.bank → new.step.state.shape ≡ old.step.state.shape
       → (r.number ≡ length gave → IsBankAt shape memory bank gave old.step old.outcome →
       IsBankAt shape memory bank (gave ++ r ∷ []) new.step new.outcome)
       → IsBankJudged shape memory bank (came ++ r ∷ []) (gave ++ r ∷ []) new
-  judged_pass r new fits named turn ordered same_order same_turn same_bank same_shape goes = record {
+  judged_pass r new fits named turn ordered same_order same_bank same_shape goes = record {
     fit = all_push (Fits shape) came r judged.fit fits;
     named = all_push (λ r. r.bank ≡ bank) came r judged.named named;
     ordered = ordered;
@@ -150,14 +121,13 @@ module _ (shape : Shape) (memory : FlatMemory) (bank : ℕ) (came gave : List Re
     of_bank = same_bank ∙ judged.of_bank;
     of_shape = same_shape ∙ judged.of_shape;
     judged = goes turn judged.judged;
-    turn = λ t. ap (λ rs. rs ++ r ∷ []) (judged.turn (sym same_turn ∙ t));
   }
 
   -- a record that came early, or again, leaves what was given out
   pub settled_put : (r : Record) (order : Reordering) → first_with (length gave) came ≡ None → Fits shape r →
       r.bank ≡ bank → ¬ (r.number ≡ length gave)
       → HasOrdered order (came ++ r ∷ []) gave → order.bank ≡ old.order.bank
-      → IsBankSettled shape memory bank (came ++ r ∷ []) gave (record old { order = order; in_turn = false })
+      → IsBankSettled shape memory bank (came ++ r ∷ []) gave (record old { order = order })
   settled_put r order drained fits named early ordered same = record {
     bank_judged = judged_put r order fits named ordered same;
     drained = first_with-push_other (length gave) came r early ∙ drained;

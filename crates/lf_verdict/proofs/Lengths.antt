@@ -1,6 +1,6 @@
 -- How many bytes stand before a record.
 use Rattle.std.proofs.Common.{◌≡◌, ℕ, ◌+◌, ◌*◌, ◌<◌, ◌≤◌, ◌^◌, List, [], ◌∷◌, ◌++◌, length, Option, Some, None, refl}
-use Rattle.std.proofs.Common.{sym, ap, ◌∙◌, subst, arith}
+use Rattle.std.proofs.Common.{Bool, sym, ap, ◌∙◌, subst, arith}
 use Rattle.std.specs.Prelude.{IfSome}
 use Rattle.std.specs.List.{flat_map, AllByRecursion}
 use Rattle.std.proofs.Math.Nat.{suc-mul}
@@ -156,9 +156,9 @@ watch_ends start shape memory records Unknown r watched lt = tt
 
 -- the next record that the reader gives ends below 2^64
 pub ends_in_range : WhatIsReadFits → (shape : Shape) (bytes : List ℕ) (memory : List (ℕ × Bytes))
-    (records : List Record) (r : Reading) (running : Standing) (item : Record) (rest : List Record)
-    → HasRead r bytes memory records → IsRunning shape bytes memory records running → r.records ≡ item ∷ rest →
-    EndsInRange running.watch item
+    (records : List Record) (r : Reading) (running : Standing) (item : Record) (rest : List Record) {ordered : Bool}
+    → HasRead r bytes memory records → IsRunning shape ordered bytes memory records running →
+    r.records ≡ item ∷ rest → EndsInRange running.watch item
 ends_in_range law shape bytes memory records r running item rest read run next =
     let fits = law bytes run.header read.are_bytes run.read in
     let whole : (reading_of bytes).records ≡ records ++ item ∷ rest =
@@ -178,22 +178,23 @@ ends_in_range law shape bytes memory records r running item rest read run next =
 
 -- ... also where it stands in a place
 pub place_ends : WhatIsReadFits → (shape : Shape) (bytes : List ℕ) (memory : List (ℕ × Bytes)) (records : List Record)
-    (r : Reading) (running : Standing) (place : Option Record)
-    → HasRead (with_record place r) bytes memory records → IsRunning shape bytes memory records running →
+    (r : Reading) (running : Standing) (place : Option Record) {ordered : Bool}
+    → HasRead (with_record place r) bytes memory records → IsRunning shape ordered bytes memory records running →
     IfSome place (EndsInRange running.watch)
 place_ends law shape bytes memory records r running None read run = tt
 place_ends law shape bytes memory records r running (Some item) read run =
     ends_in_range law shape bytes memory records (with_record (Some item) r) running item r.records read run refl
 
 -- no record came, and the first begins behind the header and the memory
-pub opened : WhatIsReadFits → (shape : Shape) (bytes : List ℕ) (memory : List (ℕ × Bytes)) (records : List Record)
-    (r : Reading) (h : Header) (start : ℕ) (running : Standing)
+pub opened : WhatIsReadFits → (shape : Shape) (ordered : Bool) (bytes : List ℕ) (memory : List (ℕ × Bytes))
+    (records : List Record) (r : Reading) (h : Header) (start : ℕ) (running : Standing)
     → HasRead r bytes memory records → header_of bytes ≡ Some h → Agrees shape h → length memory ≡ h.memory_count
     → ((memory : List (ℕ × Bytes)) → length memory ≡ h.memory_count → FitsMemory h.block 0 memory →
     start ≡ first_offset h memory)
     → StandsAfterAll shape (flat_memory memory) [] running →
-    IsWatch start shape (flat_memory memory) [] running.watch → IsRunning shape bytes memory [] running
-opened law shape bytes memory records r h start running read header agrees whole starts stands watched =
+    IsWatch start shape (flat_memory memory) [] running.watch → running.entries.keeps ≡ ordered →
+    IsRunning shape ordered bytes memory [] running
+opened law shape ordered bytes memory records r h start running read header agrees whole starts stands watched keeps =
     let fits = law bytes h read.are_bytes header in
     let stored : (reading_of bytes).memory ≡ memory ++ r.memory = ap (λ (q : Reading). q.memory) read.same in
     let none : memory ++ r.memory ≡ memory = none_more memory r.memory
@@ -207,4 +208,5 @@ opened law shape bytes memory records r h start running read header agrees whole
       stands = stands;
       watched = subst (λ (n : ℕ). IsWatch n shape (flat_memory memory) [] running.watch) (starts memory whole blocks)
           watched;
+      keeping = keeps;
     }

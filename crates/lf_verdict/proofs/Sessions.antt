@@ -1,6 +1,6 @@
 -- What a session takes from its reader, and what it answers.
 use Rattle.std.proofs.Common.{◌≡◌, ℕ, ◌-◌, ◌<◌, ◌≤◌, List, [], ◌∷◌, ◌++◌, length, Option, Some, None, Ok, Err, refl}
-use Rattle.std.proofs.Common.{sym, ap, ◌∙◌, subst, ◌⊎◌, inl, inr, ⊎_elim, ◌^◌, append_assoc, arith}
+use Rattle.std.proofs.Common.{Bool, sym, ap, ◌∙◌, subst, ◌⊎◌, inl, inr, ⊎_elim, ◌^◌, append_assoc, arith}
 use Rattle.std.specs.Prelude.{◌==◌, slice_index, option_to_list, OnOk, Result}
 use Rattle.std.specs.List.{AllByRecursion}
 use Rattle.std.proofs.lemmas.List.{append-nil, length-append, take-append-le, get_or_append_left, get_or-append_right}
@@ -63,9 +63,9 @@ one_of_log xs r ys =
     omega (arith, ap length whole, length-append (of_log r.log xs) (of_log r.log (r ∷ ys)), ap length own)
 
 pub may_come : WhatIsReadFits → (shape : Shape) (bytes : List ℕ) (memory : List (ℕ × Bytes)) (records : List Record)
-    (r : Reading) (running : Standing) (item : Record) (rest : List Record)
-    → HasRead r bytes memory records → IsRunning shape bytes memory records running → r.records ≡ item ∷ rest →
-    MayCome shape records item
+    (r : Reading) (running : Standing) (item : Record) (rest : List Record) {ordered : Bool}
+    → HasRead r bytes memory records → IsRunning shape ordered bytes memory records running →
+    r.records ≡ item ∷ rest → MayCome shape records item
 may_come law shape bytes memory records r running item rest read run next =
     let fits = law bytes run.header read.are_bytes run.read in
     let all : (reading_of bytes).records ≡ records ++ item ∷ rest =
@@ -84,10 +84,11 @@ may_come law shape bytes memory records r running item rest read run next =
     }
 
 pub running_more : (shape : Shape) (bytes : List ℕ) (memory : List (ℕ × Bytes)) (records more : List Record)
-    (old new : Standing) (running : IsRunning shape bytes memory records old)
+    (old new : Standing) {ordered : Bool} (running : IsRunning shape ordered bytes memory records old)
     → StandsAfterAll shape (flat_memory memory) more new → IsWatch (first_offset running.header memory) shape
-    (flat_memory memory) more new.watch → IsRunning shape bytes memory more new
-running_more shape bytes memory records more old new running stands watched =
+    (flat_memory memory) more new.watch → new.entries.keeps ≡ old.entries.keeps →
+    IsRunning shape ordered bytes memory more new
+running_more shape bytes memory records more old new running stands watched keeps =
     record {
       header = running.header;
       read = running.read;
@@ -96,6 +97,7 @@ running_more shape bytes memory records more old new running stands watched =
       stands =
           stands;
       watched = watched;
+      keeping = keeps ∙ running.keeping;
     }
 
 -- where it ends well
@@ -105,8 +107,8 @@ on_ok (Err e) p f = tt
 
 -- the record that the reader gave last may come
 pub place_may_come : WhatIsReadFits → (shape : Shape) (bytes : List ℕ) (memory : List (ℕ × Bytes))
-    (records : List Record) (r : Reading) (running : Standing) (place : Option Record)
-    → HasRead (with_record place r) bytes memory records → IsRunning shape bytes memory records running →
+    (records : List Record) (r : Reading) (running : Standing) (place : Option Record) {ordered : Bool}
+    → HasRead (with_record place r) bytes memory records → IsRunning shape ordered bytes memory records running →
     MayAllCome shape records (option_to_list place)
 place_may_come law shape bytes memory records r running None read run = tt
 place_may_come law shape bytes memory records r running (Some item) read run =
@@ -124,8 +126,9 @@ given_one r place bytes memory records read = record {
 
 -- all that the reader has found may come
 pub may_all_come : WhatIsReadFits → (shape : Shape) (bytes : List ℕ) (memory : List (ℕ × Bytes))
-    (records : List Record) (r : Reading) (running : Standing)
-    → HasRead r bytes memory records → IsRunning shape bytes memory records running → MayAllCome shape records r.records
+    (records : List Record) (r : Reading) (running : Standing) {ordered : Bool}
+    → HasRead r bytes memory records → IsRunning shape ordered bytes memory records running →
+    MayAllCome shape records r.records
 may_all_come law shape bytes memory records r running read run =
     let fits = law bytes run.header read.are_bytes run.read in
     let all : (reading_of bytes).records ≡ records ++ r.records = ap (λ (q : Reading). q.records) read.same in
@@ -174,7 +177,8 @@ module _ (exact : ReadingIsExact) (shape : Shape) (bytes : List ℕ) (are_bytes 
     differs = subst (λ (g : Header). Differs shape g field) (same_header other.header other.read) other.differs;
   }
 
-  module _ (running : Standing) (run : IsRunning shape bytes memory records running) (drained : rest ≡ []) where
+  module _ (running : Standing) {ordered : Bool} (run : IsRunning shape ordered bytes memory records running)
+      (drained : rest ≡ []) where
     none_left : left ≡ []
     none_left =
         let one = same_header run.header run.read in
@@ -215,12 +219,12 @@ module _ (exact : ReadingIsExact) (shape : Shape) (bytes : List ℕ) (are_bytes 
     }
 
 -- while the session waits, no memory matters
-pub waiting_any : (shape : Shape) (bytes : List ℕ) (a b : List (ℕ × Bytes)) (records : List Record)
+pub waiting_any : (shape : Shape) (ordered : Bool) (bytes : List ℕ) (a b : List (ℕ × Bytes)) (records : List Record)
     (judging : Judging) → judging ≡ Waiting
-    → IsJudging shape bytes a records judging → IsJudging shape bytes b records judging
-waiting_any shape bytes a b records judging e h =
-    subst (λ (j : Judging). IsJudging shape bytes b records j) (sym e)
-    (subst (λ (j : Judging). IsJudging shape bytes a records j) e h)
+    → IsJudging shape ordered bytes a records judging → IsJudging shape ordered bytes b records judging
+waiting_any shape ordered bytes a b records judging e h =
+    subst (λ (j : Judging). IsJudging shape ordered bytes b records j) (sym e)
+    (subst (λ (j : Judging). IsJudging shape ordered bytes a records j) e h)
 
 -- what a session that nothing stopped has taken
 pub going : (s : Intake) (bytes : List ℕ) → s.stop ≡ None → HasFed s bytes → HasTaken s bytes
@@ -362,8 +366,8 @@ judged_feed law s bytes piece records new was read fine = record {
   judging = go s.judging was.judging;
 }
   where
-    go : (j : Judging) → IsJudging s.shape bytes s.memory.items records j →
-        IsJudging s.shape (bytes ++ piece) s.memory.items records j
+    go : (j : Judging) → IsJudging s.shape s.asked.ordered bytes s.memory.items records j →
+        IsJudging s.shape s.asked.ordered (bytes ++ piece) s.memory.items records j
     go Waiting h = h
     go (Running running) h = record {
       header = h.header;
@@ -373,6 +377,7 @@ judged_feed law s bytes piece records new was read fine = record {
       whole = h.whole;
       stands = h.stands;
       watched = h.watched;
+      keeping = h.keeping;
     }
     go (Another field) h = record {
       header = h.header;

@@ -48,7 +48,7 @@ use Rattle.lf_verdict.specs.inner.Coming.{IsShort, logs_so_far}
 use Rattle.lf_verdict.proofs.Answered.{log_below}
 use Rattle.lf_verdict.proofs.Outcomes.{Judged}
 use Rattle.lf_verdict.proofs.Skeletons.{banks_whole, all_whole, order_len}
-use Rattle.lf_verdict.proofs.Standings.{entries_count}
+use Rattle.lf_verdict.proofs.Standings.{logs_len, skeletons_count}
 use Rattle.lf_verdict.proofs.Traces.{log_of_logs, no_log, logs_fit}
 
 -- ---- the records are an interleaving of their logs
@@ -307,9 +307,9 @@ module _ (shape : Shape) (memory : FlatMemory) (records : List Record) (s : Stan
   pub few_logs : length s.entries.logs.items ≤ 32
   few_logs = omega (
     arith,
-    entries_count (shape.ports + shape.banks) records s.entries.logs.items stands.entered.logs,
-    short.in_range.ports.1,
-    short.in_range.banks.1,
+    logs_len (skeletons_of (logs_so_far shape records)) s.entries stands.entered.kept,
+    skeletons_count (shape.ports + shape.banks) records,
+    stands.entered.few,
   )
 
   pub skeletons_short : All (λ (entries : List (ℕ × ℕ)). length entries ≤ 2 ^ 24)

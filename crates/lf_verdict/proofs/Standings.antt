@@ -1,5 +1,5 @@
 -- The parts of a trace, judged one record further.
-use Rattle.std.proofs.Common.{◌≡◌, ℕ, ◌+◌, ◌<◌, ◌≤◌, List, [], ◌∷◌, ◌++◌, map, length, get_or, set, refl, sym, ap}
+use Rattle.std.proofs.Common.{◌≡◌, ℕ, ◌+◌, ◌<◌, ◌≤◌, List, [], ◌∷◌, ◌++◌, map, length, get_or, set, slice_index, refl, sym, ap}
 use Rattle.std.proofs.Common.{◌∙◌, subst, ⊎_elim, arith}
 use Rattle.std.specs.List.{AllByRecursion}
 use Rattle.std.specs.Global.{Vec}
@@ -18,52 +18,95 @@ use Rattle.lf_logs.specs.Lists.{logs_of}
 use Rattle.lf_logs.proofs.Splitting.{of_key-push_own, of_key-push_other, parts_of-push, length-parts_of}
 use Rattle.lf_logs.proofs.Splitting.{get_or-parts_of}
 use Rattle.lf_join.specs.Join as joins
+use Rattle.lf_join.specs.Progress.{Reached, HasReached, EntriesStay, with_entry}
+use Rattle.lf_join.proofs.Reached.{left_len}
 use Rattle.lf_replay.specs.Bytes.{bank_part}
 use Rattle.lf_verdict.specs.declared.session.standing.port_judge.PortJudge.{PortJudge}
 use Rattle.lf_verdict.specs.declared.session.standing.bank_judge.BankJudge.{BankJudge}
 use Rattle.lf_verdict.specs.declared.session.standing.log_entries.Entries.{Entries}
 use Rattle.lf_verdict.specs.declared.session.standing.Standing.{Standing}
-use Rattle.lf_verdict.specs.Standing.{IsPortJudged, IsBankSettled, AreEntered, StandsAfterAll}
-use Rattle.lf_verdict.specs.inner.Coming.{MayCome}
+use Rattle.lf_verdict.specs.Standing.{IsPortJudged, IsBankSettled, AreKept, AreEntered, StandsAfterAll}
+use Rattle.lf_verdict.specs.inner.Coming.{MayCome, HasLog}
 use Rattle.lf_verdict.proofs.Answered.{log_below}
 
 -- ---- the entries of the logs
 
--- the log of the next record holds the entries of its records so far
-pub entries_at : (count : ℕ) (rs : List Record) (xs : List (Vec (ℕ × ℕ))) (i : ℕ) (d : Vec (ℕ × ℕ)) →
-    joins.skeleton_lists xs ≡ skeletons_of (logs_of count rs) → i < count
-    → (get_or xs i d).items ≡ map entry_of (of_log i rs)
-entries_at count rs xs i d are within =
-    let long : length xs ≡ count =
-    sym (length-map xs (λ (v : Vec (ℕ × ℕ)). v.items)) ∙ ap length are ∙ length-map (logs_of count rs) (map entry_of)
-    ∙ length-parts_of (λ r. r.log) count rs in
-    sym (get_or-map (λ (v : Vec (ℕ × ℕ)). v.items) xs i d [] (omega arith))
-    ∙ ap (λ (ls : List (List (ℕ × ℕ))). get_or ls i []) are
-    ∙ get_or-map (map entry_of) (logs_of count rs) i [] [] (omega (arith, length-parts_of (λ r. r.log) count rs))
-    ∙ ap (map entry_of) (get_or-parts_of (λ r. r.log) count rs i [] within)
+abbrev items : Vec (ℕ × ℕ) → List (ℕ × ℕ)
+items entries = entries.items
 
-pub entries_count : (count : ℕ) (rs : List Record) (xs : List (Vec (ℕ × ℕ))) →
-    joins.skeleton_lists xs ≡ skeletons_of (logs_of count rs) → length xs ≡ count
-entries_count count rs xs are =
-    sym (length-map xs (λ (v : Vec (ℕ × ℕ)). v.items)) ∙ ap length are ∙ length-map (logs_of count rs) (map entry_of)
-    ∙ length-parts_of (λ r. r.log) count rs
-
-pub entries_more : (count : ℕ) (rs : List Record) (r : Record) (xs : List (Vec (ℕ × ℕ))) (v w : Vec (ℕ × ℕ)) →
-    r.log < count → joins.skeleton_lists xs ≡ skeletons_of (logs_of count rs)
-    → v ≡ get_or xs r.log v → w.items ≡ v.items ++ (r.bank, r.number) ∷ []
-    → joins.skeleton_lists (set xs r.log w) ≡ skeletons_of (logs_of count (rs ++ r ∷ []))
-entries_more count rs r xs v w within are read pushed =
+-- the logs of one record more
+pub skeletons_more : (count : ℕ) (rs : List Record) (r : Record) → r.log < count →
+    with_entry (skeletons_of (logs_of count rs)) r.log (entry_of r) ≡ skeletons_of (logs_of count (rs ++ r ∷ []))
+skeletons_more count rs r within =
     let log = of_log r.log rs in
-    let here : w.items ≡ map entry_of (log ++ r ∷ []) =
-    pushed
-    ∙ ap (λ (es : List (ℕ × ℕ)). es ++ (r.bank, r.number) ∷ [])
-    (ap (λ (u : Vec (ℕ × ℕ)). u.items) read ∙ entries_at count rs xs r.log v are within)
-    ∙ sym (map-append entry_of log (r ∷ [])) in
-    map-set (λ (u : Vec (ℕ × ℕ)). u.items) xs r.log w
-    ∙ ap (λ (ls : List (List (ℕ × ℕ))). set ls r.log w.items) are
-    ∙ ap (λ (es : List (ℕ × ℕ)). set (skeletons_of (logs_of count rs)) r.log es) here
+    let logs = skeletons_of (logs_of count rs) in
+    let here : log_at logs r.log ≡ map entry_of log =
+    get_or-map (map entry_of) (logs_of count rs) r.log [] []
+    (omega (arith, length-parts_of (λ r. r.log) count rs, within))
+    ∙ ap (map entry_of) (get_or-parts_of (λ r. r.log) count rs r.log [] within) in
+    ap (λ (es : List (ℕ × ℕ)). set logs r.log (es ++ entry_of r ∷ [])) here
+    ∙ ap (set logs r.log) (sym (map-append entry_of log (r ∷ [])))
     ∙ sym (map-set (map entry_of) (logs_of count rs) r.log (log ++ r ∷ []))
     ∙ ap skeletons_of (parts_of-push (λ r. r.log) count rs r within)
+
+pub skeletons_count : (count : ℕ) (rs : List Record) → length (skeletons_of (logs_of count rs)) ≡ count
+skeletons_count count rs = length-map (logs_of count rs) (map entry_of) ∙ length-parts_of (λ r. r.log) count rs
+
+pub skeleton_at : (count : ℕ) (rs : List Record) (log : ℕ) → log < count →
+    length (log_at (skeletons_of (logs_of count rs)) log) ≡ length (of_log log rs)
+skeleton_at count rs log within =
+    ap length (get_or-map (map entry_of) (logs_of count rs) log [] []
+    (omega (arith, length-parts_of (λ r. r.log) count rs, within))
+    ∙ ap (map entry_of) (get_or-parts_of (λ r. r.log) count rs log [] within))
+    ∙ length-map (of_log log rs) entry_of
+
+-- one entry more of those that are kept
+pub lists_more : (logs : List (Vec (ℕ × ℕ))) (log i : ℕ) (v w : Vec (ℕ × ℕ)) (entry : ℕ × ℕ) → i ≡ log →
+    i < length logs → v ≡ get_or logs i v → w.items ≡ v.items ++ entry ∷ []
+    → joins.skeleton_lists (set logs i w) ≡ with_entry (joins.skeleton_lists logs) log entry
+lists_more logs log i v w entry at within read pushed =
+    map-set items logs i w
+    ∙ ap (set (joins.skeleton_lists logs) i)
+    (pushed ∙ ap (λ (es : List (ℕ × ℕ)). es ++ entry ∷ [])
+    (ap items read ∙ sym (get_or-map items logs i v [] within)))
+    ∙ ap (λ n. with_entry (joins.skeleton_lists logs) n entry) at
+
+module _ (skeletons : List (List (ℕ × ℕ))) (e : Entries) (kept : AreKept skeletons e) where
+  pub logs_len : length e.logs.items ≡ length skeletons
+  logs_len = sym (length-map e.logs.items items)
+      ∙ left_len skeletons e.progress (joins.skeleton_lists e.logs.items) kept.left
+
+  -- the entries of a log that are kept, with those that have gone
+  pub log_len : (log i : ℕ) (v : Vec (ℕ × ℕ)) → i ≡ log → v ≡ get_or e.logs.items i v → log < length skeletons →
+      slice_index e.progress.places log + length v.items ≡ length (log_at skeletons log)
+  log_len log i v at read within =
+      let here : log_at (joins.skeleton_lists e.logs.items) log ≡ v.items =
+      ap (log_at (joins.skeleton_lists e.logs.items)) (sym at)
+      ∙ get_or-map items e.logs.items i v [] (omega (arith, at, logs_len, within)) ∙ ap items (sym read) in
+      omega (arith, kept.left.counted log, ap length here)
+
+  -- where none is kept of a log, none is left
+  pub none_left : (log i : ℕ) (v : Vec (ℕ × ℕ)) → i ≡ log → v ≡ get_or e.logs.items i v → log < length skeletons →
+      v.items ≡ [] → log_at (joins.skeleton_lists e.logs.items) log ≡ []
+  none_left log i v at read within none =
+      ap (log_at (joins.skeleton_lists e.logs.items)) (sym at)
+      ∙ get_or-map items e.logs.items i v [] (omega (arith, at, logs_len, within)) ∙ ap items (sym read) ∙ none
+
+  pub kept_more : EntriesStay → (log i : ℕ) (v w : Vec (ℕ × ℕ)) (entry : ℕ × ℕ) (new : Entries) → i ≡ log →
+      log < length skeletons → v ≡ get_or e.logs.items i v → w.items ≡ v.items ++ entry ∷ []
+      → new.logs.items ≡ set e.logs.items i w → new.progress ≡ e.progress → new.keeps ≡ e.keeps
+      → AreKept (with_entry skeletons log entry) new
+  kept_more stay log i v w entry new at within read pushed logs progress keeps =
+      let lists : joins.skeleton_lists new.logs.items ≡ with_entry (joins.skeleton_lists e.logs.items) log entry =
+      ap joins.skeleton_lists logs
+      ∙ lists_more e.logs.items log i v w entry at (omega (arith, at, logs_len, within)) read pushed in
+      record {
+        left = subst (λ (p : Reached). HasReached (with_entry skeletons log entry) p
+            (joins.skeleton_lists new.logs.items)) (sym progress)
+            (subst (HasReached (with_entry skeletons log entry) e.progress) (sym lists)
+            (stay skeletons (joins.skeleton_lists e.logs.items) e.progress log entry within kept.left));
+        all = λ is. lists ∙ ap (λ (ls : List (List (ℕ × ℕ))). with_entry ls log entry) (kept.all (sym keeps ∙ is));
+      }
 
 -- ---- the ports
 
@@ -145,21 +188,24 @@ module _ (shape : Shape) (records : List Record) (e : Entries) (entered : AreEnt
   pub log_below_all : r.log < shape.ports + shape.banks
   log_below_all = log_below shape.ports r.bank r.number r.log shape.banks r.event may.fits.bank may.fits.log
 
-  pub log_length : (i : ℕ) (v : Vec (ℕ × ℕ)) → i ≡ r.log → v ≡ get_or e.logs.items i v →
-      length v.items ≡ length (of_log r.log records)
-  log_length i v at read =
-      ap (λ (u : Vec (ℕ × ℕ)). length u.items) (read ∙ ap (λ n. get_or e.logs.items n v) at)
-      ∙ ap length (entries_at (shape.ports + shape.banks) records e.logs.items r.log v entered.logs log_below_all)
-      ∙ length-map (of_log r.log records) entry_of
+  pub log_inside : r.log < length (skeletons_of (logs_of (shape.ports + shape.banks) records))
+  log_inside = omega (arith, skeletons_count (shape.ports + shape.banks) records, log_below_all)
 
-  pub logs_more : (i : ℕ) (v w : Vec (ℕ × ℕ)) → i ≡ r.log → v ≡ get_or e.logs.items i v →
-      w.items ≡ v.items ++ (r.bank, r.number) ∷ []
-      → joins.skeleton_lists (set e.logs.items i w) ≡ skeletons_of
-      (logs_of (shape.ports + shape.banks) (records ++ r ∷ []))
-  logs_more i v w at read pushed =
-      ap (λ n. joins.skeleton_lists (set e.logs.items n w)) at
-      ∙ entries_more (shape.ports + shape.banks) records r e.logs.items v w log_below_all entered.logs
-      (read ∙ ap (λ n. get_or e.logs.items n v) at) pushed
+  -- the record's log, among the entries
+  pub has_log : HasLog r.log e
+  has_log = record {
+    skeletons = skeletons_of (logs_of (shape.ports + shape.banks) records);
+    kept = entered.kept;
+    few = omega (arith, skeletons_count (shape.ports + shape.banks) records, entered.few);
+    inside = log_inside;
+    short = omega (arith, skeleton_at (shape.ports + shape.banks) records r.log log_below_all, may.room);
+  }
+
+  pub entered_more : (new : Entries) →
+      AreKept (with_entry (skeletons_of (logs_of (shape.ports + shape.banks) records)) r.log (entry_of r)) new →
+      AreKept (skeletons_of (logs_of (shape.ports + shape.banks) (records ++ r ∷ []))) new
+  entered_more new kept = subst (λ (ls : List (List (ℕ × ℕ))). AreKept ls new)
+      (skeletons_more (shape.ports + shape.banks) records r log_below_all) kept
 
   pub port_before : (i : ℕ) (v : PortJudge) → i ≡ r.log → v ≡ get_or e.ports.items i v → i < shape.ports →
       IsPortJudged shape r.log (of_log r.log records) v

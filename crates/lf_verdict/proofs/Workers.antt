@@ -1,5 +1,5 @@
 -- The shares that workers judge.
-use Rattle.std.proofs.Common.{List}
+use Rattle.std.proofs.Common.{◌≡◌, List}
 use Rattle.std.specs.Prelude.{Ok}
 use Rattle.lf_rules.specs.declared.shape.Shape.{Shape}
 use Rattle.lf_rules.specs.declared.event.Record.{Record}
@@ -17,6 +17,7 @@ pub entries_after : (start : Standing) (records : List Record) (new : Share) →
     Takes records (shares.Entries start.entries (Ok tt)) new → IsShareAfter start records kinds.Entries new
 entries_after start records new takes = record {
   is = takes.kind;
+  keeps = λ is. takes.keeps;
   judged = λ shape memory before stands may. takes.judged shape memory before may stands.entered;
 }
 
@@ -38,6 +39,7 @@ pub banks_after : (start : Standing) (records : List Record) (new : Share) →
     Takes records (shares.Banks start.banks) new → IsShareAfter start records kinds.Banks new
 banks_after start records new takes = record {
   is = takes.kind;
+  keeps = λ (is : kinds.Banks ≡ kinds.Entries). absurd (cc);
   judged = λ shape memory before stands may.
       takes.judged shape memory before may (banks_stand start shape memory before stands);
 }

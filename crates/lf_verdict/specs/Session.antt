@@ -1,5 +1,5 @@
 -- What a session has seen of a trace.
-use Rattle.std.specs.Prelude.{◌≡◌, ℕ, true, List, [], length, Option, Some, None, Result, Ok, Err}
+use Rattle.std.specs.Prelude.{◌≡◌, Bool, ℕ, true, List, [], length, Option, Some, None, Result, Ok, Err}
 use Rattle.lf_rules.specs.declared.event.Record.{Record}
 use Rattle.lf_rules.specs.declared.shape.Shape.{Shape}
 use Rattle.lf_rules.specs.Address.{flat_memory}
@@ -28,14 +28,16 @@ use Rattle.lf_verdict.specs.Verdict.{Differs}
 
 -- The memory is whole and of a header that agrees with the shape, the parts stand where the records lead, and it is
 -- known whether one broke.
-pub record IsRunning (shape : Shape) (bytes : List ℕ) (memory : List (ℕ × Bytes)) (records : List Record)
-    (running : Standing) : Type 0 where
+pub record IsRunning (shape : Shape) (ordered : Bool) (bytes : List ℕ) (memory : List (ℕ × Bytes))
+    (records : List Record) (running : Standing) : Type 0 where
   pub header : Header
   pub read : header_of bytes ≡ Some header
   pub agrees : Agrees shape header
   pub whole : length memory ≡ header.memory_count
   pub stands : StandsAfterAll shape (flat_memory memory) records running
   pub watched : IsWatch (first_offset header memory) shape (flat_memory memory) records running.watch
+  -- every entry is kept where an order is asked for
+  pub keeping : running.entries.keeps ≡ ordered
 
 -- The header is of another hierarchy.
 pub record IsOfAnotherHeader (shape : Shape) (bytes : List ℕ) (field : HeaderField) : Type 0 where
@@ -49,17 +51,17 @@ HeaderAgrees shape bytes = (header : Header) → header_of bytes ≡ Some header
 
 -- No record was taken before the memory is whole; from then on each is judged, unless the header is of another
 -- hierarchy.
-abbrev pub IsJudging : Shape → List ℕ → List (ℕ × Bytes) → List Record → Judging → Type 0
-IsJudging shape bytes memory records Waiting = records ≡ []
-IsJudging shape bytes memory records (Running running) = IsRunning shape bytes memory records running
-IsJudging shape bytes memory records (Another field) = IsOfAnotherHeader shape bytes field
+abbrev pub IsJudging : Shape → Bool → List ℕ → List (ℕ × Bytes) → List Record → Judging → Type 0
+IsJudging shape ordered bytes memory records Waiting = records ≡ []
+IsJudging shape ordered bytes memory records (Running running) = IsRunning shape ordered bytes memory records running
+IsJudging shape ordered bytes memory records (Another field) = IsOfAnotherHeader shape bytes field
 
 -- The session was fed these bytes, and took these records from them.
 pub record HasJudged (s : Intake) (bytes : List ℕ) (records : List Record) : Type 0 where
   pub in_range : IsShape s.shape
   pub read : HasRead s.reader bytes s.memory.items records
   pub fine : s.reader.fault ≡ None
-  pub judging : IsJudging s.shape bytes s.memory.items records s.judging
+  pub judging : IsJudging s.shape s.asked.ordered bytes s.memory.items records s.judging
 
 -- ... whichever records they are.
 abbrev pub HasTaken : Intake → List ℕ → Type 0
@@ -75,9 +77,10 @@ abbrev pub IsWatched : Judging → Type 0
 IsWatched (Running running) = IsKnown running.watch
 IsWatched _ = Unit {0}
 
--- The records are watched, and judged one after another, so that it is known upon which a part broke first.
+-- An order is asked for and the records are watched, and they are judged one after another, so that it is known upon
+-- which a part broke first.
 pub record IsInTurn (s : Intake) : Type 0 where
-  pub asked : s.watched ≡ true
+  pub asked : s.asked ≡ record { watched = true; ordered = true }
   pub known : IsWatched s.judging
 
 -- Nothing stopped the session and it has judged the records that it took, or a fault that stands in the bytes stopped

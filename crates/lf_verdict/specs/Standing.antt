@@ -1,5 +1,5 @@
 -- How the parts of a trace stand while its records come.
-use Rattle.std.specs.Prelude.{◌≡◌, ℕ, ◌+◌, ◌<◌, true, List, length, slice_index_or, None}
+use Rattle.std.specs.Prelude.{◌≡◌, ℕ, ◌+◌, ◌<◌, ◌≤◌, true, List, length, slice_index_or, None}
 use Rattle.std.specs.List.{AllByRecursion}
 use Rattle.lf_rules.specs.declared.shape.Shape.{Shape}
 use Rattle.lf_rules.specs.declared.event.Record.{Record}
@@ -16,6 +16,7 @@ use Rattle.lf_logs.specs.Lists.{logs_of}
 use Rattle.lf_logs.specs.Reordering.{first_with, HasOrdered}
 use Rattle.lf_logs.specs.Tags.{PortView, PortStandsAfter}
 use Rattle.lf_join.specs.Join as joins
+use Rattle.lf_join.specs.Progress.{HasReached}
 use Rattle.lf_replay.specs.Bytes.{bank_part}
 use Rattle.lf_replay.specs.Step.{StepView, IsStepAfter}
 use Rattle.lf_verdict.specs.declared.session.standing.port_judge.PortJudge.{PortJudge}
@@ -59,8 +60,6 @@ pub record IsBankJudged (shape : Shape) (memory : FlatMemory) (bank : ℕ) (came
   pub of_bank : judge.step.bank ≡ bank
   pub of_shape : judge.step.state.shape ≡ shape
   pub judged : IsBankAt shape memory bank gave judge.step judge.outcome
-  -- where each came in its turn, they were judged as they came
-  pub turn : judge.in_turn ≡ true → came ≡ gave
 
 -- ... and the next one has not come.
 pub record IsBankSettled (shape : Shape) (memory : FlatMemory) (bank : ℕ) (came gave : List Record)
@@ -70,9 +69,16 @@ pub record IsBankSettled (shape : Shape) (memory : FlatMemory) (bank : ℕ) (cam
 
 -- ---- all of them
 
--- These records of the trace came: each log's entries are kept, and each port was judged as far as its records go.
+-- The entries of these logs are kept, but for those that have gone. Where every entry is to be kept, none has.
+pub record AreKept (skeletons : List (List (ℕ × ℕ))) (e : Entries) : Type 0 where
+  pub left : HasReached skeletons e.progress (joins.skeleton_lists e.logs.items)
+  pub all : e.keeps ≡ true → joins.skeleton_lists e.logs.items ≡ skeletons
+
+-- These records of the trace came: each log's entries are kept as far as they must, and each port was judged as far as
+-- its records go.
 pub record AreEntered (shape : Shape) (records : List Record) (e : Entries) : Type 0 where
-  pub logs : joins.skeleton_lists e.logs.items ≡ skeletons_of (logs_of (shape.ports + shape.banks) records)
+  pub few : shape.ports + shape.banks ≤ 32
+  pub kept : AreKept (skeletons_of (logs_of (shape.ports + shape.banks) records)) e
   pub count_ports : length e.ports.items ≡ shape.ports
   pub ports : (port : ℕ) (d : PortJudge) → port < shape.ports →
       IsPortJudged shape port (of_log port records) (slice_index_or e.ports.items port d)

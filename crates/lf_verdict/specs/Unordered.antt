@@ -1,5 +1,5 @@
 -- The verdict of a trace where no order of its events is asked for.
-use Rattle.std.specs.Prelude.{◌≡◌, ℕ, List, [], length, Ok}
+use Rattle.std.specs.Prelude.{◌≡◌, Bool, true, false, ℕ, List, [], length, Ok}
 use Rattle.lf_rules.specs.declared.shape.Shape.{Shape}
 use Rattle.lf_rules.specs.declared.event.Record.{Record}
 use Rattle.lf_rules.specs.Address.{FlatMemory, flat_memory}
@@ -12,7 +12,7 @@ use Rattle.lf_verdict.specs.declared.answer.Verdict.TheVariants.{Yes}
 use Rattle.lf_verdict.specs.Configured.{IsVerdictFor, IsLegalFor}
 use Rattle.lf_verdict.specs.Legal.{IsTraceFor, IsLegal}
 use Rattle.lf_verdict.specs.Parts.{PartsRun}
-use Rattle.lf_verdict.specs.Verdict.{IsWorkerCount, IsVerdictOf}
+use Rattle.lf_verdict.specs.Verdict.{IsWorkerCount, IsVerdictOf, IsLegalYes}
 
 -- The parts run, and some order of the logs keeps the numbers. It has so many events.
 pub record HasOrder (shape : Shape) (memory : FlatMemory) (logs : List (List Record)) (events : ℕ) : Type 0 where
@@ -42,6 +42,18 @@ abbrev pub IsLegalUnordered : Shape → List ℕ → Verdict → Type 0
 IsLegalUnordered shape bytes (Yes events told) = (order : List ℕ) × (IsLegal shape bytes order ×
     (events ≡ length order))
 IsLegalUnordered shape bytes _ = Unit {0}
+
+-- ---- where it is said whether an order is asked for
+
+abbrev pub IsVerdictAsAsked : Bool → Shape → ℕ → List ℕ → Verdict → Type 0
+IsVerdictAsAsked true shape workers bytes verdict = IsVerdictOf shape workers bytes verdict
+IsVerdictAsAsked false shape workers bytes verdict = IsUnordered shape workers bytes verdict
+
+abbrev pub IsLegalAsAsked : Bool → Shape → List ℕ → Verdict → Type 0
+IsLegalAsAsked true shape bytes verdict = IsLegalYes shape bytes verdict
+IsLegalAsAsked false shape bytes verdict = IsLegalUnordered shape bytes verdict
+
+-- ---- the law
 
 -- Where each part of a trace runs and its logs have an order, the trace is legal by that order.
 abbrev pub OrderedYesIsLegal : Type 0

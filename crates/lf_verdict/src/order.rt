@@ -1,7 +1,7 @@
 //! The order of all logs.
 
 ghost use Rattle.std.specs.Prelude.{◌≡◌, ◌≤◌, ◌^◌, length, IfOk, IfErr};
-ghost use Rattle.std.specs.List.{All, sum_by};
+ghost use Rattle.std.specs.List.{All};
 ghost use Rattle.lf_rules.specs.Order.{IsLeastOrder};
 ghost use Rattle.lf_rules.specs.Ring.{skeletons_of};
 ghost use Rattle.lf_rules.specs.Lists.{lists_of};
@@ -29,19 +29,6 @@ pub fn least_order(alloc: Global, logs: &[Skeleton]) -> Result<Vec<u8>, Ending>
         Err(JoinFault::Cycle(ring)) => Err(Ending::Fault(Fault::Cycle(ring))),
         Err(JoinFault::NoMemory) => Err(Ending::NoMemory),
     }
-}
-
-/// How many entries the logs have.
-pub fn entry_count(logs: &[Skeleton]) -> u32
-    requires few { length logs.now ≤ 32 }
-    requires short { All (λ entries. length entries ≤ 2 ^ 24) (skeleton_lists logs.now) }
-    ensures { result ≡ sum_by length (skeleton_lists logs.now) }
-{
-    let mut count = 0;
-    for entries in logs {
-        count += entries.len() as u32;
-    }
-    count
 }
 
 /// An order of the records of the logs.

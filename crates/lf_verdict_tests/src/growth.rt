@@ -154,7 +154,7 @@ fn refused_growth_of_session_on_cycle_of_two_logs(rt: HostRuntime) -> Result<(),
 #[test]
 fn refused_growth_of_session_by_four_workers(rt: HostRuntime) -> Result<(), Fail> {
     let bytes = hits_and(rt.alloc(), 60, HIT)?;
-    let mut session = ParallelSession::in_batches(rt.alloc(), &C1, 4, 40, NoGate);
+    let mut session = ParallelSession::in_batches(rt.alloc(), &C1, 4, 40, NoGate, true);
     for piece in bytes.chunks(1024) {
         if let Err(told) = session.feed(&rt, piece) {
             assert_eq!(rt; told, Told::Fault(Refusal::Memory));

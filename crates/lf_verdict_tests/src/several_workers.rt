@@ -29,7 +29,7 @@ fn by_workers<T: AllocGlobal + Threads + Sync + Send + Copy + 'static>(
 ) -> Verdict
     requires { IsShape shape.now }
 {
-    let mut session = ParallelSession::in_batches(rt.alloc(), shape, workers, BATCH, NoGate);
+    let mut session = ParallelSession::in_batches(rt.alloc(), shape, workers, BATCH, NoGate, true);
     for piece in bytes.chunks(PIECE) {
         let _ = session.feed(rt, piece);
     }
@@ -88,7 +88,7 @@ fn broken_by<T: AllocGlobal + Threads + Sync + Send + Copy + 'static>(
     workers: u32,
     batch: usize,
 ) -> (Option<Broken>, Verdict) {
-    let mut session = ParallelSession::in_batches(rt.alloc(), &C1, workers, batch, NoGate);
+    let mut session = ParallelSession::in_batches(rt.alloc(), &C1, workers, batch, NoGate, true);
     let mut broken = None;
     for piece in bytes.chunks(PIECE) {
         let _ = session.feed(rt, piece);
@@ -175,7 +175,7 @@ fn judges_inside_at_once(rt: HostRuntime) -> Result<(), Fail> {
             met: AtomicU64::new(0),
         },
     )?);
-    let mut session = ParallelSession::in_batches(rt.alloc(), &FOUR_BANKS, 2, 1, pair);
+    let mut session = ParallelSession::in_batches(rt.alloc(), &FOUR_BANKS, 2, 1, pair, true);
     for piece in bytes.chunks(64) {
         let _ = session.feed(&rt, piece);
     }

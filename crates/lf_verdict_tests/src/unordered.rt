@@ -2,9 +2,9 @@
 
 use crate::examples::cycle_of;
 use crate::verdicts::port_fault;
-use lf_rules::Rule;
+use lf_rules::{Knot, Ring, Rule};
 use lf_samples::{C1, records_at, trace};
-use lf_verdict::{NoGate, ParallelSession, Verdict};
+use lf_verdict::{Fault, NoGate, ParallelSession, Verdict};
 use std::alloc::Global;
 use std::process::Abort;
 use std::test::Fail;
@@ -23,11 +23,11 @@ fn assert_unordered<T: Abort + AllocGlobal + Threads + Sync + Send + Copy + 'sta
     let memory = Vec::new(rt.alloc());
     let bytes = trace(rt.alloc(), 1, &C1, &memory, &records)?;
     for workers in [1u32, 2] {
-        let mut session = ParallelSession::in_batches(rt.alloc(), &C1, workers, 1, NoGate);
+        let mut session = ParallelSession::in_batches(rt.alloc(), &C1, workers, 1, NoGate, false);
         for piece in bytes.chunks(20) {
             let _ = session.feed(rt, piece);
         }
-        assert_eq!(rt; session.finish_unordered(rt), *verdict);
+        assert_eq!(rt; session.finish(rt), *verdict);
     }
     Ok(())
 }
@@ -64,4 +64,27 @@ fn no_without_an_order(rt: HostRuntime) -> Result<(), Fail> {
     assert_unordered(&rt, &busy, &port_fault(1, Rule::TagBusy))?;
     let ring = [(0, 0, 1, "L 0 8@0"), (0, 0, 0, "L 1 8@0")];
     assert_unordered(&rt, &ring, &cycle_of(&[0]))
+}
+
+/// The entries that come before the ring have gone, and are not kept.
+#[test]
+fn ring_behind_what_has_gone(rt: HostRuntime) -> Result<(), Fail> {
+    let rows = [
+        (0, 0, 0, "L 0 8@0"),
+        (1, 0, 1, "P 0 0"),
+        (0, 0, 3, "L 1 8@8"),
+        (0, 0, 2, "L 2 8@8"),
+    ];
+    let mut ring = Ring::new();
+    let _ = ring.try_push(Knot { log: 0, at: 1 });
+    assert_unordered(&rt, &rows, &Verdict::No(Fault::Cycle(ring)))
+}
+
+#[test]
+fn session_without_an_order(rt: HostRuntime) -> Result<(), Fail> {
+    let mut session = ParallelSession::unordered(rt.alloc(), &C1, 1);
+    let bytes = trace(rt.alloc(), 1, &C1, &Vec::new(rt.alloc()), &[])?;
+    assert!(rt; session.feed(&rt, &bytes).is_ok());
+    assert_eq!(rt; session.finish(&rt), yes_of(rt.alloc(), 0));
+    Ok(())
 }

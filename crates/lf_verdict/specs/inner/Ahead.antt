@@ -21,6 +21,7 @@ pub record CanRead {G : Type 0} (a : Ahead G) : Type 0 where
 -- It took the piece, or the result tells what stops it. Its caller stops it.
 pub record ReadsOn {G : Type 0} (old new : Ahead G) (piece : List ℕ) (result : Result (Unit {0}) Stop) : Type 0 where
   pub shape : new.intake.shape ≡ old.intake.shape
+  pub asked : new.intake.asked ≡ old.intake.asked
   pub stop : new.intake.stop ≡ old.intake.stop
   pub running : OnOk result (IsRunningNow (session_of new).judging)
   pub workers : IfSome new.at_work AreWorkers

@@ -1,15 +1,17 @@
 -- Which records may come next, and the logs of those that came.
 use Rattle.std.specs.Prelude.{ℕ, ◌+◌, ◌<◌, ◌≤◌, ◌^◌, ◌++◌, List, [], ◌∷◌, length, Result, OnOk}
+use Rattle.std.specs.List.{All}
 use Rattle.lf_rules.specs.declared.shape.Shape.{Shape}
 use Rattle.lf_rules.specs.declared.event.Record.{Record}
 use Rattle.lf_rules.specs.Address.{FlatMemory}
 use Rattle.lf_rules.specs.Fits.{Fits}
 use Rattle.lf_rules.specs.InRange.{IsShape}
+use Rattle.lf_rules.specs.Order.{log_at}
 use Rattle.lf_rules.specs.Run.{of_log}
 use Rattle.lf_logs.specs.Lists.{logs_of}
 use Rattle.lf_verdict.specs.declared.session.standing.log_entries.Entries.{Entries}
 use Rattle.lf_verdict.specs.declared.session.standing.Standing.{Standing}
-use Rattle.lf_verdict.specs.Standing.{AreEntered, StandsAfterAll}
+use Rattle.lf_verdict.specs.Standing.{AreKept, AreEntered, StandsAfterAll}
 
 -- The record may come next: it fits, and its log has room for it.
 pub record MayCome (shape : Shape) (records : List Record) (r : Record) : Type 0 where
@@ -20,6 +22,20 @@ pub record MayCome (shape : Shape) (records : List Record) (r : Record) : Type 0
 abbrev pub MayAllCome : Shape → List Record → List Record → Type 0
 MayAllCome shape records [] = Unit {0}
 MayAllCome shape records (r ∷ rs) = MayCome shape records r × MayAllCome shape (records ++ r ∷ []) rs
+
+-- It is one of some logs whose entries are kept as far as they must, and is not too long.
+pub record HasLog (log : ℕ) (entries : Entries) : Type 0 where
+  pub skeletons : List (List (ℕ × ℕ))
+  pub kept : AreKept skeletons entries
+  pub few : length skeletons ≤ 32
+  pub inside : log < length skeletons
+  pub short : length (log_at skeletons log) ≤ 2 ^ 24
+
+-- The entries of these logs are kept as far as they must, and none of the logs is too long.
+pub record AreAllKept (skeletons : List (List (ℕ × ℕ))) (entries : Entries) : Type 0 where
+  pub kept : AreKept skeletons entries
+  pub few : length skeletons ≤ 32
+  pub short : All (λ log. length log ≤ 2 ^ 24) skeletons
 
 -- Some records of a trace came, and this one may come next.
 pub record CanEnter (item : Record) (entries : Entries) : Type 0 where

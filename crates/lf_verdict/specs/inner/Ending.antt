@@ -1,5 +1,5 @@
 -- What the check of a trace's logs ends with.
-use Rattle.std.specs.Prelude.{◌≡◌, ℕ, ◌<◌, List, [], length, slice_index_or, Option, None}
+use Rattle.std.specs.Prelude.{◌≡◌, Bool, true, false, ℕ, ◌<◌, List, [], length, slice_index_or, Option, None}
 use Rattle.lf_rules.specs.declared.shape.Shape.{Shape}
 use Rattle.lf_rules.specs.declared.event.Record.{Record}
 use Rattle.lf_rules.specs.declared.outcome.Outcome.{Outcome}
@@ -93,3 +93,8 @@ IsLogsUnordered shape memory logs verdict = IsLogsVerdict shape memory logs verd
 abbrev pub IsUnorderedOrWant : Shape → List ℕ → Verdict → Type 0
 IsUnorderedOrWant shape bytes (Yes events told) = IsOrderedYes shape bytes events × (told.items ≡ [])
 IsUnorderedOrWant shape bytes verdict = IsVerdictOrWant shape bytes verdict
+
+-- ... and where it is said whether one is
+abbrev pub IsAnswerAsAsked : Bool → Shape → List ℕ → Verdict → Type 0
+IsAnswerAsAsked true shape bytes verdict = IsVerdictOrWant shape bytes verdict
+IsAnswerAsAsked false shape bytes verdict = IsUnorderedOrWant shape bytes verdict

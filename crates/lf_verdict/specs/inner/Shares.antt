@@ -1,5 +1,5 @@
 -- The parts of a trace in two shares: the entries of the logs with the ports, and the banks.
-use Rattle.std.specs.Prelude.{◌≡◌, ◌≢◌, ℕ, ◌<◌, ◌++◌, List, length, slice_index_or, OnOk, IfOk, Result}
+use Rattle.std.specs.Prelude.{◌≡◌, ◌≢◌, Bool, false, ℕ, ◌<◌, ◌++◌, List, length, slice_index_or, OnOk, IfOk, Result}
 use Rattle.std.specs.List.{AllByRecursion}
 use Rattle.lf_rules.specs.declared.shape.Shape.{Shape}
 use Rattle.lf_rules.specs.declared.event.Record.{Record}
@@ -72,6 +72,11 @@ abbrev pub kind_of : Share → ShareKind
 kind_of (shares.Entries entries result) = kinds.Entries
 kind_of (shares.Banks banks) = kinds.Banks
 
+-- whether every entry is kept, of the share that has entries
+abbrev pub keeps_of : Share → Bool
+keeps_of (shares.Entries entries result) = entries.keeps
+keeps_of (shares.Banks banks) = false
+
 -- These are the entries, and those the banks.
 pub record AreOfTheirKinds (entries banks : Share) : Type 0 where
   pub of_entries : kind_of entries ≡ kinds.Entries
@@ -97,12 +102,15 @@ CanTake records share = (shape : Shape) × ((memory : FlatMemory) × ((before : 
 -- It was judged on these records too.
 pub record Takes (records : List Record) (old new : Share) : Type 0 where
   pub kind : kind_of new ≡ kind_of old
+  pub keeps : keeps_of new ≡ keeps_of old
   pub judged : (shape : Shape) (memory : FlatMemory) (before : List Record) → MayAllCome shape before records →
       IsShareAt shape memory before old → IsShareAt shape memory (before ++ records) new
 
 -- Where the parts stood so and these records came next, the share of this kind was judged on them too.
 pub record IsShareAfter (start : Standing) (records : List Record) (kind : ShareKind) (share : Share) : Type 0 where
   pub is : kind_of share ≡ kind
+  -- entries are kept as before
+  pub keeps : kind ≡ kinds.Entries → keeps_of share ≡ start.entries.keeps
   pub judged : (shape : Shape) (memory : FlatMemory) (before : List Record) → StandsAfterAll shape memory before start
       → MayAllCome shape before records → IsShareAt shape memory (before ++ records) share
 
@@ -119,6 +127,7 @@ pub record MayFollow (start : Standing) (records : List Record) : Type 0 where
 -- They stand so after these records too. It is not known upon which of them a part broke.
 pub record StandsAfterNext (start : Standing) (records : List Record) (end : Standing) : Type 0 where
   pub unknown : end.watch ≡ Unknown
+  pub keeps : end.entries.keeps ≡ start.entries.keeps
   pub stands : (shape : Shape) (memory : FlatMemory) (before : List Record) → StandsAfterAll shape memory before start
       → MayAllCome shape before records → StandsAfterAll shape memory (before ++ records) end
 

@@ -1,5 +1,5 @@
 -- What an intake takes from its reader.
-use Rattle.std.specs.Prelude.{◌≡◌, ℕ, List, [], length, Some}
+use Rattle.std.specs.Prelude.{◌≡◌, Bool, ℕ, List, [], length, Some}
 use Rattle.lf_rules.specs.declared.shape.Shape.{Shape}
 use Rattle.lf_rules.specs.declared.event.Record.{Record}
 use Rattle.lf_rules.specs.Fits.{Bytes}
@@ -35,8 +35,9 @@ running_before standing records s = record s { judging = Running standing; reade
 -- The parts stand where the records lead that were taken from the reader.
 pub record CanJudge (reader : Reading) (standing : Standing) : Type 0 where
   pub shape : Shape
+  pub ordered : Bool
   pub bytes : List ℕ
   pub memory : List (ℕ × Bytes)
   pub records : List Record
   pub read : HasRead reader bytes memory records
-  pub run : IsRunning shape bytes memory records standing
+  pub run : IsRunning shape ordered bytes memory records standing

@@ -5,7 +5,7 @@ ghost use Rattle.std.specs.Prelude.{IsTrue, IfNone};
 ghost use Rattle.lf_rules.specs.InRange.{IsShape};
 ghost use Rattle.lf_codec.specs.declared.fault.Told.TheVariants as tolds;
 ghost use Rattle.lf_verdict.specs.declared.answer.Verdict.{Verdict};
-ghost use Rattle.lf_verdict.specs.inner.Ending.{IsVerdictOrWant, IsUnorderedOrWant};
+ghost use Rattle.lf_verdict.specs.inner.Ending.{IsAnswerAsAsked};
 ghost use Rattle.lf_verdict.specs.Session.{refusal_of, stop_told, HasTaken, HasFed, IsRunningNow};
 ghost use Rattle.lf_verdict.specs.Ahead.{session_of};
 ghost use Rattle.lf_verdict.specs.inner.Ahead.{IsAhead, CanRead, ReadsOn};
@@ -16,6 +16,7 @@ ghost use Rattle.lf_verdict.specs.declared.stop.Stop.TheVariants as stops;
 ghost use Rattle.lf_verdict.specs.inner.Taking.{running_before};
 
 use crate::answer::{Refusal, Verdict};
+use crate::session::asked::Asked;
 use crate::session::breaking::Broken;
 use crate::session::intake::{Intake, Judging};
 use crate::session::share::judged;
@@ -54,15 +55,27 @@ pub struct Ahead<G> {
 }
 
 impl<G: Gate + Sync + Send + Copy + 'static> Ahead<G> {
-    /// Nothing was fed yet.
-    pub fn new(alloc: Global, shape: &Shape, workers: u32, batch: usize, gate: G) -> Ahead<G>
+    /// Nothing was fed yet. Where it is `ordered`, an order of the events is asked for.
+    pub fn new(
+        alloc: Global,
+        shape: &Shape,
+        workers: u32,
+        batch: usize,
+        gate: G,
+        ordered: bool,
+    ) -> Ahead<G>
         requires { IsShape shape.now }
         ensures shape { result.intake.shape ≡ shape.now }
+        ensures ordered { result.intake.asked.ordered ≡ ordered }
         ensures fed { HasFed (session_of result) [] }
         ensures ahead { IsAhead result }
     {
+        let asked = Asked {
+            watched: false,
+            ordered,
+        };
         Ahead {
-            intake: Intake::new(alloc, shape, false),
+            intake: Intake::new(alloc, shape, asked),
             workers,
             batch,
             alone: batch.saturating_mul(BYTES_OF_A_RECORD),
@@ -139,6 +152,7 @@ impl<G: Gate + Sync + Send + Copy + 'static> Ahead<G> {
     ) -> Result<(), NoMemory>
         requires can { CanRead self.old }
         ensures shape { self.new.intake.shape ≡ self.old.intake.shape }
+        ensures asked { self.new.intake.asked ≡ self.old.intake.asked }
         ensures stop { self.new.intake.stop ≡ self.old.intake.stop }
         ensures running { OnOk result (IsRunningNow (session_of self.new).judging) }
         ensures workers { IfSome self.new.at_work AreWorkers }
@@ -159,6 +173,7 @@ impl<G: Gate + Sync + Send + Copy + 'static> Ahead<G> {
         requires going { self.old.intake.stop ≡ None }
         requires taken { (bytes : List ℕ) × HasTaken (session_of self.old) bytes }
         ensures shape { self.new.intake.shape ≡ self.old.intake.shape }
+        ensures asked { self.new.intake.asked ≡ self.old.intake.asked }
         ensures stop { self.new.intake.stop ≡ self.old.intake.stop }
         ensures alone { self.new.at_work ≡ None }
         ensures none { OnOk result (self.new.records.records ≡ []) }
@@ -227,6 +242,7 @@ impl<G: Gate + Sync + Send + Copy + 'static> Ahead<G> {
     /// Stops for good, and tells why. No thread is left at work.
     fn stop_with<R: Threads>(&mut self, rt: &R, stop: Stop) -> Told<Refusal>
         ensures shape { self.new.intake.shape ≡ self.old.intake.shape }
+        ensures asked { self.new.intake.asked ≡ self.old.intake.asked }
         ensures stopped { self.new.intake.stop ≡ Some stop }
         ensures told { result ≡ tolds.Fault (refusal_of stop) }
         ensures alone { self.new.at_work ≡ None }
@@ -247,6 +263,7 @@ impl<G: Gate + Sync + Send + Copy + 'static> Ahead<G> {
         requires going { self.old.intake.stop ≡ None }
         ensures ahead { IsAhead self.new }
         ensures shape { self.new.intake.shape ≡ self.old.intake.shape }
+        ensures asked { self.new.intake.asked ≡ self.old.intake.asked }
         ensures fed { (bytes : List ℕ) → HasTaken (session_of self.old) bytes →
             HasFed (session_of self.new) (bytes ++ piece.now) }
         ensures told { result ≡ stop_told self.old.intake.stop self.new.intake.stop }
@@ -264,6 +281,7 @@ impl<G: Gate + Sync + Send + Copy + 'static> Ahead<G> {
         requires taken { (bytes : List ℕ) × HasTaken (session_of self.old) bytes }
         ensures ahead { IsAhead self.new }
         ensures shape { self.new.intake.shape ≡ self.old.intake.shape }
+        ensures asked { self.new.intake.asked ≡ self.old.intake.asked }
         ensures fed { (bytes : List ℕ) → HasTaken (session_of self.old) bytes →
             HasFed (session_of self.new) (bytes ++ piece.now) }
         ensures told { result ≡ stop_told self.old.intake.stop self.new.intake.stop }
@@ -284,6 +302,7 @@ impl<G: Gate + Sync + Send + Copy + 'static> Ahead<G> {
         requires ahead { IsAhead self.old }
         ensures ahead { IsAhead self.new }
         ensures shape { self.new.intake.shape ≡ self.old.intake.shape }
+        ensures asked { self.new.intake.asked ≡ self.old.intake.asked }
         ensures fed { (bytes : List ℕ) → HasFed (session_of self.old) bytes →
             HasFed (session_of self.new) (bytes ++ piece.now) }
         ensures told { result ≡ stop_told self.old.intake.stop self.new.intake.stop }
@@ -300,39 +319,25 @@ impl<G: Gate + Sync + Send + Copy + 'static> Ahead<G> {
         self.feed_alone(rt, piece)
     }
 
-    /// The verdict of the bytes that were fed. No thread is left at work.
+    /// The verdict of the bytes that were fed. A yes tells an order where one is asked for. No thread is left at work.
     pub fn answer<R: Threads + Sync>(&mut self, rt: &R) -> Verdict
         requires fed { (bytes : List ℕ) × HasFed (session_of self.old) bytes }
         requires ahead { IsAhead self.old }
         ensures answer { (bytes : List ℕ) → HasFed (session_of self.old) bytes →
-            IsVerdictOrWant self.old.intake.shape bytes result }
+            IsAnswerAsAsked self.old.intake.asked.ordered self.old.intake.shape bytes result }
         ensures stopped { IfSome self.old.intake.stop (λ stop. result ≡ Verdict.Refused (refusal_of stop)) }
         ensures alone { self.new.at_work ≡ None }
     {
         if let Some(stop) = self.intake.stop {
             return Verdict::Refused(Refusal::from(stop));
         }
-        match self.settle(rt) {
-            Ok(()) => self.intake.conclude().verdict,
-            Err(NoMemory) => Verdict::Refused(Refusal::Memory),
+        if let Err(NoMemory) = self.settle(rt) {
+            return Verdict::Refused(Refusal::Memory);
         }
-    }
-
-    /// The verdict of the bytes that were fed, whose yes tells no order. No thread is left at work.
-    pub fn answer_unordered<R: Threads + Sync>(&mut self, rt: &R) -> Verdict
-        requires fed { (bytes : List ℕ) × HasFed (session_of self.old) bytes }
-        requires ahead { IsAhead self.old }
-        ensures answer { (bytes : List ℕ) → HasFed (session_of self.old) bytes →
-            IsUnorderedOrWant self.old.intake.shape bytes result }
-        ensures stopped { IfSome self.old.intake.stop (λ stop. result ≡ Verdict.Refused (refusal_of stop)) }
-        ensures alone { self.new.at_work ≡ None }
-    {
-        if let Some(stop) = self.intake.stop {
-            return Verdict::Refused(Refusal::from(stop));
-        }
-        match self.settle(rt) {
-            Ok(()) => self.intake.finish_unordered(),
-            Err(NoMemory) => Verdict::Refused(Refusal::Memory),
+        if self.intake.asked.ordered {
+            self.intake.conclude().verdict
+        } else {
+            self.intake.finish_unordered()
         }
     }
 
@@ -342,6 +347,7 @@ impl<G: Gate + Sync + Send + Copy + 'static> Ahead<G> {
         requires going { self.old.intake.stop ≡ None }
         requires taken { (bytes : List ℕ) × HasTaken (session_of self.old) bytes }
         ensures shape { self.new.intake.shape ≡ self.old.intake.shape }
+        ensures asked { self.new.intake.asked ≡ self.old.intake.asked }
         ensures stop { self.new.intake.stop ≡ self.old.intake.stop }
         ensures alone { self.new.at_work ≡ None }
         ensures ready { OnOk result (self.new.records.records ≡ []) }
@@ -365,6 +371,7 @@ impl<G: Gate + Sync + Send + Copy + 'static> Ahead<G> {
         requires ahead { IsAhead self.old }
         ensures ahead { IsAhead self.new }
         ensures shape { self.new.intake.shape ≡ self.old.intake.shape }
+        ensures asked { self.new.intake.asked ≡ self.old.intake.asked }
         ensures fed { (bytes : List ℕ) → HasFed (session_of self.old) bytes → HasFed (session_of self.new) bytes }
         ensures failed { IsSome self.old.intake.stop → self.new ≡ self.old }
         ensures memory { self.old.intake.stop ≡ None → IfSome self.new.intake.stop (λ stop. stop ≡ stops.Memory) }

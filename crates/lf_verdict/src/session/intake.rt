@@ -1,7 +1,7 @@
 //! What a session keeps of the bytes that it was fed.
 
 ghost use Rattle.std.specs.Prelude.{◌≡◌, ◌<◌, ◌++◌, ℕ, List, [], Some, None, IsSome, IfSome, IfNone, IfOk, Ok, OnOk};
-ghost use Rattle.std.specs.Prelude.{option_to_list, IsTrue};
+ghost use Rattle.std.specs.Prelude.{Bool, true, option_to_list};
 ghost use Rattle.lf_rules.specs.InRange.{IsShape};
 ghost use Rattle.lf_verdict.specs.inner.Ending.{IsVerdictOrWant, IsUnorderedOrWant};
 ghost use Rattle.lf_verdict.specs.Standing.{IsWatch, IsKnown, StandsAfterAll};
@@ -26,6 +26,7 @@ ghost use Rattle.lf_verdict.specs.inner.Coming.{MayAllCome};
 use crate::answer::{HeaderField, Refusal, Verdict};
 use crate::header::{differing, first_offset};
 use crate::laws::{other_headers_are_final, part_faults_are_final};
+use crate::session::asked::Asked;
 use crate::session::breaking::{Broken, Conclusion};
 use crate::session::standing::{Judged, Standing};
 use crate::stop::Stop;
@@ -52,8 +53,7 @@ pub struct Intake {
     pub memory: Memory,
     pub judging: Judging,
     pub stop: Option<Stop>,
-    /// Whether it is noted upon which record a part breaks first.
-    pub watched: bool,
+    pub asked: Asked,
 }
 
 /// Takes the records that the reader has found, so that it need not keep them.
@@ -69,11 +69,11 @@ fn discard(reader: &mut Reader)
 /// Judges the records that the reader has found.
 fn judge_records(reader: &mut Reader, standing: &mut Standing) -> Result<(), NoMemory>
     requires { CanJudge reader.old standing.old }
-    ensures judged { (shape : Shape) (bytes : List ℕ) (memory : List (ℕ × Bytes)) (records : List Record) →
-        HasRead reader.old bytes memory records
-        → IsRunning shape bytes memory records standing.old
+    ensures judged { (shape : Shape) (ordered : Bool) (bytes : List ℕ) (memory : List (ℕ × Bytes))
+        (records : List Record) → HasRead reader.old bytes memory records
+        → IsRunning shape ordered bytes memory records standing.old
         → OnOk result ((more : List Record) × (HasRead reader.new bytes memory more ×
-        IsRunning shape bytes memory more standing.new)) }
+        IsRunning shape ordered bytes memory more standing.new)) }
     ensures fault { reader.new.fault ≡ reader.old.fault }
     ensures drained { OnOk result (reader.new.records ≡ []) }
     ensures known { IsKnown standing.old.watch → IsKnown standing.new.watch }
@@ -100,6 +100,7 @@ fn judge_one(standing: &mut Standing, place: &Places) -> Result<(), NoMemory>
         → MayAllCome shape records (option_to_list place.now) → IsWatch start shape memory records standing.old.watch
         → OnOk result (IsWatch start shape memory (records ++ option_to_list place.now) standing.new.watch) }
     ensures known { IsKnown standing.old.watch → IsKnown standing.new.watch }
+    ensures keeps { standing.new.entries.keeps ≡ standing.old.entries.keeps }
 {
     match place.record() {
         Some(item) => standing.take(item),
@@ -114,11 +115,11 @@ fn judge_placed(
     place: &Places,
 ) -> Result<(), NoMemory>
     requires { CanJudge (with_record place.now reader.old) standing.old }
-    ensures judged { (shape : Shape) (bytes : List ℕ) (memory : List (ℕ × Bytes)) (records : List Record)
-        → HasRead (with_record place.now reader.old) bytes memory records →
-        IsRunning shape bytes memory records standing.old
+    ensures judged { (shape : Shape) (ordered : Bool) (bytes : List ℕ) (memory : List (ℕ × Bytes))
+        (records : List Record) → HasRead (with_record place.now reader.old) bytes memory records →
+        IsRunning shape ordered bytes memory records standing.old
         → OnOk result ((more : List Record) × (HasRead reader.new bytes memory more ×
-        IsRunning shape bytes memory more standing.new)) }
+        IsRunning shape ordered bytes memory more standing.new)) }
     ensures fault { reader.new.fault ≡ reader.old.fault }
     ensures drained { OnOk result (reader.new.records ≡ []) }
     ensures known { IsKnown standing.old.watch → IsKnown standing.new.watch }
@@ -132,12 +133,13 @@ fn judge_placed(
 }
 
 impl Intake {
-    /// Nothing was fed yet. Where it is `watched`, it is noted upon which record a part breaks first, which takes time.
-    pub fn new(alloc: Global, shape: &Shape, watched: bool) -> Intake
+    /// Nothing was fed yet. What it is asked for takes time, and an order takes memory.
+    pub fn new(alloc: Global, shape: &Shape, asked: Asked) -> Intake
         requires { IsShape shape.now }
         ensures shape { result.shape ≡ shape.now }
+        ensures asked { result.asked ≡ asked }
         ensures fed { HasFed result [] }
-        ensures in_turn { IsTrue watched → IsInTurn result }
+        ensures in_turn { asked ≡ record { watched = true; ordered = true } → IsInTurn result }
     {
         Intake {
             alloc,
@@ -146,7 +148,7 @@ impl Intake {
             memory: Vec::new(alloc),
             judging: Judging::Waiting,
             stop: None,
-            watched,
+            asked,
         }
     }
 
@@ -163,10 +165,10 @@ impl Intake {
     fn take_memory(&mut self) -> Result<(), NoMemory>
         requires { self.old.judging ≡ Waiting }
         ensures shape { self.new.shape ≡ self.old.shape }
+        ensures asked { self.new.asked ≡ self.old.asked }
         ensures stop { self.new.stop ≡ self.old.stop }
         ensures taken { (bytes : List ℕ) → HasTaken self.old bytes → OnOk result (HasTaken self.new bytes) }
         ensures waiting { self.new.judging ≡ Waiting }
-        ensures watched { self.new.watched ≡ self.old.watched }
         ensures none { OnOk result (self.new.reader.memory ≡ []) }
     {
         while let Some(item) = self.reader.take_memory() {
@@ -179,6 +181,7 @@ impl Intake {
     fn take_all(&mut self) -> Result<(), NoMemory>
         requires { (bytes : List ℕ) × HasTaken self.old bytes }
         ensures shape { self.new.shape ≡ self.old.shape }
+        ensures asked { self.new.asked ≡ self.old.asked }
         ensures stop { self.new.stop ≡ self.old.stop }
         ensures taken { (bytes : List ℕ) → HasTaken self.old bytes → OnOk result (HasTaken self.new bytes) }
         ensures drained { OnOk result (IsDrained self.new.judging self.new.reader self.new.memory.items) }
@@ -192,6 +195,7 @@ impl Intake {
     fn prepare(&mut self) -> Result<(), NoMemory>
         requires { (bytes : List ℕ) × HasTaken self.old bytes }
         ensures shape { self.new.shape ≡ self.old.shape }
+        ensures asked { self.new.asked ≡ self.old.asked }
         ensures stop { self.new.stop ≡ self.old.stop }
         ensures taken { (bytes : List ℕ) → HasTaken self.old bytes → OnOk result (HasTaken self.new bytes) }
         ensures lacking { OnOk result (IsLackingIf self.new.judging self.new.reader self.new.memory.items) }
@@ -209,6 +213,7 @@ impl Intake {
         requires taken { (bytes : List ℕ) × HasTaken self.old bytes }
         requires lacking { IsLackingIf self.old.judging self.old.reader self.old.memory.items }
         ensures shape { self.new.shape ≡ self.old.shape }
+        ensures asked { self.new.asked ≡ self.old.asked }
         ensures stop { self.new.stop ≡ self.old.stop }
         ensures taken { (bytes : List ℕ) → HasTaken self.old bytes → OnOk result (HasTaken self.new bytes) }
         ensures drained { OnOk result (IsDrained self.new.judging self.new.reader self.new.memory.items) }
@@ -230,6 +235,7 @@ impl Intake {
             { reader = with_record place.now self.old.reader }) bytes }
         requires running { IsRunningNow self.old.judging }
         ensures shape { self.new.shape ≡ self.old.shape }
+        ensures asked { self.new.asked ≡ self.old.asked }
         ensures stop { self.new.stop ≡ self.old.stop }
         ensures taken { (bytes : List ℕ) → HasTaken (record self.old
             { reader = with_record place.now self.old.reader }) bytes
@@ -249,6 +255,7 @@ impl Intake {
         requires waiting { self.old.judging ≡ Waiting }
         requires none { self.old.reader.memory ≡ [] }
         ensures shape { self.new.shape ≡ self.old.shape }
+        ensures asked { self.new.asked ≡ self.old.asked }
         ensures stop { self.new.stop ≡ self.old.stop }
         ensures taken { (bytes : List ℕ) → HasTaken self.old bytes → OnOk result (HasTaken self.new bytes) }
         ensures lacking { OnOk result (IsLackingIf self.new.judging self.new.reader self.new.memory.items) }
@@ -263,8 +270,8 @@ impl Intake {
             return Ok(());
         }
         if self.memory.len() as u64 == u64::from(header.memory_count) {
-            let (start, watched) = (first_offset(&header), self.watched);
-            let standing = Standing::new(self.alloc, &self.shape, &self.memory, start, watched)?;
+            let (start, asked) = (first_offset(&header), self.asked);
+            let standing = Standing::new(self.alloc, &self.shape, &self.memory, start, asked)?;
             self.judging = Judging::Running(standing);
         }
         Ok(())
@@ -274,6 +281,7 @@ impl Intake {
     pub fn feed(&mut self, piece: &[u8], place: &mut Places) -> Result<(), Told<Refusal>>
         requires { (bytes : List ℕ) × HasFed self.old bytes }
         ensures shape { self.new.shape ≡ self.old.shape }
+        ensures asked { self.new.asked ≡ self.old.asked }
         ensures fed { (bytes : List ℕ) → HasFed self.old bytes → HasFed self.new (bytes ++ piece.now) }
         ensures told { result ≡ stop_told self.old.stop self.new.stop }
         ensures failed { IsSome self.old.stop → self.new ≡ self.old }
@@ -299,6 +307,7 @@ impl Intake {
         requires fed { (fed : List ℕ) × HasFed self.old fed }
         requires going { self.old.stop ≡ None }
         ensures shape { self.new.shape ≡ self.old.shape }
+        ensures asked { self.new.asked ≡ self.old.asked }
         ensures some { IfOk result (TakesSome bytes.now) }
         ensures fed { (fed : List ℕ) → HasFed self.old fed → HasFed self.new (fed ++ bytes_taken result bytes.now) }
         ensures told { answer_of result ≡ stop_told self.old.stop self.new.stop }
@@ -320,6 +329,7 @@ impl Intake {
         requires fed { (fed : List ℕ) × HasFed self.old fed }
         requires going { self.old.stop ≡ None }
         ensures shape { self.new.shape ≡ self.old.shape }
+        ensures asked { self.new.asked ≡ self.old.asked }
         ensures some { IfOk result (TakesSome bytes.now) }
         ensures fed { (fed : List ℕ) → HasFed self.old fed → HasFed self.new (fed ++ bytes_taken result bytes.now) }
         ensures told { answer_of result ≡ stop_told self.old.stop self.new.stop }
@@ -342,6 +352,7 @@ impl Intake {
     /// The verdict of the bytes that were fed, once what came is judged, and after a yes the first request without a
     /// reply.
     fn judged(&mut self) -> Judged
+        requires ordered { self.old.asked.ordered ≡ true }
         requires taken { (bytes : List ℕ) × HasTaken self.old bytes }
         requires drained { IsDrained self.old.judging self.old.reader self.old.memory.items }
         ensures answer { (bytes : List ℕ) → HasTaken self.old bytes →
@@ -363,7 +374,8 @@ impl Intake {
     /// The verdict of the bytes that were fed, what broke first in them, and after a yes the first request without a
     /// reply. Where they are judged and nothing is told to have broken, no part of a trace in them is at fault.
     pub fn conclude(&mut self) -> Conclusion
-        requires { (bytes : List ℕ) × HasFed self.old bytes }
+        requires ordered { self.old.asked.ordered ≡ true }
+        requires fed { (bytes : List ℕ) × HasFed self.old bytes }
         ensures answer { (bytes : List ℕ) → HasFed self.old bytes →
             IsVerdictOrWant self.old.shape bytes result.verdict }
         ensures stopped { IfSome self.old.stop (λ stop. result.verdict ≡ Verdict.Refused (refusal_of stop)) }
@@ -496,6 +508,7 @@ impl Intake {
     pub fn named(&mut self) -> Result<Option<Broken>, NoMemory>
         requires { (bytes : List ℕ) × HasTaken self.old bytes }
         ensures shape { self.new.shape ≡ self.old.shape }
+        ensures asked { self.new.asked ≡ self.old.asked }
         ensures stop { self.new.stop ≡ self.old.stop }
         ensures taken { (bytes : List ℕ) → HasTaken self.old bytes → OnOk result (HasTaken self.new bytes) }
         ensures stands { (bytes : List ℕ) → HasTaken self.old bytes

@@ -14,6 +14,7 @@ ghost use Rattle.lf_verdict.specs.Final.{IsFinal, IsEarliest, IsUnbroken, NoneBr
 ghost use Rattle.lf_verdict.specs.Session.{IsConfigRefusal, refusal_of, stop_told, IsRefusalSoFar, HasFed};
 
 mod ahead;
+mod asked;
 mod breaking;
 mod intake;
 mod parallel;
@@ -25,6 +26,7 @@ mod workers;
 
 use crate::answer::{Refusal, Verdict};
 use crate::laws::{no_has_no_run, yes_is_legal};
+use crate::session::asked::Asked;
 use crate::session::intake::Intake;
 pub use breaking::{Broken, Conclusion, PartFault, Upon};
 use lf_codec::{Places, Told};
@@ -60,8 +62,12 @@ impl Session {
         ensures shape { result.shape ≡ shape.now }
         ensures fed { HasFed result [] }
     {
+        let asked = Asked {
+            watched: true,
+            ordered: true,
+        };
         Session {
-            intake: Intake::new(alloc, shape, true),
+            intake: Intake::new(alloc, shape, asked),
             places: Places::new(),
         }
     }

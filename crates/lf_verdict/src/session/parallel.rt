@@ -1,14 +1,14 @@
 //! The verdict of a trace, judged by several workers while its bytes come.
 
-ghost use Rattle.std.specs.Prelude.{◌≡◌, ◌++◌, ℕ, List, [], None, IfErr, IfSome, IfNone, IsSome, OnOk};
+ghost use Rattle.std.specs.Prelude.{◌≡◌, ◌++◌, ℕ, true, false, List, [], None, IfErr, IfSome, IfNone, IsSome, OnOk};
 ghost use Rattle.lf_rules.specs.InRange.{IsShape};
 ghost use Rattle.lf_codec.specs.Reader.{fault_in};
 ghost use Rattle.lf_codec.specs.Reading.{fault_so_far};
 ghost use Rattle.lf_verdict.specs.declared.answer.Verdict.{Verdict};
 ghost use Rattle.lf_verdict.specs.declared.answer.Refusal.{Refusal};
-ghost use Rattle.lf_verdict.specs.Verdict.{IsDecided, IsVerdictOf, IsLegalYes};
+ghost use Rattle.lf_verdict.specs.Verdict.{IsDecided};
 ghost use Rattle.lf_verdict.specs.Laws.{IsRunlessNo};
-ghost use Rattle.lf_verdict.specs.Unordered.{IsLegalUnordered, IsUnordered};
+ghost use Rattle.lf_verdict.specs.Unordered.{IsLegalAsAsked, IsVerdictAsAsked};
 ghost use Rattle.lf_verdict.specs.Final.{IsFinal};
 ghost use Rattle.lf_verdict.specs.Named.{IsNamed, NoneBrokeSoFar};
 ghost use Rattle.lf_verdict.specs.Session.{refusal_of, stop_told, IsRefusalSoFar, HasFed};
@@ -53,33 +53,47 @@ impl<G> Model for ParallelSession<G> {
 }
 
 impl ParallelSession {
-    /// A session for the shape with so many workers, that was fed nothing.
+    /// A session for the shape with so many workers, that was fed nothing. An order of the events is asked for.
     pub fn for_shape(alloc: Global, shape: &Shape, workers: u32) -> ParallelSession
         requires { IsShape shape.now }
         ensures shape { result.shape ≡ shape.now }
+        ensures ordered { result.asked.ordered ≡ true }
         ensures fed { HasFed result [] }
     {
-        ParallelSession::in_batches(alloc, shape, workers, BATCH, NoGate)
+        ParallelSession::in_batches(alloc, shape, workers, BATCH, NoGate, true)
+    }
+
+    /// A session as that of `for_shape`, but no order is asked for, so that it may take less time and memory.
+    pub fn unordered(alloc: Global, shape: &Shape, workers: u32) -> ParallelSession
+        requires { IsShape shape.now }
+        ensures shape { result.shape ≡ shape.now }
+        ensures unordered { result.asked.ordered ≡ false }
+        ensures fed { HasFed result [] }
+    {
+        ParallelSession::in_batches(alloc, shape, workers, BATCH, NoGate, false)
     }
 }
 
 impl<G: Gate + Sync + Send + Copy + 'static> ParallelSession<G> {
     /// A session for tests, which see by the gate who judges at once: a thread passes it before it judges a bank
     /// on the records of a batch. Records are judged once so many are read, 16,384 where nothing is said, and the first
-    /// ones, of 20 bytes for each record of a batch, one by one. No answer depends on any of it.
+    /// ones, of 20 bytes for each record of a batch, one by one. No answer depends on any of it. Where it is `ordered`,
+    /// an order of the events is asked for.
     pub fn in_batches(
         alloc: Global,
         shape: &Shape,
         workers: u32,
         batch: usize,
         gate: G,
+        ordered: bool,
     ) -> ParallelSession<G>
         requires { IsShape shape.now }
         ensures shape { result.shape ≡ shape.now }
+        ensures ordered { result.asked.ordered ≡ ordered }
         ensures fed { HasFed result [] }
     {
         ParallelSession {
-            ahead: Ahead::new(alloc, shape, workers, batch, gate),
+            ahead: Ahead::new(alloc, shape, workers, batch, gate, ordered),
         }
     }
 
@@ -92,6 +106,7 @@ impl<G: Gate + Sync + Send + Copy + 'static> ParallelSession<G> {
         piece: &[u8],
     ) -> Result<(), Told<Refusal>>
         ensures shape { self.new.shape ≡ self.old.shape }
+        ensures asked { self.new.asked ≡ self.old.asked }
         ensures fed { (bytes : List ℕ) → HasFed self.old bytes → HasFed self.new (bytes ++ piece.now) }
         // When it answers what.
         ensures told { result ≡ stop_told self.old.stop self.new.stop }
@@ -111,6 +126,7 @@ impl<G: Gate + Sync + Send + Copy + 'static> ParallelSession<G> {
     /// memory runs out, the session stops as after a refused `feed`. Once it is stopped nothing is told.
     pub fn broken<R: Threads + Sync>(&mut self, rt: &R) -> Option<Broken>
         ensures shape { self.new.shape ≡ self.old.shape }
+        ensures asked { self.new.asked ≡ self.old.asked }
         ensures fed { (bytes : List ℕ) → HasFed self.old bytes → HasFed self.new bytes }
         ensures failed { IsSome self.old.stop → self.new ≡ self.old }
         ensures memory { self.old.stop ≡ None → IfSome self.new.stop (λ stop. stop ≡ stops.Memory) }
@@ -124,39 +140,23 @@ impl<G: Gate + Sync + Send + Copy + 'static> ParallelSession<G> {
         self.ahead.broken(rt)
     }
 
-    /// The verdict of the bytes that were fed: that of `check_shape`. After a refused `feed` it is that
-    /// refusal.
+    /// The verdict of the bytes that were fed: that of `check_shape`. A yes tells an order where one was asked for.
+    /// Otherwise the list is empty, and where each record of a bank came in the turn of its number no order is looked
+    /// for. After a refused `feed` it is that refusal.
     pub fn finish<R: Threads + Sync>(self, rt: &R) -> Verdict
-        ensures legal { (bytes : List ℕ) → HasFed self bytes → IsLegalYes self.shape bytes result }
+        ensures legal { (bytes : List ℕ) → HasFed self bytes →
+            IsLegalAsAsked self.asked.ordered self.shape bytes result }
         ensures runless { (bytes : List ℕ) → HasFed self bytes → IsRunlessNo self.shape bytes result }
         ensures verdict { (bytes : List ℕ) → HasFed self bytes → IsDecided result →
-            IsVerdictOf self.shape 1 bytes result }
+            IsVerdictAsAsked self.asked.ordered self.shape 1 bytes result }
         ensures stopped { IfSome self.stop (λ stop. result ≡ Verdict.Refused (refusal_of stop)) }
         ensures thread { ¬ (result ≡ Verdict.Refused Refusal.Thread) }
     {
         yes_is_legal();
-        no_has_no_run();
-        let ParallelSession { mut ahead } = self;
-        let verdict = ahead.answer(rt);
-        ahead.end();
-        verdict
-    }
-
-    /// The verdict of the bytes that were fed, as `finish` answers it, but without the order of a yes: the list is
-    /// empty. Where each record of a bank came in the turn of its number, no order is looked for, which takes less
-    /// time and memory.
-    pub fn finish_unordered<R: Threads + Sync>(self, rt: &R) -> Verdict
-        ensures legal { (bytes : List ℕ) → HasFed self bytes → IsLegalUnordered self.shape bytes result }
-        ensures runless { (bytes : List ℕ) → HasFed self bytes → IsRunlessNo self.shape bytes result }
-        ensures verdict { (bytes : List ℕ) → HasFed self bytes → IsDecided result →
-            IsUnordered self.shape 1 bytes result }
-        ensures stopped { IfSome self.stop (λ stop. result ≡ Verdict.Refused (refusal_of stop)) }
-        ensures thread { ¬ (result ≡ Verdict.Refused Refusal.Thread) }
-    {
         ordered_yes_is_legal();
         no_has_no_run();
         let ParallelSession { mut ahead } = self;
-        let verdict = ahead.answer_unordered(rt);
+        let verdict = ahead.answer(rt);
         ahead.end();
         verdict
     }

@@ -14,6 +14,7 @@ loop-turn-init g c = record {
   failures = c.requires.failures;
   room = refl;
   shape = refl;
+  asked = refl;
   gathered = record {
     bytes = [];
     fed = c.requires.fresh;
@@ -65,6 +66,10 @@ loop-turn-preserved g c = record {
   room = search rules;
   shape = elim c.match-pull.branch [
     | in-Ok+in-Ok-false w ↦ search (rules, w.in-Ok-false.ensures.shape)
+    | in-Err+else-ne w ↦ search rules
+  ];
+  asked = elim c.match-pull.branch [
+    | in-Ok+in-Ok-false w ↦ search (rules, w.in-Ok-false.ensures.asked)
     | in-Err+else-ne w ↦ search rules
   ];
   gathered =

@@ -9,5 +9,6 @@ invariant-loop-turn g l = record {
   failures : (g.S.Source.account l.source).failures ≡ 0;
   room : length l.buffer ≡ length l.initial.buffer;
   shape : l.session.shape ≡ l.initial.session.shape;
+  asked : l.session.asked ≡ l.initial.session.asked;
   gathered : IsGathering (g.S.Source.account l.initial.source) (g.S.Source.account l.source) l.session;
 }

@@ -26,8 +26,6 @@ pub struct BankJudge {
     pub order: Reorder,
     pub step: Step,
     pub outcome: Outcome,
-    /// Whether each record so far came in the turn of its number.
-    pub in_turn: bool,
 }
 
 impl Part for BankJudge {
@@ -54,7 +52,6 @@ impl BankJudge {
             order: Reorder::new(alloc, bank),
             step: Step::new(alloc, shape, memory, u32::from(bank))?,
             outcome: Outcome::Passed,
-            in_turn: true,
         })
     }
 
@@ -62,7 +59,6 @@ impl BankJudge {
     fn judge(&mut self, item: &Record) -> Result<(), NoMemory>
         requires { IsForStep self.old.step item.now }
         ensures order { self.new.order ≡ self.old.order }
-        ensures in_turn { self.new.in_turn ≡ self.old.in_turn }
         ensures bank { self.new.step.bank ≡ self.old.step.bank }
         ensures shape { self.new.step.state.shape ≡ self.old.step.state.shape }
         ensures judged { (shape : Shape) (memory : FlatMemory) (bank : ℕ) (rs : List Record) →
@@ -112,12 +108,11 @@ impl BankJudge {
     #[inline(never)]
     fn keep(&mut self, item: &Record) -> Result<(), NoMemory>
         requires { item.now.bank ≡ self.old.order.bank }
-        ensures rest { self.new ≡ record self.old { order = self.new.order; in_turn = false } }
+        ensures rest { self.new ≡ record self.old { order = self.new.order } }
         ensures bank { self.new.order.bank ≡ self.old.order.bank }
         ensures put { (put : List Record) (gave : List Record) → HasOrdered self.old.order put gave
             → OnOk result (HasOrdered self.new.order (put ++ item.now ∷ []) gave) }
     {
-        self.in_turn = false;
         self.order.put_lent(item)
     }
 

@@ -47,6 +47,7 @@ impl Standing {
             → StandsAfterAll shape memory records self.old → IsWatch start shape memory records self.old.watch
             → OnOk result (IsWatch start shape memory (records ++ item.now ∷ []) self.new.watch) }
         ensures known { IsKnown self.old.watch → IsKnown self.new.watch }
+        ensures keeps { self.new.entries.keeps ≡ self.old.entries.keeps }
     {
         let at = self.entries.place_of(item);
         self.judge(item)?;
@@ -61,6 +62,7 @@ impl Standing {
             → StandsAfterAll shape memory records self.old
             → OnOk result (StandsAfterAll shape memory (records ++ item.now ∷ []) self.new) }
         ensures watch { self.new.watch ≡ self.old.watch }
+        ensures keeps { self.new.entries.keeps ≡ self.old.entries.keeps }
     {
         self.entries.enter(item)?;
         let bank = usize::from(item.bank);

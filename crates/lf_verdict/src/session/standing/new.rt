@@ -10,11 +10,13 @@ ghost use Rattle.lf_verdict.specs.declared.session.standing.port_judge.PortJudge
 ghost use Rattle.lf_verdict.specs.declared.session.standing.bank_judge.BankJudge.{BankJudge};
 ghost use Rattle.lf_verdict.specs.Standing.{IsWatch, IsKnown, IsPortJudged, IsBankSettled, StandsAfterAll};
 
+use crate::session::asked::Asked;
 use crate::session::breaking::Watch;
 use crate::session::standing::Standing;
 use crate::session::standing::bank_judge::BankJudge;
 use crate::session::standing::log_entries::Entries;
 use crate::session::standing::port_judge::PortJudge;
+use lf_join::Progress;
 use lf_rules::{Memory, NoMemory, Shape, Skeleton};
 use std::alloc::Global;
 
@@ -69,30 +71,36 @@ fn first_watch(start: u64, watched: bool) -> Watch
 }
 
 impl Standing {
-    /// No record has come. `memory` is the whole memory of the trace, and the first record begins at `start`. Where it
-    /// is `watched`, it is noted upon which record a part breaks first. It is apart, since its frame is large, and the
-    /// function that calls it is called for each memory record.
+    /// No record has come. `memory` is the whole memory of the trace, and the first record begins at `start`. `asked`
+    /// says whether it is noted upon which record a part breaks first, and whether every entry is kept. It is apart,
+    /// since its frame is large, and the function that calls it is called for each memory record.
     #[inline(never)]
     pub fn new(
         alloc: Global,
         shape: &Shape,
         memory: &Memory,
         start: u64,
-        watched: bool,
+        asked: Asked,
     ) -> Result<Standing, NoMemory>
         requires { IsShape shape.now }
         ensures stands { IfOk result (StandsAfterAll shape.now (flat_memory memory.now.items) []) }
         ensures watched { IfOk result (λ s. IsWatch start shape.now (flat_memory memory.now.items) [] s.watch) }
-        ensures known { IsTrue watched → IfOk result (λ s. IsKnown s.watch) }
+        ensures known { IsTrue asked.watched → IfOk result (λ s. IsKnown s.watch) }
+        ensures keeps { IfOk result (λ s. s.entries.keeps ≡ asked.ordered) }
     {
         let logs = empty_logs(alloc, shape.ports + shape.banks)?;
         let ports = port_judges(alloc, shape)?;
         let banks = bank_judges(alloc, shape, memory)?;
-        let entries = Entries { logs, ports };
+        let entries = Entries {
+            logs,
+            progress: Progress::new(),
+            keeps: asked.ordered,
+            ports,
+        };
         Ok(Standing {
             entries,
             banks,
-            watch: first_watch(start, watched),
+            watch: first_watch(start, asked.watched),
         })
     }
 }

@@ -1,6 +1,6 @@
 //! The verdict of a trace whose records have all come.
 
-ghost use Rattle.std.specs.Prelude.{◌≡◌, ◌≤◌, ◌<◌, ℕ, List, length, None, IfOk, IfErr, OnOk, IfSome, IfNone};
+ghost use Rattle.std.specs.Prelude.{◌≡◌, ◌≤◌, ◌<◌, ℕ, true, List, length, None, IfOk, IfErr, OnOk, IfSome, IfNone};
 ghost use Rattle.lf_rules.specs.declared.shape.Shape.{Shape};
 ghost use Rattle.lf_rules.specs.declared.event.Record.{Record};
 ghost use Rattle.lf_rules.specs.Address.{FlatMemory};
@@ -87,7 +87,8 @@ impl Standing {
     /// The least order of the logs. Numbers are judged first, then the ports, then the banks, then
     /// whether the logs wait for one another.
     fn judged_order(&self, alloc: Global) -> Result<Vec<u8>, Ending>
-        requires { CanEnd self.now }
+        requires end { CanEnd self.now }
+        requires kept { self.now.entries.keeps ≡ true }
         ensures order { (shape : Shape) (memory : FlatMemory) (records : List Record) →
             StandsAfterAll shape memory records self.now → IsShort shape records
             → IfOk result (λ order. IsOrderOf shape memory (logs_so_far shape records) order.items) }
@@ -120,7 +121,8 @@ impl Standing {
 
     /// The verdict of the records so far, as those of a whole trace, and after a yes the first request without a reply.
     pub fn judged(&self, alloc: Global) -> Judged
-        requires { CanEnd self.now }
+        requires end { CanEnd self.now }
+        requires kept { self.now.entries.keeps ≡ true }
         ensures verdict { (shape : Shape) (memory : FlatMemory) (records : List Record) →
             StandsAfterAll shape memory records self.now → IsShort shape records
             → IsLogsVerdict shape memory (logs_so_far shape records) result.verdict }

@@ -41,16 +41,17 @@ judge_records-requires c =
     let more = r.records ++ option_to_list place in
     record {
       shape = r.shape;
+      ordered = r.ordered;
       bytes = r.bytes;
       memory = r.memory;
       records = more;
       read = given_one c.args.reader.now place r.bytes r.memory r.records r.read;
       run = running_more r.shape r.bytes r.memory r.records more c.args.standing.now c.judge_one.new.standing r.run
-          judged watched;
+          judged watched c.in_ok-judge_one.ensures.keeps;
     }
 
 pub returns-clause-judged : goal.returns-clause-judged
-returns-clause-judged c shape bytes memory records read run =
+returns-clause-judged c shape ordered bytes memory records read run =
     let place = c.args.place.now in
     let may = place_may_come c.read_so_far.ensures shape bytes memory records c.args.reader.now c.args.standing.now
     place read run in
@@ -58,11 +59,13 @@ returns-clause-judged c shape bytes memory records read run =
     let watched = c.in_ok-judge_one.ensures.watched (first_offset run.header memory) shape (flat_memory memory)
     records run.stands may run.watched in
     let more = records ++ option_to_list place in
-    c.judge_records.ensures.judged shape bytes memory more (given_one c.args.reader.now place bytes memory records read)
-    (running_more shape bytes memory records more c.args.standing.now c.judge_one.new.standing run judged watched)
+    c.judge_records.ensures.judged shape ordered bytes memory more
+    (given_one c.args.reader.now place bytes memory records read)
+    (running_more shape bytes memory records more c.args.standing.now c.judge_one.new.standing run judged watched
+    c.in_ok-judge_one.ensures.keeps)
 
 pub returns-then-is_none-clause-judged : goal.returns-then-is_none-clause-judged
-returns-then-is_none-clause-judged c shape bytes memory records read run =
+returns-then-is_none-clause-judged c shape ordered bytes memory records read run =
     let place = c.args.place.now in
     let may = place_may_come c.read_so_far.ensures shape bytes memory records c.args.reader.now c.args.standing.now
     place read run in
@@ -74,6 +77,6 @@ returns-then-is_none-clause-judged c shape bytes memory records read run =
       (
         given_one c.args.reader.now place bytes memory records read,
         running_more shape bytes memory records more
-            c.args.standing.now c.judge_one.new.standing run judged watched,
+            c.args.standing.now c.judge_one.new.standing run judged watched c.in_ok-judge_one.ensures.keeps,
       ),
     )

@@ -12,7 +12,7 @@ use Rattle.lf_verdict.proofs.session.intake.judge_records.Goals as goal
 pub take-requires-clause-next : goal.take-requires-clause-next
 take-requires-clause-next c =
     let r = c.requires in
-    let m = c.loop-item.invariant.read r.shape r.bytes r.memory r.records r.read r.run in
+    let m = c.loop-item.invariant.read r.shape r.ordered r.bytes r.memory r.records r.read r.run in
     let rest = drop 1 c.loop-item.reader.records in
     record {
       shape = r.shape;
@@ -26,15 +26,15 @@ take-requires-clause-next c =
 pub take-requires-clause-range : goal.take-requires-clause-range
 take-requires-clause-range c =
     let r = c.requires in
-    let m = c.loop-item.invariant.read r.shape r.bytes r.memory r.records r.read r.run in
+    let m = c.loop-item.invariant.read r.shape r.ordered r.bytes r.memory r.records r.read r.run in
     ends_in_range c.read_so_far.ensures r.shape r.bytes r.memory m.0 c.loop-item.reader c.loop-item.standing
     c.in-Some.item.now (drop 1 c.loop-item.reader.records) m.1.0 m.1.1 c.in-Some.ensures
 
 pub loop-item-preserved : goal.loop-item-preserved
 loop-item-preserved c = record {
   fault = ap (λ (q : Reading). q.fault) c.drop_front.ensures.rest ∙ c.loop-item.invariant.fault;
-  read = λ shape bytes memory records read run.
-      let m = c.loop-item.invariant.read shape bytes memory records read run in
+  read = λ shape ordered bytes memory records read run.
+      let m = c.loop-item.invariant.read shape ordered bytes memory records read run in
       let there = c.loop-item.reader.records in
       let front = c.in-Some.item.now in
       let may = may_come c.read_so_far.ensures shape bytes memory m.0 c.loop-item.reader c.loop-item.standing front
@@ -47,20 +47,20 @@ loop-item-preserved c = record {
           running_more shape bytes memory m.0 (m.0 ++ front ∷ []) c.loop-item.standing c.take.new.self m.1.1
               (c.in_ok-take.ensures.judged shape (flat_memory memory) m.0 may m.1.1.stands)
               (c.in_ok-take.ensures.watched (first_offset m.1.1.header memory) shape (flat_memory memory) m.0 may
-              m.1.1.stands m.1.1.watched),
+              m.1.1.stands m.1.1.watched) c.in_ok-take.ensures.keeps,
         ),
       );
   known = λ known. c.take.ensures.known (c.loop-item.invariant.known known);
 }
 
 pub returns-clause-judged : goal.returns-clause-judged
-returns-clause-judged c shape bytes memory records read run =
-    c.loop-item.invariant.read shape bytes memory records read run
+returns-clause-judged c shape ordered bytes memory records read run =
+    c.loop-item.invariant.read shape ordered bytes memory records read run
 
 pub loop-item-init : goal.loop-item-init
 loop-item-init c = record {
   fault = refl;
-  read = λ shape bytes memory records read run. (records, (read, run));
+  read = λ shape ordered bytes memory records read run. (records, (read, run));
   known
       = λ known. known;
 }

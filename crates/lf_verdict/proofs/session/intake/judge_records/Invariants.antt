@@ -1,4 +1,4 @@
-use Rattle.std.proofs.Common.{◌≡◌, ℕ, List, length}
+use Rattle.std.proofs.Common.{◌≡◌, Bool, ℕ, List, length}
 use Rattle.lf_rules.specs.declared.shape.Shape.{Shape}
 use Rattle.lf_rules.specs.declared.event.Record.{Record}
 use Rattle.lf_rules.specs.Fits.{Bytes}
@@ -10,10 +10,10 @@ use Rattle.lf_verdict.proofs.session.intake.judge_records.Given as goal
 abbrev pub invariant-loop-item : goal.invariant-loop-item
 invariant-loop-item l = record {
   fault : l.reader.fault ≡ l.fn.reader.fault;
-  read : (shape : Shape) (bytes : List ℕ) (memory : List (ℕ × Bytes)) (records : List Record) →
+  read : (shape : Shape) (ordered : Bool) (bytes : List ℕ) (memory : List (ℕ × Bytes)) (records : List Record) →
       HasRead l.fn.reader bytes memory records
-      → IsRunning shape bytes memory records l.fn.standing → (more : List Record) ×
-      (HasRead l.reader bytes memory more × IsRunning shape bytes memory more l.standing);
+      → IsRunning shape ordered bytes memory records l.fn.standing → (more : List Record) ×
+      (HasRead l.reader bytes memory more × IsRunning shape ordered bytes memory more l.standing);
   known : IsKnown l.fn.standing.watch → IsKnown l.standing.watch;
 }
 

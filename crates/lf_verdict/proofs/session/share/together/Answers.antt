@@ -3,10 +3,11 @@ use Rattle.std.specs.Prelude.{OnOk}
 use Rattle.lf_rules.specs.Fits.{Fits}
 use Rattle.lf_rules.specs.declared.outcome.Outcome.TheVariants as outcomes
 use Rattle.lf_verdict.specs.declared.session.breaking.Watch.TheVariants.{Unknown}
+use Rattle.lf_verdict.specs.declared.session.share.Share.{Share}
 use Rattle.lf_verdict.specs.declared.session.standing.Standing.{Standing}
 use Rattle.lf_verdict.specs.declared.session.standing.bank_judge.BankJudge.{BankJudge}
 use Rattle.lf_verdict.specs.Standing.{AreEntered}
-use Rattle.lf_verdict.specs.inner.Shares.{IsShareAt}
+use Rattle.lf_verdict.specs.inner.Shares.{keeps_of, IsShareAt}
 use Rattle.lf_verdict.proofs.Batches.{all_fit, all_join, stands_together}
 use Rattle.lf_verdict.proofs.session.share.together.Goals as goal
 
@@ -20,6 +21,7 @@ returns c start records entered judged =
     } in
     record {
       unknown = refl;
+      keeps = subst (λ (share : Share). keeps_of share ≡ start.entries.keeps) c.in-Entries.is (entered.keeps refl);
       stands = λ shape memory before stands may.
           stands_together shape memory (before ++ records) s
           (all_join (Fits shape) before records stands.fit (all_fit shape before records may))

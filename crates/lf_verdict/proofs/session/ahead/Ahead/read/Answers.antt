@@ -14,6 +14,7 @@ returns-in_err-feed_into g c =
     let told = c.in_err-feed_into.field-0.0 in
     record {
       shape = refl;
+      asked = refl;
       stop = refl;
       running = search rules;
       workers = c.requires.can.workers;
@@ -50,6 +51,7 @@ returns-in_ok-hand_over g c =
     c.requires.can c.in_ok-feed_into.ensures.ok (sym c.in_ok-feed_into.ensures.told) in
     record {
       shape = over.shape;
+      asked = over.asked;
       stop = over.stop;
       running = over.running;
       workers = over.workers;

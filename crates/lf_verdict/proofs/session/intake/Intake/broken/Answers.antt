@@ -46,7 +46,8 @@ pub returns-in-Another-clause-stands : goal.returns-in-Another-clause-stands
 returns-in-Another-clause-stands c bytes fed =
     let s = c.args.self.now in
     let m = going s bytes (none_of s.stop (sym c.is_some.ensures ∙ c.if-is_some.false)) fed in
-    let other = subst (λ (j : Judging). IsJudging s.shape bytes s.memory.items m.0 j) c.in-Another.is m.1.judging in
+    let other = subst (λ (j : Judging). IsJudging s.shape s.asked.ordered bytes s.memory.items m.0 j) c.in-Another.is
+    m.1.judging in
     c.other_headers_are_final.ensures s.shape bytes other.header c.in-Another.field m.1.read.are_bytes other.read
     other.differs
 
@@ -54,13 +55,14 @@ pub returns-in-Another-clause-earliest : goal.returns-in-Another-clause-earliest
 returns-in-Another-clause-earliest c turn bytes fed =
     let s = c.args.self.now in
     let m = going s bytes (none_of s.stop (sym c.is_some.ensures ∙ c.if-is_some.false)) fed in
-    subst (λ (j : Judging). IsJudging s.shape bytes s.memory.items m.0 j) c.in-Another.is m.1.judging
+    subst (λ (j : Judging). IsJudging s.shape s.asked.ordered bytes s.memory.items m.0 j) c.in-Another.is m.1.judging
 
 pub returns-in-Running-clause-stands : goal.returns-in-Running-clause-stands
 returns-in-Running-clause-stands c bytes fed =
     let s = c.args.self.now in
     let m = going s bytes (none_of s.stop (sym c.is_some.ensures ∙ c.if-is_some.false)) fed in
-    let run = subst (λ (j : Judging). IsJudging s.shape bytes s.memory.items m.0 j) c.in-Running.is m.1.judging in
+    let run = subst (λ (j : Judging). IsJudging s.shape s.asked.ordered bytes s.memory.items m.0 j) c.in-Running.is
+    m.1.judging in
     let begins = begins_fed c.read_so_far.ensures s bytes m.0 c.in-Running.standing m.1 run in
     final_if (first_offset run.header s.memory.items) c.part_faults_are_final.ensures s.shape bytes s.memory.items m.0
     c.broken.result m.1.read.are_bytes begins
@@ -71,7 +73,8 @@ pub returns-in-Running-clause-earliest : goal.returns-in-Running-clause-earliest
 returns-in-Running-clause-earliest c turn bytes fed =
     let s = c.args.self.now in
     let m = going s bytes (none_of s.stop (sym c.is_some.ensures ∙ c.if-is_some.false)) fed in
-    let run = subst (λ (j : Judging). IsJudging s.shape bytes s.memory.items m.0 j) c.in-Running.is m.1.judging in
+    let run = subst (λ (j : Judging). IsJudging s.shape s.asked.ordered bytes s.memory.items m.0 j) c.in-Running.is
+    m.1.judging in
     let begins = begins_fed c.read_so_far.ensures s bytes m.0 c.in-Running.standing m.1 run in
     let some = c.broken.ensures.some (first_offset run.header s.memory.items) s.shape (flat_memory s.memory.items) m.0
     run.stands run.watched in
@@ -85,8 +88,8 @@ pub returns-in-Running-clause-none : goal.returns-in-Running-clause-none
 returns-in-Running-clause-none c bytes =
     let s = c.args.self.now in
     unbroken_if s bytes c.broken.result (λ on records judged.
-    let run = subst (λ (j : Judging). IsJudging s.shape bytes s.memory.items records j) c.in-Running.is judged.judging
-    in
+    let run = subst (λ (j : Judging). IsJudging s.shape s.asked.ordered bytes s.memory.items records j) c.in-Running.is
+    judged.judging in
     if_none c.broken.result (c.broken.ensures.none (first_offset run.header s.memory.items) s.shape
     (flat_memory s.memory.items) records run.stands run.watched)
     (λ none. subst (λ (j : Judging). IsUnbrokenSoFar s bytes j records) (sym c.in-Running.is) none))

@@ -26,17 +26,17 @@ pub broken-found-requires : goal.broken-found-requires
 broken-found-requires c =
     let s = c.args.self.now in
     let t = c.take_all.new.self in
-    let bytes = c.requires.0 in (
+    let bytes = c.requires.fed.0 in (
       bytes,
       still_going t bytes (c.in_default-take_all.ensures.stop ∙ c.in_default.is)
-          (c.in_default-take_all.ensures.taken bytes (going s bytes c.in_default.is c.requires.1)),
+          (c.in_default-take_all.ensures.taken bytes (going s bytes c.in_default.is c.requires.fed.1)),
     )
 
 pub judged-judged-requires-clause-taken : goal.judged-judged-requires-clause-taken
 judged-judged-requires-clause-taken c =
     let s = c.args.self.now in
-    let bytes = c.requires.0 in
-    (bytes, c.in_default-take_all.ensures.taken bytes (going s bytes c.in_default.is c.requires.1))
+    let bytes = c.requires.fed.0 in
+    (bytes, c.in_default-take_all.ensures.taken bytes (going s bytes c.in_default.is c.requires.fed.1))
 
 pub returns-clause-answer : goal.returns-clause-answer
 returns-clause-answer c bytes fed =

@@ -17,6 +17,7 @@ pub loop-at-init : goal.loop-at-init
 loop-at-init c = record {
   within = omega arith;
   shape = refl;
+  asked = refl;
   going = c.in_default.is;
   in_turn = λ turn. turn;
   fed = λ bytes fed. fed_nothing c.args.self.now bytes fed;
@@ -33,6 +34,7 @@ pub loop-at-preserved : goal.loop-at-preserved
 loop-at-preserved c = record {
   within = omega (arith, c.in-Ok.ensures.some.0, rest_len c.args.piece.now c.loop-at.at, c.loop-at.invariant.within);
   shape = c.in-Ok.ensures.shape ∙ c.loop-at.invariant.shape;
+  asked = c.in-Ok.ensures.asked ∙ c.loop-at.invariant.asked;
   going = told_going c.loop-at.self.stop c.feed_record.new.self.stop c.loop-at.invariant.going
       (sym c.in-Ok.ensures.told);
   in_turn = λ turn. c.in-Ok.ensures.in_turn (c.loop-at.invariant.in_turn turn);

@@ -6,6 +6,7 @@ abbrev pub invariant-loop-at : goal.invariant-loop-at
 invariant-loop-at l = record {
   within : l.at ≤ length l.piece;
   shape : l.self.shape ≡ l.fn.self.shape;
+  asked : l.self.asked ≡ l.fn.self.asked;
   going : l.self.stop ≡ None;
   in_turn : IsInTurn l.fn.self → IsInTurn l.self;
   fed : (bytes : List ℕ) → HasFed l.fn.self bytes → HasFed l.self (bytes ++ take l.at l.piece);

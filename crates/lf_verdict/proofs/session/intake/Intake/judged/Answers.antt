@@ -28,14 +28,15 @@ returns-in-Err-clause-answer c bytes m =
     (sym (c.finish.ensures.ends bytes s.memory.items m.0 m.1.read) ∙ c.in-Err.is))
     c.from.ensures))
 
-pub judged-requires : goal.judged-requires
-judged-requires c =
+pub judged-requires-clause-end : goal.judged-requires-clause-end
+judged-requires-clause-end c =
     let s = c.args.self.now in
     let bytes = c.requires.taken.0 in
     let m = c.requires.taken.1 in
     let h = c.in_default.field-0 in
     let trace = (c.finish.ensures.trace bytes s.memory.items m.0 m.1.read h).0 c.in_default.is in
-    let run = subst (λ (j : Judging). IsJudging s.shape bytes s.memory.items m.0 j) c.in-Running.is m.1.judging in
+    let run = subst (λ (j : Judging). IsJudging s.shape s.asked.ordered bytes s.memory.items m.0 j) c.in-Running.is
+    m.1.judging in
     let drained = subst (λ (j : Judging). IsDrained j s.reader s.memory.items) c.in-Running.is c.requires.drained in
     record {
       shape = s.shape;
@@ -45,6 +46,15 @@ judged-requires c =
       short = short_logs c.exact_reading.ensures s.shape bytes m.1.read.are_bytes h s.memory.items s.reader.memory m.0
           s.reader.records trace c.in-Running.standing run drained m.1.in_range;
     }
+
+pub judged-requires-clause-kept : goal.judged-requires-clause-kept
+judged-requires-clause-kept c =
+    let s = c.args.self.now in
+    let bytes = c.requires.taken.0 in
+    let m = c.requires.taken.1 in
+    let run = subst (λ (j : Judging). IsJudging s.shape s.asked.ordered bytes s.memory.items m.0 j) c.in-Running.is
+    m.1.judging in
+    run.keeping ∙ c.requires.ordered
 
 pub unreachable-requires : goal.unreachable-requires
 unreachable-requires c =
@@ -61,7 +71,8 @@ returns-in-Another-clause-answer c bytes m =
     let s = c.args.self.now in
     let h = c.in_default.field-0 in
     let trace = (c.finish.ensures.trace bytes s.memory.items m.0 m.1.read h).0 c.in_default.is in
-    let other = subst (λ (j : Judging). IsJudging s.shape bytes s.memory.items m.0 j) c.in-Another.is m.1.judging in
+    let other = subst (λ (j : Judging). IsJudging s.shape s.asked.ordered bytes s.memory.items m.0 j) c.in-Another.is
+    m.1.judging in
     subst (λ (j : Judged). IsVerdictOrWant s.shape bytes j.verdict) (sym c.of-in-Another.ensures)
     (another c.exact_reading.ensures s.shape bytes m.1.read.are_bytes h s.memory.items s.reader.memory m.0
     s.reader.records trace c.in-Another.field other)
@@ -71,7 +82,8 @@ returns-in-Running-clause-answer c bytes m =
     let s = c.args.self.now in
     let h = c.in_default.field-0 in
     let trace = (c.finish.ensures.trace bytes s.memory.items m.0 m.1.read h).0 c.in_default.is in
-    let run = subst (λ (j : Judging). IsJudging s.shape bytes s.memory.items m.0 j) c.in-Running.is m.1.judging in
+    let run = subst (λ (j : Judging). IsJudging s.shape s.asked.ordered bytes s.memory.items m.0 j) c.in-Running.is
+    m.1.judging in
     let drained = subst (λ (j : Judging). IsDrained j s.reader s.memory.items) c.in-Running.is c.requires.drained in
     of_logs s.shape bytes s.memory.items (logs_so_far s.shape m.0) c.judged.result.verdict
     (trace_for c.exact_reading.ensures s.shape bytes m.1.read.are_bytes h s.memory.items s.reader.memory m.0
@@ -85,7 +97,8 @@ returns-in-Running-clause-incomplete c bytes m =
     let s = c.args.self.now in
     let h = c.in_default.field-0 in
     let trace = (c.finish.ensures.trace bytes s.memory.items m.0 m.1.read h).0 c.in_default.is in
-    let run = subst (λ (j : Judging). IsJudging s.shape bytes s.memory.items m.0 j) c.in-Running.is m.1.judging in
+    let run = subst (λ (j : Judging). IsJudging s.shape s.asked.ordered bytes s.memory.items m.0 j) c.in-Running.is
+    m.1.judging in
     let drained = subst (λ (j : Judging). IsDrained j s.reader s.memory.items) c.in-Running.is c.requires.drained in
     first_of_logs s.shape bytes s.memory.items (logs_so_far s.shape m.0) c.judged.result.verdict
     c.judged.result.incomplete

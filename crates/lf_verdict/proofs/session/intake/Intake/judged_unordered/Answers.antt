@@ -32,7 +32,8 @@ judged_unordered-requires c =
     let m = c.requires.taken.1 in
     let h = c.in_default.field-0 in
     let trace = (c.finish.ensures.trace bytes s.memory.items m.0 m.1.read h).0 c.in_default.is in
-    let run = subst (λ (j : Judging). IsJudging s.shape bytes s.memory.items m.0 j) c.in-Running.is m.1.judging in
+    let run = subst (λ (j : Judging). IsJudging s.shape s.asked.ordered bytes s.memory.items m.0 j) c.in-Running.is
+    m.1.judging in
     let drained = subst (λ (j : Judging). IsDrained j s.reader s.memory.items) c.in-Running.is c.requires.drained in
     record {
       shape = s.shape;
@@ -58,7 +59,8 @@ returns-in-Another c bytes m =
     let s = c.args.self.now in
     let h = c.in_default.field-0 in
     let trace = (c.finish.ensures.trace bytes s.memory.items m.0 m.1.read h).0 c.in_default.is in
-    let other = subst (λ (j : Judging). IsJudging s.shape bytes s.memory.items m.0 j) c.in-Another.is m.1.judging in
+    let other = subst (λ (j : Judging). IsJudging s.shape s.asked.ordered bytes s.memory.items m.0 j) c.in-Another.is
+    m.1.judging in
     another c.exact_reading.ensures s.shape bytes m.1.read.are_bytes h s.memory.items s.reader.memory m.0
     s.reader.records trace c.in-Another.field other
 
@@ -67,7 +69,8 @@ returns-in-Running c bytes m =
     let s = c.args.self.now in
     let h = c.in_default.field-0 in
     let trace = (c.finish.ensures.trace bytes s.memory.items m.0 m.1.read h).0 c.in_default.is in
-    let run = subst (λ (j : Judging). IsJudging s.shape bytes s.memory.items m.0 j) c.in-Running.is m.1.judging in
+    let run = subst (λ (j : Judging). IsJudging s.shape s.asked.ordered bytes s.memory.items m.0 j) c.in-Running.is
+    m.1.judging in
     let drained = subst (λ (j : Judging). IsDrained j s.reader s.memory.items) c.in-Running.is c.requires.drained in
     of_logs_unordered s.shape bytes s.memory.items (logs_so_far s.shape m.0) c.judged_unordered.result
     (trace_for c.exact_reading.ensures s.shape bytes m.1.read.are_bytes h s.memory.items s.reader.memory m.0

@@ -1,16 +1,15 @@
 use Rattle.std.proofs.Common.{sym, ◌∙◌, subst}
-use Rattle.lf_verdict.specs.declared.session.intake.Judging.{Judging}
-use Rattle.lf_verdict.specs.Session.{IsInTurn, IsWatched}
+use Rattle.lf_verdict.specs.Session.{IsWatched}
 use Rattle.lf_verdict.proofs.session.intake.Intake.prepare.Goals as goal
 
 pub returns-in_err-take_memory-clause-in_turn : goal.returns-in_err-take_memory-clause-in_turn
 returns-in_err-take_memory-clause-in_turn c turn = record {
-  asked = c.in_err-take_memory.ensures.watched ∙ turn.asked;
+  asked = c.in_err-take_memory.ensures.asked ∙ turn.asked;
   known = subst IsWatched (sym c.in_err-take_memory.ensures.waiting) tt;
 }
 
 pub returns-clause-in_turn : goal.returns-clause-in_turn
 returns-clause-in_turn c turn = c.open.ensures.in_turn (record {
-  asked = c.in_ok-take_memory.ensures.watched ∙ turn.asked;
+  asked = c.in_ok-take_memory.ensures.asked ∙ turn.asked;
   known = subst IsWatched (sym c.in_ok-take_memory.ensures.waiting) tt;
 })

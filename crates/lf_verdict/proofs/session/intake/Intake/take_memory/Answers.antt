@@ -11,7 +11,7 @@ loop-item-preserved c = record {
   shape = c.loop-item.invariant.shape;
   stop = c.loop-item.invariant.stop;
   waiting = c.loop-item.invariant.waiting;
-  watched = c.loop-item.invariant.watched;
+  asked = c.loop-item.invariant.asked;
   taken = λ bytes taken.
       let s = c.loop-item.self in
       let m = c.loop-item.invariant.taken bytes taken in (
@@ -21,8 +21,8 @@ loop-item-preserved c = record {
           read = subst (λ (items : List (ℕ × Bytes)). HasRead c.take_memory.new.self bytes items m.0)
               (sym c.in_ok-push.ensures.items) (c.in-Some.ensures.taken bytes s.memory.items m.0 m.1.read);
           fine = ap (λ (q : Reading). q.fault) c.in-Some.ensures.rest ∙ m.1.fine;
-          judging = waiting_any s.shape bytes s.memory.items _ m.0 s.judging c.loop-item.invariant.waiting
-              m.1.judging;
+          judging = waiting_any s.shape s.asked.ordered bytes s.memory.items _ m.0 s.judging
+              c.loop-item.invariant.waiting m.1.judging;
         },
       );
 }

@@ -8,7 +8,7 @@ invariant-loop-item l = record {
   shape : l.self.shape ≡ l.fn.self.shape;
   stop : l.self.stop ≡ l.fn.self.stop;
   waiting : l.self.judging ≡ Waiting;
-  watched : l.self.watched ≡ l.fn.self.watched;
+  asked : l.self.asked ≡ l.fn.self.asked;
   taken : (bytes : List ℕ) → HasTaken l.fn.self bytes → HasTaken l.self bytes;
 }
 

@@ -2,7 +2,7 @@ use Rattle.std.proofs.Common.{List, length, get_or, sym, ap, ◌∙◌, subst, a
 use Rattle.std.specs.Vec.{with_items}
 use Rattle.std.specs.List.{length_refill}
 use Rattle.lf_verdict.specs.declared.session.standing.bank_judge.BankJudge.{BankJudge}
-use Rattle.lf_verdict.specs.inner.Shares.{kind_of, IsShareAt, CanTakeAll, TakesAll}
+use Rattle.lf_verdict.specs.inner.Shares.{kind_of, keeps_of, IsShareAt, CanTakeAll, TakesAll}
 use Rattle.lf_verdict.proofs.Batches.{all_fit, can_take, banks_too, written_at}
 use Rattle.lf_verdict.proofs.session.share.Share.take.Goals as goal
 
@@ -24,6 +24,7 @@ returns-in-Banks g c =
     let ws = c.judge_banks.new.banks in
     record {
       kind = sym (ap kind_of c.in-Banks.is);
+      keeps = sym (ap keeps_of c.in-Banks.is);
       judged = λ shape memory before may at.
           banks_too shape memory before rs old.items (with_items old ws).items
           (subst (IsShareAt shape memory before) c.in-Banks.is at) (all_fit shape before rs may)

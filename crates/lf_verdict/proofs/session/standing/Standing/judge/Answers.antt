@@ -38,7 +38,7 @@ returns-clause-judged c shape memory records may stands =
     let item = c.args.item.now in
     let i = c.from-bank.result in
     let v = c.index_mut.result.now in
-    let entered = c.in_ok-enter.ensures shape records may stands.entered in
+    let entered = c.in_ok-enter.ensures.entered shape records may stands.entered in
     let within : item.bank < shape.banks = omega (
       arith,
       c.from-bank.ensures,

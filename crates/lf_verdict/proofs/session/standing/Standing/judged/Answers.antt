@@ -8,7 +8,7 @@ use Rattle.lf_verdict.proofs.session.standing.Standing.judged.Goals as goal
 
 pub overflow_cast-result : goal.overflow_cast-result
 overflow_cast-result c =
-    let r = c.requires in
+    let r = c.requires.end in
     let order = (c.in-Ok.ensures.order r.shape r.memory r.records r.stands r.short).least.is_order in
     omega (
       arith,

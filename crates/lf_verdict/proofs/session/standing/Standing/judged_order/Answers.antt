@@ -25,26 +25,26 @@ returns-in_err-judge_rules-clause-fault c shape memory records stands short =
 
 pub least_order-requires-clause-few : goal.least_order-requires-clause-few
 least_order-requires-clause-few c =
-    let r = c.requires in
+    let r = c.requires.end in
     omega (arith, ap length c.deref.ensures.value, few_logs r.shape r.memory r.records c.args.self.now r.stands r.short)
 
 pub least_order-requires-clause-short : goal.least_order-requires-clause-short
 least_order-requires-clause-short c =
-    let r = c.requires in
-    let same = ap joins.skeleton_lists c.deref.ensures.value ∙ r.stands.entered.logs in
+    let r = c.requires.end in
+    let same = ap joins.skeleton_lists c.deref.ensures.value ∙ r.stands.entered.kept.all c.requires.kept in
     subst (All (λ (entries : List (ℕ × ℕ)). length entries ≤ 2 ^ 24)) (sym same)
     (skeletons_short r.shape r.memory r.records c.args.self.now r.stands r.short)
 
 pub least_order-requires-clause-whole : goal.least_order-requires-clause-whole
 least_order-requires-clause-whole c =
-    let r = c.requires in
-    let same = ap joins.skeleton_lists c.deref.ensures.value ∙ r.stands.entered.logs in
+    let r = c.requires.end in
+    let same = ap joins.skeleton_lists c.deref.ensures.value ∙ r.stands.entered.kept.all c.requires.kept in
     subst BanksAreWhole (sym same) (skeletons_whole r.shape r.memory r.records c.args.self.now r.stands r.short
     (c.in_ok-judge_numbers.ensures.whole r.shape r.memory r.records r.stands))
 
 pub returns-clause-order : goal.returns-clause-order
 returns-clause-order c shape memory records stands short =
-    let same = ap joins.skeleton_lists c.deref.ensures.value ∙ stands.entered.logs in
+    let same = ap joins.skeleton_lists c.deref.ensures.value ∙ stands.entered.kept.all c.requires.kept in
     IfOk-weaker c.least_order.result _ (λ (order : Vec ℕ). IsOrderOf shape memory (logs_so_far shape records)
     order.items)
     (λ (order : Vec ℕ) least. record {
@@ -56,7 +56,7 @@ returns-clause-order c shape memory records stands short =
 
 pub returns-clause-fault : goal.returns-clause-fault
 returns-clause-fault c shape memory records stands short =
-    let same = ap joins.skeleton_lists c.deref.ensures.value ∙ stands.entered.logs in
+    let same = ap joins.skeleton_lists c.deref.ensures.value ∙ stands.entered.kept.all c.requires.kept in
     let parts = c.in_ok-judge_rules.ensures.run shape memory records stands
     (c.in_ok-judge_numbers.ensures.whole shape memory records stands) in
     IfErr-weaker c.least_order.result _ (IsEnding shape memory (logs_so_far shape records))

@@ -5,7 +5,6 @@ use Rattle.lf_verdict.proofs.session.standing.bank_judge.BankJudge.judge.Goals a
 pub returns-in_default : goal.returns-in_default
 returns-in_default c = record {
   order = refl;
-  in_turn = refl;
   bank = refl;
   shape = refl;
   judged = λ shape memory bank rs number at. bank_kept shape memory bank rs c.args.item.now c.args.self.now.step

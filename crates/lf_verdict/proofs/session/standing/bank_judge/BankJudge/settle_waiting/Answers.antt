@@ -21,7 +21,7 @@ loop-item-preserved c shape memory bank came gave judged =
           (subst (λ (o : Reordering). HasOrdered o came (m.0 ++ item ∷ [])) (sym c.in_ok-judge.ensures.order)
           (took.gives came m.0 m.1.ordered))
           (ap (λ (o : Reordering). o.bank) c.in_ok-judge.ensures.order ∙ took.bank)
-          c.in_ok-judge.ensures.in_turn c.in_ok-judge.ensures.bank c.in_ok-judge.ensures.shape
+          c.in_ok-judge.ensures.bank c.in_ok-judge.ensures.shape
           (λ number at. c.in_ok-judge.ensures.judged shape memory bank m.0 number at),
     )
 

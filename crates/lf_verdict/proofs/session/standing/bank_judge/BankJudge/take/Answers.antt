@@ -44,7 +44,7 @@ settle-requires c =
           (subst (λ (o : Reordering). HasOrdered o (r.came ++ item ∷ []) (r.gave ++ item ∷ []))
           (sym c.in_ok-judge.ensures.order) passed.1)
           (ap (λ (o : Reordering). o.bank) c.in_ok-judge.ensures.order ∙ c.if-not-pass.ensures.bank)
-          c.in_ok-judge.ensures.in_turn c.in_ok-judge.ensures.bank c.in_ok-judge.ensures.shape
+          c.in_ok-judge.ensures.bank c.in_ok-judge.ensures.shape
           (λ number at. c.in_ok-judge.ensures.judged r.shape r.memory r.bank r.gave number at);
     }
 
@@ -58,5 +58,5 @@ returns c shape memory bank came gave fits named settled =
     (subst (λ (o : Reordering). HasOrdered o (came ++ item ∷ []) (gave ++ item ∷ []))
     (sym c.in_ok-judge.ensures.order) passed.1)
     (ap (λ (o : Reordering). o.bank) c.in_ok-judge.ensures.order ∙ c.if-not-pass.ensures.bank)
-    c.in_ok-judge.ensures.in_turn c.in_ok-judge.ensures.bank c.in_ok-judge.ensures.shape
-    (λ number at. c.in_ok-judge.ensures.judged shape memory bank gave number at))
+    c.in_ok-judge.ensures.bank c.in_ok-judge.ensures.shape (λ number at. c.in_ok-judge.ensures.judged shape memory
+    bank gave number at))
