@@ -82,9 +82,11 @@ fn ring_behind_what_has_gone(rt: HostRuntime) -> Result<(), Fail> {
 
 #[test]
 fn session_without_an_order(rt: HostRuntime) -> Result<(), Fail> {
-    let mut session = ParallelSession::unordered(rt.alloc(), &C1, 1);
     let bytes = trace(rt.alloc(), 1, &C1, &Vec::new(rt.alloc()), &[])?;
-    assert!(rt; session.feed(&rt, &bytes).is_ok());
-    assert_eq!(rt; session.finish(&rt), yes_of(rt.alloc(), 0));
+    let mut session = ParallelSession::unordered(rt.alloc(), &C1, 1);
+    let fed = session.feed(&rt, &bytes);
+    let verdict = session.finish(&rt);
+    assert!(rt; fed.is_ok());
+    assert_eq!(rt; verdict, yes_of(rt.alloc(), 0));
     Ok(())
 }
