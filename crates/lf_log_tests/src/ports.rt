@@ -92,22 +92,22 @@ fn bank_that_owes_a_reply(rt: HostRuntime) -> Result<(), Fail> {
     Ok(())
 }
 
-/// The lowest tag that waits after these events of port 0.
-fn waiting_after(alloc: Global, events: &[&str]) -> Result<Option<u8>, Fail> {
+/// The lowest tag that waits after these events of port 0, and how many wait.
+fn waiting_after(alloc: Global, events: &[&str]) -> Result<(Option<u8>, u32), Fail> {
     let mut step = PortStep::new(&C1, 0);
     for text in events {
         let item = record(alloc, &C1, 0, 0, 0, text)?;
         let _ = step.apply(&item);
     }
-    Ok(step.lowest_waiting())
+    Ok((step.lowest_waiting(), step.unanswered()))
 }
 
 #[test]
-fn lowest_tag_that_waits(rt: HostRuntime) -> Result<(), Fail> {
+fn tags_that_wait(rt: HostRuntime) -> Result<(), Fail> {
     for (events, waiting) in [
-        ([LOAD, REPLY], None),
-        ([LOAD, "L 1 8@0"], Some(0)),
-        (["L 3 8@0", "L 2 8@0"], Some(2)),
+        ([LOAD, REPLY], (None, 0)),
+        ([LOAD, "L 1 8@0"], (Some(0), 2)),
+        (["L 3 8@0", "L 2 8@0"], (Some(2), 2)),
     ] {
         assert_eq!(&rt; waiting_after(rt.alloc(), &events)?, waiting);
     }

@@ -1,6 +1,10 @@
 -- A tag of a port is busy exactly where it waits for a reply.
 use Rattle.std.proofs.Common.{◌≡◌, ℕ, Bool, true, false, cond, eqb, List, [], ◌∷◌, Option, Some, None, is_some}
-use Rattle.std.proofs.Common.{slice_index_or, refl, sym, ap, ◌∙◌}
+use Rattle.std.proofs.Common.{◌+◌, ◌<◌, length, map, slice_index_or, refl, sym, ap, subst, ◌∙◌}
+use Rattle.std.proofs.lemmas.List.FromFn.{fill_by_all}
+use Rattle.std.proofs.lemmas.List.Sums.{sum_by-cons}
+use Rattle.std.proofs.lemmas.List.{get_or-map, length-map}
+use Rattle.std.specs.List.{count_by, range_with_len}
 use Rattle.std.specs.List.{fold}
 use Rattle.lf_rules.specs.declared.shape.Shape.{Shape}
 use Rattle.lf_rules.specs.declared.event.Event.{Event}
@@ -10,7 +14,7 @@ use Rattle.lf_rules.specs.State.{Local}
 use Rattle.lf_rules.specs.Outcomes.{first_local}
 use Rattle.lf_rules.specs.Table.{busy_after, port_effect}
 use Rattle.lf_logs.specs.Tags.{PortView, port_after, PortStandsAfter, IsLowestBusy}
-use Rattle.lf_logs.specs.Incomplete.{waits_after, waits, IsLowestWaiting}
+use Rattle.lf_logs.specs.Incomplete.{waits_after, waits, unanswered, IsLowestWaiting}
 
 some_of : (b : Bool) (x y : Option ℕ) → is_some (cond b x y) ≡ cond b (is_some x) (is_some y)
 some_of true x y = refl
@@ -22,6 +26,12 @@ busy_more : (busy : ℕ → Option ℕ) (bank : ℕ) (event : Event) (tag : ℕ)
 busy_more busy bank (Issue op t size address bytes) tag = some_of (eqb t tag) (Some bank) (busy tag)
 busy_more busy bank (Reply t size bytes) tag = some_of (eqb t tag) None (busy tag)
 busy_more busy bank _ tag = refl
+
+count_by-map : {X : Type 0} (f : X → Bool) (xs : List X) → count_by (λ b. b) (map f xs) ≡ count_by f xs
+count_by-map f [] = refl
+count_by-map f (x ∷ xs) =
+    sum_by-cons (λ b. cond b 1 0) (f x) (map f xs) ∙ ap (λ n. cond (f x) 1 0 + n) (count_by-map f xs)
+    ∙ sym (sum_by-cons (λ x. cond (f x) 1 0) x xs)
 
 module _ (shape : Shape) (tag : ℕ) where
   -- all events
@@ -43,3 +53,14 @@ module _ (step : PortView) (shape : Shape) (rs : List Record) (stands : PortStan
   pub lowest_waits : (found : Option ℕ) → IsLowestBusy step.owed_by found → IsLowestWaiting rs found
   lowest_waits (Some tag) (within, busy, below) = (waits_if tag ∙ busy, within, λ t lt. free t (below t lt))
   lowest_waits None none = λ t lt. free t (none t lt)
+
+  -- So as many wait as are busy.
+  pub unanswered_if : length step.owed_by ≡ 256 → count_by is_some step.owed_by ≡ unanswered rs
+  unfolding unanswered
+  unanswered_if long =
+      sym (count_by-map (λ (o : Option ℕ). is_some o) step.owed_by)
+      ∙ ap (count_by (λ b. b)) (fill_by_all (waits rs) (map (λ (o : Option ℕ). is_some o) step.owed_by) 256 false
+      (length-map step.owed_by (λ (o : Option ℕ). is_some o) ∙ long)
+      (λ tag lt. get_or-map (λ (o : Option ℕ). is_some o) step.owed_by tag None false
+      (subst (λ n. tag < n) (sym long) lt) ∙ sym (waits_if tag)))
+      ∙ count_by-map (waits rs) (range_with_len 0 256)

@@ -1,6 +1,7 @@
 -- Requests that have no reply at the end of a port's log.
 use Rattle.std.specs.Prelude.{◌≡◌, ℕ, ◌<◌, Bool, true, false, ◌==◌, if◌then◌else◌}
-use Rattle.std.specs.Prelude.{List, [], ◌++◌, fold, Option, Some, None, slice_index_or, codes}
+use Rattle.std.specs.Prelude.{List, [], ◌++◌, fold, count_by, Option, Some, None, slice_index_or, codes}
+use Rattle.std.specs.List.{range_with_len}
 use Rattle.std.specs.Fmt.{decimal}
 use Rattle.lf_rules.specs.declared.event.Record.{Record}
 use Rattle.lf_rules.specs.declared.event.Event.{Event}
@@ -15,6 +16,10 @@ waits_after t waits _ = waits
 
 abbrev pub waits : List Record → ℕ → Bool
 waits log tag = fold (λ before r. waits_after tag before r.event) false log
+
+-- how many tags of a port's log wait for a reply
+unfoldable pub unanswered : List Record → ℕ
+unanswered log = count_by (waits log) (range_with_len 0 256)
 
 -- the lowest tag of a port's log that waits for a reply, where one does
 abbrev pub IsLowestWaiting : List Record → Option ℕ → Type 0

@@ -1,6 +1,6 @@
 //! The rules of a port's log. They look at nothing but which tags are busy.
 
-ghost use Rattle.std.specs.Prelude.{◌≡◌, ◌≢◌, ◌≤◌, ◌^◌, length, None, slice_index_or};
+ghost use Rattle.std.specs.Prelude.{◌≡◌, ◌≢◌, ◌≤◌, ◌^◌, length, None, slice_index_or, count_by, is_some};
 ghost use Rattle.lf_rules.specs.declared.outcome.Outcome.{Outcome};
 ghost use Rattle.lf_rules.specs.Outcomes.{IsPortOutcome};
 ghost use Rattle.lf_rules.specs.State.{Local, idle};
@@ -52,6 +52,14 @@ impl BusyTags {
             }
         }
         None
+    }
+
+    /// How many tags are busy.
+    pub(crate) fn busy_count(&self) -> u32
+        ensures count { result ≡ count_by is_some self.now.owed_by }
+        ensures tags { length self.now.owed_by ≡ 256 }
+    {
+        self.owed_by.iter().filter(|owed| owed.is_some()).count() as u32
     }
 
     /// The first rule of the port that the record breaks.
