@@ -255,7 +255,8 @@ module _ (skeletons left : List (List (ℕ × ℕ))) (reached : Reached) (log : 
     gone = h.gone ++ x ∷ [];
     has_gone = record {
       order = h.has_gone.order ++ log ∷ [];
-      taken = subst (TakesUpTo (with_entry skeletons log x) (h.has_gone.order ++ log ∷ []) (h.gone ++ x ∷ [])) none_after
+      taken = subst
+          (TakesUpTo (with_entry skeletons log x) (h.has_gone.order ++ log ∷ []) (h.gone ++ x ∷ [])) none_after
           (taken_more (with_entry skeletons log x) h.has_gone.order h.gone (with_entry left log x) log x
           (taken_with skeletons h.has_gone.order h.gone left log x within h.has_gone.taken)
           (subst (λ (xs : List (ℕ × ℕ)). xs ≡ x ∷ drop 1 xs) (sym last_there) refl));

@@ -60,7 +60,7 @@ impl Progress {
     }
 
     /// Lets the entry go that comes next in a log of which none is left, where its turn has come, and says whether it
-    /// went. One that names no bank may always go.
+    /// went: one that carries its bank's next number, or names no bank.
     #[inline(always)]
     pub fn pass(&mut self, log: u8, entry: (u8, u32)) -> bool
         requires log { log < 32 }
@@ -69,11 +69,13 @@ impl Progress {
             → log_at left log ≡ [] → HasReached skeletons self.old left
             → HasReached (with_entry skeletons log entry) self.new left }
         ensures stays { ¬ IsTrue result → self.new ≡ self.old }
+        ensures due { result ≡ is_due self.old.next entry }
     {
         let (bank, number) = entry;
         let goes = self.is_due(bank, number);
         if goes {
-            self.places[usize::from(log)] += 1;
+            let at = usize::from(log);
+            self.places[at] += 1;
             self.next[usize::from(bank)] = u64::from(number) + 1;
         }
         goes
@@ -108,7 +110,7 @@ impl Progress {
         for knot in ring.as_slice() {
             whole.push(Knot {
                 log: knot.log,
-                at: self.places[usize::from(knot.log)] as u32 + knot.at,
+                at: self.gone(knot.log) as u32 + knot.at,
             });
         }
         whole

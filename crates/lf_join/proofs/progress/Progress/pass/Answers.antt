@@ -11,7 +11,7 @@ returns-then-goes-clause-gone c truth skeletons left within none h =
     let reached : Reached = record { places = p.places; next = p.next } in
     let log = c.args.log in
     let entry = c.args.entry in
-    rw (c.from.ensures, c.from-then-goes.ensures, c.from-then-goes-2.ensures)
+    rw (c.from.ensures, c.from-at.ensures, c.from-then-goes.ensures)
     (entry_goes skeletons left reached log entry within none
     (subst (λ (r : Reached). HasReached skeletons r left) (sym c.self.view_is) h)
     (let len = c.self.invariant.0 in omega (arith, len, c.requires.log))
