@@ -1,23 +1,25 @@
 -- Laws of what a run for statistics or for the coverage comes to and tells.
 use Rattle.std.proofs.Common.{◌≡◌, ℕ, List, Option, None, Some, Result, Ok, Err, IfOk, String, string_bytes, sym, ap}
-use Rattle.std.proofs.Common.{◌∙◌, subst, refl, inl, inr, ◌⊎◌, ⊎_elim, OnErr}
+use Rattle.std.proofs.Common.{IfSome, ◌∙◌, subst, refl, inl, inr, OnErr}
+use Rattle.std.proofs.lemmas.Result.{IfOk-weaker}
 use Rattle.std.specs.Global.{Global}
 use Rattle.lf_rules.specs.declared.shape.Shape.{Shape}
-use Rattle.lf_rules.specs.InRange.{IsShape}
 use Rattle.lf_config.specs.Configuration.{configuration_of}
+use Rattle.lf_stats.specs.declared.counts.Stats.{Stats}
+use Rattle.lf_stats.specs.Text.{stats_text}
 use Rattle.lf_verdict.specs.declared.answer.Verdict.{Verdict}
 use Rattle.lf_verdict.specs.declared.answer.Verdict.TheVariants.{Yes, No, Refused}
 use Rattle.lf_verdict.specs.declared.answer.Refusal.TheVariants.{Memory}
+use Rattle.lf_verdict.specs.Statistics.{AreStatisticsOf, IsYesVerdict}
 use Rattle.lf_verdict.specs.Verdict.{IsDecided, IsVerdictOf}
 use Rattle.lf_stream.specs.Account.{Account}
 use Rattle.lf_engine.specs.declared.fault.RunFault.{RunFault}
 use Rattle.lf_engine.specs.declared.report.Report.{Report}
-use Rattle.lf_engine.specs.declared.report.Tallied.{Tallied}
 use Rattle.lf_engine.specs.declared.report.Wanted.{Wanted}
 use Rattle.lf_engine.specs.declared.report.Wanted.TheVariants.{Statistics}
 use Rattle.lf_contents.specs.Logs.{IsCountable}
-use Rattle.lf_engine.specs.Report.{ArePrintedFor, IsTallyOf, IsTalliedRead, IsWritten, IsYesVerdict, HasLinesFor}
-use Rattle.lf_engine.specs.Report.{HasLinesIfYes, verdict_in, FollowsLines}
+use Rattle.lf_engine.specs.Report.{ArePrintedFor, AreStatisticsRead, IsWritten, HasLinesFor, HasLinesIfYes}
+use Rattle.lf_engine.specs.Report.{verdict_in, FollowsLines}
 use Rattle.lf_engine.specs.Report.{FollowsReport, lines_or, report_text}
 use Rattle.lf_engine.specs.Run.{Follows, Reads, outcome_line}
 
@@ -66,12 +68,7 @@ module _ {E : Type 0} (v : Verdict) (lines : Result (String Global) E) (report :
       go (Err e) told refused printed =
           subst (λ (r : Report). HasLinesFor wanted shape bytes r.verdict r.lines) (sym refused) (λ no. no)
 
--- ---- what was counted
-
-yes_or : (v : Verdict) → IsYesVerdict v ⊎ ¬ IsYesVerdict v
-yes_or (Yes events order) = inl tt
-yes_or (No f) = inr (λ is. is)
-yes_or (Refused f) = inr (λ is. is)
+-- ---- statistics
 
 printed_if : (wanted : Wanted) (shape : Shape) (old new : Account) (config bytes : List ℕ) (v : Verdict)
     (lines : Option (String Global)) → configuration_of config ≡ Ok shape → Reads old new bytes
@@ -82,21 +79,27 @@ printed_if wanted shape old new config bytes v (Some text) configured reads has 
 )
 printed_if wanted shape old new config bytes v None configured reads has = has
 
--- The lines of what was read and counted go with a yes.
-pub counted_lines : (shape : Shape) (old new : Account) (config : List ℕ) (t : Tallied) (report : Report)
-    → IsShape shape → configuration_of config ≡ Ok shape → (IsDecided t.verdict → IsTalliedRead shape old new t)
-    → ((shape : Shape) (bytes : List ℕ) → IsShape shape → IsYesVerdict t.verdict → IsVerdictOf shape 1 bytes t.verdict
-    → IsTallyOf shape bytes t.tally → HasLinesFor Statistics shape bytes report.verdict report.lines)
-    → (¬ IsYesVerdict t.verdict → report ≡ record { verdict = t.verdict; lines = None })
+-- The statistics of the bytes that a session was fed are those of what was read.
+pub statistics_read : (own shape : Shape) (old new : Account) (stats : Option Stats) (bytes : List ℕ) → own ≡ shape
+    → Reads old new bytes → IfSome stats (AreStatisticsOf own bytes) → IfSome stats (AreStatisticsRead shape old new)
+statistics_read own shape old new (Some stats) bytes same reads are = record {
+  bytes = bytes;
+  reads = reads;
+  statistics = subst (λ (s : Shape). AreStatisticsOf s bytes stats) same are;
+}
+statistics_read own shape old new None bytes same reads are = tt
+
+-- The lines of the statistics of what was read go with a yes.
+pub counted_lines : {E : Type 0} (v : Verdict) (stats : Stats) (lines : Result (String Global) E) (report : Report)
+    → IfOk lines (λ text. report ≡ record { verdict = v; lines = Some text })
+    → OnErr lines (report ≡ record { verdict = Refused Memory; lines = None })
+    → (shape : Shape) (old new : Account) (config : List ℕ) → configuration_of config ≡ Ok shape
+    → AreStatisticsRead shape old new stats → IsYesVerdict v → IfOk lines (λ text. string_bytes text ≡ stats_text stats)
     → HasLinesIfYes Statistics old new config report.verdict report.lines
-counted_lines shape old new config t report in_range configured read lines other = ⊎_elim
-    (λ (is : IsYesVerdict t.verdict).
-    let all = read (judged_yes t.verdict is) in
-    printed_if Statistics shape old new config all.bytes report.verdict report.lines configured all.reads
-    (lines shape all.bytes in_range is all.verdict all.counted))
-    (λ (other_is : ¬ IsYesVerdict t.verdict).
-    subst (λ (r : Report). HasLinesIfYes Statistics old new config r.verdict r.lines) (sym (other other_is)) other_is)
-    (yes_or t.verdict)
+counted_lines v stats lines report told refused shape old new config configured read says printed =
+    printed_if Statistics shape old new config read.bytes report.verdict report.lines configured read.reads
+    (lines_with v lines report told refused Statistics shape read.bytes says
+    (IfOk-weaker lines _ _ (λ _ text. record { stats = stats; statistics = read.statistics; lines = text }) printed))
 
 follows_lines : (lines : Option (String Global)) (v : Verdict) (said : Result Verdict RunFault) →
     FollowsLines lines v said → Follows (Ok v) said

@@ -6,34 +6,25 @@ use Rattle.lf_rules.specs.declared.event.Record.{Record}
 use Rattle.lf_rules.specs.Fits.{Bytes}
 use Rattle.lf_config.specs.Configuration.{configuration_of}
 use Rattle.lf_stats.specs.declared.counts.Stats.{Stats}
-use Rattle.lf_stats.specs.Answer.{AreStats}
 use Rattle.lf_stats.specs.Text.{stats_text}
-use Rattle.lf_stats.specs.TraceTally.{Counting, HasCounted}
 use Rattle.lf_coverage.specs.declared.coverage.Coverage.{Coverage}
 use Rattle.lf_coverage.specs.Coverage.{IsCoverage}
 use Rattle.lf_coverage.specs.Text.{coverage_text}
 use Rattle.lf_coverage.specs.Data.{data_text}
 use Rattle.lf_verdict.specs.declared.answer.Verdict.{Verdict}
 use Rattle.lf_verdict.specs.declared.answer.Verdict.TheVariants.{Yes}
+use Rattle.lf_verdict.specs.declared.session.breaking.Counted.{Counted}
 use Rattle.lf_verdict.specs.Legal.{IsTraceFor}
-use Rattle.lf_verdict.specs.Verdict.{IsVerdictOf}
+use Rattle.lf_verdict.specs.Statistics.{AreStatisticsOf, IsYesVerdict}
 use Rattle.lf_stream.specs.Account.{Account}
 use Rattle.lf_engine.specs.declared.fault.RunFault.{RunFault}
 use Rattle.lf_engine.specs.declared.report.CoverageForm.{CoverageForm}
 use Rattle.lf_engine.specs.declared.report.CoverageForm.TheVariants as forms
 use Rattle.lf_engine.specs.declared.report.Judged.{Judged}
 use Rattle.lf_engine.specs.declared.report.Report.{Report}
-use Rattle.lf_engine.specs.declared.report.Tallied.{Tallied}
 use Rattle.lf_engine.specs.declared.report.Wanted.{Wanted}
 use Rattle.lf_engine.specs.declared.report.Wanted.TheVariants as wants
 use Rattle.lf_engine.specs.Run.{Reads, Follows, outcome_line}
-
--- These are the statistics of the logs of the trace in the bytes.
-pub record AreStatisticsOf (shape : Shape) (bytes : List ℕ) (stats : Stats) : Type 0 where
-  pub memory : List (ℕ × Bytes)
-  pub logs : List (List Record)
-  pub trace : IsTraceFor shape bytes memory logs
-  pub counts : AreStats shape logs stats
 
 -- This is the coverage of the logs of the trace in the bytes.
 pub record IsCoverageOf (shape : Shape) (bytes : List ℕ) (coverage : Coverage) : Type 0 where
@@ -84,21 +75,11 @@ IsWritten wanted old new config answer text = text ≡ outcome_line answer
 
 -- ---- before it is written
 
--- what was counted of these bytes
-abbrev pub IsTallyOf : Shape → List ℕ → Option Counting → Type 0
-IsTallyOf shape bytes (Some tally) = HasCounted shape bytes tally
-IsTallyOf shape bytes None = ⊥
-
--- The verdict is that of the bytes that the reader answered, and they were counted.
-pub record IsTalliedRead (shape : Shape) (old new : Account) (t : Tallied) : Type 0 where
+-- These are the statistics of the bytes that the reader answered.
+pub record AreStatisticsRead (shape : Shape) (old new : Account) (stats : Stats) : Type 0 where
   pub bytes : List ℕ
   pub reads : Reads old new bytes
-  pub verdict : IsVerdictOf shape 1 bytes t.verdict
-  pub counted : IsTallyOf shape bytes t.tally
-
-abbrev pub IsYesVerdict : Verdict → Type 0
-IsYesVerdict (Yes events order) = Unit {0}
-IsYesVerdict _ = ⊥
+  pub statistics : AreStatisticsOf shape bytes stats
 
 -- The lines of the bytes are there exactly where the verdict is a yes.
 abbrev pub HasLinesFor : Wanted → Shape → List ℕ → Verdict → Option (String Global) → Type 0
@@ -117,9 +98,9 @@ abbrev pub judged_in : Result Judged RunFault → Result Verdict RunFault
 judged_in (Ok judged) = Ok judged.verdict
 judged_in (Err fault) = Err fault
 
-abbrev pub tallied_in : Result Tallied RunFault → Result Verdict RunFault
-tallied_in (Ok tallied) = Ok tallied.verdict
-tallied_in (Err fault) = Err fault
+abbrev pub counted_in : Result Counted RunFault → Result Verdict RunFault
+counted_in (Ok counted) = Ok counted.verdict
+counted_in (Err fault) = Err fault
 
 abbrev pub verdict_in : Result Report RunFault → Result Verdict RunFault
 verdict_in (Ok report) = Ok report.verdict

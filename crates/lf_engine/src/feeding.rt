@@ -20,6 +20,7 @@ pub struct Feeding {
 /// says that a growth was refused.
 fn feed(session: &mut Session, piece: &[u8]) -> Result<bool, NoMemory>
     ensures shape { session.new.shape ≡ session.old.shape }
+    ensures counted { session.new.asked.counted ≡ session.old.asked.counted }
     ensures fed { (bytes : List ℕ) → HasFed session.old bytes → HasFed session.new (bytes ++ piece.now) }
     ensures told { (bytes : List ℕ) → HasFed session.old bytes →
         IfOk result (λ broken. IsTrue broken ↔ HasFault (bytes ++ piece.now)) }
@@ -30,11 +31,12 @@ fn feed(session: &mut Session, piece: &[u8]) -> Result<bool, NoMemory>
 
 /// A fault that stands in what was fed is enough.
 impl Sink for Feeding {
-    type Setting = Shape;
+    /// The shape, and whether the session counts.
+    type Setting = (Shape, bool);
 
     type Fault = NoMemory;
 
-    ghost setting = { λ f. f.session.shape };
+    ghost setting = { λ f. (f.session.shape, f.session.asked.counted) };
 
     ghost fed = { λ f bytes. HasFed f.session bytes × AreBytes bytes };
 

@@ -24,7 +24,6 @@ mod keeping;
 mod line;
 mod report;
 mod statistics;
-mod tallying;
 mod watch;
 mod watching;
 

@@ -1,23 +1,17 @@
-//! The statistics of a trace that was counted, and the coverage of a trace that was kept.
+//! The lines of the statistics of a trace that was counted, and the coverage of a trace that was kept.
 
-ghost use Rattle.std.specs.Prelude.{◌≡◌, ℕ, List, IfOk, string_bytes};
+ghost use Rattle.std.specs.Prelude.{◌≡◌, IfOk, string_bytes};
 ghost use Rattle.lf_rules.specs.InRange.{IsShape};
-ghost use Rattle.lf_rules.specs.declared.shape.Shape.{Shape};
 ghost use Rattle.lf_stats.specs.Text.{stats_text};
-ghost use Rattle.lf_stats.specs.TraceTally.{HasCounted};
 ghost use Rattle.lf_coverage.specs.Text.{coverage_text};
 ghost use Rattle.lf_coverage.specs.Data.{data_text};
 ghost use Rattle.lf_contents.specs.Logs.{IsCountable};
-ghost use Rattle.lf_verdict.specs.Verdict.{IsVerdictOf};
-ghost use Rattle.lf_verdict.specs.declared.answer.Verdict.{Verdict};
-ghost use Rattle.lf_engine.specs.Report.{AreStatisticsLines, IsCoverageOf, AreCoverageLines, AreDataLines};
-ghost use Rattle.lf_engine.specs.Report.{ArePrintedFor, IsYesVerdict, wanted_of};
+ghost use Rattle.lf_engine.specs.Report.{IsCoverageOf, AreCoverageLines, AreDataLines, ArePrintedFor, wanted_of};
 
-use lf_codec::one_trace;
 use lf_contents::packed_logs_in;
 use lf_coverage::{Coverage, CoverageData, cover};
-use lf_rules::{NoMemory, Shape, numbers_are_whole};
-use lf_stats::{Stats, TraceTally, slice_runs_accept_issued};
+use lf_rules::{NoMemory, Shape};
+use lf_stats::Stats;
 use lf_verdict::{Broken, Incomplete, Verdict};
 use std::alloc::{AllocError, Global};
 
@@ -49,13 +43,6 @@ pub struct Judged {
     pub incomplete: Option<Incomplete>,
 }
 
-/// A verdict, and what was counted of the trace that it is of. Nothing is, where memory ran out or it was not read.
-#[derive(Drop)]
-pub struct Tallied {
-    pub verdict: Verdict,
-    pub tally: Option<TraceTally>,
-}
-
 /// What a run came to: a verdict, and the lines that are told of it, where there are any.
 #[derive(Drop)]
 pub struct Report {
@@ -73,10 +60,11 @@ fn coverage_of(alloc: Global, shape: &Shape, bytes: &[u8]) -> Result<Coverage, N
     cover(alloc, shape, &logs)
 }
 
-fn text_of(alloc: Global, counts: &Stats) -> Result<String, AllocError>
-    ensures { IfOk result (λ text. string_bytes text ≡ stats_text counts.now) }
+/// The lines of the statistics.
+pub fn statistics_lines(alloc: Global, stats: &Stats) -> Result<String, NoMemory>
+    ensures { IfOk result (λ text. string_bytes text ≡ stats_text stats.now) }
 {
-    format!(in alloc; "{counts}")
+    Ok(format!(in alloc; "{stats}")?)
 }
 
 fn text_of_coverage(alloc: Global, coverage: &Coverage) -> Result<String, AllocError>
@@ -90,22 +78,6 @@ fn text_of_data(alloc: Global, coverage: &Coverage) -> Result<String, AllocError
 {
     let shown = CoverageData(coverage);
     format!(in alloc; "{shown}")
-}
-
-/// The lines of the statistics of the trace that was counted.
-pub fn statistics_lines(alloc: Global, tally: &TraceTally) -> Result<String, NoMemory>
-    ensures { (shape : Shape) (bytes : List ℕ) (verdict : Verdict) → IsShape shape → HasCounted shape bytes tally.now
-        → IsYesVerdict verdict → IsVerdictOf shape 1 bytes verdict
-        → IfOk result (λ text. AreStatisticsLines shape bytes (string_bytes text)) }
-{
-    numbers_are_whole();
-    one_trace();
-    slice_runs_accept_issued();
-    let counts = tally.stats(alloc)?;
-    match text_of(alloc, &counts) {
-        Ok(text) => Ok(text),
-        Err(_) => Err(NoMemory),
-    }
 }
 
 /// The lines of the coverage of the trace in these bytes.

@@ -1,9 +1,8 @@
 //! Reads the bytes of a trace, judges them, and writes their statistics or their coverage.
 
 ghost use Rattle.std.specs.Prelude.{◌≡◌, ◌≢◌, ◌<◌, ◌↔◌, ℕ, List, take, Some, None, Ok, Err, IfOk, OnErr, IsErrOf};
-ghost use Rattle.std.specs.Prelude.{Result};
+ghost use Rattle.std.specs.Prelude.{IfSome, IsSome, Result};
 ghost use Rattle.lf_rules.specs.InRange.{IsShape};
-ghost use Rattle.lf_rules.specs.declared.shape.Shape.{Shape};
 ghost use Rattle.lf_config.specs.Configuration.{configuration_of};
 ghost use Rattle.lf_verdict.specs.declared.answer.Verdict.{Verdict};
 ghost use Rattle.lf_verdict.specs.declared.answer.Verdict.TheVariants.{Refused};
@@ -11,25 +10,23 @@ ghost use Rattle.lf_verdict.specs.declared.answer.Refusal.{Refusal};
 ghost use Rattle.lf_verdict.specs.Incomplete.{IsIncompleteFor};
 ghost use Rattle.lf_verdict.specs.Verdict.{IsWorkerCount, IsDecided, IsVerdictOf};
 ghost use Rattle.lf_verdict.specs.Legal.{IsLegal};
+ghost use Rattle.lf_verdict.specs.Statistics.{IsYesVerdict};
 ghost use Rattle.lf_verdict.specs.Configured.{IsVerdictFor, IsLegalFor, IsRunlessNoFor};
 ghost use Rattle.lf_stream.specs.Account.{WentOut};
 ghost use Rattle.lf_stream.specs.Counted.{calls_of, failures_of, account_of};
 ghost use Rattle.lf_engine.specs.declared.fault.RunFault.{RunFault};
 ghost use Rattle.lf_why.specs.NotLegal.{IsEarliestIf};
-ghost use Rattle.lf_engine.specs.Report.{HasLinesFor, HasLinesIfYes, IsTallyOf, IsTalliedRead, IsWritten, IsYesVerdict};
-ghost use Rattle.lf_engine.specs.Report.{judged_in, tallied_in, verdict_in, FollowsReport, report_text, wanted_of};
+ghost use Rattle.lf_engine.specs.Report.{AreStatisticsRead, FollowsReport, HasLinesFor, HasLinesIfYes, IsWritten};
+ghost use Rattle.lf_engine.specs.Report.{counted_in, judged_in, verdict_in, report_text, wanted_of};
 ghost use Rattle.lf_engine.specs.Run.{IsAsked, IsOutcome, Reads, Follows, IsRunWriting};
 
 use crate::engine::{PIECE, shape_for, tell};
 use crate::fault::{RunFault, stopped};
+use crate::feeding::Feeding;
 use crate::keeping::Keeping;
-use crate::report::{
-    CoverageForm, Judged, Report, Tallied, Wanted, covered_lines, statistics_lines,
-};
-use crate::tallying::Tallying;
+use crate::report::{CoverageForm, Judged, Report, Wanted, covered_lines, statistics_lines};
 use lf_codec::{exact_reading, fault_so_far, faults_stand};
 use lf_rules::{NoMemory, Shape};
-use lf_stats::TraceTally;
 use lf_stream::{Counted, Source, gather, put, zeros};
 use lf_verdict::{Refusal, Session, Verdict, no_has_no_run};
 use std::alloc::Global;
@@ -115,24 +112,6 @@ fn yes_with(verdict: Verdict, lines: Result<String, NoMemory>) -> Report
     }
 }
 
-/// A verdict, with the statistics of what was counted where it is a yes.
-fn counted_report(alloc: Global, tallied: Tallied) -> Report
-    ensures follows { Follows (Ok tallied.verdict) (Ok result.verdict) }
-    ensures yes { (shape : Shape) (bytes : List ℕ) → IsShape shape → IsYesVerdict tallied.verdict
-        → IsVerdictOf shape 1 bytes tallied.verdict → IsTallyOf shape bytes tallied.tally
-        → HasLinesFor Wanted.Statistics shape bytes result.verdict result.lines }
-    ensures other { ¬ IsYesVerdict tallied.verdict → result ≡ record { verdict = tallied.verdict; lines = None } }
-{
-    let Tallied { verdict, tally } = tallied;
-    if !matches!(&verdict, Verdict::Yes { .. }) {
-        return no_lines(verdict);
-    }
-    match tally {
-        Some(tally) => yes_with(verdict, statistics_lines(alloc, &tally)),
-        None => no_lines(verdict),
-    }
-}
-
 /// A verdict, with the coverage of the bytes where it is a yes.
 fn covered_report(
     alloc: Global,
@@ -152,13 +131,13 @@ fn covered_report(
     yes_with(verdict, covered_lines(alloc, shape, bytes, form))
 }
 
-/// A verdict for which nothing was counted.
-fn untallied(verdict: Verdict) -> Tallied
-    ensures { result ≡ record { verdict = verdict; tally = None } }
+/// A verdict with which no statistics are told.
+fn uncounted(verdict: Verdict) -> lf_verdict::Counted
+    ensures { result ≡ record { verdict = verdict; stats = None } }
 {
-    Tallied {
+    lf_verdict::Counted {
         verdict,
-        tally: None,
+        stats: None,
     }
 }
 
@@ -168,33 +147,26 @@ fn judge_and_count<T: AllocGlobal, S: Source>(
     source: &mut S,
     shape: &Shape,
     turns: u32,
-) -> Result<Tallied, RunFault>
+) -> Result<lf_verdict::Counted, RunFault>
     requires calls { (S.account source.old).calls ≡ 0 }
     requires failures { (S.account source.old).failures ≡ 0 }
     requires shape { IsShape shape.now }
     ensures outcome { IsOutcome (S.account source.old) (S.account source.new)
-        (IsWorkerCount 1) (IsLegal shape.now) (IsVerdictOf shape.now 1) turns (tallied_in result) }
-    ensures tallied { IfOk result (λ t. IsDecided t.verdict →
-        IsTalliedRead shape.now (S.account source.old) (S.account source.new) t) }
+        (IsWorkerCount 1) (IsLegal shape.now) (IsVerdictOf shape.now 1) turns (counted_in result) }
+    ensures counted { IfOk result (λ c.
+        IfSome c.stats (AreStatisticsRead shape.now (S.account source.old) (S.account source.new))) }
+    ensures yes { IfOk result (λ c. IsSome c.stats ↔ IsYesVerdict c.verdict) }
 {
     fault_so_far();
-    let Ok(tally) = TraceTally::new(rt.alloc(), shape) else {
-        return Ok(untallied(Verdict::Refused(Refusal::Memory)));
+    let mut feeding = Feeding {
+        session: Session::counting(rt.alloc(), shape),
     };
     let Ok(mut buffer) = zeros(rt.alloc(), PIECE) else {
-        return Ok(untallied(Verdict::Refused(Refusal::Memory)));
+        return Ok(uncounted(Verdict::Refused(Refusal::Memory)));
     };
-    let session = Session::for_shape(rt.alloc(), shape);
-    let mut tallying = Tallying { session, tally };
-    match gather(source, buffer.as_mut_slice(), &mut tallying, turns) {
-        Ok(()) => {
-            let Tallying { session, tally } = tallying;
-            Ok(Tallied {
-                verdict: session.finish(),
-                tally: Some(tally),
-            })
-        }
-        Err(stop) => Ok(untallied(stopped(stop)?)),
+    match gather(source, buffer.as_mut_slice(), &mut feeding, turns) {
+        Ok(()) => Ok(feeding.session.statistics()),
+        Err(stop) => Ok(uncounted(stopped(stop)?)),
     }
 }
 
@@ -213,8 +185,11 @@ fn count_for<T: AllocGlobal, S: Source>(
     ensures lines { (config : List ℕ) → configuration_of config ≡ Ok shape.now → IfOk result (λ r. HasLinesIfYes
         Wanted.Statistics (S.account source.old) (S.account source.new) config r.verdict r.lines) }
 {
-    let tallied = judge_and_count(rt, source, shape, turns)?;
-    Ok(counted_report(rt.alloc(), tallied))
+    let lf_verdict::Counted { verdict, stats } = judge_and_count(rt, source, shape, turns)?;
+    match stats {
+        Some(stats) => Ok(yes_with(verdict, statistics_lines(rt.alloc(), &stats))),
+        None => Ok(no_lines(verdict)),
+    }
 }
 
 /// Reads, judges and covers for the shape.

@@ -3,6 +3,8 @@
 #![tactic(auto)]
 
 #[cfg(test)]
+mod bank_counts;
+#[cfg(test)]
 mod configuration;
 #[cfg(test)]
 mod coverage;
@@ -16,7 +18,5 @@ mod rechecks;
 mod recording;
 #[cfg(test)]
 mod statistics;
-#[cfg(test)]
-mod tallies;
 #[cfg(test)]
 mod usage;

@@ -20,9 +20,7 @@ use Rattle.lf_logs.specs.Lists.{logs_of}
 use Rattle.lf_logs.proofs.GivenOut.{given_numbers, given_whole}
 use Rattle.lf_logs.proofs.Joined.{all_records-le}
 use Rattle.lf_logs.proofs.Splitting.{get_or-parts_of, length-parts_of}
-use Rattle.lf_stats.specs.declared.bank_tally.BankTally.{BankTally}
-use Rattle.lf_stats.specs.Answer.{IsBankStats}
-use Rattle.lf_stats.specs.Tally.{AreComplete, IsBankSettled}
+use Rattle.lf_stats.specs.Tally.{CountsAreStatistics}
 
 -- ---- the records are an interleaving of their logs
 
@@ -72,43 +70,32 @@ whole_moved xs ys moved whole k h =
 
 -- ---- a bank
 
-module _ (shape : Shape) (records : List Record) (complete : AreComplete shape records) where
-  pub bank_complete : (bank : ℕ) (gave : List Record) (tally : BankTally) → bank < shape.banks
-      → IsBankSettled shape bank (of_bank bank records) gave tally
-      → IsBankStats shape (logs_of (shape.ports + shape.banks) records) bank tally.count.stats
-  bank_complete bank gave tally lt settled =
-      let lists = logs_of (shape.ports + shape.banks) records in
-      let came = of_bank bank records in
-      let all = of_bank bank (all_records lists) in
-      let ordered = settled.tallied.ordered in
-      let moved : IsPermutation came all =
-      interleaving_permutes_bank lists records (interleaves shape records complete.fit) bank in
-      let whole = whole_moved came all moved (complete.whole bank lt) in
-      let same : IsPermutation gave all = IsPermutation-trans gave came all
-      (given_whole tally.order came gave ordered whole settled.drained) moved in
-      let numbered : IsNumbered lists bank gave = record {
-        numbers = given_numbers tally.order came gave ordered;
-        same = same;
-      } in
-      let few : length gave ≤ 2 ^ 29 = omega (
+pub counts_are : CountsAreStatistics
+counts_are shape records bank order gave count complete lt ordered drained counted =
+    let lists = logs_of (shape.ports + shape.banks) records in
+    let came = of_bank bank records in
+    let all = of_bank bank (all_records lists) in
+    let moved : IsPermutation came all =
+    interleaving_permutes_bank lists records (interleaves shape records complete.fit) bank in
+    let whole = whole_moved came all moved (complete.whole bank lt) in
+    let same : IsPermutation gave all = IsPermutation-trans gave came all
+    (given_whole order came gave ordered whole drained) moved in
+    let numbered : IsNumbered lists bank gave = record {
+      numbers = given_numbers order came gave ordered;
+      same = same;
+    } in
+    let few : length gave ≤ 2 ^ 29 = omega (
+      arith,
+      length_permutation gave all same,
+      all_records-le bank lists complete.short (omega (
         arith,
-        length_permutation gave all same,
-        all_records-le bank lists complete.short (omega (
-          arith,
-          length-parts_of (λ r. r.log) (shape.ports + shape.banks) records,
-          complete.in_range.ports.1,
-          complete.in_range.banks.1,
-        )),
-      ) in
-      record {
-        order = gave;
-        numbered = numbered;
-        counts = (settled.tallied.counted.counted few (complete.accepts bank gave lt numbered)).counts;
-      }
-
--- ---- a list
-
--- one of the elements of a list that has some
-pub some_of : {X : Type 0} (xs : List X) (i : ℕ) → i < length xs → X
-some_of [] i lt = absurd (omega arith)
-some_of (x ∷ xs) i lt = x
+        length-parts_of (λ r. r.log) (shape.ports + shape.banks) records,
+        complete.in_range.ports.1,
+        complete.in_range.banks.1,
+      )),
+    ) in
+    record {
+      order = gave;
+      numbered = numbered;
+      counts = (counted.counted few (complete.accepts bank gave lt numbered)).counts;
+    }

@@ -9,8 +9,5 @@ pub mod Lines
 pub mod Queues
 pub mod Tallied
 pub mod Accepting
-mod Taken
 pub mod Complete
-pub mod Pieces
-pub mod Reading
 mod Examples

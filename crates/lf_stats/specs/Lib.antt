@@ -4,6 +4,5 @@ pub mod Answer
 pub mod Text
 -- For callers that count while the records come: what was counted.
 pub mod Tally
-pub mod TraceTally
 -- For the contracts of the crate alone: what is held between two records.
 pub mod Standing

@@ -9,7 +9,8 @@ use Rattle.lf_rules.specs.declared.event.Event.{Event}
 use Rattle.lf_rules.specs.declared.event.Event.TheVariants.{Issue, Hit, Primary, Merge, Stall, Fill1}
 use Rattle.lf_rules.specs.Address.{block_of}
 use Rattle.lf_rules.specs.Run.{of_log}
-use Rattle.lf_logs.specs.Incomplete.{waits}
+-- how many tags of a port's log wait for a reply
+unfoldable pub use Rattle.lf_logs.specs.Incomplete.{unanswered}
 use Rattle.lf_stats.specs.declared.counts.BankStats.{BankStats}
 
 -- ---- kinds of events
@@ -118,7 +119,3 @@ bank_stats shape rs = record {
   stalls = kinds is_stall rs;
   peak = greatest (held_count shape rs) (length rs + 1);
 }
-
--- how many tags of a port's log wait for a reply
-unfoldable pub unanswered : List Record → ℕ
-unanswered log = count_by (waits log) (range_with_len 0 256)

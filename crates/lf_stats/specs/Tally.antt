@@ -1,5 +1,5 @@
 -- What is counted while the records of a trace come.
-use Rattle.std.specs.Prelude.{◌≡◌, ℕ, ◌+◌, ◌/◌, ◌<◌, ◌≤◌, ◌^◌, ◌==◌, true, false, List, [], ◌++◌, map, drop, take}
+use Rattle.std.specs.Prelude.{◌≡◌, ℕ, ◌+◌, ◌/◌, ◌<◌, ◌≤◌, ◌^◌, ◌==◌, true, List, [], ◌++◌, map, drop, take}
 use Rattle.std.specs.Prelude.{length, Option, Some, None, option_to_list, slice_get, slice_index_or, if◌then◌else◌}
 use Rattle.std.specs.Global.{Global}
 use Rattle.std.specs.declared.collections.VecDeque.{VecDeque}
@@ -12,14 +12,11 @@ use Rattle.lf_rules.specs.Address.{FlatMemory}
 use Rattle.lf_rules.specs.Fits.{Fits}
 use Rattle.lf_rules.specs.InRange.{IsShape}
 use Rattle.lf_rules.specs.Numbers.{IsNumbered, IsWhole, bank_numbers}
-use Rattle.lf_rules.specs.Run.{of_bank, of_log, IsSliceRun}
-use Rattle.lf_logs.specs.Incomplete.{waits}
+use Rattle.lf_rules.specs.Run.{of_bank, IsSliceRun}
 use Rattle.lf_logs.specs.Lists.{logs_of}
-use Rattle.lf_logs.specs.Reordering.{first_with, HasOrdered}
+use Rattle.lf_logs.specs.Reordering.{Reordering, first_with, HasOrdered}
 use Rattle.lf_stats.specs.declared.bank_count.BankCount.{BankCount}
-use Rattle.lf_stats.specs.declared.bank_tally.BankTally.{BankTally}
-use Rattle.lf_stats.specs.declared.port_tally.PortTally.{PortTally}
-use Rattle.lf_stats.specs.declared.tally.Tally.{Tally}
+use Rattle.lf_stats.specs.Answer.{IsBankStats}
 use Rattle.lf_stats.specs.Standing.{IsHeld}
 use Rattle.lf_stats.specs.Statistics.{accepted, accepts, bank_stats, held, issued}
 
@@ -88,40 +85,10 @@ pub record IsCounted (shape : Shape) (rs : List Record) (count : BankCount) : Ty
   pub seen : length rs ≤ 2 ^ 29 → count.seen ≡ length rs
   pub counted : length rs ≤ 2 ^ 29 → AcceptsIssued shape rs → AreCounted shape rs count
 
--- ---- a bank's records as they come
+-- ---- the records of a trace
 
--- These records of the bank came, and these of them were counted in the order of their numbers.
-pub record IsBankTallied (shape : Shape) (bank : ℕ) (came gave : List Record) (tally : BankTally) : Type 0 where
-  pub named : AllByRecursion (λ r. r.bank ≡ bank) came
-  pub ordered : HasOrdered tally.order came gave
-  pub of_bank : tally.order.bank ≡ bank
-  pub counted : IsCounted shape gave tally.count
-
--- ... and the next one has not come.
-pub record IsBankSettled (shape : Shape) (bank : ℕ) (came gave : List Record) (tally : BankTally) : Type 0 where
-  pub tallied : IsBankTallied shape bank came gave tally
-  pub drained : first_with (length gave) came ≡ None
-
--- ---- a port's records
-
--- of each tag it is known whether it waits for a reply
-pub record IsPortTallied (log : List Record) (tally : PortTally) : Type 0 where
-  pub tags : length tally.waits ≡ 256
-  pub each : (tag : ℕ) → tag < 256 → slice_index_or tally.waits tag false ≡ waits log tag
-
--- ---- all of them
-
--- These records of a trace came.
-pub record HasTallied (shape : Shape) (records : List Record) (tally : Tally) : Type 0 where
-  pub each_bank : length tally.banks.items ≡ shape.banks
-  pub bank : (b : ℕ) (d : BankTally) → b < shape.banks
-      → (gave : List Record) × IsBankSettled shape b (of_bank b records) gave (slice_index_or tally.banks.items b d)
-  pub each_port : length tally.ports.items ≡ shape.ports
-  pub port : (p : ℕ) (d : PortTally) → p < shape.ports
-      → IsPortTallied (of_log p records) (slice_index_or tally.ports.items p d)
-
--- They are those of a whole trace: each fits, no log is too long, each bank's numbers are whole, and each request is
--- accepted after its issue.
+-- These records are those of a whole trace: each fits, no log is too long, each bank's numbers are whole, and each
+-- request is accepted after its issue.
 pub record AreComplete (shape : Shape) (records : List Record) : Type 0 where
   pub in_range : IsShape shape
   pub fit : AllByRecursion (Fits shape) records
@@ -130,3 +97,12 @@ pub record AreComplete (shape : Shape) (records : List Record) : Type 0 where
       IsWhole (bank_numbers (logs_of (shape.ports + shape.banks) records) bank)
   pub accepts : (bank : ℕ) (rs : List Record) → bank < shape.banks
       → IsNumbered (logs_of (shape.ports + shape.banks) records) bank rs → AcceptsIssued shape rs
+
+-- Where a bank's records were counted in the order of their numbers, and the next one has not come, its counts are its
+-- statistics in a whole trace.
+abbrev pub CountsAreStatistics : Type 0
+CountsAreStatistics = (shape : Shape) (records : List Record) (bank : ℕ) (order : Reordering) (gave : List Record)
+    (count : BankCount) → AreComplete shape records → bank < shape.banks
+    → HasOrdered order (of_bank bank records) gave → first_with (length gave) (of_bank bank records) ≡ None
+    → IsCounted shape gave count
+    → IsBankStats shape (logs_of (shape.ports + shape.banks) records) bank count.stats

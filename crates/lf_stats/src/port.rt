@@ -1,18 +1,17 @@
 //! The requests of a port that have no reply.
 
 ghost use Rattle.std.specs.Prelude.{◌≡◌, ◌<◌, ◌≤◌, ◌^◌, ℕ, false, [], length, filter, slice_index_or};
-ghost use Rattle.lf_logs.specs.Incomplete.{waits, waits_after};
-ghost use Rattle.lf_stats.specs.Statistics.{unanswered};
+ghost use Rattle.lf_logs.specs.Incomplete.{unanswered, waits, waits_after};
 
 use lf_codec::Places;
 use lf_logs::{LogRecords, Place};
 use lf_rules::Event;
 
 /// As many as there are tags.
-pub(crate) const TAGS: usize = 256;
+const TAGS: usize = 256;
 
 /// What waits after the event.
-pub(crate) fn note(waits: &mut [bool; TAGS], event: &Event)
+fn note(waits: &mut [bool; TAGS], event: &Event)
     ensures len { length waits.new ≡ length waits.old }
     ensures waits { (tag : ℕ) → tag < 256 → slice_index_or waits.new tag false
         ≡ waits_after tag (slice_index_or waits.old tag false) event.now }
@@ -44,7 +43,7 @@ fn waits_at<L: LogRecords>(logs: &L, port: u8) -> [bool; TAGS]
     waits
 }
 
-pub(crate) fn count(waits: &[bool]) -> usize
+fn count(waits: &[bool]) -> usize
     ensures { result ≡ length (filter (λ waits. waits) waits.now) }
 {
     waits.iter().filter(|waits| **waits).count()

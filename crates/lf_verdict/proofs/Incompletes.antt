@@ -29,7 +29,7 @@ use Rattle.lf_verdict.proofs.Breaks.{no_break}
 use Rattle.lf_verdict.proofs.Traces.{log_of_logs}
 
 -- A port that runs has no fault, so its step stands where its log leads.
-port_stands : (shape : Shape) (memory : FlatMemory) (rs : List Record) (step : PortView) (outcome : Outcome) →
+pub port_stands : (shape : Shape) (memory : FlatMemory) (rs : List Record) (step : PortView) (outcome : Outcome) →
     IsPortRun shape memory rs → IsPortAt shape rs step outcome
     → PortStandsAfter step shape rs
 port_stands shape memory rs step outcomes.Passed runs at = at

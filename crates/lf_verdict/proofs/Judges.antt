@@ -1,5 +1,6 @@
 -- A port and a bank, judged one record further.
-use Rattle.std.proofs.Common.{◌≡◌, ℕ, zero, suc, List, [], ◌∷◌, ◌++◌, length, Some, None, refl, sym, ◌∙◌, subst}
+use Rattle.std.proofs.Common.{◌≡◌, ℕ, zero, suc, List, [], ◌∷◌, ◌++◌, length, Option, Some, None, refl, sym, ◌∙◌, subst}
+use Rattle.std.specs.Prelude.{IfSome}
 use Rattle.std.specs.List.{AllByRecursion}
 use Rattle.std.proofs.lemmas.List.{append-nil}
 use Rattle.lf_rules.specs.declared.shape.Shape.{Shape}
@@ -17,7 +18,9 @@ use Rattle.lf_logs.specs.Reordering.{Reordering, first_with, HasOrdered}
 use Rattle.lf_logs.specs.Tags.{PortView}
 use Rattle.lf_logs.proofs.Reordered.{first_with-number, first_with-push_other}
 use Rattle.lf_logs.proofs.GivenOut.{first_with-all}
-use Rattle.lf_replay.specs.Step.{StepView, IsForStep}
+use Rattle.lf_replay.specs.Step.{StepView, IsForStep, IsStepAfter}
+use Rattle.lf_stats.specs.declared.bank_count.BankCount.{BankCount}
+use Rattle.lf_stats.specs.Tally.{IsCounted, IsSteady}
 use Rattle.lf_verdict.specs.declared.session.standing.bank_judge.BankJudge.{BankJudge}
 use Rattle.lf_verdict.specs.Standing.{IsPortAt, IsBankAt, IsBankJudged, IsBankSettled}
 
@@ -47,6 +50,11 @@ bank_kept shape memory bank rs r step outcomes.NoMemory broken at = at
 
 -- ---- a bank's records in turn
 
+pub steady_if : (shape : Shape) (rs : List Record) (count : Option BankCount) → IfSome count (IsCounted shape rs) →
+    IfSome count IsSteady
+steady_if shape rs (Some count) is = is.steady
+steady_if shape rs None is = tt
+
 module _ (shape : Shape) (memory : FlatMemory) (bank : ℕ) (came gave : List Record) (old : BankJudge)
     (judged : IsBankJudged shape memory bank came gave old) where
   pub turn_fits : (r : Record) → Some r ≡ first_with (length gave) came → IsForStep old.step r
@@ -61,8 +69,9 @@ module _ (shape : Shape) (memory : FlatMemory) (bank : ℕ) (came gave : List Re
       → new.step.bank ≡ old.step.bank → new.step.state.shape ≡ old.step.state.shape
       → (r.number ≡ length gave → IsBankAt shape memory bank gave old.step old.outcome →
       IsBankAt shape memory bank (gave ++ r ∷ []) new.step new.outcome)
+      → (IfSome old.count (IsCounted shape gave) → IfSome new.count (IsCounted shape (gave ++ r ∷ [])))
       → IsBankJudged shape memory bank came (gave ++ r ∷ []) new
-  judged_more r new turn ordered same_order same_bank same_shape goes = record {
+  judged_more r new turn ordered same_order same_bank same_shape goes counts = record {
     fit = judged.fit;
     named = judged.named;
     ordered = ordered;
@@ -70,6 +79,7 @@ module _ (shape : Shape) (memory : FlatMemory) (bank : ℕ) (came gave : List Re
     of_bank = same_bank ∙ judged.of_bank;
     of_shape = same_shape ∙ judged.of_shape;
     judged = goes (first_with-number (length gave) came r (sym turn)) judged.judged;
+    counted = counts judged.counted;
   }
 
   pub judged_all : (order : Reordering) → None ≡ first_with (length gave) came → HasOrdered order came (gave ++ []) →
@@ -84,6 +94,7 @@ module _ (shape : Shape) (memory : FlatMemory) (bank : ℕ) (came gave : List Re
       of_bank = judged.of_bank;
       of_shape = judged.of_shape;
       judged = judged.judged;
+      counted = judged.counted;
     };
     drained = sym turn;
   }
@@ -104,6 +115,7 @@ module _ (shape : Shape) (memory : FlatMemory) (bank : ℕ) (came gave : List Re
     of_bank = judged.of_bank;
     of_shape = judged.of_shape;
     judged = judged.judged;
+    counted = judged.counted;
   }
 
   -- a record that was passed on in its turn
@@ -112,8 +124,9 @@ module _ (shape : Shape) (memory : FlatMemory) (bank : ℕ) (came gave : List Re
       → new.step.bank ≡ old.step.bank → new.step.state.shape ≡ old.step.state.shape
       → (r.number ≡ length gave → IsBankAt shape memory bank gave old.step old.outcome →
       IsBankAt shape memory bank (gave ++ r ∷ []) new.step new.outcome)
+      → (IfSome old.count (IsCounted shape gave) → IfSome new.count (IsCounted shape (gave ++ r ∷ [])))
       → IsBankJudged shape memory bank (came ++ r ∷ []) (gave ++ r ∷ []) new
-  judged_pass r new fits named turn ordered same_order same_bank same_shape goes = record {
+  judged_pass r new fits named turn ordered same_order same_bank same_shape goes counts = record {
     fit = all_push (Fits shape) came r judged.fit fits;
     named = all_push (λ r. r.bank ≡ bank) came r judged.named named;
     ordered = ordered;
@@ -121,6 +134,7 @@ module _ (shape : Shape) (memory : FlatMemory) (bank : ℕ) (came gave : List Re
     of_bank = same_bank ∙ judged.of_bank;
     of_shape = same_shape ∙ judged.of_shape;
     judged = goes turn judged.judged;
+    counted = counts judged.counted;
   }
 
   -- a record that came early, or again, leaves what was given out
@@ -132,3 +146,22 @@ module _ (shape : Shape) (memory : FlatMemory) (bank : ℕ) (came gave : List Re
     bank_judged = judged_put r order fits named ordered same;
     drained = first_with-push_other (length gave) came r early ∙ drained;
   }
+
+-- No record came.
+pub settled_none : (shape : Shape) (memory : FlatMemory) (bank : ℕ) (judge : BankJudge) → judge.order.bank ≡ bank →
+    HasOrdered judge.order [] []
+    → judge.outcome ≡ outcomes.Passed → IsStepAfter judge.step shape memory bank []
+    → IfSome judge.count (IsCounted shape []) → IsBankSettled shape memory bank [] [] judge
+settled_none shape memory bank judge order_of_bank ordered passed at counted = record {
+  bank_judged = record {
+    fit = tt;
+    named = tt;
+    ordered = ordered;
+    order_of_bank = order_of_bank;
+    of_bank = at.of_bank;
+    of_shape = at.state.of_shape;
+    judged = subst (IsBankAt shape memory bank [] judge.step) (sym passed) at;
+    counted = counted;
+  };
+  drained = refl;
+}

@@ -1,6 +1,7 @@
 -- The parts of a trace, judged one record further.
-use Rattle.std.proofs.Common.{◌≡◌, ℕ, ◌+◌, ◌<◌, ◌≤◌, List, [], ◌∷◌, ◌++◌, map, length, get_or, set, slice_index, refl, sym, ap}
-use Rattle.std.proofs.Common.{◌∙◌, subst, ⊎_elim, arith}
+use Rattle.std.proofs.Common.{◌≡◌, ℕ, ◌+◌, ◌<◌, ◌≤◌, List, [], ◌∷◌, ◌++◌, map, length, get_or, set, slice_index, refl}
+use Rattle.std.proofs.Common.{sym, ap, ◌∙◌, subst, inl, inr, ⊎_elim, arith}
+use Rattle.std.specs.Prelude.{IsSome}
 use Rattle.std.specs.List.{AllByRecursion}
 use Rattle.std.specs.Global.{Vec}
 use Rattle.std.specs.Vec.{with_item}
@@ -175,6 +176,25 @@ banks_more shape memory rs r judges given new more count count_given each within
     (get_or judges bank d))
     (sym (of_key-push_other (λ r. r.bank) bank rs r (λ e. other (sym e)))) (each bank d lt))))
     (cases_eq bank r.bank)
+
+-- where each of some judges counts, one of them counts further
+pub counts_set : (judges : List BankJudge) (i : ℕ) (old new : BankJudge) → old ≡ get_or judges i old
+    → (IsSome old.count → IsSome new.count)
+    → ((bank : ℕ) (d : BankJudge) → bank < length judges → IsSome (get_or judges bank d).count)
+    → (bank : ℕ) (d : BankJudge) → bank < length (set judges i new) → IsSome (get_or (set judges i new) bank d).count
+counts_set judges i old new read counts each bank d lt =
+    let inside : bank < length judges = omega (arith, length-set judges i new, lt) in
+    elim (cases_eq bank i) [
+      | inl own ↦
+          let was : IsSome old.count = subst (λ (j : BankJudge). IsSome j.count) (sym read)
+          (subst (λ (n : ℕ). IsSome (get_or judges n old).count) own (each bank old inside)) in
+          subst (λ (n : ℕ). IsSome (get_or (set judges i new) n d).count) (sym own)
+          (subst (λ (j : BankJudge). IsSome j.count) (sym (get_or-set_same judges i new d (omega (arith, own, inside))))
+          (counts was))
+      | inr other ↦
+          subst (λ (j : BankJudge). IsSome j.count) (sym (get_or-set_other judges i bank new d other))
+          (each bank d inside)
+    ]
 
 -- ---- one record more
 

@@ -6,6 +6,7 @@ pub mod Incomplete
 pub mod Configured
 pub mod Unordered
 pub mod Breaking
+pub mod Statistics
 pub mod Final
 pub mod Named
 pub mod Laws

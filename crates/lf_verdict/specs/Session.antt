@@ -23,7 +23,7 @@ use Rattle.lf_verdict.specs.declared.answer.Refusal.TheVariants as refusals
 use Rattle.lf_verdict.specs.Configured.{IsConfigFault}
 use Rattle.lf_verdict.specs.Legal.{Agrees}
 use Rattle.lf_verdict.specs.Breaking.{first_offset}
-use Rattle.lf_verdict.specs.Standing.{IsWatch, IsKnown, StandsAfterAll}
+use Rattle.lf_verdict.specs.Standing.{Counts, IsWatch, IsKnown, StandsAfterAll}
 use Rattle.lf_verdict.specs.Verdict.{Differs}
 
 -- The memory is whole and of a header that agrees with the shape, the parts stand where the records lead, and it is
@@ -77,11 +77,18 @@ abbrev pub IsWatched : Judging → Type 0
 IsWatched (Running running) = IsKnown running.watch
 IsWatched _ = Unit {0}
 
+-- While records are judged, each bank counts them.
+abbrev pub IsCounting : Judging → Type 0
+IsCounting (Running running) = Counts running
+IsCounting _ = Unit {0}
+
 -- An order is asked for and the records are watched, and they are judged one after another, so that it is known upon
--- which a part broke first.
+-- which a part broke first. Where the statistics are asked for too, each bank counts.
 pub record IsInTurn (s : Intake) : Type 0 where
-  pub asked : s.asked ≡ record { watched = true; ordered = true }
+  pub watched : s.asked.watched ≡ true
+  pub ordered : s.asked.ordered ≡ true
   pub known : IsWatched s.judging
+  pub counting : s.asked.counted ≡ true → IsCounting s.judging
 
 -- Nothing stopped the session and it has judged the records that it took, or a fault that stands in the bytes stopped
 -- it, or memory ran out.

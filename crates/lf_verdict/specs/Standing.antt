@@ -1,5 +1,5 @@
 -- How the parts of a trace stand while its records come.
-use Rattle.std.specs.Prelude.{◌≡◌, ℕ, ◌+◌, ◌<◌, ◌≤◌, true, List, length, slice_index_or, None}
+use Rattle.std.specs.Prelude.{◌≡◌, ℕ, ◌+◌, ◌<◌, ◌≤◌, true, List, length, slice_index_or, None, IfSome, IsSome}
 use Rattle.std.specs.List.{AllByRecursion}
 use Rattle.lf_rules.specs.declared.shape.Shape.{Shape}
 use Rattle.lf_rules.specs.declared.event.Record.{Record}
@@ -19,6 +19,7 @@ use Rattle.lf_join.specs.Join as joins
 use Rattle.lf_join.specs.Progress.{HasReached}
 use Rattle.lf_replay.specs.Bytes.{bank_part}
 use Rattle.lf_replay.specs.Step.{StepView, IsStepAfter}
+use Rattle.lf_stats.specs.Tally.{IsCounted}
 use Rattle.lf_verdict.specs.declared.session.standing.port_judge.PortJudge.{PortJudge}
 use Rattle.lf_verdict.specs.declared.session.standing.bank_judge.BankJudge.{BankJudge}
 use Rattle.lf_verdict.specs.declared.session.standing.log_entries.Entries.{Entries}
@@ -50,7 +51,8 @@ IsBankAt shape memory bank rs step (outcomes.Broken number rule) =
     BreaksAt OfBank shape (first_local memory) rs number rule
 IsBankAt shape memory bank rs step outcomes.NoMemory = ⊥
 
--- These records of the bank came, and these were judged in the order of their numbers.
+-- These records of the bank came, and these were judged in the order of their numbers, and counted where the judge
+-- counts.
 pub record IsBankJudged (shape : Shape) (memory : FlatMemory) (bank : ℕ) (came gave : List Record)
     (judge : BankJudge) : Type 0 where
   pub fit : AllByRecursion (Fits shape) came
@@ -60,6 +62,7 @@ pub record IsBankJudged (shape : Shape) (memory : FlatMemory) (bank : ℕ) (came
   pub of_bank : judge.step.bank ≡ bank
   pub of_shape : judge.step.state.shape ≡ shape
   pub judged : IsBankAt shape memory bank gave judge.step judge.outcome
+  pub counted : IfSome judge.count (IsCounted shape gave)
 
 -- ... and the next one has not come.
 pub record IsBankSettled (shape : Shape) (memory : FlatMemory) (bank : ℕ) (came gave : List Record)
@@ -94,6 +97,11 @@ pub record StandsAfterAll (shape : Shape) (memory : FlatMemory) (records : List 
   pub banks : (bank : ℕ) (d : BankJudge) → bank < shape.banks
       → IsBankSettled shape (bank_part shape bank memory) bank (of_bank bank records) (log_at given bank)
       (slice_index_or s.banks.items bank d)
+
+-- Each bank counts the records that it is judged on.
+abbrev pub Counts : Standing → Type 0
+Counts s = (bank : ℕ) (d : BankJudge) → bank < length s.banks.items
+    → IsSome (slice_index_or s.banks.items bank d).count
 
 -- ---- whether a part broke
 

@@ -1,6 +1,7 @@
 -- What only the contracts of the crate's own functions and their proofs use. No file beside this folder names a file in
 -- it.
 pub mod Coming
+pub mod Counting
 pub mod Noting
 pub mod Taking
 pub mod Turns

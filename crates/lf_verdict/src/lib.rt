@@ -28,4 +28,4 @@ pub use lf_logs::Incomplete;
 pub use lf_pool::{Gate, NoGate, is_worker_count};
 pub use lf_rules::Ring;
 pub use pool::{check, check_shape};
-pub use session::{Broken, Conclusion, ParallelSession, PartFault, Session, Upon};
+pub use session::{Broken, Conclusion, Counted, ParallelSession, PartFault, Session, Upon};

@@ -20,6 +20,8 @@ mod mixtures;
 #[cfg(test)]
 mod several_workers;
 #[cfg(test)]
+mod statistics;
+#[cfg(test)]
 mod unordered;
 #[cfg(test)]
 mod verdicts;

@@ -73,6 +73,7 @@ impl<G: Gate + Sync + Send + Copy + 'static> Ahead<G> {
         let asked = Asked {
             watched: false,
             ordered,
+            counted: false,
         };
         Ahead {
             intake: Intake::new(alloc, shape, asked),

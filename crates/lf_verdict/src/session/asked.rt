@@ -7,4 +7,6 @@ pub struct Asked {
     pub watched: bool,
     /// An order of the events.
     pub ordered: bool,
+    /// The statistics of the trace.
+    pub counted: bool,
 }

@@ -4,14 +4,15 @@ ghost use Rattle.std.specs.Prelude.{◌≡◌, ◌<◌, ◌++◌, ℕ, List, [],
 ghost use Rattle.std.specs.Prelude.{Bool, true, option_to_list};
 ghost use Rattle.lf_rules.specs.InRange.{IsShape};
 ghost use Rattle.lf_verdict.specs.inner.Ending.{IsVerdictOrWant, IsUnorderedOrWant};
-ghost use Rattle.lf_verdict.specs.Standing.{IsWatch, IsKnown, StandsAfterAll};
+ghost use Rattle.lf_verdict.specs.Standing.{Counts, IsWatch, IsKnown, StandsAfterAll};
 ghost use Rattle.lf_verdict.specs.inner.Noting.{EndsInRange};
 ghost use Rattle.lf_verdict.specs.Named.{IsNamed, NoneBrokeSoFar};
 ghost use Rattle.lf_verdict.specs.Verdict.{IsDecided};
 ghost use Rattle.lf_verdict.specs.Incomplete.{IsIncompleteFor};
 ghost use Rattle.lf_verdict.specs.Final.{IsFinal, IsEarliest, IsUnbroken, NoneBrokeInTrace};
 ghost use Rattle.lf_verdict.specs.Session.{refusal_of, stop_told, IsRunning, HasTaken, IsRunningNow, IsInTurn, HasFed};
-ghost use Rattle.lf_verdict.specs.Session.{IsOfAnotherHeader, HeaderAgrees};
+ghost use Rattle.lf_verdict.specs.Session.{IsCounting, IsOfAnotherHeader, HeaderAgrees};
+ghost use Rattle.lf_verdict.specs.Statistics.{AreStatisticsOf, IsYesVerdict};
 ghost use Rattle.lf_verdict.specs.inner.Taking.{IsLackingIf, IsDrained, CanJudge};
 ghost use Rattle.lf_codec.specs.Reader.{answer_of, bytes_taken, with_record, TakesSome};
 ghost use Rattle.lf_verdict.specs.declared.session.intake.Judging.TheVariants.{Waiting};
@@ -27,7 +28,7 @@ use crate::answer::{HeaderField, Refusal, Verdict};
 use crate::header::{differing, first_offset};
 use crate::laws::{other_headers_are_final, part_faults_are_final};
 use crate::session::asked::Asked;
-use crate::session::breaking::{Broken, Conclusion};
+use crate::session::breaking::{Broken, Conclusion, Counted};
 use crate::session::standing::{Judged, Standing};
 use crate::stop::Stop;
 use lf_codec::{Places, Reader, Told, exact_reading, faults_stand, header_of_bytes, read_so_far};
@@ -77,6 +78,7 @@ fn judge_records(reader: &mut Reader, standing: &mut Standing) -> Result<(), NoM
     ensures fault { reader.new.fault ≡ reader.old.fault }
     ensures drained { OnOk result (reader.new.records ≡ []) }
     ensures known { IsKnown standing.old.watch → IsKnown standing.new.watch }
+    ensures counts { Counts standing.old → Counts standing.new }
 {
     read_so_far();
     while let Some(item) = reader.front() {
@@ -100,6 +102,7 @@ fn judge_one(standing: &mut Standing, place: &Places) -> Result<(), NoMemory>
         → MayAllCome shape records (option_to_list place.now) → IsWatch start shape memory records standing.old.watch
         → OnOk result (IsWatch start shape memory (records ++ option_to_list place.now) standing.new.watch) }
     ensures known { IsKnown standing.old.watch → IsKnown standing.new.watch }
+    ensures counts { Counts standing.old → Counts standing.new }
     ensures keeps { standing.new.entries.keeps ≡ standing.old.entries.keeps }
 {
     match place.record() {
@@ -123,6 +126,7 @@ fn judge_placed(
     ensures fault { reader.new.fault ≡ reader.old.fault }
     ensures drained { OnOk result (reader.new.records ≡ []) }
     ensures known { IsKnown standing.old.watch → IsKnown standing.new.watch }
+    ensures counts { Counts standing.old → Counts standing.new }
 {
     read_so_far();
     judge_one(standing, place)?;
@@ -139,7 +143,7 @@ impl Intake {
         ensures shape { result.shape ≡ shape.now }
         ensures asked { result.asked ≡ asked }
         ensures fed { HasFed result [] }
-        ensures in_turn { asked ≡ record { watched = true; ordered = true } → IsInTurn result }
+        ensures in_turn { asked.watched ≡ true → asked.ordered ≡ true → IsInTurn result }
     {
         Intake {
             alloc,
@@ -412,6 +416,52 @@ impl Intake {
             verdict: judged.verdict,
             broken: found,
             incomplete: judged.incomplete,
+        }
+    }
+
+    /// The verdict of the bytes that were fed, once what came is judged, and after a yes the statistics of the trace,
+    /// where each bank counts.
+    fn judged_and_counted(&mut self) -> Counted
+        requires ordered { self.old.asked.ordered ≡ true }
+        requires taken { (bytes : List ℕ) × HasTaken self.old bytes }
+        requires drained { IsDrained self.old.judging self.old.reader self.old.memory.items }
+        ensures answer { (bytes : List ℕ) → HasTaken self.old bytes →
+            IsVerdictOrWant self.old.shape bytes result.verdict }
+        ensures counted { (bytes : List ℕ) → HasTaken self.old bytes →
+            IfSome result.stats (AreStatisticsOf self.old.shape bytes) }
+        ensures told { IsCounting self.old.judging → IsYesVerdict result.verdict → IsSome result.stats }
+        ensures yes { IsSome result.stats → IsYesVerdict result.verdict }
+    {
+        exact_reading();
+        if let Err(told) = self.reader.finish() {
+            return Counted::of(Verdict::Refused(Refusal::from(Stop::from(told))));
+        }
+        match &mut self.judging {
+            Judging::Waiting => unreachable!(),
+            Judging::Another(field) => Counted::of(Verdict::Refused(Refusal::Header(*field))),
+            Judging::Running(standing) => standing.counted(self.alloc),
+        }
+    }
+
+    /// The verdict of the bytes that were fed, and after a yes the statistics of the trace, where they are asked for.
+    pub fn counted(&mut self) -> Counted
+        requires ordered { self.old.asked.ordered ≡ true }
+        requires fed { (bytes : List ℕ) × HasFed self.old bytes }
+        ensures answer { (bytes : List ℕ) → HasFed self.old bytes →
+            IsVerdictOrWant self.old.shape bytes result.verdict }
+        ensures stopped { IfSome self.old.stop (λ stop. result.verdict ≡ Verdict.Refused (refusal_of stop)) }
+        ensures counted { (bytes : List ℕ) → HasFed self.old bytes →
+            IfSome result.stats (AreStatisticsOf self.old.shape bytes) }
+        ensures told { IsInTurn self.old → self.old.asked.counted ≡ true → IsYesVerdict result.verdict →
+            IsSome result.stats }
+        ensures yes { IsSome result.stats → IsYesVerdict result.verdict }
+    {
+        if let Some(stop) = self.stop {
+            return Counted::of(Verdict::Refused(Refusal::from(stop)));
+        }
+        match self.take_all() {
+            Ok(()) => self.judged_and_counted(),
+            Err(NoMemory) => Counted::of(Verdict::Refused(Refusal::Memory)),
         }
     }
 

@@ -1,6 +1,7 @@
 //! The verdict of a trace, judged while its bytes come.
 
-ghost use Rattle.std.specs.Prelude.{◌≡◌, ◌++◌, ℕ, List, [], Ok, None, IfOk, IfErr, IfSome, IfNone, IsSome, OnOk};
+ghost use Rattle.std.specs.Prelude.{◌≡◌, ◌++◌, ℕ, true, List, [], Ok, None, IfOk, IfErr, IfSome, IfNone};
+ghost use Rattle.std.specs.Prelude.{IsSome, OnOk};
 ghost use Rattle.lf_rules.specs.InRange.{IsShape};
 ghost use Rattle.lf_codec.specs.Reader.{fault_in};
 ghost use Rattle.lf_codec.specs.Reading.{fault_so_far};
@@ -10,6 +11,7 @@ ghost use Rattle.lf_verdict.specs.declared.answer.Refusal.{Refusal};
 ghost use Rattle.lf_verdict.specs.Verdict.{IsDecided, IsVerdictOf, IsLegalYes};
 ghost use Rattle.lf_verdict.specs.Incomplete.{IsIncompleteFor};
 ghost use Rattle.lf_verdict.specs.Laws.{IsRunlessNo};
+ghost use Rattle.lf_verdict.specs.Statistics.{AreStatisticsOf, IsYesVerdict};
 ghost use Rattle.lf_verdict.specs.Final.{IsFinal, IsEarliest, IsUnbroken, NoneBrokeInTrace};
 ghost use Rattle.lf_verdict.specs.Session.{IsConfigRefusal, refusal_of, stop_told, IsRefusalSoFar, HasFed};
 
@@ -28,7 +30,7 @@ use crate::answer::{Refusal, Verdict};
 use crate::laws::{no_has_no_run, yes_is_legal};
 use crate::session::asked::Asked;
 use crate::session::intake::Intake;
-pub use breaking::{Broken, Conclusion, PartFault, Upon};
+pub use breaking::{Broken, Conclusion, Counted, PartFault, Upon};
 use lf_codec::{Places, Told};
 use lf_config::read;
 use lf_rules::Shape;
@@ -62,9 +64,20 @@ impl Session {
         ensures shape { result.shape ≡ shape.now }
         ensures fed { HasFed result [] }
     {
+        Session::with_counts(alloc, shape, false)
+    }
+
+    /// A session for the shape, that was fed nothing. Where it is `counted`, the statistics of the trace are asked for.
+    fn with_counts(alloc: Global, shape: &Shape, counted: bool) -> Session
+        requires { IsShape shape.now }
+        ensures shape { result.shape ≡ shape.now }
+        ensures counted { result.asked.counted ≡ counted }
+        ensures fed { HasFed result [] }
+    {
         let asked = Asked {
             watched: true,
             ordered: true,
+            counted,
         };
         Session {
             intake: Intake::new(alloc, shape, asked),
@@ -82,10 +95,21 @@ impl Session {
         Ok(Session::for_shape(alloc, &shape))
     }
 
+    /// A session for the shape, as that of `for_shape`, which also counts, so that `statistics` tells what it counted.
+    pub fn counting(alloc: Global, shape: &Shape) -> Session
+        requires { IsShape shape.now }
+        ensures shape { result.shape ≡ shape.now }
+        ensures counted { result.asked.counted ≡ true }
+        ensures fed { HasFed result [] }
+    {
+        Session::with_counts(alloc, shape, true)
+    }
+
     /// Takes the next piece of the trace. It refuses a fault of the format that stands in the bytes so
     /// far, other than `Truncated`, and out of memory; from then on it answers `Failed`.
     pub fn feed(&mut self, piece: &[u8]) -> Result<(), Told<Refusal>>
         ensures shape { self.new.shape ≡ self.old.shape }
+        ensures asked { self.new.asked ≡ self.old.asked }
         ensures fed { (bytes : List ℕ) → HasFed self.old bytes → HasFed self.new (bytes ++ piece.now) }
         // When it answers what.
         ensures told { result ≡ stop_told self.old.stop self.new.stop }
@@ -137,6 +161,30 @@ impl Session {
             places: _,
         } = self;
         intake.conclude()
+    }
+
+    /// The verdict of the bytes that were fed, as that of `finish`, and after a yes the statistics of the trace, where
+    /// the session counts. Where a growth for these is refused, the verdict is that memory ran out.
+    pub fn statistics(self) -> Counted
+        ensures legal { (bytes : List ℕ) → HasFed self bytes → IsLegalYes self.shape bytes result.verdict }
+        ensures runless { (bytes : List ℕ) → HasFed self bytes → IsRunlessNo self.shape bytes result.verdict }
+        ensures verdict { (bytes : List ℕ) → HasFed self bytes → IsDecided result.verdict →
+            IsVerdictOf self.shape 1 bytes result.verdict }
+        ensures stopped { IfSome self.stop (λ stop. result.verdict ≡ Verdict.Refused (refusal_of stop)) }
+        ensures thread { ¬ (result.verdict ≡ Verdict.Refused Refusal.Thread) }
+        // What was counted.
+        ensures counted { (bytes : List ℕ) → HasFed self bytes →
+            IfSome result.stats (AreStatisticsOf self.shape bytes) }
+        ensures told { self.asked.counted ≡ true → IsYesVerdict result.verdict → IsSome result.stats }
+        ensures yes { IsSome result.stats → IsYesVerdict result.verdict }
+    {
+        yes_is_legal();
+        no_has_no_run();
+        let Session {
+            mut intake,
+            places: _,
+        } = self;
+        intake.counted()
     }
 
     /// The verdict of the bytes that were fed: that of `check_shape`. After a refused

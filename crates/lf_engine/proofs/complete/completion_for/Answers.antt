@@ -1,4 +1,4 @@
-use Rattle.std.proofs.Common.{inr, ◌≡◌, [], Err, ◌∙◌, refl, arith, subst, rules}
+use Rattle.std.proofs.Common.{inr, ◌≡◌, Bool, [], Err, ap, ◌∙◌, refl, arith, subst, rules}
 use Rattle.lf_rules.specs.declared.shape.Shape.{Shape}
 use Rattle.lf_verdict.specs.Incomplete.{IsIncompleteFor}
 use Rattle.lf_engine.proofs.CompletionLemmas.{completion_read}
@@ -13,7 +13,8 @@ pub returns-in-Ok-gather-clause-outcome : goal.returns-in-Ok-gather-clause-outco
 returns-in-Ok-gather-clause-outcome g c =
     let got = c.in-Ok-gather.ensures in
     let (bytes, was, all) = got.all in
-    finished _ _ _ 1 _ c.gather.new.sink.session c.conclude-end.result.verdict (got.setting ∙ c.for_shape.ensures.shape)
+    finished _ _ _ 1 _ c.gather.new.sink.session c.conclude-end.result.verdict
+    (ap (λ (s : Shape × Bool). s.0) got.setting ∙ c.for_shape.ensures.shape)
     (omega arith, omega arith) got.reads (inr got.once)
     (λ failed. let bad = got.read.1 failed in cc)
     bytes was.0 (all_read _ _ _ bytes (search rules) was.1 all)
@@ -27,7 +28,8 @@ returns-in-Ok-gather-clause-complete g c = λ config configured.
     completion_read _ _ config c.args.shape.now bytes end.verdict end.incomplete configured
     (all_read _ _ _ bytes (search rules) was.1 all)
     (subst (λ (s : Shape). IsIncompleteFor s bytes end.verdict end.incomplete)
-    (got.setting ∙ c.for_shape.ensures.shape) (c.conclude-end.ensures.incomplete bytes was.0))
+    (ap (λ (s : Shape × Bool). s.0) got.setting ∙ c.for_shape.ensures.shape)
+    (c.conclude-end.ensures.incomplete bytes was.0))
 
 pub returns-in_err-stopped-in-Err-clause-outcome : goal.returns-in_err-stopped-in-Err-clause-outcome
 returns-in_err-stopped-in-Err-clause-outcome g c =

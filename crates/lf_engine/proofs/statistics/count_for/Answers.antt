@@ -1,14 +1,17 @@
-use Rattle.std.proofs.Common.{Ok}
-use Rattle.lf_engine.proofs.RunLemmas.{outcome_told}
+use Rattle.std.proofs.Common.{Option, IfSome, IsSome, refl, sym, subst}
+use Rattle.lf_stats.specs.declared.counts.Stats.{Stats}
+use Rattle.lf_engine.specs.Report.{AreStatisticsRead}
 use Rattle.lf_engine.proofs.TellingLemmas.{counted_lines}
 use Rattle.lf_engine.proofs.statistics.count_for.Goals as goal
 
-pub returns-clause-outcome : goal.returns-clause-outcome
-returns-clause-outcome g c =
-    outcome_told _ _ _ _ _ _ (Ok c.in_ok-tallied.tallied.verdict) (Ok c.counted_report.result.verdict)
-    c.in_ok-tallied.ensures.outcome c.counted_report.ensures.follows
-
-pub returns-clause-lines : goal.returns-clause-lines
-returns-clause-lines g c config configured =
-    counted_lines c.args.shape.now _ _ config c.in_ok-tallied.tallied c.counted_report.result c.requires.shape
-    configured c.in_ok-tallied.ensures.tallied c.counted_report.ensures.yes c.counted_report.ensures.other
+pub returns-in-Some-clause-lines : goal.returns-in-Some-clause-lines
+returns-in-Some-clause-lines g c config configured =
+    let told = c.in_ok-verdict.ensures in
+    let old = g.S.Source.account c.args.source.now in
+    let new = g.S.Source.account c.judge_and_count.new.source in
+    let read = subst (λ (s : Option Stats). IfSome s (AreStatisticsRead c.args.shape.now old new)) c.in-Some.is
+    told.counted in
+    let says = told.yes.0 (subst (λ (s : Option Stats). IsSome s) (sym c.in-Some.is) refl) in
+    counted_lines c.in_ok-verdict.field-0.verdict c.in-Some.stats c.statistics_lines.result c.yes_with.result
+    c.yes_with.ensures.told c.yes_with.ensures.refused c.args.shape.now old new config configured read says
+    c.statistics_lines.ensures

@@ -1,4 +1,5 @@
-use Rattle.lf_engine.specs.Report.{IsYesVerdict, wanted_of}
+use Rattle.lf_verdict.specs.Statistics.{IsYesVerdict}
+use Rattle.lf_engine.specs.Report.{wanted_of}
 use Rattle.lf_engine.proofs.TellingLemmas.{countable_yes, judged_yes, follows_with, lines_with}
 use Rattle.lf_engine.proofs.statistics.covered_report.Goals as goal
 use Rattle.lf_engine.proofs.statistics.covered_report.Goals.{in-Yes, in_default}

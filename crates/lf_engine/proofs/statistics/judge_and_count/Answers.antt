@@ -1,9 +1,8 @@
-use Rattle.std.proofs.Common.{inr, ◌≡◌, [], Err, ◌∙◌, refl, arith, subst, rules}
+use Rattle.std.proofs.Common.{inr, ◌≡◌, Bool, [], Err, ap, ◌∙◌, refl, arith, rules}
 use Rattle.lf_rules.specs.declared.shape.Shape.{Shape}
-use Rattle.lf_verdict.specs.Verdict.{IsVerdictOf}
-use Rattle.lf_stats.specs.TraceTally.{HasCounted}
 use Rattle.lf_engine.proofs.GatheringLemmas.{none_stands}
 use Rattle.lf_engine.proofs.JudgingLemmas.{all_read, finished, reading_stopped}
+use Rattle.lf_engine.proofs.TellingLemmas.{statistics_read}
 use Rattle.lf_engine.proofs.statistics.judge_and_count.Goals as goal
 
 pub gather-requires-clause-wanted : goal.gather-requires-clause-wanted
@@ -13,24 +12,26 @@ pub returns-in-Ok-gather-clause-outcome : goal.returns-in-Ok-gather-clause-outco
 returns-in-Ok-gather-clause-outcome g c =
     let got = c.in-Ok-gather.ensures in
     let (bytes, was, all) = got.all in
-    finished _ _ _ 1 _ c.gather.new.sink.session c.finish.result (got.setting ∙ c.for_shape-session.ensures.shape)
+    finished _ _ _ 1 _ c.gather.new.sink.session c.statistics.result.verdict
+    (ap (λ (s : Shape × Bool). s.0) got.setting ∙ c.counting.ensures.shape)
     (omega arith, omega arith) got.reads (inr got.once)
     (λ failed. let bad = got.read.1 failed in cc)
-    bytes was.1 (all_read _ _ _ bytes (search rules) was.2 all)
-    c.finish.ensures.legal c.finish.ensures.verdict c.finish.ensures.thread
+    bytes was.0 (all_read _ _ _ bytes (search rules) was.1 all)
+    c.statistics.ensures.legal c.statistics.ensures.verdict c.statistics.ensures.thread
 
-pub returns-in-Ok-gather-clause-tallied : goal.returns-in-Ok-gather-clause-tallied
-returns-in-Ok-gather-clause-tallied g c = λ decided.
+pub returns-in-Ok-gather-clause-counted : goal.returns-in-Ok-gather-clause-counted
+returns-in-Ok-gather-clause-counted g c =
     let got = c.in-Ok-gather.ensures in
     let (bytes, was, all) = got.all in
-    let same = got.setting ∙ c.for_shape-session.ensures.shape in
-    record {
-      bytes = bytes;
-      reads = all_read _ _ _ bytes (search rules) was.2 all;
-      verdict = subst (λ (s : Shape). IsVerdictOf s 1 bytes c.finish.result) same
-          (c.finish.ensures.verdict bytes was.1 decided);
-      counted = subst (λ (s : Shape). HasCounted s bytes c.gather.new.sink.tally) same was.0;
-    }
+    statistics_read _ c.args.shape.now _ _ c.statistics.result.stats bytes
+    (ap (λ (s : Shape × Bool). s.0) got.setting ∙ c.counting.ensures.shape)
+    (all_read _ _ _ bytes (search rules) was.1 all) (c.statistics.ensures.counted bytes was.0)
+
+pub returns-in-Ok-gather-clause-yes : goal.returns-in-Ok-gather-clause-yes
+returns-in-Ok-gather-clause-yes g c =
+    let got = c.in-Ok-gather.ensures in
+    let counts = ap (λ (s : Shape × Bool). s.1) got.setting ∙ c.counting.ensures.counted in
+    (c.statistics.ensures.yes, c.statistics.ensures.told counts)
 
 pub returns-in_err-stopped-in-Err-clause-outcome : goal.returns-in_err-stopped-in-Err-clause-outcome
 returns-in_err-stopped-in-Err-clause-outcome g c =

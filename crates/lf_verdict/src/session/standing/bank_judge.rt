@@ -1,6 +1,7 @@
 //! A bank, judged while its records come.
 
-ghost use Rattle.std.specs.Prelude.{◌≡◌, ◌<◌, ℕ, false, List, [], ◌∷◌, ◌++◌, length, IfOk, OnOk};
+ghost use Rattle.std.specs.Prelude.{◌≡◌, ◌<◌, ℕ, false, List, [], ◌∷◌, ◌++◌, length, IfOk, IfSome, OnOk, IsSome};
+ghost use Rattle.std.specs.Prelude.{IsTrue};
 ghost use Rattle.lf_rules.specs.declared.shape.Shape.{Shape};
 ghost use Rattle.lf_rules.specs.declared.event.Record.{Record};
 ghost use Rattle.lf_rules.specs.Address.{FlatMemory, flat_memory};
@@ -8,6 +9,7 @@ ghost use Rattle.lf_rules.specs.InRange.{IsShape};
 ghost use Rattle.lf_logs.specs.Reordering.{HasOrdered};
 ghost use Rattle.lf_replay.specs.Bytes.{bank_part};
 ghost use Rattle.lf_replay.specs.Step.{IsForStep};
+ghost use Rattle.lf_stats.specs.Tally.{IsCounted, IsSteady};
 ghost use Rattle.lf_verdict.specs.Standing.{IsBankAt, IsBankSettled};
 ghost use Rattle.lf_verdict.specs.inner.Shares.{CanTakeOwn, TakesOwn, CanTakeAll, TakesAll};
 ghost use Rattle.lf_verdict.specs.inner.Turns.{CanSettle, Settles, CanTake, TakesNext};
@@ -18,6 +20,7 @@ use lf_codec::{Packed, Places};
 use lf_logs::Reorder;
 use lf_replay::{BankFault, Step};
 use lf_rules::{Memory, NoMemory, Outcome, Record, Shape};
+use lf_stats::BankCount;
 use std::alloc::Global;
 
 /// A bank, the records that came before their turn, and the first that broke a rule.
@@ -26,6 +29,8 @@ pub struct BankJudge {
     pub order: Reorder,
     pub step: Step,
     pub outcome: Outcome,
+    /// What was counted of the records that were judged, where they are counted.
+    pub count: Option<BankCount>,
 }
 
 impl Part for BankJudge {
@@ -36,29 +41,82 @@ impl Part for BankJudge {
     }
 }
 
+/// The counts of no record, where records are counted.
+fn first_count(alloc: Global, shape: &Shape, counted: bool) -> Result<Option<BankCount>, NoMemory>
+    requires { 0 < shape.now.block }
+    ensures counted { IfOk result (λ count. IfSome count (IsCounted shape.now [])) }
+    ensures some { IsTrue counted → IfOk result (λ count. IsSome count) }
+{
+    if !counted {
+        return Ok(None);
+    }
+    Ok(Some(BankCount::new(alloc, shape.block)?))
+}
+
+/// Counts the record, where records are counted.
+#[inline(always)]
+fn count_next(count: &mut Option<BankCount>, item: &Record) -> Result<(), NoMemory>
+    requires { IfSome count.old IsSteady }
+    ensures counted { (shape : Shape) (rs : List Record) → IfSome count.old (IsCounted shape rs) →
+        OnOk result (IfSome count.new (IsCounted shape (rs ++ item.now ∷ []))) }
+    ensures counts { IsSome count.old → IsSome count.new }
+{
+    match count {
+        Some(count) => count.take(item),
+        None => Ok(()),
+    }
+}
+
 impl BankJudge {
+    /// Where it is `counted`, the records are counted.
     pub fn new(
         alloc: Global,
         shape: &Shape,
         memory: &Memory,
         bank: u8,
+        counted: bool,
     ) -> Result<BankJudge, NoMemory>
         requires in_range { IsShape shape.now }
         requires bank { bank < shape.now.banks }
-        ensures { IfOk result (IsBankSettled shape.now (bank_part shape.now bank (flat_memory memory.now.items)) bank
-            [] []) }
+        ensures settled { IfOk result (IsBankSettled shape.now
+            (bank_part shape.now bank (flat_memory memory.now.items)) bank [] []) }
+        ensures counts { IsTrue counted → IfOk result (λ judge. IsSome judge.count) }
     {
+        let count = first_count(alloc, shape, counted)?;
+        let order = Reorder::new(alloc, bank);
+        let step = Step::new(alloc, shape, memory, u32::from(bank))?;
         Ok(BankJudge {
-            order: Reorder::new(alloc, bank),
-            step: Step::new(alloc, shape, memory, u32::from(bank))?,
+            order,
+            step,
             outcome: Outcome::Passed,
+            count,
         })
     }
 
-    /// Judges the record whose turn it is, unless an earlier one broke a rule.
+    /// Judges the record whose turn it is, unless an earlier one broke a rule, and counts it.
+    #[inline(always)]
     fn judge(&mut self, item: &Record) -> Result<(), NoMemory>
-        requires { IsForStep self.old.step item.now }
+        requires step { IsForStep self.old.step item.now }
+        requires steady { IfSome self.old.count IsSteady }
         ensures order { self.new.order ≡ self.old.order }
+        ensures bank { self.new.step.bank ≡ self.old.step.bank }
+        ensures shape { self.new.step.state.shape ≡ self.old.step.state.shape }
+        ensures judged { (shape : Shape) (memory : FlatMemory) (bank : ℕ) (rs : List Record) →
+            item.now.number ≡ length rs
+            → IsBankAt shape memory bank rs self.old.step self.old.outcome
+            → OnOk result (IsBankAt shape memory bank (rs ++ item.now ∷ []) self.new.step self.new.outcome) }
+        ensures counted { (shape : Shape) (rs : List Record) → IfSome self.old.count (IsCounted shape rs) →
+            OnOk result (IfSome self.new.count (IsCounted shape (rs ++ item.now ∷ []))) }
+        ensures counts { IsSome self.old.count → IsSome self.new.count }
+    {
+        count_next(&mut self.count, item)?;
+        self.judge_rules(item)
+    }
+
+    /// Judges the record whose turn it is, unless an earlier one broke a rule.
+    fn judge_rules(&mut self, item: &Record) -> Result<(), NoMemory>
+        requires { IsForStep self.old.step item.now }
+        ensures rest { self.new ≡ record self.old { step = self.new.step; outcome = self.new.outcome } }
         ensures bank { self.new.step.bank ≡ self.old.step.bank }
         ensures shape { self.new.step.state.shape ≡ self.old.step.state.shape }
         ensures judged { (shape : Shape) (memory : FlatMemory) (bank : ℕ) (rs : List Record) →
@@ -81,7 +139,8 @@ impl BankJudge {
     /// Judges the records whose turn has come.
     fn settle(&mut self) -> Result<(), NoMemory>
         requires { CanSettle self.old }
-        ensures { Settles self.old result self.new }
+        ensures settles { Settles self.old result self.new }
+        ensures counts { IsSome self.old.count → IsSome self.new.count }
     {
         if self.order.is_empty() {
             return Ok(());
@@ -94,7 +153,8 @@ impl BankJudge {
     #[inline(never)]
     fn settle_waiting(&mut self) -> Result<(), NoMemory>
         requires { CanSettle self.old }
-        ensures { Settles self.old result self.new }
+        ensures settles { Settles self.old result self.new }
+        ensures counts { IsSome self.old.count → IsSome self.new.count }
     {
         let mut item = no_record();
         while self.order.next_into(&mut item) {
@@ -120,7 +180,8 @@ impl BankJudge {
     /// is copied.
     pub fn take(&mut self, item: &Record) -> Result<(), NoMemory>
         requires { CanTake item.now self.old }
-        ensures { TakesNext item.now self.old result self.new }
+        ensures takes { TakesNext item.now self.old result self.new }
+        ensures counts { IsSome self.old.count → IsSome self.new.count }
     {
         if !self.order.pass(item) {
             return self.keep(item);

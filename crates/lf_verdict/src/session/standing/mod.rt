@@ -7,7 +7,7 @@ ghost use Rattle.lf_rules.specs.Address.{FlatMemory};
 ghost use Rattle.lf_rules.specs.Run.{of_log};
 ghost use Rattle.lf_verdict.specs.Breaking.{IsFaultOfPart, NoneBroke};
 ghost use Rattle.lf_verdict.specs.inner.Noting.{IsBankWhole, IsFirstOfBank, EndsInRange};
-ghost use Rattle.lf_verdict.specs.Standing.{IsWatch, IsKnown, StandsAfterAll};
+ghost use Rattle.lf_verdict.specs.Standing.{Counts, IsWatch, IsKnown, StandsAfterAll};
 ghost use Rattle.lf_verdict.specs.inner.Coming.{MayCome, CanStand};
 
 mod bank_judge;
@@ -15,6 +15,7 @@ mod log_entries;
 mod new;
 mod placeholder;
 mod port_judge;
+mod statistics;
 mod unordered;
 mod verdict;
 
@@ -48,6 +49,7 @@ impl Standing {
             → OnOk result (IsWatch start shape memory (records ++ item.now ∷ []) self.new.watch) }
         ensures known { IsKnown self.old.watch → IsKnown self.new.watch }
         ensures keeps { self.new.entries.keeps ≡ self.old.entries.keeps }
+        ensures counts { Counts self.old → Counts self.new }
     {
         let at = self.entries.place_of(item);
         self.judge(item)?;
@@ -63,6 +65,7 @@ impl Standing {
             → OnOk result (StandsAfterAll shape memory (records ++ item.now ∷ []) self.new) }
         ensures watch { self.new.watch ≡ self.old.watch }
         ensures keeps { self.new.entries.keeps ≡ self.old.entries.keeps }
+        ensures counts { Counts self.old → Counts self.new }
     {
         self.entries.enter(item)?;
         let bank = usize::from(item.bank);

@@ -1,6 +1,6 @@
 //! The parts of a trace before its first record.
 
-ghost use Rattle.std.specs.Prelude.{◌≡◌, ◌+◌, ◌≤◌, ◌<◌, ℕ, [], IfOk, IsTrue, length, replicate, slice_index_or};
+ghost use Rattle.std.specs.Prelude.{◌≡◌, ◌+◌, ◌≤◌, ◌<◌, ℕ, [], IfOk, IsTrue, IsSome, length, replicate, slice_index_or};
 ghost use Rattle.lf_rules.specs.declared.shape.Shape.{Shape};
 ghost use Rattle.lf_rules.specs.Address.{FlatMemory, flat_memory};
 ghost use Rattle.lf_rules.specs.InRange.{IsShape};
@@ -8,7 +8,7 @@ ghost use Rattle.lf_join.specs.Join.{skeleton_lists};
 ghost use Rattle.lf_replay.specs.Bytes.{bank_part};
 ghost use Rattle.lf_verdict.specs.declared.session.standing.port_judge.PortJudge.{PortJudge};
 ghost use Rattle.lf_verdict.specs.declared.session.standing.bank_judge.BankJudge.{BankJudge};
-ghost use Rattle.lf_verdict.specs.Standing.{IsWatch, IsKnown, IsPortJudged, IsBankSettled, StandsAfterAll};
+ghost use Rattle.lf_verdict.specs.Standing.{Counts, IsWatch, IsKnown, IsPortJudged, IsBankSettled, StandsAfterAll};
 
 use crate::session::asked::Asked;
 use crate::session::breaking::Watch;
@@ -43,16 +43,23 @@ fn port_judges(alloc: Global, shape: &Shape) -> Result<Vec<PortJudge>, NoMemory>
     Ok(judges)
 }
 
-fn bank_judges(alloc: Global, shape: &Shape, memory: &Memory) -> Result<Vec<BankJudge>, NoMemory>
+fn bank_judges(
+    alloc: Global,
+    shape: &Shape,
+    memory: &Memory,
+    counted: bool,
+) -> Result<Vec<BankJudge>, NoMemory>
     requires { IsShape shape.now }
     ensures count { IfOk result (λ judges. length judges.items ≡ shape.now.banks) }
     ensures each { IfOk result (λ judges. (bank : ℕ) (d : BankJudge) → bank < shape.now.banks
         → IsBankSettled shape.now (bank_part shape.now bank (flat_memory memory.now.items)) bank [] []
         (slice_index_or judges.items bank d)) }
+    ensures counts { IsTrue counted → IfOk result (λ judges. (bank : ℕ) (d : BankJudge) → bank < length judges.items
+        → IsSome (slice_index_or judges.items bank d).count) }
 {
     let mut judges = Vec::new(alloc);
     for bank in 0..shape.banks {
-        let judge = BankJudge::new(alloc, shape, memory, bank as u8)?;
+        let judge = BankJudge::new(alloc, shape, memory, bank as u8, counted)?;
         judges.push(judge)?;
     }
     Ok(judges)
@@ -72,8 +79,9 @@ fn first_watch(start: u64, watched: bool) -> Watch
 
 impl Standing {
     /// No record has come. `memory` is the whole memory of the trace, and the first record begins at `start`. `asked`
-    /// says whether it is noted upon which record a part breaks first, and whether every entry is kept. It is apart,
-    /// since its frame is large, and the function that calls it is called for each memory record.
+    /// says whether it is noted upon which record a part breaks first, whether every entry is kept, and whether each
+    /// bank counts. It is apart, since its frame is large, and the function that calls it is called for each memory
+    /// record.
     #[inline(never)]
     pub fn new(
         alloc: Global,
@@ -87,10 +95,11 @@ impl Standing {
         ensures watched { IfOk result (λ s. IsWatch start shape.now (flat_memory memory.now.items) [] s.watch) }
         ensures known { IsTrue asked.watched → IfOk result (λ s. IsKnown s.watch) }
         ensures keeps { IfOk result (λ s. s.entries.keeps ≡ asked.ordered) }
+        ensures counts { IsTrue asked.counted → IfOk result Counts }
     {
         let logs = empty_logs(alloc, shape.ports + shape.banks)?;
         let ports = port_judges(alloc, shape)?;
-        let banks = bank_judges(alloc, shape, memory)?;
+        let banks = bank_judges(alloc, shape, memory, asked.counted)?;
         let entries = Entries {
             logs,
             progress: Progress::new(),

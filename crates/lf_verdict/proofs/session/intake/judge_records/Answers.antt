@@ -51,6 +51,7 @@ loop-item-preserved c = record {
         ),
       );
   known = λ known. c.take.ensures.known (c.loop-item.invariant.known known);
+  counts = λ counts. c.take.ensures.counts (c.loop-item.invariant.counts counts);
 }
 
 pub returns-clause-judged : goal.returns-clause-judged
@@ -61,6 +62,6 @@ pub loop-item-init : goal.loop-item-init
 loop-item-init c = record {
   fault = refl;
   read = λ shape ordered bytes memory records read run. (records, (read, run));
-  known
-      = λ known. known;
+  known = λ known. known;
+  counts = λ counts. counts;
 }

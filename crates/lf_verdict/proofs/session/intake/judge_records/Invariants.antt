@@ -3,7 +3,7 @@ use Rattle.lf_rules.specs.declared.shape.Shape.{Shape}
 use Rattle.lf_rules.specs.declared.event.Record.{Record}
 use Rattle.lf_rules.specs.Fits.{Bytes}
 use Rattle.lf_codec.specs.Reader.{HasRead}
-use Rattle.lf_verdict.specs.Standing.{IsKnown}
+use Rattle.lf_verdict.specs.Standing.{Counts, IsKnown}
 use Rattle.lf_verdict.specs.Session.{IsRunning}
 use Rattle.lf_verdict.proofs.session.intake.judge_records.Given as goal
 
@@ -15,6 +15,7 @@ invariant-loop-item l = record {
       → IsRunning shape ordered bytes memory records l.fn.standing → (more : List Record) ×
       (HasRead l.reader bytes memory more × IsRunning shape ordered bytes memory more l.standing);
   known : IsKnown l.fn.standing.watch → IsKnown l.standing.watch;
+  counts : Counts l.fn.standing → Counts l.standing;
 }
 
 abbrev pub decreases-loop-item : goal.decreases-loop-item

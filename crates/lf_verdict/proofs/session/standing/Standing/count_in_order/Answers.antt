@@ -70,8 +70,10 @@ finish-requires-clause-reached c =
 pub count-requires : goal.count-requires
 count-requires c =
     let r = c.requires in
-    let s = c.args.self.now in
-    (skeletons r.shape r.memory r.records s r.stands r.short, are_all_kept r.shape r.memory r.records s r.stands r.short)
+    let s = c.args.self.now in (
+      skeletons r.shape r.memory r.records s r.stands r.short,
+      are_all_kept r.shape r.memory r.records s r.stands r.short,
+    )
 
 pub returns-in-Ok-clause-order : goal.returns-in-Ok-clause-order
 returns-in-Ok-clause-order c shape memory records stands short =

@@ -3,7 +3,7 @@ use Rattle.lf_rules.specs.Run.{of_bank}
 use Rattle.lf_rules.specs.Order.{log_at}
 use Rattle.lf_replay.specs.Bytes.{bank_part}
 use Rattle.lf_replay.proofs.Runs.{on_ok}
-use Rattle.lf_verdict.proofs.Standings.{bank_before, stands_more}
+use Rattle.lf_verdict.proofs.Standings.{bank_before, counts_set, stands_more}
 use Rattle.lf_verdict.proofs.session.standing.Standing.judge.Goals as goal
 
 pub take-requires : goal.take-requires
@@ -49,7 +49,12 @@ returns-clause-judged c shape memory records may stands =
     on_ok c.take.result
     (stands_more shape memory records c.args.self.now stands item may c.enter.new.self _ i c.take.new.self entered
     within refl c.from-bank.ensures)
-    (c.take.ensures shape (bank_part shape item.bank memory) item.bank (of_bank item.bank records)
+    (c.take.ensures.takes shape (bank_part shape item.bank memory) item.bank (of_bank item.bank records)
     (log_at stands.given item.bank) may.fits refl
     (bank_before shape memory records c.args.self.now stands item may i v c.from-bank.ensures
     c.index_mut.ensures.value within))
+
+pub returns-clause-counts : goal.returns-clause-counts
+returns-clause-counts c counts bank d lt =
+    counts_set c.args.self.now.banks.items c.from-bank.result c.index_mut.result.now c.take.new.self
+    c.index_mut.ensures.value c.take.ensures.counts counts bank d lt

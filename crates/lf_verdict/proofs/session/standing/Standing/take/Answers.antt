@@ -1,6 +1,6 @@
 use Rattle.std.proofs.Common.{[], ◌∷◌, ◌++◌, sym, subst}
 use Rattle.lf_verdict.specs.declared.session.breaking.Watch.{Watch}
-use Rattle.lf_verdict.specs.Standing.{IsWatch, IsKnown, StandsAfterAll}
+use Rattle.lf_verdict.specs.Standing.{Counts, IsWatch, IsKnown, StandsAfterAll}
 use Rattle.lf_verdict.specs.inner.Noting.{EndsInRange}
 use Rattle.lf_verdict.proofs.Breaks.{stands_watched}
 use Rattle.lf_verdict.proofs.session.standing.Standing.take.Goals as goal
@@ -29,3 +29,6 @@ returns-clause-known c known = c.note.ensures.known (subst IsKnown (sym c.judge.
 
 pub returns-in_err-judge-clause-known : goal.returns-in_err-judge-clause-known
 returns-in_err-judge-clause-known c known = subst IsKnown (sym c.judge.ensures.watch) known
+
+pub returns-clause-counts : goal.returns-clause-counts
+returns-clause-counts c counts = subst Counts (sym c.note.ensures.rest) (c.in_ok-judge.ensures.counts counts)

@@ -3,15 +3,15 @@ use Rattle.lf_logs.specs.Reordering.{Reordering, HasOrdered}
 use Rattle.lf_replay.proofs.Runs.{on_ok}
 use Rattle.lf_verdict.specs.declared.session.standing.bank_judge.BankJudge.{BankJudge}
 use Rattle.lf_verdict.specs.Standing.{IsBankSettled}
-use Rattle.lf_verdict.proofs.Judges.{judged_pass, settled_put}
+use Rattle.lf_verdict.proofs.Judges.{steady_if, judged_pass, settled_put}
 use Rattle.lf_verdict.proofs.session.standing.bank_judge.BankJudge.take.Goals as goal
 
 pub keep-requires : goal.keep-requires
 keep-requires c =
     c.requires.named ∙ sym (c.if-not-pass.ensures.bank ∙ c.requires.settled.bank_judged.order_of_bank)
 
-pub returns-then-not-pass : goal.returns-then-not-pass
-returns-then-not-pass c shape memory bank came gave fits named settled =
+pub returns-then-not-pass-clause-takes : goal.returns-then-not-pass-clause-takes
+returns-then-not-pass-clause-takes c shape memory bank came gave fits named settled =
     let old = c.args.self.now in
     let item = c.args.item.now in
     let same : c.pass.new.self ≡ old.order = c.if-not-pass.ensures.unchanged (λ e. cc) in
@@ -27,6 +27,11 @@ returns-then-not-pass c shape memory bank came gave fits named settled =
     ))
     (c.keep.ensures.put came gave (subst (λ (o : Reordering). HasOrdered o came gave) (sym same)
     settled.bank_judged.ordered))
+
+pub judge-requires-clause-steady : goal.judge-requires-clause-steady
+judge-requires-clause-steady c =
+    let r = c.requires in
+    steady_if r.shape r.gave c.args.self.now.count r.settled.bank_judged.counted
 
 pub settle-requires : goal.settle-requires
 settle-requires c =
@@ -45,18 +50,19 @@ settle-requires c =
           (sym c.in_ok-judge.ensures.order) passed.1)
           (ap (λ (o : Reordering). o.bank) c.in_ok-judge.ensures.order ∙ c.if-not-pass.ensures.bank)
           c.in_ok-judge.ensures.bank c.in_ok-judge.ensures.shape
-          (λ number at. c.in_ok-judge.ensures.judged r.shape r.memory r.bank r.gave number at);
+          (λ number at. c.in_ok-judge.ensures.judged r.shape r.memory r.bank r.gave number at)
+          (c.in_ok-judge.ensures.counted r.shape r.gave);
     }
 
-pub returns : goal.returns
-returns c shape memory bank came gave fits named settled =
+pub returns-clause-takes : goal.returns-clause-takes
+returns-clause-takes c shape memory bank came gave fits named settled =
     let item = c.args.item.now in
     let passed = c.if-not-pass.ensures.passed refl came gave settled.bank_judged.ordered settled.drained in
-    c.settle.ensures shape memory bank (came ++ item ∷ []) (gave ++ item ∷ [])
+    c.settle.ensures.settles shape memory bank (came ++ item ∷ []) (gave ++ item ∷ [])
     (judged_pass shape memory bank came gave c.args.self.now settled.bank_judged item c.judge.new.self fits named
     passed.0
     (subst (λ (o : Reordering). HasOrdered o (came ++ item ∷ []) (gave ++ item ∷ []))
     (sym c.in_ok-judge.ensures.order) passed.1)
     (ap (λ (o : Reordering). o.bank) c.in_ok-judge.ensures.order ∙ c.if-not-pass.ensures.bank)
     c.in_ok-judge.ensures.bank c.in_ok-judge.ensures.shape (λ number at. c.in_ok-judge.ensures.judged shape memory
-    bank gave number at))
+    bank gave number at) (c.in_ok-judge.ensures.counted shape gave))

@@ -53,7 +53,8 @@ loop-at-preserved c shape memory came gave fits settled =
       | then-from-bank+in_ok-take w ↦
           let named : item.bank ≡ bank = sym asked ∙ sym c.from.ensures ∙ w.if-from-bank.true in
           let lent = w.lend_from.ensures item ∙ here.1 item in
-          let took = rw lent at (w.in_ok-take.ensures shape memory bank (came ++ of_bank bank (take k rs)) now.0) in
+          let before = came ++ of_bank bank (take k rs) in
+          let took = rw lent at (w.in_ok-take.ensures.takes shape memory bank before now.0) in
           let after = took (all_at (Fits shape) rs k item fits there is) named now.1 in
           rw w.self-is (
             after.0,

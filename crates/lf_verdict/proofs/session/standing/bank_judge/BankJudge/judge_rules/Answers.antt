@@ -1,0 +1,12 @@
+use Rattle.std.proofs.Common.{refl}
+use Rattle.lf_verdict.proofs.Judges.{bank_kept}
+use Rattle.lf_verdict.proofs.session.standing.bank_judge.BankJudge.judge_rules.Goals as goal
+
+pub returns-in_default : goal.returns-in_default
+returns-in_default c = record {
+  rest = refl;
+  bank = refl;
+  shape = refl;
+  judged = λ shape memory bank rs number at. bank_kept shape memory bank rs c.args.item.now c.args.self.now.step
+      c.args.self.now.outcome c.in_default.not-Passed at;
+}
