@@ -1,0 +1,5 @@
+pub mod Keeping
+pub mod Slots
+pub mod Standing
+pub mod Tables
+pub mod Widening
