@@ -1,0 +1,15 @@
+use Rattle.std.proofs.Common.{ℕ, ap, ◌∙◌}
+use Rattle.std.specs.Prelude.{bytes_eq}
+use Rattle.lf_rules.proofs.Bytes.{masked_flat}
+use Rattle.lf_state.specs.Bytes.{bytes_under}
+use Rattle.lf_state.proofs.Masked.{all_of_list}
+use Rattle.lf_cells.specs.Cells.{memory_at}
+use Rattle.lf_cells.proofs.cells.Cells.carries.Goals as goal
+
+pub returns : goal.returns
+returns c = λ block is.
+    let stored : ℕ → ℕ = memory_at c.args.self.now block in
+    all_of_list (bytes_under stored c.args.shape.now.block c.args.mask.0) c.deref.result.now c.args.bytes.now.items
+    c.end_of_masked.result c.len.result c.eq.result (c.end_of_masked.ensures.value block is)
+    c.end_of_masked.ensures.within c.deref.ensures.0 c.len.ensures.value c.eq.ensures
+    ∙ ap (bytes_eq c.args.bytes.now.items) (masked_flat stored c.args.mask.0 c.args.shape.now.block)
