@@ -1,0 +1,23 @@
+use Rattle.std.proofs.Common.{◌≡◌, refl, rules}
+use Rattle.lf_cells.specs.Cells.{first_at}
+use Rattle.lf_bank.specs.Known.{register_of}
+use Rattle.lf_bank.proofs.Placed.{placed2}
+use Rattle.lf_bank.proofs.bank.Bank.second_merge.Goals as goal
+
+pub returns : goal.returns
+returns g c =
+    let asker = register_of (first_at c.self.inside.cells c.args.block) in
+    let position = rw (← c.self.view_is) at c.fetching-target.ensures.position in
+    let same : c.fetching-target.result.destination ≡ asker = search rules in
+    rw (← c.self.view_is) (λ log waiting regs2 wait held. record {
+      kept = search rules;
+      shape = refl;
+      waiting = record {
+        level1 = wait.level1;
+        level2 = placed2 c.self.inside.shape (g.O2.Organisation.seen c.self.inside.regs2)
+            (g.O2.Organisation.seen c.place.new.file) regs2 c.args.register
+            c.second_of-second.result c.args.block asker c.fetching-target.result wait.level2 c.place.ensures
+            position same c.second_of-second.ensures;
+      };
+      known = search rules;
+    })

@@ -1,0 +1,119 @@
+//! What the registers of both levels say of the requests that they tell of.
+
+ghost use Rattle.std.specs.Prelude.{◌≡◌};
+ghost use Rattle.lf_rules.specs.Registers.{has_room};
+ghost use Rattle.lf_rules.specs.Table.{destinations, destinations2, position, position2};
+ghost use Rattle.lf_rules.specs.declared.shape.Shape.{Shape};
+ghost use Rattle.lf_bank.specs.BankView.{IsFile1, IsFile2};
+ghost use Rattle.lf_bank.specs.RegisterRules.{OfMissed, OfAsked, primary_held, merge_held, primary_told};
+ghost use Rattle.lf_bank.specs.RegisterRules.{merge_told, second_primary_held};
+ghost use Rattle.lf_bank.specs.RegisterRules.{second_merge_held, second_primary_told, second_merge_told};
+
+use lf_mshr::{Organisation, Request1, Request2};
+use lf_rules::{Rule, Shape};
+
+/// The first rule that the target breaks as a primary miss of the register.
+pub fn primary_rule<O: Organisation<Target = Request1>>(
+    waiting: &O::File,
+    shape: &Shape,
+    block: u32,
+    target: &Request1,
+    register: u16,
+) -> Option<Rule>
+    requires { IsFile1 shape.now (O.seen waiting.now) }
+    ensures held { result ≡ primary_held (O.seen waiting.now) register block target.now }
+    ensures told { OfMissed shape.now (O.seen waiting.now) (λ missed. result
+        ≡ primary_told shape.now missed register block target.now) }
+{
+    match O::primary_fault(waiting, register, block, target) {
+        Some(fault) => Some(fault.rule()),
+        None => None,
+    }
+}
+
+/// The first rule that the target breaks as a merge into the register.
+pub fn merge_rule<O: Organisation<Target = Request1>>(
+    waiting: &O::File,
+    shape: &Shape,
+    block: u32,
+    target: &Request1,
+    register: u16,
+) -> Option<Rule>
+    requires { IsFile1 shape.now (O.seen waiting.now) }
+    ensures held { result ≡ merge_held (O.seen waiting.now) register block target.now }
+    ensures told { OfMissed shape.now (O.seen waiting.now) (λ missed. result
+        ≡ merge_told shape.now missed register block target.now) }
+{
+    match O::merge_fault(waiting, register, block, target) {
+        Some(fault) => Some(fault.rule()),
+        None => None,
+    }
+}
+
+/// Whether some level-one register takes the target.
+pub fn has_room1<O: Organisation<Target = Request1>>(
+    waiting: &O::File,
+    shape: &Shape,
+    block: u32,
+    target: &Request1,
+) -> bool
+    requires { IsFile1 shape.now (O.seen waiting.now) }
+    ensures { OfMissed shape.now (O.seen waiting.now) (λ missed.
+        result ≡ has_room shape.now.level1.organisation (destinations shape.now) position missed block
+        target.now.destination target.now.position) }
+{
+    O::room(waiting, block, target)
+}
+
+/// The first rule that the target breaks as a primary miss of the level-two register.
+pub fn second_primary_rule<O: Organisation<Target = Request2>>(
+    regs2: &O::File,
+    shape: &Shape,
+    second: u32,
+    target: &Request2,
+    register: u16,
+) -> Option<Rule>
+    requires { IsFile2 shape.now (O.seen regs2.now) }
+    ensures held { result ≡ second_primary_held (O.seen regs2.now) register second target.now }
+    ensures told { OfAsked shape.now (O.seen regs2.now) (λ fetched. result
+        ≡ second_primary_told shape.now fetched register second target.now) }
+{
+    match O::primary_fault(regs2, register, second, target) {
+        Some(fault) => Some(fault.rule()),
+        None => None,
+    }
+}
+
+/// The first rule that the target breaks as a merge into the level-two register.
+pub fn second_merge_rule<O: Organisation<Target = Request2>>(
+    regs2: &O::File,
+    shape: &Shape,
+    second: u32,
+    target: &Request2,
+    register: u16,
+) -> Option<Rule>
+    requires { IsFile2 shape.now (O.seen regs2.now) }
+    ensures held { result ≡ second_merge_held (O.seen regs2.now) register second target.now }
+    ensures told { OfAsked shape.now (O.seen regs2.now) (λ fetched. result
+        ≡ second_merge_told shape.now fetched register second target.now) }
+{
+    match O::merge_fault(regs2, register, second, target) {
+        Some(fault) => Some(fault.rule()),
+        None => None,
+    }
+}
+
+/// Whether some level-two register takes the target.
+pub fn has_room2<O: Organisation<Target = Request2>>(
+    regs2: &O::File,
+    shape: &Shape,
+    second: u32,
+    target: &Request2,
+) -> bool
+    requires { IsFile2 shape.now (O.seen regs2.now) }
+    ensures { OfAsked shape.now (O.seen regs2.now) (λ fetched. let level = shape.now.level2 in
+        result ≡ has_room level.organisation (destinations2 shape.now) (position2 shape.now) fetched second
+        target.now.destination target.now.position) }
+{
+    O::room(regs2, second, target)
+}
