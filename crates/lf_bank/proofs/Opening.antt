@@ -1,5 +1,6 @@
 -- What is known at the opening is the state of the model there.
-use Rattle.std.proofs.Common.{refl}
+use Rattle.std.proofs.Common.{◌≡◌, ℕ, zero, suc, refl}
+use Rattle.std.specs.Prelude.{replicate, slice_index}
 use Rattle.lf_rules.specs.declared.shape.Shape.{Shape}
 use Rattle.lf_rules.specs.Address.{FlatMemory}
 use Rattle.lf_rules.specs.State.{opening, seen_by}
@@ -47,3 +48,10 @@ opening_held shape memory = record {
   second_primary = λ second e. no_way e;
   home = tt;
 }
+
+-- no set has a line
+pub no_counts : (count set : ℕ) → slice_index (replicate count 0) set ≡ 0
+no_counts zero zero = refl
+no_counts zero (suc set) = refl
+no_counts (suc count) zero = refl
+no_counts (suc count) (suc set) = no_counts count set

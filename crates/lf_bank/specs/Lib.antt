@@ -3,12 +3,12 @@
 pub mod Known
 pub mod KnownRules
 pub mod KnownAfter
-pub mod Opening
 pub mod Agrees
 pub mod Apart
 pub mod Targets
 pub mod Faults
 pub mod BankView
+pub mod Opening
 pub mod Answers
 pub mod RegisterRules
 pub mod Wide

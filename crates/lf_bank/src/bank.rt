@@ -1,12 +1,12 @@
 //! A bank, with two organisations of registers.
 
-ghost use Rattle.std.specs.Prelude.{◌≡◌, ◌≤◌, true, [], IfOk};
+ghost use Rattle.std.specs.Prelude.{◌≡◌, ◌≤◌, true, IfOk};
 ghost use Rattle.lf_rules.specs.Address.{flat_memory};
 ghost use Rattle.lf_rules.specs.InRange.{IsShape};
 ghost use Rattle.lf_rules.specs.Table.{destinations, destinations2};
 ghost use Rattle.lf_state.specs.Bytes.{bank_part};
-ghost use Rattle.lf_bank.specs.BankView.{known_of, AreWaiting, IsSteady};
-ghost use Rattle.lf_bank.specs.Opening.{opening_known};
+ghost use Rattle.lf_bank.specs.BankView.{IsSteady};
+ghost use Rattle.lf_bank.specs.Opening.{IsNew};
 
 use crate::counts::no_lines;
 use lf_cells::Cells;
@@ -99,11 +99,9 @@ impl<O1: Organisation<Target = Request1>, O2: Organisation<Target = Request2>> B
         requires in_range { IsShape shape.now }
         requires names1 { O1.names shape.now.level1.organisation ≡ true }
         requires names2 { O2.names shape.now.level2.organisation ≡ true }
-        ensures known { IfOk result (λ opened. known_of opened [] []
-            ≡ opening_known (bank_part shape.now bank (flat_memory memory.now))) }
-        ensures waiting { IfOk result (λ opened. AreWaiting opened [] []) }
+        ensures new { IfOk result (λ opened. IsNew opened shape.now
+            (bank_part shape.now bank (flat_memory memory.now))) }
         ensures steady { IfOk result (λ opened. IsSteady opened) }
-        ensures shape { IfOk result (λ opened. opened.shape ≡ shape.now) }
     {
         let level1 = shape.level1;
         let level2 = shape.level2;

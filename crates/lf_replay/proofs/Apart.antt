@@ -1,7 +1,6 @@
 -- Each event keeps where the blocks of a bank stand.
 use Rattle.std.proofs.Common.{◌≡◌, ℕ, Bool, true, false, cond, not, ◌&&◌, ◌||◌, ◌==◌, List, [], ◌∷◌, ◌++◌, map, ◌<◌}
-use Rattle.std.proofs.Common.{subst, Some, None, refl, sym, ap, ◌∙◌, eqb-true}
-use Rattle.std.proofs.lemmas.Bool.{both_ways}
+use Rattle.std.proofs.Common.{subst, Option, None, refl, sym, ap, ◌∙◌, eqb-true}
 use Rattle.lf_rules.specs.declared.shape.Shape.{Shape}
 use Rattle.lf_rules.specs.declared.event.Event.{Event}
 use Rattle.lf_rules.specs.declared.event.Event.TheVariants.{Issue, Reply, Hit, Primary, Merge, Stall, Fill1, Evict1}
@@ -10,80 +9,16 @@ use Rattle.lf_rules.specs.declared.event.Event.TheVariants.{SecondMerge, Fence}
 use Rattle.lf_rules.specs.Registers.{Held, holds, targets_of}
 use Rattle.lf_rules.specs.Address.{second_of}
 use Rattle.lf_rules.specs.Lines.{has_line}
-use Rattle.lf_rules.specs.State.{Missed, Ready, Asked, Slice, idle}
-use Rattle.lf_rules.specs.Table.{OfBank, Clause, rules_of, slice_after, is_asked, is_among, oldest, miss, block_asked}
-use Rattle.lf_rules.specs.Run.{judges, first_failing}
-use Rattle.lf_rules.proofs.Clauses.{this_holds, others_hold}
-use Rattle.lf_replay.specs.Apart.{asks_for, AreHome, stands, EachStands}
+use Rattle.lf_rules.specs.State.{Missed, Ready, Asked, Slice}
+use Rattle.lf_rules.specs.Table.{OfBank, rules_of, slice_after, is_asked, is_among, oldest, miss, block_asked}
+use Rattle.lf_rules.specs.Run.{first_failing}
+use Rattle.lf_bank.specs.Apart.{asks_for, AreHome, stands, EachStands}
 use Rattle.lf_rules.proofs.CopyStep.{asked_among, asks_gone}
 use Rattle.lf_rules.proofs.CopyStep.{is_apart_at}
-use Rattle.lf_replay.proofs.Blocks.{has_put, has_gone, any_push, any_gone}
-
--- ---- the clauses of a bank, all of which hold
-
-abbrev pub HoldsIf : Bool → Bool → Type 0
-HoldsIf true h = h ≡ true
-HoldsIf false h = Unit {0}
-
-abbrev pub BankHolds : List Clause → Type 0
-BankHolds [] = Unit {0}
-BankHolds (c ∷ cs) = HoldsIf (judges OfBank c.side) c.holds × BankHolds cs
-
-pub bank_holds : (cs : List Clause) → first_failing OfBank cs ≡ None → BankHolds cs
-bank_holds [] e = tt
-bank_holds (c ∷ cs) e = go (judges OfBank c.side) (bank_holds cs) e
-  where
-    go : (j : Bool) → (first_failing OfBank cs ≡ None → BankHolds cs) →
-        cond j (cond c.holds (first_failing OfBank cs) (Some c.rule)) (first_failing OfBank cs) ≡ None
-        → HoldsIf j c.holds × BankHolds cs
-    go true rest e = (
-      this_holds c.holds c.rule (first_failing OfBank cs) e,
-      rest
-          (others_hold c.holds c.rule (first_failing OfBank cs) e),
-    )
-    go false rest e = (tt, rest e)
+use Rattle.lf_bank.proofs.Blocks.{has_put, has_gone, any_push, any_gone}
+use Rattle.lf_bank.proofs.Holding.{BankHolds, bank_holds, no_way, is_not, implied, every4, every5}
 
 -- ---- one block
-
-no_way : {A : Type 0} → ◌≡◌ {A = Bool} false true → A
-no_way e = absurd (both_ways true (sym e) refl)
-
-pub is_not : (b : Bool) → not b ≡ true → b ≡ false
-is_not true e = no_way e
-is_not false e = refl
-
-left_true : (a b : Bool) → (a && b) ≡ true → a ≡ true
-left_true true b e = refl
-left_true false b e = no_way e
-
-right_true : (a b : Bool) → (a && b) ≡ true → b ≡ true
-right_true true b e = e
-right_true false b e = no_way e
-
-pub implied : (b c : Bool) → (not b || c) ≡ true → b ≡ true → c ≡ true
-implied true c e p = e
-implied false c e p = no_way p
-
--- what computes to true at each of so many Booleans
-every : (p : Bool → Bool) → (p true && p false) ≡ true → (b : Bool) → p b ≡ true
-every p e true = left_true (p true) (p false) e
-every p e false = right_true (p true) (p false) e
-
-every2 : (p : Bool → Bool → Bool) → ((p true true && p true false) && (p false true && p false false)) ≡ true →
-    (a b : Bool) → p a b ≡ true
-every2 p e a b = every (p a) (every (λ a. p a true && p a false) e a) b
-
-abbrev pub all2 : (Bool → Bool → Bool) → Bool
-all2 p = (p true true && p true false) && (p false true && p false false)
-
-pub every4 : (p : Bool → Bool → Bool → Bool → Bool) → all2 (λ a b. all2 (p a b)) ≡ true → (a b c d : Bool) →
-    p a b c d ≡ true
-every4 p e a b c d = every2 (p a b) (every2 (λ a b. all2 (p a b)) e a b) c d
-
-pub every5 : (p : Bool → Bool → Bool → Bool → Bool → Bool) →
-    (all2 (λ a b. all2 (p true a b)) && all2 (λ a b. all2 (p false a b))) ≡ true → (a b c d f : Bool) →
-    p a b c d f ≡ true
-every5 p e a b c d f = every4 (p a) (every (λ a. all2 (λ b c. all2 (p a b c))) e a) b c d f
 
 primary_here : (a f s l2 : Bool) → stands a f s false false l2 ≡ true → stands true f s true false l2 ≡ true
 primary_here a f s l2 e =
@@ -216,13 +151,14 @@ here P v x y h e = ap P (sym (eqb-true x y e)) ∙ h
 inner_line : (a f s w l2 : Bool) → stands a f s w true l2 ≡ true → l2 ≡ true
 inner_line a f s w l2 e = implied _ _ (every5 (λ a f s w l2. not (stands a f s w true l2) || l2) refl a f s w l2) e
 
-pub facts : (shape : Shape) (right : Bool) (slice : Slice) (log bank : ℕ) (e : Event) →
-    first_failing OfBank (rules_of shape right idle slice log bank e) ≡ None
-    → BankHolds (rules_of shape right idle slice log bank e)
-facts shape right slice log bank e none = bank_holds (rules_of shape right idle slice log bank e) none
+-- the clauses of an event that breaks no rule hold
+pub facts : (shape : Shape) (right : Bool) (busy : ℕ → Option ℕ) (slice : Slice) (log bank : ℕ) (e : Event) →
+    first_failing OfBank (rules_of shape right busy slice log bank e) ≡ None
+    → BankHolds (rules_of shape right busy slice log bank e)
+facts shape right busy slice log bank e none = bank_holds (rules_of shape right busy slice log bank e) none
 
-module _ (shape : Shape) (right : Bool) (value : List ℕ) (replies : List Ready) (slice : Slice) (log bank : ℕ)
-    (some : 0 < shape.factor)
+module _ (shape : Shape) (right : Bool) (value : List ℕ) (replies : List Ready) (busy : ℕ → Option ℕ) (slice : Slice)
+    (log bank : ℕ) (some : 0 < shape.factor)
     (home : AreHome shape slice.regs2) (each : EachStands shape slice) where
   -- a level-two miss
   missed_after : (x register : ℕ) → is_asked slice.asked x ≡ true → has_line slice.lines2 (second_of shape x) ≡ false
@@ -239,7 +175,7 @@ module _ (shape : Shape) (right : Bool) (value : List ℕ) (replies : List Ready
         (each.fetched k));
   }
 
-  pub stands_after : (e : Event) → first_failing OfBank (rules_of shape right idle slice log bank e) ≡ None →
+  pub stands_after : (e : Event) → first_failing OfBank (rules_of shape right busy slice log bank e) ≡ None →
       EachStands shape (slice_after shape value replies slice log e)
   stands_after (Issue op tag size address bytes) none = record { blocks = each.blocks; fetched = each.fetched }
   stands_after (Reply tag size bytes) none = record { blocks = each.blocks; fetched = each.fetched }
@@ -248,7 +184,7 @@ module _ (shape : Shape) (right : Bool) (value : List ℕ) (replies : List Ready
   stands_after Fence none = each
   stands_after (Hit port tag) none = record {
     blocks = λ y.
-        let h = facts shape right slice log bank (Hit port tag) none in
+        let h = facts shape right busy slice log bank (Hit port tag) none in
         let x : ℕ = (oldest (slice.queue port)).block in
         stands_by _ _ _ _ _ _ _ _ _ _ _ _ refl refl refl refl
         (has_put slice.lines1 x _ y ∙ still (x == y) _ (here (has_line slice.lines1) true x y h.1.0)) refl
@@ -257,7 +193,7 @@ module _ (shape : Shape) (right : Bool) (value : List ℕ) (replies : List Ready
   }
   stands_after (Primary port tag register) none = record {
     blocks = λ y.
-        let h = facts shape right slice log bank (Primary port tag register) none in
+        let h = facts shape right busy slice log bank (Primary port tag register) none in
         let x : ℕ = (oldest (slice.queue port)).block in
         stands_by _ _ _ _ _ _ _ _ _ _ _ _ (any_push (λ (a : Asked). a.0) slice.asked (x, register) y) refl refl
         (any_push (λ (h : Held Missed). h.block) slice.waiting (miss slice port register value) y) refl refl
@@ -267,7 +203,7 @@ module _ (shape : Shape) (right : Bool) (value : List ℕ) (replies : List Ready
   }
   stands_after (Merge port tag register) none = record {
     blocks = λ y.
-        let h = facts shape right slice log bank (Merge port tag register) none in
+        let h = facts shape right busy slice log bank (Merge port tag register) none in
         let x : ℕ = (oldest (slice.queue port)).block in
         stands_by _ _ _ _ _ _ _ _ _ _ _ _ refl refl refl
         (any_push (λ (h : Held Missed). h.block) slice.waiting (miss slice port register value) y
@@ -276,14 +212,14 @@ module _ (shape : Shape) (right : Bool) (value : List ℕ) (replies : List Ready
   }
   stands_after (Fill1 x bytes) none = record {
     blocks = λ y.
-        let h = facts shape right slice log bank (Fill1 x bytes) none in
+        let h = facts shape right busy slice log bank (Fill1 x bytes) none in
         stands_by _ _ _ _ _ _ _ _ _ _ _ _ refl refl (any_gone (λ (b : ℕ). b) slice.supplied x y)
         (any_gone (λ (h : Held Missed). h.block) slice.waiting x y) (has_put slice.lines1 x _ y) refl
         (fill1_step (x == y) _ _ _ _ _ _ (here (is_among slice.supplied) true x y h.0) (each.blocks y));
     fetched = each.fetched;
   }
   stands_after (Evict1 x mask bytes) none =
-      let h = facts shape right slice log bank (Evict1 x mask bytes) none in
+      let h = facts shape right busy slice log bank (Evict1 x mask bytes) none in
       let below : has_line slice.lines2 (second_of shape x) ≡ true =
       inner_line _ _ _ _ _ (subst (λ b. stands (is_asked slice.asked x) (asks_for slice.regs2 x)
       (is_among slice.supplied x) (holds slice.waiting x) b
@@ -302,19 +238,21 @@ module _ (shape : Shape) (right : Bool) (value : List ℕ) (replies : List Ready
       }
   stands_after (SecondHit x) none = record {
     blocks = λ y.
-        let h = facts shape right slice log bank (SecondHit x) none in
+        let h = facts shape right busy slice log bank (SecondHit x) none in
         stands_by _ _ _ _ _ _ _ _ _ _ _ _ (any_gone (λ (a : Asked). a.0) slice.asked x y) refl
         (any_push (λ (b : ℕ). b) slice.supplied x y) refl refl refl
         (second_hit_step (x == y) _ _ _ _ _ _ (here (is_asked slice.asked) true x y h.0)
         (here (λ k. has_line slice.lines2 (second_of shape k)) true x y h.1.0) (each.blocks y));
     fetched = each.fetched;
   }
-  stands_after (SecondPrimary x register) none = let h = facts shape right slice log bank (SecondPrimary x register)
-      none in missed_after x register h.0 (is_not _ h.1.0)
-  stands_after (SecondMerge x register) none = let h = facts shape right slice log bank (SecondMerge x register) none
-      in missed_after x register h.0 (is_not _ h.1.0)
+  stands_after (SecondPrimary x register) none =
+      let h = facts shape right busy slice log bank (SecondPrimary x register) none in
+      missed_after x register h.0 (is_not _ h.1.0)
+  stands_after (SecondMerge x register) none =
+      let h = facts shape right busy slice log bank (SecondMerge x register) none in
+      missed_after x register h.0 (is_not _ h.1.0)
   stands_after (Fill2 second bytes) none =
-      let h = facts shape right slice log bank (Fill2 second bytes) none in
+      let h = facts shape right busy slice log bank (Fill2 second bytes) none in
       let absent : has_line slice.lines2 second ≡ false = absent_if _ _ (each.fetched second) h.0 in
       record {
         blocks = λ y.
@@ -329,7 +267,7 @@ module _ (shape : Shape) (right : Bool) (value : List ℕ) (replies : List Ready
             (has_put slice.lines2 second _ k) (fetched_filled (second == k) _ _ (each.fetched k));
       }
   stands_after (Evict2 second masks bytes) none =
-      let h = facts shape right slice log bank (Evict2 second masks bytes) none in
+      let h = facts shape right busy slice log bank (Evict2 second masks bytes) none in
       record {
         blocks = λ y.
             stands_by _ _ _ _ _ _ _ _ _ _ _ _ refl refl refl refl refl

@@ -1,31 +1,35 @@
 -- Each event that breaks no rule leads to a state that a run may reach.
-use Rattle.std.proofs.Common.{◌≡◌, ◌<◌, ℕ, Bool, true, false, cond, ◌==◌, List, [], ◌∷◌, ◌++◌, drop, Result, Ok, Err}
-use Rattle.std.proofs.Common.{None, refl, sym, ap, subst, ltb-true}
+use Rattle.std.proofs.Common.{◌≡◌, ◌<◌, ℕ, Bool, true, false, cond, not, ◌==◌, List, [], ◌∷◌, ◌++◌, drop, Result, Ok}
+use Rattle.std.proofs.Common.{Err, Option, None, refl, sym, ap, subst, ltb-true}
 use Rattle.std.specs.List.{AllByRecursion}
 use Rattle.std.specs.Prelude.{OnErr}
 use Rattle.lf_rules.specs.declared.shape.Shape.{Shape}
 use Rattle.lf_rules.specs.declared.event.Event.{Event}
-use Rattle.lf_rules.specs.declared.shape.OrgShape.{OrgShape}
-use Rattle.lf_rules.specs.Address.{FlatMemory}
-use Rattle.lf_rules.specs.Outcomes.{first_local}
-use Rattle.lf_mshr.specs.Alike.{AreAlike}
-use Rattle.lf_mshr.specs.RegisterFile.{RegisterFile, empty_file}
-use Rattle.lf_mshr.specs.declared.level_one.Request1.{Request1}
-use Rattle.lf_mshr.specs.declared.level_two.Request2.{Request2}
-use Rattle.lf_state.specs.Bytes.{flat_of}
-use Rattle.lf_replay.specs.Targets.{IsTarget1, IsTarget2}
-use Rattle.lf_rules.specs.declared.event.Event.TheVariants.{Issue, Reply, Hit, Primary, Merge, Stall, Fill1, Evict1}
-use Rattle.lf_rules.specs.declared.event.Event.TheVariants.{SecondHit, SecondPrimary, SecondStall, Fill2, Evict2}
-use Rattle.lf_rules.specs.declared.event.Event.TheVariants.{SecondMerge, Fence}
-use Rattle.lf_rules.specs.State.{Request, Ready, Slice, Local, idle, update}
-use Rattle.lf_rules.specs.Table.{OfBank, rules_of, slice_after, carries, value_at, accepts, replies_at, request_of}
-use Rattle.lf_rules.specs.Run.{first_failing}
-use Rattle.lf_replay.specs.declared.fault.BankFault.{BankFault}
-use Rattle.lf_replay.specs.BankView.{BankView, local_of, after_event, queue_at}
-use Rattle.lf_replay.specs.Shows.{AreTagged, IsReached, ShowsReached, Shows, IsAnswer, AnswerOf}
+use Rattle.lf_rules.specs.declared.event.Event.TheVariants.{Issue, Hit, Primary, Merge, SecondPrimary, SecondMerge}
+use Rattle.lf_rules.specs.declared.event.Event.TheVariants.{Fill2}
+use Rattle.lf_rules.specs.declared.event.Record.{Record}
+use Rattle.lf_rules.specs.Address.{FlatMemory, second_of}
 use Rattle.lf_rules.specs.InRange.{IsShape}
-use Rattle.lf_replay.proofs.Places.{factor_some}
+use Rattle.lf_rules.specs.Outcomes.{first_local}
+use Rattle.lf_rules.specs.Run.{first_failing, IsRunOf}
+use Rattle.lf_rules.specs.State.{Request, Ready, Slice, Local, update}
+use Rattle.lf_rules.specs.Table.{OfBank, rules_of, slice_after, carries, value_at, accepts, replies_at, request_of}
+use Rattle.lf_rules.specs.Table.{bank_effect, block_asked, second_miss}
+use Rattle.lf_rules.proofs.CopyStep.{push_all, filter_all}
+use Rattle.lf_bank.specs.declared.fault.BankFault.{BankFault}
+use Rattle.lf_bank.specs.Agrees.{Agrees, rule_broken, after_event}
+use Rattle.lf_bank.specs.Answers.{IsAnswer}
+use Rattle.lf_bank.specs.Apart.{AreHome}
+use Rattle.lf_bank.specs.BankView.{BankView}
+use Rattle.lf_bank.specs.Opening.{IsNew}
+use Rattle.lf_bank.proofs.Opening.{opening_agrees, opening_stands}
+use Rattle.lf_replay.specs.Shows.{AreTagged, IsReached, ShowsReached, Shows}
+use Rattle.lf_replay.specs.Step.{bank_after}
+use Rattle.lf_replay.proofs.Answered.{AnswerAt, answer_at, are_held}
 use Rattle.lf_replay.proofs.Apart.{facts, stands_after}
+use Rattle.lf_replay.proofs.Places.{factor_some}
+
+-- ---- tags of queued requests
 
 abbrev Tagged : ℕ → List Request → Type 0
 Tagged tags queue = AllByRecursion (λ request. request.tag < tags) queue
@@ -47,112 +51,113 @@ pushed : (tags : ℕ) (queue : List Request) (request : Request) → Tagged tags
 pushed tags [] request all lt = (lt, tt)
 pushed tags (r ∷ queue) request all lt = (all.0, pushed tags queue request all.1 lt)
 
-tagged_after : (shape : Shape) (right : Bool) (value : List ℕ) (replies : List Ready) (slice : Slice) (log bank : ℕ)
-    (e : Event) → AreTagged shape slice
-    → first_failing OfBank (rules_of shape right idle slice log bank e) ≡ None →
+tagged_after : (shape : Shape) (right : Bool) (value : List ℕ) (replies : List Ready) (busy : ℕ → Option ℕ)
+    (slice : Slice) (log bank : ℕ) (e : Event) → AreTagged shape slice
+    → first_failing OfBank (rules_of shape right busy slice log bank e) ≡ None →
     AreTagged shape (slice_after shape value replies slice log e)
-tagged_after shape right value replies slice log bank (Issue op tag size address bytes) each none =
-    let h = facts shape right slice log bank (Issue op tag size address bytes) none in
+tagged_after shape right value replies busy slice log bank (Issue op tag size address bytes) each none =
+    let h = facts shape right busy slice log bank (Issue op tag size address bytes) none in
     updated shape.tags slice.queue log _ each (pushed shape.tags (slice.queue log)
     (request_of shape tag op size address bytes.items) (each log) (ltb-true tag shape.tags h.0))
-tagged_after shape right value replies slice log bank (Hit port tag) each none =
+tagged_after shape right value replies busy slice log bank (Hit port tag) each none =
     updated shape.tags slice.queue port _ each (rest shape.tags (slice.queue port) (each port))
-tagged_after shape right value replies slice log bank (Primary port tag register) each none =
+tagged_after shape right value replies busy slice log bank (Primary port tag register) each none =
     updated shape.tags slice.queue port _ each (rest shape.tags (slice.queue port) (each port))
-tagged_after shape right value replies slice log bank (Merge port tag register) each none =
+tagged_after shape right value replies busy slice log bank (Merge port tag register) each none =
     updated shape.tags slice.queue port _ each (rest shape.tags (slice.queue port) (each port))
-tagged_after shape right value replies slice log bank (Reply tag size bytes) each none = each
-tagged_after shape right value replies slice log bank (Stall port tag) each none = each
-tagged_after shape right value replies slice log bank (Fill1 block bytes) each none = each
-tagged_after shape right value replies slice log bank (Evict1 block mask bytes) each none = each
-tagged_after shape right value replies slice log bank (SecondHit block) each none = each
-tagged_after shape right value replies slice log bank (SecondPrimary block register) each none = each
-tagged_after shape right value replies slice log bank (SecondStall block) each none = each
-tagged_after shape right value replies slice log bank (Fill2 block bytes) each none = each
-tagged_after shape right value replies slice log bank (Evict2 block masks bytes) each none = each
-tagged_after shape right value replies slice log bank (SecondMerge block register) each none = each
-tagged_after shape right value replies slice log bank Fence each none = each
+tagged_after shape right value replies busy slice log bank _ each none = each
 
--- a bank that keeps a state that a run may reach keeps one after each answer
-pub reached_after : {A : Type 0} (old new : BankView) (log : ℕ) (e : Event) (result : Result A BankFault) →
-    ShowsReached old → IsAnswer old new log e result → ShowsReached new
-reached_after old new log e result keeps answer = go result
-    (answer 0 keeps.now.slice.waiting keeps.now.slice.regs2 keeps.shows.registers)
-  where
-    here : Local
-    here = local_of old keeps.now.slice.waiting keeps.now.slice.regs2
+-- ---- registers of level two hold the second-level blocks of what they fetch
 
-    reached : IsReached old.shape here
-    reached = subst (IsReached old.shape) (sym keeps.shows.rest) keeps.reached
+home_after : (shape : Shape) (value : List ℕ) (replies : List Ready) (slice : Slice) (log : ℕ) (e : Event) →
+    AreHome shape slice.regs2 → AreHome shape (slice_after shape value replies slice log e).regs2
+home_after shape value replies slice log (SecondPrimary x register) home =
+    push_all (λ h. second_of shape (block_asked h) ≡ h.block) slice.regs2 (second_miss shape slice x register) home
+    refl
+home_after shape value replies slice log (SecondMerge x register) home =
+    push_all (λ h. second_of shape (block_asked h) ≡ h.block) slice.regs2 (second_miss shape slice x register) home
+    refl
+home_after shape value replies slice log (Fill2 second bytes) home =
+    filter_all (λ h. second_of shape (block_asked h) ≡ h.block) (λ h. not (h.block == second)) slice.regs2 home
+home_after shape value replies slice log (Hit port tag) home = home
+home_after shape value replies slice log _ home = home
 
-    go : {A : Type 0} (r : Result A BankFault) → AnswerOf old new here log 0 e r → ShowsReached new
-    go (Ok done) a = record {
-      now = after_event old.shape here log e;
-      shows = a.2;
-      reached = subst (λ (s : Shape). IsReached s (after_event old.shape here log e)) (sym a.1) (record {
-        in_range = reached.in_range;
-        stands = stands_after old.shape (carries old.shape here.memory here.slice e)
-            (value_at here.memory (accepts here.slice e))
-            (replies_at here.slice e) here.slice log 0 (factor_some old.shape.factor reached.in_range.factor)
-            keeps.shows.registers.home reached.stands e a.0;
-        tagged = tagged_after old.shape (carries old.shape here.memory here.slice e)
-            (value_at here.memory (accepts here.slice e)) (replies_at here.slice e) here.slice log 0 e reached.tagged
-            a.0;
-      });
+-- ---- an event, and a run
+
+pub reached_event : (shape : Shape) (now : Local) (log bank : ℕ) (e : Event) → AreHome shape now.slice.regs2 →
+    IsReached shape now → rule_broken shape now log bank e ≡ None → IsReached shape (after_event shape now log e)
+reached_event shape now log bank e home reached none =
+    let right = carries shape now.memory now.slice e in
+    let value = value_at now.memory (accepts now.slice e) in
+    let replies = replies_at now.slice e in
+    record {
+      in_range = reached.in_range;
+      stands = stands_after shape right value replies now.busy now.slice log bank
+          (factor_some shape.factor reached.in_range.factor) home reached.stands e none;
+      tagged = tagged_after shape right value replies now.busy now.slice log bank e reached.tagged none;
     }
-    go (Err fault) a = subst ShowsReached (sym a.1) keeps
 
--- no answer changes the shape
-pub same_shape : {A : Type 0} (old new : BankView) (log : ℕ) (e : Event) (result : Result A BankFault) →
-    ShowsReached old → IsAnswer old new log e result → new.shape ≡ old.shape
-same_shape old new log e (Ok done) keeps answer = (answer 0 keeps.now.slice.waiting keeps.now.slice.regs2
-    keeps.shows.registers).1
-same_shape old new log e (Err fault) keeps answer = ap (λ (k : BankView). k.shape)
-    (answer 0 keeps.now.slice.waiting keeps.now.slice.regs2 keeps.shows.registers).1
+reached_on : (shape : Shape) (now : Local) (rs : List Record) → AreHome shape now.slice.regs2 → IsReached shape now →
+    IsRunOf OfBank shape now rs → IsReached shape (bank_after shape now rs)
+reached_on shape now [] home reached run = reached
+reached_on shape now (r ∷ rs) home reached run =
+    reached_on shape (bank_effect shape now r) rs
+    (home_after shape (value_at now.memory (accepts now.slice r.event)) (replies_at now.slice r.event) now.slice r.log
+    r.event home)
+    (reached_event shape now r.log r.bank r.event home reached run.0) run.1
 
--- a fault leaves what a bank keeps as it was
-pub same_after : {A : Type 0} (old new : BankView) (log : ℕ) (e : Event) (result : Result A BankFault) →
-    ShowsReached old → IsAnswer old new log e result → OnErr result (new ≡ old)
-same_after old new log e (Ok done) keeps answer = tt
-same_after old new log e (Err fault) keeps answer = (answer 0 keeps.now.slice.waiting keeps.now.slice.regs2
-    keeps.shows.registers).1
+pub opening_reached : (shape : Shape) (memory : FlatMemory) → IsShape shape → IsReached shape (first_local memory)
+opening_reached shape memory in_range =
+    record { in_range = in_range; stands = opening_stands shape memory; tagged = λ port. tt }
+
+-- a run from the opening state reaches where it ends
+pub reached_run : (shape : Shape) (memory : FlatMemory) (rs : List Record) → IsShape shape →
+    IsRunOf OfBank shape (first_local memory) rs → IsReached shape (bank_after shape (first_local memory) rs)
+reached_run shape memory rs in_range run =
+    reached_on shape (first_local memory) rs tt (opening_reached shape memory in_range) run
+
+-- ---- what a bank keeps after each answer
+
+module _ {A : Type 0} (old new : BankView) (log : ℕ) (e : Event) (keeps : ShowsReached old) where
+  here : (result : Result A BankFault) → IsAnswer old new log e result → AnswerAt old new keeps.now log 0 e result
+  here result answer = answer_at old new keeps.now log 0 e keeps.reached.stands keeps.shows result answer
+
+  -- a state that a run may reach
+  pub reached_after : (result : Result A BankFault) → IsAnswer old new log e result → ShowsReached new
+  reached_after (Ok done) answer =
+      let a = here (Ok done) answer in
+      record {
+        now = after_event old.shape keeps.now log e;
+        shows = a.2;
+        reached = subst (λ (s : Shape). IsReached s (after_event old.shape keeps.now log e)) (sym a.1)
+            (reached_event old.shape keeps.now log 0 e (are_held old keeps.now keeps.shows).home keeps.reached a.0);
+      }
+  reached_after (Err fault) answer = subst ShowsReached (sym (here (Err fault) answer).1) keeps
+
+  -- its shape
+  pub same_shape : (result : Result A BankFault) → IsAnswer old new log e result → new.shape ≡ old.shape
+  same_shape (Ok done) answer = (here (Ok done) answer).1
+  same_shape (Err fault) answer = ap (λ (k : BankView). k.shape) (here (Err fault) answer).1
+
+  -- and all that it was, where the answer is a fault
+  pub same_after : (result : Result A BankFault) → IsAnswer old new log e result → OnErr result (new ≡ old)
+  same_after (Ok done) answer = tt
+  same_after (Err fault) answer = (here (Err fault) answer).1
 
 -- ---- the opening state
 
-pub opening_reached : (shape : Shape) (memory : FlatMemory) → IsShape shape → IsReached shape (first_local memory)
-opening_reached shape memory in_range = record {
-  in_range = in_range;
-  stands =
-      record { blocks = λ block. refl; fetched = λ second. refl };
-  tagged = λ port. tt;
+-- a new bank shows it
+pub new_shows : (view : BankView) (shape : Shape) (memory : FlatMemory) → IsNew view shape memory →
+    Shows view (first_local memory)
+new_shows view shape memory new = record {
+  registers = new.waiting;
+  known = subst (Agrees view.shape (first_local memory)) (sym new.known) (opening_agrees view.shape memory);
 }
 
--- a bank with nothing but the memory keeps the opening state
-pub opens : (view : BankView) (memory : FlatMemory) (organisation1 organisation2 : OrgShape)
-    (destinations1 destinations2 : ℕ)
-    → view.waiting ≡ empty_file organisation1 destinations1 → view.regs2 ≡ empty_file organisation2 destinations2
-    → flat_of view.memory ≡ memory → ((port : ℕ) → queue_at view.queues port ≡ []) → view.lines1.lines ≡ [] →
-    view.lines2.lines ≡ []
-    → view.asked ≡ [] → view.supplied ≡ [] → view.ready ≡ [] → Shows view (first_local memory)
-opens view memory organisation1 organisation2 destinations1 destinations2 free1 free2 bytes queues lines1 lines2 asked
-    supplied ready = record {
-      registers = record {
-        level1 = subst (λ (f : RegisterFile Request1). AreAlike (IsTarget1 view.shape) f.held []) (sym free1) tt;
-        level2 = subst (λ (f : RegisterFile Request2). AreAlike (IsTarget2 view.shape) f.held []) (sym free2) tt;
-        home = tt;
-      };
-      rest = λ i. record {
-        busy = idle;
-        memory = bytes i;
-        slice = record {
-          queue = λ port. queues port i;
-          lines1 = lines1 i;
-          lines2 = lines2 i;
-          waiting = [];
-          regs2 = [];
-          asked = asked i;
-          supplied = supplied i;
-          ready = ready i;
-        };
-      };
-    }
+pub new_reached : (view : BankView) (shape : Shape) (memory : FlatMemory) → IsShape shape → IsNew view shape memory →
+    ShowsReached view
+new_reached view shape memory in_range new = record {
+  now = first_local memory;
+  shows = new_shows view shape memory new;
+  reached = opening_reached view.shape memory (subst IsShape (sym new.of_shape) in_range);
+}

@@ -12,22 +12,28 @@ use Rattle.lf_rules.specs.declared.shape.Shape.{Shape}
 use Rattle.lf_rules.specs.declared.event.Record.{Record}
 use Rattle.lf_rules.specs.declared.rule.Rule as model
 use Rattle.lf_rules.specs.Address.{FlatMemory, bank_of}
+use Rattle.lf_rules.specs.InRange.{IsShape}
 use Rattle.lf_rules.specs.Numbers.{numbers_of}
 use Rattle.lf_rules.specs.Outcomes.{first_local, IsBankOutcome}
 use Rattle.lf_rules.specs.State.{Local}
 use Rattle.lf_rules.specs.Table.{OfBank, clauses, bank_effect, value_at, accepts, replies_at}
 use Rattle.lf_rules.specs.Run.{first_failing, IsRunOf, BreaksAt}
-use Rattle.lf_replay.specs.declared.fault.BankFault.{BankFault}
-use Rattle.lf_replay.specs.declared.fault.BankFault.TheVariants.{Rule, NoMemory}
+use Rattle.lf_bank.specs.declared.fault.BankFault.{BankFault}
+use Rattle.lf_bank.specs.declared.fault.BankFault.TheVariants.{Rule, NoMemory}
 use Rattle.lf_rules.specs.declared.outcome.Outcome.{Outcome}
 use Rattle.lf_rules.specs.declared.outcome.Outcome.TheVariants as outcome
 use Rattle.lf_rules.proofs.FitFacts.{names_home}
 use Rattle.lf_rules.proofs.Locality.{SameBank, IsHome, bank_clauses_same, bank_effect_same, home_after}
 use Rattle.lf_state.specs.Bytes.{bank_part}
-use Rattle.std.specs.Prelude.{OnOk, IfErr}
-use Rattle.lf_replay.specs.BankView.{BankView, after_event}
-use Rattle.lf_replay.specs.Shows.{Shows, rule_broken, AnswerOf, IsAnswer}
+use Rattle.std.specs.Prelude.{OnOk, IfOk, IfErr}
+use Rattle.lf_bank.specs.Agrees.{rule_broken, after_event}
+use Rattle.lf_bank.specs.Answers.{IsAnswer}
+use Rattle.lf_bank.specs.Apart.{EachStands}
+use Rattle.lf_bank.specs.BankView.{BankView}
+use Rattle.lf_replay.specs.Shows.{Shows, ShowsReached}
 use Rattle.lf_replay.specs.Step.{bank_after, IsBankAfter, IsFaultAfter, IsBankOrder}
+use Rattle.lf_replay.proofs.Answered.{AnswerAt, answer_at}
+use Rattle.lf_replay.proofs.Reached.{reached_run}
 
 module _ (shape : Shape) where
   pub run_more : (now : Local) (rs : List Record) (r : Record) → IsRunOf OfBank shape now rs →
@@ -52,32 +58,34 @@ module _ (shape : Shape) where
         some,
   )
 
--- what a bank answers to a record is what the table says of the state that it keeps
-module _ {A : Type 0} (old new : BankView) (r : Record) (result : Result A BankFault)
-    (answer : IsAnswer old new r.log r.event result) where
-  pub answer_at : (now : Local) → Shows old now → AnswerOf old new now r.log r.bank r.event result
-  answer_at now shows = subst (λ (s : Local). AnswerOf old new s r.log r.bank r.event result) shows.rest
-      (answer r.bank now.slice.waiting now.slice.regs2 shows.registers)
-
-module _ (old new : BankView) (shape : Shape) (memory : FlatMemory) (rs : List Record)
+-- what a bank answers to a record is what the table says of the state where its run ends
+module _ (old new : BankView) (keeps : ShowsReached old) (shape : Shape) (memory : FlatMemory) (rs : List Record)
     (stands : IsBankAfter old shape memory rs) (r : Record) where
-  at_shape : {A : Type 0} (result : Result A BankFault) → IsAnswer old new r.log r.event result →
-      AnswerOf old new (bank_after shape (first_local memory) rs) r.log r.bank r.event result
-  at_shape result answer = answer_at old new r result answer (bank_after shape (first_local memory) rs) stands.shows
+  abbrev end : Local
+  end = bank_after shape (first_local memory) rs
 
-  rule_at : rule_broken old.shape (bank_after shape (first_local memory) rs) r.log r.bank r.event
-      ≡ first_failing OfBank (clauses shape (bank_after shape (first_local memory) rs) r)
-  rule_at = ap (λ s. rule_broken s (bank_after shape (first_local memory) rs) r.log r.bank r.event) stands.of_shape
+  end_stands : EachStands old.shape end.slice
+  end_stands =
+      let in_range : IsShape shape = subst IsShape stands.of_shape keeps.reached.in_range in
+      subst (λ (s : Shape). EachStands s end.slice) (sym stands.of_shape)
+      (reached_run shape memory rs in_range stands.is_run).stands
+
+  at_end : {A : Type 0} (result : Result A BankFault) → IsAnswer old new r.log r.event result →
+      AnswerAt old new end r.log r.bank r.event result
+  at_end result answer = answer_at old new end r.log r.bank r.event end_stands stands.shows result answer
+
+  rule_at : rule_broken old.shape end r.log r.bank r.event ≡ first_failing OfBank (clauses shape end r)
+  rule_at = ap (λ s. rule_broken s end r.log r.bank r.event) stands.of_shape
 
   pub bank_after_more : {A : Type 0} (result : Result A BankFault) → IsAnswer old new r.log r.event result →
       OnOk result (IsBankAfter new shape memory (rs ++ r ∷ []))
   bank_after_more (Ok done) answer =
-      let a = at_shape (Ok done) answer in
+      let a = at_end (Ok done) answer in
       record {
         of_shape = a.1 ∙ stands.of_shape;
         is_run = run_more shape (first_local memory) rs r stands.is_run (sym rule_at ∙ a.0);
-        shows = subst (Shows new) (ap (λ s. after_event s (bank_after shape (first_local memory) rs) r.log r.event)
-            stands.of_shape ∙ sym (after_more shape (first_local memory) rs r)) a.2;
+        shows = subst (Shows new) (ap (λ s. after_event s end r.log r.event) stands.of_shape
+            ∙ sym (after_more shape (first_local memory) rs r)) a.2;
       }
   bank_after_more (Err fault) answer = tt
 
@@ -85,9 +93,9 @@ module _ (old new : BankView) (shape : Shape) (memory : FlatMemory) (rs : List R
       IfErr result (IsFaultAfter shape memory rs r)
   fault_more {A = A} (Ok done) answer = tt
   fault_more {A = A} (Err (Rule rule)) answer = breaks_more shape (first_local memory) rs r [] rule stands.is_run
-      (sym rule_at ∙ (at_shape {A = A} (Err (Rule rule)) answer).0)
+      (sym rule_at ∙ (at_end {A = A} (Err (Rule rule)) answer).0)
   fault_more {A = A} (Err NoMemory) answer = run_more shape (first_local memory) rs r stands.is_run
-      (sym rule_at ∙ (at_shape {A = A} (Err NoMemory) answer).0)
+      (sym rule_at ∙ (at_end {A = A} (Err NoMemory) answer).0)
 
 pub all_at : {X : Type 0} (P : X → Type 0) (xs : List X) (k : ℕ) (x : X) → AllByRecursion P xs → k < length xs →
     x ≡ get_or xs k x → P x
@@ -106,6 +114,10 @@ number_at rs k r numbered lt is =
 pub on_ok : {T E : Type 0} {P Q : Type 0} (r : Result T E) → (P → Q) → OnOk r P → OnOk r Q
 on_ok (Ok t) f p = f p
 on_ok (Err e) f p = tt
+
+pub if_ok : {T E : Type 0} {P Q : T → Type 0} (r : Result T E) → ((t : T) → P t → Q t) → IfOk r P → IfOk r Q
+if_ok (Ok t) f p = f t p
+if_ok (Err e) f p = tt
 
 -- ---- a loop over places that lend the records
 

@@ -3,9 +3,8 @@
 ghost use Rattle.std.specs.Prelude.{◌≡◌, true};
 ghost use Rattle.lf_replay.specs.AnyBank.{view_of, second_view_of};
 
-use crate::bank::Bank;
 use crate::bank_state::BankState;
-use crate::fault::BankFault;
+use lf_bank::{Bank, BankFault};
 use lf_mshr::{Explicit, Implicit, Inverted, Organisation, Request1, Request2};
 use lf_rules::{Block, NoMemory, OrgShape, Record, Shape};
 use std::alloc::Global;
@@ -38,21 +37,23 @@ impl<O1: Organisation<Target = Request1>> BankState for SecondBank<O1> {
         bank: u32,
     ) -> Result<SecondBank<O1>, NoMemory> {
         match shape.level2.organisation {
-            OrgShape::Implicit { .. } => {
-                Ok(SecondBank::Implicit(Bank::new(alloc, shape, memory, bank)?))
-            }
-            OrgShape::Explicit { .. } => {
-                Ok(SecondBank::Explicit(Bank::new(alloc, shape, memory, bank)?))
-            }
-            OrgShape::Inverted => Ok(SecondBank::Inverted(Bank::new(alloc, shape, memory, bank)?)),
+            OrgShape::Implicit { .. } => Ok(SecondBank::Implicit(BankState::new(
+                alloc, shape, memory, bank,
+            )?)),
+            OrgShape::Explicit { .. } => Ok(SecondBank::Explicit(BankState::new(
+                alloc, shape, memory, bank,
+            )?)),
+            OrgShape::Inverted => Ok(SecondBank::Inverted(BankState::new(
+                alloc, shape, memory, bank,
+            )?)),
         }
     }
 
     fn apply(&mut self, item: &Record) -> Result<(), BankFault> {
         match self {
-            SecondBank::Implicit(bank) => bank.apply(item),
-            SecondBank::Explicit(bank) => bank.apply(item),
-            SecondBank::Inverted(bank) => bank.apply(item),
+            SecondBank::Implicit(bank) => BankState::apply(bank, item),
+            SecondBank::Explicit(bank) => BankState::apply(bank, item),
+            SecondBank::Inverted(bank) => BankState::apply(bank, item),
         }
     }
 }

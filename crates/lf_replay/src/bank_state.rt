@@ -7,11 +7,11 @@ ghost use Rattle.lf_rules.specs.Fits.{Fits};
 ghost use Rattle.lf_rules.specs.InRange.{IsShape};
 ghost use Rattle.lf_rules.specs.Outcomes.{first_local};
 ghost use Rattle.lf_state.specs.Bytes.{bank_part};
-ghost use Rattle.lf_replay.specs.BankView.{BankView};
+ghost use Rattle.lf_bank.specs.BankView.{BankView};
 ghost use Rattle.lf_replay.specs.Shows.{ShowsReached, Shows};
 ghost use Rattle.lf_replay.specs.Step.{GoesOn, IsFaultOf};
 
-use crate::fault::BankFault;
+use lf_bank::BankFault;
 use lf_rules::{Block, NoMemory, Record, Shape};
 use std::alloc::Global;
 

@@ -10,7 +10,7 @@ ghost use Rattle.lf_replay.specs.Step.{IsStepAfter, IsForStep, IsFaultAfter};
 
 use crate::any_bank::AnyBank;
 use crate::bank_state::BankState;
-use crate::fault::BankFault;
+use lf_bank::BankFault;
 use lf_rules::{Memory, NoMemory, Record, Shape};
 use std::alloc::Global;
 use std::marker::Model;

@@ -2,23 +2,17 @@
 
 ghost use Rattle.std.specs.Prelude.{◌≡◌, true, false, MatchOption};
 ghost use Rattle.std.specs.List.{list_any};
-ghost use Rattle.lf_rules.specs.Address.{block_bytes};
-ghost use Rattle.lf_rules.specs.InRange.{IsShape};
-ghost use Rattle.lf_rules.specs.Registers.{holds};
 ghost use Rattle.lf_rules.specs.Table.{first_ready, is_ready_for};
-ghost use Rattle.lf_state.specs.Bytes.{flat_of};
 ghost use Rattle.lf_replay.specs.AnyBank.{view_of, second_view_of};
 ghost use Rattle.lf_replay.specs.Looks.{IsBlockState, OfShown, OfStep};
-ghost use Rattle.lf_replay.specs.RegisterRules.{OfMissed};
 
 use crate::any_bank::{AnyBank, SecondBank};
-use crate::bank::Bank;
 use crate::bank_step::Step;
-use crate::lookup::{is_among, is_asked};
-use crate::registers::{is_fetched, store_bytes};
+use crate::seen::seen_in;
+use lf_bank::Bank;
 use lf_mshr::{Organisation, Request1, Request2};
-use lf_rules::{Block, Mask, Masks, Shape};
-use lf_state::{FlatMemory, ready_for, second_of};
+use lf_rules::{Block, Mask, Masks};
+use lf_state::ready_for;
 
 /// What a bank of both levels has of a block.
 #[derive(Debug, Drop, PartialEq, Eq)]
@@ -41,52 +35,29 @@ pub struct BlockState {
     pub bytes: Block,
 }
 
-/// The bytes of a block in memory.
-fn block_bytes(shape: &Shape, memory: &FlatMemory, block: u32) -> Block
-    requires { IsShape shape.now }
-    ensures { result.items ≡ block_bytes shape.now (flat_of memory.now) block }
+/// What a bank has of the block.
+fn block_state<O1: Organisation<Target = Request1>, O2: Organisation<Target = Request2>>(
+    bank: &Bank<O1, O2>,
+    block: u32,
+) -> BlockState
+    ensures { OfShown bank.now (IsBlockState result block) }
 {
-    let stored = memory.bytes_of(block);
-    let mut bytes = Block::new();
-    for i in 0..shape.block as usize {
-        bytes.push(stored[i]);
-    }
-    bytes
+    seen_in(&bank.shape, &bank.cells, block)
 }
 
-/// Whether a level-one register holds the block.
-fn is_held<O: Organisation<Target = Request1>>(waiting: &O::File, block: u32) -> bool
-    ensures { (shape : Shape) → OfMissed shape (O.seen waiting.now) (λ missed. result ≡ holds missed block) }
+/// The value of the reply that is ready for the port and tag.
+fn reply_for<O1: Organisation<Target = Request1>, O2: Organisation<Target = Request2>>(
+    bank: &Bank<O1, O2>,
+    port: u8,
+    tag: u8,
+) -> Option<&[u8]>
+    ensures { MatchOption result (list_any (is_ready_for port tag) bank.now.ready ≡ false)
+        (λ value. (list_any (is_ready_for port tag) bank.now.ready ≡ true) ×
+        (value.now ≡ first_ready bank.now.ready port tag)) }
 {
-    O::holds(waiting, block)
-}
-
-impl<O1: Organisation<Target = Request1>, O2: Organisation<Target = Request2>> Bank<O1, O2> {
-    fn block_state(&self, block: u32) -> BlockState
-        ensures { OfShown self.now (IsBlockState result block) }
-    {
-        let second = second_of(&self.shape, block);
-        BlockState {
-            line1: self.lines1.dirty(block),
-            line2: self.lines2.dirty(second),
-            asked: is_asked(&self.asked, block),
-            supplied: is_among(&self.supplied, block),
-            held: is_held::<O1>(&self.waiting, block),
-            stores: Mask(store_bytes::<O1>(&self.waiting, block)),
-            fetched: is_fetched::<O2>(&self.regs2, second),
-            bytes: block_bytes(&self.shape, &self.memory, block),
-        }
-    }
-
-    fn reply_for(&self, port: u8, tag: u8) -> Option<&[u8]>
-        ensures { MatchOption result (list_any (is_ready_for port tag) self.now.ready ≡ false)
-            (λ value. (list_any (is_ready_for port tag) self.now.ready ≡ true) ×
-            (value.now ≡ first_ready self.now.ready port tag)) }
-    {
-        match ready_for(&self.ready, port, tag) {
-            Some(ready) => Some(ready.value()),
-            None => None,
-        }
+    match ready_for(&bank.ready, port, tag) {
+        Some(ready) => Some(ready.value()),
+        None => None,
     }
 }
 
@@ -95,9 +66,9 @@ impl<O1: Organisation<Target = Request1>> SecondBank<O1> {
         ensures { OfShown (second_view_of self.now) (IsBlockState result block) }
     {
         match self {
-            SecondBank::Implicit(bank) => bank.block_state(block),
-            SecondBank::Explicit(bank) => bank.block_state(block),
-            SecondBank::Inverted(bank) => bank.block_state(block),
+            SecondBank::Implicit(bank) => block_state(bank, block),
+            SecondBank::Explicit(bank) => block_state(bank, block),
+            SecondBank::Inverted(bank) => block_state(bank, block),
         }
     }
 
@@ -107,9 +78,9 @@ impl<O1: Organisation<Target = Request1>> SecondBank<O1> {
             (λ value. (list_any (is_ready_for port tag) ready ≡ true) × (value.now ≡ first_ready ready port tag)) }
     {
         match self {
-            SecondBank::Implicit(bank) => bank.reply_for(port, tag),
-            SecondBank::Explicit(bank) => bank.reply_for(port, tag),
-            SecondBank::Inverted(bank) => bank.reply_for(port, tag),
+            SecondBank::Implicit(bank) => reply_for(bank, port, tag),
+            SecondBank::Explicit(bank) => reply_for(bank, port, tag),
+            SecondBank::Inverted(bank) => reply_for(bank, port, tag),
         }
     }
 }

@@ -8,10 +8,9 @@ ghost use Rattle.lf_replay.specs.Lent.{lent};
 ghost use Rattle.lf_replay.specs.Step.{IsBankOrder};
 
 use crate::any_bank::AnyBank;
-use crate::bank::Bank;
 use crate::bank_state::BankState;
-use crate::fault::BankFault;
 use crate::lends::Lends;
+use lf_bank::{Bank, BankFault};
 use lf_mshr::{Organisation, Request1, Request2};
 use lf_rules::{Memory, Outcome, Record, Shape};
 use std::alloc::Global;

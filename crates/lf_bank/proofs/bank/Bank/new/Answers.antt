@@ -1,4 +1,4 @@
-use Rattle.std.proofs.Common.{◌<◌, List, [], sym, subst}
+use Rattle.std.proofs.Common.{◌<◌, List, [], refl, sym, subst}
 use Rattle.std.specs.List.{AllByRecursion}
 use mathlib.Core.Path.{fun_ext}
 use Rattle.lf_rules.specs.Address.{flat_memory}
@@ -14,19 +14,28 @@ use Rattle.lf_bank.specs.Targets.{IsTarget1, IsTarget2}
 use Rattle.lf_bank.proofs.Opening.{opening_held}
 use Rattle.lf_bank.proofs.bank.Bank.new.Goals as goal
 
-pub returns-clause-known : goal.returns-clause-known
-returns-clause-known g c = λ i. record {
-  queue = fun_ext c.in_ok-empty_queues.ensures.empty i;
-  ready = c.new-3.ensures.items i;
-  memory = c.in_ok-of_bank.ensures.memory i;
-  first = c.in_ok-of_bank.ensures.others.first i;
-  written = c.in_ok-of_bank.ensures.others.written i;
-  dirty = c.in_ok-of_bank.ensures.others.dirty i;
-  second = c.in_ok-of_bank.ensures.others.second i;
-  counts1 = c.in_ok-no_lines.ensures.counts i;
-  counts2 = c.in_ok-no_lines-2.ensures.counts i;
-  waiting = [];
-  regs2 = [];
+pub returns-clause-new : goal.returns-clause-new
+returns-clause-new g c = record {
+  of_shape = refl;
+  waiting = record {
+    level1 = subst (λ (f : RegisterFile Request1). AreAlike (IsTarget1 c.args.shape.now) f.held [])
+        (sym c.in_ok-new.ensures) tt;
+    level2 = subst (λ (f : RegisterFile Request2). AreAlike (IsTarget2 c.args.shape.now) f.held [])
+        (sym c.in_ok-new-2.ensures) tt;
+  };
+  known = λ i. record {
+    queue = fun_ext c.in_ok-empty_queues.ensures.empty i;
+    ready = c.new-3.ensures.items i;
+    memory = c.in_ok-of_bank.ensures.memory i;
+    first = c.in_ok-of_bank.ensures.others.first i;
+    written = c.in_ok-of_bank.ensures.others.written i;
+    dirty = c.in_ok-of_bank.ensures.others.dirty i;
+    second = c.in_ok-of_bank.ensures.others.second i;
+    counts1 = c.in_ok-no_lines.ensures.counts i;
+    counts2 = c.in_ok-no_lines-2.ensures.counts i;
+    waiting = [];
+    regs2 = [];
+  };
 }
 
 pub returns-clause-steady : goal.returns-clause-steady
@@ -35,12 +44,7 @@ returns-clause-steady g c = record {
       (sym (c.in_ok-empty_queues.ensures.empty port)) tt;
   now_waiting = [];
   now_regs2 = [];
-  alike = record {
-    level1 = subst (λ (f : RegisterFile Request1). AreAlike (IsTarget1 c.args.shape.now) f.held [])
-        (sym c.in_ok-new.ensures) tt;
-    level2 = subst (λ (f : RegisterFile Request2). AreAlike (IsTarget2 c.args.shape.now) f.held [])
-        (sym c.in_ok-new-2.ensures) tt;
-  };
-  held = subst (λ (k : Known). AreHeld c.args.shape.now k) (sym (returns-clause-known g c))
+  alike = (returns-clause-new g c).waiting;
+  held = subst (λ (k : Known). AreHeld c.args.shape.now k) (sym (returns-clause-new g c).known)
       (opening_held c.args.shape.now (bank_part c.args.shape.now c.args.bank (flat_memory c.args.memory.now)));
 }
