@@ -221,6 +221,22 @@ module _ (L : List (List (ℕ × ℕ))) (places next new_places new_next : List 
       (ap (λ (ps : List ℕ). slice_index ps other) gone.moved
       ∙ get_or-set_other places log other (slice_index places log + 1) 0 apart)
 
+  -- each other log, once the bank called its next number
+  pub others_called : (left called_from : Roster) →
+      ((other : ℕ) → other < 32 → other ≢ log → Stands left other (standing_of next (next_entry L places other)))
+      → IsCalled left called_from bank (number + 1)
+      → (other : ℕ) → other < 32 → other ≢ log →
+      Stands called_from other (standing_of new_next (next_entry L new_places other))
+  others_called left called_from others are_called k lt apart =
+      let now : once_called (standing_of next (next_entry L places k)) bank (number + 1)
+      ≡ standing_of new_next (next_entry L new_places k) =
+      called_standing next bank number (next_entry L places k) (let w = bank_within in omega arith)
+      (λ lt. (number_is lt, own k (bank, number) apart lt is))
+      ∙ ap (λ (o : Option (ℕ × ℕ)). standing_of (set next bank (number + 1)) o) (sym (other_entry k apart))
+      ∙ ap (λ (ns : List ℕ). standing_of ns (next_entry L new_places k)) (sym next_is) in
+      subst (Stands called_from k) now (are_called k (standing_of next (next_entry L places k)) lt
+      (others k lt apart))
+
   pub all_settled : (left called_from settled : Roster) → log < 32 →
       ((other : ℕ) → other < 32 → other ≢ log → Stands left other (standing_of next (next_entry L places other)))
       → IsCalled left called_from bank (number + 1) → Stands settled log
@@ -228,16 +244,8 @@ module _ (L : List (List (ℕ × ℕ))) (places next new_places new_next : List 
       → OthersStay called_from settled log → AllStand L new_places new_next settled
   all_settled left called_from settled within others are_called here stay k lt = elim (cases_eq k log) [
     | inl same ↦ subst (λ m. Stands settled m (standing_of new_next (next_entry L new_places m))) (sym same) here
-    | inr apart ↦
-        let now : once_called (standing_of next (next_entry L places k)) bank (number + 1)
-        ≡ standing_of new_next (next_entry L new_places k) =
-        called_standing next bank number (next_entry L places k) (let w = bank_within in omega arith)
-        (λ lt. (number_is lt, own k (bank, number) apart lt is))
-        ∙ ap (λ (o : Option (ℕ × ℕ)). standing_of (set next bank (number + 1)) o) (sym (other_entry k apart))
-        ∙ ap (λ (ns : List ℕ). standing_of ns (next_entry L new_places k)) (sym next_is) in
-        stay k (standing_of new_next (next_entry L new_places k)) lt apart
-        (subst (Stands called_from k) now (are_called k (standing_of next (next_entry L places k)) lt
-        (others k lt apart)))
+    | inr apart ↦ stay k (standing_of new_next (next_entry L new_places k)) lt apart
+        (others_called left called_from others are_called k lt apart)
   ]
 
 -- Before anything has gone, one more log has settled.

@@ -12,7 +12,7 @@ use Rattle.lf_join.specs.Join.{skeleton_lists, Leads}
 use Rattle.lf_join.specs.Heads.{next_entry, can_go, carries_next, Advances, IsAt, HeadsWait, AllWait, Chain, IsRound}
 use Rattle.lf_join.specs.Heads.{first_or, knot_of}
 use Rattle.lf_join.specs.Progress.{Reached, HasReached, AreLogs}
-use Rattle.lf_join.specs.RunOn.{added, knot_behind, RunsOn}
+use Rattle.lf_join.specs.RunOn.{added, ahead_of, knot_behind, RunsOn}
 use Rattle.lf_join.specs.Standings.{IsItsOwn}
 use Rattle.std.proofs.lemmas.Bool.{cases_lt}
 use Rattle.std.proofs.lemmas.List.{get_or-map, get_or_default, get_or_past, length-map, length-set}
@@ -60,12 +60,6 @@ added_more (p ∷ ps) (q ∷ qs) (suc k) same = ap (λ (ks : List ℕ). (p + q) 
     (omega (arith, same)))
 
 -- ---- what is left, and the whole logs
-
--- how many entries are left behind these places
-abbrev pub ahead_of : List (List (ℕ × ℕ)) → List ℕ → ℕ
-ahead_of [] ps = 0
-ahead_of (xs ∷ logs) [] = 0
-ahead_of (xs ∷ logs) (p ∷ ps) = (length xs - p) + ahead_of logs ps
 
 entry_within : (xs : List (ℕ × ℕ)) (n : ℕ) (x : ℕ × ℕ) → entry_at xs n ≡ Some x → n < length xs
 entry_within [] n x is = cc

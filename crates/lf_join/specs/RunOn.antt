@@ -1,5 +1,5 @@
 -- How far what is left of the logs goes on.
-use Rattle.std.specs.Prelude.{◌≡◌, ℕ, ◌+◌, List, [], ◌∷◌, length, slice_index}
+use Rattle.std.specs.Prelude.{◌≡◌, ℕ, ◌+◌, ◌-◌, List, [], ◌∷◌, length, slice_index}
 use Rattle.lf_rules.specs.declared.ring.Knot.{Knot}
 use Rattle.lf_join.specs.Heads.{IsAt}
 use Rattle.lf_join.specs.Progress.{Reached, OfReached}
@@ -9,6 +9,12 @@ abbrev pub added : List ℕ → List ℕ → List ℕ
 added [] qs = []
 added (p ∷ ps) [] = []
 added (p ∷ ps) (q ∷ qs) = (p + q) ∷ added ps qs
+
+-- how many entries are left behind these places
+abbrev pub ahead_of : List (List (ℕ × ℕ)) → List ℕ → ℕ
+ahead_of [] ps = 0
+ahead_of (xs ∷ logs) [] = 0
+ahead_of (xs ∷ logs) (p ∷ ps) = (length xs - p) + ahead_of logs ps
 
 -- the knot of what is left, in the whole logs
 abbrev pub knot_behind : List ℕ → Knot → Knot

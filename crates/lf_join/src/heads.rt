@@ -7,7 +7,7 @@ ghost use Rattle.lf_join.specs.Join.{skeleton_lists};
 
 use crate::check::entries;
 use arrayvec::ArrayVec;
-use lf_rules::{Knot, Ring, Skeleton};
+use lf_rules::{Knot, NO_BANK, Ring, Skeleton};
 
 /// The most logs that there are.
 pub(crate) const LOGS: usize = 32;
@@ -45,6 +45,19 @@ impl Heads {
         ensures small { IsSome result → slice_index self.now.places log + 1 < 2 ^ 64 }
     {
         entries(skeletons, log).get(self.places[log]).copied()
+    }
+
+    /// Whether the log's next entry can go: one that names no bank, or carries its bank's next number.
+    pub fn can_go(&self, skeletons: &[Skeleton], log: usize) -> bool
+        requires { log < 32 }
+        ensures { result ≡ can_go (skeleton_lists skeletons.now) self.now.places self.now.next log }
+    {
+        match self.next_entry(skeletons, log) {
+            Some((bank, number)) => {
+                bank >= NO_BANK || u64::from(number) == self.next[bank as usize]
+            }
+            None => false,
+        }
     }
 
     /// Lets the log's next entry go, which is the answer. That of a fence leaves a number where no

@@ -1,13 +1,14 @@
 //! How far the logs go while their entries come, so that an entry that has gone need not be kept.
 
 ghost use Rattle.std.specs.Prelude.{◌≡◌, ◌<◌, ◌≤◌, ◌+◌, ◌^◌, ℕ, List, [], false, length, map, replicate, slice_index};
-ghost use Rattle.std.specs.Prelude.{All, IfErr, IsTrue, OnOk};
+ghost use Rattle.std.specs.Prelude.{All, IfErr, IsTrue, OnOk, true};
 ghost use Rattle.lf_rules.specs.Order.{log_at};
 ghost use Rattle.lf_rules.specs.Ring.{IsRing};
 ghost use Rattle.lf_join.specs.Heads.{can_go, is_due};
 ghost use Rattle.lf_join.specs.Join.{skeleton_lists, IsStuckRing, HasNoOrder};
 ghost use Rattle.lf_join.specs.Progress.{AreLogs, HasAnOrder, HasReached, OfReached, with_entry};
-ghost use Rattle.lf_join.specs.RunOn.{knot_behind, RunsOn};
+ghost use Rattle.lf_join.specs.RunOn.{ahead_of, knot_behind, RunsOn};
+ghost use Rattle.lf_join.specs.Standings.{AllStand};
 
 use crate::heads::{BANKS, Heads, LOGS};
 use crate::roster::Roster;
@@ -81,6 +82,30 @@ impl Progress {
         goes
     }
 
+    /// Lets the entries of the log go, of which the next can, up to one that waits.
+    fn let_go(&self, left: &[Skeleton], roster: &mut Roster, heads: &mut Heads, log: u8)
+        requires log { log < 32 }
+        requires reached { (skeletons : List (List (ℕ × ℕ))) × AreLogs skeletons
+            × HasReached skeletons self.now (skeleton_lists left.now) }
+        requires on { RunsOn self.now (skeleton_lists left.now) heads.old.places heads.old.next }
+        requires stand { AllStand (skeleton_lists left.now) heads.old.places heads.old.next roster.old }
+        requires goes { can_go (skeleton_lists left.now) heads.old.places heads.old.next log ≡ true }
+        ensures on { RunsOn self.now (skeleton_lists left.now) heads.new.places heads.new.next }
+        ensures stand { AllStand (skeleton_lists left.now) heads.new.places heads.new.next roster.new }
+        ensures fewer { ahead_of (skeleton_lists left.now) heads.new.places
+            < ahead_of (skeleton_lists left.now) heads.old.places }
+    {
+        roster.leave(log);
+        loop {
+            let (bank, number) = heads.advance(left, log as usize);
+            roster.call(bank, u64::from(number) + 1);
+            if !heads.can_go(left, log as usize) {
+                break;
+            }
+        }
+        roster.settle(left, heads, log);
+    }
+
     /// How far what is left goes on, as far as any of it can.
     fn run_on(&self, left: &[Skeleton]) -> Heads
         requires few { length left.now ≤ 32 }
@@ -95,7 +120,7 @@ impl Progress {
         };
         let mut roster = Roster::new(left, &heads);
         while let Some(log) = roster.first() {
-            roster.let_go(left, &mut heads, log);
+            self.let_go(left, &mut roster, &mut heads, log);
         }
         heads
     }

@@ -74,7 +74,7 @@ impl Roster {
     }
 
     /// Wakes the log that waits for this number. Those that wait for another number of the set stay.
-    fn call(&mut self, bank: u8, number: u64)
+    pub fn call(&mut self, bank: u8, number: u64)
         ensures { IsCalled self.old self.new bank number }
     {
         let mut called = self.waiting[bank as usize][set_of(number)];
@@ -96,7 +96,7 @@ impl Roster {
     }
 
     /// Takes a log out of those that can go.
-    fn leave(&mut self, log: u8)
+    pub fn leave(&mut self, log: u8)
         requires log { log < 32 }
         requires goes { Stands self.old log Goes }
         ensures nowhere { Stands self.new log Nowhere }
@@ -106,7 +106,7 @@ impl Roster {
     }
 
     /// Adds a log where its next entry says.
-    fn settle(&mut self, skeletons: &[Skeleton], heads: &Heads, log: u8)
+    pub fn settle(&mut self, skeletons: &[Skeleton], heads: &Heads, log: u8)
         requires log { log < 32 }
         requires nowhere { Stands self.old log Nowhere }
         ensures settled { Stands self.new log (standing_of heads.now.next

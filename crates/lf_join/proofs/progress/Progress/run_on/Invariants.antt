@@ -1,7 +1,6 @@
 use Rattle.lf_join.specs.Join.{skeleton_lists}
-use Rattle.lf_join.specs.RunOn.{RunsOn}
+use Rattle.lf_join.specs.RunOn.{ahead_of, RunsOn}
 use Rattle.lf_join.specs.Standings.{AllStand}
-use Rattle.lf_join.proofs.RunOn.{ahead_of}
 use Rattle.lf_join.proofs.progress.Progress.run_on.Given as goal
 
 abbrev pub invariant-loop-log : goal.invariant-loop-log
