@@ -2,6 +2,7 @@
 
 ghost use Rattle.std.specs.Prelude.{◌≡◌, ◌<◌, true};
 ghost use Rattle.lf_rules.specs.InRange.{IsOrganisation};
+ghost use Rattle.lf_rules.specs.Registers.{holds_in};
 
 use lf_mshr::{
     Explicit, Implicit, Inverted, Organisation, RegisterFault, Request1, Request2, Target, Targets,
@@ -20,6 +21,16 @@ fn assert_absent<O: Organisation>(
 ) {
     assert!(rt; !O::holds(file, 0));
     assert!(rt; O::room(file, 0, &target));
+    assert!(rt; O::room_in(file, None, 0, &target));
+    assert_eq!(rt; O::fresh_fault(file, register, 0, &target), None);
+    assert_eq!(rt;
+        O::fresh_fault(file, 64, 0, &target),
+        Some(RegisterFault::Range)
+    );
+    assert_eq!(rt;
+        O::merge_fault_in(file, None, register, 0, &target),
+        Some(RegisterFault::NotInFlight)
+    );
     assert_eq!(rt;
         O::merge(file, register, 0, target),
         Err(RegisterFault::NotInFlight)
@@ -50,11 +61,52 @@ fn assert_merged<O: Organisation>(
     assert_eq!(rt; O::store_bytes(file, 0), Mask(0));
 }
 
-/// The release of so many targets.
-fn assert_released<O: Organisation>(rt: &impl Abort, file: &mut O::File, count: usize) {
-    let mut targets = Targets::new();
-    O::release_into(file, 0, &mut targets);
+/// What a file answers for a second target of block 0, of which the holder is known.
+fn assert_joins<O: Organisation>(
+    rt: &impl Abort,
+    file: &O::File,
+    holder: u16,
+    register: u16,
+    target: O::Target,
+)
+    requires { holds_in (O.seen file.now).held holder 0 ≡ true }
+{
+    assert!(rt; O::room_in(file, Some(holder), 0, &target));
+    assert_eq!(rt;
+        O::merge_fault_in(file, Some(holder), register, 0, &target),
+        None
+    );
+    assert_eq!(rt;
+        O::merge_fault_in(file, Some(holder), 64, 0, &target),
+        Some(RegisterFault::Range)
+    );
+}
+
+/// The release of so many targets of block 0, of which the holder is known.
+fn assert_released_of<O: Organisation>(
+    rt: &impl Abort,
+    file: &mut O::File,
+    holder: u16,
+    targets: &mut Targets<O::Target>,
+    count: usize,
+)
+    requires { holds_in (O.seen file.old).held holder 0 ≡ true }
+{
+    O::release_of(file, holder, 0, targets);
     assert_eq!(rt; targets.len(), count);
+    assert!(rt; !O::holds(file, 0));
+}
+
+/// The release of so many targets.
+fn assert_released<O: Organisation>(
+    rt: &impl Abort,
+    file: &mut O::File,
+    targets: &mut Targets<O::Target>,
+    count: usize,
+) {
+    O::release_into(file, 0, targets);
+    assert_eq!(rt; targets.len(), count);
+    assert_eq!(rt; targets.is_empty(), count == 0);
     assert!(rt; !O::holds(file, 0));
 }
 
@@ -64,10 +116,12 @@ fn assert_gives<O: Organisation<Target = Request1>>(
     file: &mut O::File,
     block: u32,
     bytes: Mask,
+    given: &mut Targets<Request1>,
     targets: &[(u16, Request1)],
 ) {
     assert_eq!(rt; O::store_bytes(file, block), bytes);
-    assert_eq!(rt; O::release(file, block).as_slice(), targets);
+    O::release_into(file, block, given);
+    assert_eq!(rt; given.as_slice(), targets);
     assert_eq!(rt; O::store_bytes(file, block), Mask(0));
 }
 
@@ -83,6 +137,7 @@ fn miss_twice<O: Organisation>(
     requires in_range { IsOrganisation organisation.now }
 {
     let mut file = O::new(alloc, organisation, 4).ok().ok_or("no memory")?;
+    let mut targets = Targets::new(alloc).ok().ok_or("no memory")?;
     let register = first.destination();
     let joined = if O::SHARES {
         second.destination()
@@ -93,9 +148,9 @@ fn miss_twice<O: Organisation>(
     assert_eq!(rt; O::primary(&mut file, register, 0, first), Ok(()));
     assert!(rt; O::holds(&file, 0));
     assert_merged::<O>(rt, &mut file, joined, second);
-    assert_released::<O>(rt, &mut file, 2);
-    assert_released::<O>(rt, &mut file, 0);
-    place_two::<O>(rt, &mut file, first, second);
+    assert_released::<O>(rt, &mut file, &mut targets, 2);
+    assert_released::<O>(rt, &mut file, &mut targets, 0);
+    place_two::<O>(rt, &mut file, &mut targets, first, second);
     Ok(())
 }
 
@@ -103,6 +158,7 @@ fn miss_twice<O: Organisation>(
 fn place_two<O: Organisation>(
     rt: &impl Abort,
     file: &mut O::File,
+    targets: &mut Targets<O::Target>,
     first: O::Target,
     second: O::Target,
 ) {
@@ -116,12 +172,12 @@ fn place_two<O: Organisation>(
         panic!(rt; "the register takes a primary miss");
     };
     O::place(file, register, 0, first);
+    assert_joins::<O>(rt, file, register, joined, second);
     let None = O::merge_fault(file, joined, 0, &second) else {
         panic!(rt; "the register takes a merge");
     };
     O::place(file, joined, 0, second);
-    assert!(rt; O::holds(file, 0));
-    assert_released::<O>(rt, file, 2);
+    assert_released_of::<O>(rt, file, joined, targets, 2);
 }
 
 fn load(position: u8, destination: u16) -> Request1
@@ -204,11 +260,12 @@ fn inverted_release_order(rt: HostRuntime) -> Result<(), Fail> {
     let mut file = Registers::new(rt.alloc(), &OrgShape::Inverted, 4)
         .ok()
         .ok_or("no memory")?;
+    let mut given = Targets::new(rt.alloc()).ok().ok_or("no memory")?;
     assert_eq!(rt; Registers::primary(&mut file, 1, 0, load(0, 1)), Ok(()));
     assert_eq!(rt; Registers::merge(&mut file, 0, 0, load(0, 0)), Ok(()));
     let targets = [(1, load(0, 1)), (0, load(0, 0))];
-    assert_gives::<Registers>(&rt, &mut file, 0, Mask(0), &targets);
-    assert_gives::<Registers>(&rt, &mut file, 0, Mask(0), &[]);
+    assert_gives::<Registers>(&rt, &mut file, 0, Mask(0), &mut given, &targets);
+    assert_gives::<Registers>(&rt, &mut file, 0, Mask(0), &mut given, &[]);
     assert!(rt; !Registers::holds(&file, 0));
     Ok(())
 }
@@ -277,6 +334,7 @@ fn releases_of_two_blocks(rt: HostRuntime) -> Result<(), Fail> {
     let mut file = Registers::new(rt.alloc(), &organisation, 4)
         .ok()
         .ok_or("no memory")?;
+    let mut given = Targets::new(rt.alloc()).ok().ok_or("no memory")?;
     let first = store_of(0, 0x3);
     let second = store_of(2, 0x30);
     let other = store_of(1, 0xc);
@@ -294,13 +352,13 @@ fn releases_of_two_blocks(rt: HostRuntime) -> Result<(), Fail> {
     }
     // A target of block 8 waits between those of block 7, and one behind them.
     let targets = [(0, first), (0, second)];
-    assert_gives::<Registers>(&rt, &mut file, 7, Mask(0x33), &targets);
+    assert_gives::<Registers>(&rt, &mut file, 7, Mask(0x33), &mut given, &targets);
     // The register is free again, and has no bytes of block 7.
     assert_eq!(rt; Registers::primary(&mut file, 0, 9, other), Ok(()));
     assert_eq!(rt; Registers::store_bytes(&file, 9), Mask(0xc));
     let targets = [(1, other), (1, load(3, 3))];
-    assert_gives::<Registers>(&rt, &mut file, 8, Mask(0xc), &targets);
-    assert_gives::<Registers>(&rt, &mut file, 9, Mask(0xc), &[(0, other)]);
+    assert_gives::<Registers>(&rt, &mut file, 8, Mask(0xc), &mut given, &targets);
+    assert_gives::<Registers>(&rt, &mut file, 9, Mask(0xc), &mut given, &[(0, other)]);
     Ok(())
 }
 

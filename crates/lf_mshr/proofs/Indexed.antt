@@ -331,6 +331,15 @@ module _ {T : Type 0} where
       holds_in held r block ≡ false
   unused_holds held r block none = none_both (λ h. h.register == r) (λ h. h.block == block) held none
 
+  -- a register that holds a block is one of those that there are
+  pub holding-below : (registers : ℕ) (held : List (Held T)) → IsBelow registers held → (r block : ℕ) →
+      holds_in held r block ≡ true → r < registers
+  holding-below registers held below r block has = elim (cases_lt r registers) [
+    | inl lt ↦ lt
+    | inr le ↦ absurd (both_ways (holds_in held r block)
+        (unused_holds held r block (unused registers held below r le)) has)
+  ]
+
   held_by : (xs : List (Held T)) (block : ℕ) → holds xs block ≡ true → (r : ℕ) × (holds_in xs r block ≡ true)
   held_by [] block e = absurd (cc e)
   held_by (h ∷ xs) block e = elim (or_cases (h.block == block) (holds xs block) e) [

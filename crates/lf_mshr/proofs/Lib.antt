@@ -2,7 +2,6 @@ pub mod Counts
 pub mod Bounds
 pub mod Once
 pub mod Fields
-pub mod Size
 pub mod Room
 pub mod Alike
 pub mod Marks
@@ -12,4 +11,5 @@ pub mod Release
 pub mod Indexed
 pub mod Stored
 pub mod Find
+pub mod Joined
 pub mod Rows

@@ -1,19 +1,19 @@
 -- Places in rows of entries, one row for each register, as targets come and go.
 use Rattle.std.proofs.Common.{◌≡◌, ℕ, suc, ◌+◌, ◌*◌, ◌<◌, ◌≤◌, Bool, true, false, cond, not, ◌&&◌, ◌||◌, ◌==◌, nat_le}
-use Rattle.std.proofs.Common.{nat_lt, List, [], ◌∷◌, ◌++◌, inl, inr, Option, Some, None}
+use Rattle.std.proofs.Common.{nat_lt, List, [], ◌∷◌, ◌++◌, inl, inr}
 use Rattle.std.proofs.Common.{refl, ap, ◌∙◌, arith, eq-eqb, ne_eqb, lt-ltb, ltb-true, suc-mul}
-use Rattle.std.specs.Prelude.{count_by, IfSome, IfNone}
+use Rattle.std.specs.Prelude.{count_by}
 use Rattle.std.specs.List.{list_all}
 use Rattle.std.proofs.Math.Nat.{mul-le-mul_right}
 use Rattle.std.proofs.lemmas.Bool.{cases_eq, cases_lt, and_parts, le-leb, leb-true}
-use Rattle.lf_rules.specs.Registers.{Held, holds, holds_in}
+use Rattle.lf_rules.specs.Registers.{Held, holds_in}
 use Rattle.lf_rules.specs.Sharing.{HoldsOnce}
 use Rattle.lf_mshr.specs.Bounds.{IsWithin}
 use Rattle.lf_mshr.specs.Index.{IsIndexed, are_in_rows}
 use Rattle.lf_mshr.specs.Places.{held_of, left_of, is_taken}
 use Rattle.lf_mshr.proofs.Counts.{count_cons, count_push, count_filter_le}
 use Rattle.lf_mshr.proofs.Indexed.{count_left}
-use Rattle.lf_mshr.proofs.Placed.{held-push, held-left, own-push, own-left, left-none}
+use Rattle.lf_mshr.proofs.Placed.{held-push, held-left, own-push, own-left}
 
 both : (a b : Bool) → a ≡ true → b ≡ true → (a && b) ≡ true
 both a b e f = ap (λ t. t && b) e ∙ f
@@ -115,16 +115,3 @@ module _ {T : Type 0} (entries : ℕ) where
                       omega (arith, left, kept, held))
                 ])
           ]
-
-  -- so it is where the block was looked for among the registers
-  pub rows-released : (registers used : ℕ) (blocks : List ℕ) (order : List (ℕ × Held T)) →
-      IsIndexed registers used blocks (held_of order)
-      → IsWithin registers entries (held_of order) → HoldsOnce (held_of order)
-      → (block : ℕ) (found : Option ℕ)
-      → IfSome found (λ r. (r < registers) × (holds_in (held_of order) r block ≡ true))
-      → IfNone found (holds (held_of order) block ≡ false)
-      → are_in_rows entries order ≡ true → are_in_rows entries (left_of order block) ≡ true
-  rows-released registers used blocks order index within once block None some none rows =
-      ap (are_in_rows entries) (left-none order block none) ∙ rows
-  rows-released registers used blocks order index within once block (Some at) some none rows =
-      rows-left registers used blocks order index within once at block some.0 some.1 rows

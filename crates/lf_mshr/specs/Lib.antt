@@ -5,6 +5,5 @@ pub mod Alike
 pub mod Names
 -- What serves the crate's own contracts.
 pub mod Bounds
-pub mod Size
 pub mod Places
 pub mod Index

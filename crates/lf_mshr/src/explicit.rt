@@ -1,6 +1,7 @@
 //! Explicitly addressed files: registers with entries of their own offsets.
 
 ghost use Rattle.std.specs.Prelude.{◌≡◌, ◌⊎◌, ◌*◌, ◌<◌, ◌≤◌, ◌++◌, ◌∷◌, [], count_by, ◌==◌, nat_lt, true, false, ℕ};
+ghost use Rattle.std.specs.Prelude.{IfSome, IfNone};
 ghost use Rattle.lf_rules.specs.Registers.{holds, holds_in, is_free, has_room};
 ghost use Rattle.lf_rules.specs.declared.shape.OrgShape.TheVariants as shape;
 ghost use Rattle.lf_mshr.specs.Bounds.{IsWithin};
@@ -9,10 +10,10 @@ ghost use Rattle.lf_mshr.specs.Places.{held_of};
 ghost use Rattle.lf_mshr.specs.RegisterFile.{held_item};
 
 use crate::fault::RegisterFault;
-use crate::held::Targets;
 use crate::organisation::Organisation;
 use crate::registers::Registers;
 use crate::target::Target;
+use crate::targets::Targets;
 use lf_rules::{Mask, NoMemory, OrgShape};
 use std::alloc::Global;
 use std::marker::PhantomData;
@@ -45,14 +46,16 @@ impl<T: Target> ExplicitFile<T> {
         self.registers.count(register) < self.entries
     }
 
-    /// Whether a register takes a target of the block.
-    fn has_room(&self, block: u32) -> bool
+    /// Whether a register takes a target of the block, which this register holds, or none.
+    fn has_room(&self, holder: Option<u16>, _block: u32) -> bool
+        requires some { IfSome holder (λ r. holds_in (held_of self.now.registers.places.order) r _block ≡ true) }
+        requires none { IfNone holder (holds (held_of self.now.registers.places.order) _block ≡ false) }
         ensures { (destination at : ℕ) → result ≡ has_room (shape.Explicit self.now.registers.registers
             self.now.entries)
-            self.now.destinations T.position (held_of self.now.registers.places.order) block destination at }
+            self.now.destinations T.position (held_of self.now.registers.places.order) _block destination at }
     {
-        match self.registers.find(block) {
-            Some(register) => self.has_entry(register),
+        match holder {
+            Some(register) => self.has_entry(u32::from(register)),
             None => self.registers.some_is_free(),
         }
     }
@@ -116,19 +119,20 @@ impl<T: Target> Organisation for Explicit<T> {
         })
     }
 
-    fn room(file: &ExplicitFile<T>, block: u32, _target: &T) -> bool {
-        file.has_room(block)
+    fn room(file: &ExplicitFile<T>, block: u32, target: &T) -> bool {
+        Self::room_in(file, file.registers.find(block), block, target)
     }
 
-    fn primary_fault(
+    fn room_in(file: &ExplicitFile<T>, holder: Option<u16>, block: u32, _target: &T) -> bool {
+        file.has_room(holder, block)
+    }
+
+    fn fresh_fault(
         file: &ExplicitFile<T>,
         register: u16,
-        block: u32,
+        _block: u32,
         _target: &T,
     ) -> Option<RegisterFault> {
-        if file.registers.holds(block) {
-            return Some(RegisterFault::InFlight);
-        }
         if u32::from(register) >= file.registers.registers {
             return Some(RegisterFault::Range);
         }
@@ -161,12 +165,41 @@ impl<T: Target> Organisation for Explicit<T> {
         Some(RegisterFault::Wrong)
     }
 
+    fn merge_fault_in(
+        file: &ExplicitFile<T>,
+        holder: Option<u16>,
+        register: u16,
+        _block: u32,
+        _target: &T,
+    ) -> Option<RegisterFault> {
+        let Some(holder) = holder else {
+            return Some(RegisterFault::NotInFlight);
+        };
+        if register != holder {
+            if u32::from(register) >= file.registers.registers {
+                return Some(RegisterFault::Range);
+            }
+            return Some(RegisterFault::Wrong);
+        }
+        if !file.has_entry(u32::from(register)) {
+            return Some(RegisterFault::Full);
+        }
+        None
+    }
+
     fn place(file: &mut ExplicitFile<T>, register: u16, block: u32, target: T) {
         file.append(register, block, target);
     }
 
     fn release_into(file: &mut ExplicitFile<T>, block: u32, targets: &mut Targets<T>) {
-        file.registers.release_into(block, targets);
+        match file.registers.find(block) {
+            Some(holder) => Self::release_of(file, holder, block, targets),
+            None => targets.clear(),
+        }
+    }
+
+    fn release_of(file: &mut ExplicitFile<T>, holder: u16, block: u32, targets: &mut Targets<T>) {
+        file.registers.release_of(holder, block, targets);
     }
 
     fn store_bytes(file: &ExplicitFile<T>, block: u32) -> Mask {

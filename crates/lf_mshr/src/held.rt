@@ -4,11 +4,7 @@ ghost use Rattle.std.specs.Prelude.{◌≡◌};
 ghost use Rattle.lf_mshr.specs.RegisterFile.{store_mask};
 
 use crate::target::Target;
-use arrayvec::ArrayVec;
 use std::marker::Model;
-
-/// The targets of a block, each with the register that held it, in the order of acceptance.
-pub type Targets<T> = ArrayVec<(u16, T), 1024>;
 
 /// A register's block, and one target of it.
 #[derive(Clone, Copy, Drop)]

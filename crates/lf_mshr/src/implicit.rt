@@ -1,6 +1,7 @@
 //! Implicitly addressed files: registers with a field for each position in a block.
 
 ghost use Rattle.std.specs.Prelude.{◌≡◌, ◌⊎◌, ◌+◌, ◌*◌, ◌<◌, ◌≤◌, ◌++◌, ◌∷◌, [], ◌==◌, true, false, ℕ};
+ghost use Rattle.std.specs.Prelude.{IfSome, IfNone};
 ghost use Rattle.std.specs.List.{list_all};
 ghost use Rattle.lf_rules.specs.Registers.{holds, holds_in, is_free, takes, has_room};
 ghost use Rattle.lf_rules.specs.declared.shape.OrgShape.TheVariants as shape;
@@ -8,10 +9,10 @@ ghost use Rattle.lf_mshr.specs.Places.{held_of};
 ghost use Rattle.lf_mshr.specs.RegisterFile.{held_item};
 
 use crate::fault::RegisterFault;
-use crate::held::Targets;
 use crate::organisation::Organisation;
 use crate::registers::Registers;
 use crate::target::Target;
+use crate::targets::Targets;
 use lf_rules::{Mask, NoMemory, OrgShape};
 use std::alloc::Global;
 use std::marker::PhantomData;
@@ -45,14 +46,16 @@ impl<T: Target> ImplicitFile<T> {
         !self.registers.places.is_taken(place)
     }
 
-    /// Whether a register takes a target of the block at this position.
-    fn has_room(&self, block: u32, at: u8) -> bool
-        requires { at < 8 }
+    /// Whether a register takes a target at this position of the block, which this register holds, or none.
+    fn has_room(&self, holder: Option<u16>, _block: u32, at: u8) -> bool
+        requires eight { at < 8 }
+        requires some { IfSome holder (λ r. holds_in (held_of self.now.registers.places.order) r _block ≡ true) }
+        requires none { IfNone holder (holds (held_of self.now.registers.places.order) _block ≡ false) }
         ensures { (destination : ℕ) → result ≡ has_room (shape.Implicit self.now.registers.registers)
-            self.now.destinations T.position (held_of self.now.registers.places.order) block destination at }
+            self.now.destinations T.position (held_of self.now.registers.places.order) _block destination at }
     {
-        match self.registers.find(block) {
-            Some(register) => self.has_field(register, at),
+        match holder {
+            Some(register) => self.has_field(u32::from(register), at),
             None => self.registers.some_is_free(),
         }
     }
@@ -114,18 +117,19 @@ impl<T: Target> Organisation for Implicit<T> {
     }
 
     fn room(file: &ImplicitFile<T>, block: u32, target: &T) -> bool {
-        file.has_room(block, target.position())
+        Self::room_in(file, file.registers.find(block), block, target)
     }
 
-    fn primary_fault(
+    fn room_in(file: &ImplicitFile<T>, holder: Option<u16>, block: u32, target: &T) -> bool {
+        file.has_room(holder, block, target.position())
+    }
+
+    fn fresh_fault(
         file: &ImplicitFile<T>,
         register: u16,
-        block: u32,
+        _block: u32,
         _target: &T,
     ) -> Option<RegisterFault> {
-        if file.registers.holds(block) {
-            return Some(RegisterFault::InFlight);
-        }
         if u32::from(register) >= file.registers.registers {
             return Some(RegisterFault::Range);
         }
@@ -158,12 +162,41 @@ impl<T: Target> Organisation for Implicit<T> {
         Some(RegisterFault::Wrong)
     }
 
+    fn merge_fault_in(
+        file: &ImplicitFile<T>,
+        holder: Option<u16>,
+        register: u16,
+        _block: u32,
+        target: &T,
+    ) -> Option<RegisterFault> {
+        let Some(holder) = holder else {
+            return Some(RegisterFault::NotInFlight);
+        };
+        if register != holder {
+            if u32::from(register) >= file.registers.registers {
+                return Some(RegisterFault::Range);
+            }
+            return Some(RegisterFault::Wrong);
+        }
+        if !file.has_field(u32::from(register), target.position()) {
+            return Some(RegisterFault::Full);
+        }
+        None
+    }
+
     fn place(file: &mut ImplicitFile<T>, register: u16, block: u32, target: T) {
         file.append(register, block, target);
     }
 
     fn release_into(file: &mut ImplicitFile<T>, block: u32, targets: &mut Targets<T>) {
-        file.registers.release_into(block, targets);
+        match file.registers.find(block) {
+            Some(holder) => Self::release_of(file, holder, block, targets),
+            None => targets.clear(),
+        }
+    }
+
+    fn release_of(file: &mut ImplicitFile<T>, holder: u16, block: u32, targets: &mut Targets<T>) {
+        file.registers.release_of(holder, block, targets);
     }
 
     fn store_bytes(file: &ImplicitFile<T>, block: u32) -> Mask {

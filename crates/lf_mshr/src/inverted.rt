@@ -7,10 +7,11 @@ ghost use Rattle.lf_mshr.specs.RegisterFile.{held_item};
 ghost use Rattle.lf_mshr.specs.Places.{held_of};
 
 use crate::fault::RegisterFault;
-use crate::held::{Held, Targets};
+use crate::held::Held;
 use crate::organisation::Organisation;
 use crate::places::Places;
 use crate::target::Target;
+use crate::targets::Targets;
 use lf_rules::{Mask, NoMemory, OrgShape};
 use std::alloc::Global;
 use std::marker::PhantomData;
@@ -90,15 +91,16 @@ impl<T: Target> Organisation for Inverted<T> {
         destination < file.destinations && file.is_free(destination)
     }
 
-    fn primary_fault(
+    fn room_in(file: &InvertedFile<T>, _holder: Option<u16>, block: u32, target: &T) -> bool {
+        Self::room(file, block, target)
+    }
+
+    fn fresh_fault(
         file: &InvertedFile<T>,
         register: u16,
-        block: u32,
+        _block: u32,
         target: &T,
     ) -> Option<RegisterFault> {
-        if file.places.holds(block) {
-            return Some(RegisterFault::InFlight);
-        }
         if register >= file.destinations {
             return Some(RegisterFault::Range);
         }
@@ -132,6 +134,28 @@ impl<T: Target> Organisation for Inverted<T> {
         None
     }
 
+    fn merge_fault_in(
+        file: &InvertedFile<T>,
+        holder: Option<u16>,
+        register: u16,
+        _block: u32,
+        target: &T,
+    ) -> Option<RegisterFault> {
+        if holder.is_none() {
+            return Some(RegisterFault::NotInFlight);
+        }
+        if register >= file.destinations {
+            return Some(RegisterFault::Range);
+        }
+        if register != target.destination() {
+            return Some(RegisterFault::Wrong);
+        }
+        if !file.is_free(register) {
+            return Some(RegisterFault::Full);
+        }
+        None
+    }
+
     fn place(file: &mut InvertedFile<T>, register: u16, block: u32, target: T) {
         file.append(register, block, target);
     }
@@ -139,6 +163,10 @@ impl<T: Target> Organisation for Inverted<T> {
     fn release_into(file: &mut InvertedFile<T>, block: u32, targets: &mut Targets<T>) {
         let all = file.places.count();
         file.places.release_into(block, all, targets);
+    }
+
+    fn release_of(file: &mut InvertedFile<T>, _holder: u16, block: u32, targets: &mut Targets<T>) {
+        Self::release_into(file, block, targets);
     }
 
     fn store_bytes(file: &InvertedFile<T>, block: u32) -> Mask {

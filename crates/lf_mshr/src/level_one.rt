@@ -33,7 +33,6 @@ impl Default for Request1 {
 }
 
 impl Target for Request1 {
-    ghost use Rattle.std.proofs.Common.{lit≤};
     ghost use Rattle.std.specs.Prelude.{false};
 
     ghost position = { λ r. r.position };
@@ -45,8 +44,6 @@ impl Target for Request1 {
     ghost bytes = { λ r. r.bytes };
 
     ghost below_eight = { λ r. r.eight };
-
-    ghost small = { (lit≤ tt, lit≤ tt) };
 
     fn position(&self) -> u8 {
         self.position

@@ -25,7 +25,6 @@ impl Default for Request2 {
 }
 
 impl Target for Request2 {
-    ghost use Rattle.std.proofs.Common.{lit≤};
     ghost use Rattle.std.specs.Prelude.{false};
 
     ghost position = { λ r. r.position };
@@ -37,8 +36,6 @@ impl Target for Request2 {
     ghost bytes = { λ r. record { 0 = 0 } };
 
     ghost below_eight = { λ r. r.eight };
-
-    ghost small = { (lit≤ tt, lit≤ tt) };
 
     fn position(&self) -> u8 {
         self.position

@@ -16,11 +16,11 @@ mod organisation;
 mod places;
 mod registers;
 mod target;
+mod targets;
 mod words;
 
 pub use explicit::{Explicit, ExplicitFile};
 pub use fault::RegisterFault;
-pub use held::Targets;
 pub use implicit::{Implicit, ImplicitFile};
 pub use inverted::{Inverted, InvertedFile};
 pub use level_one::Request1;
@@ -28,3 +28,4 @@ pub use level_two::Request2;
 pub use lf_rules::NoMemory;
 pub use organisation::Organisation;
 pub use target::Target;
+pub use targets::Targets;

@@ -1,9 +1,10 @@
 //! How the registers of a file name what they hold.
 
 ghost use Rattle.std.specs.Prelude.{◌≡◌, Bool, true, false, ◌≤◌, ◌↔◌, IsTrue, IfOk, OnOk, OnErr, map};
+ghost use Rattle.std.specs.Prelude.{IfSome, IfNone};
 ghost use Rattle.lf_rules.specs.Clauses.{OfBank};
 ghost use Rattle.lf_rules.specs.InRange.{IsOrganisation};
-ghost use Rattle.lf_rules.specs.Registers.{holds, shares, targets_of};
+ghost use Rattle.lf_rules.specs.Registers.{holds, holds_in, shares, targets_of};
 ghost use Rattle.lf_rules.specs.Run.{first_failing};
 ghost use Rattle.lf_rules.specs.Sharing.{HoldsOnce};
 ghost use Rattle.lf_rules.specs.declared.shape.OrgShape.{OrgShape};
@@ -13,8 +14,8 @@ ghost use Rattle.lf_mshr.specs.RegisterFile.{store_bytes};
 ghost use Rattle.lf_mshr.specs.RegisterFile.{primary_wants, merge_wants, has_room_for, TakesTarget, SomeTakes};
 
 use crate::fault::RegisterFault;
-use crate::held::Targets;
 use crate::target::Target;
+use crate::targets::Targets;
 use lf_rules::{Mask, NoMemory, OrgShape};
 use std::alloc::Global;
 
@@ -61,6 +62,16 @@ pub trait Organisation {
         ensures exact { IsTrue result ↔ SomeTakes Self.Target.position Self.Target.destination (seen file.now) block
             target.now };
 
+    /// Whether some register takes the target, as `room`, where the register that holds the block is known, or
+    /// that none holds it. The block is not looked up. Where several hold it, this may be any of them.
+    fn room_in(file: &Self::File, holder: Option<u16>, block: u32, target: &Self::Target) -> bool
+        requires some { IfSome holder (λ r. holds_in (seen file.now).held r block ≡ true) }
+        requires none { IfNone holder (holds (seen file.now).held block ≡ false) }
+        ensures value { result ≡ has_room_for Self.Target.position Self.Target.destination (seen file.now) block
+            target.now }
+        ensures exact { IsTrue result ↔ SomeTakes Self.Target.position Self.Target.destination (seen file.now) block
+            target.now };
+
     /// Why the register does not take the target of a primary miss to the block, if it does not: the
     /// first cause of `InFlight`, `Range`, `Wrong` and `Busy`.
     fn primary_fault(
@@ -69,6 +80,25 @@ pub trait Organisation {
         block: u32,
         target: &Self::Target,
     ) -> Option<RegisterFault>
+        ensures { broken_rule result
+            ≡ first_failing OfBank (primary_wants Self.Target.position Self.Target.destination (seen file.now)
+            register block target.now) }
+    {
+        if Self::holds(file, block) {
+            return Some(RegisterFault::InFlight);
+        }
+        Self::fresh_fault(file, register, block, target)
+    }
+
+    /// Why the register does not take the target of a primary miss, as `primary_fault`, to a block that no
+    /// register holds: the first cause of `Range`, `Wrong` and `Busy`. The block is not looked up.
+    fn fresh_fault(
+        file: &Self::File,
+        register: u16,
+        block: u32,
+        target: &Self::Target,
+    ) -> Option<RegisterFault>
+        requires { holds (seen file.now).held block ≡ false }
         ensures { broken_rule result
             ≡ first_failing OfBank (primary_wants Self.Target.position Self.Target.destination (seen file.now)
             register block target.now) };
@@ -81,6 +111,22 @@ pub trait Organisation {
         block: u32,
         target: &Self::Target,
     ) -> Option<RegisterFault>
+        ensures { broken_rule result
+            ≡ first_failing OfBank (merge_wants Self.Target.position Self.Target.destination (seen file.now) register
+            block target.now) };
+
+    /// Why the register does not take the target of a further miss to the block, as `merge_fault`, where the
+    /// register that holds the block is known, or that none holds it. The block is not looked up. Where several
+    /// hold it, this may be any of them.
+    fn merge_fault_in(
+        file: &Self::File,
+        holder: Option<u16>,
+        register: u16,
+        block: u32,
+        target: &Self::Target,
+    ) -> Option<RegisterFault>
+        requires some { IfSome holder (λ r. holds_in (seen file.now).held r block ≡ true) }
+        requires none { IfNone holder (holds (seen file.now).held block ≡ false) }
         ensures { broken_rule result
             ≡ first_failing OfBank (merge_wants Self.Target.position Self.Target.destination (seen file.now) register
             block target.now) };
@@ -138,18 +184,20 @@ pub trait Organisation {
     /// Takes out every target of the block, each once, in the order of acceptance. The others stay. The
     /// list gets them in place of what it had, so that it can be used again.
     fn release_into(file: &mut Self::File, block: u32, targets: &mut Targets<Self::Target>)
-        ensures targets { targets.new.items ≡ map released_pair (targets_of (seen file.old).held block) }
+        ensures targets { targets.new ≡ map released_pair (targets_of (seen file.old).held block) }
         ensures others { seen file.new ≡ without_block (seen file.old) block };
 
-    /// Takes out every target of the block as `release_into`, and gives them in a new list.
-    fn release(file: &mut Self::File, block: u32) -> Targets<Self::Target>
-        ensures targets { result.items ≡ map released_pair (targets_of (seen file.old).held block) }
-        ensures others { seen file.new ≡ without_block (seen file.old) block }
-    {
-        let mut targets = Targets::new();
-        Self::release_into(file, block, &mut targets);
-        targets
-    }
+    /// Takes out every target of the block, which this register holds, as `release_into`. The block is not looked
+    /// up. Where several hold it, this may be any of them.
+    fn release_of(
+        file: &mut Self::File,
+        holder: u16,
+        block: u32,
+        targets: &mut Targets<Self::Target>,
+    )
+        requires { holds_in (seen file.old).held holder block ≡ true }
+        ensures targets { targets.new ≡ map released_pair (targets_of (seen file.old).held block) }
+        ensures others { seen file.new ≡ without_block (seen file.old) block };
 
     /// The bytes that the block's waiting stores write.
     fn store_bytes(file: &Self::File, block: u32) -> Mask

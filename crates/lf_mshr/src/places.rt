@@ -7,8 +7,9 @@ ghost use Rattle.lf_rules.specs.Registers.{holds, targets_of};
 ghost use Rattle.lf_mshr.specs.Places.{no_places, held_of, left_of, is_taken};
 ghost use Rattle.lf_mshr.specs.RegisterFile.{released_pair, store_mask};
 
-use crate::held::{Held, Targets, store_mask};
+use crate::held::{Held, store_mask};
 use crate::target::Target;
+use crate::targets::Targets;
 use crate::words::{is_marked, mark, unmark};
 use lf_rules::{Mask, NoMemory};
 use std::alloc::Global;
@@ -131,7 +132,7 @@ impl<T: Target> Places<T> {
     /// had. The other places keep their order.
     pub fn release_into(&mut self, block: u32, most: usize, targets: &mut Targets<T>)
         requires { length (targets_of (held_of self.old.order) block) ≤ most }
-        ensures targets { targets.new.items ≡ map released_pair (targets_of (held_of self.old.order) block) }
+        ensures targets { targets.new ≡ map released_pair (targets_of (held_of self.old.order) block) }
         ensures order { self.new.order ≡ left_of self.old.order block }
         ensures places { self.new.places ≡ self.old.places }
     {
@@ -144,7 +145,7 @@ impl<T: Target> Places<T> {
             at = self.next[usize::from(at)];
             let item = self.items[usize::from(at)];
             if item.block == block {
-                targets.push((item.register, item.target));
+                targets.push(item.register, item.target);
                 unmark(&mut self.used, at);
             } else {
                 self.next[usize::from(last)] = at;

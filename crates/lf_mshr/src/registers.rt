@@ -12,9 +12,10 @@ ghost use Rattle.lf_mshr.specs.Index.{IsIndexed, IsCounted, IsStored, stored_byt
 ghost use Rattle.lf_mshr.specs.Places.{held_of, left_of, is_taken, no_places};
 ghost use Rattle.lf_mshr.specs.RegisterFile.{held_item, released_pair};
 
-use crate::held::{Held, Targets, store_mask};
+use crate::held::{Held, store_mask};
 use crate::places::Places;
 use crate::target::Target;
+use crate::targets::Targets;
 use crate::words::{has_bit, marks_of, reach};
 use lf_rules::{Mask, NoMemory};
 use std::alloc::Global;
@@ -91,7 +92,7 @@ impl<T: Target> Registers<T> {
     }
 
     /// The register that holds the block.
-    pub fn find(&self, block: u32) -> Option<u32>
+    pub fn find(&self, block: u32) -> Option<u16>
         ensures some { IfSome result (λ r. (r < self.now.registers) ×
             (holds_in (held_of self.now.places.order) r block ≡ true)) }
         ensures none { IfNone result (holds (held_of self.now.places.order) block ≡ false) }
@@ -101,7 +102,7 @@ impl<T: Target> Registers<T> {
         if holding == 0 {
             return None;
         }
-        Some(holding.trailing_zeros())
+        Some(holding.trailing_zeros() as u16)
     }
 
     /// Whether a register holds the block.
@@ -116,7 +117,7 @@ impl<T: Target> Registers<T> {
         ensures { result.0 ≡ stored_bytes T.is_store T.bytes (targets_of (held_of self.now.places.order) block) }
     {
         match self.find(block) {
-            Some(register) => Mask(self.stores[register as usize]),
+            Some(register) => Mask(self.stores[usize::from(register)]),
             None => Mask(0),
         }
     }
@@ -147,25 +148,19 @@ impl<T: Target> Registers<T> {
         self.stores[usize::from(register)] |= written;
     }
 
-    /// Moves the targets of the block into a list, in place of what it had, and gives its register.
-    pub fn release_into(&mut self, block: u32, targets: &mut Targets<T>) -> Option<u32>
-        ensures some { IfSome result (λ r. (r < self.old.registers) ×
-            (holds_in (held_of self.old.places.order) r block ≡ true)) }
-        ensures none { IfNone result (holds (held_of self.old.places.order) block ≡ false) }
-        ensures targets { targets.new.items ≡ map released_pair (targets_of (held_of self.old.places.order) block) }
+    /// Moves the targets of the block, which this register holds, into a list, in place of what it had.
+    pub fn release_of(&mut self, register: u16, block: u32, targets: &mut Targets<T>)
+        requires exists { register < self.old.registers }
+        requires holding { holds_in (held_of self.old.places.order) register block ≡ true }
+        ensures targets { targets.new ≡ map released_pair (targets_of (held_of self.old.places.order) block) }
         ensures order { self.new.places.order ≡ left_of self.old.places.order block }
         ensures places { self.new.places.places ≡ self.old.places.places }
         ensures registers { self.new.registers ≡ self.old.registers }
     {
-        let Some(register) = self.find(block) else {
-            targets.clear();
-            return None;
-        };
-        let count = self.counts[register as usize];
+        let count = self.counts[usize::from(register)];
         self.used &= !(1 << register);
-        self.counts[register as usize] = 0;
-        self.stores[register as usize] = 0;
+        self.counts[usize::from(register)] = 0;
+        self.stores[usize::from(register)] = 0;
         self.places.release_into(block, count as usize, targets);
-        Some(register)
     }
 }

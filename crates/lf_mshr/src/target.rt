@@ -7,7 +7,6 @@ use lf_rules::Mask;
 /// A request that waits in a register.
 pub trait Target: Copy + Default + Drop {
     ghost use Rattle.lf_rules.specs.declared.mask.Mask.{Mask};
-    ghost use Rattle.lf_mshr.specs.Size.{IsSmall};
 
     ghost position: { Self → ℕ };
 
@@ -37,7 +36,4 @@ pub trait Target: Copy + Default + Drop {
 
     // every value has one of eight positions
     ghost below_eight: { (target : Self) → position target < 8 };
-
-    // a list of 1,024 targets fits in memory
-    ghost small: { IsSmall Self.row };
 }

@@ -1,18 +1,26 @@
-use Rattle.std.proofs.Common.{◌==◌, nat_lt, ◌∙◌}
+use Rattle.std.proofs.Common.{◌≡◌, true, ◌==◌, nat_lt, ◌∙◌}
 use Rattle.std.specs.Prelude.{count_by}
 use Rattle.std.specs.List.{list_any, range_with_len}
-use Rattle.lf_rules.specs.Registers.{is_free}
+use Rattle.lf_rules.specs.Registers.{is_free, holds_in}
 use Rattle.lf_mshr.specs.Places.{held_of}
-use Rattle.lf_mshr.proofs.Indexed.{room-found}
+use Rattle.lf_mshr.proofs.Indexed.{room-found, holding-below}
 use Rattle.lf_mshr.proofs.explicit.ExplicitFile.has_room.Goals as goal
+
+pub has_entry-requires : goal.has_entry-requires
+has_entry-requires g c =
+    let registers = c.args.self.now.registers in
+    let held = held_of registers.places.order in
+    let has : holds_in held c.in-Some.register c.args._block ≡ true = rw c.in-Some.is at c.requires.some in
+    rw c.from.ensures (holding-below registers.registers held registers.below c.in-Some.register c.args._block has)
 
 pub returns-in-Some : goal.returns-in-Some
 returns-in-Some g c = λ destination at.
     let file = c.args.self.now in
     let registers = file.registers in
     let held = held_of registers.places.order in
-    c.has_entry.ensures
-    ∙ room-found registers.registers held registers.once c.args.block c.in-Some.register c.in-Some.ensures.some.0
-    c.in-Some.ensures.some.1
+    let has : holds_in held c.in-Some.register c.args._block ≡ true = rw c.in-Some.is at c.requires.some in
+    let left = rw c.from.ensures at c.has_entry.ensures in
+    left ∙ room-found registers.registers held registers.once c.args._block c.in-Some.register
+    (holding-below registers.registers held registers.below c.in-Some.register c.args._block has) has
     (λ r. nat_lt (count_by (λ h. h.register == r) held) file.entries)
     (list_any (is_free held) (range_with_len 0 registers.registers))

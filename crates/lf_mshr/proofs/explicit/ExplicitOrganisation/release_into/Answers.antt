@@ -1,36 +1,18 @@
-use Rattle.std.proofs.Common.{◌≡◌, ◌*◌, ◌≤◌, ◌==◌, not, ◌∙◌, sym, ap, subst}
-use Rattle.lf_rules.specs.Registers.{released}
-use Rattle.lf_mshr.specs.Index.{are_in_rows}
+use Rattle.std.proofs.Common.{sym, ap, map, ◌∙◌}
+use Rattle.lf_mshr.specs.RegisterFile.{explicit_file, released_pair}
 use Rattle.lf_mshr.specs.Places.{held_of}
-use Rattle.lf_mshr.specs.RegisterFile.{explicit_file}
-use Rattle.lf_mshr.proofs.Bounds.{IsWithin-filter}
-use Rattle.lf_mshr.proofs.Placed.{held-left}
-use Rattle.lf_mshr.proofs.Rows.{rows-released}
+use Rattle.lf_mshr.proofs.Indexed.{targets-none}
+use Rattle.lf_mshr.proofs.Placed.{held-left, left-none}
 use Rattle.lf_mshr.proofs.explicit.ExplicitOrganisation.release_into.Goals as goal
 
-pub invariant_of-file : goal.invariant_of-file
-invariant_of-file g c =
-    let file = c.args.file.now in
-    let r = file.registers in
-    let order = r.places.order in
-    let same : held_of c.release_into.new.self.places.order ≡ released (held_of order) c.args.block =
-    ap held_of c.release_into.ensures.order ∙ held-left order c.args.block in
-    record {
-      all = c.release_into.ensures.places ∙ file.all ∙ ap (λ n. n * file.entries)
-          (sym c.release_into.ensures.registers);
-      within = rw (c.release_into.ensures.registers, same) (IsWithin-filter file.within
-          (λ h. not (h.block == c.args.block)));
-      rows = ap (are_in_rows file.entries) c.release_into.ensures.order
-          ∙ rows-released file.entries r.registers r.used r.blocks.items order r.index file.within r.once
-          c.args.block c.release_into.result c.release_into.ensures.some c.release_into.ensures.none file.rows;
-      some_entry = file.some_entry;
-      limit = subst (λ n. n * file.entries ≤ 1024) (sym c.release_into.ensures.registers) file.limit;
-    }
+pub returns-in-None-clause-targets : goal.returns-in-None-clause-targets
+returns-in-None-clause-targets g c =
+    let held = held_of c.args.file.now.registers.places.order in
+    c.clear.ensures ∙ sym (ap (map released_pair) (targets-none held c.args.block c.in-None.ensures.none))
 
-pub returns-clause-others : goal.returns-clause-others
-returns-clause-others g c =
+pub returns-in-None-clause-others : goal.returns-in-None-clause-others
+returns-in-None-clause-others g c =
     let file = c.args.file.now in
-    ap (λ n. explicit_file n file.entries file.destinations (held_of c.release_into.new.self.places.order))
-    c.release_into.ensures.registers
-    ∙ ap (explicit_file file.registers.registers file.entries file.destinations)
-    (ap held_of c.release_into.ensures.order ∙ held-left file.registers.places.order c.args.block)
+    let order = file.registers.places.order in
+    ap (explicit_file file.registers.registers file.entries file.destinations)
+    (sym (ap held_of (left-none order c.args.block c.in-None.ensures.none)) ∙ held-left order c.args.block)

@@ -1,25 +1,18 @@
-use Rattle.std.proofs.Common.{◌==◌, ◌+◌, ◌*◌, ◌≤◌, ◌∙◌, sym, ap, subst}
-use Rattle.std.specs.List.{list_all}
-use Rattle.lf_mshr.specs.RegisterFile.{implicit_file}
+use Rattle.std.proofs.Common.{sym, ap, map, ◌∙◌}
+use Rattle.lf_mshr.specs.RegisterFile.{implicit_file, released_pair}
 use Rattle.lf_mshr.specs.Places.{held_of}
-use Rattle.lf_mshr.proofs.Placed.{held-left, own-left}
+use Rattle.lf_mshr.proofs.Indexed.{targets-none}
+use Rattle.lf_mshr.proofs.Placed.{held-left, left-none}
 use Rattle.lf_mshr.proofs.implicit.ImplicitOrganisation.release_into.Goals as goal
 
-pub invariant_of-file : goal.invariant_of-file
-invariant_of-file g c =
-    let file = c.args.file.now in
-    record {
-      all = c.release_into.ensures.places ∙ file.all ∙ ap (λ n. n * 8) (sym c.release_into.ensures.registers);
-      own = ap (list_all (λ q. q.0 == q.1.register * 8 + g.T.Target.position q.1.target)) c.release_into.ensures.order
-          ∙ own-left (λ q. q.0 == q.1.register * 8 + g.T.Target.position q.1.target) file.registers.places.order
-          c.args.block file.own;
-      limit = subst (λ n. n ≤ 64) (sym c.release_into.ensures.registers) file.limit;
-    }
+pub returns-in-None-clause-targets : goal.returns-in-None-clause-targets
+returns-in-None-clause-targets g c =
+    let held = held_of c.args.file.now.registers.places.order in
+    c.clear.ensures ∙ sym (ap (map released_pair) (targets-none held c.args.block c.in-None.ensures.none))
 
-pub returns-clause-others : goal.returns-clause-others
-returns-clause-others g c =
+pub returns-in-None-clause-others : goal.returns-in-None-clause-others
+returns-in-None-clause-others g c =
     let file = c.args.file.now in
-    ap (λ n. implicit_file n file.destinations (held_of c.release_into.new.self.places.order))
-    c.release_into.ensures.registers
-    ∙ ap (implicit_file file.registers.registers file.destinations)
-    (ap held_of c.release_into.ensures.order ∙ held-left file.registers.places.order c.args.block)
+    let order = file.registers.places.order in
+    ap (implicit_file file.registers.registers file.destinations)
+    (sym (ap held_of (left-none order c.args.block c.in-None.ensures.none)) ∙ held-left order c.args.block)

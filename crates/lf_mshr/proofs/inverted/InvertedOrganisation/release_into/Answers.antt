@@ -5,7 +5,6 @@ use Rattle.std.specs.List.{list_all}
 use Rattle.lf_mshr.specs.RegisterFile.{inverted_file}
 use Rattle.lf_mshr.specs.Places.{held_of}
 use Rattle.lf_mshr.proofs.Placed.{held-left, own-left}
-use Rattle.lf_mshr.proofs.Size.{targets_fit}
 use Rattle.lf_mshr.proofs.inverted.InvertedOrganisation.release_into.Goals as goal
 
 pub invariant_of-file : goal.invariant_of-file
@@ -26,9 +25,8 @@ returns-clause-others g c =
 pub release_into-requires : goal.release_into-requires
 release_into-requires g c =
     let order = c.args.file.now.places.order in
-    let small = g.met.T.Target.small in
     let some = length-filter (λ h. h.block == c.args.block) (held_of order) in
     let most = count_by-le-length (λ h. h.block == c.args.block) (held_of order) in
     let all = length-map order (λ q. q.1) in
     let count = c.count-all.ensures in
-    (targets_fit _ _ _ small.1 small.1 small.0, omega (arith, some, most, all, count))
+    omega (arith, some, most, all, count)

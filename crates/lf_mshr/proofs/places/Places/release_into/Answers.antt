@@ -37,7 +37,7 @@ index-item-requires g c =
     c.index-at.ensures ∙ ap (λ i. get_or next i c.index-at.result.now) c.from.ensures
     ∙ get_or_default next l.at c.index-at.result.now 0 (omega (arith, links, low)) in
     let lt = come-lt was.items.items was.next.items was.len
-    (length was.used.items) c.args.block next used l.targets.items was.end l.last l.kept l.at l.left
+    (length was.used.items) c.args.block next used l.targets was.end l.last l.kept l.at l.left
     l.invariant.releasing long c.loop-left-test.true in
     rw (c.from-in-loop-left.ensures, at_is, l.invariant.items) (omega (arith, lt, long))
 
@@ -54,7 +54,7 @@ unmark-requires g c =
     c.index-at.ensures ∙ ap (λ i. get_or next i c.index-at.result.now) c.from.ensures
     ∙ get_or_default next l.at c.index-at.result.now 0 (omega (arith, links, low)) in
     let lt = come-lt was.items.items was.next.items was.len
-    (length was.used.items) c.args.block next used l.targets.items was.end l.last l.kept l.at l.left
+    (length was.used.items) c.args.block next used l.targets was.end l.last l.kept l.at l.left
     l.invariant.releasing long c.loop-left-test.true in
     let size : length c.deref_mut.result.now ≡ length was.used.items =
     ap (λ (ws : List ℕ). length ws) c.deref_mut.ensures.value ∙ l.invariant.releasing.parted.words in
@@ -95,7 +95,7 @@ loop-left-preserved g c =
           let bits = subst (λ k. (b : ℕ) → is_marked w.unmark.new.words b ≡ (not (b == k) && is_marked used b)) at_is
           (subst (λ (ws : List ℕ). (b : ℕ) → is_marked w.unmark.new.words b
           ≡ (not (b == c.index-at.result.now) && is_marked ws b)) value w.unmark.ensures.bits) in
-          let pushed = w.push.ensures.items ∙ ap (λ h. l.targets.items ++ released_pair h ∷ []) seen in
+          let pushed = w.push.ensures ∙ ap (λ h. l.targets ++ released_pair h ∷ []) seen in
           let same = sym (ap (λ (h : Held _). h.block) seen) ∙ w.if-item-block.true in
           rw (w.targets-is, w.kept-is, w.last-is, w.self-inside-is) (record {
             releasing = rw (
@@ -104,7 +104,7 @@ loop-left-preserved g c =
               at_is,
             )
                 (releasing-drop was.items.items was.next.items was.len
-                (length was.used.items) c.args.block next used l.targets.items was.end l.last l.kept l.at l.left
+                (length was.used.items) c.args.block next used l.targets was.end l.last l.kept l.at l.left
                 l.invariant.releasing long c.loop-left-test.true
                 c.index-item.result.now same w.unmark.new.words size bits);
             items = l.invariant.items;
@@ -117,7 +117,7 @@ loop-left-preserved g c =
           rw (w.targets-is, w.kept-is, w.last-is, w.self-inside-is) (record {
             releasing = rw (w.from-else-item-block.ensures, at_is)
                 (releasing-keep was.items.items was.next.items was.len
-                (length was.used.items) c.args.block next used l.targets.items was.end l.last l.kept l.at l.left
+                (length was.used.items) c.args.block next used l.targets was.end l.last l.kept l.at l.left
                 l.invariant.releasing long c.loop-left-test.true
                 c.index-item.result.now other);
             items = l.invariant.items;
@@ -141,13 +141,13 @@ returns-clause-order g c =
     let l = c.loop-left in
     let links = l.invariant.releasing.parted.links in
     let low = l.invariant.releasing.low in
-    let done : (l.left ≡ 0) ⊎ (c.args.most ≤ length l.targets.items) = elim c.loop-left-test.branch [
+    let done : (l.left ≡ 0) ⊎ (c.args.most ≤ length l.targets) = elim c.loop-left-test.branch [
       | then-loop-left-test+else-len-most w ↦ inr (let long = w.len.ensures in omega (arith, long, w.if-len-most.false))
       | else-loop-left-test w ↦ inl (omega (arith, w.loop-left-test.false))
     ] in
     let most = rw (← c.self.view_is) at c.requires in
     let none = none-behind was.items.items was.next.items was.len (length was.used.items) c.args.block
-    l.self-inside.next.items l.self-inside.used.items l.targets.items was.end l.last l.kept l.at l.left
+    l.self-inside.next.items l.self-inside.used.items l.targets was.end l.last l.kept l.at l.left
     l.invariant.releasing c.self.invariant.long c.args.most most done in
     elim c.if-left-gt0.branch [
       | then-left-gt0 w ↦
@@ -163,13 +163,13 @@ returns-clause-order g c =
             ← c.self.view_is,
           )
           (sym (closed was.items.items was.next.items was.len (length was.used.items) c.args.block
-          l.self-inside.next.items l.self-inside.used.items l.targets.items was.end l.last l.kept l.at l.left
+          l.self-inside.next.items l.self-inside.used.items l.targets was.end l.last l.kept l.at l.left
           l.invariant.releasing c.self.invariant.long none
           w.if-left-gt0.true c.self.invariant.few c.self.invariant.words).1)
       | else-left-gt0 w ↦
           rw (w.self-inside-is, l.invariant.items, l.invariant.end, ← c.self.view_is)
           (sym (ended was.items.items was.next.items was.len (length was.used.items) c.args.block
-          l.self-inside.next.items l.self-inside.used.items l.targets.items was.end l.last l.kept l.at l.left
+          l.self-inside.next.items l.self-inside.used.items l.targets was.end l.last l.kept l.at l.left
           l.invariant.releasing c.self.invariant.long none
           (omega (arith, w.if-left-gt0.false)) c.self.invariant.few c.self.invariant.words).1)
     ]
@@ -178,17 +178,17 @@ pub returns-clause-targets : goal.returns-clause-targets
 returns-clause-targets g c =
     let was = c.self.inside in
     let l = c.loop-left in
-    let done : (l.left ≡ 0) ⊎ (c.args.most ≤ length l.targets.items) = elim c.loop-left-test.branch [
+    let done : (l.left ≡ 0) ⊎ (c.args.most ≤ length l.targets) = elim c.loop-left-test.branch [
       | then-loop-left-test+else-len-most w ↦ inr (let long = w.len.ensures in omega (arith, long, w.if-len-most.false))
       | else-loop-left-test w ↦ inl (omega (arith, w.loop-left-test.false))
     ] in
     let most = rw (← c.self.view_is) at c.requires in
     let none = none-behind was.items.items was.next.items was.len (length was.used.items) c.args.block
-    l.self-inside.next.items l.self-inside.used.items l.targets.items was.end l.last l.kept l.at l.left
+    l.self-inside.next.items l.self-inside.used.items l.targets was.end l.last l.kept l.at l.left
     l.invariant.releasing c.self.invariant.long c.args.most most done in
     rw (← c.self.view_is)
     (sym (released-targets was.items.items was.next.items was.len (length was.used.items) c.args.block
-    l.self-inside.next.items l.self-inside.used.items l.targets.items was.end l.last l.kept l.at l.left
+    l.self-inside.next.items l.self-inside.used.items l.targets was.end l.last l.kept l.at l.left
     l.invariant.releasing c.self.invariant.long none))
 
 pub invariant_of-self : goal.invariant_of-self
@@ -197,13 +197,13 @@ invariant_of-self g c =
     let l = c.loop-left in
     let links = l.invariant.releasing.parted.links in
     let low = l.invariant.releasing.low in
-    let done : (l.left ≡ 0) ⊎ (c.args.most ≤ length l.targets.items) = elim c.loop-left-test.branch [
+    let done : (l.left ≡ 0) ⊎ (c.args.most ≤ length l.targets) = elim c.loop-left-test.branch [
       | then-loop-left-test+else-len-most w ↦ inr (let long = w.len.ensures in omega (arith, long, w.if-len-most.false))
       | else-loop-left-test w ↦ inl (omega (arith, w.loop-left-test.false))
     ] in
     let most = rw (← c.self.view_is) at c.requires in
     let none = none-behind was.items.items was.next.items was.len (length was.used.items) c.args.block
-    l.self-inside.next.items l.self-inside.used.items l.targets.items was.end l.last l.kept l.at l.left
+    l.self-inside.next.items l.self-inside.used.items l.targets was.end l.last l.kept l.at l.left
     l.invariant.releasing c.self.invariant.long c.args.most most done in
     elim c.if-left-gt0.branch [
       | then-left-gt0 w ↦
@@ -220,13 +220,13 @@ invariant_of-self g c =
             ← c.self.invariant.ends,
           )
           ((closed was.items.items was.next.items was.len (length was.used.items) c.args.block
-          l.self-inside.next.items l.self-inside.used.items l.targets.items was.end l.last l.kept l.at l.left
+          l.self-inside.next.items l.self-inside.used.items l.targets was.end l.last l.kept l.at l.left
           l.invariant.releasing c.self.invariant.long none
           w.if-left-gt0.true c.self.invariant.few c.self.invariant.words).0)
       | else-left-gt0 w ↦
           rw (w.self-inside-is, l.invariant.items, l.invariant.end)
           ((ended was.items.items was.next.items was.len (length was.used.items) c.args.block
-          l.self-inside.next.items l.self-inside.used.items l.targets.items was.end l.last l.kept l.at l.left
+          l.self-inside.next.items l.self-inside.used.items l.targets was.end l.last l.kept l.at l.left
           l.invariant.releasing c.self.invariant.long none
           (omega (arith, w.if-left-gt0.false)) c.self.invariant.few c.self.invariant.words).0)
     ]

@@ -8,7 +8,7 @@ invariant-loop-left g l =
     let was = l.initial.self-inside in
     record {
       releasing : IsReleasing was.items.items was.next.items was.len (length was.used.items) l.block p.next.items
-          p.used.items l.targets.items was.end l.last l.kept l.at l.left;
+          p.used.items l.targets was.end l.last l.kept l.at l.left;
       items : p.items ≡ was.items;
       end : p.end ≡ was.end;
       ends : p.last ≡ was.last;

@@ -1,5 +1,5 @@
 use Rattle.std.proofs.Common.{rules}
-use Rattle.lf_mshr.proofs.explicit.ExplicitOrganisation.primary_fault.Goals as goal
+use Rattle.lf_mshr.proofs.explicit.ExplicitOrganisation.fresh_fault.Goals as goal
 
 pub returns-then-from-file : goal.returns-then-from-file
 returns-then-from-file g c = search rules

@@ -1,7 +1,7 @@
 use Rattle.lf_mshr.specs.RegisterFile.{explicit_file}
 use Rattle.lf_mshr.specs.Places.{held_of}
 use Rattle.lf_mshr.proofs.Room.{has_room_is}
-use Rattle.lf_mshr.proofs.explicit.ExplicitOrganisation.room.Goals as goal
+use Rattle.lf_mshr.proofs.explicit.ExplicitOrganisation.room_in.Goals as goal
 
 pub returns-clause-value : goal.returns-clause-value
 returns-clause-value g c = c.has_room.ensures (g.T.Target.destination c.args._target.now)

@@ -1,7 +1,7 @@
 use Rattle.lf_mshr.specs.RegisterFile.{implicit_file}
 use Rattle.lf_mshr.specs.Places.{held_of}
 use Rattle.lf_mshr.proofs.Room.{has_room_is}
-use Rattle.lf_mshr.proofs.implicit.ImplicitOrganisation.room.Goals as goal
+use Rattle.lf_mshr.proofs.implicit.ImplicitOrganisation.room_in.Goals as goal
 
 pub returns-clause-value : goal.returns-clause-value
 returns-clause-value g c = rw (← c.position.ensures.field) (c.has_room.ensures

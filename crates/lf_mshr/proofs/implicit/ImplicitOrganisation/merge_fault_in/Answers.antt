@@ -1,0 +1,65 @@
+use Rattle.std.proofs.Common.{rules, ◌≡◌, ◌<◌, true, false, nat_lt, sym, subst, lt-ltb}
+use Rattle.lf_rules.specs.declared.shape.OrgShape.TheVariants.{Implicit}
+use Rattle.lf_rules.specs.Registers.{holds_in, takes}
+use Rattle.lf_mshr.specs.Places.{held_of}
+use Rattle.lf_mshr.proofs.Indexed.{holding-below}
+use Rattle.lf_mshr.proofs.Joined.{joins-none, joins-other, joins-full, joins-left}
+use Rattle.lf_mshr.proofs.implicit.ImplicitOrganisation.merge_fault_in.Goals as goal
+
+pub returns-then-from-file : goal.returns-then-from-file
+returns-then-from-file g c =
+    let file = c.args.file.now.registers in
+    let held = held_of file.places.order in
+    let has : holds_in held c.in-Some.holder c.args._block ≡ true = rw c.in-Some.is at c.requires.some in
+    let left = takes (Implicit file.registers) g.T.Target.position held c.args.register
+    (g.T.Target.position c.args.target.now) in
+    let there : nat_lt c.args.register file.registers ≡ false = search rules in
+    joins-none held file.once c.in-Some.holder c.args.register c.args._block has
+    (nat_lt c.args.register file.registers) left there
+
+pub returns-then-register-holder : goal.returns-then-register-holder
+returns-then-register-holder g c =
+    let file = c.args.file.now.registers in
+    let held = held_of file.places.order in
+    let has : holds_in held c.in-Some.holder c.args._block ≡ true = rw c.in-Some.is at c.requires.some in
+    let left = takes (Implicit file.registers) g.T.Target.position held c.args.register
+    (g.T.Target.position c.args.target.now) in
+    let there : nat_lt c.args.register file.registers ≡ true = search rules in
+    joins-other held file.once c.in-Some.holder c.args.register c.args._block has
+    (nat_lt c.args.register file.registers) left c.if-register-holder.true there
+
+pub has_field-requires-clause-register : goal.has_field-requires-clause-register
+has_field-requires-clause-register g c =
+    let file = c.args.file.now.registers in
+    let held = held_of file.places.order in
+    let has : holds_in held c.in-Some.holder c.args._block ≡ true = rw c.in-Some.is at c.requires.some in
+    rw (c.from-2.ensures, c.if-register-holder.false)
+    (holding-below file.registers held file.below c.in-Some.holder c.args._block has)
+
+pub returns-then-not-has_field : goal.returns-then-not-has_field
+returns-then-not-has_field g c =
+    let file = c.args.file.now.registers in
+    let held = held_of file.places.order in
+    let has : holds_in held c.in-Some.holder c.args._block ≡ true = rw c.in-Some.is at c.requires.some in
+    let there = subst (λ r. r < file.registers) (sym c.if-register-holder.false)
+    (holding-below file.registers held file.below c.in-Some.holder c.args._block has) in
+    let left = takes (Implicit file.registers) g.T.Target.position held c.args.register
+    (g.T.Target.position c.args.target.now) in
+    let none : left ≡ false = search rules in
+    joins-full held file.once c.in-Some.holder c.args.register c.args._block has
+    (nat_lt c.args.register file.registers) left c.if-register-holder.false
+    (lt-ltb c.args.register file.registers there) none
+
+pub returns : goal.returns
+returns g c =
+    let file = c.args.file.now.registers in
+    let held = held_of file.places.order in
+    let has : holds_in held c.in-Some.holder c.args._block ≡ true = rw c.in-Some.is at c.requires.some in
+    let there = subst (λ r. r < file.registers) (sym c.if-register-holder.false)
+    (holding-below file.registers held file.below c.in-Some.holder c.args._block has) in
+    let left = takes (Implicit file.registers) g.T.Target.position held c.args.register
+    (g.T.Target.position c.args.target.now) in
+    let some : left ≡ true = search rules in
+    joins-left held file.once c.in-Some.holder c.args.register c.args._block has
+    (nat_lt c.args.register file.registers) left c.if-register-holder.false
+    (lt-ltb c.args.register file.registers there) some
