@@ -59,7 +59,7 @@ module _ (p : Progress) (bytes : List ℕ) (head : Head) (fixed carried : List �
         p.header head.kind range,
   )
 
-  whole_taken : take (whole_len fixed carried) bytes ≡ whole.first ++ (fixed ++ carried)
+  pub whole_taken : take (whole_len fixed carried) bytes ≡ whole.first ++ (fixed ++ carried)
   whole_taken =
       let joined : bytes ≡ (whole.first ++ (fixed ++ carried)) ++ whole.more =
       whole.joined ∙ ap (λ (xs : List ℕ). whole.first ++ xs) (sym (append_assoc fixed carried whole.more))

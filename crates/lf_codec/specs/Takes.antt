@@ -12,10 +12,12 @@ use Rattle.lf_codec.specs.declared.stage.Found.{Found}
 use Rattle.lf_codec.specs.declared.progress.Progress.{Progress}
 use Rattle.lf_codec.specs.declared.stage.Found.TheVariants as found
 use Rattle.lf_codec.specs.declared.stage.Stage.TheVariants as stages
+use Rattle.lf_codec.specs.Trace.{FitsIn}
+use Rattle.lf_codec.specs.Layout.{record_bytes}
 use Rattle.lf_codec.specs.Checks.{byte_at, judged, head_checks, fixed_checks, stage_checks}
 use Rattle.lf_codec.specs.Steps.{fixed_len, data_len, head_at, record_of, counted, advanced}
 use Rattle.lf_codec.specs.Reading.{Reading, stepped, end_of, truncated_at, byte_read, read_on, header_now}
-use Rattle.lf_codec.specs.Reader.{HasOneMore}
+use Rattle.lf_codec.specs.Reader.{HasOneMore, with_record}
 
 -- a step gives a memory record or a record
 abbrev pub GivesSome : Found → Type 0
@@ -132,6 +134,14 @@ pub record ReadsInto (old : Progress) (bytes : List ℕ) (n : ℕ) (place : Opti
   pub stage : old.stage ≡ stages.Head
   pub whole : IsWholeRecord old bytes item n
   pub is_counted : new ≡ counted old n item.log
+
+-- the record of so many bytes at the front of these is read, and nothing else of the reader changes
+pub record LendsPart (old : Reading) (bytes : List ℕ) (n : ℕ) (item : Record) (new : Reading) : Type 0 where
+  pub takes : TakesPart old bytes (Ok n) (with_record (Some item) new)
+  pub spelled : take n bytes ≡ record_bytes item
+  pub fits : FitsIn old.progress.header item
+  pub rest : new ≡ record old { progress = new.progress }
+  pub header : header_now new ≡ header_now old
 
 -- the record at the front of these bytes, of so many of them, is kept behind the others and counted
 pub record PacksInto (old : Progress) (bytes : List ℕ) (n : ℕ) (before after : List Record) (new : Progress) : Type

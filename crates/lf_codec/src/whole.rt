@@ -16,7 +16,9 @@ use crate::places::Places;
 use crate::progress::Progress;
 use crate::stage::{Head, Kind, Stage};
 use crate::step::{data_len, fixed_len};
+use crate::view::record_view;
 use lf_rules::Record;
+use lf_views::RecordView;
 
 /// The first bytes and those behind them, where there are so many.
 fn split(bytes: &[u8], len: usize) -> Option<(&[u8], &[u8])>
@@ -189,6 +191,56 @@ impl Progress {
             Kind::Evict2 => self.place_event(Kind::Evict2, bytes, place),
             Kind::Fence => self.place_event(Kind::Fence, bytes, place),
             Kind::SecondMerge => self.place_event(Kind::SecondMerge, bytes, place),
+        }
+    }
+
+    /// Reads a record of this kind as `read_event` does. It is lent where it stands.
+    #[inline(always)]
+    fn lend_event<'a>(
+        &mut self,
+        kind: Kind,
+        bytes: &'a [u8],
+        place: &mut RecordView<'a>,
+    ) -> Option<usize>
+        requires sound { IsSound self.old }
+        requires kind { code_of kind ≡ byte_at 0 bytes.now }
+        ensures some { IfSome result (λ n. ReadsInto self.old bytes.now n (Some place.new) self.new) }
+        ensures none { IfNone result (self.new ≡ self.old) }
+    {
+        let whole = self.whole(kind, bytes)?;
+        let len = 8 + whole.fixed.len() + whole.carried.len();
+        *place = record_view(&self.header, kind, whole.head, whole.fixed, whole.carried);
+        self.count_on(len as u64, whole.head.log);
+        Some(len)
+    }
+
+    /// Reads the next record as `read_record` does, and lends it where it stands.
+    #[inline(always)]
+    pub(crate) fn lend_record<'a>(
+        &mut self,
+        bytes: &'a [u8],
+        place: &mut RecordView<'a>,
+    ) -> Option<usize>
+        requires { IsSound self.old }
+        ensures some { IfSome result (λ n. ReadsInto self.old bytes.now n (Some place.new) self.new) }
+        ensures none { IfNone result (self.new ≡ self.old) }
+    {
+        match first_kind(bytes)? {
+            Kind::Issue => self.lend_event(Kind::Issue, bytes, place),
+            Kind::Reply => self.lend_event(Kind::Reply, bytes, place),
+            Kind::Hit => self.lend_event(Kind::Hit, bytes, place),
+            Kind::Primary => self.lend_event(Kind::Primary, bytes, place),
+            Kind::Merge => self.lend_event(Kind::Merge, bytes, place),
+            Kind::Stall => self.lend_event(Kind::Stall, bytes, place),
+            Kind::Fill1 => self.lend_event(Kind::Fill1, bytes, place),
+            Kind::Evict1 => self.lend_event(Kind::Evict1, bytes, place),
+            Kind::SecondHit => self.lend_event(Kind::SecondHit, bytes, place),
+            Kind::SecondPrimary => self.lend_event(Kind::SecondPrimary, bytes, place),
+            Kind::SecondStall => self.lend_event(Kind::SecondStall, bytes, place),
+            Kind::Fill2 => self.lend_event(Kind::Fill2, bytes, place),
+            Kind::Evict2 => self.lend_event(Kind::Evict2, bytes, place),
+            Kind::Fence => self.lend_event(Kind::Fence, bytes, place),
+            Kind::SecondMerge => self.lend_event(Kind::SecondMerge, bytes, place),
         }
     }
 

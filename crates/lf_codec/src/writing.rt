@@ -182,7 +182,7 @@ fn put_data(out: &mut Vec<u8>, event: &Event) -> Result<(), AllocError>
     }
 }
 
-fn put_record(out: &mut Vec<u8>, item: &Record) -> Result<(), AllocError>
+pub(crate) fn put_record(out: &mut Vec<u8>, item: &Record) -> Result<(), AllocError>
     ensures { OnOk result (out.new.items ≡ out.old.items ++ record_bytes item.now) }
 {
     out.extend_from_slice(&[code_of(&item.event), item.log, item.bank, 0])?;

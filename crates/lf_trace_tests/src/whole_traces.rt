@@ -4,12 +4,13 @@ use crate::reading::{
     ONE_BANK, assert_fault, assert_packed, assert_reads, assert_taken, encoded, feed, feed_into,
     finish,
 };
-use lf_codec::{CodecCause, CodecFault, Header, Packed, Places, Reader, Told, fits_trace};
-use lf_rules::Memory;
+use lf_codec::{CodecCause, CodecFault, Header, Lent, Packed, Places, Reader, Told, fits_trace};
+use lf_rules::{Memory, Record};
 use lf_samples::{
     C1, EMPTY_TRACE, FENCE_LAST, LOAD, LOAD_MISSES_BOTH_LEVELS, LOADED, bytes_of, memory, records,
     records_at,
 };
+use lf_views::RecordView;
 use std::alloc::Global;
 use std::process::Abort;
 use std::test::Fail;
@@ -192,6 +193,59 @@ fn waiting_records_into_a_place(rt: HostRuntime) -> Result<(), Fail> {
     place.clear();
     assert_eq!(rt; place.record(), None);
     Ok(())
+}
+
+/// Lends the record at the front of these bytes, or else feeds what there is, and gives the bytes behind that.
+fn lend_one<'a>(
+    reader: &mut Reader,
+    bytes: &'a [u8],
+) -> Result<(Option<Lent<'a>>, &'a [u8]), Fail> {
+    if reader.can_lend() {
+        let mut place = RecordView::blank();
+        if let Some(n) = reader.lend(bytes, &mut place) {
+            let (front, behind) = bytes.split_at(n);
+            return Ok((Some(Lent::spelled(place, front)), behind));
+        }
+    }
+    Ok((None, feed_some(reader, bytes)?))
+}
+
+/// Fails where another record is lent than this one, or its bytes are not those that this one is spelled by.
+fn assert_lent(
+    rt: &impl Abort,
+    alloc: Global,
+    lent: &Lent<'_>,
+    item: Option<&Record>,
+) -> Result<(), Fail> {
+    assert_eq!(rt; Some(&lent.view().to_record()), item);
+    let mut bytes = Vec::new(alloc);
+    let mut spelled = Vec::new(alloc);
+    lent.append_to(&mut bytes)?;
+    if let Some(item) = item {
+        Lent::of(item).append_to(&mut spelled)?;
+    }
+    assert_eq!(rt; bytes, spelled);
+    Ok(())
+}
+
+/// Each record is lent where it stands, and none waits with the reader.
+#[test]
+fn records_that_are_lent(rt: HostRuntime) -> Result<(), Fail> {
+    let records = records(rt.alloc(), &C1, &[LOAD, LOADED])?;
+    let mut expected = records.iter();
+    let mut reader = Reader::new(rt.alloc());
+    let mut rest: &[u8] = &LOAD_MISSES_BOTH_LEVELS;
+    for _ in 0..132u8 {
+        let (lent, behind) = lend_one(&mut reader, rest)?;
+        if let Some(lent) = lent {
+            assert_lent(&rt, rt.alloc(), &lent, expected.next())?;
+        }
+        assert_eq!(rt; reader.front(), None);
+        rest = behind;
+    }
+    assert!(rt; rest.is_empty());
+    assert_eq!(rt; expected.next(), None);
+    assert_ended(&rt, &mut reader)
 }
 
 /// Reads the trace of one load in two pieces, behind the records that are there.
