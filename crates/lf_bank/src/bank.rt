@@ -114,8 +114,8 @@ impl<O1: Organisation<Target = Request1>, O2: Organisation<Target = Request2>> B
             waiting: O1::new(alloc, &level1.organisation, destinations(shape))?,
             regs2: O2::new(alloc, &level2.organisation, destinations2(shape))?,
             ready: Vec::new(alloc),
-            replied: Targets::new(),
-            fetched: Targets::new(),
+            replied: Targets::new(alloc)?,
+            fetched: Targets::new(alloc)?,
         })
     }
 }

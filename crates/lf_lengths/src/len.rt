@@ -5,6 +5,7 @@ ghost use Rattle.lf_codec.specs.Layout.{data_of, record_bytes};
 ghost use Rattle.lf_lengths.specs.Lengths.{fixed_len};
 
 use lf_rules::{Event, Record};
+use lf_views::RecordView;
 
 /// How many bytes an event takes: its fixed part, and the bytes that it carries.
 fn event_len(event: &Event) -> usize
@@ -33,4 +34,12 @@ pub fn record_len(item: &Record) -> u64
     ensures few { result ≤ 300 }
 {
     8 + event_len(&item.event) as u64
+}
+
+/// How many bytes a record that is lent takes in a trace.
+pub fn view_len(item: &RecordView<'_>) -> u64
+    ensures len { result ≡ length (record_bytes item.now) }
+    ensures few { result ≤ 300 }
+{
+    record_len(&item.to_record())
 }

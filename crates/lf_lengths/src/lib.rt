@@ -5,4 +5,4 @@
 
 mod len;
 
-pub use len::record_len;
+pub use len::{record_len, view_len};

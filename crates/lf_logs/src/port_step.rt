@@ -7,6 +7,7 @@ ghost use Rattle.lf_logs.specs.Tags.{PortStandsAfter, IsPortFaultAfter};
 
 use crate::port::BusyTags;
 use lf_rules::{Record, Rule, Shape};
+use lf_views::RecordView;
 use std::marker::Model;
 
 /// Judges the log of one port, a record at a time.
@@ -54,5 +55,18 @@ impl PortStep {
         }
         self.tags.update(&self.shape, item);
         Ok(())
+    }
+
+    /// Judges a record that is lent, and carries it out, as `apply` does.
+    pub fn apply_view(&mut self, item: &RecordView<'_>) -> Result<(), Rule>
+        requires { item.now.log ≡ self.old.port }
+        ensures port { self.new.port ≡ self.old.port }
+        ensures unchanged { OnErr result (self.new ≡ self.old) }
+        ensures stands { (shape : Shape) (rs : List Record) → PortStandsAfter self.old shape rs
+            → OnOk result (PortStandsAfter self.new shape (rs ++ item.now ∷ [])) }
+        ensures broken { (shape : Shape) (rs : List Record) → PortStandsAfter self.old shape rs
+            → IfErr result (IsPortFaultAfter shape rs item.now) }
+    {
+        self.apply(&item.to_record())
     }
 }

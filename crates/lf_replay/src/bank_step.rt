@@ -12,6 +12,7 @@ use crate::any_bank::AnyBank;
 use crate::bank_state::BankState;
 use lf_bank::BankFault;
 use lf_rules::{Memory, NoMemory, Record, Shape};
+use lf_views::RecordView;
 use std::alloc::Global;
 use std::marker::Model;
 
@@ -65,5 +66,21 @@ impl Step {
             → IfErr result (IsFaultAfter shape memory rs item.now) }
     {
         self.state.apply(item)
+    }
+
+    /// Judges a record that is lent, and carries it out, as `apply` does.
+    pub fn apply_view(&mut self, item: &RecordView<'_>) -> Result<(), BankFault>
+        requires { IsForStep self.old item.now }
+        ensures bank { self.new.bank ≡ self.old.bank }
+        ensures shape { self.new.state.shape ≡ self.old.state.shape }
+        ensures unchanged { OnErr result (self.new ≡ self.old) }
+        ensures stands { (shape : Shape) (memory : FlatMemory) (bank : ℕ) (rs : List Record) →
+            IsStepAfter self.old shape memory bank rs
+            → OnOk result (IsStepAfter self.new shape memory bank (rs ++ item.now ∷ [])) }
+        ensures broken { (shape : Shape) (memory : FlatMemory) (bank : ℕ) (rs : List Record) →
+            IsStepAfter self.old shape memory bank rs
+            → IfErr result (IsFaultAfter shape memory rs item.now) }
+    {
+        self.apply(&item.to_record())
     }
 }

@@ -11,6 +11,7 @@ ghost use Rattle.lf_stats.specs.Tally.{IsCounted, IsSteady, QueuesAre, head_of, 
 use crate::counts::BankStats;
 use crate::held::Held;
 use lf_rules::{Event, NoMemory, Record};
+use lf_views::RecordView;
 use std::alloc::Global;
 use std::collections::VecDeque;
 
@@ -130,6 +131,15 @@ impl BankCount {
         self.stats.peak = self.stats.peak.max(self.held.distinct());
         self.seen += 1;
         Ok(())
+    }
+
+    /// Counts the next record of the bank, which is lent.
+    pub fn take_view(&mut self, item: &RecordView<'_>) -> Result<(), NoMemory>
+        requires { IsSteady self.old }
+        ensures { (shape : Shape) (rs : List Record) → IsCounted shape rs self.old →
+            OnOk result (IsCounted shape (rs ++ item.now ∷ []) self.new) }
+    {
+        self.take(&item.to_record())
     }
 
     /// The counts so far.
