@@ -1,5 +1,5 @@
 -- Records that are read again where their bytes stand.
-use Rattle.std.specs.Prelude.{◌≡◌, ℕ, ◌≤◌, List, ◌++◌, length, take, drop}
+use Rattle.std.specs.Prelude.{◌≡◌, ◌⊎◌, ℕ, ◌≤◌, List, [], ◌++◌, length, take, drop}
 use Rattle.lf_rules.specs.Fits.{FitsRecord}
 use Rattle.lf_rules.specs.declared.event.Record.{Record}
 use Rattle.lf_codec.specs.declared.header.Header.{Header}
@@ -14,6 +14,10 @@ pub record BeginWith (h : Header) (bytes : List ℕ) (item : Record) : Type 0 wh
   pub fits : FitsRecord h.ports h.banks h.block h.factor item
   pub more : List ℕ
   pub joined : bytes ≡ record_bytes item ++ more
+
+-- these bytes spell the record, or there are none
+abbrev pub IsSpelling : List ℕ → Record → Type 0
+IsSpelling bytes item = (bytes ≡ []) ⊎ (bytes ≡ record_bytes item)
 
 -- ---- what serves the crate's own contracts
 

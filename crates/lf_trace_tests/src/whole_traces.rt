@@ -4,7 +4,7 @@ use crate::reading::{
     ONE_BANK, assert_fault, assert_packed, assert_reads, assert_taken, encoded, feed, feed_into,
     finish,
 };
-use lf_codec::{CodecCause, CodecFault, Header, Lent, Packed, Places, Reader, Told, fits_trace};
+use lf_codec::{CodecCause, CodecFault, Header, Packed, Places, Reader, Told, fits_trace};
 use lf_rules::{Memory, Record};
 use lf_samples::{
     C1, EMPTY_TRACE, FENCE_LAST, LOAD, LOAD_MISSES_BOTH_LEVELS, LOADED, bytes_of, memory, records,
@@ -195,56 +195,42 @@ fn waiting_records_into_a_place(rt: HostRuntime) -> Result<(), Fail> {
     Ok(())
 }
 
-/// Lends the record at the front of these bytes, or else feeds what there is, and gives the bytes behind that.
-fn lend_one<'a>(
-    reader: &mut Reader,
-    bytes: &'a [u8],
-) -> Result<(Option<Lent<'a>>, &'a [u8]), Fail> {
+/// A record that is lent, if any, with its bytes, and the bytes behind those that were read.
+type LentPart<'a> = (Option<(RecordView<'a>, &'a [u8])>, &'a [u8]);
+
+/// Lends the record at the front of these bytes, or else feeds what there is.
+fn lend_one<'a>(reader: &mut Reader, bytes: &'a [u8]) -> Result<LentPart<'a>, Fail> {
     if reader.can_lend() {
         let mut place = RecordView::blank();
         if let Some(n) = reader.lend(bytes, &mut place) {
             let (front, behind) = bytes.split_at(n);
-            return Ok((Some(Lent::spelled(place, front)), behind));
+            return Ok((Some((place, front)), behind));
         }
     }
     Ok((None, feed_some(reader, bytes)?))
 }
 
-/// Fails where another record is lent than this one, or its bytes are not those that this one is spelled by.
-fn assert_lent(
-    rt: &impl Abort,
-    alloc: Global,
-    lent: &Lent<'_>,
-    item: Option<&Record>,
-) -> Result<(), Fail> {
-    assert_eq!(rt; Some(&lent.view().to_record()), item);
-    let mut bytes = Vec::new(alloc);
-    let mut spelled = Vec::new(alloc);
-    lent.append_to(&mut bytes)?;
-    if let Some(item) = item {
-        Lent::of(item).append_to(&mut spelled)?;
-    }
-    assert_eq!(rt; bytes, spelled);
-    Ok(())
-}
-
-/// Each record is lent where it stands, and none waits with the reader.
+/// Each record is lent where it stands, with its bytes, and none waits with the reader.
 #[test]
 fn records_that_are_lent(rt: HostRuntime) -> Result<(), Fail> {
     let records = records(rt.alloc(), &C1, &[LOAD, LOADED])?;
     let mut expected = records.iter();
     let mut reader = Reader::new(rt.alloc());
+    let mut spelled = Vec::new(rt.alloc());
     let mut rest: &[u8] = &LOAD_MISSES_BOTH_LEVELS;
     for _ in 0..132u8 {
         let (lent, behind) = lend_one(&mut reader, rest)?;
-        if let Some(lent) = lent {
-            assert_lent(&rt, rt.alloc(), &lent, expected.next())?;
+        if let Some((item, bytes)) = lent {
+            assert_eq!(rt; Some(&item.to_record()), expected.next());
+            spelled.extend_from_slice(bytes)?;
         }
         assert_eq!(rt; reader.front(), None);
         rest = behind;
     }
     assert!(rt; rest.is_empty());
     assert_eq!(rt; expected.next(), None);
+    let all: &[u8] = &LOAD_MISSES_BOTH_LEVELS;
+    assert_eq!(rt; spelled.as_slice(), &all[16..124]);
     assert_ended(&rt, &mut reader)
 }
 
