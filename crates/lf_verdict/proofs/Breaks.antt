@@ -1,6 +1,6 @@
 -- Which parts are at fault, and that such a fault stands whatever records follow.
 use Rattle.std.proofs.Common.{◌≡◌, ℕ, zero, suc, ◌+◌, ◌<◌, ◌≤◌, List, [], ◌∷◌, ◌++◌, length, get_or, Option, Some}
-use Rattle.std.proofs.Common.{None, refl, sym, ap, ◌∙◌, subst, ⊎_elim, arith}
+use Rattle.std.proofs.Common.{None, refl, sym, ap, ◌∙◌, subst, ⊎_elim, arith, append_assoc}
 use Rattle.std.specs.Prelude.{slice_get, IfNone}
 use Rattle.std.specs.List.{AllByRecursion, All, range_with_len}
 use Rattle.std.proofs.lemmas.Bool.{cases_lt, cases_eq}
@@ -16,7 +16,7 @@ use Rattle.lf_rules.specs.Run.{of_log, of_bank, effect, IsRunOf, BreaksAt}
 use Rattle.lf_rules.specs.Table.{Side, OfPort, OfBank}
 use Rattle.lf_logs.specs.Reordering.{IsLeastDouble, HasOrdered}
 use Rattle.lf_verdict.specs.declared.session.standing.Standing.{Standing}
-use Rattle.lf_verdict.specs.Standing.{IsPortAt, StandsAfterAll, IsPortJudged, IsBankSettled, AreEntered}
+use Rattle.lf_verdict.specs.Standing.{IsPortAt, StandsAfterAll, IsPortJudged, IsBankSettled, AreEntered, IsWatch}
 use Rattle.lf_verdict.proofs.Settled.{bank_order, bank_outcome}
 use Rattle.lf_replay.specs.Bytes.{bank_part}
 use Rattle.lf_replay.proofs.Runs.{outcome_same}
@@ -26,6 +26,7 @@ use Rattle.lf_verdict.specs.Breaking.{AreFirst, BankBreaks, IsFaultOfPart, NoneB
 use Rattle.lf_verdict.specs.inner.Noting.{IsPortWhole, IsBankWhole, IsFirstOfBank}
 use Rattle.lf_logs.proofs.Splitting.{of_key-push_other}
 use Rattle.lf_verdict.specs.declared.session.breaking.Watch.{Watch}
+use Rattle.lf_verdict.specs.declared.session.breaking.Watch.TheVariants as watches
 use Rattle.lf_rules.specs.declared.outcome.Outcome.{Outcome}
 use Rattle.lf_logs.specs.Tags.{PortView}
 use Rattle.lf_verdict.specs.declared.session.standing.log_entries.Entries.{Entries}
@@ -298,6 +299,22 @@ stands_watched shape memory records s watch stands = record {
   count_given = stands.count_given;
   banks = stands.banks;
 }
+
+-- what is known of the first record upon which a part broke stays, whatever record follows
+pub watch_stays : (start : ℕ) (shape : Shape) (memory : FlatMemory) (records : List Record) (r : Record)
+    (watch : Watch) → ((next : ℕ) → watch ≡ watches.Whole next → ⊥)
+    → IsWatch start shape memory records watch → IsWatch start shape memory (records ++ r ∷ []) watch
+watch_stays start shape memory records r (watches.Whole next) broke is = absurd (broke next refl)
+watch_stays start shape memory records r (watches.First first) broke is = record {
+  before = is.before;
+  item = is.item;
+  after = is.after ++ r ∷ [];
+  are = ap (λ (rs : List Record). rs ++ r ∷ []) is.are ∙ append_assoc is.before (is.item ∷ is.after) (r ∷ []);
+  place = is.place;
+  whole = is.whole;
+  broke = is.broke;
+}
+watch_stays start shape memory records r watches.Unknown broke is = tt
 
 pub if_none : {X : Type 0} {P Q : Type 0} (o : Option X) → IfNone o P → (P → Q) → IfNone o Q
 if_none None p f = f p

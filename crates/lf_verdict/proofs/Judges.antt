@@ -2,7 +2,6 @@
 use Rattle.std.proofs.Common.{◌≡◌, ℕ, zero, suc, List, [], ◌∷◌, ◌++◌, length, Option, Some, None, refl, sym, ◌∙◌, subst}
 use Rattle.std.specs.Prelude.{IfSome}
 use Rattle.std.specs.List.{AllByRecursion}
-use Rattle.std.proofs.lemmas.List.{append-nil}
 use Rattle.lf_rules.specs.declared.shape.Shape.{Shape}
 use Rattle.lf_rules.specs.declared.event.Record.{Record}
 use Rattle.lf_rules.specs.declared.rule.Rule.{Rule}
@@ -14,7 +13,8 @@ use Rattle.lf_rules.specs.Outcomes.{first_local}
 use Rattle.lf_rules.specs.State.{Local}
 use Rattle.lf_rules.specs.Run.{BreaksAt, effect}
 use Rattle.lf_rules.specs.Table.{Side, OfPort, OfBank}
-use Rattle.lf_logs.specs.Reordering.{Reordering, first_with, HasOrdered}
+use Rattle.lf_codec.specs.declared.header.Header.{Header}
+use Rattle.lf_logs.specs.Reordering.{Reordering, CanKeep, first_with, header_of, HasOrdered}
 use Rattle.lf_logs.specs.Tags.{PortView}
 use Rattle.lf_logs.proofs.Reordered.{first_with-number, first_with-push_other}
 use Rattle.lf_logs.proofs.GivenOut.{first_with-all}
@@ -66,38 +66,27 @@ module _ (shape : Shape) (memory : FlatMemory) (bank : ℕ) (came gave : List Re
 
   pub judged_more : (r : Record) (new : BankJudge) → Some r ≡ first_with (length gave) came →
       HasOrdered new.order came (gave ++ r ∷ []) → new.order.bank ≡ old.order.bank
-      → new.step.bank ≡ old.step.bank → new.step.state.shape ≡ old.step.state.shape
+      → new.order.header ≡ old.order.header → new.step.bank ≡ old.step.bank
+      → new.step.state.shape ≡ old.step.state.shape
       → (r.number ≡ length gave → IsBankAt shape memory bank gave old.step old.outcome →
       IsBankAt shape memory bank (gave ++ r ∷ []) new.step new.outcome)
       → (IfSome old.count (IsCounted shape gave) → IfSome new.count (IsCounted shape (gave ++ r ∷ [])))
       → IsBankJudged shape memory bank came (gave ++ r ∷ []) new
-  judged_more r new turn ordered same_order same_bank same_shape goes counts = record {
+  judged_more r new turn ordered same_order same_header same_bank same_shape goes counts = record {
     fit = judged.fit;
     named = judged.named;
     ordered = ordered;
     order_of_bank = same_order ∙ judged.order_of_bank;
+    of_header = same_header ∙ judged.of_header;
     of_bank = same_bank ∙ judged.of_bank;
     of_shape = same_shape ∙ judged.of_shape;
     judged = goes (first_with-number (length gave) came r (sym turn)) judged.judged;
     counted = counts judged.counted;
   }
 
-  pub judged_all : (order : Reordering) → None ≡ first_with (length gave) came → HasOrdered order came (gave ++ []) →
-      order.bank ≡ old.order.bank
-      → IsBankSettled shape memory bank came gave (record old { order = order })
-  judged_all order turn ordered same = record {
-    bank_judged = record {
-      fit = judged.fit;
-      named = judged.named;
-      ordered = subst (HasOrdered order came) (append-nil gave) ordered;
-      order_of_bank = same ∙ judged.order_of_bank;
-      of_bank = judged.of_bank;
-      of_shape = judged.of_shape;
-      judged = judged.judged;
-      counted = judged.counted;
-    };
-    drained = sym turn;
-  }
+  -- a record that fits the shape can be kept until its turn
+  pub can_keep : (r : Record) → Fits shape r → CanKeep old.order.header r
+  can_keep r fits = subst (λ (h : Option Header). CanKeep h r) (sym judged.of_header) fits
 
   all_push : (P : Record → Type 0) (rs : List Record) (r : Record) → AllByRecursion P rs → P r →
       AllByRecursion P (rs ++ r ∷ [])
@@ -106,12 +95,14 @@ module _ (shape : Shape) (memory : FlatMemory) (bank : ℕ) (came gave : List Re
 
   pub judged_put : (r : Record) (order : Reordering) → Fits shape r → r.bank ≡ bank →
       HasOrdered order (came ++ r ∷ []) gave → order.bank ≡ old.order.bank
+      → order.header ≡ old.order.header
       → IsBankJudged shape memory bank (came ++ r ∷ []) gave (record old { order = order })
-  judged_put r order fits named ordered same = record {
+  judged_put r order fits named ordered same same_header = record {
     fit = all_push (Fits shape) came r judged.fit fits;
     named = all_push (λ r. r.bank ≡ bank) came r judged.named named;
     ordered = ordered;
     order_of_bank = same ∙ judged.order_of_bank;
+    of_header = same_header ∙ judged.of_header;
     of_bank = judged.of_bank;
     of_shape = judged.of_shape;
     judged = judged.judged;
@@ -121,16 +112,18 @@ module _ (shape : Shape) (memory : FlatMemory) (bank : ℕ) (came gave : List Re
   -- a record that was passed on in its turn
   pub judged_pass : (r : Record) (new : BankJudge) → Fits shape r → r.bank ≡ bank → r.number ≡ length gave →
       HasOrdered new.order (came ++ r ∷ []) (gave ++ r ∷ []) → new.order.bank ≡ old.order.bank
-      → new.step.bank ≡ old.step.bank → new.step.state.shape ≡ old.step.state.shape
+      → new.order.header ≡ old.order.header → new.step.bank ≡ old.step.bank
+      → new.step.state.shape ≡ old.step.state.shape
       → (r.number ≡ length gave → IsBankAt shape memory bank gave old.step old.outcome →
       IsBankAt shape memory bank (gave ++ r ∷ []) new.step new.outcome)
       → (IfSome old.count (IsCounted shape gave) → IfSome new.count (IsCounted shape (gave ++ r ∷ [])))
       → IsBankJudged shape memory bank (came ++ r ∷ []) (gave ++ r ∷ []) new
-  judged_pass r new fits named turn ordered same_order same_bank same_shape goes counts = record {
+  judged_pass r new fits named turn ordered same_order same_header same_bank same_shape goes counts = record {
     fit = all_push (Fits shape) came r judged.fit fits;
     named = all_push (λ r. r.bank ≡ bank) came r judged.named named;
     ordered = ordered;
     order_of_bank = same_order ∙ judged.order_of_bank;
+    of_header = same_header ∙ judged.of_header;
     of_bank = same_bank ∙ judged.of_bank;
     of_shape = same_shape ∙ judged.of_shape;
     judged = goes turn judged.judged;
@@ -140,24 +133,25 @@ module _ (shape : Shape) (memory : FlatMemory) (bank : ℕ) (came gave : List Re
   -- a record that came early, or again, leaves what was given out
   pub settled_put : (r : Record) (order : Reordering) → first_with (length gave) came ≡ None → Fits shape r →
       r.bank ≡ bank → ¬ (r.number ≡ length gave)
-      → HasOrdered order (came ++ r ∷ []) gave → order.bank ≡ old.order.bank
+      → HasOrdered order (came ++ r ∷ []) gave → order.bank ≡ old.order.bank → order.header ≡ old.order.header
       → IsBankSettled shape memory bank (came ++ r ∷ []) gave (record old { order = order })
-  settled_put r order drained fits named early ordered same = record {
-    bank_judged = judged_put r order fits named ordered same;
+  settled_put r order drained fits named early ordered same same_header = record {
+    bank_judged = judged_put r order fits named ordered same same_header;
     drained = first_with-push_other (length gave) came r early ∙ drained;
   }
 
 -- No record came.
 pub settled_none : (shape : Shape) (memory : FlatMemory) (bank : ℕ) (judge : BankJudge) → judge.order.bank ≡ bank →
-    HasOrdered judge.order [] []
+    judge.order.header ≡ Some (header_of shape) → HasOrdered judge.order [] []
     → judge.outcome ≡ outcomes.Passed → IsStepAfter judge.step shape memory bank []
     → IfSome judge.count (IsCounted shape []) → IsBankSettled shape memory bank [] [] judge
-settled_none shape memory bank judge order_of_bank ordered passed at counted = record {
+settled_none shape memory bank judge order_of_bank of_header ordered passed at counted = record {
   bank_judged = record {
     fit = tt;
     named = tt;
     ordered = ordered;
     order_of_bank = order_of_bank;
+    of_header = of_header;
     of_bank = at.of_bank;
     of_shape = at.state.of_shape;
     judged = subst (IsBankAt shape memory bank [] judge.step) (sym passed) at;

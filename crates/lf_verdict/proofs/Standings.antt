@@ -198,6 +198,15 @@ counts_set judges i old new read counts each bank d lt =
 
 -- ---- one record more
 
+-- an entry of the same log, bank and number
+pub same_entry : (skeletons : List (List (ℕ × ℕ))) (e : Entries) {log log' bank bank' number number' : ℕ} →
+    log ≡ log' → bank ≡ bank' → number ≡ number' → AreKept (with_entry skeletons log (bank, number)) e
+    → AreKept (with_entry skeletons log' (bank', number')) e
+same_entry skeletons e {log} {log'} {bank} {bank'} {number} {number'} logs banks numbers kept =
+    subst (λ n. AreKept (with_entry skeletons n (bank', number')) e) logs
+    (subst (λ n. AreKept (with_entry skeletons log (n, number')) e) banks
+    (subst (λ n. AreKept (with_entry skeletons log (bank, n)) e) numbers kept))
+
 all_push : (P : Record → Type 0) (rs : List Record) (r : Record) → AllByRecursion P rs → P r →
     AllByRecursion P (rs ++ r ∷ [])
 all_push P [] r all p = (p, tt)
@@ -242,6 +251,24 @@ module _ (shape : Shape) (memory : FlatMemory) (records : List Record) (s : Stan
       subst (λ (j : BankJudge). IsBankSettled shape (bank_part shape r.bank memory) r.bank (of_bank r.bank records)
       (log_at stands.given r.bank) j)
       (sym (read ∙ ap (λ n. get_or s.banks.items n v) at)) (stands.banks r.bank v lt)
+
+  -- its entry is kept, and it names no bank
+  pub stands_beside : (after : Standing) → AreEntered shape (records ++ r ∷ []) after.entries →
+      shape.banks ≤ r.bank → after.banks ≡ s.banks → StandsAfterAll shape memory (records ++ r ∷ []) after
+  stands_beside after entered past same = record {
+    fit = all_push (Fits shape) records r stands.fit may.fits;
+    entered = entered;
+    count_banks = ap (λ (js : Vec BankJudge). length js.items) same ∙ stands.count_banks;
+    given = stands.given;
+    count_given = stands.count_given;
+    banks = λ bank d lt.
+        subst (λ (js : Vec BankJudge). IsBankSettled shape (bank_part shape bank memory) bank
+        (of_bank bank (records ++ r ∷ [])) (log_at stands.given bank) (get_or js.items bank d)) (sym same)
+        (subst (λ (rs : List Record). IsBankSettled shape (bank_part shape bank memory) bank rs
+        (log_at stands.given bank) (get_or s.banks.items bank d))
+        (sym (of_key-push_other (λ r. r.bank) bank records r (λ e. omega (arith, past, lt, e))))
+        (stands.banks bank d lt));
+  }
 
   -- its entry is kept, and its bank has judged it
   pub stands_more : (entries : Entries) (after : Standing) (i : ℕ) (new : BankJudge) →

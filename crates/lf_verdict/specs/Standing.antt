@@ -1,5 +1,5 @@
 -- How the parts of a trace stand while its records come.
-use Rattle.std.specs.Prelude.{◌≡◌, ℕ, ◌+◌, ◌<◌, ◌≤◌, true, List, length, slice_index_or, None, IfSome, IsSome}
+use Rattle.std.specs.Prelude.{◌≡◌, ℕ, ◌+◌, ◌<◌, ◌≤◌, true, List, length, slice_index_or, Some, None, IfSome, IsSome}
 use Rattle.std.specs.List.{AllByRecursion}
 use Rattle.lf_rules.specs.declared.shape.Shape.{Shape}
 use Rattle.lf_rules.specs.declared.event.Record.{Record}
@@ -13,7 +13,7 @@ use Rattle.lf_rules.specs.Ring.{skeletons_of}
 use Rattle.lf_rules.specs.Run.{of_log, of_bank, BreaksAt}
 use Rattle.lf_rules.specs.Table.{OfPort, OfBank}
 use Rattle.lf_logs.specs.Lists.{logs_of}
-use Rattle.lf_logs.specs.Reordering.{first_with, HasOrdered}
+use Rattle.lf_logs.specs.Reordering.{first_with, header_of, HasOrdered}
 use Rattle.lf_logs.specs.Tags.{PortView, PortStandsAfter}
 use Rattle.lf_join.specs.Join as joins
 use Rattle.lf_join.specs.Progress.{HasReached}
@@ -59,6 +59,7 @@ pub record IsBankJudged (shape : Shape) (memory : FlatMemory) (bank : ℕ) (came
   pub named : AllByRecursion (λ r. r.bank ≡ bank) came
   pub ordered : HasOrdered judge.order came gave
   pub order_of_bank : judge.order.bank ≡ bank
+  pub of_header : judge.order.header ≡ Some (header_of shape)
   pub of_bank : judge.step.bank ≡ bank
   pub of_shape : judge.step.state.shape ≡ shape
   pub judged : IsBankAt shape memory bank gave judge.step judge.outcome

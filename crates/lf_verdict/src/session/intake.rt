@@ -33,6 +33,7 @@ use crate::session::standing::{Judged, Standing};
 use crate::stop::Stop;
 use lf_codec::{Places, Reader, Told, exact_reading, faults_stand, header_of_bytes, read_so_far};
 use lf_rules::{Memory, NoMemory, Shape};
+use lf_views::RecordView;
 use std::alloc::Global;
 
 /// How far the judging is.
@@ -82,7 +83,7 @@ fn judge_records(reader: &mut Reader, standing: &mut Standing) -> Result<(), NoM
 {
     read_so_far();
     while let Some(item) = reader.front() {
-        standing.take(item)?;
+        standing.take(&RecordView::of(item), &[])?;
         reader.drop_front();
     }
     Ok(())
@@ -106,7 +107,7 @@ fn judge_one(standing: &mut Standing, place: &Places) -> Result<(), NoMemory>
     ensures keeps { standing.new.entries.keeps ≡ standing.old.entries.keeps }
 {
     match place.record() {
-        Some(item) => standing.take(item),
+        Some(item) => standing.take(&RecordView::of(item), &[]),
         None => Ok(()),
     }
 }

@@ -6,7 +6,8 @@ ghost use Rattle.lf_rules.specs.declared.shape.Shape.{Shape};
 ghost use Rattle.lf_rules.specs.declared.event.Record.{Record};
 ghost use Rattle.lf_rules.specs.Address.{FlatMemory, flat_memory};
 ghost use Rattle.lf_rules.specs.InRange.{IsShape};
-ghost use Rattle.lf_logs.specs.Reordering.{HasOrdered};
+ghost use Rattle.lf_codec.specs.Lent.{IsSpelling};
+ghost use Rattle.lf_logs.specs.Reordering.{CanKeep, HasOrdered};
 ghost use Rattle.lf_replay.specs.Bytes.{bank_part};
 ghost use Rattle.lf_replay.specs.Step.{IsForStep};
 ghost use Rattle.lf_stats.specs.Tally.{IsCounted, IsSteady};
@@ -15,12 +16,12 @@ ghost use Rattle.lf_verdict.specs.inner.Shares.{CanTakeOwn, TakesOwn, CanTakeAll
 ghost use Rattle.lf_verdict.specs.inner.Turns.{CanSettle, Settles, CanTake, TakesNext};
 
 use crate::broken_part::Part;
-use crate::session::standing::placeholder::no_record;
-use lf_codec::{Packed, Places};
+use lf_codec::Packed;
 use lf_logs::Reorder;
 use lf_replay::{BankFault, Step};
-use lf_rules::{Memory, NoMemory, Outcome, Record, Shape};
+use lf_rules::{Memory, NoMemory, Outcome, Shape};
 use lf_stats::BankCount;
+use lf_views::RecordView;
 use std::alloc::Global;
 
 /// A bank, the records that came before their turn, and the first that broke a rule.
@@ -55,16 +56,65 @@ fn first_count(alloc: Global, shape: &Shape, counted: bool) -> Result<Option<Ban
 
 /// Counts the record, where records are counted.
 #[inline(always)]
-fn count_next(count: &mut Option<BankCount>, item: &Record) -> Result<(), NoMemory>
+fn count_next(count: &mut Option<BankCount>, item: &RecordView<'_>) -> Result<(), NoMemory>
     requires { IfSome count.old IsSteady }
     ensures counted { (shape : Shape) (rs : List Record) → IfSome count.old (IsCounted shape rs) →
         OnOk result (IfSome count.new (IsCounted shape (rs ++ item.now ∷ []))) }
     ensures counts { IsSome count.old → IsSome count.new }
 {
     match count {
-        Some(count) => count.take(item),
+        Some(count) => count.take_view(item),
         None => Ok(()),
     }
+}
+
+/// Judges the record whose turn it is, unless an earlier one broke a rule.
+fn judge_rules(
+    step: &mut Step,
+    outcome: &mut Outcome,
+    item: &RecordView<'_>,
+) -> Result<(), NoMemory>
+    requires { IsForStep step.old item.now }
+    ensures bank { step.new.bank ≡ step.old.bank }
+    ensures shape { step.new.state.shape ≡ step.old.state.shape }
+    ensures judged { (shape : Shape) (memory : FlatMemory) (bank : ℕ) (rs : List Record) →
+        item.now.number ≡ length rs
+        → IsBankAt shape memory bank rs step.old outcome.old
+        → OnOk result (IsBankAt shape memory bank (rs ++ item.now ∷ []) step.new outcome.new) }
+{
+    if let Outcome::Passed = *outcome {
+        match step.apply_view(item) {
+            Ok(()) => {}
+            Err(BankFault::Rule(rule)) => *outcome = Outcome::Broken(item.number(), rule),
+            Err(BankFault::NoMemory) => return Err(NoMemory),
+        }
+    }
+    Ok(())
+}
+
+/// Judges the record whose turn it is, unless an earlier one broke a rule, and counts it. It takes the parts of a
+/// judge, since the record may be lent by what else the judge has.
+#[inline(always)]
+fn judge_next(
+    step: &mut Step,
+    outcome: &mut Outcome,
+    count: &mut Option<BankCount>,
+    item: &RecordView<'_>,
+) -> Result<(), NoMemory>
+    requires step { IsForStep step.old item.now }
+    requires steady { IfSome count.old IsSteady }
+    ensures bank { step.new.bank ≡ step.old.bank }
+    ensures shape { step.new.state.shape ≡ step.old.state.shape }
+    ensures judged { (shape : Shape) (memory : FlatMemory) (bank : ℕ) (rs : List Record) →
+        item.now.number ≡ length rs
+        → IsBankAt shape memory bank rs step.old outcome.old
+        → OnOk result (IsBankAt shape memory bank (rs ++ item.now ∷ []) step.new outcome.new) }
+    ensures counted { (shape : Shape) (rs : List Record) → IfSome count.old (IsCounted shape rs) →
+        OnOk result (IfSome count.new (IsCounted shape (rs ++ item.now ∷ []))) }
+    ensures counts { IsSome count.old → IsSome count.new }
+{
+    count_next(count, item)?;
+    judge_rules(step, outcome, item)
 }
 
 impl BankJudge {
@@ -83,7 +133,7 @@ impl BankJudge {
         ensures counts { IsTrue counted → IfOk result (λ judge. IsSome judge.count) }
     {
         let count = first_count(alloc, shape, counted)?;
-        let order = Reorder::new(alloc, bank);
+        let order = Reorder::of_shape(alloc, shape, bank);
         let step = Step::new(alloc, shape, memory, u32::from(bank))?;
         Ok(BankJudge {
             order,
@@ -91,49 +141,6 @@ impl BankJudge {
             outcome: Outcome::Passed,
             count,
         })
-    }
-
-    /// Judges the record whose turn it is, unless an earlier one broke a rule, and counts it.
-    #[inline(always)]
-    fn judge(&mut self, item: &Record) -> Result<(), NoMemory>
-        requires step { IsForStep self.old.step item.now }
-        requires steady { IfSome self.old.count IsSteady }
-        ensures order { self.new.order ≡ self.old.order }
-        ensures bank { self.new.step.bank ≡ self.old.step.bank }
-        ensures shape { self.new.step.state.shape ≡ self.old.step.state.shape }
-        ensures judged { (shape : Shape) (memory : FlatMemory) (bank : ℕ) (rs : List Record) →
-            item.now.number ≡ length rs
-            → IsBankAt shape memory bank rs self.old.step self.old.outcome
-            → OnOk result (IsBankAt shape memory bank (rs ++ item.now ∷ []) self.new.step self.new.outcome) }
-        ensures counted { (shape : Shape) (rs : List Record) → IfSome self.old.count (IsCounted shape rs) →
-            OnOk result (IfSome self.new.count (IsCounted shape (rs ++ item.now ∷ []))) }
-        ensures counts { IsSome self.old.count → IsSome self.new.count }
-    {
-        count_next(&mut self.count, item)?;
-        self.judge_rules(item)
-    }
-
-    /// Judges the record whose turn it is, unless an earlier one broke a rule.
-    fn judge_rules(&mut self, item: &Record) -> Result<(), NoMemory>
-        requires { IsForStep self.old.step item.now }
-        ensures rest { self.new ≡ record self.old { step = self.new.step; outcome = self.new.outcome } }
-        ensures bank { self.new.step.bank ≡ self.old.step.bank }
-        ensures shape { self.new.step.state.shape ≡ self.old.step.state.shape }
-        ensures judged { (shape : Shape) (memory : FlatMemory) (bank : ℕ) (rs : List Record) →
-            item.now.number ≡ length rs
-            → IsBankAt shape memory bank rs self.old.step self.old.outcome
-            → OnOk result (IsBankAt shape memory bank (rs ++ item.now ∷ []) self.new.step self.new.outcome) }
-    {
-        if let Outcome::Passed = self.outcome {
-            match self.step.apply(item) {
-                Ok(()) => {}
-                Err(BankFault::Rule(rule)) => {
-                    self.outcome = Outcome::Broken(item.number, rule);
-                }
-                Err(BankFault::NoMemory) => return Err(NoMemory),
-            }
-        }
-        Ok(())
     }
 
     /// Judges the records whose turn has come.
@@ -148,45 +155,52 @@ impl BankJudge {
         self.settle_waiting()
     }
 
-    /// Judges those of the waiting records whose turn has come. It is apart from `settle`, since it has
-    /// a place for a record, which costs time where none waits.
+    /// Judges those of the waiting records whose turn has come. It is apart from `settle`, so that little is done
+    /// where none waits.
     #[inline(never)]
     fn settle_waiting(&mut self) -> Result<(), NoMemory>
         requires { CanSettle self.old }
         ensures settles { Settles self.old result self.new }
         ensures counts { IsSome self.old.count → IsSome self.new.count }
     {
-        let mut item = no_record();
-        while self.order.next_into(&mut item) {
-            self.judge(&item)?;
+        loop {
+            let mut item = RecordView::blank();
+            if !self.order.lend_next(&mut item) {
+                return Ok(());
+            }
+            judge_next(&mut self.step, &mut self.outcome, &mut self.count, &item)?;
+            self.order.drop_next();
         }
-        Ok(())
     }
 
-    /// Keeps a record that came before its turn, or again. It is apart from `take`, since it has a place
-    /// for a record, which costs time where none is kept.
+    /// Keeps a record that came before its turn, or again, with the bytes that spell it. It is apart from `take`,
+    /// since most records come in their turn.
     #[inline(never)]
-    fn keep(&mut self, item: &Record) -> Result<(), NoMemory>
-        requires { item.now.bank ≡ self.old.order.bank }
+    fn keep(&mut self, item: &RecordView<'_>, bytes: &[u8]) -> Result<(), NoMemory>
+        requires bank { item.now.bank ≡ self.old.order.bank }
+        requires spelled { IsSpelling bytes.now item.now }
+        requires fits { CanKeep self.old.order.header item.now }
         ensures rest { self.new ≡ record self.old { order = self.new.order } }
         ensures bank { self.new.order.bank ≡ self.old.order.bank }
+        ensures header { self.new.order.header ≡ self.old.order.header }
         ensures put { (put : List Record) (gave : List Record) → HasOrdered self.old.order put gave
             → OnOk result (HasOrdered self.new.order (put ++ item.now ∷ []) gave) }
     {
-        self.order.put_lent(item)
+        self.order.put_view(item, bytes)
     }
 
-    /// Takes a record of the bank, and judges those whose turn has come. One that came before its turn
-    /// is copied.
-    pub fn take(&mut self, item: &Record) -> Result<(), NoMemory>
-        requires { CanTake item.now self.old }
+    /// Takes a record of the bank, and judges those whose turn has come. One that came before its turn is kept: by
+    /// the bytes that spell it, where they are given.
+    pub fn take(&mut self, item: &RecordView<'_>, bytes: &[u8]) -> Result<(), NoMemory>
+        requires can { CanTake item.now self.old }
+        requires spelled { IsSpelling bytes.now item.now }
         ensures takes { TakesNext item.now self.old result self.new }
         ensures counts { IsSome self.old.count → IsSome self.new.count }
     {
         if !self.order.pass(item) {
-            return self.keep(item);
+            return self.keep(item, bytes);
         }
-        self.judge(item)?;
+        judge_next(&mut self.step, &mut self.outcome, &mut self.count, item)?;
         self.settle()
     }
 
@@ -195,10 +209,11 @@ impl BankJudge {
         requires { CanTakeOwn bank records.now.records self.old }
         ensures { TakesOwn bank records.now.records self.old result self.new }
     {
-        let mut places = Places::new();
+        let mut item = RecordView::blank();
         for at in 0..records.len() {
             if usize::from(records.bank(at)) == bank {
-                self.take(records.lend_from(at, &mut places))?;
+                records.lend_view(at, &mut item);
+                self.take(&item, records.spelling(at))?;
             }
         }
         Ok(())

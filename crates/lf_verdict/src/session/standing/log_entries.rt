@@ -16,9 +16,10 @@ ghost use Rattle.lf_verdict.specs.Standing.{AreKept, AreEntered};
 
 use crate::session::breaking::PartFault;
 use crate::session::standing::port_judge::PortJudge;
-use lf_codec::{Packed, Places};
+use lf_codec::Packed;
 use lf_join::{Progress, entries_stay};
-use lf_rules::{NoMemory, Outcome, Record, Skeleton};
+use lf_rules::{NoMemory, Outcome, Skeleton};
+use lf_views::RecordView;
 
 /// Each log's entries so far, and how each port stands. No bank is among them, so that records can be
 /// entered while the banks are judged.
@@ -44,13 +45,13 @@ impl Entries {
     }
 
     /// The place in its log at which the next record will stand.
-    pub fn place_of(&self, item: &Record) -> u32
+    pub fn place_of(&self, item: &RecordView<'_>) -> u32
         requires { CanEnter item.now self.now }
         ensures { (shape : Shape) (records : List Record) → MayCome shape records item.now →
             AreEntered shape records self.now
             → result ≡ length (of_log item.now.log records) }
     {
-        self.len_of(item.log) as u32
+        self.len_of(item.log()) as u32
     }
 
     /// The fault of the port, where the log is a port's and the port broke a rule.
@@ -119,7 +120,7 @@ impl Entries {
     }
 
     /// Keeps the entry of the next record, and judges it by its port where it stands in a port's log.
-    pub fn enter(&mut self, item: &Record) -> Result<(), NoMemory>
+    pub fn enter(&mut self, item: &RecordView<'_>) -> Result<(), NoMemory>
         requires { CanEnter item.now self.old }
         ensures entered { (shape : Shape) (records : List Record) → MayCome shape records item.now →
             AreEntered shape records self.old
@@ -127,16 +128,17 @@ impl Entries {
         ensures keeps { self.new.keeps ≡ self.old.keeps }
     {
         let at = self.place_of(item);
-        self.keep(item.log, (item.bank, item.number))?;
-        let port = usize::from(item.log);
+        let log = item.log();
+        self.keep(log, (item.bank(), item.number()))?;
+        let port = usize::from(log);
         if port < self.ports.len() {
             self.ports[port].take(at, item);
         }
         Ok(())
     }
 
-    /// Enters the record at this place. It is built among `places` only where a port judges it.
-    fn enter_at(&mut self, records: &Packed, at: usize, places: &mut Places) -> Result<(), NoMemory>
+    /// Enters the record at this place. It is lent only where a port judges it.
+    fn enter_at(&mut self, records: &Packed, at: usize) -> Result<(), NoMemory>
         requires within { at < length records.now.records }
         requires next { (item : Record) ×
             ((item ≡ slice_index_or records.now.records at item) × CanEnter item self.old) }
@@ -148,7 +150,9 @@ impl Entries {
     {
         let log = records.log(at);
         if usize::from(log) < self.ports.len() {
-            return self.enter(records.lend_from(at, places));
+            let mut item = RecordView::blank();
+            records.lend_view(at, &mut item);
+            return self.enter(&item);
         }
         self.keep(log, (records.bank(at), records.number(at)))
     }
@@ -159,9 +163,8 @@ impl Entries {
         ensures entered { EntersAll records.now.records self.old result self.new }
         ensures keeps { self.new.keeps ≡ self.old.keeps }
     {
-        let mut places = Places::new();
         for at in 0..records.len() {
-            self.enter_at(records, at, &mut places)?;
+            self.enter_at(records, at)?;
         }
         Ok(())
     }

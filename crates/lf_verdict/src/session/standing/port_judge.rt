@@ -7,7 +7,8 @@ ghost use Rattle.lf_verdict.specs.Standing.{IsPortJudged};
 
 use crate::broken_part::Part;
 use lf_logs::PortStep;
-use lf_rules::{Outcome, Record, Shape};
+use lf_rules::{Outcome, Shape};
+use lf_views::RecordView;
 
 /// A port, and the first of its records that broke a rule.
 #[derive(Drop)]
@@ -35,13 +36,13 @@ impl PortJudge {
     }
 
     /// Judges the port's next record, which stands at this place of its log.
-    pub fn take(&mut self, at: u32, item: &Record)
+    pub fn take(&mut self, at: u32, item: &RecordView<'_>)
         requires { item.now.log ≡ self.old.step.port }
         ensures { (shape : Shape) (port : ℕ) (rs : List Record) → at ≡ length rs → IsPortJudged shape port rs self.old
             → IsPortJudged shape port (rs ++ item.now ∷ []) self.new }
     {
         if let Outcome::Passed = self.outcome {
-            if let Err(rule) = self.step.apply(item) {
+            if let Err(rule) = self.step.apply_view(item) {
                 self.outcome = Outcome::Broken(at, rule);
             }
         }

@@ -10,7 +10,8 @@ pub returns-in-Some-clause-judged : goal.returns-in-Some-clause-judged
 returns-in-Some-clause-judged c shape memory records stands may =
     let is : c.args.place.now ≡ Some c.in-Some.item.now = rw c.in-Some.is at c.record.ensures in
     let own = subst (λ (p : Option Record). MayAllCome shape records (option_to_list p)) is may in
-    on_ok c.take.result (c.take.ensures.judged shape memory records own.0 stands)
+    let took = rw c.of.ensures at c.take.ensures in
+    on_ok c.take.result (took.judged shape memory records own.0 stands)
     (λ after. subst (λ (p : Option Record). StandsAfterAll shape memory (records ++ option_to_list p) c.take.new.self)
     (sym is) after)
 
@@ -18,7 +19,8 @@ pub returns-in-Some-clause-watched : goal.returns-in-Some-clause-watched
 returns-in-Some-clause-watched c start shape memory records stands may watched =
     let is : c.args.place.now ≡ Some c.in-Some.item.now = rw c.in-Some.is at c.record.ensures in
     let own = subst (λ (p : Option Record). MayAllCome shape records (option_to_list p)) is may in
-    on_ok c.take.result (c.take.ensures.watched start shape memory records own.0 stands watched)
+    let took = rw c.of.ensures at c.take.ensures in
+    on_ok c.take.result (took.watched start shape memory records own.0 stands watched)
     (λ after. subst (λ (p : Option Record). IsWatch start shape memory (records ++ option_to_list p)
     c.take.new.self.watch) (sym is) after)
 

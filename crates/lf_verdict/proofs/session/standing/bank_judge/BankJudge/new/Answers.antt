@@ -11,14 +11,14 @@ pub returns-clause-settled : goal.returns-clause-settled
 returns-clause-settled c =
     let shape = c.args.shape.now in
     let judge : BankJudge = record {
-      order = c.new-order.result;
+      order = c.of_shape-order.result;
       step = c.in_ok-step.step;
       outcome = outcomes.Passed;
       count = c.in_ok-count.count;
     } in
     let memory = flat_memory c.args.memory.now.items in
     settled_none shape (bank_part shape c.args.bank memory) c.args.bank judge
-    c.new-order.ensures.bank c.new-order.ensures.nothing refl
+    c.of_shape-order.ensures.bank c.of_shape-order.ensures.header c.of_shape-order.ensures.nothing refl
     (subst (λ (n : ℕ). IsStepAfter judge.step shape (bank_part shape n memory) n []) c.from.ensures
     c.in_ok-step.ensures) c.in_ok-count.ensures.counted
 

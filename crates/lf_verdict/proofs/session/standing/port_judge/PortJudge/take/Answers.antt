@@ -3,11 +3,11 @@ use Rattle.lf_verdict.specs.Standing.{IsPortAt}
 use Rattle.lf_verdict.proofs.Judges.{port_kept}
 use Rattle.lf_verdict.proofs.session.standing.port_judge.PortJudge.take.Goals as goal
 
-pub returns-in_default-apply : goal.returns-in_default-apply
-returns-in_default-apply c shape port rs at judged = record {
-  of_port = c.apply.ensures.port ∙ judged.of_port;
-  judged = subst (IsPortAt shape (rs ++ c.args.item.now ∷ []) c.apply.new.self) (sym c.in-Passed.is)
-      (c.in_default-apply.ensures.stands shape rs (subst (IsPortAt shape rs c.args.self.now.step) c.in-Passed.is
+pub returns-in_default-apply_view : goal.returns-in_default-apply_view
+returns-in_default-apply_view c shape port rs at judged = record {
+  of_port = c.apply_view.ensures.port ∙ judged.of_port;
+  judged = subst (IsPortAt shape (rs ++ c.args.item.now ∷ []) c.apply_view.new.self) (sym c.in-Passed.is)
+      (c.in_default-apply_view.ensures.stands shape rs (subst (IsPortAt shape rs c.args.self.now.step) c.in-Passed.is
       judged.judged));
 }
 
