@@ -2,6 +2,8 @@
 
 ghost use Rattle.std.specs.Prelude.{◌≡◌, ◌<◌, ◌≤◌, ◌+◌, ◌++◌, ◌∷◌, ◌↔◌, [], IsTrue, OnOk, OnErr, IfErr, length, take};
 ghost use Rattle.std.specs.Prelude.{drop, slice_index_or};
+ghost use Rattle.lf_rules.specs.Address.{no_bank};
+ghost use Rattle.lf_rules.specs.declared.event.Event.TheVariants as Event;
 ghost use Rattle.lf_rules.specs.declared.event.Record.{Record};
 ghost use Rattle.lf_codec.specs.declared.header.Header.{Header};
 ghost use Rattle.lf_codec.specs.Steps.{head_at};
@@ -10,10 +12,9 @@ ghost use Rattle.lf_codec.specs.Packed.{SpellOne, StandLast, slice_of};
 
 use crate::header::Header;
 use crate::layout::lend_front;
-use crate::places::Places;
 use crate::stage::Head;
 use crate::step::head_at;
-use lf_rules::{NoMemory, Record};
+use lf_rules::{Event, NO_BANK, NoMemory, Record};
 use lf_views::RecordView;
 use std::alloc::{AllocFailed, Global};
 use std::marker::Model;
@@ -50,6 +51,18 @@ impl Model for Packed {
     } };
 
     ghost invariant = { λ p. AreWithin p.header p.bytes.items p.forms.items };
+}
+
+/// Room for a record that is built when it is looked at. Until then it holds a fence.
+pub fn room() -> Record
+    ensures { result ≡ record { log = 0; bank = no_bank; number = 0; event = Event.Fence } }
+{
+    Record {
+        log: 0,
+        bank: NO_BANK,
+        number: 0,
+        event: Event::Fence,
+    }
 }
 
 /// So many of the bytes from this one on.
@@ -256,22 +269,6 @@ impl Packed {
                 lend_front(&self.header, slice_of(&self.bytes, *start, *len), &mut view);
                 *place = view.to_record();
                 place
-            }
-            Form::Apart(item) => item,
-        }
-    }
-
-    /// The record as `lend` gives it.
-    pub fn lend_from<'a>(&'a self, at: usize, places: &'a mut Places) -> &'a Record
-        requires { at < length self.now.records }
-        ensures { (d : Record) → result.now ≡ slice_index_or self.now.records at d }
-    {
-        match &self.forms[at] {
-            Form::Spelled { start, len } => {
-                let mut view = RecordView::blank();
-                lend_front(&self.header, slice_of(&self.bytes, *start, *len), &mut view);
-                places.put(Some(view.to_record()));
-                places.written()
             }
             Form::Apart(item) => item,
         }

@@ -12,7 +12,6 @@ ghost use Rattle.lf_codec.specs.Sound.{most_data};
 use crate::checks::{check_fixed, check_head_of};
 use crate::event::{event_at, put_bytes};
 use crate::packed::Packed;
-use crate::places::Places;
 use crate::progress::Progress;
 use crate::stage::{Head, Kind, Stage};
 use crate::step::{data_len, fixed_len};
@@ -151,46 +150,6 @@ impl Progress {
             Kind::Evict2 => self.read_event(Kind::Evict2, bytes, place),
             Kind::Fence => self.read_event(Kind::Fence, bytes, place),
             Kind::SecondMerge => self.read_event(Kind::SecondMerge, bytes, place),
-        }
-    }
-
-    /// Reads a record of this kind as `read_event` does. It is written over the last one of its kind.
-    #[inline(always)]
-    fn place_event(&mut self, kind: Kind, bytes: &[u8], place: &mut Places) -> Option<usize>
-        requires sound { IsSound self.old }
-        requires kind { code_of kind ≡ byte_at 0 bytes.now }
-        ensures some { IfSome result (λ n. ReadsInto self.old bytes.now n place.new self.new) }
-        ensures none { IfNone result (self.new ≡ self.old) }
-    {
-        let whole = self.whole(kind, bytes)?;
-        let len = 8 + whole.fixed.len() + whole.carried.len();
-        place.write(&self.header, kind, whole.head, whole.fixed, whole.carried);
-        self.count_on(len as u64, whole.head.log);
-        Some(len)
-    }
-
-    /// Reads the next record as `read_record` does, and writes it over the last one of its kind.
-    pub(crate) fn place_record(&mut self, bytes: &[u8], place: &mut Places) -> Option<usize>
-        requires { IsSound self.old }
-        ensures some { IfSome result (λ n. ReadsInto self.old bytes.now n place.new self.new) }
-        ensures none { IfNone result (self.new ≡ self.old) }
-    {
-        match first_kind(bytes)? {
-            Kind::Issue => self.place_event(Kind::Issue, bytes, place),
-            Kind::Reply => self.place_event(Kind::Reply, bytes, place),
-            Kind::Hit => self.place_event(Kind::Hit, bytes, place),
-            Kind::Primary => self.place_event(Kind::Primary, bytes, place),
-            Kind::Merge => self.place_event(Kind::Merge, bytes, place),
-            Kind::Stall => self.place_event(Kind::Stall, bytes, place),
-            Kind::Fill1 => self.place_event(Kind::Fill1, bytes, place),
-            Kind::Evict1 => self.place_event(Kind::Evict1, bytes, place),
-            Kind::SecondHit => self.place_event(Kind::SecondHit, bytes, place),
-            Kind::SecondPrimary => self.place_event(Kind::SecondPrimary, bytes, place),
-            Kind::SecondStall => self.place_event(Kind::SecondStall, bytes, place),
-            Kind::Fill2 => self.place_event(Kind::Fill2, bytes, place),
-            Kind::Evict2 => self.place_event(Kind::Evict2, bytes, place),
-            Kind::Fence => self.place_event(Kind::Fence, bytes, place),
-            Kind::SecondMerge => self.place_event(Kind::SecondMerge, bytes, place),
         }
     }
 

@@ -11,7 +11,7 @@ ghost use Rattle.lf_coverage.specs.Counted.{kind_at, numbers_of, AreFew, AreCoun
 use crate::point::{BankPoint, Measure};
 use crate::sight::Sight;
 use crate::standing::Kept;
-use lf_codec::Places;
+use lf_codec::room;
 use lf_logs::{LogRecords, Place};
 use lf_rules::{Event, NoMemory, Shape};
 use std::alloc::Global;
@@ -186,7 +186,7 @@ pub(crate) fn counted<L: LogRecords>(
 {
     let mut kept = Kept::new(alloc)?;
     let mut counts = Counts::new();
-    let mut room = Places::new();
+    let mut room = room();
     for (i, place) in places.iter().enumerate() {
         let item = logs.lend(*place, &mut room);
         let seen = kept.sight(shape, &item.event);

@@ -8,7 +8,7 @@ ghost use Rattle.lf_coverage.specs.Coverage.{port_tallies};
 
 use crate::point::{Point, PortPoint};
 use crate::tally::Tally;
-use lf_codec::Places;
+use lf_codec::room;
 use lf_logs::{LogRecords, Place};
 use lf_rules::{Event, NoMemory};
 
@@ -46,7 +46,7 @@ fn counted<L: LogRecords>(logs: &L, port: u8) -> [u32; 10]
     ensures { (n : ℕ) → n < 10 → slice_index result n
         ≡ port_reached (slice_index_or (L.lists logs.now) port []) (port_point_at n) }
 {
-    let mut room = Places::new();
+    let mut room = room();
     let mut counts = [0; 10];
     for at in 0..logs.log_len(usize::from(port)) {
         let place = Place {

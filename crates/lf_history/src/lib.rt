@@ -16,8 +16,9 @@ mod waiting;
 
 pub use bank_order::places_in_order;
 pub use history::{History, history_in_log, history_in_order, last_at_request};
+pub use lf_codec::room;
 pub use lf_rules::NoMemory;
 pub use packing::packed;
-pub use places::{record_at, room};
+pub use places::record_at;
 pub use request::last_address;
 pub use waiting::waiting_request;

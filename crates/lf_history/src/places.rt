@@ -1,26 +1,12 @@
 //! The places of records in a trace.
 
 ghost use Rattle.std.specs.Prelude.{◌≡◌, Some, None, IfOk, MatchOption};
-ghost use Rattle.lf_rules.specs.Address.{no_bank};
-ghost use Rattle.lf_rules.specs.declared.event.Event.TheVariants as Event;
 ghost use Rattle.lf_history.specs.Places.{places_of_log, places_of_numbers};
 ghost use Rattle.lf_history.specs.Touching.{record_at};
 
 use lf_codec::Packed;
-use lf_rules::{Event, NO_BANK, NoMemory, Record};
+use lf_rules::{NoMemory, Record};
 use std::alloc::Global;
-
-/// Room for a record that is built when it is looked at. Until then it holds a fence.
-pub fn room() -> Record
-    ensures { result ≡ record { log = 0; bank = no_bank; number = 0; event = Event.Fence } }
-{
-    Record {
-        log: 0,
-        bank: NO_BANK,
-        number: 0,
-        event: Event::Fence,
-    }
-}
 
 /// The record at a place, where there is one. It may be built in `room`.
 pub fn record_at<'a>(

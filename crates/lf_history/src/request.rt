@@ -5,8 +5,7 @@ ghost use Rattle.lf_history.specs.BankOrder.{records_at};
 ghost use Rattle.lf_history.specs.Request.{address_by, last_address};
 ghost use Rattle.lf_history.specs.Touching.{record_at};
 
-use crate::places::room;
-use lf_codec::Packed;
+use lf_codec::{Packed, room};
 use lf_rules::{Event, Record};
 
 /// The address that the record asks for, where it is a request of the port with this tag.

@@ -5,10 +5,10 @@ ghost use Rattle.lf_history.specs.History.{is_about, about, touched_by};
 ghost use Rattle.lf_history.specs.Near.{EndsWith, about_one, kept};
 ghost use Rattle.lf_history.specs.Touching.{record_at, all_before, touches};
 
-use crate::places::{record_at, room};
+use crate::places::record_at;
 use crate::request::last_address;
 use crate::requests::{Named, Requests, name_of, second_at};
-use lf_codec::Packed;
+use lf_codec::{Packed, room};
 use lf_rules::{NoMemory, Shape};
 use std::alloc::Global;
 

@@ -3,8 +3,7 @@
 ghost use Rattle.std.specs.Prelude.{◌≡◌, ◌<◌, ℕ, IfSome, length};
 ghost use Rattle.lf_history.specs.Waiting.{waiting_after, waiting_request};
 
-use crate::places::room;
-use lf_codec::Packed;
+use lf_codec::{Packed, room};
 use lf_rules::Event;
 
 /// The place of the request that waits with this tag after an event of the port at the place `at`.

@@ -3,7 +3,7 @@
 ghost use Rattle.std.specs.Prelude.{◌≤◌, ◌^◌, length, IfOk};
 ghost use Rattle.std.specs.List.{All};
 
-use lf_codec::Places;
+use lf_codec::room;
 use lf_history::packed;
 use lf_logs::{LogRecords, PackedLogs, Place, places_of_bank};
 use lf_rules::Record;
@@ -49,7 +49,7 @@ fn packed_records_of_a_bank(rt: HostRuntime) -> Result<(), Fail> {
     assert_eq!(rt; order.as_slice(), places.as_slice());
     let [first, second, third, last] = rows;
     let sorted = records_at(rt.alloc(), &C1, &[second, last, third, first])?;
-    let mut room = Places::new();
+    let mut room = room();
     for (number, place) in order.iter().enumerate() {
         let (bank, found) = logs.entry(*place);
         assert_eq!(rt; (bank, found as usize), (0, number));

@@ -6,7 +6,6 @@ ghost use Rattle.lf_rules.specs.Lists.{lists_of};
 ghost use Rattle.lf_logs.specs.Places.{record_at, Names};
 
 use crate::order::{Place, record_at};
-use lf_codec::Places;
 use lf_rules::{Logs, Record};
 
 /// The records of a trace by their logs, however they are kept.
@@ -29,7 +28,7 @@ pub trait LogRecords {
         ensures { Names (lists self.now) result.0 result.1 place };
 
     /// The record at the place, which may be built in `room`.
-    fn lend<'a>(&'a self, place: Place, room: &'a mut Places) -> &'a Record
+    fn lend<'a>(&'a self, place: Place, room: &'a mut Record) -> &'a Record
         requires { IsSome (record_at (lists self.now) place) }
         ensures { record_at (lists self.now) place ≡ Some result.now };
 }
@@ -50,7 +49,7 @@ impl LogRecords for Logs {
         (item.bank, item.number)
     }
 
-    fn lend<'a>(&'a self, place: Place, _room: &'a mut Places) -> &'a Record {
+    fn lend<'a>(&'a self, place: Place, _room: &'a mut Record) -> &'a Record {
         record_at(self, place)
     }
 }

@@ -8,7 +8,7 @@ ghost use Rattle.lf_logs.specs.PackedLogs.{lists_at, AreSpotsOf, IsSpotOf};
 
 use crate::log_records::LogRecords;
 use crate::order::Place;
-use lf_codec::{Packed, Places};
+use lf_codec::Packed;
 use lf_rules::{NoMemory, Record};
 use std::alloc::Global;
 use std::marker::Model;
@@ -120,8 +120,8 @@ impl LogRecords for PackedLogs {
         (bank, number)
     }
 
-    fn lend<'a>(&'a self, place: Place, room: &'a mut Places) -> &'a Record {
+    fn lend<'a>(&'a self, place: Place, room: &'a mut Record) -> &'a Record {
         let spot = self.spots[usize::from(place.log)][place.at as usize];
-        self.records.lend_from(spot.at as usize, room)
+        self.records.lend(spot.at as usize, room)
     }
 }

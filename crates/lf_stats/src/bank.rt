@@ -8,7 +8,7 @@ ghost use Rattle.lf_stats.specs.Statistics.{held_by, held_counts, bank_stats};
 use crate::counts::BankStats;
 use crate::held::Held;
 use crate::issued::{Accepted, blocks_issued};
-use lf_codec::Places;
+use lf_codec::room;
 use lf_logs::{LogRecords, Place};
 use lf_rules::{Event, NoMemory, Shape};
 use std::alloc::Global;
@@ -55,7 +55,7 @@ pub(crate) fn bank_stats<L: LogRecords>(
     let issued = blocks_issued(alloc, shape, logs, places)?;
     let mut accepted = Accepted::new();
     let mut held = Held::new(alloc);
-    let mut room = Places::new();
+    let mut room = room();
     let mut stats = BankStats::default();
     for place in places {
         let event = &logs.lend(*place, &mut room).event;
@@ -82,7 +82,7 @@ pub fn held_counts<L: LogRecords>(
     let issued = blocks_issued(alloc, shape, logs, places)?;
     let mut accepted = Accepted::new();
     let mut held = Held::new(alloc);
-    let mut room = Places::new();
+    let mut room = room();
     let mut counts = vec![in alloc; 0]?;
     for place in places {
         let event = &logs.lend(*place, &mut room).event;

@@ -7,7 +7,7 @@ ghost use Rattle.lf_logs.specs.Places.{record_at, records_at};
 ghost use Rattle.lf_stats.specs.Standing.{next_of};
 ghost use Rattle.lf_stats.specs.Statistics.{accepts, issued};
 
-use lf_codec::Places;
+use lf_codec::room;
 use lf_logs::{LogRecords, Place};
 use lf_rules::{Event, NoMemory, Shape};
 use std::alloc::Global;
@@ -40,7 +40,7 @@ pub(crate) fn blocks_issued<L: LogRecords>(
         → slice_index_or (lists_of lists) port [] ≡ issued shape.now port (records_at (L.lists logs.now) places.now)) }
 {
     let mut lists = no_blocks(alloc)?;
-    let mut room = Places::new();
+    let mut room = room();
     for place in places {
         let item = logs.lend(*place, &mut room);
         if let Event::Issue { address, .. } = &item.event {

@@ -3,7 +3,7 @@
 ghost use Rattle.std.specs.Prelude.{◌≡◌, ◌<◌, ◌≤◌, ◌^◌, ℕ, false, [], length, filter, slice_index_or};
 ghost use Rattle.lf_logs.specs.Incomplete.{unanswered, waits, waits_after};
 
-use lf_codec::Places;
+use lf_codec::room;
 use lf_logs::{LogRecords, Place};
 use lf_rules::Event;
 
@@ -31,7 +31,7 @@ fn waits_at<L: LogRecords>(logs: &L, port: u8) -> [bool; TAGS]
     ensures waits { (tag : ℕ) → tag < 256 → slice_index_or result tag false
         ≡ waits (slice_index_or (L.lists logs.now) port []) tag }
 {
-    let mut room = Places::new();
+    let mut room = room();
     let mut waits = [false; TAGS];
     for at in 0..logs.log_len(usize::from(port)) {
         let place = Place {

@@ -1,7 +1,7 @@
 //! What is asked of a reader and of the writer.
 
-use lf_codec::{CodecCause, CodecFault, Header, Packed, Places, Reader, Told, encode, fits_trace};
-use lf_rules::{Event, Memory, NO_BANK, NoMemory, Record};
+use lf_codec::{CodecCause, CodecFault, Header, Packed, Reader, Told, encode, fits_trace, room};
+use lf_rules::{Memory, NoMemory, Record};
 use lf_views::RecordView;
 use std::alloc::Global;
 use std::process::Abort;
@@ -45,13 +45,7 @@ pub fn feed_into(reader: &mut Reader, piece: &[u8], records: &mut Packed) -> Res
 pub fn assert_packed(rt: &impl Abort, packed: &Packed, records: &[Record]) {
     assert_eq!(rt; packed.len(), records.len());
     assert_eq!(rt; packed.is_empty(), records.is_empty());
-    let mut place = Record {
-        log: 0,
-        bank: NO_BANK,
-        number: 0,
-        event: Event::Fence,
-    };
-    let mut places = Places::new();
+    let mut place = room();
     for at in 0..packed.len() {
         let item = records.get(at);
         assert_eq!(rt; Some(packed.bank(at)), item.map(|r| r.bank));
@@ -61,7 +55,6 @@ pub fn assert_packed(rt: &impl Abort, packed: &Packed, records: &[Record]) {
         packed.lend_view(at, &mut view);
         assert_eq!(rt; Some(&view.to_record()), item);
         assert_eq!(rt; Some(packed.lend(at, &mut place)), item);
-        assert_eq!(rt; Some(packed.lend_from(at, &mut places)), item);
     }
 }
 

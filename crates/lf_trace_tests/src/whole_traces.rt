@@ -4,7 +4,7 @@ use crate::reading::{
     ONE_BANK, assert_fault, assert_packed, assert_reads, assert_taken, encoded, feed, feed_into,
     finish,
 };
-use lf_codec::{CodecCause, CodecFault, Header, Packed, Places, Reader, Told, fits_trace};
+use lf_codec::{CodecCause, CodecFault, Header, Packed, Reader, Told, fits_trace};
 use lf_rules::{Memory, Record};
 use lf_samples::{
     C1, EMPTY_TRACE, FENCE_LAST, LOAD, LOAD_MISSES_BOTH_LEVELS, LOADED, bytes_of, memory, records,
@@ -131,68 +131,6 @@ fn record_by_record(rt: HostRuntime) -> Result<(), Fail> {
     assert!(rt; rest.is_empty());
     assert_eq!(rt; expected.next(), None);
     assert_ended(&rt, &mut reader)
-}
-
-/// Feeds the front of these bytes up to the end of a record, which it puts into the place, and gives those
-/// behind it.
-fn feed_one<'a>(
-    reader: &mut Reader,
-    bytes: &'a [u8],
-    place: &mut Places,
-) -> Result<&'a [u8], Fail> {
-    let n = reader.feed_one(bytes, place)?;
-    let (_, behind) = bytes.split_at(n.min(bytes.len()));
-    Ok(behind)
-}
-
-/// Fails where the trace does not end here, a further byte is no fault, or the place is not emptied by it.
-fn assert_place_emptied(
-    rt: &impl Abort,
-    reader: &mut Reader,
-    place: &mut Places,
-) -> Result<(), Fail> {
-    assert_eq!(rt; finish(reader)?, ONE_BANK);
-    assert!(rt; reader.feed_one(&[0], place).is_err());
-    assert_eq!(rt; place.record(), None);
-    Ok(())
-}
-
-/// Each record is put into the place, and none where the bytes end within a step.
-#[test]
-fn records_into_a_place(rt: HostRuntime) -> Result<(), Fail> {
-    let records = records(rt.alloc(), &C1, &[LOAD, LOADED])?;
-    let mut expected = records.iter();
-    let mut reader = Reader::new(rt.alloc());
-    let mut place = Places::new();
-    let mut rest: &[u8] = &LOAD_MISSES_BOTH_LEVELS;
-    for _ in 0..132u8 {
-        rest = feed_one(&mut reader, rest, &mut place)?;
-        if place.record().is_some() {
-            assert_eq!(rt; place.record(), expected.next());
-        }
-        assert_eq!(rt; reader.front(), None);
-    }
-    assert!(rt; rest.is_empty());
-    assert_eq!(rt; expected.next(), None);
-    assert_place_emptied(&rt, &mut reader, &mut place)
-}
-
-/// A record that waits with the reader is put into the place before any later one.
-#[test]
-fn waiting_records_into_a_place(rt: HostRuntime) -> Result<(), Fail> {
-    let records = records(rt.alloc(), &C1, &[LOAD, LOADED])?;
-    let mut reader = Reader::new(rt.alloc());
-    let mut place = Places::new();
-    let (front, back) = LOAD_MISSES_BOTH_LEVELS.split_at(100);
-    feed(&mut reader, front)?;
-    let mut rest = back;
-    for item in records.iter() {
-        rest = feed_one(&mut reader, rest, &mut place)?;
-        assert_eq!(rt; place.record(), Some(item));
-    }
-    place.clear();
-    assert_eq!(rt; place.record(), None);
-    Ok(())
 }
 
 /// A record that is lent, if any, with its bytes, and the bytes behind those that were read.

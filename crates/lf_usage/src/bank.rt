@@ -8,7 +8,7 @@ ghost use Rattle.lf_usage.specs.Usage.{bank_use};
 use crate::change::{change1, change2};
 use crate::tally::Tally;
 use crate::usage::BankUse;
-use lf_codec::Places;
+use lf_codec::room;
 use lf_logs::{LogRecords, Place};
 use lf_rules::{NoMemory, Shape};
 use std::alloc::Global;
@@ -27,7 +27,7 @@ pub(crate) fn bank_use<L: LogRecords>(
 {
     let mut one = Tally::new(alloc);
     let mut two = Tally::new(alloc);
-    let mut room = Places::new();
+    let mut room = room();
     for place in places {
         let event = &logs.lend(*place, &mut room).event;
         one.note(change1(shape, event))?;

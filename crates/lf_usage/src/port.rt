@@ -3,7 +3,7 @@
 ghost use Rattle.std.specs.Prelude.{◌≡◌, ◌<◌, ◌≤◌, ◌^◌, [], length, slice_index_or};
 ghost use Rattle.lf_usage.specs.Usage.{higher, highest_tag};
 
-use lf_codec::Places;
+use lf_codec::room;
 use lf_logs::{LogRecords, Place};
 use lf_rules::Event;
 
@@ -23,7 +23,7 @@ pub(crate) fn highest_tag<L: LogRecords>(logs: &L, port: u8) -> Option<u8>
     requires short { length (slice_index_or (L.lists logs.now) port []) ≤ 2 ^ 24 }
     ensures { result ≡ highest_tag (slice_index_or (L.lists logs.now) port []) }
 {
-    let mut room = Places::new();
+    let mut room = room();
     let mut highest = None;
     for at in 0..logs.log_len(usize::from(port)) {
         let place = Place {
