@@ -1,11 +1,10 @@
-use Rattle.std.proofs.Common.{◌≡◌, ℕ, ◌∙◌, ap, sym, subst, [], List, Option, Some}
+use Rattle.std.proofs.Common.{◌≡◌, ℕ, ◌∙◌, ap, [], Option}
 use Rattle.std.specs.Prelude.{slice_index_or}
 use Rattle.std.proofs.lemmas.Option.{slice_get-get_or}
 use Rattle.lf_rules.specs.declared.event.Record.{Record}
-use Rattle.lf_rules.specs.Run.{of_bank}
-use Rattle.lf_history.specs.History.{last, about, places_of_bank, touched_by}
+use Rattle.lf_history.specs.History.{places_of_bank, touched_by}
 use Rattle.lf_history.specs.Places.{places_of_numbers}
-use Rattle.lf_history.specs.Touching.{touched, touches}
+use Rattle.lf_history.specs.Touching.{touched}
 use Rattle.lf_history.proofs.history.last_at_request.Goals as goal
 
 pub returns : goal.returns
