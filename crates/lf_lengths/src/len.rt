@@ -2,29 +2,31 @@
 
 ghost use Rattle.std.specs.Prelude.{◌≡◌, ◌≤◌, ◌+◌, length};
 ghost use Rattle.lf_codec.specs.Layout.{data_of, record_bytes};
+ghost use Rattle.lf_views.specs.Views.{CanBeKept, event_of};
 ghost use Rattle.lf_lengths.specs.Lengths.{fixed_len};
 
-use lf_rules::{Event, Record};
-use lf_views::RecordView;
+use lf_rules::Record;
+use lf_views::{EventView, RecordView};
 
 /// How many bytes an event takes: its fixed part, and the bytes that it carries.
-fn event_len(event: &Event) -> usize
-    ensures len { result ≡ fixed_len event.now + length (data_of event.now) }
+fn event_len(event: &EventView<'_>) -> usize
+    requires { CanBeKept (event_of event.now) }
+    ensures len { result ≡ fixed_len (event_of event.now) + length (data_of (event_of event.now)) }
     ensures few { result ≤ 292 }
 {
     match event {
-        Event::Fence => 0,
-        Event::Hit { .. }
-        | Event::Primary { .. }
-        | Event::Merge { .. }
-        | Event::Stall { .. }
-        | Event::SecondHit { .. }
-        | Event::SecondStall { .. } => 4,
-        Event::SecondPrimary { .. } | Event::SecondMerge { .. } => 8,
-        Event::Issue { bytes, .. } | Event::Evict1 { bytes, .. } => 12 + bytes.len(),
-        Event::Reply { bytes, .. } | Event::Fill1 { bytes, .. } => 4 + bytes.len(),
-        Event::Fill2 { bytes, .. } => 4 + bytes.len(),
-        Event::Evict2 { masks, bytes, .. } => 4 + 8 * masks.len() + bytes.len(),
+        EventView::Fence => 0,
+        EventView::Hit { .. }
+        | EventView::Primary { .. }
+        | EventView::Merge { .. }
+        | EventView::Stall { .. }
+        | EventView::SecondHit { .. }
+        | EventView::SecondStall { .. } => 4,
+        EventView::SecondPrimary { .. } | EventView::SecondMerge { .. } => 8,
+        EventView::Issue { bytes, .. } | EventView::Evict1 { bytes, .. } => 12 + bytes.len(),
+        EventView::Reply { bytes, .. } | EventView::Fill1 { bytes, .. } => 4 + bytes.len(),
+        EventView::Fill2 { bytes, .. } => 4 + bytes.len(),
+        EventView::Evict2 { masks, bytes, .. } => 4 + 8 * masks.len() + bytes.len(),
     }
 }
 
@@ -33,7 +35,7 @@ pub fn record_len(item: &Record) -> u64
     ensures len { result ≡ length (record_bytes item.now) }
     ensures few { result ≤ 300 }
 {
-    8 + event_len(&item.event) as u64
+    view_len(&RecordView::of(item))
 }
 
 /// How many bytes a record that is lent takes in a trace.
@@ -41,5 +43,5 @@ pub fn view_len(item: &RecordView<'_>) -> u64
     ensures len { result ≡ length (record_bytes item.now) }
     ensures few { result ≤ 300 }
 {
-    record_len(&item.to_record())
+    8 + event_len(item.event()) as u64
 }

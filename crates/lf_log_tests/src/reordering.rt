@@ -1,10 +1,12 @@
 //! The records of a bank by their numbers, while they come.
 
 ghost use Rattle.std.specs.Prelude.{◌≡◌, IfOk};
+ghost use Rattle.lf_log_tests.specs.Ordered.{IsInOrder};
 
 use lf_logs::{NumberFault, Reorder};
 use lf_rules::{Block, Event, Op, Record};
 use lf_samples::{C1, record};
+use lf_views::RecordView;
 use std::alloc::Global;
 use std::test::Fail;
 
@@ -42,11 +44,14 @@ fn gives(alloc: Global, order: &mut Reorder, loads: &[(u8, u32)]) -> Result<bool
     Ok(order.next().is_none())
 }
 
-/// Whether a load with this tag and number passes.
+/// Whether a load with this tag and number passes, where no record waits.
 fn passes(alloc: Global, order: &mut Reorder, tag: u8, number: u32) -> Result<bool, Fail>
-    ensures { order.new.bank ≡ order.old.bank }
+    requires { IsInOrder order.old }
+    ensures bank { order.new.bank ≡ order.old.bank }
+    ensures order { IsInOrder order.new }
 {
-    Ok(order.pass(&load(alloc, tag, number)?))
+    let item = load(alloc, tag, number)?;
+    Ok(order.is_empty() && order.pass(&RecordView::of(&item)))
 }
 
 #[test]
@@ -71,7 +76,6 @@ fn records_in_their_turn_pass(rt: HostRuntime) -> Result<(), Fail> {
     assert!(rt; passes(rt.alloc(), &mut order, 0, 0)?);
     assert!(rt; !passes(rt.alloc(), &mut order, 2, 0)?);
     put(rt.alloc(), &mut order, &[(1, 1)])?;
-    assert!(rt; !passes(rt.alloc(), &mut order, 2, 1)?);
     assert!(rt; gives(rt.alloc(), &mut order, &[(1, 1)])?);
     assert_eq!(rt; order.fault(), None);
     Ok(())
@@ -130,21 +134,37 @@ fn made(number: u32) -> Record
     }
 }
 
+/// Whether this record is lent next.
+fn gives_next(order: &Reorder, expected: &Record) -> bool {
+    let mut place = RecordView::blank();
+    order.lend_next(&mut place) && place.to_record() == *expected
+}
+
 #[test]
 fn many_records_before_their_turn(rt: HostRuntime) -> Result<(), Fail> {
     let mut order = Reorder::new(rt.alloc(), 0);
     for number in (1..MANY).rev() {
-        order.put_lent(&made(number))?;
+        order.put(made(number))?;
     }
     assert_eq!(rt; order.next(), None);
     assert_eq!(rt; order.fault(), Some(NumberFault::Missing(0)));
     order.put(made(0))?;
-    let mut item = made(MANY);
     for number in 0..MANY {
-        assert!(rt; order.next_into(&mut item));
-        assert_eq!(rt; &item, &made(number));
+        assert!(rt; gives_next(&order, &made(number)));
+        order.drop_next();
     }
-    assert!(rt; !order.next_into(&mut item));
+    assert!(rt; !gives_next(&order, &made(MANY)));
+    Ok(())
+}
+
+#[test]
+fn records_that_are_lent(rt: HostRuntime) -> Result<(), Fail> {
+    let mut order = Reorder::new(rt.alloc(), 0);
+    order.put_view(&RecordView::of(&made(1)), &[])?;
+    order.put_view(&RecordView::of(&made(0)), &[])?;
+    assert!(rt; gives_next(&order, &made(0)));
+    order.drop_next();
+    assert!(rt; gives_next(&order, &made(1)));
     Ok(())
 }
 

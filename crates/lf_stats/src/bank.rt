@@ -11,6 +11,7 @@ use crate::issued::{Accepted, blocks_issued};
 use lf_codec::room;
 use lf_logs::{LogRecords, Place};
 use lf_rules::{Event, NoMemory, Shape};
+use lf_views::RecordView;
 use std::alloc::Global;
 
 /// Changes what is held.
@@ -58,10 +59,10 @@ pub(crate) fn bank_stats<L: LogRecords>(
     let mut room = room();
     let mut stats = BankStats::default();
     for place in places {
-        let event = &logs.lend(*place, &mut room).event;
-        hold(alloc, &mut held, issued.as_slice(), &accepted, event)?;
-        accepted.count(event);
-        stats.count(event);
+        let item = logs.lend(*place, &mut room);
+        hold(alloc, &mut held, issued.as_slice(), &accepted, &item.event)?;
+        accepted.count(&item.event);
+        stats.count(RecordView::of(item).event());
         stats.peak = stats.peak.max(held.distinct());
     }
     Ok(stats)
