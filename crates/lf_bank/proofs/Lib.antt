@@ -32,4 +32,5 @@ pub mod Targets
 pub mod Three
 pub mod Told
 pub mod Updates
+pub mod Views
 pub mod Waiting

@@ -7,54 +7,54 @@ ghost use Rattle.lf_bank.specs.BankView.{IsSteady};
 use crate::bank::Bank;
 use crate::fault::BankFault;
 use lf_mshr::{Organisation, Request1, Request2};
-use lf_rules::{Event, Record};
 use lf_state::Request;
+use lf_views::{EventView, RecordView};
 
 impl<O1: Organisation<Target = Request1>, O2: Organisation<Target = Request2>> Bank<O1, O2> {
     /// Judges the record, and carries it out where it breaks no rule of the bank.
-    pub fn apply(&mut self, item: &Record) -> Result<(), BankFault>
+    pub fn apply(&mut self, item: &RecordView<'_>) -> Result<(), BankFault>
         requires steady { IsSteady self.old }
         requires fits { Fits self.old.shape item.now }
         ensures { IsAnswer self.old self.new item.now.log item.now.event result }
     {
-        match &item.event {
-            Event::Issue {
+        match *item.event() {
+            EventView::Issue {
                 op,
                 tag,
                 size,
                 address,
                 bytes,
             } => {
-                let request = Request::of_issue(&self.shape, *op, *tag, *size, *address, bytes);
-                self.issue(item.log, request)
+                let request = Request::of_issue(&self.shape, op, tag, size, address, bytes);
+                self.issue(item.log(), request)
             }
-            Event::Reply { tag, size, bytes } => self.reply(item.log, *tag, *size, bytes),
-            Event::Hit { port, tag } => self.hit(*port, *tag),
-            Event::Primary {
+            EventView::Reply { tag, size, bytes } => self.reply(item.log(), tag, size, bytes),
+            EventView::Hit { port, tag } => self.hit(port, tag),
+            EventView::Primary {
                 port,
                 tag,
                 register,
-            } => self.primary(*port, *tag, *register),
-            Event::Merge {
+            } => self.primary(port, tag, register),
+            EventView::Merge {
                 port,
                 tag,
                 register,
-            } => self.merge(*port, *tag, *register),
-            Event::Stall { port, tag } => self.stall(*port, *tag),
-            Event::Fill1 { block, bytes } => self.fill1(*block, bytes),
-            Event::Evict1 { block, mask, bytes } => self.evict1(*block, *mask, bytes),
-            Event::SecondHit { block } => self.second_hit(*block),
-            Event::SecondPrimary { block, register } => self.second_primary(*block, *register),
-            Event::SecondMerge { block, register } => self.second_merge(*block, *register),
-            Event::SecondStall { block } => self.second_stall(*block),
-            Event::Fill2 { block, bytes } => self.fill2(*block, bytes),
-            Event::Evict2 {
+            } => self.merge(port, tag, register),
+            EventView::Stall { port, tag } => self.stall(port, tag),
+            EventView::Fill1 { block, bytes } => self.fill1(block, bytes),
+            EventView::Evict1 { block, mask, bytes } => self.evict1(block, mask, bytes),
+            EventView::SecondHit { block } => self.second_hit(block),
+            EventView::SecondPrimary { block, register } => self.second_primary(block, register),
+            EventView::SecondMerge { block, register } => self.second_merge(block, register),
+            EventView::SecondStall { block } => self.second_stall(block),
+            EventView::Fill2 { block, bytes } => self.fill2(block, bytes),
+            EventView::Evict2 {
                 block,
                 masks,
                 bytes,
-            } => self.evict2(*block, masks, bytes),
+            } => self.evict2(block, &masks, bytes),
             // It names no bank, and no rule of a bank judges it.
-            Event::Fence => Ok(()),
+            EventView::Fence => Ok(()),
         }
     }
 }

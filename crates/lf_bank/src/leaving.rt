@@ -3,11 +3,13 @@
 ghost use Rattle.std.specs.Prelude.{◌≡◌, ◌==◌, ℕ, Some, length};
 ghost use Rattle.std.specs.List.{list_all};
 ghost use Rattle.lf_rules.specs.Address.{places};
+ghost use Rattle.lf_views.specs.Views.{masks_of};
 ghost use Rattle.lf_cells.specs.Cells.{IsPlace, place_of};
 ghost use Rattle.lf_bank.specs.Wide.{part_absent, part_dirty};
 
 use lf_cells::{Cells, First};
-use lf_rules::{Masks, Shape};
+use lf_rules::Shape;
+use lf_views::MasksView;
 
 /// Whether level one has nothing of any block of the place.
 pub fn all_absent(shape: &Shape, cells: &Cells, place: usize) -> bool
@@ -26,16 +28,16 @@ pub fn all_absent(shape: &Shape, cells: &Cells, place: usize) -> bool
 }
 
 /// Whether these are the dirty masks of the blocks of the place.
-pub fn are_dirty(shape: &Shape, cells: &Cells, place: usize, masks: &Masks) -> bool
+pub fn are_dirty(shape: &Shape, cells: &Cells, place: usize, masks: &MasksView<'_>) -> bool
     requires factor { cells.now.factor ≡ shape.now.factor }
     requires there { IsPlace cells.now place }
-    requires count { length masks.now.items ≡ shape.now.factor }
+    requires count { length (masks_of masks.now).items ≡ shape.now.factor }
     ensures { (second : ℕ) → place_of cells.now second ≡ Some place →
-        result ≡ list_all (part_dirty shape.now cells.now second masks.now) (places shape.now) }
+        result ≡ list_all (part_dirty shape.now cells.now second (masks_of masks.now)) (places shape.now) }
 {
     let first = cells.first_of(place);
     for part in 0..shape.factor {
-        if masks[part as usize].0 != cells.dirty(first + part as usize) {
+        if masks.get(part as usize).0 != cells.dirty(first + part as usize) {
             return false;
         }
     }

@@ -21,7 +21,7 @@ use crate::target::{asking, missed};
 use lf_cells::{Cells, Fetch, First};
 use lf_levels::{Level, One};
 use lf_mshr::{Organisation, Request1, Request2};
-use lf_rules::{Block, Mask, NoMemory, Rule};
+use lf_rules::{Mask, NoMemory, Rule};
 use lf_state::{Queue, Ready, Request, drop_head, enqueue, head, push, ready_at};
 
 /// No more targets than these wait for one block.
@@ -81,8 +81,8 @@ impl<O1: Organisation<Target = Request1>, O2: Organisation<Target = Request2>> B
     }
 
     /// The port's reply, which was ready, leaves.
-    pub fn reply(&mut self, log: u8, tag: u8, size: u8, bytes: &Block) -> Result<(), BankFault>
-        ensures { IsAnswer self.old self.new log (event.Reply tag size bytes.now) result }
+    pub fn reply(&mut self, log: u8, tag: u8, size: u8, bytes: &[u8]) -> Result<(), BankFault>
+        ensures { IsAnswer self.old self.new log (event.Reply tag size (record { items = bytes.now })) result }
     {
         let Some(at) = ready_at(&self.ready, log, tag) else {
             return Err(BankFault::Rule(Rule::NotReady));
@@ -91,7 +91,7 @@ impl<O1: Organisation<Target = Request1>, O2: Organisation<Target = Request2>> B
         if usize::from(size) != value.len() {
             return Err(BankFault::Rule(Rule::ReplySize));
         }
-        if bytes.as_slice() != value {
+        if bytes != value {
             return Err(BankFault::Rule(Rule::ReplyData));
         }
         self.ready.remove(at);
@@ -207,10 +207,10 @@ impl<O1: Organisation<Target = Request1>, O2: Organisation<Target = Request2>> B
     }
 
     /// The block comes into level one, and each request that waits for it may have its reply.
-    pub fn fill1(&mut self, block: u32, bytes: &Block) -> Result<(), BankFault>
+    pub fn fill1(&mut self, block: u32, bytes: &[u8]) -> Result<(), BankFault>
         requires steady { IsSteady self.old }
-        requires whole { length bytes.now.items ≡ self.old.shape.block }
-        ensures { (log : ℕ) → IsAnswer self.old self.new log (event.Fill1 block bytes.now) result }
+        requires whole { length bytes.now ≡ self.old.shape.block }
+        ensures { (log : ℕ) → IsAnswer self.old self.new log (event.Fill1 block (record { items = bytes.now })) result }
     {
         let Some(cell) = self.cells.find(block) else {
             return Err(BankFault::Rule(Rule::NotSupplied));
@@ -240,8 +240,9 @@ impl<O1: Organisation<Target = Request1>, O2: Organisation<Target = Request2>> B
     }
 
     /// Level one gives the block up, with the bytes of its dirty mask.
-    pub fn evict1(&mut self, block: u32, mask: Mask, bytes: &Block) -> Result<(), BankFault>
-        ensures { (log : ℕ) → IsAnswer self.old self.new log (event.Evict1 block mask bytes.now) result }
+    pub fn evict1(&mut self, block: u32, mask: Mask, bytes: &[u8]) -> Result<(), BankFault>
+        ensures { (log : ℕ) →
+            IsAnswer self.old self.new log (event.Evict1 block mask (record { items = bytes.now })) result }
     {
         let Some(cell) = self.cells.find(block) else {
             return Err(BankFault::Rule(Rule::EvictAbsent));

@@ -5,6 +5,7 @@ ghost use Rattle.std.specs.Prelude.{IfSome, IfNone, IfOk, IfErr};
 ghost use Rattle.lf_rules.specs.declared.event.Event.TheVariants as event;
 ghost use Rattle.lf_rules.specs.Address as address;
 ghost use Rattle.lf_rules.specs.Address.{second_of};
+ghost use Rattle.lf_views.specs.Views.{masks_of};
 ghost use Rattle.lf_cells.specs.Cells.{cell_of, place_of, first_at};
 ghost use Rattle.lf_bank.specs.Answers.{IsAnswer, IsJudged};
 ghost use Rattle.lf_bank.specs.BankView.{IsSteady};
@@ -20,8 +21,9 @@ use crate::supply::{clean, supply};
 use lf_cells::{Fetch, First, Second};
 use lf_levels::{Level, Two};
 use lf_mshr::{Organisation, Request1, Request2};
-use lf_rules::{Masks, Rule, WideBlock};
+use lf_rules::Rule;
 use lf_state::{place_of, second_of};
+use lf_views::MasksView;
 
 /// A block that level one asks for: its cell, and the register of its primary miss.
 #[derive(Clone, Copy)]
@@ -177,11 +179,12 @@ impl<O1: Organisation<Target = Request1>, O2: Organisation<Target = Request2>> B
     }
 
     /// Where the second-level block stands that may come into level two, or the rule that is broken.
-    fn judge_fill2(&self, second: u32, bytes: &WideBlock) -> Result<Placed, Rule>
-        requires whole { length bytes.now.items ≡ self.now.shape.factor * self.now.shape.block }
+    fn judge_fill2(&self, second: u32, bytes: &[u8]) -> Result<Placed, Rule>
+        requires whole { length bytes.now ≡ self.now.shape.factor * self.now.shape.block }
         ensures broken { IfErr result (λ rule. (log : ℕ) →
-            IsJudged self.now log (event.Fill2 second bytes.now) (Some rule)) }
-        ensures kept { IfOk result (λ _. (log : ℕ) → IsJudged self.now log (event.Fill2 second bytes.now) None) }
+            IsJudged self.now log (event.Fill2 second (record { items = bytes.now })) (Some rule)) }
+        ensures kept { IfOk result (λ _. (log : ℕ) →
+            IsJudged self.now log (event.Fill2 second (record { items = bytes.now })) None) }
         ensures place { IfOk result (λ placed. place_of self.now.cells second ≡ Some placed.place) }
         ensures set { IfOk result (λ placed. placed.set ≡ set2 self.now.shape second) }
         ensures inside { IfOk result (λ placed. placed.set < length self.now.counts2) }
@@ -205,10 +208,11 @@ impl<O1: Organisation<Target = Request1>, O2: Organisation<Target = Request2>> B
     }
 
     /// The second-level block comes into level two, and each block of it that was fetched is supplied.
-    pub fn fill2(&mut self, second: u32, bytes: &WideBlock) -> Result<(), BankFault>
+    pub fn fill2(&mut self, second: u32, bytes: &[u8]) -> Result<(), BankFault>
         requires steady { IsSteady self.old }
-        requires whole { length bytes.now.items ≡ self.old.shape.factor * self.old.shape.block }
-        ensures { (log : ℕ) → IsAnswer self.old self.new log (event.Fill2 second bytes.now) result }
+        requires whole { length bytes.now ≡ self.old.shape.factor * self.old.shape.block }
+        ensures { (log : ℕ) →
+            IsAnswer self.old self.new log (event.Fill2 second (record { items = bytes.now })) result }
     {
         let placed = match self.judge_fill2(second, bytes) {
             Ok(placed) => placed,
@@ -223,12 +227,13 @@ impl<O1: Organisation<Target = Request1>, O2: Organisation<Target = Request2>> B
     }
 
     /// Where the second-level block stands that may leave level two, or the rule that is broken.
-    fn judge_evict2(&self, second: u32, masks: &Masks, bytes: &WideBlock) -> Result<Placed, Rule>
-        requires count { length masks.now.items ≡ self.now.shape.factor }
+    fn judge_evict2(&self, second: u32, masks: &MasksView<'_>, bytes: &[u8]) -> Result<Placed, Rule>
+        requires count { length (masks_of masks.now).items ≡ self.now.shape.factor }
         ensures broken { IfErr result (λ rule. (log : ℕ) →
-            IsJudged self.now log (event.Evict2 second masks.now bytes.now) (Some rule)) }
+            IsJudged self.now log (event.Evict2 second (masks_of masks.now) (record { items = bytes.now }))
+            (Some rule)) }
         ensures kept { IfOk result (λ _. (log : ℕ) →
-            IsJudged self.now log (event.Evict2 second masks.now bytes.now) None) }
+            IsJudged self.now log (event.Evict2 second (masks_of masks.now) (record { items = bytes.now })) None) }
         ensures place { IfOk result (λ placed. place_of self.now.cells second ≡ Some placed.place) }
         ensures set { IfOk result (λ placed. placed.set ≡ set2 self.now.shape second) }
         ensures inside { IfOk result (λ placed. placed.set < length self.now.counts2) }
@@ -253,9 +258,15 @@ impl<O1: Organisation<Target = Request1>, O2: Organisation<Target = Request2>> B
     }
 
     /// Level two gives the second-level block up, with the bytes of its dirty masks.
-    pub fn evict2(&mut self, second: u32, masks: &Masks, bytes: &WideBlock) -> Result<(), BankFault>
-        requires count { length masks.now.items ≡ self.old.shape.factor }
-        ensures { (log : ℕ) → IsAnswer self.old self.new log (event.Evict2 second masks.now bytes.now) result }
+    pub fn evict2(
+        &mut self,
+        second: u32,
+        masks: &MasksView<'_>,
+        bytes: &[u8],
+    ) -> Result<(), BankFault>
+        requires count { length (masks_of masks.now).items ≡ self.old.shape.factor }
+        ensures { (log : ℕ) → IsAnswer self.old self.new log
+            (event.Evict2 second (masks_of masks.now) (record { items = bytes.now })) result }
     {
         let placed = match self.judge_evict2(second, masks, bytes) {
             Ok(placed) => placed,

@@ -10,6 +10,7 @@ ghost use Rattle.lf_rules.specs.InRange.{IsShape};
 ghost use Rattle.lf_rules.specs.State.{update};
 ghost use Rattle.lf_rules.specs.Table.{value_of, accepted, store_mask};
 ghost use Rattle.lf_state.specs.Bytes.{bank_part, bytes_under, put, EndOf, IsNumberOf};
+ghost use Rattle.lf_views.specs.Views.{masks_of};
 ghost use Rattle.lf_cells.specs.declared.known.First.TheVariants as level1;
 ghost use Rattle.lf_cells.specs.Cells.{CellsView, IsCell, IsPlace, IsPlacedAlike, StaysPlaced, HasSameWords};
 ghost use Rattle.lf_cells.specs.Cells.{IsUntouched, cell_of, place_of, no_cells};
@@ -20,8 +21,9 @@ use crate::cell::Cell;
 use crate::index::Index;
 use crate::known::{First, Second};
 use crate::padded::{Bytes, ZEROS, padded, put};
-use lf_rules::{Block, Mask, Masks, NoMemory, Op, Shape, WideBlock};
+use lf_rules::{Block, Mask, NoMemory, Op, Shape};
 use lf_state::{Data, Request, bank_of};
+use lf_views::MasksView;
 use std::alloc::Global;
 use std::marker::Model;
 
@@ -243,11 +245,11 @@ impl Cells {
 
     /// What level two has of a place's block.
     #[inline(always)]
-    pub fn second(&self, place: usize) -> Second
-        requires { IsPlace self.now place }
-        ensures { (second : ℕ) → place_of self.now second ≡ Some place → result ≡ second_at self.now second }
+    pub fn second(&self, at: usize) -> Second
+        requires { IsPlace self.now at }
+        ensures { (second : ℕ) → place_of self.now second ≡ Some at → result ≡ second_at self.now second }
     {
-        self.seconds[place]
+        self.seconds[at]
     }
 
     /// What level two has of the second-level block of a cell.
@@ -257,7 +259,8 @@ impl Cells {
         ensures { (block : ℕ) → cell_of self.now block ≡ Some cell →
             result ≡ second_at self.now (block / self.now.factor) }
     {
-        self.seconds[cell >> self.shift]
+        let home = cell >> self.shift;
+        self.seconds[home]
     }
 
     /// Level one has this of a cell's block.
@@ -466,11 +469,11 @@ impl Cells {
     }
 
     /// Whether these are the bytes of a cell's block under the mask.
-    pub fn carries(&self, shape: &Shape, cell: usize, mask: Mask, bytes: &Block) -> bool
+    pub fn carries(&self, shape: &Shape, cell: usize, mask: Mask, bytes: &[u8]) -> bool
         requires there { IsCell self.now cell }
         requires small { shape.now.block ≤ 64 }
         ensures { (block : ℕ) → cell_of self.now block ≡ Some cell →
-            result ≡ bytes_eq bytes.now.items (masked (block_bytes shape.now (memory_at self.now) block) mask.0) }
+            result ≡ bytes_eq bytes.now (masked (block_bytes shape.now (memory_at self.now) block) mask.0) }
     {
         self.end_of_masked(cell, shape.block, mask, bytes, 0) == Some(bytes.len())
     }
@@ -480,20 +483,20 @@ impl Cells {
         &self,
         shape: &Shape,
         place: usize,
-        masks: &Masks,
-        bytes: &WideBlock,
+        masks: &MasksView<'_>,
+        bytes: &[u8],
     ) -> bool
         requires in_range { IsShape shape.now }
         requires there { IsPlace self.now place }
         requires factor { self.now.factor ≡ shape.now.factor }
-        requires count { length masks.now.items ≡ shape.now.factor }
+        requires count { length (masks_of masks.now).items ≡ shape.now.factor }
         ensures { (second : ℕ) → place_of self.now second ≡ Some place →
-            result ≡ bytes_eq bytes.now.items (wide_masked shape.now (memory_at self.now) second masks.now) }
+            result ≡ bytes_eq bytes.now (wide_masked shape.now (memory_at self.now) second (masks_of masks.now)) }
     {
         let from = self.first_of(place);
         let mut end = 0;
         for part in 0..shape.factor as usize {
-            match self.end_of_masked(from + part, shape.block, masks[part], bytes, end) {
+            match self.end_of_masked(from + part, shape.block, masks.get(part), bytes, end) {
                 Some(next) => end = next,
                 None => return false,
             }

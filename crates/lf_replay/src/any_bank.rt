@@ -6,7 +6,8 @@ ghost use Rattle.lf_replay.specs.AnyBank.{view_of, second_view_of};
 use crate::bank_state::BankState;
 use lf_bank::{Bank, BankFault};
 use lf_mshr::{Explicit, Implicit, Inverted, Organisation, Request1, Request2};
-use lf_rules::{Block, NoMemory, OrgShape, Record, Shape};
+use lf_rules::{Block, NoMemory, OrgShape, Shape};
+use lf_views::RecordView;
 use std::alloc::Global;
 
 /// A bank with this organisation of level one, by that of level two.
@@ -49,7 +50,7 @@ impl<O1: Organisation<Target = Request1>> BankState for SecondBank<O1> {
         }
     }
 
-    fn apply(&mut self, item: &Record) -> Result<(), BankFault> {
+    fn apply(&mut self, item: &RecordView<'_>) -> Result<(), BankFault> {
         match self {
             SecondBank::Implicit(bank) => BankState::apply(bank, item),
             SecondBank::Explicit(bank) => BankState::apply(bank, item),
@@ -82,7 +83,7 @@ impl BankState for AnyBank {
         }
     }
 
-    fn apply(&mut self, item: &Record) -> Result<(), BankFault> {
+    fn apply(&mut self, item: &RecordView<'_>) -> Result<(), BankFault> {
         match self {
             AnyBank::Implicit(bank) => bank.apply(item),
             AnyBank::Explicit(bank) => bank.apply(item),

@@ -5,7 +5,8 @@ ghost use Rattle.std.specs.Prelude.{◌≡◌, true};
 use crate::bank_state::BankState;
 use lf_bank::{Bank, BankFault};
 use lf_mshr::{Organisation, Request1, Request2};
-use lf_rules::{Block, NoMemory, Record, Shape};
+use lf_rules::{Block, NoMemory, Shape};
+use lf_views::RecordView;
 use std::alloc::Global;
 
 impl<O1: Organisation<Target = Request1>, O2: Organisation<Target = Request2>> BankState
@@ -24,7 +25,7 @@ impl<O1: Organisation<Target = Request1>, O2: Organisation<Target = Request2>> B
         Bank::<O1, O2>::new(alloc, shape, memory, bank)
     }
 
-    fn apply(&mut self, item: &Record) -> Result<(), BankFault> {
+    fn apply(&mut self, item: &RecordView<'_>) -> Result<(), BankFault> {
         Bank::<O1, O2>::apply(self, item)
     }
 }

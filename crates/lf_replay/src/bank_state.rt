@@ -12,7 +12,8 @@ ghost use Rattle.lf_replay.specs.Shows.{ShowsReached, Shows};
 ghost use Rattle.lf_replay.specs.Step.{GoesOn, IsFaultOf};
 
 use lf_bank::BankFault;
-use lf_rules::{Block, NoMemory, Record, Shape};
+use lf_rules::{Block, NoMemory, Shape};
+use lf_views::RecordView;
 use std::alloc::Global;
 
 /// The state of a bank, which its records move on one by one.
@@ -38,7 +39,7 @@ pub trait BankState {
         ensures shape { IfOk result (λ state. (view state).shape ≡ shape.now) };
 
     /// Judges the record, and carries it out where it breaks no rule of the bank.
-    fn apply(&mut self, item: &Record) -> Result<(), BankFault>
+    fn apply(&mut self, item: &RecordView<'_>) -> Result<(), BankFault>
         requires reached { ShowsReached (view self.old) }
         requires fits { Fits (view self.old).shape item.now }
         ensures unchanged { OnErr result (view self.new ≡ view self.old) }

@@ -65,7 +65,7 @@ impl Step {
             IsStepAfter self.old shape memory bank rs
             → IfErr result (IsFaultAfter shape memory rs item.now) }
     {
-        self.state.apply(item)
+        self.apply_view(&RecordView::of(item))
     }
 
     /// Judges a record that is lent, and carries it out, as `apply` does.
@@ -81,6 +81,6 @@ impl Step {
             IsStepAfter self.old shape memory bank rs
             → IfErr result (IsFaultAfter shape memory rs item.now) }
     {
-        self.apply(&item.to_record())
+        self.state.apply(item)
     }
 }

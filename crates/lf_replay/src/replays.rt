@@ -13,6 +13,7 @@ use crate::lends::Lends;
 use lf_bank::{Bank, BankFault};
 use lf_mshr::{Organisation, Request1, Request2};
 use lf_rules::{Memory, Outcome, Record, Shape};
+use lf_views::RecordView;
 use std::alloc::Global;
 
 /// Judges a bank's records, in the order of their numbers, by the rules of banks: `Passed` where they
@@ -84,10 +85,10 @@ fn replay_on<B: BankState + Drop, R: Lends>(
         return Outcome::NoMemory;
     };
     for place in records {
-        let item = place.lend();
-        match state.apply(item) {
+        let item = RecordView::of(place.lend());
+        match state.apply(&item) {
             Ok(()) => {}
-            Err(BankFault::Rule(rule)) => return Outcome::Broken(item.number, rule),
+            Err(BankFault::Rule(rule)) => return Outcome::Broken(item.number(), rule),
             Err(BankFault::NoMemory) => return Outcome::NoMemory,
         }
     }

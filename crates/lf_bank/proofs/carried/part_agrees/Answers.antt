@@ -1,5 +1,5 @@
 use Rattle.std.proofs.Common.{ℕ, List, length, ap, ◌∙◌, arith}
-use Rattle.lf_rules.specs.Address.{part_at, sub_block, agree_off, block_bytes}
+use Rattle.lf_rules.specs.Address.{sub_block, agree_off, block_bytes}
 use Rattle.lf_rules.proofs.Wide.{part_len}
 use Rattle.lf_cells.specs.Cells.{memory_at, written_at}
 use Rattle.lf_bank.proofs.Places.{block_le}
@@ -8,8 +8,8 @@ use Rattle.lf_bank.proofs.carried.part_agrees.Goals as goal
 pub agrees-requires-clause-small : goal.agrees-requires-clause-small
 agrees-requires-clause-small c =
     let shape = c.args.shape.now in
-    let part = c.part_at.ensures ∙ ap (λ (xs : List ℕ). part_at shape.block xs c.args.part) c.deref.ensures.0 in
-    let long = ap length part ∙ part_len c.args.bytes.now.items shape.block c.args.part shape.factor c.requires.inside
+    let part = c.part_at.ensures in
+    let long = ap length part ∙ part_len c.args.bytes.now shape.block c.args.part shape.factor c.requires.inside
     c.requires.whole in
     let small = block_le shape.block c.requires.in_range.block_size in
     omega (arith, long, small)
@@ -17,8 +17,8 @@ agrees-requires-clause-small c =
 pub returns : goal.returns
 returns c = λ second there.
     let shape = c.args.shape.now in
-    let part = c.part_at.ensures ∙ ap (λ (xs : List ℕ). part_at shape.block xs c.args.part) c.deref.ensures.0 in
-    let long = ap length part ∙ part_len c.args.bytes.now.items shape.block c.args.part shape.factor c.requires.inside
+    let part = c.part_at.ensures in
+    let long = ap length part ∙ part_len c.args.bytes.now shape.block c.args.part shape.factor c.requires.inside
     c.requires.whole in
     let block = sub_block shape second c.args.part in
     c.agrees.ensures shape block there long

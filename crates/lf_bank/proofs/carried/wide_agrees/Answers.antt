@@ -35,7 +35,7 @@ loop-part-preserved c = λ second there k lt.
     let found = (λ i. cell_of c.args.cells.now (second * sym c.requires.factor i + part))
     ∙ c.first_of-first.ensures.cells second part there below in
     (elim (cases_eq k part) [
-      | inl same ↦ ap (part_agrees c.args.shape.now c.args.cells.now second c.args.bytes.now.items) same
+      | inl same ↦ ap (part_agrees c.args.shape.now c.args.cells.now second c.args.bytes.now) same
           ∙ sym (c.part_agrees.ensures second found) ∙ c.if-not-part_agrees.false
       | inr apart ↦ c.loop-part.invariant second there k (omega (arith, lt, apart))
     ])

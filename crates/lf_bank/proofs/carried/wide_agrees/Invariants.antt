@@ -5,4 +5,4 @@ use Rattle.lf_bank.proofs.carried.wide_agrees.Given as goal
 
 abbrev pub invariant-loop-part : goal.invariant-loop-part
 invariant-loop-part l = (second : ℕ) → place_of l.cells second ≡ Some l.place → (k : ℕ) → k < l.part
-    → part_agrees l.shape l.cells second l.bytes.items k ≡ true
+    → part_agrees l.shape l.cells second l.bytes k ≡ true

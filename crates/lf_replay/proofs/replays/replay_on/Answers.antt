@@ -1,4 +1,4 @@
-use Rattle.std.proofs.Common.{take, map, sym, subst, arith, List}
+use Rattle.std.proofs.Common.{take, map, sym, subst, ◌∙◌, arith, List}
 use Rattle.std.proofs.lemmas.List.{length-map, take_all}
 use Rattle.lf_rules.specs.declared.event.Record.{Record}
 use Rattle.lf_rules.specs.declared.outcome.Outcome.TheVariants as outcome
@@ -17,10 +17,10 @@ apply-requires-clause-fits g c =
     let lent = g.R.Lends.lent in
     let i = c.loop-place.place-index in
     let lt = lent_count lent c.args.records.now i c.loop-place-test.true in
-    let is = lent_at lent c.args.records.now i c.place-item.result c.lend-item.result.now c.loop-place-test.true
-    c.place-item.is c.lend-item.ensures in
-    subst (λ (s : Shape). Fits s c.lend-item.result.now) (sym c.loop-place.invariant.after.of_shape)
-    (all_at (Fits c.args.shape.now) (map lent c.args.records.now) i c.lend-item.result.now c.requires.records.fit lt is)
+    let is = lent_at lent c.args.records.now i c.place-item.result c.of-item.result c.loop-place-test.true
+    c.place-item.is (c.of-item.ensures ∙ c.lend.ensures) in
+    subst (λ (s : Shape). Fits s c.of-item.result) (sym c.loop-place.invariant.after.of_shape)
+    (all_at (Fits c.args.shape.now) (map lent c.args.records.now) i c.of-item.result c.requires.records.fit lt is)
 
 pub loop-place-preserved : goal.loop-place-preserved
 loop-place-preserved g c =
@@ -29,11 +29,11 @@ loop-place-preserved g c =
     let rs = map lent c.args.records.now in
     let memory = bank_part c.args.shape.now c.args.bank (flat_memory c.args.memory.now.items) in
     let lt = lent_count lent c.args.records.now i c.loop-place-test.true in
-    let is = lent_at lent c.args.records.now i c.place-item.result c.lend-item.result.now c.loop-place-test.true
-    c.place-item.is c.lend-item.ensures in
+    let is = lent_at lent c.args.records.now i c.place-item.result c.of-item.result c.loop-place-test.true
+    c.place-item.is (c.of-item.ensures ∙ c.lend.ensures) in
     record {
       reached = c.in-Ok-apply.ensures.reached;
-      after = stands_next (g.B.BankState.view c.apply.new.self) c.args.shape.now memory rs i c.lend-item.result.now lt
+      after = stands_next (g.B.BankState.view c.apply.new.self) c.args.shape.now memory rs i c.of-item.result lt
           is
           (c.in-Ok-apply.ensures.stands c.args.shape.now memory (take i rs) c.loop-place.invariant.after);
     }
@@ -46,12 +46,12 @@ returns-in-Err-Rule g c =
     let whole = flat_memory c.args.memory.now.items in
     let memory = bank_part c.args.shape.now c.args.bank whole in
     let lt = lent_count lent c.args.records.now i c.loop-place-test.true in
-    let is = lent_at lent c.args.records.now i c.place-item.result c.lend-item.result.now c.loop-place-test.true
-    c.place-item.is c.lend-item.ensures in
+    let is = lent_at lent c.args.records.now i c.place-item.result c.of-item.result c.loop-place-test.true
+    c.place-item.is (c.of-item.ensures ∙ c.lend.ensures) in
     let broken = c.in-Err-Rule.ensures.broken c.args.shape.now memory (take i rs) c.loop-place.invariant.after in
-    rw c.in-Err-Rule.rule-is (outcome_same c.args.shape.now c.args.bank whole rs c.requires.records
-    (outcome.Broken c.lend-item.result.now.number c.in-Err-Rule.rule)
-    (breaks_at c.args.shape.now memory rs i c.lend-item.result.now c.in-Err-Rule.rule lt
+    rw (c.in-Err-Rule.rule-is, c.number.ensures) (outcome_same c.args.shape.now c.args.bank whole rs c.requires.records
+    (outcome.Broken c.of-item.result.number c.in-Err-Rule.rule)
+    (breaks_at c.args.shape.now memory rs i c.of-item.result c.in-Err-Rule.rule lt
     is c.requires.records.numbered (rw c.in-Err-Rule.field-0-is at broken)))
 
 pub returns : goal.returns

@@ -1,14 +1,12 @@
-use Rattle.std.proofs.Common.{◌<◌, ℕ, List, ◌++◌, length, map, ap, refl, sym, subst, ◌∙◌, rules}
+use Rattle.std.proofs.Common.{◌<◌, List, ◌++◌, map, ap, refl, sym, subst, ◌∙◌, rules}
 use Rattle.std.proofs.Common.{◌+◌}
 use Rattle.std.proofs.lemmas.Bool.{lt-ltb}
 use Rattle.std.specs.Prelude.{slice_index}
-use Rattle.lf_rules.specs.Address.{agree_off, block_bytes}
 use Rattle.lf_rules.specs.Registers.{released, targets_of}
 use Rattle.lf_rules.specs.State.{update, Ready}
 use Rattle.lf_rules.specs.Table.{reply_of}
 use Rattle.lf_rules.specs.declared.rule.Rule.TheVariants.{NotSupplied, SetFull, FillData}
 use Rattle.lf_state.specs.Queues.{queue_at}
-use Rattle.lf_cells.specs.Cells.{written_at, memory_at}
 use Rattle.lf_bank.specs.Known.{is_supplied, is_fetch_supplied}
 use Rattle.lf_bank.proofs.Placed.{released1}
 use Rattle.lf_bank.proofs.Three.{third_fails, three_hold}
@@ -35,10 +33,7 @@ returns-then-not-agrees g c =
     ∙ ap is_fetch_supplied c.in-InFlight-default-Supplied.fetch-is in
     let counted = c.lines_in.ensures ∙ ap counts set_is in
     let room = lt-ltb _ _ (subst (λ n. n < c.self.inside.shape.level1.ways) counted c.if-lines_in-self.false) in
-    let agrees = c.if-not-agrees.ensures c.self.inside.shape c.args.block there (ap length c.deref.ensures.0 ∙ whole)
-    ∙ ap (λ (bs : List ℕ). agree_off c.self.inside.shape.block bs
-    (block_bytes c.self.inside.shape (memory_at c.self.inside.cells) c.args.block)
-    (written_at c.self.inside.cells c.args.block)) c.deref.ensures.0 in (
+    let agrees = c.if-not-agrees.ensures c.self.inside.shape c.args.block there whole in (
       third_fails NotSupplied SetFull FillData _ _ _ supplied room (sym agrees),
       refl,
     ))
@@ -54,10 +49,7 @@ returns-then-is_err g c =
     ∙ ap is_fetch_supplied c.in-InFlight-default-Supplied.fetch-is in
     let counted = c.lines_in.ensures ∙ ap counts set_is in
     let room = lt-ltb _ _ (subst (λ n. n < c.self.inside.shape.level1.ways) counted c.if-lines_in-self.false) in
-    let agrees = c.if-not-agrees.ensures c.self.inside.shape c.args.block there (ap length c.deref.ensures.0 ∙ whole)
-    ∙ ap (λ (bs : List ℕ). agree_off c.self.inside.shape.block bs
-    (block_bytes c.self.inside.shape (memory_at c.self.inside.cells) c.args.block)
-    (written_at c.self.inside.cells c.args.block)) c.deref.ensures.0 in (
+    let agrees = c.if-not-agrees.ensures c.self.inside.shape c.args.block there whole in (
       three_hold NotSupplied SetFull FillData _ _ _ supplied room (sym agrees),
       search (rules, c.reserve.ensures.items),
     ))
@@ -73,10 +65,7 @@ returns g c =
     ∙ ap is_fetch_supplied c.in-InFlight-default-Supplied.fetch-is in
     let counted = c.lines_in.ensures ∙ ap counts set_is in
     let room = lt-ltb _ _ (subst (λ n. n < c.self.inside.shape.level1.ways) counted c.if-lines_in-self.false) in
-    let agrees = c.if-not-agrees.ensures c.self.inside.shape c.args.block there (ap length c.deref.ensures.0 ∙ whole)
-    ∙ ap (λ (bs : List ℕ). agree_off c.self.inside.shape.block bs
-    (block_bytes c.self.inside.shape (memory_at c.self.inside.cells) c.args.block)
-    (written_at c.self.inside.cells c.args.block)) c.deref.ensures.0 in
+    let agrees = c.if-not-agrees.ensures c.self.inside.shape c.args.block there whole in
     let replies = c.add_replies.ensures (g.O1.Organisation.seen c.self.inside.waiting).held waiting c.args.block
     alike.level1 (c.as_slice.ensures.value ∙ c.release_into.ensures.targets)
     ∙ ap (λ (rs : List Ready). rs ++ map reply_of (targets_of waiting c.args.block)) c.reserve.ensures.items in record {

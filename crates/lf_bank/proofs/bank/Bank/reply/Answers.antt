@@ -16,7 +16,7 @@ returns-in_default g c = rw (← c.self.view_is) (λ waiting regs2 alike held. (
 pub returns-then-from-value : goal.returns-then-from-value
 returns-then-from-value g c = rw (← c.self.view_is) (λ waiting regs2 alike held. (
   size_breaks c.self.inside.ready.items c.args.log c.args.tag c.in-Some.at c.index.result.now
-      (rw c.deref.ensures.value at c.in-Some.ensures) c.index.ensures c.args.size c.from.result c.args.bytes.now.items
+      (rw c.deref.ensures.value at c.in-Some.ensures) c.index.ensures c.args.size c.from.result c.args.bytes.now
       c.value-value.result.now c.value-value.ensures c.from.ensures c.if-from-value.true,
   refl,
 ))
@@ -24,9 +24,9 @@ returns-then-from-value g c = rw (← c.self.view_is) (λ waiting regs2 alike he
 pub returns-then-ne : goal.returns-then-ne
 returns-then-ne g c = rw (← c.self.view_is) (λ waiting regs2 alike held. (
   bytes_break c.self.inside.ready.items c.args.log c.args.tag c.in-Some.at c.index.result.now
-      (rw c.deref.ensures.value at c.in-Some.ensures) c.index.ensures c.args.size c.from.result c.args.bytes.now.items
+      (rw c.deref.ensures.value at c.in-Some.ensures) c.index.ensures c.args.size c.from.result c.args.bytes.now
       c.value-value.result.now c.value-value.ensures c.from.ensures c.if-from-value.false
-      (rw c.as_slice.ensures.value at c.if-ne.ensures),
+      c.if-ne.ensures,
   refl,
 ))
 
@@ -38,8 +38,8 @@ returns g c =
     rw (← c.self.view_is) (λ waiting regs2 alike held. record {
       kept = reply_holds c.self.inside.ready.items c.args.log c.args.tag c.in-Some.at c.index.result.now
           (rw c.deref.ensures.value at c.in-Some.ensures) c.index.ensures c.args.size c.from.result
-          c.args.bytes.now.items c.value-value.result.now c.value-value.ensures c.from.ensures c.if-from-value.false
-          (rw c.as_slice.ensures.value at c.if-ne.ensures);
+          c.args.bytes.now c.value-value.result.now c.value-value.ensures c.from.ensures c.if-from-value.false
+          c.if-ne.ensures;
       shape = refl;
       waiting = record { level1 = alike.level1; level2 = alike.level2 };
       known = search (rules, left);

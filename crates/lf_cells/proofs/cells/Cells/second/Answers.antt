@@ -5,11 +5,11 @@ use Rattle.lf_cells.proofs.cells.Cells.second.Goals as goal
 
 pub index-requires : goal.index-requires
 index-requires c =
-    let within = place_within _ c.args.self.now c.self.view_is c.self.invariant.1 c.args.place c.requires in
+    let within = place_within _ c.args.self.now c.self.view_is c.self.invariant.1 c.args.at c.requires in
     omega (arith, within, c.self.inside.seconds.ok.0)
 
 pub returns : goal.returns
 returns c =
-    second_read _ c.args.self.now c.self.view_is c.self.invariant.1 c.args.place
-    (place_within _ c.args.self.now c.self.view_is c.self.invariant.1 c.args.place c.requires)
+    second_read _ c.args.self.now c.self.view_is c.self.invariant.1 c.args.at
+    (place_within _ c.args.self.now c.self.view_is c.self.invariant.1 c.args.at c.requires)
     c.index.result.now c.index.ensures

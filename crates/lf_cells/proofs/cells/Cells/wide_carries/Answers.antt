@@ -1,10 +1,9 @@
-use Rattle.std.proofs.Common.{◌≡◌, ℕ, None, Some, List, ◌+◌, ◌-◌, ◌*◌, ◌<◌, ◌==◌, length, drop, get_or, sym, ap, ◌∙◌}
+use Rattle.std.proofs.Common.{◌≡◌, ℕ, None, Some, List, ◌+◌, ◌-◌, ◌*◌, ◌<◌, drop, sym, ap, refl, ◌∙◌}
 use Rattle.std.proofs.Common.{arith}
 use Rattle.std.specs.Prelude.{bytes_eq}
 use Rattle.std.specs.List.{flat_map, range_with_len}
-use Rattle.lf_rules.specs.declared.mask.Mask.{Mask}
-use Rattle.lf_rules.specs.Address.{clean_mask}
 use Rattle.lf_state.proofs.Masked.{at_end, part_ends, part_masked}
+use Rattle.lf_views.specs.Views.{masks_of}
 use Rattle.lf_cells.specs.Cells.{memory_at}
 use Rattle.lf_cells.proofs.cells.Cells.wide_carries.Goals as goal
 
@@ -20,36 +19,35 @@ pub returns-in-None : goal.returns-in-None
 returns-in-None c = λ second is.
     let inside : c.loop-part.part < c.args.self.now.factor = omega (arith, c.requires.factor, c.loop-part-test.true) in
     sym (c.loop-part.invariant.left second is
-    ∙ part_ends c.args.shape.now (memory_at c.args.self.now) second c.args.masks.now
-    c.deref-in-loop-part.result.now c.args.bytes.now.items (second * c.args.self.now.factor + c.loop-part.part) _
+    ∙ part_ends c.args.shape.now (memory_at c.args.self.now) second (masks_of c.args.masks.now)
+    c.args.bytes.now c.args.bytes.now (second * c.args.self.now.factor + c.loop-part.part) _
     c.loop-part.part c.loop-part.end None
     (c.in-None.ensures.value (second * c.args.self.now.factor + c.loop-part.part)
-    (c.first_of-from.ensures.cells second c.loop-part.part is inside)) c.deref-in-loop-part.ensures.0
+    (c.first_of-from.ensures.cells second c.loop-part.part is inside)) refl
     (ap (λ f. second * f + c.loop-part.part) c.requires.factor)
-    (ap (λ (ms : List Mask). (get_or ms c.loop-part.part clean_mask).0) c.deref.ensures.0) c.loop-part-test.true)
+    c.get.ensures c.loop-part-test.true)
 
 pub loop-part-preserved : goal.loop-part-preserved
 loop-part-preserved c = record {
-  within = omega (arith, c.in-Some.ensures.within, ap length c.deref-in-loop-part.ensures.0);
+  within = c.in-Some.ensures.within;
   left = λ second is.
       let inside : c.loop-part.part < c.args.self.now.factor =
       omega (arith, c.requires.factor, c.loop-part-test.true) in
       c.loop-part.invariant.left second is
-      ∙ part_ends c.args.shape.now (memory_at c.args.self.now) second c.args.masks.now
-      c.deref-in-loop-part.result.now c.args.bytes.now.items (second * c.args.self.now.factor + c.loop-part.part) _
+      ∙ part_ends c.args.shape.now (memory_at c.args.self.now) second (masks_of c.args.masks.now)
+      c.args.bytes.now c.args.bytes.now (second * c.args.self.now.factor + c.loop-part.part) _
       c.loop-part.part c.loop-part.end (Some c.in-Some.next)
       (c.in-Some.ensures.value (second * c.args.self.now.factor + c.loop-part.part)
-      (c.first_of-from.ensures.cells second c.loop-part.part is inside)) c.deref-in-loop-part.ensures.0
+      (c.first_of-from.ensures.cells second c.loop-part.part is inside)) refl
       (ap (λ f. second * f + c.loop-part.part) c.requires.factor)
-      (ap (λ (ms : List Mask). (get_or ms c.loop-part.part clean_mask).0) c.deref.ensures.0) c.loop-part-test.true;
+      c.get.ensures c.loop-part-test.true;
 }
 
 pub returns : goal.returns
 returns c = λ second is.
-    let part : ℕ → List ℕ = part_masked c.args.shape.now (memory_at c.args.self.now) second c.args.masks.now in
+    let part : ℕ → List ℕ = part_masked c.args.shape.now (memory_at c.args.self.now) second (masks_of c.args.masks.now) in
     let none : c.args.shape.now.factor - c.loop-part.part ≡ 0 = omega (arith, c.loop-part-test.false) in
-    ap (λ n. c.loop-part.end == n) c.len.ensures.value
-    ∙ at_end c.args.bytes.now.items c.loop-part.end c.loop-part.invariant.within
+    at_end c.args.bytes.now c.loop-part.end c.loop-part.invariant.within
     ∙ sym (c.loop-part.invariant.left second is
-    ∙ ap (λ n. bytes_eq (drop c.loop-part.end c.args.bytes.now.items)
+    ∙ ap (λ n. bytes_eq (drop c.loop-part.end c.args.bytes.now)
     (flat_map part (range_with_len c.loop-part.part n))) none)

@@ -1,5 +1,5 @@
 use Rattle.lf_replay.proofs.Runs.{on_ok}
-use Rattle.lf_replay.proofs.bank_step.Step.apply.Goals as goal
+use Rattle.lf_replay.proofs.bank_step.Step.apply_view.Goals as goal
 
 pub returns-clause-stands : goal.returns-clause-stands
 returns-clause-stands c = λ shape memory bank rs stands.
