@@ -1,10 +1,11 @@
 //! The parts of a trace, judged while its records come.
 
-ghost use Rattle.std.specs.Prelude.{◌≡◌, ℕ, List, [], ◌∷◌, ◌++◌, length, IfSome, IfNone, OnOk};
+ghost use Rattle.std.specs.Prelude.{◌≡◌, ◌⊎◌, ℕ, List, [], ◌∷◌, ◌++◌, length, IfSome, IfNone, OnOk};
 ghost use Rattle.lf_rules.specs.declared.shape.Shape.{Shape};
 ghost use Rattle.lf_rules.specs.declared.event.Record.{Record};
 ghost use Rattle.lf_rules.specs.Address.{FlatMemory};
 ghost use Rattle.lf_rules.specs.Run.{of_log};
+ghost use Rattle.lf_codec.specs.Layout.{record_bytes};
 ghost use Rattle.lf_verdict.specs.Breaking.{IsFaultOfPart, NoneBroke};
 ghost use Rattle.lf_verdict.specs.inner.Noting.{IsBankWhole, IsFirstOfBank, EndsInRange};
 ghost use Rattle.lf_verdict.specs.Standing.{Counts, IsWatch, IsKnown, StandsAfterAll};
@@ -23,6 +24,7 @@ use crate::session::breaking::{FirstBreak, PartFault, Upon, Watch};
 pub use bank_judge::BankJudge;
 use lf_lengths::record_len;
 use lf_rules::{NoMemory, Outcome, Record};
+use lf_views::RecordView;
 pub use log_entries::Entries;
 pub use verdict::Judged;
 
@@ -35,9 +37,29 @@ pub struct Standing {
 }
 
 impl Standing {
+    /// Takes the next record of the trace, as `take_record` does. Its bytes are given, or none.
+    pub fn take(&mut self, item: &RecordView<'_>, bytes: &[u8]) -> Result<(), NoMemory>
+        requires next { CanStand item.now self.old }
+        requires spelled { (bytes.now ≡ []) ⊎ (bytes.now ≡ record_bytes item.now) }
+        requires range { EndsInRange self.old.watch item.now }
+        ensures judged { (shape : Shape) (memory : FlatMemory) (records : List Record) → MayCome shape records item.now
+            → StandsAfterAll shape memory records self.old
+            → OnOk result (StandsAfterAll shape memory (records ++ item.now ∷ []) self.new) }
+        ensures watched { (start : ℕ) (shape : Shape) (memory : FlatMemory) (records : List Record) →
+            MayCome shape records item.now
+            → StandsAfterAll shape memory records self.old → IsWatch start shape memory records self.old.watch
+            → OnOk result (IsWatch start shape memory (records ++ item.now ∷ []) self.new.watch) }
+        ensures known { IsKnown self.old.watch → IsKnown self.new.watch }
+        ensures keeps { self.new.entries.keeps ≡ self.old.entries.keeps }
+        ensures counts { Counts self.old → Counts self.new }
+    {
+        let _ = bytes;
+        self.take_record(&item.to_record())
+    }
+
     /// Takes the next record of the trace: keeps its entry, judges it by its port and hands it to its
     /// bank, which judges it in its turn. Where it is the first upon which a part breaks, that is noted.
-    pub fn take(&mut self, item: &Record) -> Result<(), NoMemory>
+    fn take_record(&mut self, item: &Record) -> Result<(), NoMemory>
         requires next { CanStand item.now self.old }
         requires range { EndsInRange self.old.watch item.now }
         ensures judged { (shape : Shape) (memory : FlatMemory) (records : List Record) → MayCome shape records item.now

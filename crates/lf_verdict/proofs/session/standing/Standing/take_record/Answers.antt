@@ -3,7 +3,7 @@ use Rattle.lf_verdict.specs.declared.session.breaking.Watch.{Watch}
 use Rattle.lf_verdict.specs.Standing.{Counts, IsWatch, IsKnown, StandsAfterAll}
 use Rattle.lf_verdict.specs.inner.Noting.{EndsInRange}
 use Rattle.lf_verdict.proofs.Breaks.{stands_watched}
-use Rattle.lf_verdict.proofs.session.standing.Standing.take.Goals as goal
+use Rattle.lf_verdict.proofs.session.standing.Standing.take_record.Goals as goal
 
 pub note-requires : goal.note-requires
 note-requires c = record {
