@@ -12,7 +12,7 @@ use Rattle.lf_verdict.specs.Session.{HasFed, stop_told}
 abbrev pub rest_of : List ℕ → ℕ → List ℕ
 rest_of piece at = take (length piece - at) (drop at piece)
 
-rest_is : (piece : List ℕ) (at : ℕ) → rest_of piece at ≡ drop at piece
+pub rest_is : (piece : List ℕ) (at : ℕ) → rest_of piece at ≡ drop at piece
 rest_is piece at = take_all (length piece - at) (drop at piece) (omega (arith, length-drop at piece))
 
 pub rest_len : (piece : List ℕ) (at : ℕ) → length (rest_of piece at) ≡ length piece - at
@@ -26,13 +26,17 @@ told_going old (Some stop) going is = let none : stop_told None (Some stop) ≡ 
 pub fed_nothing : (s : Intake) (bytes : List ℕ) → HasFed s bytes → HasFed s (bytes ++ [])
 fed_nothing s bytes fed = subst (HasFed s) (sym (append-nil bytes)) fed
 
-pub fed_more : (s : Intake) (bytes piece : List ℕ) (at n : ℕ) →
-    HasFed s ((bytes ++ take at piece) ++ take n (rest_of piece at)) → HasFed s (bytes ++ take (at + n) piece)
-fed_more s bytes piece at n fed =
+-- some bytes of the piece, and some of those behind them
+pub more_bytes : (bytes piece : List ℕ) (at n : ℕ) →
+    (bytes ++ take at piece) ++ take n (rest_of piece at) ≡ bytes ++ take (at + n) piece
+more_bytes bytes piece at n =
     let more : take at piece ++ take n (rest_of piece at) ≡ take (at + n) piece =
     ap (λ (xs : List ℕ). take at piece ++ take n xs) (rest_is piece at) ∙ sym (take-add at n piece) in
-    subst (HasFed s) (append_assoc bytes (take at piece) (take n (rest_of piece at))
-    ∙ ap (λ (xs : List ℕ). bytes ++ xs) more) fed
+    append_assoc bytes (take at piece) (take n (rest_of piece at)) ∙ ap (λ (xs : List ℕ). bytes ++ xs) more
+
+pub fed_more : (s : Intake) (bytes piece : List ℕ) (at n : ℕ) →
+    HasFed s ((bytes ++ take at piece) ++ take n (rest_of piece at)) → HasFed s (bytes ++ take (at + n) piece)
+fed_more s bytes piece at n fed = subst (HasFed s) (more_bytes bytes piece at n) fed
 
 pub fed_rest : (s : Intake) (bytes piece : List ℕ) (at : ℕ) →
     HasFed s ((bytes ++ take at piece) ++ rest_of piece at) → HasFed s (bytes ++ piece)

@@ -1,7 +1,6 @@
 -- How many bytes stand before a record.
-use Rattle.std.proofs.Common.{◌≡◌, ℕ, ◌+◌, ◌*◌, ◌<◌, ◌≤◌, ◌^◌, List, [], ◌∷◌, ◌++◌, length, Option, Some, None, refl}
+use Rattle.std.proofs.Common.{◌≡◌, ℕ, ◌+◌, ◌*◌, ◌<◌, ◌≤◌, ◌^◌, List, [], ◌∷◌, ◌++◌, length, Some, refl}
 use Rattle.std.proofs.Common.{Bool, sym, ap, ◌∙◌, subst, arith}
-use Rattle.std.specs.Prelude.{IfSome}
 use Rattle.std.specs.List.{flat_map, AllByRecursion}
 use Rattle.std.proofs.Math.Nat.{suc-mul}
 use Rattle.std.proofs.lemmas.Grind.{flat_map-append}
@@ -17,7 +16,7 @@ use Rattle.lf_codec.specs.Layout.{u16_bytes, u32_bytes, header_bytes, memory_byt
 use Rattle.lf_codec.specs.Layout.{data_of, kind_of}
 use Rattle.lf_codec.specs.Laws.{WhatIsReadFits}
 use Rattle.lf_codec.specs.Reading.{Reading, reading_of, header_of}
-use Rattle.lf_codec.specs.Reader.{HasRead, with_record}
+use Rattle.lf_codec.specs.Reader.{HasRead}
 use Rattle.lf_codec.specs.Sound.{IsInRange}
 use Rattle.lf_codec.specs.Trace.{FitsHeader, FitsMemory, FitsIn, FitsTrace, log_len}
 use Rattle.lf_codec.proofs.EachKind.{length-fixed_bytes, data_len_again, fixed_passes}
@@ -175,15 +174,6 @@ ends_in_range law shape bytes memory records r running item rest read run next =
     } in
     watch_ends (first_offset run.header memory) shape (flat_memory memory) records running.watch item run.watched
     (trace_ends run.header memory records rest item trace)
-
--- ... also where it stands in a place
-pub place_ends : WhatIsReadFits → (shape : Shape) (bytes : List ℕ) (memory : List (ℕ × Bytes)) (records : List Record)
-    (r : Reading) (running : Standing) (place : Option Record) {ordered : Bool}
-    → HasRead (with_record place r) bytes memory records → IsRunning shape ordered bytes memory records running →
-    IfSome place (EndsInRange running.watch)
-place_ends law shape bytes memory records r running None read run = tt
-place_ends law shape bytes memory records r running (Some item) read run =
-    ends_in_range law shape bytes memory records (with_record (Some item) r) running item r.records read run refl
 
 -- no record came, and the first begins behind the header and the memory
 pub opened : WhatIsReadFits → (shape : Shape) (ordered : Bool) (bytes : List ℕ) (memory : List (ℕ × Bytes))

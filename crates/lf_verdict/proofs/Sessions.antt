@@ -1,7 +1,7 @@
 -- What a session takes from its reader, and what it answers.
 use Rattle.std.proofs.Common.{◌≡◌, ℕ, ◌-◌, ◌<◌, ◌≤◌, List, [], ◌∷◌, ◌++◌, length, Option, Some, None, Ok, Err, refl}
 use Rattle.std.proofs.Common.{Bool, sym, ap, ◌∙◌, subst, ◌⊎◌, inl, inr, ⊎_elim, ◌^◌, append_assoc, arith}
-use Rattle.std.specs.Prelude.{◌==◌, slice_index, option_to_list, OnOk, Result}
+use Rattle.std.specs.Prelude.{◌==◌, slice_index, OnOk, Result}
 use Rattle.std.specs.List.{AllByRecursion}
 use Rattle.std.proofs.lemmas.List.{append-nil, length-append, take-append-le, get_or_append_left, get_or-append_right}
 use Rattle.std.proofs.lemmas.List.Elements.{filter-append}
@@ -105,23 +105,14 @@ pub on_ok : {F : Type 0} {P Q : Type 0} (result : Result (Unit {0}) F) → OnOk 
 on_ok (Ok u) p f = f p
 on_ok (Err e) p f = tt
 
--- the record that the reader gave last may come
-pub place_may_come : WhatIsReadFits → (shape : Shape) (bytes : List ℕ) (memory : List (ℕ × Bytes))
-    (records : List Record) (r : Reading) (running : Standing) (place : Option Record) {ordered : Bool}
-    → HasRead (with_record place r) bytes memory records → IsRunning shape ordered bytes memory records running →
-    MayAllCome shape records (option_to_list place)
-place_may_come law shape bytes memory records r running None read run = tt
-place_may_come law shape bytes memory records r running (Some item) read run =
-    (may_come law shape bytes memory records (with_record (Some item) r) running item r.records read run refl, tt)
-
 -- what the reader gave stood in front
-pub given_one : (r : Reading) (place : Option Record) (bytes : List ℕ) (memory : List (ℕ × Bytes))
-    (records : List Record) → HasRead (with_record place r) bytes memory records
-    → HasRead r bytes memory (records ++ option_to_list place)
-given_one r place bytes memory records read = record {
+pub given_one : (r : Reading) (item : Record) (bytes : List ℕ) (memory : List (ℕ × Bytes))
+    (records : List Record) → HasRead (with_record (Some item) r) bytes memory records
+    → HasRead r bytes memory (records ++ item ∷ [])
+given_one r item bytes memory records read = record {
   are_bytes = read.are_bytes;
   same = read.same ∙ ap (λ (rs : List Record). record r { memory = memory ++ r.memory; records = rs })
-      (sym (append_assoc records (option_to_list place) r.records));
+      (sym (append_assoc records (item ∷ []) r.records));
 }
 
 -- all that the reader has found may come
@@ -354,6 +345,21 @@ header_stays law bytes piece h e = elim (cases_lt (length bytes) 16) [
       ∙ sym (law.whole bytes le) ∙ e
 ]
 
+-- the parts stand as they stood where more bytes come
+pub running_on : HeaderIsOfItsBytes → (shape : Shape) (bytes piece : List ℕ) (memory : List (ℕ × Bytes))
+    (records : List Record) (running : Standing) {ordered : Bool}
+    → IsRunning shape ordered bytes memory records running
+    → IsRunning shape ordered (bytes ++ piece) memory records running
+running_on law shape bytes piece memory records running h = record {
+  header = h.header;
+  read = header_stays law bytes piece h.header h.read;
+  agrees = h.agrees;
+  whole = h.whole;
+  stands = h.stands;
+  watched = h.watched;
+  keeping = h.keeping;
+}
+
 pub judged_feed : HeaderIsOfItsBytes → (s : Intake) (bytes piece : List ℕ) (records : List Record) (new : Reading) →
     HasJudged s bytes records
     → HasRead new (bytes ++ piece) s.memory.items records → new.fault ≡ None
@@ -369,16 +375,7 @@ judged_feed law s bytes piece records new was read fine = record {
     go : (j : Judging) → IsJudging s.shape s.asked.ordered bytes s.memory.items records j →
         IsJudging s.shape s.asked.ordered (bytes ++ piece) s.memory.items records j
     go Waiting h = h
-    go (Running running) h = record {
-      header = h.header;
-      read = header_stays law bytes piece h.header h.read;
-      agrees =
-          h.agrees;
-      whole = h.whole;
-      stands = h.stands;
-      watched = h.watched;
-      keeping = h.keeping;
-    }
+    go (Running running) h = running_on law s.shape bytes piece s.memory.items records running h
     go (Another field) h = record {
       header = h.header;
       read = header_stays law bytes piece h.header h.read;

@@ -1,7 +1,8 @@
 -- What an intake takes from its reader.
-use Rattle.std.specs.Prelude.{◌≡◌, Bool, ℕ, List, [], length, Some}
+use Rattle.std.specs.Prelude.{◌≡◌, Bool, true, ℕ, List, [], ◌++◌, length, Some}
 use Rattle.lf_rules.specs.declared.shape.Shape.{Shape}
 use Rattle.lf_rules.specs.declared.event.Record.{Record}
+use Rattle.lf_rules.specs.Address.{flat_memory}
 use Rattle.lf_rules.specs.Fits.{Bytes}
 use Rattle.lf_codec.specs.declared.header.Header.{Header}
 use Rattle.lf_codec.specs.Reading.{Reading, header_now}
@@ -11,6 +12,7 @@ use Rattle.lf_verdict.specs.declared.session.intake.Judging.{Judging}
 use Rattle.lf_verdict.specs.declared.session.intake.Judging.TheVariants.{Waiting, Running, Another}
 use Rattle.lf_verdict.specs.declared.session.standing.Standing.{Standing}
 use Rattle.lf_verdict.specs.Session.{IsRunning}
+use Rattle.lf_verdict.specs.Standing.{Counts, IsWatch, IsKnown, StandsAfterAll}
 
 -- No memory record waits in the reader, and the header is not there or lacks memory records.
 pub record IsLacking (reader : Reading) (memory : List (ℕ × Bytes)) : Type 0 where
@@ -41,3 +43,21 @@ pub record CanJudge (reader : Reading) (standing : Standing) : Type 0 where
   pub records : List Record
   pub read : HasRead reader bytes memory records
   pub run : IsRunning shape ordered bytes memory records standing
+
+-- These bytes more lead the reader and the parts on: the records that were taken from it before it stood so, and some
+-- more, are those on which the parts were judged.
+abbrev pub RunsOn : Reading → Standing → List ℕ → Reading → Standing → Type 0
+RunsOn old before bytes new after = (shape : Shape) (ordered : Bool) (fed : List ℕ) (memory : List (ℕ × Bytes))
+    (records : List Record) → HasRead old fed memory records → IsRunning shape ordered fed memory records before
+    → (more : List Record) × (HasRead new (fed ++ bytes) memory more ×
+    IsRunning shape ordered (fed ++ bytes) memory more after)
+
+-- From here on records are judged, the first of which begins at `start`. What is asked for is done.
+pub record Begins (old : Intake) (start : ℕ) (new : Intake) : Type 0 where
+  pub running : Standing
+  pub rest : new ≡ record old { judging = Running running }
+  pub stands : StandsAfterAll old.shape (flat_memory old.memory.items) [] running
+  pub watched : IsWatch start old.shape (flat_memory old.memory.items) [] running.watch
+  pub known : old.asked.watched ≡ true → IsKnown running.watch
+  pub keeps : running.entries.keeps ≡ old.asked.ordered
+  pub counts : old.asked.counted ≡ true → Counts running

@@ -23,7 +23,7 @@ use crate::session::share::judged;
 use crate::session::standing::Standing;
 use crate::session::workers::Workers;
 use crate::stop::Stop;
-use lf_codec::{Packed, Places, Told, faults_stand, header_of_bytes, read_so_far};
+use lf_codec::{Packed, Told, faults_stand, header_of_bytes, read_so_far};
 use lf_pool::Gate;
 use lf_rules::{NoMemory, Shape};
 use std::alloc::Global;
@@ -50,8 +50,6 @@ pub struct Ahead<G> {
     pub gate: G,
     pub records: Packed,
     pub at_work: Option<Workers>,
-    /// Where the record is that is judged, where no thread judges it.
-    pub places: Places,
 }
 
 impl<G: Gate + Sync + Send + Copy + 'static> Ahead<G> {
@@ -83,7 +81,6 @@ impl<G: Gate + Sync + Send + Copy + 'static> Ahead<G> {
             gate,
             records: Packed::new(alloc),
             at_work: None,
-            places: Places::new(),
         }
     }
 
@@ -288,7 +285,7 @@ impl<G: Gate + Sync + Send + Copy + 'static> Ahead<G> {
         ensures told { result ≡ stop_told self.old.intake.stop self.new.intake.stop }
     {
         match self.settle(rt) {
-            Ok(()) => self.intake.feed(piece, &mut self.places),
+            Ok(()) => self.intake.feed(piece),
             Err(NoMemory) => Err(self.stop_with(rt, Stop::Memory)),
         }
     }
@@ -408,7 +405,6 @@ impl<G: Gate + Sync + Send + Copy + 'static> Ahead<G> {
             gate: _,
             records: _,
             at_work,
-            places: _,
         } = self;
         end(at_work);
     }

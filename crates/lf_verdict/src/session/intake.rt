@@ -1,28 +1,25 @@
 //! What a session keeps of the bytes that it was fed.
 
 ghost use Rattle.std.specs.Prelude.{◌≡◌, ◌<◌, ◌++◌, ℕ, List, [], Some, None, IsSome, IfSome, IfNone, IfOk, Ok, OnOk};
-ghost use Rattle.std.specs.Prelude.{Bool, true, option_to_list};
+ghost use Rattle.std.specs.Prelude.{◌≤◌, Bool, true, length, take, OnErr};
 ghost use Rattle.lf_rules.specs.InRange.{IsShape};
 ghost use Rattle.lf_verdict.specs.inner.Ending.{IsVerdictOrWant, IsUnorderedOrWant};
-ghost use Rattle.lf_verdict.specs.Standing.{Counts, IsWatch, IsKnown, StandsAfterAll};
-ghost use Rattle.lf_verdict.specs.inner.Noting.{EndsInRange};
+ghost use Rattle.lf_verdict.specs.Standing.{Counts, IsKnown};
 ghost use Rattle.lf_verdict.specs.Named.{IsNamed, NoneBrokeSoFar};
 ghost use Rattle.lf_verdict.specs.Verdict.{IsDecided};
 ghost use Rattle.lf_verdict.specs.Incomplete.{IsIncompleteFor};
 ghost use Rattle.lf_verdict.specs.Final.{IsFinal, IsEarliest, IsUnbroken, NoneBrokeInTrace};
-ghost use Rattle.lf_verdict.specs.Session.{refusal_of, stop_told, IsRunning, HasTaken, IsRunningNow, IsInTurn, HasFed};
+ghost use Rattle.lf_verdict.specs.Session.{refusal_of, stop_told, IsRunning, HasTaken, IsInTurn, HasFed};
 ghost use Rattle.lf_verdict.specs.Session.{IsCounting, IsOfAnotherHeader, HeaderAgrees};
 ghost use Rattle.lf_verdict.specs.Statistics.{AreStatisticsOf, IsYesVerdict};
-ghost use Rattle.lf_verdict.specs.inner.Taking.{IsLackingIf, IsDrained, CanJudge};
-ghost use Rattle.lf_codec.specs.Reader.{answer_of, bytes_taken, with_record, TakesSome};
+ghost use Rattle.lf_verdict.specs.inner.Taking.{IsLackingIf, IsDrained, CanJudge, RunsOn, Begins};
+ghost use Rattle.lf_codec.specs.Reader.{answer_of, bytes_taken, TakesSome, CanLend};
 ghost use Rattle.lf_verdict.specs.declared.session.intake.Judging.TheVariants.{Waiting};
 ghost use Rattle.lf_rules.specs.declared.shape.Shape.{Shape};
 ghost use Rattle.lf_rules.specs.declared.event.Record.{Record};
 ghost use Rattle.lf_rules.specs.Fits.{Bytes};
 ghost use Rattle.lf_codec.specs.Reader.{HasRead};
-ghost use Rattle.lf_rules.specs.Address.{FlatMemory};
 ghost use Rattle.lf_codec.specs.declared.fault.Told.TheVariants as tolds;
-ghost use Rattle.lf_verdict.specs.inner.Coming.{MayAllCome};
 
 use crate::answer::{HeaderField, Refusal, Verdict};
 use crate::header::{differing, first_offset};
@@ -31,7 +28,7 @@ use crate::session::asked::Asked;
 use crate::session::breaking::{Broken, Conclusion, Counted};
 use crate::session::standing::{Judged, Standing};
 use crate::stop::Stop;
-use lf_codec::{Places, Reader, Told, exact_reading, faults_stand, header_of_bytes, read_so_far};
+use lf_codec::{Reader, Told, exact_reading, faults_stand, header_of_bytes, read_so_far};
 use lf_rules::{Memory, NoMemory, Shape};
 use lf_views::RecordView;
 use std::alloc::Global;
@@ -89,52 +86,27 @@ fn judge_records(reader: &mut Reader, standing: &mut Standing) -> Result<(), NoM
     Ok(())
 }
 
-/// Judges the record in the place, where there is one.
-fn judge_one(standing: &mut Standing, place: &Places) -> Result<(), NoMemory>
-    requires next { (shape : Shape) × ((memory : FlatMemory) × ((records : List Record) ×
-        (StandsAfterAll shape memory records standing.old × MayAllCome shape records (option_to_list place.now)))) }
-    requires range { IfSome place.now (EndsInRange standing.old.watch) }
-    ensures judged { (shape : Shape) (memory : FlatMemory) (records : List Record) →
-        StandsAfterAll shape memory records standing.old
-        → MayAllCome shape records (option_to_list place.now)
-        → OnOk result (StandsAfterAll shape memory (records ++ option_to_list place.now) standing.new) }
-    ensures watched { (start : ℕ) (shape : Shape) (memory : FlatMemory) (records : List Record) →
-        StandsAfterAll shape memory records standing.old
-        → MayAllCome shape records (option_to_list place.now) → IsWatch start shape memory records standing.old.watch
-        → OnOk result (IsWatch start shape memory (records ++ option_to_list place.now) standing.new.watch) }
-    ensures known { IsKnown standing.old.watch → IsKnown standing.new.watch }
-    ensures counts { Counts standing.old → Counts standing.new }
-    ensures keeps { standing.new.entries.keeps ≡ standing.old.entries.keeps }
-{
-    match place.record() {
-        Some(item) => standing.take(&RecordView::of(item), &[]),
-        None => Ok(()),
-    }
-}
-
-/// Judges the record in the place, and those that the reader has found beside it.
-fn judge_placed(
-    reader: &mut Reader,
-    standing: &mut Standing,
-    place: &Places,
-) -> Result<(), NoMemory>
-    requires { CanJudge (with_record place.now reader.old) standing.old }
-    ensures judged { (shape : Shape) (ordered : Bool) (bytes : List ℕ) (memory : List (ℕ × Bytes))
-        (records : List Record) → HasRead (with_record place.now reader.old) bytes memory records →
-        IsRunning shape ordered bytes memory records standing.old
-        → OnOk result ((more : List Record) × (HasRead reader.new bytes memory more ×
-        IsRunning shape ordered bytes memory more standing.new)) }
+/// Judges one record after another where they stand whole at the front of the bytes, and says how many bytes they
+/// have. It is apart, so that nothing else is compiled into its loop.
+#[inline(never)]
+fn judge_run(reader: &mut Reader, standing: &mut Standing, bytes: &[u8]) -> Result<usize, NoMemory>
+    requires can { CanJudge reader.old standing.old }
+    requires lends { CanLend reader.old }
+    ensures few { IfOk result (λ n. n ≤ length bytes.now) }
+    ensures judged { IfOk result (λ n. RunsOn reader.old standing.old (take n bytes.now) reader.new standing.new) }
     ensures fault { reader.new.fault ≡ reader.old.fault }
-    ensures drained { OnOk result (reader.new.records ≡ []) }
     ensures known { IsKnown standing.old.watch → IsKnown standing.new.watch }
     ensures counts { Counts standing.old → Counts standing.new }
 {
     read_so_far();
-    judge_one(standing, place)?;
-    if reader.front().is_none() {
-        return Ok(());
+    header_of_bytes();
+    let mut view = RecordView::blank();
+    let mut at = 0;
+    while let Some(n) = reader.lend(&bytes[at..], &mut view) {
+        standing.take(&view, &bytes[at..at + n])?;
+        at += n;
     }
-    judge_records(reader, standing)
+    Ok(at)
 }
 
 impl Intake {
@@ -234,26 +206,6 @@ impl Intake {
         }
     }
 
-    /// Judges the record in the place, while the records are judged.
-    fn judge_with(&mut self, place: &Places) -> Result<(), NoMemory>
-        requires taken { (bytes : List ℕ) × HasTaken (record self.old
-            { reader = with_record place.now self.old.reader }) bytes }
-        requires running { IsRunningNow self.old.judging }
-        ensures shape { self.new.shape ≡ self.old.shape }
-        ensures asked { self.new.asked ≡ self.old.asked }
-        ensures stop { self.new.stop ≡ self.old.stop }
-        ensures taken { (bytes : List ℕ) → HasTaken (record self.old
-            { reader = with_record place.now self.old.reader }) bytes
-            → OnOk result (HasTaken self.new bytes) }
-        ensures drained { OnOk result (IsDrained self.new.judging self.new.reader self.new.memory.items) }
-        ensures in_turn { IsInTurn self.old → IsInTurn self.new }
-    {
-        match &mut self.judging {
-            Judging::Running(standing) => judge_placed(&mut self.reader, standing, place),
-            _ => unreachable!(),
-        }
-    }
-
     /// Begins to judge once the header and the memory are whole.
     fn open(&mut self) -> Result<(), NoMemory>
         requires taken { (bytes : List ℕ) × HasTaken self.old bytes }
@@ -275,15 +227,26 @@ impl Intake {
             return Ok(());
         }
         if self.memory.len() as u64 == u64::from(header.memory_count) {
-            let (start, asked) = (first_offset(&header), self.asked);
-            let standing = Standing::new(self.alloc, &self.shape, &self.memory, start, asked)?;
-            self.judging = Judging::Running(standing);
+            return self.begin(first_offset(&header));
         }
         Ok(())
     }
 
-    /// Takes the next piece of the trace, a record at a time. What was in the place is lost.
-    pub fn feed(&mut self, piece: &[u8], place: &mut Places) -> Result<(), Told<Refusal>>
+    /// Judges from here on. The first record begins at `start`. It is apart, since its frame is large, and `open` is
+    /// called for each memory record.
+    #[inline(never)]
+    fn begin(&mut self, start: u64) -> Result<(), NoMemory>
+        requires { IsShape self.old.shape }
+        ensures begun { OnOk result (Begins self.old start self.new) }
+        ensures refused { OnErr result (self.new ≡ self.old) }
+    {
+        let standing = Standing::new(self.alloc, &self.shape, &self.memory, start, self.asked)?;
+        self.judging = Judging::Running(standing);
+        Ok(())
+    }
+
+    /// Takes the next piece of the trace.
+    pub fn feed(&mut self, piece: &[u8]) -> Result<(), Told<Refusal>>
         requires { (bytes : List ℕ) × HasFed self.old bytes }
         ensures shape { self.new.shape ≡ self.old.shape }
         ensures asked { self.new.asked ≡ self.old.asked }
@@ -298,7 +261,7 @@ impl Intake {
         }
         let mut at = 0;
         while at < piece.len() {
-            match self.feed_record(&piece[at..], place) {
+            match self.feed_part(&piece[at..]) {
                 Ok(n) => at += n,
                 Err(told) => return Err(told),
             }
@@ -329,8 +292,33 @@ impl Intake {
         }
     }
 
-    /// Takes the front of the bytes. While the records are judged each is written to the place and judged there.
-    fn feed_record(&mut self, bytes: &[u8], place: &mut Places) -> Result<usize, Told<Refusal>>
+    /// Judges the records that stand whole at the front of the bytes, while records are judged, and says how many bytes
+    /// they have.
+    fn feed_run(&mut self, bytes: &[u8]) -> Result<usize, Told<Refusal>>
+        requires fed { (fed : List ℕ) × HasFed self.old fed }
+        requires going { self.old.stop ≡ None }
+        ensures shape { self.new.shape ≡ self.old.shape }
+        ensures asked { self.new.asked ≡ self.old.asked }
+        ensures few { IfOk result (λ n. n ≤ length bytes.now) }
+        ensures fed { (fed : List ℕ) → HasFed self.old fed → HasFed self.new (fed ++ bytes_taken result bytes.now) }
+        ensures told { answer_of result ≡ stop_told self.old.stop self.new.stop }
+        ensures in_turn { IsInTurn self.old → IsInTurn self.new }
+    {
+        if !self.reader.can_lend() {
+            return Ok(0);
+        }
+        let Judging::Running(standing) = &mut self.judging else {
+            return Ok(0);
+        };
+        match judge_run(&mut self.reader, standing, bytes) {
+            Ok(n) => Ok(n),
+            Err(NoMemory) => Err(self.stop_with(Stop::Memory)),
+        }
+    }
+
+    /// Takes the front of the bytes: the records that stand whole there, while records are judged, and what there is of
+    /// the next step.
+    fn feed_part(&mut self, bytes: &[u8]) -> Result<usize, Told<Refusal>>
         requires fed { (fed : List ℕ) × HasFed self.old fed }
         requires going { self.old.stop ≡ None }
         ensures shape { self.new.shape ≡ self.old.shape }
@@ -340,17 +328,13 @@ impl Intake {
         ensures told { answer_of result ≡ stop_told self.old.stop self.new.stop }
         ensures in_turn { IsInTurn self.old → IsInTurn self.new }
     {
-        let Judging::Running(_) = self.judging else {
-            return self.feed_some(bytes);
-        };
-        header_of_bytes();
-        let n = match self.reader.feed_one(bytes, place) {
+        let n = match self.feed_run(bytes) {
             Ok(n) => n,
-            Err(told) => return Err(self.stop_with(Stop::from(told))),
+            Err(told) => return Err(told),
         };
-        match self.judge_with(place) {
-            Ok(()) => Ok(n),
-            Err(NoMemory) => Err(self.stop_with(Stop::Memory)),
+        match self.feed_some(&bytes[n..]) {
+            Ok(more) => Ok(n + more),
+            Err(told) => Err(told),
         }
     }
 

@@ -31,7 +31,7 @@ use crate::laws::{no_has_no_run, yes_is_legal};
 use crate::session::asked::Asked;
 use crate::session::intake::Intake;
 pub use breaking::{Broken, Conclusion, Counted, PartFault, Upon};
-use lf_codec::{Places, Told};
+use lf_codec::Told;
 use lf_config::read;
 use lf_rules::Shape;
 pub use parallel::ParallelSession;
@@ -42,8 +42,6 @@ use std::marker::Model;
 #[derive(Drop)]
 pub struct Session {
     intake: Intake,
-    /// Where the record is that is judged.
-    places: Places,
 }
 
 impl Model for Session {
@@ -81,7 +79,6 @@ impl Session {
         };
         Session {
             intake: Intake::new(alloc, shape, asked),
-            places: Places::new(),
         }
     }
 
@@ -119,7 +116,7 @@ impl Session {
         ensures fault { IfErr result (λ t. (bytes : List ℕ) → HasFed self.old bytes →
             IsRefusalSoFar (bytes ++ piece.now) (fault_in t)) }
     {
-        self.intake.feed(piece, &mut self.places)
+        self.intake.feed(piece)
     }
 
     /// What broke, where something did for which no bytes that follow lead to a yes: a header of another hierarchy, or
@@ -156,10 +153,7 @@ impl Session {
     {
         yes_is_legal();
         no_has_no_run();
-        let Session {
-            mut intake,
-            places: _,
-        } = self;
+        let Session { mut intake } = self;
         intake.conclude()
     }
 
@@ -180,10 +174,7 @@ impl Session {
     {
         yes_is_legal();
         no_has_no_run();
-        let Session {
-            mut intake,
-            places: _,
-        } = self;
+        let Session { mut intake } = self;
         intake.counted()
     }
 

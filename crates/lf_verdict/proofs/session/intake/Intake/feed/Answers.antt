@@ -23,8 +23,8 @@ loop-at-init c = record {
   fed = λ bytes fed. fed_nothing c.args.self.now bytes fed;
 }
 
-pub feed_record-requires-clause-fed : goal.feed_record-requires-clause-fed
-feed_record-requires-clause-fed c = (
+pub feed_part-requires-clause-fed : goal.feed_part-requires-clause-fed
+feed_part-requires-clause-fed c = (
   c.requires.0 ++ take c.loop-at.at c.args.piece.now,
   c.loop-at.invariant.fed
       c.requires.0 c.requires.1,
@@ -35,16 +35,16 @@ loop-at-preserved c = record {
   within = omega (arith, c.in-Ok.ensures.some.0, rest_len c.args.piece.now c.loop-at.at, c.loop-at.invariant.within);
   shape = c.in-Ok.ensures.shape ∙ c.loop-at.invariant.shape;
   asked = c.in-Ok.ensures.asked ∙ c.loop-at.invariant.asked;
-  going = told_going c.loop-at.self.stop c.feed_record.new.self.stop c.loop-at.invariant.going
+  going = told_going c.loop-at.self.stop c.feed_part.new.self.stop c.loop-at.invariant.going
       (sym c.in-Ok.ensures.told);
   in_turn = λ turn. c.in-Ok.ensures.in_turn (c.loop-at.invariant.in_turn turn);
-  fed = λ bytes fed. fed_more c.feed_record.new.self bytes c.args.piece.now c.loop-at.at c.in-Ok.n
+  fed = λ bytes fed. fed_more c.feed_part.new.self bytes c.args.piece.now c.loop-at.at c.in-Ok.n
       (c.in-Ok.ensures.fed (bytes ++ take c.loop-at.at c.args.piece.now) (c.loop-at.invariant.fed bytes fed));
 }
 
 pub returns-in-Err-clause-fed : goal.returns-in-Err-clause-fed
 returns-in-Err-clause-fed c bytes fed =
-    fed_rest c.feed_record.new.self bytes c.args.piece.now c.loop-at.at
+    fed_rest c.feed_part.new.self bytes c.args.piece.now c.loop-at.at
     (c.in-Err.ensures.fed (bytes ++ take c.loop-at.at c.args.piece.now) (c.loop-at.invariant.fed bytes fed))
 
 pub returns-clause-fed : goal.returns-clause-fed
