@@ -1,7 +1,7 @@
 -- A record is read again from its bytes, whatever stands behind them.
 use Rattle.std.proofs.Common.{◌≡◌, ℕ, ◌<◌, ◌≤◌, List, [], ◌∷◌, ◌++◌, length, take, drop, refl, ap, ◌∙◌, arith}
-use Rattle.std.proofs.Common.{append_assoc}
-use Rattle.std.proofs.lemmas.List.{take_at, drop_at, length-append}
+use Rattle.std.proofs.Common.{append_assoc, sym}
+use Rattle.std.proofs.lemmas.List.{take_at, drop_at, length-append, append-nil}
 use Rattle.lf_rules.specs.declared.event.Event.{Event}
 use Rattle.lf_rules.specs.declared.event.Record.{Record}
 use Rattle.lf_codec.specs.declared.header.Header.{Header}
@@ -9,10 +9,12 @@ use Rattle.lf_codec.specs.declared.stage.Kind.{Kind}
 use Rattle.lf_codec.specs.declared.stage.Kind.TheVariants as kinds
 use Rattle.lf_codec.specs.declared.stage.Head.{Head}
 use Rattle.lf_codec.specs.Layout.{u32_bytes, kind_of, code_of, IsCode, fixed_bytes, data_of, head_bytes}
+use Rattle.lf_codec.specs.Layout.{record_bytes}
 use Rattle.lf_codec.specs.Checks.{byte_at, u32_at, fixed_checks}
 use Rattle.lf_codec.specs.Steps.{fixed_len, data_len, head_at, record_of}
 use Rattle.lf_codec.specs.Sound.{IsInRange}
-use Rattle.lf_codec.specs.Lent.{BeginWith, HoldParts, fixed_in, carried_in, record_in}
+use Rattle.lf_codec.specs.Lent.{BeginWith, HoldParts, fixed_in, carried_in, record_in, spelled_record}
+use Rattle.lf_codec.specs.Packed.{SpellOne}
 use Rattle.lf_codec.proofs.Judged.{judged_passed}
 use Rattle.lf_codec.proofs.Numbers.{length-u32_bytes}
 use Rattle.lf_codec.proofs.Soundness.{block_at_most_64, factor_at_most_4, data_limit}
@@ -132,3 +134,18 @@ module _ (h : Header) (bytes : List ℕ) (x : Record) (range : IsInRange h) (fro
       ap (λ (f : List ℕ). record_of h (head_in x) f (carried_in h (kind_of x.event) (drop 8 bytes))) fixed_is
       ∙ ap (record_of h (head_in x) (fixed_bytes x.event)) carried_is
       ∙ ap (λ (e : Event). record x { event = e }) (event_again h x.bank x.event small front.fits.event)
+
+  pub spelled_again : spelled_record h bytes ≡ x
+  spelled_again =
+      ap (λ (found : Head). record_in h found (drop 8 bytes)) (front_head h bytes x front) ∙ front_again
+
+-- the bytes are those of the record, and nothing stands behind it
+pub begin_alone : (h : Header) (bytes : List ℕ) (one : SpellOne h bytes) → BeginWith h bytes one.item
+begin_alone h bytes one = record {
+  fits = one.fits;
+  more = [];
+  joined = one.spelled ∙ sym (append-nil (record_bytes one.item));
+}
+
+pub alone_again : (h : Header) (bytes : List ℕ) (one : SpellOne h bytes) → spelled_record h bytes ≡ one.item
+alone_again h bytes one = spelled_again h bytes one.item one.in_range (begin_alone h bytes one)

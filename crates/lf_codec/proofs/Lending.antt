@@ -18,9 +18,12 @@ use Rattle.lf_codec.specs.Layout.{record_bytes}
 use Rattle.lf_codec.specs.Checks.{u64_at, masks_at, fixed_checks}
 use Rattle.lf_codec.specs.Steps.{head_at, event_at, counted}
 use Rattle.lf_codec.specs.Sound.{AreOfKind, IsInRange, IsSound, IsSoundReader}
+use Rattle.lf_codec.specs.Lent.{spelled_record}
+use Rattle.lf_codec.specs.Packed.{SpellOne}
 use Rattle.lf_codec.specs.Reading.{Reading, header_unless, header_now}
 use Rattle.lf_codec.specs.Reader.{HasRead, CanLend, with_record}
 use Rattle.lf_codec.specs.Takes.{IsWholeRecord, ReadsInto, LendsPart}
+use Rattle.lf_codec.proofs.Again.{alone_again}
 use Rattle.lf_codec.proofs.Judged.{all_passed}
 use Rattle.lf_codec.proofs.MaskBytes.{length-masks_at}
 use Rattle.lf_codec.proofs.Numbers.{IsBytes, IsBytes-take, IsBytes-drop}
@@ -149,6 +152,12 @@ module _ (p : Progress) (bytes : List ℕ) (item : Record) (n : ℕ) (whole : Is
       ∙ ap (λ (t : List ℕ). (t ++ whole.fixed) ++ whole.carried) (sym front)
       ∙ sym (hand.spelled (record { items = whole.carried }) parts.carried_whole)
       ∙ ap record_bytes (sym whole.item_is)
+
+  abbrev pub spell_whole : SpellOne p.header (take n bytes)
+  spell_whole = record { in_range = range; item = item; fits = whole_fits.fits; spelled = whole_spelled }
+
+  pub whole_again : spelled_record p.header (take n bytes) ≡ item
+  whole_again = alone_again p.header (take n bytes) spell_whole
 
 -- the record that is lent stands in front of those that wait, of which there is none
 pub lends_part : (r new : Reading) (bytes : List ℕ) (n : ℕ) (item : Record) →

@@ -1,28 +1,27 @@
--- Records that are kept by their parts: more bytes change none of them.
-use Rattle.std.proofs.Common.{◌≡◌, ℕ, ◌+◌, ◌≤◌, List, [], ◌∷◌, ◌++◌, length, take, drop, refl, sym, ap, subst, ◌∙◌}
+-- Records that are kept where they stand: more bytes change none of them.
+use Rattle.std.proofs.Common.{◌≡◌, ℕ, zero, suc, ◌+◌, ◌<◌, ◌≤◌, get_or, List, [], ◌∷◌, ◌++◌, length, take, drop, refl, sym, ap, subst, ◌∙◌}
 use Rattle.std.proofs.Common.{arith, append_assoc}
 use Rattle.std.proofs.Common.{Result, Ok, Err, Option, Some, None, inl, inr}
 use Rattle.std.specs.Prelude.{slice_index, IfOk, IfSome, OnOk}
 use Rattle.std.proofs.lemmas.List.{drop-append-le, take-append-le, take-append-drop, length-drop, length-append}
-use Rattle.std.proofs.lemmas.List.{append-nil}
-use Rattle.std.proofs.Math.Seq.{drop-append_seam, take-append_seam}
+use Rattle.std.proofs.lemmas.List.{append-nil, get_or-map, length-map}
 use Rattle.lf_rules.specs.declared.event.Record.{Record}
 use Rattle.lf_codec.specs.declared.header.Header.{Header}
-use Rattle.lf_codec.specs.declared.stage.Head.{Head}
 use Rattle.lf_codec.specs.declared.packed.Form.{Form}
 use Rattle.lf_codec.specs.declared.packed.Form.TheVariants as forms
 use Rattle.lf_codec.specs.declared.progress.Progress.{Progress}
-use Rattle.lf_codec.specs.Steps.{record_of, counted}
-use Rattle.lf_codec.specs.Sound.{IsInRange, IsSound, IsSoundReader}
+use Rattle.lf_codec.specs.Steps.{counted}
+use Rattle.lf_codec.specs.Sound.{IsSound, IsSoundReader}
 use Rattle.lf_codec.specs.declared.fault.CodecFault.{CodecFault}
 use Rattle.lf_codec.specs.Reading.{Reading, read_on, byte_read, with_front}
-use Rattle.lf_codec.specs.Takes.{AreWholeParts, IsRefused, WasRefused, TakesPart, PacksPart, PacksInto, MayPack}
+use Rattle.lf_codec.specs.Takes.{IsRefused, WasRefused, TakesPart, PacksPart, PacksInto, MayPack}
 use Rattle.lf_codec.specs.Takes.{HasReadOn, cut_short}
 use Rattle.lf_codec.proofs.Parts.{part_after, fault_after}
 use Rattle.lf_codec.proofs.Pieces.{read_on-with_front}
-use Rattle.lf_codec.proofs.Soundness.{data_limit, sound_reader}
+use Rattle.lf_codec.proofs.Soundness.{sound_reader}
 use Rattle.lf_codec.proofs.WholeRecord.{sound_behind, taken_at_once}
-use Rattle.lf_codec.specs.Packed.{AreParts, StandLast, parts_record, slice_of, form_record, IsWithin}
+use Rattle.lf_codec.specs.Lent.{spelled_record}
+use Rattle.lf_codec.specs.Packed.{PackedRecords, SpellOne, StandLast, slice_of, form_record, IsWithin}
 use Rattle.lf_codec.specs.Packed.{records_in_forms, AreWithin}
 
 slice_stays : (bytes more : List ℕ) (at len : ℕ) → at + len ≤ length bytes →
@@ -33,15 +32,14 @@ slice_stays bytes more at len fits =
 
 form_stays : (h : Header) (bytes more : List ℕ) (form : Form) → IsWithin h bytes form →
     form_record h (bytes ++ more) form ≡ form_record h bytes form
-form_stays h bytes more (forms.Parts p) within = ap (parts_record h p.head) (slice_stays bytes more p.at p.len within.0)
+form_stays h bytes more (forms.Spelled start len) within = ap (spelled_record h) (slice_stays bytes more start len within.0)
 form_stays h bytes more (forms.Apart r) within = refl
 
 within_stays : (h : Header) (bytes more : List ℕ) (form : Form) → IsWithin h bytes form →
     IsWithin h (bytes ++ more) form
-within_stays h bytes more (forms.Parts p) within = (
+within_stays h bytes more (forms.Spelled start len) within = (
   omega (arith, within.0, length-append bytes more),
-  subst (AreParts h p.head.kind)
-      (sym (slice_stays bytes more p.at p.len within.0)) within.1,
+  subst (SpellOne h) (sym (slice_stays bytes more start len within.0)) within.1,
 )
 within_stays h bytes more (forms.Apart r) within = tt
 
@@ -61,6 +59,41 @@ within_stay h bytes more (first ∷ all) within = (
       all within.1,
 )
 
+-- ---- a record at a place
+
+within_at : (h : Header) (bytes : List ℕ) (all : List Form) (i : ℕ) (d : Form) → i < length all →
+    AreWithin h bytes all → IsWithin h bytes (get_or all i d)
+within_at h bytes [] i d below within = absurd (omega arith)
+within_at h bytes (form ∷ all) zero d below within = within.0
+within_at h bytes (form ∷ all) (suc i) d below within = within_at h bytes all i d (omega arith) within.1
+
+-- the record at a place is the one that these bytes spell
+pub record StandsIn (h : Header) (own : List ℕ) (records : List Record) (i : ℕ) : Type 0 where
+  pub one : SpellOne h own
+  pub is : (d : Record) → spelled_record h own ≡ get_or records i d
+
+pub stands_in : (v : PackedRecords) (h : Header) (bytes : List ℕ) (all : List Form) (i : ℕ) (form : Form)
+    (start len : ℕ) (own : List ℕ) →
+    record { header = h; bytes = bytes; records = records_in_forms h bytes all } ≡ v
+    → AreWithin h bytes all → i < length v.records → form ≡ get_or all i form
+    → form ≡ forms.Spelled start len → own ≡ slice_of bytes start len → StandsIn h own v.records i
+stands_in v h bytes all i form start len own view within below found spelled slice =
+    let inside : i < length all = omega (
+      arith,
+      length-map all (form_record h bytes),
+      ap (λ (p : PackedRecords). length p.records) view,
+      below,
+    )
+    in
+    let here : IsWithin h bytes (forms.Spelled start len) =
+    subst (IsWithin h bytes) (sym found ∙ spelled) (within_at h bytes all i form inside within) in
+    record {
+      one = subst (SpellOne h) (sym slice) here.1;
+      is = λ (d : Record). ap (spelled_record h) slice ∙ ap (form_record h bytes) (sym spelled ∙ found)
+          ∙ sym (get_or-map (form_record h bytes) all i form d inside)
+          ∙ ap (λ (p : PackedRecords). get_or p.records i d) view;
+    }
+
 -- ---- the last bytes
 
 -- those behind the first ones of the last are the last too
@@ -72,39 +105,6 @@ last_behind bytes last front rest stand joined = record {
 
 pub last_drop : (bytes last : List ℕ) (n : ℕ) → StandLast bytes last → StandLast bytes (drop n last)
 last_drop bytes last n stand = last_behind bytes last (take n last) (drop n last) stand (sym (take-append-drop n last))
-
--- The parts of a record that stands whole, as they are found behind its head.
-module _ (h : Header) (head : Head) (bytes fixed carried : List ℕ)
-    (parts : AreWholeParts h head.kind head.bank bytes fixed carried) where
-  found_is : take (length fixed + length carried) bytes ≡ fixed ++ carried
-  found_is =
-      let front : bytes ≡ (fixed ++ carried) ++ parts.more =
-      parts.joined ∙ sym (append_assoc fixed carried parts.more) in
-      let len : length (fixed ++ carried) ≡ length fixed + length carried = length-append fixed carried in
-      ap (take (length fixed + length carried)) front ∙ ap (λ (n : ℕ). take n ((fixed ++ carried) ++ parts.more))
-      (sym len) ∙ take-append_seam (fixed ++ carried) parts.more
-
-  pub found_fit : IsInRange h → AreParts h head.kind (take (length fixed + length carried) bytes)
-  found_fit range = record {
-    in_range = range;
-    fixed = omega (arith, ap length found_is, length-append fixed carried, parts.fixed_whole);
-    few = omega (
-      arith,
-      ap length found_is,
-      length-append fixed carried,
-      parts.fixed_whole,
-      parts.carried_whole,
-      data_limit h head.bank head.kind fixed range parts.fixed_passes,
-    );
-  }
-
-  pub found_record : parts_record h head (take (length fixed + length carried) bytes) ≡ record_of h head fixed carried
-  found_record =
-      ap (parts_record h head) found_is
-      ∙ ap (λ (n : ℕ). record_of h head (take n (fixed ++ carried)) (drop n (fixed ++ carried))) (sym parts.fixed_whole)
-      ∙ ap (λ (xs : List ℕ). record_of h head xs (drop (length fixed) (fixed ++ carried)))
-      (take-append_seam fixed carried)
-      ∙ ap (record_of h head fixed) (drop-append_seam fixed carried)
 
 -- ---- what stands in front changes nothing of what a step does
 

@@ -272,6 +272,20 @@ module _ (p : Progress) (bytes : List ℕ) (item : Record) (len : ℕ) (whole : 
     log_exists = rw log_of (whole_room p bytes whole.head whole.fixed whole.carried parts_of
         (range_here p at bytes whole.head whole.fixed whole.carried parts_of sound)).exists
 
+    pub few_bytes : len ≤ 300
+    few_bytes = rw whole.len_is (whole_short p bytes whole.head whole.fixed whole.carried parts_of
+        (range_at p at sound))
+
+    pub room_behind : p.position + len < 0x1_0000_0000_0000_0000
+    room_behind =
+        let own : IsSound (record p { stage = stages.Head }) =
+        subst IsSound (ap (λ (s : Stage). record p { stage = s }) at) sound in
+        omega (arith, own.position_limit, own.offset_limit, own.count_limit, own.least_limit, few_bytes)
+
+    pub len_within : len ≤ length bytes
+    len_within = rw whole.len_is (whole_within p bytes whole.head whole.fixed whole.carried parts_of
+        (range_at p at sound))
+
     pub sound_behind : IsSound (counted p len item.log)
     sound_behind = rw (log_of, whole.len_is) (whole_sound p at bytes whole.head whole.fixed whole.carried parts_of
         sound)

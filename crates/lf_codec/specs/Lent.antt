@@ -7,7 +7,7 @@ use Rattle.lf_codec.specs.declared.stage.Kind.{Kind}
 use Rattle.lf_codec.specs.declared.stage.Head.{Head}
 use Rattle.lf_codec.specs.Layout.{record_bytes}
 use Rattle.lf_codec.specs.Sound.{most_data}
-use Rattle.lf_codec.specs.Steps.{fixed_len, data_len, record_of}
+use Rattle.lf_codec.specs.Steps.{fixed_len, data_len, head_at, record_of}
 
 -- these bytes begin with those of the record, which fits the header's ports, banks and sizes
 pub record BeginWith (h : Header) (bytes : List ℕ) (item : Record) : Type 0 where
@@ -38,3 +38,7 @@ pub record HoldParts (h : Header) (kind : Kind) (rest : List ℕ) : Type 0 where
 -- the record of a head and of the parts at the front of the bytes behind it
 abbrev pub record_in : Header → Head → List ℕ → Record
 record_in h head rest = record_of h head (fixed_in h head.kind rest) (carried_in h head.kind rest)
+
+-- the record at the front of these bytes
+abbrev pub spelled_record : Header → List ℕ → Record
+spelled_record h bytes = record_in h (head_at (take 8 bytes)) (drop 8 bytes)

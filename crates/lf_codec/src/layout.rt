@@ -2,7 +2,7 @@
 
 ghost use Rattle.std.specs.Prelude.{◌≡◌};
 ghost use Rattle.lf_rules.specs.declared.event.Record.{Record};
-ghost use Rattle.lf_codec.specs.Lent.{BeginWith, HoldParts, record_in};
+ghost use Rattle.lf_codec.specs.Lent.{BeginWith, HoldParts, record_in, spelled_record};
 ghost use Rattle.lf_codec.specs.Sound.{IsInRange};
 
 use crate::header::Header;
@@ -67,6 +67,17 @@ fn lend_parts<'a>(header: &Header, head: Head, rest: &'a [u8], place: &mut Recor
     }
 }
 
+/// Lends the record at the front of these bytes, which fits the header.
+#[inline(always)]
+pub(crate) fn lend_front<'a>(header: &Header, bytes: &'a [u8], place: &mut RecordView<'a>)
+    requires range { IsInRange header.now }
+    requires begins { (item : Record) × BeginWith header.now bytes.now item }
+    ensures { place.new ≡ spelled_record header.now bytes.now }
+{
+    let (first, rest) = bytes.split_at(8);
+    lend_parts(header, head_at(first), rest, place);
+}
+
 impl Layout {
     /// The layout of records that fit this header.
     pub fn of(header: &Header) -> Layout
@@ -81,7 +92,6 @@ impl Layout {
         requires { (item : Record) × BeginWith self.now bytes.now item }
         ensures { (item : Record) → BeginWith self.now bytes.now item → place.new ≡ item }
     {
-        let (first, rest) = bytes.split_at(8);
-        lend_parts(&self.header, head_at(first), rest, place);
+        lend_front(&self.header, bytes, place);
     }
 }

@@ -3,32 +3,26 @@
 ghost use Rattle.std.specs.Prelude.{◌≡◌, ◌<◌, ◌≤◌, ◌+◌, ◌++◌, ◌∷◌, ◌↔◌, [], IsTrue, OnOk, OnErr, IfErr, length, take};
 ghost use Rattle.std.specs.Prelude.{drop, slice_index_or};
 ghost use Rattle.lf_rules.specs.declared.event.Record.{Record};
-ghost use Rattle.lf_codec.specs.Steps.{fixed_len, record_of};
-ghost use Rattle.lf_codec.specs.Sound.{IsInRange, most_data};
-ghost use Rattle.lf_codec.specs.Packed.{AreParts, StandLast, parts_record, slice_of};
+ghost use Rattle.lf_codec.specs.declared.header.Header.{Header};
+ghost use Rattle.lf_codec.specs.Steps.{head_at};
+ghost use Rattle.lf_codec.specs.Lent.{IsSpelling, spelled_record};
+ghost use Rattle.lf_codec.specs.Packed.{SpellOne, StandLast, slice_of};
 
-use crate::event::{event_at, put_bytes};
 use crate::header::Header;
+use crate::layout::lend_front;
 use crate::places::Places;
-use crate::stage::{Head, Kind};
-use crate::step::fixed_len;
+use crate::stage::Head;
+use crate::step::head_at;
 use lf_rules::{NoMemory, Record};
+use lf_views::RecordView;
 use std::alloc::{AllocFailed, Global};
 use std::marker::Model;
 
-/// Where the fixed part of a record and the bytes that its event carries stand, one behind the other. The
-/// numbers are short, since one thread writes the forms and others read them.
-#[derive(Drop)]
-struct Parts {
-    head: Head,
-    at: u32,
-    len: u32,
-}
-
-/// The parts of a record, or the record elsewhere.
+/// Where the bytes of a record stand, or the record elsewhere. The numbers are short, since one thread writes the forms
+/// and others read them.
 #[derive(Drop)]
 enum Form {
-    Parts(Parts),
+    Spelled { start: u32, len: u32 },
     Apart(Box<Record>),
 }
 
@@ -58,45 +52,6 @@ impl Model for Packed {
     ghost invariant = { λ p. AreWithin p.header p.bytes.items p.forms.items };
 }
 
-/// Builds the record of a head of this kind and of its parts, in the place.
-#[inline(always)]
-fn build(header: &Header, kind: Kind, head: Head, parts: &[u8], place: &mut Record)
-    requires kind { kind ≡ head.kind }
-    requires parts { AreParts header.now head.kind parts.now }
-    ensures { place.new ≡ parts_record header.now head parts.now }
-{
-    let (fixed, carried) = parts.split_at(fixed_len(header, kind));
-    place.log = head.log;
-    place.bank = head.bank;
-    place.number = head.number;
-    place.event = event_at(header, kind, fixed, &[]);
-    put_bytes(&mut place.event, carried);
-}
-
-/// The record of any kind from its parts. Each call of `build` names its kind, so that its code has its own lengths.
-fn unpack(header: &Header, head: Head, parts: &[u8], place: &mut Record)
-    requires { AreParts header.now head.kind parts.now }
-    ensures { place.new ≡ parts_record header.now head parts.now }
-{
-    match head.kind {
-        Kind::Issue => build(header, Kind::Issue, head, parts, place),
-        Kind::Reply => build(header, Kind::Reply, head, parts, place),
-        Kind::Hit => build(header, Kind::Hit, head, parts, place),
-        Kind::Primary => build(header, Kind::Primary, head, parts, place),
-        Kind::Merge => build(header, Kind::Merge, head, parts, place),
-        Kind::Stall => build(header, Kind::Stall, head, parts, place),
-        Kind::Fill1 => build(header, Kind::Fill1, head, parts, place),
-        Kind::Evict1 => build(header, Kind::Evict1, head, parts, place),
-        Kind::SecondHit => build(header, Kind::SecondHit, head, parts, place),
-        Kind::SecondPrimary => build(header, Kind::SecondPrimary, head, parts, place),
-        Kind::SecondStall => build(header, Kind::SecondStall, head, parts, place),
-        Kind::Fill2 => build(header, Kind::Fill2, head, parts, place),
-        Kind::Evict2 => build(header, Kind::Evict2, head, parts, place),
-        Kind::Fence => build(header, Kind::Fence, head, parts, place),
-        Kind::SecondMerge => build(header, Kind::SecondMerge, head, parts, place),
-    }
-}
-
 /// So many of the bytes from this one on.
 fn slice_of(bytes: &[u8], at: u32, len: u32) -> &[u8]
     requires { at + len ≤ length bytes.now }
@@ -104,6 +59,17 @@ fn slice_of(bytes: &[u8], at: u32, len: u32) -> &[u8]
 {
     let at = at as usize;
     &bytes[at..at + len as usize]
+}
+
+/// The head of the record that is spelled by so many of the bytes from this one on.
+#[inline(always)]
+fn head_of(bytes: &[u8], start: u32, len: u32) -> Head
+    requires within { start + len ≤ length bytes.now }
+    requires spelled { (h : Header) × SpellOne h (slice_of bytes.now start len) }
+    ensures { result ≡ head_at (take 8 (slice_of bytes.now start len)) }
+{
+    let (first, _) = slice_of(bytes, start, len).split_at(8);
+    head_at(first)
 }
 
 impl Packed {
@@ -148,7 +114,7 @@ impl Packed {
         self.bytes.clear();
     }
 
-    /// From now on parts are kept under this header, where there is no record. There is one header at a time.
+    /// From now on records are kept under this header, where there is no record. There is one header at a time.
     pub(crate) fn take_header(&mut self, header: &Header)
         ensures rest { self.new ≡ record self.old { header = self.new.header } }
         ensures header { self.old.records ≡ [] → self.new.header ≡ header.now }
@@ -158,7 +124,7 @@ impl Packed {
         }
     }
 
-    /// Whether records under this header can be kept by their parts.
+    /// Whether records under this header can be kept as their bytes.
     pub(crate) fn takes(&mut self, header: &Header) -> bool
         ensures rest { self.new ≡ record self.old { header = self.new.header } }
         ensures header { IsTrue result → self.new.header ≡ header.now }
@@ -176,26 +142,25 @@ impl Packed {
         Ok(())
     }
 
-    /// Keeps a record by its parts, so many bytes at the front of the last ones, and says whether there
-    /// was room for it. No room is made here.
+    /// Keeps a record where it stands, in so many bytes at the front of the last ones, and says whether there was
+    /// room for it. No room is made here.
     #[inline(always)]
-    pub(crate) fn push_parts(&mut self, head: Head, last: &[u8], len: usize) -> bool
+    pub(crate) fn push_spelled(&mut self, last: &[u8], len: usize) -> bool
         requires last { StandLast self.old.bytes last.now }
         requires len { len ≤ length last.now }
-        requires parts { AreParts self.old.header head.kind (take len last.now) }
+        requires spelled { SpellOne self.old.header (take len last.now) }
         ensures kept { IsTrue result → self.new ≡ record self.old
-            { records = self.old.records ++ parts_record self.old.header head (take len last.now) ∷ [] } }
+            { records = self.old.records ++ spelled_record self.old.header (take len last.now) ∷ [] } }
         ensures none { ¬ IsTrue result → self.new ≡ self.old }
     {
         let at = self.bytes.as_slice().len() - last.len();
         if self.forms.len() >= self.forms.capacity() || at + len >= 0x1_0000_0000 {
             return false;
         }
-        self.forms.push_reserved(Form::Parts(Parts {
-            head,
-            at: at as u32,
+        self.forms.push_reserved(Form::Spelled {
+            start: at as u32,
             len: len as u32,
-        }));
+        });
         true
     }
 
@@ -228,7 +193,7 @@ impl Packed {
         ensures { (d : Record) → result ≡ (slice_index_or self.now.records at d).bank }
     {
         match &self.forms[at] {
-            Form::Parts(parts) => parts.head.bank,
+            Form::Spelled { start, len } => head_of(&self.bytes, *start, *len).bank,
             Form::Apart(item) => item.bank,
         }
     }
@@ -239,7 +204,7 @@ impl Packed {
         ensures { (d : Record) → result ≡ (slice_index_or self.now.records at d).log }
     {
         match &self.forms[at] {
-            Form::Parts(parts) => parts.head.log,
+            Form::Spelled { start, len } => head_of(&self.bytes, *start, *len).log,
             Form::Apart(item) => item.log,
         }
     }
@@ -250,35 +215,62 @@ impl Packed {
         ensures { (d : Record) → result ≡ (slice_index_or self.now.records at d).number }
     {
         match &self.forms[at] {
-            Form::Parts(parts) => parts.head.number,
+            Form::Spelled { start, len } => head_of(&self.bytes, *start, *len).number,
             Form::Apart(item) => item.number,
         }
     }
 
-    /// The record, which is built in `place` where it is kept by its parts.
+    /// Lends the record by `place`. No memory is taken.
+    #[inline(always)]
+    pub fn lend_view<'a>(&'a self, at: usize, place: &mut RecordView<'a>)
+        requires { at < length self.now.records }
+        ensures { (d : Record) → place.new ≡ slice_index_or self.now.records at d }
+    {
+        match &self.forms[at] {
+            Form::Spelled { start, len } => {
+                lend_front(&self.header, slice_of(&self.bytes, *start, *len), place);
+            }
+            Form::Apart(item) => *place = RecordView::of(item),
+        }
+    }
+
+    /// The bytes that spell the record, or none where it is kept whole.
+    pub fn spelling(&self, at: usize) -> &[u8]
+        requires { at < length self.now.records }
+        ensures { (d : Record) → IsSpelling result.now (slice_index_or self.now.records at d) }
+    {
+        match &self.forms[at] {
+            Form::Spelled { start, len } => slice_of(&self.bytes, *start, *len),
+            Form::Apart(_) => &[],
+        }
+    }
+
+    /// The record, which is put into `place` where it is kept as its bytes.
     pub fn lend<'a>(&'a self, at: usize, place: &'a mut Record) -> &'a Record
         requires { at < length self.now.records }
         ensures { (d : Record) → result.now ≡ slice_index_or self.now.records at d }
     {
         match &self.forms[at] {
-            Form::Parts(parts) => {
-                let bytes = slice_of(&self.bytes, parts.at, parts.len);
-                unpack(&self.header, parts.head, bytes, place);
+            Form::Spelled { start, len } => {
+                let mut view = RecordView::blank();
+                lend_front(&self.header, slice_of(&self.bytes, *start, *len), &mut view);
+                *place = view.to_record();
                 place
             }
             Form::Apart(item) => item,
         }
     }
 
-    /// The record as `lend` gives it. Where it is kept by its parts it is written over the last one of its kind.
+    /// The record as `lend` gives it.
     pub fn lend_from<'a>(&'a self, at: usize, places: &'a mut Places) -> &'a Record
         requires { at < length self.now.records }
         ensures { (d : Record) → result.now ≡ slice_index_or self.now.records at d }
     {
         match &self.forms[at] {
-            Form::Parts(parts) => {
-                let bytes = slice_of(&self.bytes, parts.at, parts.len);
-                places.write_parts(&self.header, parts.head, bytes);
+            Form::Spelled { start, len } => {
+                let mut view = RecordView::blank();
+                lend_front(&self.header, slice_of(&self.bytes, *start, *len), &mut view);
+                places.put(Some(view.to_record()));
                 places.written()
             }
             Form::Apart(item) => item,

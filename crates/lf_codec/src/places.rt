@@ -1,14 +1,12 @@
 //! Places that records are read into.
 
 ghost use Rattle.std.specs.Prelude.{◌≡◌, ◌<◌, Option, Some, None, IsSome, MatchOption};
-ghost use Rattle.lf_codec.specs.Packed.{AreParts, parts_record};
 ghost use Rattle.lf_codec.specs.Sound.{AreOfKind};
 ghost use Rattle.lf_codec.specs.Steps.{record_of};
 
 use crate::header::Header;
 use crate::overwrite::write_record;
 use crate::stage::{Head, Kind};
-use crate::step::fixed_len;
 use lf_rules::{Event, NO_BANK, Record};
 use std::marker::Model;
 
@@ -134,14 +132,5 @@ impl Places {
         let at = place_of(kind, bytes.len());
         self.last = at;
         write_record(&mut self.records[at], header, kind, head, fixed, bytes);
-    }
-
-    /// Writes the record of a head and of its parts.
-    pub(crate) fn write_parts(&mut self, header: &Header, head: Head, parts: &[u8])
-        requires { AreParts header.now head.kind parts.now }
-        ensures { self.new ≡ Some (parts_record header.now head parts.now) }
-    {
-        let (fixed, carried) = parts.split_at(fixed_len(header, head.kind));
-        self.write(header, head.kind, head, fixed, carried);
     }
 }

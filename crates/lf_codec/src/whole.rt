@@ -6,7 +6,7 @@ ghost use Rattle.lf_codec.specs.Layout.{code_of};
 ghost use Rattle.lf_codec.specs.Checks.{byte_at};
 ghost use Rattle.lf_codec.specs.Packed.{StandLast};
 ghost use Rattle.lf_codec.specs.Carrying.{carrying, CanCarry};
-ghost use Rattle.lf_codec.specs.Takes.{IsWholeHead, AreWholeParts, ReadsInto, MayPack};
+ghost use Rattle.lf_codec.specs.Takes.{IsWholeHead, AreWholeParts, IsWholeRecord, ReadsInto, MayPack};
 ghost use Rattle.lf_codec.specs.Sound.{most_data};
 
 use crate::checks::{check_fixed, check_head_of};
@@ -194,24 +194,49 @@ impl Progress {
         }
     }
 
-    /// Reads a record of this kind as `read_event` does. It is lent where it stands.
+    /// Lends the next record, which is of this kind, where the bytes have it whole and its checks pass, and says how many
+    /// bytes it has. It is not counted.
     #[inline(always)]
-    fn lend_event<'a>(
-        &mut self,
+    fn see_event<'a>(
+        &self,
         kind: Kind,
         bytes: &'a [u8],
         place: &mut RecordView<'a>,
     ) -> Option<usize>
-        requires sound { IsSound self.old }
+        requires sound { IsSound self.now }
         requires kind { code_of kind ≡ byte_at 0 bytes.now }
-        ensures some { IfSome result (λ n. ReadsInto self.old bytes.now n (Some place.new) self.new) }
-        ensures none { IfNone result (self.new ≡ self.old) }
+        ensures stage { IfSome result (λ n. self.now.stage ≡ stages.Head) }
+        ensures whole { IfSome result (λ n. IsWholeRecord self.now bytes.now place.new n) }
     {
         let whole = self.whole(kind, bytes)?;
-        let len = 8 + whole.fixed.len() + whole.carried.len();
         *place = record_view(&self.header, kind, whole.head, whole.fixed, whole.carried);
-        self.count_on(len as u64, whole.head.log);
-        Some(len)
+        Some(8 + whole.fixed.len() + whole.carried.len())
+    }
+
+    /// Lends the next record as `see_event` does, of whatever kind it is. Each call of `see_event` names its kind.
+    #[inline(always)]
+    fn see_record<'a>(&self, bytes: &'a [u8], place: &mut RecordView<'a>) -> Option<usize>
+        requires { IsSound self.now }
+        ensures stage { IfSome result (λ n. self.now.stage ≡ stages.Head) }
+        ensures whole { IfSome result (λ n. IsWholeRecord self.now bytes.now place.new n) }
+    {
+        match first_kind(bytes)? {
+            Kind::Issue => self.see_event(Kind::Issue, bytes, place),
+            Kind::Reply => self.see_event(Kind::Reply, bytes, place),
+            Kind::Hit => self.see_event(Kind::Hit, bytes, place),
+            Kind::Primary => self.see_event(Kind::Primary, bytes, place),
+            Kind::Merge => self.see_event(Kind::Merge, bytes, place),
+            Kind::Stall => self.see_event(Kind::Stall, bytes, place),
+            Kind::Fill1 => self.see_event(Kind::Fill1, bytes, place),
+            Kind::Evict1 => self.see_event(Kind::Evict1, bytes, place),
+            Kind::SecondHit => self.see_event(Kind::SecondHit, bytes, place),
+            Kind::SecondPrimary => self.see_event(Kind::SecondPrimary, bytes, place),
+            Kind::SecondStall => self.see_event(Kind::SecondStall, bytes, place),
+            Kind::Fill2 => self.see_event(Kind::Fill2, bytes, place),
+            Kind::Evict2 => self.see_event(Kind::Evict2, bytes, place),
+            Kind::Fence => self.see_event(Kind::Fence, bytes, place),
+            Kind::SecondMerge => self.see_event(Kind::SecondMerge, bytes, place),
+        }
     }
 
     /// Reads the next record as `read_record` does, and lends it where it stands.
@@ -225,46 +250,13 @@ impl Progress {
         ensures some { IfSome result (λ n. ReadsInto self.old bytes.now n (Some place.new) self.new) }
         ensures none { IfNone result (self.new ≡ self.old) }
     {
-        match first_kind(bytes)? {
-            Kind::Issue => self.lend_event(Kind::Issue, bytes, place),
-            Kind::Reply => self.lend_event(Kind::Reply, bytes, place),
-            Kind::Hit => self.lend_event(Kind::Hit, bytes, place),
-            Kind::Primary => self.lend_event(Kind::Primary, bytes, place),
-            Kind::Merge => self.lend_event(Kind::Merge, bytes, place),
-            Kind::Stall => self.lend_event(Kind::Stall, bytes, place),
-            Kind::Fill1 => self.lend_event(Kind::Fill1, bytes, place),
-            Kind::Evict1 => self.lend_event(Kind::Evict1, bytes, place),
-            Kind::SecondHit => self.lend_event(Kind::SecondHit, bytes, place),
-            Kind::SecondPrimary => self.lend_event(Kind::SecondPrimary, bytes, place),
-            Kind::SecondStall => self.lend_event(Kind::SecondStall, bytes, place),
-            Kind::Fill2 => self.lend_event(Kind::Fill2, bytes, place),
-            Kind::Evict2 => self.lend_event(Kind::Evict2, bytes, place),
-            Kind::Fence => self.lend_event(Kind::Fence, bytes, place),
-            Kind::SecondMerge => self.lend_event(Kind::SecondMerge, bytes, place),
-        }
+        let len = self.see_record(bytes, place)?;
+        self.count_on(len as u64, place.log());
+        Some(len)
     }
 
-    /// Reads a record of this kind. Its parts are kept with the others', and no event is built.
-    /// The bytes are the last of those that are kept.
-    #[inline(always)]
-    fn pack_event(&mut self, kind: Kind, bytes: &[u8], records: &mut Packed) -> Option<usize>
-        requires sound { IsSound self.old }
-        requires kind { code_of kind ≡ byte_at 0 bytes.now }
-        requires header { records.old.header ≡ self.old.header }
-        requires last { StandLast records.old.bytes bytes.now }
-        ensures packed { MayPack self.old bytes.now result records.old.records records.new.records self.new }
-        ensures rest { records.new ≡ record records.old { records = records.new.records } }
-    {
-        let whole = self.whole(kind, bytes)?;
-        let len = whole.fixed.len() + whole.carried.len();
-        if !records.push_parts(whole.head, whole.rest, len) {
-            return None;
-        }
-        self.count_on(8 + len as u64, whole.head.log);
-        Some(8 + len)
-    }
-
-    /// Reads the next record as `read_record` does, and keeps it with the others by its parts.
+    /// Reads the next record as `read_record` does, and keeps it with the others where it stands. The bytes are the
+    /// last of those that are kept.
     #[inline(always)]
     pub(crate) fn pack_record(&mut self, bytes: &[u8], records: &mut Packed) -> Option<usize>
         requires sound { IsSound self.old }
@@ -273,22 +265,12 @@ impl Progress {
         ensures packed { MayPack self.old bytes.now result records.old.records records.new.records self.new }
         ensures rest { records.new ≡ record records.old { records = records.new.records } }
     {
-        match first_kind(bytes)? {
-            Kind::Issue => self.pack_event(Kind::Issue, bytes, records),
-            Kind::Reply => self.pack_event(Kind::Reply, bytes, records),
-            Kind::Hit => self.pack_event(Kind::Hit, bytes, records),
-            Kind::Primary => self.pack_event(Kind::Primary, bytes, records),
-            Kind::Merge => self.pack_event(Kind::Merge, bytes, records),
-            Kind::Stall => self.pack_event(Kind::Stall, bytes, records),
-            Kind::Fill1 => self.pack_event(Kind::Fill1, bytes, records),
-            Kind::Evict1 => self.pack_event(Kind::Evict1, bytes, records),
-            Kind::SecondHit => self.pack_event(Kind::SecondHit, bytes, records),
-            Kind::SecondPrimary => self.pack_event(Kind::SecondPrimary, bytes, records),
-            Kind::SecondStall => self.pack_event(Kind::SecondStall, bytes, records),
-            Kind::Fill2 => self.pack_event(Kind::Fill2, bytes, records),
-            Kind::Evict2 => self.pack_event(Kind::Evict2, bytes, records),
-            Kind::Fence => self.pack_event(Kind::Fence, bytes, records),
-            Kind::SecondMerge => self.pack_event(Kind::SecondMerge, bytes, records),
+        let mut place = RecordView::blank();
+        let len = self.see_record(bytes, &mut place)?;
+        if !records.push_spelled(bytes, len) {
+            return None;
         }
+        self.count_on(len as u64, place.log());
+        Some(len)
     }
 }

@@ -2,6 +2,7 @@
 
 use lf_codec::{CodecCause, CodecFault, Header, Packed, Places, Reader, Told, encode, fits_trace};
 use lf_rules::{Event, Memory, NO_BANK, NoMemory, Record};
+use lf_views::RecordView;
 use std::alloc::Global;
 use std::process::Abort;
 use std::test::Fail;
@@ -56,6 +57,9 @@ pub fn assert_packed(rt: &impl Abort, packed: &Packed, records: &[Record]) {
         assert_eq!(rt; Some(packed.bank(at)), item.map(|r| r.bank));
         assert_eq!(rt; Some(packed.log(at)), item.map(|r| r.log));
         assert_eq!(rt; Some(packed.number(at)), item.map(|r| r.number));
+        let mut view = RecordView::blank();
+        packed.lend_view(at, &mut view);
+        assert_eq!(rt; Some(&view.to_record()), item);
         assert_eq!(rt; Some(packed.lend(at, &mut place)), item);
         assert_eq!(rt; Some(packed.lend_from(at, &mut places)), item);
     }

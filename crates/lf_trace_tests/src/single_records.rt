@@ -17,7 +17,7 @@ const WIDE: &str = "4c46545303000202 0800020000000000";
 /// A header of version 3 with four blocks of 64 bytes in one of level two, which is the largest.
 const WIDEST: &str = "4c46545303000202 4000040000000000";
 
-/// Reads a trace of this header and this one record of bank 1, also by its parts, and writes it again.
+/// Reads a trace of this header and this one record of bank 1, also among packed ones, and writes it again.
 fn assert_one(
     rt: &impl Abort,
     alloc: Global,

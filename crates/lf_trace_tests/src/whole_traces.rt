@@ -245,9 +245,9 @@ fn pack_cut(alloc: Global, n: usize, packed: &mut Packed) -> Result<(), Fail> {
     Ok(())
 }
 
-/// Records that are kept by their parts, however the trace is cut; one that a cut goes through is kept whole.
+/// Records that are kept where they stand, however the trace is cut; one that a cut goes through is kept whole.
 #[test]
-fn records_by_their_parts(rt: HostRuntime) -> Result<(), Fail> {
+fn records_where_they_stand(rt: HostRuntime) -> Result<(), Fail> {
     let records = records(rt.alloc(), &C1, &[LOAD, LOADED])?;
     let mut packed = Packed::new(rt.alloc());
     for n in 0..133 {
@@ -256,6 +256,22 @@ fn records_by_their_parts(rt: HostRuntime) -> Result<(), Fail> {
         packed.clear();
         assert_packed(&rt, &packed, &[]);
     }
+    Ok(())
+}
+
+/// The bytes of records that stand whole in a piece, where there is room for all of them.
+#[test]
+fn records_with_their_bytes(rt: HostRuntime) -> Result<(), Fail> {
+    let mut packed = Packed::new(rt.alloc());
+    pack_cut(rt.alloc(), 0, &mut packed)?;
+    packed.clear();
+    pack_cut(rt.alloc(), 0, &mut packed)?;
+    let mut spelled = Vec::new(rt.alloc());
+    for at in 0..packed.len() {
+        spelled.extend_from_slice(packed.spelling(at))?;
+    }
+    let all: &[u8] = &LOAD_MISSES_BOTH_LEVELS;
+    assert_eq!(rt; spelled.as_slice(), &all[16..124]);
     Ok(())
 }
 
