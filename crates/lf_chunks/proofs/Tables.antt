@@ -300,6 +300,19 @@ module _ (slots : Slots) (taken : ℕ) (chunks : Chunked) (aside : Items) (table
       length_numbered chunks (entries slots),
     )
 
+-- so as many entries are as many items, whatever is in the chunks
+pub as_many_items : (slots more : Slots) (chunks next : Chunked) (aside : Items)
+    → length (entries more) ≡ length (entries slots)
+    → length (numbered next (entries more) ++ aside) ≡ length (numbered chunks (entries slots) ++ aside)
+as_many_items slots more chunks next aside same = omega (
+  arith,
+  same,
+  length-append (numbered next (entries more)) aside,
+  length-append (numbered chunks (entries slots)) aside,
+  length_numbered next (entries more),
+  length_numbered chunks (entries slots),
+)
+
 -- ---- items that are kept aside as bytes of their own
 
 abbrev pub Owned : Type 0

@@ -218,6 +218,7 @@ impl ByNumber {
         ensures own { OnOk result (numbered_as number self.new ≡ Some item.now) }
         ensures others { OnOk result ((k : ℕ) → ¬ (k ≡ number) → numbered_as k self.new ≡ numbered_as k self.old) }
         ensures unchanged { OnErr result ((k : ℕ) → numbered_as k self.new ≡ numbered_as k self.old) }
+        ensures as_many { OnErr result (length self.new ≡ length self.old) }
     {
         self.prepare(number)?;
         self.enter(number, item)
@@ -226,7 +227,8 @@ impl ByNumber {
     /// Makes room in the table where the number has no free slot, and it may have one then.
     #[inline(always)]
     fn prepare(&mut self, number: u32) -> Result<(), AllocError>
-        ensures { (k : ℕ) → numbered_as k self.new ≡ numbered_as k self.old }
+        ensures same { (k : ℕ) → numbered_as k self.new ≡ numbered_as k self.old }
+        ensures as_many { length self.new ≡ length self.old }
     {
         if has_slot(&self.slots, number) {
             return Ok(());
@@ -242,6 +244,7 @@ impl ByNumber {
         ensures own { OnOk result (numbered_as number self.new ≡ Some item.now) }
         ensures others { OnOk result ((k : ℕ) → ¬ (k ≡ number) → numbered_as k self.new ≡ numbered_as k self.old) }
         ensures unchanged { OnErr result ((k : ℕ) → numbered_as k self.new ≡ numbered_as k self.old) }
+        ensures as_many { OnErr result (length self.new ≡ length self.old) }
     {
         if !has_slot(&self.slots, number) {
             put_aside(self.alloc, &mut self.aside, number, item)?;

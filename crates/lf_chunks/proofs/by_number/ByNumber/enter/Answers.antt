@@ -1,12 +1,12 @@
 use Rattle.std.proofs.Common.{◌≡◌, ◌<◌, ◌%◌, ◌+◌, ◌++◌, ℕ, length, get_or, set, Option, Some, None, ◌∙◌, sym, ap}
-use Rattle.std.proofs.Common.{subst, arith}
+use Rattle.std.proofs.Common.{subst, refl, arith}
 use Rattle.std.proofs.lemmas.Nat.{mod_below}
 use Rattle.std.proofs.lemmas.Result.{err_from_is_err_and}
 use Rattle.lf_chunks.specs.Table.{place_for, slot_for, numbered_as, numbered, entries, placed, IsTable}
 use Rattle.lf_chunks.proofs.Slots.{Slots, length_entries}
 use Rattle.lf_chunks.proofs.Tables.{Items, items_of, at_aside, at_items, items_same, no_place, none_aside}
 use Rattle.lf_chunks.proofs.Tables.{IsTable-aside, numbered-aside, IsTable-next, same_numbered, IsTable-put, put-own}
-use Rattle.lf_chunks.proofs.Tables.{put-others}
+use Rattle.lf_chunks.proofs.Tables.{put-others, as_many_items}
 use Rattle.lf_chunks.proofs.by_number.ByNumber.enter.Goals as goal
 
 pub invariant_of-self-then-not-has_slot : goal.invariant_of-self-then-not-has_slot
@@ -52,6 +52,13 @@ returns-in_err-place-clause-unchanged c =
     rw p.1 (λ k. ap (λ (items : Items). numbered_as k (items ++ items_of t.aside.entries))
     (same_numbered t.chunks c.put.new.self (entries t.slots.items) keeps.each)
     ∙ ap (λ (items : Items). numbered_as k items) c.self.view_is)
+
+pub returns-in_err-place-clause-as_many : goal.returns-in_err-place-clause-as_many
+returns-in_err-place-clause-as_many c =
+    let t = c.self.inside in
+    let p = err_from_is_err_and c.from_residual-in_err-place.result c.from_residual-in_err-place.ensures.1 in
+    rw p.1 (as_many_items t.slots.items t.slots.items t.chunks c.put.new.self (items_of t.aside.entries) refl
+    ∙ ap length c.self.view_is)
 
 pub overflow_add-self : goal.overflow_add-self
 overflow_add-self c =
