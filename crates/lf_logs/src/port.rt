@@ -8,7 +8,8 @@ ghost use Rattle.lf_rules.specs.Table.{OfPort, clauses, none_busy};
 ghost use Rattle.lf_rules.specs.Run.{first_failing, effect};
 ghost use Rattle.lf_logs.specs.Tags.{with_tags, IsLowestBusy};
 
-use lf_rules::{Event, Outcome, Record, Rule, Shape};
+use lf_rules::{Outcome, Record, Rule, Shape};
+use lf_views::{EventView, RecordView};
 
 /// A tag is a byte, whatever the shape allows of it.
 const TAGS: usize = 256;
@@ -63,12 +64,12 @@ impl BusyTags {
     }
 
     /// The first rule of the port that the record breaks.
-    pub(crate) fn failing(&self, shape: &Shape, item: &Record) -> Option<Rule>
+    pub(crate) fn failing(&self, shape: &Shape, item: &RecordView<'_>) -> Option<Rule>
         ensures { (now : Local) → result ≡ first_failing OfPort
             (clauses shape.now (with_tags now self.now.owed_by) item.now) }
     {
-        match &item.event {
-            Event::Issue { tag, .. } => {
+        match item.event() {
+            EventView::Issue { tag, .. } => {
                 if u32::from(*tag) >= shape.tags {
                     Some(Rule::TagRange)
                 } else if self.owed_by[usize::from(*tag)].is_some() {
@@ -77,16 +78,16 @@ impl BusyTags {
                     None
                 }
             }
-            Event::Reply { tag, .. } => {
+            EventView::Reply { tag, .. } => {
                 if u32::from(*tag) >= shape.tags {
                     Some(Rule::TagRange)
-                } else if self.owed_by[usize::from(*tag)] != Some(item.bank) {
+                } else if self.owed_by[usize::from(*tag)] != Some(item.bank()) {
                     Some(Rule::NotOutstanding)
                 } else {
                     None
                 }
             }
-            Event::Fence => {
+            EventView::Fence => {
                 if self.none_busy(shape.tags) {
                     None
                 } else {
@@ -98,13 +99,13 @@ impl BusyTags {
     }
 
     /// An issue makes its tag busy, a reply frees it.
-    pub(crate) fn update(&mut self, shape: &Shape, item: &Record)
+    pub(crate) fn update(&mut self, shape: &Shape, item: &RecordView<'_>)
         ensures { (now : Local) → effect OfPort shape.now (with_tags now self.old.owed_by) item.now
             ≡ with_tags now self.new.owed_by }
     {
-        match &item.event {
-            Event::Issue { tag, .. } => self.owed_by[usize::from(*tag)] = Some(item.bank),
-            Event::Reply { tag, .. } => self.owed_by[usize::from(*tag)] = None,
+        match item.event() {
+            EventView::Issue { tag, .. } => self.owed_by[usize::from(*tag)] = Some(item.bank()),
+            EventView::Reply { tag, .. } => self.owed_by[usize::from(*tag)] = None,
             _ => {}
         }
     }
@@ -119,11 +120,12 @@ pub fn port_replay(shape: &Shape, records: &[Record]) -> Outcome
     ensures memory { result ≢ Outcome.NoMemory }
 {
     let mut tags = BusyTags::new();
-    for (at, item) in records.iter().enumerate() {
-        if let Some(rule) = tags.failing(shape, item) {
+    for (at, record) in records.iter().enumerate() {
+        let item = RecordView::of(record);
+        if let Some(rule) = tags.failing(shape, &item) {
             return Outcome::Broken(at as u32, rule);
         }
-        tags.update(shape, item);
+        tags.update(shape, &item);
     }
     Outcome::Passed
 }

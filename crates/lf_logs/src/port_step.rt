@@ -50,11 +50,7 @@ impl PortStep {
         ensures broken { (shape : Shape) (rs : List Record) → PortStandsAfter self.old shape rs
             → IfErr result (IsPortFaultAfter shape rs item.now) }
     {
-        if let Some(rule) = self.tags.failing(&self.shape, item) {
-            return Err(rule);
-        }
-        self.tags.update(&self.shape, item);
-        Ok(())
+        self.apply_view(&RecordView::of(item))
     }
 
     /// Judges a record that is lent, and carries it out, as `apply` does.
@@ -67,6 +63,10 @@ impl PortStep {
         ensures broken { (shape : Shape) (rs : List Record) → PortStandsAfter self.old shape rs
             → IfErr result (IsPortFaultAfter shape rs item.now) }
     {
-        self.apply(&item.to_record())
+        if let Some(rule) = self.tags.failing(&self.shape, item) {
+            return Err(rule);
+        }
+        self.tags.update(&self.shape, item);
+        Ok(())
     }
 }

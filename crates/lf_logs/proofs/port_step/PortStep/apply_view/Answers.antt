@@ -1,7 +1,7 @@
 use Rattle.std.proofs.Common.{subst, sym, refl}
 use Rattle.lf_logs.specs.Tags.{PortView, PortStandsAfter}
 use Rattle.lf_logs.proofs.PortSteps.{PortStandsAfter-more, IsPortFaultAfter-here}
-use Rattle.lf_logs.proofs.port_step.PortStep.apply.Goals as goal
+use Rattle.lf_logs.proofs.port_step.PortStep.apply_view.Goals as goal
 
 pub returns-in-Some-clause-broken : goal.returns-in-Some-clause-broken
 returns-in-Some-clause-broken c shape rs stands =
