@@ -1,5 +1,5 @@
 -- The records that are put in and given out in the order of their numbers, one more at a time.
-use Rattle.std.proofs.Common.{◌≡◌, ℕ, ◌+◌, ◌<◌, ◌≤◌, ◌^◌, zero, suc, Bool, true, false, cond, eqb, nat_lt, nat_le}
+use Rattle.std.proofs.Common.{◌≡◌, ℕ, ◌+◌, ◌<◌, ◌≤◌, ◌^◌, zero, suc, true, false, eqb, nat_lt, nat_le}
 use Rattle.std.proofs.Common.{◌||◌, List, [], ◌∷◌}
 use Rattle.std.proofs.Common.{◌++◌, length, Option, Some, None, is_some, refl, sym, ap, ◌∙◌, subst, ◌⊎◌, inl, inr}
 use Rattle.std.proofs.Common.{⊎_elim, arith}
@@ -12,7 +12,7 @@ use Rattle.std.specs.BTreeMap.{is_at}
 use Rattle.std.specs.Ordering.{nat_cmp}
 use Rattle.lf_rules.specs.declared.event.Record.{Record}
 use Rattle.lf_rules.specs.Numbers.{numbers_of, times, IsMissing, IsDouble, IsWhole, IsFineBelow}
-use Rattle.lf_logs.specs.Reordering.{Reordering, first_with, early_at, ready_or, waiting_at, has_come, least_double}
+use Rattle.lf_logs.specs.Reordering.{Reordering, first_with, early_at, has_come, least_double}
 use Rattle.lf_logs.specs.Reordering.{IsLeastDouble, HasOrdered}
 use Rattle.lf_logs.proofs.Counting.{one_if, none_if, times-cons, missing_at}
 use Rattle.lf_logs.proofs.Tallying.{times_push}
@@ -200,6 +200,16 @@ slice_get-some [] k h = absurd (omega arith)
 slice_get-some (x ∷ xs) zero h = refl
 slice_get-some (x ∷ xs) (suc k) h = slice_get-some xs k (omega arith)
 
+slice_get-last : (xs : List Record) (x : Record) → slice_get (xs ++ x ∷ []) (length xs) ≡ Some x
+slice_get-last [] x = refl
+slice_get-last (y ∷ xs) x = slice_get-last xs x
+
+slice_get-front : (xs : List Record) (x : Record) (k : ℕ) → k < length xs →
+    slice_get (xs ++ x ∷ []) k ≡ slice_get xs k
+slice_get-front [] x k h = absurd (omega arith)
+slice_get-front (y ∷ xs) x zero h = refl
+slice_get-front (y ∷ xs) x (suc k) h = slice_get-front xs x k (omega arith)
+
 module _ (o : Reordering) (put gave : List Record) (has : HasOrdered o put gave) where
   pub given-there : (k : ℕ) → k < length gave → is_some (first_with k put) ≡ true
   given-there k h = sym (ap is_some (has.given k h)) ∙ slice_get-some gave k h
@@ -209,10 +219,10 @@ module _ (o : Reordering) (put gave : List Record) (has : HasOrdered o put gave)
   come k = ⊎_elim
       (λ (h : k < o.next).
       let low : nat_lt k o.next ≡ true = lt-ltb k o.next h in
-      ap (λ b. b || is_some (waiting_at o k)) low ∙ sym (given-there k (omega (arith, has.next))))
+      ap (λ b. b || is_some (early_at o k)) low ∙ sym (given-there k (omega (arith, has.next))))
       (λ (h : o.next ≤ k).
       let high : nat_lt k o.next ≡ false = le-ltb k o.next h in
-      ap (λ b. b || is_some (waiting_at o k)) high ∙ ap is_some (has.waits k (omega (arith, has.next))))
+      ap (λ b. b || is_some (early_at o k)) high ∙ ap is_some (has.waits k (omega (arith, has.next))))
       (below_or k o.next)
 
   pub HasOrdered-double : (r : Record) (after : Reordering) → r.number < 2 ^ 32 → has_come o r.number ≡ true →
@@ -231,7 +241,7 @@ module _ (o : Reordering) (put gave : List Record) (has : HasOrdered o put gave)
   -- a record with a new number waits
   pub HasOrdered-waits : (r : Record) (after : Reordering) → r.number < 2 ^ 32 → has_come o r.number ≡ false →
       after.next ≡ o.next → after.double ≡ o.double
-      → waiting_at after r.number ≡ Some r → ((k : ℕ) → (k ≡ r.number → ⊥) → waiting_at after k ≡ waiting_at o k)
+      → early_at after r.number ≡ Some r → ((k : ℕ) → (k ≡ r.number → ⊥) → early_at after k ≡ early_at o k)
       → HasOrdered after (put ++ r ∷ []) gave
   HasOrdered-waits r after small none next double here others =
       let absent : first_with r.number put ≡ None =
@@ -247,7 +257,7 @@ module _ (o : Reordering) (put gave : List Record) (has : HasOrdered o put gave)
             ap (λ n. is_some (first_with n put)) e ∙ given-there k h in
             let no : is_some (first_with r.number put) ≡ false = ap is_some absent in absurd (cc)));
         waits = λ k h. ⊎_elim
-            (λ (own : k ≡ r.number). ap (waiting_at after) own ∙ here
+            (λ (own : k ≡ r.number). ap (early_at after) own ∙ here
             ∙ sym (first_with-push_new r.number put r refl absent)
             ∙ ap (λ n. first_with n (put ++ r ∷ [])) (sym own))
             (λ (other : k ≡ r.number → ⊥). others k other ∙ has.waits k h
@@ -257,73 +267,51 @@ module _ (o : Reordering) (put gave : List Record) (has : HasOrdered o put gave)
             (double-kept put r o.double absent has.double);
       }
 
-  pub HasOrdered-ready : (r : Record) (after : Reordering) → r.number < 2 ^ 32 → has_come o r.number ≡ false →
-      r.number ≡ o.next → after ≡ record o { ready = Some r }
-      → HasOrdered after (put ++ r ∷ []) gave
-  HasOrdered-ready r after small none turn is =
-      subst (λ a. HasOrdered a (put ++ r ∷ []) gave) (sym is)
-      (HasOrdered-waits r (record o { ready = Some r }) small none refl refl
-      (cond-true (eqb r.number o.next) (Some r) (early_at o r.number) (eq-eqb r.number o.next turn))
-      (λ k other.
-      let apart : eqb k o.next ≡ false = ne_eqb k o.next (λ e. other (e ∙ sym turn)) in
-      cond-false (eqb k o.next) (Some r) (early_at o k) apart
-      ∙ sym (cond-false (eqb k o.next) (ready_or o.ready (early_at o k)) (early_at o k) apart)))
-
-  pub HasOrdered-early : (r : Record) (after : Reordering) → r.number < 2 ^ 32 → has_come o r.number ≡ false →
-      (r.number ≡ o.next → ⊥)
-      → after.next ≡ o.next → after.double ≡ o.double → after.ready ≡ o.ready → early_at after r.number ≡ Some r →
-      ((k : ℕ) → (k ≡ r.number → ⊥) → early_at after k ≡ early_at o k)
-      → HasOrdered after (put ++ r ∷ []) gave
-  HasOrdered-early r after small none early next double ready here others =
-      HasOrdered-waits r after small none next double
-      (cond-false (eqb r.number after.next) (ready_or after.ready (early_at after r.number)) (early_at after r.number)
-      (ne_eqb r.number after.next (λ e. early (e ∙ next))) ∙ here)
-      (λ k other. (λ i. cond (eqb k (next i)) (ready_or (ready i) (others k other i)) (others k other i)))
-
   -- the record whose turn it is goes out
-  pub HasOrdered-next : (r : Record) (after : Reordering) (early : List (ℕ × Record)) → waiting_at o o.next ≡ Some r
-      → after ≡ record o { next = o.next + 1; ready = None; early = early }
-      → ((k : ℕ) → (k ≡ o.next → ⊥) → early_at (record o { early = early }) k ≡ early_at o k) →
-      HasOrdered after put (gave ++ r ∷ [])
-  HasOrdered-next r after early turn is others =
+  pub HasOrdered-next : (r : Record) (after : Reordering) → first_with (length gave) put ≡ Some r →
+      after.next ≡ o.next + 1 → after.double ≡ o.double
+      → ((k : ℕ) → (k ≡ o.next → ⊥) → early_at after k ≡ early_at o k) → HasOrdered after put (gave ++ r ∷ [])
+  HasOrdered-next r after first next double others =
       let long : length (gave ++ r ∷ []) ≡ length gave + 1 = omega (arith, length-append gave (r ∷ [])) in
-      let first : first_with (length gave) put ≡ Some r = sym (has.waits (length gave) (omega arith))
-      ∙ ap (waiting_at o) (sym has.next) ∙ turn in
-      subst (λ a. HasOrdered a put (gave ++ r ∷ [])) (sym is) (record {
+      record {
         small = has.small;
-        next = ap (λ n. n + 1) has.next ∙ sym long;
+        next = next ∙ ap (λ n. n + 1) has.next ∙ sym long;
         given = λ k h. ⊎_elim
             (λ (last : k ≡ length gave). ap (slice_get (gave ++ r ∷ [])) last ∙ slice_get-last gave r ∙ sym first
             ∙ ap (λ n. first_with n put) (sym last))
             (λ (other : k ≡ length gave → ⊥). slice_get-front gave r k (omega arith) ∙ has.given k (omega arith))
             (cases_eq k (length gave));
-        waits = λ k h.
-            let past : k ≡ o.next → ⊥ = λ e. omega (arith, has.next) in
-            let later : eqb k (o.next + 1) ≡ eqb k (o.next + 1) = refl in
-            same (eqb k (o.next + 1)) (early_at (record o { early = early }) k)
-            ∙ others k past
-            ∙ sym (cond-false (eqb k o.next) (ready_or o.ready (early_at o k)) (early_at o k) (ne_eqb k o.next past))
-            ∙ has.waits k (omega arith);
-        double = has.double;
-      })
-    where
-      same : (b : Bool) (x : Option Record) → cond b (ready_or None x) x ≡ x
-      same true x = refl
-      same false x = refl
+        waits = λ k h. others k (λ e. omega (arith, has.next)) ∙ has.waits k (omega arith);
+        double = subst (IsLeastDouble (numbers_of put)) (sym double) has.double;
+      }
 
-      slice_get-last : (xs : List Record) (x : Record) → slice_get (xs ++ x ∷ []) (length xs) ≡ Some x
-      slice_get-last [] x = refl
-      slice_get-last (y ∷ xs) x = slice_get-last xs x
-
-      slice_get-front : (xs : List Record) (x : Record) (k : ℕ) → k < length xs →
-          slice_get (xs ++ x ∷ []) k ≡ slice_get xs k
-      slice_get-front [] x k h = absurd (omega arith)
-      slice_get-front (y ∷ xs) x zero h = refl
-      slice_get-front (y ∷ xs) x (suc k) h = slice_get-front xs x k (omega arith)
+  -- A record in its turn, where none of its number waits, is put in and given out at once.
+  pub HasOrdered-pass : (r : Record) (after : Reordering) → r.number < 2 ^ 32 → r.number ≡ o.next
+      → first_with (length gave) put ≡ None → after.next ≡ o.next + 1 → after.double ≡ o.double
+      → ((k : ℕ) → early_at after k ≡ early_at o k) → HasOrdered after (put ++ r ∷ []) (gave ++ r ∷ [])
+  HasOrdered-pass r after small turn absent next double same =
+      let long : length (gave ++ r ∷ []) ≡ length gave + 1 = omega (arith, length-append gave (r ∷ [])) in
+      let own : r.number ≡ length gave = turn ∙ has.next in
+      let none : first_with r.number put ≡ None = ap (λ n. first_with n put) own ∙ absent in
+      record {
+        small = small-push put r has.small small;
+        next = next ∙ ap (λ n. n + 1) has.next ∙ sym long;
+        given = λ k h. ⊎_elim
+            (λ (last : k ≡ length gave). ap (slice_get (gave ++ r ∷ [])) last ∙ slice_get-last gave r
+            ∙ sym (first_with-push_new (length gave) put r own absent)
+            ∙ ap (λ n. first_with n (put ++ r ∷ [])) (sym last))
+            (λ (other : k ≡ length gave → ⊥). slice_get-front gave r k (omega arith) ∙ has.given k (omega arith)
+            ∙ sym (first_with-push_other k put r (λ e. other (sym e ∙ own))))
+            (cases_eq k (length gave));
+        waits = λ k h. same k ∙ has.waits k (omega arith)
+            ∙ sym (first_with-push_other k put r (λ e. omega (arith, own)));
+        double = subst (IsLeastDouble (numbers_of (put ++ r ∷ []))) (sym double)
+            (double-kept put r o.double none has.double);
+      }
 
   -- and none does where none is there
-  pub none_next : waiting_at o o.next ≡ None → first_with (length gave) put ≡ None
-  none_next none = sym (has.waits (length gave) (omega arith)) ∙ ap (waiting_at o) (sym has.next) ∙ none
+  pub none_next : early_at o o.next ≡ None → first_with (length gave) put ≡ None
+  none_next none = sym (has.waits (length gave) (omega arith)) ∙ ap (early_at o) (sym has.next) ∙ none
 
   -- a number of 33 bits or more never comes
   pub none_past : 2 ^ 32 ≤ o.next → first_with (length gave) put ≡ None
@@ -346,14 +334,14 @@ module _ (o : Reordering) (put gave : List Record) (has : HasOrdered o put gave)
       (none_or_some (first_with m put))
 
   -- where a record waits or was given out, its number occurs
-  occurs : (k : ℕ) → (o.next ≤ k → is_some (waiting_at o k) ≡ true) → 0 < times k (numbers_of put)
+  occurs : (k : ℕ) → (o.next ≤ k → is_some (early_at o k) ≡ true) → 0 < times k (numbers_of put)
   occurs k waits = ⊎_elim
       (λ (h : k < length gave). times-is_some k put (given-there o put gave has k h))
       (λ (h : length gave ≤ k). times-is_some k put (sym (ap is_some (has.waits k h))
       ∙ waits (omega (arith, has.next))))
       (below_or k (length gave))
 
-  pub none_missing : (n : ℕ) → ((k : ℕ) → o.next ≤ k → k < n → is_some (waiting_at o k) ≡ true) →
+  pub none_missing : (n : ℕ) → ((k : ℕ) → o.next ≤ k → k < n → is_some (early_at o k) ≡ true) →
       ((m : ℕ) → is_some (early_at o m) ≡ true → m ≤ n)
       → (k : ℕ) → IsMissing (numbers_of put) k → ⊥
   none_missing n below above k missing =
@@ -361,27 +349,21 @@ module _ (o : Reordering) (put gave : List Record) (has : HasOrdered o put gave)
       let more : k < m = missing.1.1 in
       let there : is_some (first_with m put) ≡ true = came-times m missing.1.2 in
       let here : 0 < times k (numbers_of put) = occurs k (λ from.
-      let apart : m ≡ o.next → ⊥ = λ e. omega arith in
-      let waits : early_at o m ≡ first_with m put =
-      sym (cond-false (eqb m o.next) (ready_or o.ready (early_at o m)) (early_at o m) (ne_eqb m o.next apart))
-      ∙ has.waits m (omega (arith, has.next)) in
+      let waits : early_at o m ≡ first_with m put = has.waits m (omega (arith, has.next)) in
       below k from (omega (arith, above m (ap is_some waits ∙ there)))) in
       omega (arith, missing.0)
 
-  pub first_missing : (k n : ℕ) → o.next ≤ k → ((j : ℕ) → o.next ≤ j → j < k → is_some (waiting_at o j) ≡ true) →
-      is_some (waiting_at o k) ≡ false → k < n → is_some (early_at o n) ≡ true
+  pub first_missing : (k n : ℕ) → o.next ≤ k → ((j : ℕ) → o.next ≤ j → j < k → is_some (early_at o j) ≡ true) →
+      is_some (early_at o k) ≡ false → k < n → is_some (early_at o n) ≡ true
       → IsMissing (numbers_of put) k × ((j : ℕ) → j < k → 0 < times j (numbers_of put))
   first_missing k n from below none more early =
       let absent : first_with k put ≡ None =
       ⊎_elim (λ (e : first_with k put ≡ None). e)
       (λ (some : (x : Record) × (first_with k put ≡ Some x)).
-      let there : is_some (waiting_at o k) ≡ true = ap is_some (has.waits k (omega (arith, has.next)) ∙ some.1) in
+      let there : is_some (early_at o k) ≡ true = ap is_some (has.waits k (omega (arith, has.next)) ∙ some.1) in
       absurd (cc))
       (none_or_some (first_with k put)) in
-      let apart : n ≡ o.next → ⊥ = λ e. omega arith in
-      let greater : first_with n put ≡ early_at o n =
-      sym (has.waits n (omega (arith, has.next))) ∙ cond-false (eqb n o.next) (ready_or o.ready (early_at o n))
-      (early_at o n) (ne_eqb n o.next apart) in (
+      let greater : first_with n put ≡ early_at o n = sym (has.waits n (omega (arith, has.next))) in (
         (times-none k put absent, (n, more, times-is_some n put (ap is_some greater ∙ early))),
         λ j h. occurs j
             (λ at. below j at h),
@@ -414,20 +396,3 @@ whole_from_none numbers missing double k h = below (length numbers) (omega arith
         (λ (e : k ≡ n). ap (λ m. times m numbers) e ∙ here n (omega arith) (below n (omega arith)))
         (λ (other : k ≡ n → ⊥). below n (omega arith) k (omega arith))
         (cases_eq k n)
-
--- A record in its turn, where none of its number waits, is put in and given out at once.
-pub HasOrdered-pass : (o : Reordering) (put gave : List Record) → HasOrdered o put gave →
-    (r : Record) (after : Reordering) → r.number < 2 ^ 32 → r.number ≡ o.next → o.ready ≡ None
-    → first_with (length gave) put ≡ None → after ≡ record o { next = o.next + 1 } →
-    HasOrdered after (put ++ r ∷ []) (gave ++ r ∷ [])
-HasOrdered-pass o put gave has r after small turn nothing absent is =
-    let none : waiting_at o r.number ≡ None = ap (waiting_at o) (turn ∙ has.next)
-    ∙ has.waits (length gave) (omega arith) ∙ absent in
-    let below : nat_lt r.number o.next ≡ false = le-ltb r.number o.next (omega (arith, turn)) in
-    let new : has_come o r.number ≡ false = ap (λ b. b || is_some (waiting_at o r.number)) below ∙ ap is_some none in
-    let mid : Reordering = record o { ready = Some r } in
-    let put_in : HasOrdered mid (put ++ r ∷ []) gave = HasOrdered-ready o put gave has r mid small new turn refl in
-    let waits : waiting_at mid o.next ≡ Some r = cond-true (eqb o.next o.next) (Some r) (early_at o o.next)
-    (eq-eqb o.next o.next refl) in
-    HasOrdered-next mid (put ++ r ∷ []) gave put_in r after o.early waits
-    (is ∙ ap (λ (x : Option Record). record o { next = o.next + 1; ready = x }) nothing) (λ k other. refl)

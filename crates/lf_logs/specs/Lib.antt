@@ -8,7 +8,5 @@ pub mod Mixtures
 -- For the contracts of the crate alone: how it counts, and how it keeps what came early
 -- and records in the form of their bytes.
 pub mod Tallies
-pub mod EarlyTable
-pub mod ShortKeys
-pub mod KeptRecord
+pub mod EarlyRecords
 pub mod PackedLogs

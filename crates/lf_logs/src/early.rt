@@ -1,188 +1,106 @@
 //! The records that came before their turn.
 
-ghost use Rattle.std.specs.Prelude.{◌≡◌, ◌<◌, ◌%◌, ◌↔◌, ℕ, IsTrue, List, [], length, slice_index_or, vec_len};
-ghost use Rattle.std.specs.Prelude.{is_some, None, Some, OnOk, OnErr, IfOk, IfSome, IfNone};
-ghost use Rattle.std.specs.Map.{lookup};
-ghost use Rattle.std.specs.BTreeMap.{is_at};
-ghost use Rattle.std.specs.Ordering.{nat_cmp};
-ghost use Rattle.lf_rules.specs.declared.event.Record.{Record};
-ghost use Rattle.lf_logs.specs.EarlyTable.{IsTable};
-ghost use Rattle.lf_logs.specs.Reordering.{if_given};
+ghost use Rattle.std.specs.Prelude.{◌≡◌, ◌<◌, ◌↔◌, ℕ, IsTrue, [], length, is_some, Some, None, OnOk, OnErr, IsSome};
+ghost use Rattle.lf_codec.specs.Lent.{IsSpelling};
+ghost use Rattle.lf_logs.specs.EarlyRecords.{kept_at};
+ghost use Rattle.lf_logs.specs.Reordering.{CanKeep, if_given};
 
-use crate::kept::Kept;
-use crate::short_key::ShortKey;
-use lf_rules::{NoMemory, Record, wide_remainder};
-use slab::Slab;
+use lf_codec::Layout;
+use lf_rules::{NoMemory, Record};
+use lf_views::RecordView;
 use std::alloc::Global;
 use std::collections::BTreeMap;
 use std::marker::Model;
 
-/// How many places a table has at first.
-const FIRST_PLACES: usize = 64;
-
-/// A table that has so many places for each record that it keeps grows no more.
-const PLACES_OF_A_RECORD: usize = 16;
-
-/// The records that came before their turn, by number. A table has the key under which a record is
-/// kept, at the place that is the record's number modulo the count of places. A record whose place
-/// is taken, or whose key does not fit into four bytes, goes into the map. So what is held follows the
-/// records that wait, however far apart their numbers are, and a wider table moves no record.
+/// The records that came before their turn, by number.
 #[derive(Drop)]
 pub struct Early {
     alloc: Global,
-    places: Vec<ShortKey>,
-    kept: Slab<Kept>,
-    rest: BTreeMap<u32, Kept>,
+    layout: Option<Layout>,
+    whole: BTreeMap<u32, Box<Record>>,
 }
 
 impl Model for Early {
-    ghost use Rattle.std.specs.Prelude.{ℕ, List, ◌++◌};
-    ghost use Rattle.lf_rules.specs.declared.event.Record.{Record};
-    ghost use Rattle.lf_logs.specs.EarlyTable.{numbered, IsTable};
+    ghost use Rattle.lf_logs.specs.EarlyRecords.{EarlyRecords, kept_whole};
 
-    ghost Value = { List (ℕ × Record) };
+    ghost Value = { EarlyRecords };
 
-    ghost view = { λ e. numbered e.kept.slots ++ e.rest.entries };
-
-    ghost invariant = { λ e. IsTable e.places.items e.kept.slots };
-}
-
-/// The place of a number in a table of so many places.
-#[inline(always)]
-fn place_of(number: u32, count: usize) -> usize
-    requires { 0 < count }
-    ensures { result ≡ number % count }
-{
-    wide_remainder(u64::from(number), count as u64) as usize
-}
-
-/// The key of the record of this number, where the table has one.
-fn key_of(places: &[ShortKey], kept: &Slab<Kept>, number: u32) -> Option<usize>
-    requires { IsTable places.now kept.now.slots }
-    ensures some { IfSome result (λ key. slice_index_or places.now (number % length places.now) None ≡ Some key) }
-    ensures number { IfSome result (λ key. (r : Record) × ((slice_index_or kept.now.slots key None ≡ Some r) ×
-        (r.number ≡ number))) }
-    ensures none { IfNone result ((key : ℕ) (r : Record) → slice_index_or kept.now.slots key None ≡ Some r →
-        ¬ (r.number ≡ number)) }
-{
-    if places.is_empty() {
-        return None;
-    }
-    let key = places[place_of(number, places.len())].get()?;
-    match kept.get(key) {
-        Some(item) if item.number() == number => Some(key),
-        _ => None,
-    }
-}
-
-/// A table of twice as many places for the same records.
-fn widened(alloc: Global, places: &[ShortKey], kept: &Slab<Kept>) -> Result<Vec<ShortKey>, NoMemory>
-    requires table { IsTable places.now kept.now.slots }
-    requires some { 0 < length places.now }
-    ensures table { IfOk result (λ wider. IsTable wider.items kept.now.slots) }
-    ensures some { IfOk result (λ wider. 0 < vec_len wider) }
-{
-    let mut wider = vec![in alloc; ShortKey::none(); 2 * places.len()]?;
-    for place in places {
-        if let Some(key) = place.get() {
-            let to = place_of(kept[key].number(), wider.len());
-            wider[to] = *place;
-        }
-    }
-    Ok(wider)
-}
-
-/// Makes the first table, or a wider one where the number's place is taken and there are few places
-/// for what is kept.
-fn make_room(
-    alloc: Global,
-    places: &mut Vec<ShortKey>,
-    kept: &Slab<Kept>,
-    number: u32,
-) -> Result<(), NoMemory>
-    requires { IsTable places.old.items kept.now.slots }
-    ensures table { IsTable places.new.items kept.now.slots }
-    ensures some { OnOk result (0 < vec_len places.new) }
-{
-    if places.is_empty() {
-        let first = vec![in alloc; ShortKey::none(); FIRST_PLACES]?;
-        *places = first;
-        return Ok(());
-    }
-    if !places[place_of(number, places.len())].is_none()
-        && places.len() / PLACES_OF_A_RECORD < kept.len()
-    {
-        *places = widened(alloc, places, kept)?;
-    }
-    Ok(())
+    ghost view = { λ e. record { header = e.layout; records = kept_whole e.whole.entries } };
 }
 
 impl Early {
-    /// No record came.
-    pub fn new(alloc: Global) -> Early
-        ensures { result ≡ [] }
+    /// No record came. With a layout the bytes of records are read again by it.
+    pub fn new(alloc: Global, layout: Option<Layout>) -> Early
+        ensures { result ≡ record { header = layout; records = [] } }
     {
         Early {
             alloc,
-            places: Vec::new(alloc),
-            kept: Slab::new(alloc),
-            rest: BTreeMap::new(alloc),
+            layout,
+            whole: BTreeMap::new(alloc),
         }
     }
 
     /// Whether there is no record.
     pub fn is_empty(&self) -> bool
-        ensures { IsTrue result ↔ (self.now ≡ []) }
+        ensures { IsTrue result ↔ (self.now.records ≡ []) }
     {
-        self.kept.is_empty() && self.rest.is_empty()
+        self.whole.is_empty()
     }
 
     /// Whether a record has this number.
     pub fn contains(&self, number: u32) -> bool
-        ensures { result ≡ is_some (lookup (is_at (nat_cmp number)) self.now) }
+        ensures { result ≡ is_some (kept_at self.now number) }
     {
-        key_of(&self.places, &self.kept, number).is_some() || self.rest.contains_key(&number)
+        self.whole.contains_key(&number)
     }
 
-    /// Adds a copy of a record whose number no other has. `NoMemory` where a growth was refused.
-    pub fn insert(&mut self, item: &Record) -> Result<(), NoMemory>
-        requires { lookup (is_at (nat_cmp item.now.number)) self.old ≡ None }
+    /// Keeps a record, whose number no other has. `NoMemory` where a growth was refused.
+    pub fn put(&mut self, item: Record) -> Result<(), NoMemory>
+        requires { kept_at self.old item.number ≡ None }
+        ensures header { self.new.header ≡ self.old.header }
         ensures unchanged { OnErr result (self.new ≡ self.old) }
-        ensures own { OnOk result (lookup (is_at (nat_cmp item.now.number)) self.new ≡ Some item.now) }
-        ensures others { OnOk result ((k : ℕ) → ¬ (k ≡ item.now.number) →
-            lookup (is_at (nat_cmp k)) self.new ≡ lookup (is_at (nat_cmp k)) self.old) }
+        ensures own { OnOk result (kept_at self.new item.number ≡ Some item) }
+        ensures others { OnOk result ((k : ℕ) → ¬ (k ≡ item.number) → kept_at self.new k ≡ kept_at self.old k) }
     {
         let number = item.number;
-        make_room(self.alloc, &mut self.places, &self.kept, number)?;
-        let waiting = Kept::new(self.alloc, item)?;
-        let place = place_of(number, self.places.len());
-        if self.places[place].is_none() && self.kept.vacant_key() <= ShortKey::MOST {
-            let key = self.kept.insert(waiting)?;
-            self.places[place] = ShortKey::of(key);
-            return Ok(());
-        }
-        let _ = self.rest.insert(number, waiting)?;
+        let kept = Box::new(self.alloc, item)?;
+        let _ = self.whole.insert(number, kept)?;
         Ok(())
     }
 
-    /// Takes out the record of this number and puts it into `item`. It says whether there is one.
-    pub fn take_into(&mut self, number: u32, item: &mut Record) -> bool
-        ensures value { if_given result item.new ≡ lookup (is_at (nat_cmp number)) self.old }
-        ensures unchanged { ¬ IsTrue result → (self.new ≡ self.old) × (item.new ≡ item.old) }
-        ensures others { (k : ℕ) → ¬ (k ≡ number) → lookup (is_at (nat_cmp k)) self.new
-            ≡ lookup (is_at (nat_cmp k)) self.old }
-        ensures fewer { IsTrue result → length self.new < length self.old }
+    /// Keeps a record that is lent, whose number no other has. `NoMemory` where a growth was refused.
+    pub fn put_view(&mut self, item: &RecordView<'_>, _bytes: &[u8]) -> Result<(), NoMemory>
+        requires absent { kept_at self.old item.now.number ≡ None }
+        requires spelled { IsSpelling _bytes.now item.now }
+        requires fits { CanKeep self.old.header item.now }
+        ensures header { self.new.header ≡ self.old.header }
+        ensures unchanged { OnErr result (self.new ≡ self.old) }
+        ensures own { OnOk result (kept_at self.new item.now.number ≡ Some item.now) }
+        ensures others { OnOk result ((k : ℕ) → ¬ (k ≡ item.now.number) → kept_at self.new k ≡ kept_at self.old k) }
     {
-        let Some(key) = key_of(&self.places, &self.kept, number) else {
-            let Some(waiting) = self.rest.remove(&number) else {
-                return false;
-            };
-            waiting.put_into(item);
-            return true;
-        };
-        let place = place_of(number, self.places.len());
-        self.places[place] = ShortKey::none();
-        self.kept.remove(key).put_into(item);
-        true
+        self.put(item.to_record())
+    }
+
+    /// Lends the record of this number by `place`, and says whether there is one.
+    pub fn lend<'a>(&'a self, number: u32, place: &mut RecordView<'a>) -> bool
+        ensures { if_given result place.new ≡ kept_at self.now number }
+    {
+        match self.whole.get(&number) {
+            Some(item) => {
+                *place = RecordView::of(item);
+                true
+            }
+            None => false,
+        }
+    }
+
+    /// Lets the record of this number go, where there is one.
+    pub fn drop(&mut self, number: u32)
+        ensures header { self.new.header ≡ self.old.header }
+        ensures gone { kept_at self.new number ≡ None }
+        ensures others { (k : ℕ) → ¬ (k ≡ number) → kept_at self.new k ≡ kept_at self.old k }
+        ensures fewer { IsSome (kept_at self.old number) → length self.new.records < length self.old.records }
+    {
+        let _ = self.whole.remove(&number);
     }
 }

@@ -5,7 +5,6 @@
 mod banks;
 mod early;
 mod incomplete;
-mod kept;
 mod laws;
 mod log_records;
 mod logs;
@@ -15,7 +14,6 @@ mod port;
 mod port_look;
 mod port_step;
 mod reorder;
-mod short_key;
 mod skeleton;
 
 pub use banks::bank_records;

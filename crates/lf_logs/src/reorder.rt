@@ -1,16 +1,20 @@
 //! A bank's records, put into the order of their numbers as they come.
 
-ghost use Rattle.std.specs.Prelude.{◌≡◌, ◌≢◌, ◌<◌, ◌^◌, ◌↔◌, ℕ, IsTrue, List, [], ◌∷◌, ◌++◌, length};
-ghost use Rattle.std.specs.Prelude.{option_to_list, is_some, IsSome, None, Some, OnOk, OnErr, IfSome, IfNone};
+ghost use Rattle.std.specs.Prelude.{◌≡◌, ◌≢◌, ◌<◌, ◌≤◌, ◌^◌, ◌↔◌, ℕ, IsTrue, List, [], ◌∷◌, ◌++◌, length};
+ghost use Rattle.std.specs.Prelude.{option_to_list, IsSome, None, Some, OnOk, OnErr, IfSome, IfNone};
 ghost use Rattle.lf_rules.specs.declared.event.Record.{Record};
+ghost use Rattle.lf_rules.specs.InRange.{IsShape};
 ghost use Rattle.lf_rules.specs.Numbers.{numbers_of, times, IsMissing, IsWhole};
+ghost use Rattle.lf_codec.specs.Lent.{IsSpelling};
 ghost use Rattle.lf_logs.specs.Places.{IsNumberFault};
-ghost use Rattle.lf_logs.specs.Reordering.{first_with, early_at, if_given, waiting_at, waiting_count, has_come};
-ghost use Rattle.lf_logs.specs.Reordering.{least_double, IsLeastDouble, HasOrdered};
+ghost use Rattle.lf_logs.specs.Reordering.{first_with, early_at, if_given, waiting_count, has_come};
+ghost use Rattle.lf_logs.specs.Reordering.{header_of, CanKeep, NoneIsReady, least_double, IsLeastDouble, HasOrdered};
 
 use crate::early::Early;
 use crate::order::NumberFault;
-use lf_rules::{Event, NO_BANK, NoMemory, Record};
+use lf_codec::{Header, Layout};
+use lf_rules::{NoMemory, Record, Shape};
+use lf_views::RecordView;
 use std::alloc::Global;
 use std::marker::Model;
 
@@ -21,8 +25,6 @@ pub struct Reorder {
     bank: u8,
     /// The number of the next record that is given out.
     next: u64,
-    /// The record of that number, where it came in its turn.
-    ready: Option<Record>,
     /// The records that came before their turn.
     early: Early,
     /// The greatest number of a record that came before its turn.
@@ -32,45 +34,35 @@ pub struct Reorder {
 }
 
 impl Model for Reorder {
-    ghost use Rattle.lf_logs.specs.Reordering.{Reordering, IsInTurn, IsGreatestEarly};
+    ghost use Rattle.std.specs.Prelude.{◌≤◌, ◌^◌};
+    ghost use Rattle.lf_logs.specs.EarlyRecords.{kept_at};
+    ghost use Rattle.lf_logs.specs.Reordering.{Reordering, IsGreatestEarly};
 
     ghost Value = { Reordering };
 
-    ghost view = { λ o. record { bank = o.bank; next = o.next; ready = o.ready; early = o.early; double = o.double } };
+    ghost view = { λ o. record {
+      bank = o.bank;
+      next = o.next;
+      header = o.early.header;
+      early = o.early.records;
+      double = o.double;
+    } };
 
-    ghost invariant = { λ o. IsInTurn o.next o.ready × IsGreatestEarly o.next o.early o.greatest };
+    ghost invariant = { λ o. (o.next ≤ 2 ^ 32) × IsGreatestEarly o.next (kept_at o.early) o.greatest };
 }
 
-/// Keeps a copy of the record that came in its turn. It is apart, since it has a place for a record,
-/// which costs time where none came so.
-#[inline(never)]
-fn keep_ready(ready: &mut Option<Record>, item: &Record) -> Result<(), NoMemory>
-    ensures unchanged { OnErr result (ready.new ≡ ready.old) }
-    ensures kept { OnOk result (ready.new ≡ Some item.now) }
+/// How the records of a hierarchy are laid out.
+fn header_of(shape: &Shape) -> Header
+    requires { IsShape shape.now }
+    ensures { result ≡ header_of shape.now }
 {
-    *ready = Some(item.clone()?);
-    Ok(())
-}
-
-/// Puts the record that came in its turn into `item`. It is apart as `keep_ready` is.
-#[inline(never)]
-fn take_ready(ready: &mut Option<Record>, item: &mut Record)
-    requires { IsSome ready.old }
-    ensures given { Some item.new ≡ ready.old }
-    ensures nothing { ready.new ≡ None }
-{
-    if let Some(taken) = ready.take() {
-        *item = taken;
-    }
-}
-
-/// What stands in a place to which no record was put.
-fn blank() -> Record {
-    Record {
-        log: 0,
-        bank: NO_BANK,
-        number: 0,
-        event: Event::Fence,
+    Header {
+        version: 3,
+        ports: shape.ports as u8,
+        banks: shape.banks as u8,
+        block: shape.block as u16,
+        factor: shape.factor as u16,
+        memory_count: 0,
     }
 }
 
@@ -78,33 +70,42 @@ impl Reorder {
     /// No record was put in.
     pub fn new(alloc: Global, bank: u8) -> Reorder
         ensures bank { result.bank ≡ bank }
+        ensures header { result.header ≡ None }
+        ensures nothing { HasOrdered result [] [] }
+    {
+        Reorder::with_layout(alloc, None, bank)
+    }
+
+    /// No record was put in. The records will be those of a hierarchy.
+    pub fn of_shape(alloc: Global, shape: &Shape, bank: u8) -> Reorder
+        requires { IsShape shape.now }
+        ensures bank { result.bank ≡ bank }
+        ensures header { result.header ≡ Some (header_of shape.now) }
+        ensures nothing { HasOrdered result [] [] }
+    {
+        let layout = Layout::of(&header_of(shape));
+        Reorder::with_layout(alloc, Some(layout), bank)
+    }
+
+    fn with_layout(alloc: Global, layout: Option<Layout>, bank: u8) -> Reorder
+        ensures bank { result.bank ≡ bank }
+        ensures header { result.header ≡ layout }
         ensures nothing { HasOrdered result [] [] }
     {
         Reorder {
             bank,
             next: 0,
-            ready: None,
-            early: Early::new(alloc),
+            early: Early::new(alloc, layout),
             greatest: 0,
             double: None,
         }
-    }
-
-    /// Whether a record that waits for its turn has this number.
-    fn waits(&self, number: u32) -> bool
-        ensures { result ≡ is_some (waiting_at self.now number) }
-    {
-        if u64::from(number) == self.next && self.ready.is_some() {
-            return true;
-        }
-        self.early.contains(number)
     }
 
     /// Whether a record of this number came.
     fn has_come(&self, number: u32) -> bool
         ensures { result ≡ has_come self.now number }
     {
-        u64::from(number) < self.next || self.waits(number)
+        u64::from(number) < self.next || self.early.contains(number)
     }
 
     fn note_double(&mut self, number: u32)
@@ -118,8 +119,11 @@ impl Reorder {
 
     /// Passes the record on where its turn has come: it counts as put in and given out, and nothing is
     /// kept of it. It takes no memory.
-    pub fn pass(&mut self, item: &Record) -> bool
+    #[inline(always)]
+    pub fn pass(&mut self, item: &RecordView<'_>) -> bool
+        requires { NoneIsReady self.old }
         ensures bank { self.new.bank ≡ self.old.bank }
+        ensures header { self.new.header ≡ self.old.header }
         ensures passed { IsTrue result → (put : List Record) (gave : List Record) → HasOrdered self.old put gave →
             first_with (length gave) put ≡ None
             → (item.now.number ≡ length gave) × HasOrdered self.new (put ++ item.now ∷ []) (gave ++ item.now ∷ []) }
@@ -128,7 +132,7 @@ impl Reorder {
             first_with (length gave) put ≡ None
             → ¬ (item.now.number ≡ length gave) }
     {
-        if u64::from(item.number) != self.next || self.ready.is_some() {
+        if u64::from(item.number()) != self.next {
             return false;
         }
         self.next += 1;
@@ -140,108 +144,106 @@ impl Reorder {
     pub fn put(&mut self, item: Record) -> Result<(), NoMemory>
         requires { item.bank ≡ self.old.bank }
         ensures bank { self.new.bank ≡ self.old.bank }
+        ensures header { self.new.header ≡ self.old.header }
         ensures unchanged { OnErr result (self.new ≡ self.old) }
         ensures put { (put : List Record) (gave : List Record) → HasOrdered self.old put gave
             → OnOk result (HasOrdered self.new (put ++ item ∷ []) gave) }
-    {
-        self.put_lent(&item)
-    }
-
-    /// Puts a copy of a record in, which stays with the caller.
-    pub fn put_lent(&mut self, item: &Record) -> Result<(), NoMemory>
-        requires { item.now.bank ≡ self.old.bank }
-        ensures bank { self.new.bank ≡ self.old.bank }
-        ensures unchanged { OnErr result (self.new ≡ self.old) }
-        ensures put { (put : List Record) (gave : List Record) → HasOrdered self.old put gave
-            → OnOk result (HasOrdered self.new (put ++ item.now ∷ []) gave) }
     {
         let number = item.number;
         if self.has_come(number) {
             self.note_double(number);
             return Ok(());
         }
-        if u64::from(number) == self.next {
-            keep_ready(&mut self.ready, item)?;
-            return Ok(());
-        }
-        self.early.insert(item)?;
+        self.early.put(item)?;
         self.greatest = self.greatest.max(number);
         Ok(())
     }
 
-    /// Puts the record whose turn it is into `item`, where it came early. It says whether that is so.
-    fn take_early(&mut self, item: &mut Record) -> bool
-        ensures found { self.old.next < 2 ^ 32 → if_given result item.new ≡ early_at self.old self.old.next }
-        ensures none { ¬ IsTrue result → (self.new ≡ self.old) × (item.new ≡ item.old) }
-        ensures some { IsTrue result → self.old.next < 2 ^ 32 }
-        ensures rest { self.new ≡ record self.old { early = self.new.early } }
-        ensures others { (k : ℕ) → ¬ (k ≡ self.old.next) → early_at self.new k ≡ early_at self.old k }
-        ensures fewer { IsTrue result → length self.new.early < length self.old.early }
+    /// Takes a record of the bank that is lent, with the bytes that spell it or none. With bytes and a header it
+    /// keeps the bytes, and otherwise a copy of the record.
+    pub fn put_view(&mut self, item: &RecordView<'_>, bytes: &[u8]) -> Result<(), NoMemory>
+        requires bank { item.now.bank ≡ self.old.bank }
+        requires spelled { IsSpelling bytes.now item.now }
+        requires fits { CanKeep self.old.header item.now }
+        ensures bank { self.new.bank ≡ self.old.bank }
+        ensures header { self.new.header ≡ self.old.header }
+        ensures unchanged { OnErr result (self.new ≡ self.old) }
+        ensures put { (put : List Record) (gave : List Record) → HasOrdered self.old put gave
+            → OnOk result (HasOrdered self.new (put ++ item.now ∷ []) gave) }
+    {
+        let number = item.number();
+        if self.has_come(number) {
+            self.note_double(number);
+            return Ok(());
+        }
+        self.early.put_view(item, bytes)?;
+        self.greatest = self.greatest.max(number);
+        Ok(())
+    }
+
+    /// Lends the record with the bank's next number by `place`, and says whether it is there. It takes no memory.
+    pub fn lend_next<'a>(&'a self, place: &mut RecordView<'a>) -> bool
+        ensures there { (put : List Record) (gave : List Record) → HasOrdered self.now put gave
+            → if_given result place.new ≡ first_with (length gave) put }
+        ensures some { IsTrue result → IsSome (early_at self.now self.now.next) }
     {
         if self.next > u64::from(u32::MAX) {
             return false;
         }
-        self.early.take_into(self.next as u32, item)
+        self.early.lend(self.next as u32, place)
     }
 
-    /// Puts the record whose turn it is into `item`, where it is there. It says whether that is so.
-    fn take_next(&mut self, item: &mut Record) -> bool
-        ensures found { self.old.next < 2 ^ 32 → if_given result item.new ≡ waiting_at self.old self.old.next }
-        ensures none { ¬ IsTrue result → (self.new ≡ self.old) × (item.new ≡ item.old) }
-        ensures some { IsTrue result → self.old.next < 2 ^ 32 }
-        ensures rest { IsTrue result → self.new ≡ record self.old { ready = None; early = self.new.early } }
-        ensures others { (k : ℕ) → ¬ (k ≡ self.old.next) → early_at self.new k ≡ early_at self.old k }
-        ensures fewer { IsTrue result → waiting_count self.new < waiting_count self.old }
+    /// Lets the record go whose turn it is: it was given out.
+    pub fn drop_next(&mut self)
+        ensures bank { self.new.bank ≡ self.old.bank }
+        ensures header { self.new.header ≡ self.old.header }
+        ensures given { (put : List Record) (gave : List Record) (item : Record) → HasOrdered self.old put gave
+            → first_with (length gave) put ≡ Some item → HasOrdered self.new put (gave ++ item ∷ []) }
+        ensures fewer { IsSome (early_at self.old self.old.next) → waiting_count self.new < waiting_count self.old }
     {
-        if self.ready.is_none() {
-            return self.take_early(item);
+        if self.next > u64::from(u32::MAX) {
+            return;
         }
-        take_ready(&mut self.ready, item);
-        true
+        self.early.drop(self.next as u32);
+        self.next += 1;
+    }
+
+    /// A copy of the record with the bank's next number, where it is there.
+    fn copy_next(&self) -> Option<Record>
+        ensures there { (put : List Record) (gave : List Record) → HasOrdered self.now put gave
+            → result ≡ first_with (length gave) put }
+        ensures some { IsSome result → IsSome (early_at self.now self.now.next) }
+    {
+        let mut place = RecordView::blank();
+        if self.lend_next(&mut place) {
+            Some(place.to_record())
+        } else {
+            None
+        }
     }
 
     /// The record with the bank's next number, as soon as it is there. It takes no memory.
     pub fn next(&mut self) -> Option<Record>
         ensures bank { self.new.bank ≡ self.old.bank }
+        ensures header { self.new.header ≡ self.old.header }
         ensures gives { (put : List Record) (gave : List Record) → HasOrdered self.old put gave
             → HasOrdered self.new put (gave ++ option_to_list result) }
         ensures there { (put : List Record) (gave : List Record) → HasOrdered self.old put gave
             → result ≡ first_with (length gave) put }
         ensures fewer { IfSome result (λ _. waiting_count self.new < waiting_count self.old) }
     {
-        let mut item = blank();
-        if self.next_into(&mut item) {
-            Some(item)
-        } else {
-            None
-        }
+        let item = self.copy_next()?;
+        self.drop_next();
+        Some(item)
     }
 
-    /// Writes the next record into `item`, so that it need not be moved, and says whether there is one. Where
-    /// there is none nothing has changed.
-    pub fn next_into(&mut self, item: &mut Record) -> bool
-        ensures bank { self.new.bank ≡ self.old.bank }
-        ensures gives { (put : List Record) (gave : List Record) → HasOrdered self.old put gave
-            → HasOrdered self.new put (gave ++ option_to_list (if_given result item.new)) }
-        ensures there { (put : List Record) (gave : List Record) → HasOrdered self.old put gave
-            → if_given result item.new ≡ first_with (length gave) put }
-        ensures unchanged { ¬ IsTrue result → (self.new ≡ self.old) × (item.new ≡ item.old) }
-        ensures fewer { IsTrue result → waiting_count self.new < waiting_count self.old }
-    {
-        if !self.take_next(item) {
-            return false;
-        }
-        self.next += 1;
-        true
-    }
-
-    /// Whether no record waits for its turn, so that `next_into` has none to give. It takes no memory.
+    /// Whether no record waits for its turn, so that `lend_next` has none to lend. It takes no memory.
     pub fn is_empty(&self) -> bool
         ensures count { IsTrue result ↔ (waiting_count self.now ≡ 0) }
         ensures none { IsTrue result → (put : List Record) (gave : List Record) → HasOrdered self.now put gave
             → first_with (length gave) put ≡ None }
     {
-        self.ready.is_none() && self.early.is_empty()
+        self.early.is_empty()
     }
 
     /// The least number that is missing below a greater one.
@@ -252,7 +254,7 @@ impl Reorder {
             → IfNone result ((k : ℕ) → ¬ IsMissing (numbers_of put) k) }
     {
         for number in self.next..u64::from(self.greatest) {
-            if !self.waits(number as u32) {
+            if !self.early.contains(number as u32) {
                 return Some(number as u32);
             }
         }

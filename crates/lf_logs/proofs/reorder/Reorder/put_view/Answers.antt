@@ -1,0 +1,21 @@
+use Rattle.std.proofs.Common.{◌≡◌, true, false, sym, ap, ◌∙◌, subst, arith}
+use Rattle.lf_logs.specs.Reordering.{Reordering, early_at, has_come, least_double}
+use Rattle.lf_logs.proofs.Reordered.{HasOrdered-double, HasOrdered-waits}
+use Rattle.lf_logs.proofs.reorder.Reorder.put_view.Goals as goal
+
+pub returns-then-has_come-clause-put : goal.returns-then-has_come-clause-put
+returns-then-has_come-clause-put c put gave has =
+    HasOrdered-double c.args.self.now put gave has c.args.item.now c.note_double.new.self (omega arith)
+    (subst (λ n. has_come c.args.self.now n ≡ true) c.number-number.ensures
+    (sym c.has_come.ensures ∙ c.if-has_come.true))
+    (c.note_double.ensures ∙ ap (λ n. record c.args.self.now { double = least_double c.args.self.now.double n })
+    c.number-number.ensures)
+
+pub returns-clause-put : goal.returns-clause-put
+returns-clause-put c put gave has =
+    HasOrdered-waits c.args.self.now put gave has c.args.item.now _ (omega arith)
+    (subst (λ n. has_come c.args.self.now n ≡ false) c.number-number.ensures
+    (sym c.has_come.ensures ∙ c.if-has_come.false))
+    (ap (λ (o : Reordering). o.next) c.self.view_is) (ap (λ (o : Reordering). o.double) c.self.view_is)
+    c.in_ok-put_view.ensures.own
+    (λ k other. c.in_ok-put_view.ensures.others k other ∙ ap (λ (o : Reordering). early_at o k) c.self.view_is)
