@@ -23,8 +23,12 @@ loop-item-preserved c = record {
       let turn = c.if-not-lend_next.ensures.there came m.0 m.1.ordered in (
         m.0 ++ item ∷ [],
         judged_more shape memory bank came m.0 c.loop-item.self m.1 item
-            (record { order = c.drop_next.new.self; step = c.judge_next.new.step; outcome = c.judge_next.new.outcome;
-            count = c.judge_next.new.count }) turn
+            (record {
+              order = c.drop_next.new.self;
+              step = c.judge_next.new.step;
+              outcome = c.judge_next.new.outcome;
+              count = c.judge_next.new.count;
+            }) turn
             (c.drop_next.ensures.given came m.0 item m.1.ordered (sym turn))
             c.drop_next.ensures.bank c.drop_next.ensures.header c.in_ok-judge_next.ensures.bank
             c.in_ok-judge_next.ensures.shape

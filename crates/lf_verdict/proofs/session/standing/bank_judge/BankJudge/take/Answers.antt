@@ -60,8 +60,12 @@ settle-requires c =
       came = r.came ++ item ∷ [];
       gave = r.gave ++ item ∷ [];
       judged = judged_pass r.shape r.memory r.bank r.came r.gave c.args.self.now r.settled.bank_judged item
-          (record { order = c.pass.new.self; step = c.judge_next.new.step; outcome = c.judge_next.new.outcome;
-          count = c.judge_next.new.count }) r.fits r.named passed.0 passed.1 c.if-not-pass.ensures.bank
+          (record {
+            order = c.pass.new.self;
+            step = c.judge_next.new.step;
+            outcome = c.judge_next.new.outcome;
+            count = c.judge_next.new.count;
+          }) r.fits r.named passed.0 passed.1 c.if-not-pass.ensures.bank
           c.if-not-pass.ensures.header c.in_ok-judge_next.ensures.bank c.in_ok-judge_next.ensures.shape
           (λ number at. c.in_ok-judge_next.ensures.judged r.shape r.memory r.bank r.gave number at)
           (c.in_ok-judge_next.ensures.counted r.shape r.gave);
@@ -73,8 +77,12 @@ returns-clause-takes c shape memory bank came gave fits named settled =
     let passed = c.if-not-pass.ensures.passed refl came gave settled.bank_judged.ordered settled.drained in
     c.settle.ensures.settles shape memory bank (came ++ item ∷ []) (gave ++ item ∷ [])
     (judged_pass shape memory bank came gave c.args.self.now settled.bank_judged item
-    (record { order = c.pass.new.self; step = c.judge_next.new.step; outcome = c.judge_next.new.outcome;
-    count = c.judge_next.new.count }) fits named passed.0 passed.1 c.if-not-pass.ensures.bank
+    (record {
+      order = c.pass.new.self;
+      step = c.judge_next.new.step;
+      outcome = c.judge_next.new.outcome;
+      count = c.judge_next.new.count;
+    }) fits named passed.0 passed.1 c.if-not-pass.ensures.bank
     c.if-not-pass.ensures.header c.in_ok-judge_next.ensures.bank c.in_ok-judge_next.ensures.shape
     (λ number at. c.in_ok-judge_next.ensures.judged shape memory bank gave number at)
     (c.in_ok-judge_next.ensures.counted shape gave))

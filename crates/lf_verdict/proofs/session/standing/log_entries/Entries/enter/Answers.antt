@@ -75,8 +75,12 @@ returns-else-port-len-clause-entered c shape records may stands =
       few = stands.few;
       kept = entered_more shape records s stands item may c.keep.new.self
           (same_entry logs c.keep.new.self c.log-log.ensures c.bank.ensures c.number.ensures
-          (c.in_ok-keep.ensures.kept logs (omega (arith, c.log-log.ensures, log_inside shape records s stands item
-          may)) stands.kept));
+          (c.in_ok-keep.ensures.kept logs (omega (
+            arith,
+            c.log-log.ensures,
+            log_inside shape records s stands item
+                may,
+          )) stands.kept));
       count_ports = ap (λ (ps : Vec PortJudge). length ps.items) same ∙ stands.count_ports;
       ports = λ port d lt. subst (λ (ps : Vec PortJudge). IsPortJudged shape port
           (of_log port (records ++ item ∷ [])) (get_or ps.items port d)) (sym same)
