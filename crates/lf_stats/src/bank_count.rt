@@ -10,8 +10,8 @@ ghost use Rattle.lf_stats.specs.Tally.{IsCounted, IsSteady, QueuesAre, head_of, 
 
 use crate::counts::BankStats;
 use crate::held::Held;
-use lf_rules::{Event, NoMemory, Record};
-use lf_views::RecordView;
+use lf_rules::{NoMemory, Record};
+use lf_views::{EventView, RecordView};
 use std::alloc::Global;
 use std::collections::VecDeque;
 
@@ -88,7 +88,7 @@ impl BankCount {
     }
 
     /// What the record changes of the requests that wait and of the registers that are held.
-    fn change(&mut self, item: &Record) -> Result<(), NoMemory>
+    fn change(&mut self, item: &RecordView<'_>) -> Result<(), NoMemory>
         requires size { 0 < self.old.size }
         requires queues { length self.old.queues.items ≡ 256 }
         requires few { (register : ℕ) → named self.old.held register < 2 ^ 29 }
@@ -99,19 +99,23 @@ impl BankCount {
             AreAlike next (head_of self.old.queues.items) → IsHeld self.old.held holds →
             IsHeld self.new.held (held_by next item.now.event holds)) }
     {
-        match &item.event {
-            Event::Issue { address, .. } => {
-                issue(&mut self.queues, item.log, *address / u64::from(self.size))?;
+        match item.event() {
+            EventView::Issue { address, .. } => {
+                issue(
+                    &mut self.queues,
+                    item.log(),
+                    *address / u64::from(self.size),
+                )?;
             }
-            Event::Hit { port, .. } => {
+            EventView::Hit { port, .. } => {
                 let _ = accept(&mut self.queues, *port);
             }
-            Event::Primary { port, register, .. } | Event::Merge { port, register, .. } => {
+            EventView::Primary { port, register, .. } | EventView::Merge { port, register, .. } => {
                 if let Some(block) = accept(&mut self.queues, *port) {
                     self.held.hold(self.alloc, block, *register)?;
                 }
             }
-            Event::Fill1 { block, .. } => self.held.release(u64::from(*block)),
+            EventView::Fill1 { block, .. } => self.held.release(u64::from(*block)),
             _ => {}
         }
         Ok(())
@@ -123,14 +127,7 @@ impl BankCount {
         ensures { (shape : Shape) (rs : List Record) → IsCounted shape rs self.old →
             OnOk result (IsCounted shape (rs ++ item.now ∷ []) self.new) }
     {
-        if self.seen == MOST {
-            return Ok(());
-        }
-        self.change(item)?;
-        self.stats.count(&item.event);
-        self.stats.peak = self.stats.peak.max(self.held.distinct());
-        self.seen += 1;
-        Ok(())
+        self.take_view(&RecordView::of(item))
     }
 
     /// Counts the next record of the bank, which is lent.
@@ -139,7 +136,14 @@ impl BankCount {
         ensures { (shape : Shape) (rs : List Record) → IsCounted shape rs self.old →
             OnOk result (IsCounted shape (rs ++ item.now ∷ []) self.new) }
     {
-        self.take(&item.to_record())
+        if self.seen == MOST {
+            return Ok(());
+        }
+        self.change(item)?;
+        self.stats.count(item.event());
+        self.stats.peak = self.stats.peak.max(self.held.distinct());
+        self.seen += 1;
+        Ok(())
     }
 
     /// The counts so far.
