@@ -3,11 +3,11 @@
 ghost use Rattle.std.specs.Prelude.{◌≤◌, ◌^◌, length, IfOk};
 ghost use Rattle.std.specs.List.{All};
 
-use lf_codec::room;
 use lf_history::packed;
 use lf_logs::{LogRecords, PackedLogs, Place, places_of_bank};
 use lf_rules::Record;
 use lf_samples::{C1, memory_ran_out, records_at};
+use lf_views::RecordView;
 use std::alloc::Global;
 use std::test::Fail;
 
@@ -49,11 +49,12 @@ fn packed_records_of_a_bank(rt: HostRuntime) -> Result<(), Fail> {
     assert_eq!(rt; order.as_slice(), places.as_slice());
     let [first, second, third, last] = rows;
     let sorted = records_at(rt.alloc(), &C1, &[second, last, third, first])?;
-    let mut room = room();
+    let mut room = RecordView::blank();
     for (number, place) in order.iter().enumerate() {
         let (bank, found) = logs.entry(*place);
         assert_eq!(rt; (bank, found as usize), (0, number));
-        assert_eq!(rt; Some(logs.lend(*place, &mut room)), sorted.get(number));
+        logs.lend(*place, &mut room);
+        assert_eq!(rt; Some(&room.to_record()), sorted.get(number));
     }
     Ok(())
 }

@@ -6,7 +6,8 @@ ghost use Rattle.lf_rules.specs.Lists.{lists_of};
 ghost use Rattle.lf_logs.specs.Places.{record_at, Names};
 
 use crate::order::{Place, record_at};
-use lf_rules::{Logs, Record};
+use lf_rules::Logs;
+use lf_views::RecordView;
 
 /// The records of a trace by their logs, however they are kept.
 pub trait LogRecords {
@@ -27,10 +28,10 @@ pub trait LogRecords {
         requires { IsSome (record_at (lists self.now) place) }
         ensures { Names (lists self.now) result.0 result.1 place };
 
-    /// The record at the place, which may be built in `room`.
-    fn lend<'a>(&'a self, place: Place, room: &'a mut Record) -> &'a Record
+    /// Lends the record at the place by `room`. No memory is taken.
+    fn lend<'a>(&'a self, place: Place, room: &mut RecordView<'a>)
         requires { IsSome (record_at (lists self.now) place) }
-        ensures { record_at (lists self.now) place ≡ Some result.now };
+        ensures { record_at (lists self.now) place ≡ Some room.new };
 }
 
 impl LogRecords for Logs {
@@ -49,7 +50,7 @@ impl LogRecords for Logs {
         (item.bank, item.number)
     }
 
-    fn lend<'a>(&'a self, place: Place, _room: &'a mut Record) -> &'a Record {
-        record_at(self, place)
+    fn lend<'a>(&'a self, place: Place, room: &mut RecordView<'a>) {
+        *room = RecordView::of(record_at(self, place));
     }
 }

@@ -9,7 +9,8 @@ ghost use Rattle.lf_logs.specs.PackedLogs.{lists_at, AreSpotsOf, IsSpotOf};
 use crate::log_records::LogRecords;
 use crate::order::Place;
 use lf_codec::Packed;
-use lf_rules::{NoMemory, Record};
+use lf_rules::NoMemory;
+use lf_views::RecordView;
 use std::alloc::Global;
 use std::marker::Model;
 
@@ -120,8 +121,8 @@ impl LogRecords for PackedLogs {
         (bank, number)
     }
 
-    fn lend<'a>(&'a self, place: Place, room: &'a mut Record) -> &'a Record {
+    fn lend<'a>(&'a self, place: Place, room: &mut RecordView<'a>) {
         let spot = self.spots[usize::from(place.log)][place.at as usize];
-        self.records.lend(spot.at as usize, room)
+        self.records.lend_view(spot.at as usize, room);
     }
 }

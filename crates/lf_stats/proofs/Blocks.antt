@@ -13,6 +13,9 @@ use Rattle.arrayvec.specs.ArrayVec.{ArrayVec}
 use Rattle.lf_rules.specs.declared.event.Op.{Op}
 use Rattle.lf_rules.specs.declared.event.Event.{Event}
 use Rattle.lf_rules.specs.declared.event.Event.TheVariants.{Issue}
+use Rattle.lf_views.specs.declared.event_view.EventView.{EventView}
+use Rattle.lf_views.specs.declared.event_view.EventView.TheVariants as views
+use Rattle.lf_views.specs.Views.{event_of}
 use Rattle.lf_rules.specs.Address.{block_of}
 use Rattle.lf_logs.specs.declared.order.Place.{Place}
 use Rattle.lf_logs.specs.Places.{record_at, records_at}
@@ -64,10 +67,10 @@ placed vecs i v w block read pushed inside port =
     ∙ sym (ap (λ b. blocks_at vecs port ++ cons_option (block_if b block) []) (ne_eqb i port other)))
     (cases_eq i port)
 
-not_issue : (shape : Shape) (event : Event)
-    → ((op : Op) (tag size address : ℕ) (bytes : ArrayVec ℕ) → event ≡ Issue op tag size address bytes → ⊥)
-    → block_issued shape event ≡ None
-not_issue shape (Issue op tag size address bytes) never = absurd (never op tag size address bytes refl)
+pub not_issue : (shape : Shape) (event : EventView)
+    → ((op : Op) (tag size address : ℕ) (bytes : _) → event ≡ views.Issue op tag size address bytes → ⊥)
+    → block_issued shape (event_of event) ≡ None
+not_issue shape (views.Issue op tag size address bytes) never = absurd (never op tag size address bytes refl)
 not_issue shape _ never = refl
 
 none_if : (b : Bool) (o : Option ℕ) → o ≡ None → cond b o None ≡ None
@@ -94,14 +97,13 @@ module _ (shape : Shape) (logs : List (List Record)) (places : List Place) (at :
   issued_more = ap (issued shape port) (records_more logs places at r inside is)
       ∙ issued_push shape port (records_at logs (take at places)) r
 
-  pub issued_same : ((op : Op) (tag size address : ℕ) (bytes : ArrayVec ℕ) →
-      r.event ≡ Issue op tag size address bytes → ⊥)
+  pub issued_same : block_issued shape r.event ≡ None
       → issued shape port (records_at logs (take (at + 1) places))
       ≡ issued shape port (records_at logs (take at places))
-  issued_same never =
+  issued_same none =
       issued_more
       ∙ ap (λ o. issued shape port (records_at logs (take at places)) ++ cons_option o [])
-      (none_if (eqb r.log port) (block_issued shape r.event) (not_issue shape r.event never))
+      (none_if (eqb r.log port) (block_issued shape r.event) none)
       ∙ append-nil (issued shape port (records_at logs (take at places)))
 
   pub issued_new : (op : Op) (tag size address : ℕ) (bytes : ArrayVec ℕ) → r.event ≡ Issue op tag size address bytes →

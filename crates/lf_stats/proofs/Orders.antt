@@ -67,15 +67,15 @@ held_le shape rs (suc n) =
     let step = held_after_le (next_block shape rs n) (slice_get rs n) (held shape rs n) in
     omega (arith, step, held_le shape rs n)
 
--- what is kept tells of one more record, by the blocks that each port issued and how many were accepted
+-- what is kept tells of one more record, by its event, the blocks that each port issued and how many were accepted
 module _ (shape : Shape) (rs : List Record) (n : ℕ) (r : Record) (here : slice_get rs n ≡ Some r)
-    (blocks : List (Vec ℕ)) (counts : List ℕ) where
+    (event : Event) (shown : event ≡ r.event) (blocks : List (Vec ℕ)) (counts : List ℕ) where
   pub held_next : ((port : ℕ) → port < 256 → get_or (map (λ (v : Vec ℕ). v.items) blocks) port []
       ≡ issued shape port rs)
       → ((port : ℕ) → port < 256 → get_or counts port 0 ≡ accepted port (take n rs))
       → (before after : Holding)
       → ((next : ℕ → Option ℕ) (holds : List (ℕ × ℕ)) → AreAlike next (next_of blocks counts) → IsHeld before holds →
-      IsHeld after (held_by next r.event holds))
+      IsHeld after (held_by next event holds))
       → IsHeld before (held shape rs n) → IsHeld after (held shape rs (n + 1))
   held_next issues told before after step now =
       let alike : AreAlike (next_block shape rs n) (next_of blocks counts) = record {
@@ -83,7 +83,10 @@ module _ (shape : Shape) (rs : List Record) (n : ℕ) (r : Record) (here : slice
             ap (slice_get (issued shape port rs)) (sym (told port h))
             ∙ ap (λ xs. slice_get xs (get_or counts port 0)) (sym (issues port h));
       } in
-      subst (IsHeld after) (sym (held_at shape rs n r here)) (step (next_block shape rs n) (held shape rs n) alike now)
+      let holds = held shape rs n in
+      let next = next_block shape rs n in
+      subst (IsHeld after) (ap (λ e. held_by next e holds) shown ∙ sym (held_at shape rs n r here))
+      (step next holds alike now)
 
 -- so many registers are held at most
 pub registers_le : (kept : Holding) (shape : Shape) (rs : List Record) (n : ℕ) → IsHeld kept (held shape rs n) →

@@ -8,11 +8,11 @@ use Rattle.std.proofs.lemmas.List.{get_or-set_same, get_or-set_other}
 use Rattle.std.proofs.lemmas.List.Sums.{fold_more, length-filter, sum_by-cons, count_by-le-length}
 use Rattle.std.proofs.lemmas.List.FromFn.{fill_by_all}
 use Rattle.std.proofs.lemmas.Bool.{cases_eq, eq-eqb, ne_eqb}
-use Rattle.arrayvec.specs.ArrayVec.{ArrayVec}
 use Rattle.lf_rules.specs.declared.event.Op.{Op}
-use Rattle.lf_rules.specs.declared.event.Event.{Event}
-use Rattle.lf_rules.specs.declared.event.Event.TheVariants.{Issue, Reply}
 use Rattle.lf_rules.specs.declared.event.Record.{Record}
+use Rattle.lf_views.specs.declared.event_view.EventView.{EventView}
+use Rattle.lf_views.specs.declared.event_view.EventView.TheVariants as views
+use Rattle.lf_views.specs.Views.{event_of}
 use Rattle.lf_logs.specs.Incomplete.{waits, waits_after}
 use Rattle.lf_stats.specs.Statistics.{unanswered}
 
@@ -39,11 +39,12 @@ waits_more log at r inside read tag =
     fold_more (λ (before : Bool) (r : Record). waits_after tag before r.event) false log at r inside
     ∙ ap (λ (r : Record). waits_after tag (waits (take at log) tag) r.event) (sym read)
 
-pub waits_same : (tag : ℕ) (before : Bool) (event : Event)
-    → ((op : Op) (t size address : ℕ) (bytes : ArrayVec ℕ) → event ≡ Issue op t size address bytes → ⊥)
-    → ((t size : ℕ) (bytes : ArrayVec ℕ) → event ≡ Reply t size bytes → ⊥) → waits_after tag before event ≡ before
-waits_same tag before (Issue op t size address bytes) never none = absurd (never op t size address bytes refl)
-waits_same tag before (Reply t size bytes) never none = absurd (none t size bytes refl)
+pub waits_same : (tag : ℕ) (before : Bool) (event : EventView)
+    → ((op : Op) (t size address : ℕ) (bytes : _) → event ≡ views.Issue op t size address bytes → ⊥)
+    → ((t size : ℕ) (bytes : _) → event ≡ views.Reply t size bytes → ⊥)
+    → waits_after tag before (event_of event) ≡ before
+waits_same tag before (views.Issue op t size address bytes) never none = absurd (never op t size address bytes refl)
+waits_same tag before (views.Reply t size bytes) never none = absurd (none t size bytes refl)
 waits_same tag before _ never none = refl
 
 count_by-map : {X : Type 0} (f : X → Bool) (xs : List X) → count_by (λ b. b) (map f xs) ≡ count_by f xs

@@ -1,6 +1,7 @@
 //! The counts of a bank, in the order of its numbers.
 
 ghost use Rattle.std.specs.Prelude.{◌≡◌, ◌<◌, ◌≤◌, ◌^◌, ℕ, List, Option, length, All, OnOk, IfOk, IsSome};
+ghost use Rattle.lf_views.specs.Views.{event_of};
 ghost use Rattle.lf_logs.specs.Places.{record_at, records_at};
 ghost use Rattle.lf_stats.specs.Standing.{next_of, named, AreAlike, IsHeld};
 ghost use Rattle.lf_stats.specs.Statistics.{held_by, held_counts, bank_stats};
@@ -8,10 +9,9 @@ ghost use Rattle.lf_stats.specs.Statistics.{held_by, held_counts, bank_stats};
 use crate::counts::BankStats;
 use crate::held::Held;
 use crate::issued::{Accepted, blocks_issued};
-use lf_codec::room;
 use lf_logs::{LogRecords, Place};
-use lf_rules::{Event, NoMemory, Shape};
-use lf_views::RecordView;
+use lf_rules::{NoMemory, Shape};
+use lf_views::{EventView, RecordView};
 use std::alloc::Global;
 
 /// Changes what is held.
@@ -20,21 +20,21 @@ fn hold(
     held: &mut Held,
     issued: &[Vec<u64>],
     accepted: &Accepted,
-    event: &Event,
+    event: &EventView<'_>,
 ) -> Result<(), NoMemory>
     requires issued { length issued.now ≡ 256 }
     requires few { (register : ℕ) → named held.old register < 2 ^ 29 }
     ensures { OnOk result ((next : ℕ → Option ℕ) (holds : List (ℕ × ℕ)) →
         AreAlike next (next_of issued.now accepted.now.counts)
-        → IsHeld held.old holds → IsHeld held.new (held_by next event.now holds)) }
+        → IsHeld held.old holds → IsHeld held.new (held_by next (event_of event.now) holds)) }
 {
     match event {
-        Event::Primary { port, register, .. } | Event::Merge { port, register, .. } => {
+        EventView::Primary { port, register, .. } | EventView::Merge { port, register, .. } => {
             if let Some(block) = accepted.next(issued, *port) {
                 held.hold(alloc, block, *register)?;
             }
         }
-        Event::Fill1 { block, .. } => held.release(u64::from(*block)),
+        EventView::Fill1 { block, .. } => held.release(u64::from(*block)),
         _ => {}
     }
     Ok(())
@@ -56,13 +56,14 @@ pub(crate) fn bank_stats<L: LogRecords>(
     let issued = blocks_issued(alloc, shape, logs, places)?;
     let mut accepted = Accepted::new();
     let mut held = Held::new(alloc);
-    let mut room = room();
+    let mut room = RecordView::blank();
     let mut stats = BankStats::default();
     for place in places {
-        let item = logs.lend(*place, &mut room);
-        hold(alloc, &mut held, issued.as_slice(), &accepted, &item.event)?;
-        accepted.count(&item.event);
-        stats.count(RecordView::of(item).event());
+        logs.lend(*place, &mut room);
+        let event = room.event();
+        hold(alloc, &mut held, issued.as_slice(), &accepted, event)?;
+        accepted.count(event);
+        stats.count(event);
         stats.peak = stats.peak.max(held.distinct());
     }
     Ok(stats)
@@ -83,10 +84,11 @@ pub fn held_counts<L: LogRecords>(
     let issued = blocks_issued(alloc, shape, logs, places)?;
     let mut accepted = Accepted::new();
     let mut held = Held::new(alloc);
-    let mut room = room();
+    let mut room = RecordView::blank();
     let mut counts = vec![in alloc; 0]?;
     for place in places {
-        let event = &logs.lend(*place, &mut room).event;
+        logs.lend(*place, &mut room);
+        let event = room.event();
         hold(alloc, &mut held, issued.as_slice(), &accepted, event)?;
         accepted.count(event);
         counts.push(held.distinct())?;

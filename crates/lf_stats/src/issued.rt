@@ -3,13 +3,14 @@
 ghost use Rattle.std.specs.Prelude.{◌≡◌, ◌+◌, ◌<◌, ◌^◌, ℕ, [], length, All, IfOk, IsSome, slice_index};
 ghost use Rattle.std.specs.Prelude.{slice_index_or, if◌then◌else◌};
 ghost use Rattle.lf_rules.specs.Lists.{lists_of};
+ghost use Rattle.lf_views.specs.Views.{event_of};
 ghost use Rattle.lf_logs.specs.Places.{record_at, records_at};
 ghost use Rattle.lf_stats.specs.Standing.{next_of};
 ghost use Rattle.lf_stats.specs.Statistics.{accepts, issued};
 
-use lf_codec::room;
 use lf_logs::{LogRecords, Place};
-use lf_rules::{Event, NoMemory, Shape};
+use lf_rules::{NoMemory, Shape};
+use lf_views::{EventView, RecordView};
 use std::alloc::Global;
 
 /// As many as there are numbers of ports.
@@ -40,12 +41,12 @@ pub(crate) fn blocks_issued<L: LogRecords>(
         → slice_index_or (lists_of lists) port [] ≡ issued shape.now port (records_at (L.lists logs.now) places.now)) }
 {
     let mut lists = no_blocks(alloc)?;
-    let mut room = room();
+    let mut room = RecordView::blank();
     for place in places {
-        let item = logs.lend(*place, &mut room);
-        if let Event::Issue { address, .. } = &item.event {
+        logs.lend(*place, &mut room);
+        if let EventView::Issue { address, .. } = room.event() {
             let block = *address / u64::from(shape.block);
-            lists[usize::from(item.log)].push(block)?;
+            lists[usize::from(room.log())].push(block)?;
         }
     }
     Ok(lists)
@@ -76,13 +77,15 @@ impl Accepted {
     }
 
     /// Counts the event.
-    pub fn count(&mut self, event: &Event)
+    pub fn count(&mut self, event: &EventView<'_>)
         requires { (port : ℕ) → port < 256 → slice_index self.old.counts port < 2 ^ 29 }
         ensures { (port : ℕ) → port < 256 → slice_index self.new.counts port ≡ slice_index self.old.counts port
-            + (if accepts port event.now then 1 else 0) }
+            + (if accepts port (event_of event.now) then 1 else 0) }
     {
         match event {
-            Event::Hit { port, .. } | Event::Primary { port, .. } | Event::Merge { port, .. } => {
+            EventView::Hit { port, .. }
+            | EventView::Primary { port, .. }
+            | EventView::Merge { port, .. } => {
                 self.counts[usize::from(*port)] += 1;
             }
             _ => {}

@@ -1,24 +1,24 @@
 //! The requests of a port that have no reply.
 
 ghost use Rattle.std.specs.Prelude.{◌≡◌, ◌<◌, ◌≤◌, ◌^◌, ℕ, false, [], length, filter, slice_index_or};
+ghost use Rattle.lf_views.specs.Views.{event_of};
 ghost use Rattle.lf_logs.specs.Incomplete.{unanswered, waits, waits_after};
 
-use lf_codec::room;
 use lf_logs::{LogRecords, Place};
-use lf_rules::Event;
+use lf_views::{EventView, RecordView};
 
 /// As many as there are tags.
 const TAGS: usize = 256;
 
 /// What waits after the event.
-fn note(waits: &mut [bool; TAGS], event: &Event)
+fn note(waits: &mut [bool; TAGS], event: &EventView<'_>)
     ensures len { length waits.new ≡ length waits.old }
     ensures waits { (tag : ℕ) → tag < 256 → slice_index_or waits.new tag false
-        ≡ waits_after tag (slice_index_or waits.old tag false) event.now }
+        ≡ waits_after tag (slice_index_or waits.old tag false) (event_of event.now) }
 {
     match event {
-        Event::Issue { tag, .. } => waits[usize::from(*tag)] = true,
-        Event::Reply { tag, .. } => waits[usize::from(*tag)] = false,
+        EventView::Issue { tag, .. } => waits[usize::from(*tag)] = true,
+        EventView::Reply { tag, .. } => waits[usize::from(*tag)] = false,
         _ => {}
     }
 }
@@ -31,14 +31,15 @@ fn waits_at<L: LogRecords>(logs: &L, port: u8) -> [bool; TAGS]
     ensures waits { (tag : ℕ) → tag < 256 → slice_index_or result tag false
         ≡ waits (slice_index_or (L.lists logs.now) port []) tag }
 {
-    let mut room = room();
+    let mut room = RecordView::blank();
     let mut waits = [false; TAGS];
     for at in 0..logs.log_len(usize::from(port)) {
         let place = Place {
             log: port,
             at: at as u32,
         };
-        note(&mut waits, &logs.lend(place, &mut room).event);
+        logs.lend(place, &mut room);
+        note(&mut waits, room.event());
     }
     waits
 }

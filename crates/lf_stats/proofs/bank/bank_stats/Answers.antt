@@ -5,7 +5,6 @@ use Rattle.std.specs.Global.{Vec}
 use Rattle.std.proofs.lemmas.List.{take_all}
 use Rattle.lf_rules.specs.declared.event.Event.{Event}
 use Rattle.lf_rules.specs.declared.event.Record.{Record}
-use Rattle.lf_views.specs.Views.{event_of}
 use Rattle.lf_logs.specs.Places.{record_at, records_at}
 use Rattle.lf_stats.specs.Statistics.{accepts, held, held_count, greatest, kinds, is_hit, is_primary, is_merge}
 use Rattle.lf_stats.specs.Statistics.{is_stall}
@@ -42,15 +41,15 @@ distinct-requires g c =
     let shape = c.args.shape.now in
     let rs : List Record = records_at (g.L.LogRecords.lists c.args.logs.now) c.args.places.now in
     let n = c.loop-place.place-index in
-    let item = c.lend-item.result.now in
+    let item = c.lend.new.room in
     let at_rs : slice_get rs n ≡ Some item =
     get_found (record_at (g.L.LogRecords.lists c.args.logs.now)) c.args.places.now n nowhere c.requires.named
-    c.loop-place-test.true ∙ c.lend-item.ensures in
+    c.loop-place-test.true ∙ c.lend.ensures in
     let issues = λ (port : ℕ) (h : port < 256).
     ap (λ (v : List (Vec ℕ)). get_or (lists_in v) port []) c.as_slice.ensures.value
     ∙ c.in_ok-issued.ensures.issued port h in
-    let now = held_next shape rs n item at_rs c.as_slice.result.now c.loop-place.accepted.counts issues
-    c.loop-place.invariant.accepted
+    let now = held_next shape rs n item at_rs _ c.event-event.ensures.shown c.as_slice.result.now
+    c.loop-place.accepted.counts issues c.loop-place.invariant.accepted
     c.loop-place.held c.hold.new.held c.in_ok-hold.ensures c.loop-place.invariant.held in
     record { few = omega (arith, registers_le c.hold.new.held shape rs (n + 1) now) }
 
@@ -59,37 +58,34 @@ loop-place-preserved g c =
     let shape = c.args.shape.now in
     let rs : List Record = records_at (g.L.LogRecords.lists c.args.logs.now) c.args.places.now in
     let n = c.loop-place.place-index in
-    let item = c.lend-item.result.now in
+    let item = c.lend.new.room in
     let at_rs : slice_get rs n ≡ Some item =
     get_found (record_at (g.L.LogRecords.lists c.args.logs.now)) c.args.places.now n nowhere c.requires.named
-    c.loop-place-test.true ∙ c.lend-item.ensures in
+    c.loop-place-test.true ∙ c.lend.ensures in
     let issues = λ (port : ℕ) (h : port < 256).
     ap (λ (v : List (Vec ℕ)). get_or (lists_in v) port []) c.as_slice.ensures.value
     ∙ c.in_ok-issued.ensures.issued port h in
-    let now = held_next shape rs n item at_rs c.as_slice.result.now c.loop-place.accepted.counts issues
-    c.loop-place.invariant.accepted
+    let now = held_next shape rs n item at_rs _ c.event-event.ensures.shown c.as_slice.result.now
+    c.loop-place.accepted.counts issues c.loop-place.invariant.accepted
     c.loop-place.held c.hold.new.held c.in_ok-hold.ensures c.loop-place.invariant.held in
     let one_more = λ (kind : Event → Bool). sym (count_at (λ (r : Record). kind r.event) rs n item at_rs) in
+    let is_one = λ (kind : Event → Bool) (n : ℕ). ap (λ e. n + cond (kind e) 1 0) c.event-event.ensures.shown in
     let counted = c.count-in-loop-place.ensures in
-    let shown : event_of c.event.result.now ≡ item.event =
-    c.event.ensures.shown ∙ ap (λ (r : Record). r.event) c.of.ensures in
     record {
       accepted = λ port h.
           c.count.ensures port h
+          ∙ ap (λ e. get_or c.loop-place.accepted.counts port 0 + cond (accepts port e) 1 0) c.event-event.ensures.shown
           ∙ ap (λ k. k + cond (accepts port item.event) 1 0) (c.loop-place.invariant.accepted port h)
           ∙ one_more (accepts port);
       held = now;
-      hits = counted.hits ∙ ap (λ (e : Event). c.loop-place.stats.hits + cond (is_hit e) 1 0) shown
+      hits = counted.hits ∙ is_one is_hit c.loop-place.stats.hits
           ∙ ap (λ k. k + cond (is_hit item.event) 1 0) c.loop-place.invariant.hits ∙ one_more is_hit;
-      primary = counted.primary ∙ ap (λ (e : Event). c.loop-place.stats.primary + cond (is_primary e) 1 0) shown
-          ∙ ap (λ k. k + cond (is_primary item.event) 1 0) c.loop-place.invariant.primary
-          ∙ one_more is_primary;
-      merges = counted.merges ∙ ap (λ (e : Event). c.loop-place.stats.merges + cond (is_merge e) 1 0) shown
-          ∙ ap (λ k. k + cond (is_merge item.event) 1 0) c.loop-place.invariant.merges
-          ∙ one_more is_merge;
-      stalls = counted.stalls ∙ ap (λ (e : Event). c.loop-place.stats.stalls + cond (is_stall e) 1 0) shown
-          ∙ ap (λ k. k + cond (is_stall item.event) 1 0) c.loop-place.invariant.stalls
-          ∙ one_more is_stall;
+      primary = counted.primary ∙ is_one is_primary c.loop-place.stats.primary
+          ∙ ap (λ k. k + cond (is_primary item.event) 1 0) c.loop-place.invariant.primary ∙ one_more is_primary;
+      merges = counted.merges ∙ is_one is_merge c.loop-place.stats.merges
+          ∙ ap (λ k. k + cond (is_merge item.event) 1 0) c.loop-place.invariant.merges ∙ one_more is_merge;
+      stalls = counted.stalls ∙ is_one is_stall c.loop-place.stats.stalls
+          ∙ ap (λ k. k + cond (is_stall item.event) 1 0) c.loop-place.invariant.stalls ∙ one_more is_stall;
       peak =
           c.max.ensures
           ∙ ap (λ k. max k c.distinct.result) (counted.peak ∙ c.loop-place.invariant.peak)

@@ -38,15 +38,15 @@ distinct-requires g c =
     let shape = c.args.shape.now in
     let rs : List Record = records_at (g.L.LogRecords.lists c.args.logs.now) c.args.places.now in
     let n = c.loop-place.place-index in
-    let item = c.lend.result.now in
+    let item = c.lend.new.room in
     let at_rs : slice_get rs n ≡ Some item =
     get_found (record_at (g.L.LogRecords.lists c.args.logs.now)) c.args.places.now n nowhere c.requires.named
     c.loop-place-test.true ∙ c.lend.ensures in
     let issues = λ (port : ℕ) (h : port < 256).
     ap (λ (v : List (Vec ℕ)). get_or (lists_in v) port []) c.as_slice.ensures.value
     ∙ c.in_ok-issued.ensures.issued port h in
-    let now = held_next shape rs n item at_rs c.as_slice.result.now c.loop-place.accepted.counts issues
-    c.loop-place.invariant.accepted
+    let now = held_next shape rs n item at_rs _ c.event-event.ensures.shown c.as_slice.result.now
+    c.loop-place.accepted.counts issues c.loop-place.invariant.accepted
     c.loop-place.held c.hold.new.held c.in_ok-hold.ensures c.loop-place.invariant.held in
     record { few = omega (arith, registers_le c.hold.new.held shape rs (n + 1) now) }
 
@@ -55,20 +55,21 @@ loop-place-preserved g c =
     let shape = c.args.shape.now in
     let rs : List Record = records_at (g.L.LogRecords.lists c.args.logs.now) c.args.places.now in
     let n = c.loop-place.place-index in
-    let item = c.lend.result.now in
+    let item = c.lend.new.room in
     let at_rs : slice_get rs n ≡ Some item =
     get_found (record_at (g.L.LogRecords.lists c.args.logs.now)) c.args.places.now n nowhere c.requires.named
     c.loop-place-test.true ∙ c.lend.ensures in
     let issues = λ (port : ℕ) (h : port < 256).
     ap (λ (v : List (Vec ℕ)). get_or (lists_in v) port []) c.as_slice.ensures.value
     ∙ c.in_ok-issued.ensures.issued port h in
-    let now = held_next shape rs n item at_rs c.as_slice.result.now c.loop-place.accepted.counts issues
-    c.loop-place.invariant.accepted
+    let now = held_next shape rs n item at_rs _ c.event-event.ensures.shown c.as_slice.result.now
+    c.loop-place.accepted.counts issues c.loop-place.invariant.accepted
     c.loop-place.held c.hold.new.held c.in_ok-hold.ensures c.loop-place.invariant.held in
     let count : c.distinct.result ≡ held_count shape rs (n + 1) = c.distinct.ensures (held shape rs (n + 1)) now in
     record {
       accepted = λ port h.
           c.count.ensures port h
+          ∙ ap (λ e. get_or c.loop-place.accepted.counts port 0 + cond (accepts port e) 1 0) c.event-event.ensures.shown
           ∙ ap (λ k. k + cond (accepts port item.event) 1 0) (c.loop-place.invariant.accepted port h)
           ∙ sym (count_at (λ (r : Record). accepts port r.event) rs n item at_rs);
       held = now;

@@ -1,5 +1,6 @@
 use Rattle.std.proofs.Common.{not, ◌==◌, sym, subst}
 use Rattle.std.specs.List.{filter}
+use Rattle.lf_views.specs.Views.{event_of}
 use Rattle.lf_stats.specs.Standing.{IsHeld}
 use Rattle.lf_stats.specs.Statistics.{held_by}
 use Rattle.lf_stats.proofs.bank.hold.Goals as goal
@@ -8,4 +9,4 @@ pub returns-in-Fill1 : goal.returns-in-Fill1
 returns-in-Fill1 c next holds alike told =
     let ended = subst (λ block. IsHeld c.release.new.self (filter (λ h. not (h.0 == block)) holds)) c.from.ensures
     (c.release.ensures holds told) in
-    subst (λ event. IsHeld c.release.new.self (held_by next event holds)) (sym c.in-Fill1.is) ended
+    subst (λ event. IsHeld c.release.new.self (held_by next (event_of event) holds)) (sym c.in-Fill1.is) ended

@@ -1,4 +1,5 @@
 use Rattle.std.proofs.Common.{true, false, set, get_or, sym, ap, ◌∙◌, arith}
+use Rattle.lf_views.specs.Views.{event_of}
 use Rattle.lf_logs.specs.Incomplete.{waits_after}
 use Rattle.lf_stats.proofs.Waits.{set_at, waits_same}
 use Rattle.lf_stats.proofs.port.note.Goals as goal
@@ -8,14 +9,14 @@ returns-in-Issue-clause-waits c tag h =
     let ws = c.args.waits.now in
     ap (λ n. get_or (set ws n true) tag false) c.from.ensures
     ∙ set_at ws c.in-Issue.tag tag true (omega (arith, c.told-waits))
-    ∙ sym (ap (waits_after tag (get_or ws tag false)) c.in-Issue.is)
+    ∙ sym (ap (λ e. waits_after tag (get_or ws tag false) (event_of e)) c.in-Issue.is)
 
 pub returns-in-Reply-clause-waits : goal.returns-in-Reply-clause-waits
 returns-in-Reply-clause-waits c tag h =
     let ws = c.args.waits.now in
     ap (λ n. get_or (set ws n false) tag false) c.from-in-Reply.ensures
     ∙ set_at ws c.in-Reply.tag tag false (omega (arith, c.told-waits))
-    ∙ sym (ap (waits_after tag (get_or ws tag false)) c.in-Reply.is)
+    ∙ sym (ap (λ e. waits_after tag (get_or ws tag false) (event_of e)) c.in-Reply.is)
 
 pub returns-in_default-clause-waits : goal.returns-in_default-clause-waits
 returns-in_default-clause-waits c tag h =

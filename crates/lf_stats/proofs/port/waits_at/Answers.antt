@@ -13,13 +13,14 @@ pub loop-at-preserved : goal.loop-at-preserved
 loop-at-preserved g c =
     let log : List Record = get_or (g.L.LogRecords.lists c.args.logs.now) c.args.port [] in
     let at = c.loop-at.at in
-    let item = c.lend.result.now in
+    let item = c.lend.new.room in
     let more = waits_more log at item (slice_get_within log at item c.lend.ensures)
     (sym (get_or_from_slice_get log at item item c.lend.ensures)) in
     record {
       len = c.note.ensures.len ∙ c.loop-at.invariant.len;
       waits = λ tag h.
           c.note.ensures.waits tag h
+          ∙ ap (waits_after tag (get_or c.loop-at.waits tag false)) c.event.ensures.shown
           ∙ ap (λ b. waits_after tag b item.event) (c.loop-at.invariant.waits tag h) ∙ sym (more tag);
     }
 

@@ -15,8 +15,8 @@ index-spot-requires c =
       spots.ok.0,
     )
 
-pub lend-requires : goal.lend-requires
-lend-requires c =
+pub lend_view-requires : goal.lend_view-requires
+lend_view-requires c =
     let s = c.self.inside in
     is_below s.records.records s.spots c.self.invariant c.args.self.now c.self.view_is c.args.place c.requires
     c.from.result c.from.ensures c.index.result.now c.index.ensures c.index-spot.result.now c.index-spot.ensures
@@ -26,4 +26,4 @@ returns c =
     let s = c.self.inside in
     found_is s.records.records s.spots c.self.invariant c.args.self.now c.self.view_is c.args.place c.requires
     c.from.result c.from.ensures c.index.result.now c.index.ensures c.index-spot.result.now c.index-spot.ensures
-    c.lend.result.now c.lend.ensures
+    c.lend_view.new.place c.lend_view.ensures
