@@ -15,6 +15,7 @@ pub mod Dirty
 pub mod GoesOn
 pub mod Heads
 pub mod Held
+pub mod HeldIn
 pub mod Holding
 pub mod Judged
 pub mod Kept

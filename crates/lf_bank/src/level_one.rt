@@ -16,6 +16,7 @@ ghost use Rattle.lf_cells.specs.Cells.{HasSameWords, cell_of, first_at};
 use crate::bank::Bank;
 use crate::counts::{add_line, lines_in, take_line};
 use crate::fault::BankFault;
+use crate::holders::holder_of;
 use crate::replies::add_replies;
 use crate::target::{asking, missed};
 use lf_cells::{Cells, Fetch, First};
@@ -136,7 +137,7 @@ impl<O1: Organisation<Target = Request1>, O2: Organisation<Target = Request2>> B
             First::Present => return Err(BankFault::Rule(Rule::Present)),
         }
         let asked = asking(&self.shape, port, request);
-        if let Some(fault) = O1::primary_fault(&self.waiting, register, block, &asked) {
+        if let Some(fault) = O1::fresh_fault(&self.waiting, register, block, &asked) {
             return Err(BankFault::Rule(fault.rule()));
         }
         let Ok(cell) = cell_for(&mut self.cells, block, found) else {
@@ -164,11 +165,21 @@ impl<O1: Organisation<Target = Request1>, O2: Organisation<Target = Request2>> B
         let Some(cell) = self.cells.find(block) else {
             return Err(BankFault::Rule(Rule::NotInFlight));
         };
-        let First::InFlight { .. } = self.cells.first(cell) else {
+        let First::InFlight {
+            register: holder,
+            ..
+        } = self.cells.first(cell)
+        else {
             return Err(BankFault::Rule(Rule::NotInFlight));
         };
         let asked = asking(&self.shape, port, request);
-        if let Some(fault) = O1::merge_fault(&self.waiting, register, block, &asked) {
+        if let Some(fault) = O1::merge_fault_in(
+            &self.waiting,
+            Some(holder),
+            register,
+            block,
+            &asked,
+        ) {
             return Err(BankFault::Rule(fault.rule()));
         }
         let target = missed(&self.shape, &self.cells, cell, port, request);
@@ -187,11 +198,12 @@ impl<O1: Organisation<Target = Request1>, O2: Organisation<Target = Request2>> B
             return Err(BankFault::Rule(Rule::NotHead));
         };
         let block = request.block();
-        if let First::Present = first_in(&self.cells, self.cells.find(block)) {
+        let first = first_in(&self.cells, self.cells.find(block));
+        if let First::Present = first {
             return Err(BankFault::Rule(Rule::Present));
         }
         let asked = asking(&self.shape, port, request);
-        if O1::room(&self.waiting, block, &asked) {
+        if O1::room_in(&self.waiting, holder_of(first), block, &asked) {
             return Err(BankFault::Rule(Rule::NeedlessStall));
         }
         Ok(())
@@ -216,8 +228,8 @@ impl<O1: Organisation<Target = Request1>, O2: Organisation<Target = Request2>> B
             return Err(BankFault::Rule(Rule::NotSupplied));
         };
         let First::InFlight {
+            register: holder,
             fetch: Fetch::Supplied,
-            ..
         } = self.cells.first(cell)
         else {
             return Err(BankFault::Rule(Rule::NotSupplied));
@@ -234,7 +246,7 @@ impl<O1: Organisation<Target = Request1>, O2: Organisation<Target = Request2>> B
         }
         add_line(&mut self.counts1, set);
         self.cells.set_first(cell, First::Present);
-        O1::release_into(&mut self.waiting, block, &mut self.replied);
+        O1::release_of(&mut self.waiting, holder, block, &mut self.replied);
         add_replies(&mut self.ready, &self.shape, self.replied.as_slice());
         Ok(())
     }

@@ -6,7 +6,8 @@ ghost use Rattle.lf_rules.specs.declared.event.Event.TheVariants as event;
 ghost use Rattle.lf_rules.specs.Address as address;
 ghost use Rattle.lf_rules.specs.Address.{second_of};
 ghost use Rattle.lf_views.specs.Views.{masks_of};
-ghost use Rattle.lf_cells.specs.Cells.{cell_of, place_of, first_at};
+ghost use Rattle.lf_cells.specs.declared.known.Second.TheVariants as second_level;
+ghost use Rattle.lf_cells.specs.Cells.{cell_of, place_of, first_at, second_at};
 ghost use Rattle.lf_bank.specs.Answers.{IsAnswer, IsJudged};
 ghost use Rattle.lf_bank.specs.BankView.{IsSteady};
 ghost use Rattle.lf_bank.specs.Known.{is_asking, register_of};
@@ -15,6 +16,7 @@ ghost use Rattle.lf_bank.specs.KnownRules.{set2};
 use crate::bank::Bank;
 use crate::carried::wide_agrees;
 use crate::fault::BankFault;
+use crate::holders::second_holder_of;
 use crate::leaving::{all_absent, are_dirty};
 use crate::registers::{has_room2, second_merge_rule, second_primary_rule};
 use crate::supply::{clean, supply};
@@ -37,6 +39,14 @@ pub struct Asked {
 pub struct Placed {
     pub place: usize,
     pub set: usize,
+}
+
+/// A second-level block that may come into level two: its place, its set, and the register of its primary miss.
+#[derive(Clone, Copy)]
+pub struct Fetched {
+    pub place: usize,
+    pub set: usize,
+    pub register: u16,
 }
 
 impl<O1: Organisation<Target = Request1>, O2: Organisation<Target = Request2>> Bank<O1, O2> {
@@ -90,6 +100,7 @@ impl<O1: Organisation<Target = Request1>, O2: Organisation<Target = Request2>> B
 
     /// The block that level one asks for misses in level two and takes a register.
     pub fn second_primary(&mut self, block: u32, register: u16) -> Result<(), BankFault>
+        requires { IsSteady self.old }
         ensures { (log : ℕ) → IsAnswer self.old self.new log (event.SecondPrimary block register) result }
     {
         let Some(asked) = self.asked(block) else {
@@ -123,21 +134,23 @@ impl<O1: Organisation<Target = Request1>, O2: Organisation<Target = Request2>> B
     /// The block that level one asks for misses in level two and joins a register that waits for its second-level
     /// block.
     pub fn second_merge(&mut self, block: u32, register: u16) -> Result<(), BankFault>
+        requires { IsSteady self.old }
         ensures { (log : ℕ) → IsAnswer self.old self.new log (event.SecondMerge block register) result }
     {
         let Some(asked) = self.asked(block) else {
             return Err(BankFault::Rule(Rule::NotAsked));
         };
-        match self.cells.second_of(asked.cell) {
+        let holder = match self.cells.second_of(asked.cell) {
             Second::Absent => return Err(BankFault::Rule(Rule::NotInFlight)),
-            Second::InFlight { .. } => {}
+            Second::InFlight { register } => register,
             Second::Present => return Err(BankFault::Rule(Rule::SecondPresent)),
-        }
+        };
         let second = second_of(&self.shape, block);
         let target = self.fetching(block, asked);
         if let Some(rule) = second_merge_rule::<O2>(
             &self.regs2,
             &self.shape,
+            holder,
             second,
             &target,
             register,
@@ -153,17 +166,20 @@ impl<O1: Organisation<Target = Request1>, O2: Organisation<Target = Request2>> B
 
     /// The block that level one asks for misses in level two and finds no room.
     pub fn second_stall(&self, block: u32) -> Result<(), BankFault>
+        requires { IsSteady self.now }
         ensures { (log : ℕ) → IsAnswer self.now self.now log (event.SecondStall block) result }
     {
         let Some(asked) = self.asked(block) else {
             return Err(BankFault::Rule(Rule::NotAsked));
         };
-        if let Second::Present = self.cells.second_of(asked.cell) {
+        let now = self.cells.second_of(asked.cell);
+        if let Second::Present = now {
             return Err(BankFault::Rule(Rule::SecondPresent));
         }
         let second = second_of(&self.shape, block);
         let target = self.fetching(block, asked);
-        if has_room2::<O2>(&self.regs2, &self.shape, second, &target) {
+        let holder = second_holder_of(now);
+        if has_room2::<O2>(&self.regs2, &self.shape, holder, second, &target) {
             return Err(BankFault::Rule(Rule::NeedlessStall));
         }
         Ok(())
@@ -179,7 +195,7 @@ impl<O1: Organisation<Target = Request1>, O2: Organisation<Target = Request2>> B
     }
 
     /// Where the second-level block stands that may come into level two, or the rule that is broken.
-    fn judge_fill2(&self, second: u32, bytes: &[u8]) -> Result<Placed, Rule>
+    fn judge_fill2(&self, second: u32, bytes: &[u8]) -> Result<Fetched, Rule>
         requires whole { length bytes.now ≡ self.now.shape.factor * self.now.shape.block }
         ensures broken { IfErr result (λ rule. (log : ℕ) →
             IsJudged self.now log (event.Fill2 second (record { items = bytes.now })) (Some rule)) }
@@ -190,11 +206,13 @@ impl<O1: Organisation<Target = Request1>, O2: Organisation<Target = Request2>> B
         ensures inside { IfOk result (λ placed. placed.set < length self.now.counts2) }
         ensures room { IfOk result (λ placed.
             slice_index self.now.counts2 placed.set < self.now.shape.level2.ways) }
+        ensures flies { IfOk result (λ placed.
+            second_at self.now.cells second ≡ second_level.InFlight placed.register) }
     {
         let Some(place) = self.cells.find_second(second) else {
             return Err(Rule::NotFetched);
         };
-        let Second::InFlight { .. } = self.cells.second(place) else {
+        let Second::InFlight { register } = self.cells.second(place) else {
             return Err(Rule::NotFetched);
         };
         let set = self.set2(second);
@@ -204,7 +222,11 @@ impl<O1: Organisation<Target = Request1>, O2: Organisation<Target = Request2>> B
         if !wide_agrees(&self.shape, &self.cells, place, bytes) {
             return Err(Rule::FillData);
         }
-        Ok(Placed { place, set })
+        Ok(Fetched {
+            place,
+            set,
+            register,
+        })
     }
 
     /// The second-level block comes into level two, and each block of it that was fetched is supplied.
@@ -221,7 +243,7 @@ impl<O1: Organisation<Target = Request1>, O2: Organisation<Target = Request2>> B
         self.counts2[placed.set] += 1;
         self.cells.set_second(placed.place, Second::Present);
         clean(&mut self.cells, &self.shape, placed.place);
-        O2::release_into(&mut self.regs2, second, &mut self.fetched);
+        O2::release_of(&mut self.regs2, placed.register, second, &mut self.fetched);
         supply(&mut self.cells, placed.place, self.fetched.as_slice());
         Ok(())
     }

@@ -10,6 +10,7 @@ mod bank;
 mod carried;
 mod counts;
 mod fault;
+mod holders;
 mod leaving;
 mod level_one;
 mod level_two;

@@ -1,7 +1,7 @@
 //! What the registers of both levels say of the requests that they tell of.
 
-ghost use Rattle.std.specs.Prelude.{◌≡◌};
-ghost use Rattle.lf_rules.specs.Registers.{has_room};
+ghost use Rattle.std.specs.Prelude.{◌≡◌, true, false, IfSome, IfNone};
+ghost use Rattle.lf_rules.specs.Registers.{has_room, holds, holds_in};
 ghost use Rattle.lf_rules.specs.Table.{destinations, destinations2, position, position2};
 ghost use Rattle.lf_rules.specs.declared.shape.Shape.{Shape};
 ghost use Rattle.lf_bank.specs.BankView.{IsFile1, IsFile2};
@@ -73,12 +73,13 @@ pub fn second_primary_rule<O: Organisation<Target = Request2>>(
     target: &Request2,
     register: u16,
 ) -> Option<Rule>
-    requires { IsFile2 shape.now (O.seen regs2.now) }
+    requires file { IsFile2 shape.now (O.seen regs2.now) }
+    requires apart { holds (O.seen regs2.now).held second ≡ false }
     ensures held { result ≡ second_primary_held (O.seen regs2.now) register second target.now }
     ensures told { OfAsked shape.now (O.seen regs2.now) (λ fetched. result
         ≡ second_primary_told shape.now fetched register second target.now) }
 {
-    match O::primary_fault(regs2, register, second, target) {
+    match O::fresh_fault(regs2, register, second, target) {
         Some(fault) => Some(fault.rule()),
         None => None,
     }
@@ -88,16 +89,18 @@ pub fn second_primary_rule<O: Organisation<Target = Request2>>(
 pub fn second_merge_rule<O: Organisation<Target = Request2>>(
     regs2: &O::File,
     shape: &Shape,
+    holder: u16,
     second: u32,
     target: &Request2,
     register: u16,
 ) -> Option<Rule>
-    requires { IsFile2 shape.now (O.seen regs2.now) }
+    requires file { IsFile2 shape.now (O.seen regs2.now) }
+    requires holder { holds_in (O.seen regs2.now).held holder second ≡ true }
     ensures held { result ≡ second_merge_held (O.seen regs2.now) register second target.now }
     ensures told { OfAsked shape.now (O.seen regs2.now) (λ fetched. result
         ≡ second_merge_told shape.now fetched register second target.now) }
 {
-    match O::merge_fault(regs2, register, second, target) {
+    match O::merge_fault_in(regs2, Some(holder), register, second, target) {
         Some(fault) => Some(fault.rule()),
         None => None,
     }
@@ -107,13 +110,16 @@ pub fn second_merge_rule<O: Organisation<Target = Request2>>(
 pub fn has_room2<O: Organisation<Target = Request2>>(
     regs2: &O::File,
     shape: &Shape,
+    holder: Option<u16>,
     second: u32,
     target: &Request2,
 ) -> bool
-    requires { IsFile2 shape.now (O.seen regs2.now) }
+    requires file { IsFile2 shape.now (O.seen regs2.now) }
+    requires some { IfSome holder (λ r. holds_in (O.seen regs2.now).held r second ≡ true) }
+    requires none { IfNone holder (holds (O.seen regs2.now).held second ≡ false) }
     ensures { OfAsked shape.now (O.seen regs2.now) (λ fetched. let level = shape.now.level2 in
         result ≡ has_room level.organisation (destinations2 shape.now) (position2 shape.now) fetched second
         target.now.destination target.now.position) }
 {
-    O::room(regs2, second, target)
+    O::room_in(regs2, holder, second, target)
 }

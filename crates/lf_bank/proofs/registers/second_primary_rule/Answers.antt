@@ -10,11 +10,11 @@ returns-in-Some-clause-held g c = ap Some c.rule.ensures ∙ c.in-Some.ensures
 pub returns-in-Some-clause-told : goal.returns-in-Some-clause-told
 returns-in-Some-clause-told g c = λ fetched alike.
     ap Some c.rule.ensures ∙ c.in-Some.ensures ∙ ap (first_failing OfBank)
-    (second_primary_told c.args.shape.now (g.O.Organisation.seen c.args.regs2.now) c.requires fetched alike
+    (second_primary_told c.args.shape.now (g.O.Organisation.seen c.args.regs2.now) c.requires.file fetched alike
     c.args.second c.args.register c.args.target.now.destination)
 
 pub returns-in-None-clause-told : goal.returns-in-None-clause-told
 returns-in-None-clause-told g c = λ fetched alike.
     c.in-None.ensures ∙ ap (first_failing OfBank) (second_primary_told c.args.shape.now
-    (g.O.Organisation.seen c.args.regs2.now) c.requires fetched alike c.args.second c.args.register
+    (g.O.Organisation.seen c.args.regs2.now) c.requires.file fetched alike c.args.second c.args.register
     c.args.target.now.destination)

@@ -8,6 +8,7 @@ use Rattle.lf_rules.specs.Table.{reply_of}
 use Rattle.lf_rules.specs.declared.rule.Rule.TheVariants.{NotSupplied, SetFull, FillData}
 use Rattle.lf_state.specs.Queues.{queue_at}
 use Rattle.lf_bank.specs.Known.{is_supplied, is_fetch_supplied}
+use Rattle.lf_bank.proofs.HeldIn.{one_holds}
 use Rattle.lf_bank.proofs.Placed.{released1}
 use Rattle.lf_bank.proofs.Three.{third_fails, three_hold}
 use Rattle.lf_bank.proofs.bank.Bank.fill1.Goals as goal
@@ -19,8 +20,14 @@ add_replies-requires-clause-told g c =
       steady.now_waiting,
       c.args.block,
       steady.alike.level1,
-      c.as_slice.ensures.value ∙ c.release_into.ensures.targets,
+      c.as_slice.ensures.value ∙ c.release_of.ensures.targets,
     )
+
+pub release_of-requires : goal.release_of-requires
+release_of-requires g c =
+    let steady = rw (← c.self.view_is) at c.requires.steady in
+    one_holds _ steady c.args.block _
+    (c.in-InFlight-default-Supplied.ensures c.args.block (sym c.in-Some.ensures)) refl
 
 pub returns-then-not-agrees : goal.returns-then-not-agrees
 returns-then-not-agrees g c =
@@ -67,14 +74,14 @@ returns g c =
     let room = lt-ltb _ _ (subst (λ n. n < c.self.inside.shape.level1.ways) counted c.if-lines_in-self.false) in
     let agrees = c.if-not-agrees.ensures c.self.inside.shape c.args.block there whole in
     let replies = c.add_replies.ensures (g.O1.Organisation.seen c.self.inside.waiting).held waiting c.args.block
-    alike.level1 (c.as_slice.ensures.value ∙ c.release_into.ensures.targets)
+    alike.level1 (c.as_slice.ensures.value ∙ c.release_of.ensures.targets)
     ∙ ap (λ (rs : List Ready). rs ++ map reply_of (targets_of waiting c.args.block)) c.reserve.ensures.items in record {
       kept = three_hold NotSupplied SetFull FillData _ _ _ supplied room (sym agrees);
       shape = refl;
       waiting = record {
         level1 = released1 c.self.inside.shape (g.O1.Organisation.seen c.self.inside.waiting)
-            (g.O1.Organisation.seen c.release_into.new.file) waiting c.args.block alike.level1
-            c.release_into.ensures.others;
+            (g.O1.Organisation.seen c.release_of.new.file) waiting c.args.block alike.level1
+            c.release_of.ensures.others;
         level2 = alike.level2;
       };
       known = λ i. record {

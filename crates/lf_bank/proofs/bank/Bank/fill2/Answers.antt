@@ -4,6 +4,7 @@ use Rattle.lf_bank.specs.KnownAfter.{dirty_cleared}
 use Rattle.lf_bank.specs.KnownRules.{set2}
 use Rattle.lf_bank.specs.Wide.{supplied_by}
 use Rattle.lf_bank.proofs.Counted.{count_more}
+use Rattle.lf_bank.proofs.HeldIn.{one_fetches}
 use Rattle.lf_bank.proofs.Places.{factor_some}
 use Rattle.lf_bank.proofs.Placed.{released2}
 use Rattle.lf_bank.proofs.SameKnown.{known_is}
@@ -35,7 +36,13 @@ supply-requires-clause-inside g c =
     λ i t lt is. subst (λ n. t.1.position < n) (sym factor)
     (place_below shape c.args.second (factor_some shape.factor c.self.invariant.in_range.factor)
     (g.O2.Organisation.seen c.self.inside.regs2).held steady.now_regs2 steady.alike.level2 c.as_slice.result.now
-    (c.as_slice.ensures.value ∙ c.release_into.ensures.targets) i t lt is)
+    (c.as_slice.ensures.value ∙ c.release_of.ensures.targets) i t lt is)
+
+pub release_of-requires : goal.release_of-requires
+release_of-requires g c =
+    let steady = rw (← c.self.view_is) at c.requires.steady in
+    let flies = rw (← c.self.view_is) at c.in-Ok.ensures.flies in
+    one_fetches _ steady c.args.second _ (sym flies) refl
 
 pub returns : goal.returns
 returns g c =
@@ -48,7 +55,7 @@ returns g c =
     let there = (λ i. c.set_second.ensures.placed.places i second) ∙ place in
     let now = (λ i. c.clean.ensures.placed.places i second) ∙ there in
     let factor = c.clean.ensures.placed.factor ∙ c.set_second.ensures.placed.factor ∙ c.self.invariant.factor in
-    let released = c.as_slice.ensures.value ∙ c.release_into.ensures.targets in
+    let released = c.as_slice.ensures.value ∙ c.release_of.ensures.targets in
     let memory = c.supply.ensures.memory ∙ c.clean.ensures.memory ∙ c.set_second.ensures.memory in
     let firsts = c.supply.ensures.first second now
     ∙ (λ i. supplied_by (second * factor i) ((c.clean.ensures.first ∙ c.set_second.ensures.first) i) (released i)) in
@@ -64,7 +71,7 @@ returns g c =
       waiting = record {
         level1 = wait.level1;
         level2 = released2 shape (g.O2.Organisation.seen c.self.inside.regs2)
-            (g.O2.Organisation.seen c.release_into.new.file) regs2 second wait.level2 c.release_into.ensures.others;
+            (g.O2.Organisation.seen c.release_of.new.file) regs2 second wait.level2 c.release_of.ensures.others;
       };
       known = known_is _ _ refl refl memory
           (firsts ∙ supplied_told shape second (g.O2.Organisation.seen c.self.inside.regs2).held regs2

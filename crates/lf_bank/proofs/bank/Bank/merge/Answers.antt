@@ -1,4 +1,4 @@
-use Rattle.std.proofs.Common.{None, Some, [], ◌∷◌, ◌++◌, ap, refl, ◌∙◌, bit_or}
+use Rattle.std.proofs.Common.{None, Some, [], ◌∷◌, ◌++◌, ap, refl, sym, ◌∙◌, bit_or}
 use Rattle.std.specs.Prelude.{slice_index}
 use Rattle.lf_rules.specs.Clauses.{OfBank}
 use Rattle.lf_rules.specs.Run.{first_failing}
@@ -8,18 +8,25 @@ use Rattle.lf_state.specs.Queues.{queue_at}
 use Rattle.lf_cells.specs.Cells.{written_at, memory_at}
 use Rattle.lf_bank.specs.Targets.{miss_of}
 use Rattle.lf_bank.proofs.Heads.{merge_judged}
+use Rattle.lf_bank.proofs.HeldIn.{one_holds}
 use Rattle.lf_bank.proofs.Placed.{placed1}
 use Rattle.lf_bank.proofs.Told.{merge_told}
 use Rattle.lf_bank.proofs.bank.Bank.merge.Goals as goal
 
-pub returns-in-Some-merge_fault : goal.returns-in-Some-merge_fault
-returns-in-Some-merge_fault g c = rw (← c.self.view_is) (λ log waiting regs2 alike held.
+pub merge_fault_in-requires-clause-some : goal.merge_fault_in-requires-clause-some
+merge_fault_in-requires-clause-some g c =
+    let steady = rw (← c.self.view_is) at c.requires in
+    one_holds _ steady c.block-block.result _
+    (c.in-InFlight.ensures c.block-block.result (sym c.in-Some-find.ensures)) refl
+
+pub returns-in-Some-merge_fault_in : goal.returns-in-Some-merge_fault_in
+returns-in-Some-merge_fault_in g c = rw (← c.self.view_is) (λ log waiting regs2 alike held.
     let head = rw c.deref.ensures.value at c.in-Some.ensures in (
       merge_judged c.self.inside.shape c.self.inside.queues.items c.args.port c.args.tag c.in-Some.request.now
           c.self.invariant.ports head.0 head.1 waiting c.args.register c.block-block.result
           c.asking-asked.result.destination c.asking-asked.result.position (Some c.rule.result)
           c.block-block.ensures c.asking-asked.ensures.destination c.asking-asked.ensures.position
-          (ap Some c.rule.ensures ∙ c.in-Some-merge_fault.ensures
+          (ap Some c.rule.ensures ∙ c.in-Some-merge_fault_in.ensures
           ∙ ap (first_failing OfBank) (merge_told c.self.inside.shape (g.O1.Organisation.seen c.self.inside.waiting)
           c.self.invariant.file1 waiting alike.level1 c.block-block.result c.args.register
           c.asking-asked.result.destination c.asking-asked.result.position)),
@@ -38,7 +45,7 @@ returns g c = rw (← c.self.view_is) (λ log waiting regs2 alike held.
           c.in-Some.request.now c.self.invariant.ports head.0 head.1 waiting c.args.register c.block-block.result
           c.asking-asked.result.destination c.asking-asked.result.position None
           c.block-block.ensures c.asking-asked.ensures.destination c.asking-asked.ensures.position
-          (c.in_default-merge_fault.ensures
+          (c.in_default-merge_fault_in.ensures
           ∙ ap (first_failing OfBank) (merge_told c.self.inside.shape (g.O1.Organisation.seen c.self.inside.waiting)
           c.self.invariant.file1 waiting alike.level1 c.block-block.result c.args.register
           c.asking-asked.result.destination c.asking-asked.result.position));

@@ -12,9 +12,16 @@ use Rattle.lf_cells.specs.declared.known.First.TheVariants as level1
 use Rattle.lf_bank.specs.Known.{is_present}
 use Rattle.lf_bank.specs.Targets.{IsTarget1, miss_of}
 use Rattle.lf_bank.proofs.Heads.{primary_judged}
+use Rattle.lf_bank.proofs.HeldIn.{none_holds}
 use Rattle.lf_bank.proofs.Placed.{placed1}
 use Rattle.lf_bank.proofs.Told.{primary_told}
 use Rattle.lf_bank.proofs.bank.Bank.primary.Goals as goal
+
+pub fresh_fault-requires : goal.fresh_fault-requires
+fresh_fault-requires g c =
+    let steady = rw (← c.self.view_is) at c.requires in
+    none_holds _ steady c.block-block.result level1.Absent
+    (c.in-Absent.ensures c.block-block.result c.find-found.ensures) refl
 
 pub set_first-requires : goal.set_first-requires
 set_first-requires g c = record {
@@ -23,15 +30,15 @@ set_first-requires g c = record {
       ∙ c.in-Ok.ensures.cell;
 }
 
-pub returns-in-Some-primary_fault : goal.returns-in-Some-primary_fault
-returns-in-Some-primary_fault g c = rw (← c.self.view_is) (λ log waiting regs2 alike held.
+pub returns-in-Some-fresh_fault : goal.returns-in-Some-fresh_fault
+returns-in-Some-fresh_fault g c = rw (← c.self.view_is) (λ log waiting regs2 alike held.
     let head = rw c.deref.ensures.value at c.in-Some.ensures in (
       primary_judged c.self.inside.shape c.self.inside.queues.items c.args.port c.args.tag
           c.in-Some.request.now c.self.invariant.ports head.0 head.1 (first_at c.self.inside.cells) waiting
           c.args.register c.block-block.result c.asking-asked.result.destination (Some c.rule.result)
           (ap is_present (sym (c.in-Absent.ensures c.block-block.result c.find-found.ensures)))
           c.block-block.ensures c.asking-asked.ensures.destination
-          (ap Some c.rule.ensures ∙ c.in-Some-primary_fault.ensures
+          (ap Some c.rule.ensures ∙ c.in-Some-fresh_fault.ensures
           ∙ ap (first_failing OfBank) (primary_told c.self.inside.shape (g.O1.Organisation.seen c.self.inside.waiting)
           c.self.invariant.file1 waiting alike.level1 c.block-block.result c.args.register
           c.asking-asked.result.destination)),
@@ -46,7 +53,7 @@ returns-in_default-cell_for g c = rw (← c.self.view_is) (λ log waiting regs2 
           c.args.register c.block-block.result c.asking-asked.result.destination None
           (ap is_present (sym (c.in-Absent.ensures c.block-block.result c.find-found.ensures)))
           c.block-block.ensures c.asking-asked.ensures.destination
-          (c.in_default-primary_fault.ensures
+          (c.in_default-fresh_fault.ensures
           ∙ ap (first_failing OfBank) (primary_told c.self.inside.shape (g.O1.Organisation.seen c.self.inside.waiting)
           c.self.invariant.file1 waiting alike.level1 c.block-block.result c.args.register
           c.asking-asked.result.destination)),
@@ -77,7 +84,7 @@ returns g c = rw (← c.self.view_is) (λ log waiting regs2 alike held.
           c.args.register c.block-block.result c.asking-asked.result.destination None
           (ap is_present (sym (c.in-Absent.ensures c.block-block.result c.find-found.ensures)))
           c.block-block.ensures c.asking-asked.ensures.destination
-          (c.in_default-primary_fault.ensures
+          (c.in_default-fresh_fault.ensures
           ∙ ap (first_failing OfBank) (primary_told c.self.inside.shape (g.O1.Organisation.seen c.self.inside.waiting)
           c.self.invariant.file1 waiting alike.level1 c.block-block.result c.args.register
           c.asking-asked.result.destination));

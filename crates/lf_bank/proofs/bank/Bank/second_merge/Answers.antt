@@ -1,8 +1,18 @@
-use Rattle.std.proofs.Common.{◌≡◌, refl, rules}
-use Rattle.lf_cells.specs.Cells.{first_at}
+use Rattle.std.proofs.Common.{◌≡◌, ◌/◌, refl, sym, ap, ◌∙◌, rules}
+use Rattle.lf_cells.specs.Cells.{first_at, second_at}
 use Rattle.lf_bank.specs.Known.{register_of}
+use Rattle.lf_bank.proofs.HeldIn.{one_fetches}
 use Rattle.lf_bank.proofs.Placed.{placed2}
 use Rattle.lf_bank.proofs.bank.Bank.second_merge.Goals as goal
+
+pub second_merge_rule-requires-clause-holder : goal.second_merge_rule-requires-clause-holder
+second_merge_rule-requires-clause-holder g c =
+    let steady = rw (← c.self.view_is) at c.requires in
+    let asked = rw (← c.self.view_is) at c.in-Some.ensures.some in
+    one_fetches _ steady c.second_of-second.result _
+    (c.in-InFlight.ensures c.args.block asked.0
+    ∙ (λ i. second_at c.self.inside.cells (c.args.block / c.self.invariant.factor i))
+    ∙ ap (second_at c.self.inside.cells) (sym c.second_of-second.ensures)) refl
 
 pub returns : goal.returns
 returns g c =

@@ -1,13 +1,23 @@
-use Rattle.std.proofs.Common.{◌≡◌, ◌/◌, refl, rules, ◌∙◌}
+use Rattle.std.proofs.Common.{◌≡◌, ◌/◌, refl, sym, ap, rules, ◌∙◌}
 use Rattle.lf_rules.specs.State.{update}
 use Rattle.lf_cells.specs.Cells.{first_at, second_at}
 use Rattle.lf_cells.specs.declared.known.Fetch.TheVariants as fetch
 use Rattle.lf_cells.specs.declared.known.First.TheVariants as level1
 use Rattle.lf_cells.specs.declared.known.Second.TheVariants as level2
 use Rattle.lf_bank.specs.Known.{register_of}
+use Rattle.lf_bank.proofs.HeldIn.{none_fetches}
 use Rattle.lf_bank.proofs.Placed.{placed2}
 use Rattle.lf_bank.proofs.SameKnown.{known_is}
 use Rattle.lf_bank.proofs.bank.Bank.second_primary.Goals as goal
+
+pub second_primary_rule-requires-clause-apart : goal.second_primary_rule-requires-clause-apart
+second_primary_rule-requires-clause-apart g c =
+    let steady = rw (← c.self.view_is) at c.requires in
+    let asked = rw (← c.self.view_is) at c.in-Some.ensures.some in
+    none_fetches _ steady c.second_of-second.result level2.Absent
+    (c.in-Absent.ensures c.args.block asked.0
+    ∙ (λ i. second_at c.self.inside.cells (c.args.block / c.self.invariant.factor i))
+    ∙ ap (second_at c.self.inside.cells) (sym c.second_of-second.ensures)) refl
 
 pub set_first-requires : goal.set_first-requires
 set_first-requires g c =
