@@ -62,6 +62,15 @@ pub record HasOrdered (o : Reordering) (put gave : List Record) : Type 0 where
   pub waits : (k : ℕ) → length gave ≤ k → early_at o k ≡ first_with k put
   pub double : IsLeastDouble (numbers_of put) o.double
 
+-- The same waits for each number, and nothing else has changed.
+pub record IsAsBefore (old new : Reordering) : Type 0 where
+  pub bank : new.bank ≡ old.bank
+  pub next : new.next ≡ old.next
+  pub header : new.header ≡ old.header
+  pub double : new.double ≡ old.double
+  pub early : (k : ℕ) → early_at new k ≡ early_at old k
+  pub waiting : waiting_count new ≡ waiting_count old
+
 -- after some records that were put in and given out, none of the next number waits
 abbrev pub NoneIsReady : Reordering → Type 0
 NoneIsReady o = (put : List Record) × (gave : List Record) × HasOrdered o put gave ×

@@ -8,11 +8,12 @@ ghost use Rattle.lf_rules.specs.Numbers.{numbers_of, times, IsMissing, IsWhole};
 ghost use Rattle.lf_codec.specs.Lent.{IsSpelling};
 ghost use Rattle.lf_logs.specs.Places.{IsNumberFault};
 ghost use Rattle.lf_logs.specs.Reordering.{first_with, early_at, if_given, waiting_count, has_come};
-ghost use Rattle.lf_logs.specs.Reordering.{header_of, CanKeep, NoneIsReady, least_double, IsLeastDouble, HasOrdered};
+ghost use Rattle.lf_logs.specs.Reordering.{header_of, CanKeep, IsAsBefore, NoneIsReady, least_double};
+ghost use Rattle.lf_logs.specs.Reordering.{IsLeastDouble, HasOrdered};
 
 use crate::early::Early;
 use crate::order::NumberFault;
-use lf_codec::{Header, Layout};
+use lf_codec::Header;
 use lf_rules::{NoMemory, Record, Shape};
 use lf_views::RecordView;
 use std::alloc::Global;
@@ -73,7 +74,7 @@ impl Reorder {
         ensures header { result.header ≡ None }
         ensures nothing { HasOrdered result [] [] }
     {
-        Reorder::with_layout(alloc, None, bank)
+        Reorder::with_early(Early::new(alloc), bank)
     }
 
     /// No record was put in. The records will be those of a hierarchy.
@@ -83,19 +84,20 @@ impl Reorder {
         ensures header { result.header ≡ Some (header_of shape.now) }
         ensures nothing { HasOrdered result [] [] }
     {
-        let layout = Layout::of(&header_of(shape));
-        Reorder::with_layout(alloc, Some(layout), bank)
+        Reorder::with_early(Early::of_header(alloc, &header_of(shape)), bank)
     }
 
-    fn with_layout(alloc: Global, layout: Option<Layout>, bank: u8) -> Reorder
+    /// No record was put in, and those that come early are kept here.
+    fn with_early(early: Early, bank: u8) -> Reorder
+        requires { early.records ≡ [] }
         ensures bank { result.bank ≡ bank }
-        ensures header { result.header ≡ layout }
+        ensures header { result.header ≡ early.header }
         ensures nothing { HasOrdered result [] [] }
     {
         Reorder {
             bank,
             next: 0,
-            early: Early::new(alloc, layout),
+            early,
             greatest: 0,
             double: None,
         }
@@ -160,14 +162,15 @@ impl Reorder {
     }
 
     /// Takes a record of the bank that is lent, with the bytes that spell it or none. With bytes and a header it
-    /// keeps the bytes, and otherwise a copy of the record.
+    /// keeps the bytes, and otherwise a copy of the record. `NoMemory` where a growth was refused: then the same
+    /// records wait.
     pub fn put_view(&mut self, item: &RecordView<'_>, bytes: &[u8]) -> Result<(), NoMemory>
         requires bank { item.now.bank ≡ self.old.bank }
         requires spelled { IsSpelling bytes.now item.now }
         requires fits { CanKeep self.old.header item.now }
         ensures bank { self.new.bank ≡ self.old.bank }
         ensures header { self.new.header ≡ self.old.header }
-        ensures unchanged { OnErr result (self.new ≡ self.old) }
+        ensures unchanged { OnErr result (IsAsBefore self.old self.new) }
         ensures put { (put : List Record) (gave : List Record) → HasOrdered self.old put gave
             → OnOk result (HasOrdered self.new (put ++ item.now ∷ []) gave) }
     {
