@@ -135,6 +135,20 @@ impl Early {
         Ok(())
     }
 
+    /// Keeps a copy of a record that is lent. It is apart, since it has a place for a record, which costs time where the
+    /// bytes are kept.
+    #[cold]
+    #[inline(never)]
+    fn put_copy(&mut self, item: &RecordView<'_>) -> Result<(), NoMemory>
+        requires { kept_at self.old item.now.number ≡ None }
+        ensures header { self.new.header ≡ self.old.header }
+        ensures unchanged { OnErr result (self.new ≡ self.old) }
+        ensures own { OnOk result (kept_at self.new item.now.number ≡ Some item.now) }
+        ensures others { OnOk result ((k : ℕ) → ¬ (k ≡ item.now.number) → kept_at self.new k ≡ kept_at self.old k) }
+    {
+        self.put(item.to_record())
+    }
+
     /// Keeps a record that is lent, whose number no other has: by the bytes that spell it, where there are some and
     /// they can be read again, and otherwise whole. `NoMemory` where a growth was refused.
     #[inline(always)]
@@ -149,7 +163,7 @@ impl Early {
         ensures others { OnOk result ((k : ℕ) → ¬ (k ≡ item.now.number) → kept_at self.new k ≡ kept_at self.old k) }
     {
         if bytes.is_empty() || self.layout.is_none() {
-            return self.put(item.to_record());
+            return self.put_copy(item);
         }
         self.spelled.put(item.number(), bytes)?;
         Ok(())
