@@ -11,9 +11,9 @@ ghost use Rattle.lf_coverage.specs.Counted.{kind_at, numbers_of, AreFew, AreCoun
 use crate::point::{BankPoint, Measure};
 use crate::sight::Sight;
 use crate::standing::Kept;
-use lf_codec::room;
 use lf_logs::{LogRecords, Place};
-use lf_rules::{Event, NoMemory, Shape};
+use lf_rules::{NoMemory, Shape};
+use lf_views::RecordView;
 use std::alloc::Global;
 
 /// How many points have no number.
@@ -63,16 +63,16 @@ fn add_kinds(
     before: u32,
     after: u32,
     seen: Sight,
-    event: &Event,
+    item: &RecordView<'_>,
 )
     requires block { shape.now.block ≤ 64 }
     requires factor { 0 < shape.now.factor }
     requires few { (n : ℕ) → n < 29 → slice_index counts.old n < 2 ^ 29 }
     ensures { (n : ℕ) → n < 29 → slice_index counts.new n ≡ slice_index counts.old n
-        + (if reaches shape.now (kind_at n) before after seen event.now then 1 else 0) }
+        + (if reaches shape.now (kind_at n) before after seen item.now.event then 1 else 0) }
 {
     for (i, kind) in KINDS.iter().enumerate() {
-        if kind.reaches(shape, before, after, seen, event) {
+        if kind.reaches(shape, before, after, seen, item) {
             counts[i] += 1;
         }
     }
@@ -141,21 +141,21 @@ impl Counts {
 
     /// Counts an event, where so many registers of level one are held before it and after it, and the records before
     /// it say so much of it.
-    fn count(&mut self, shape: &Shape, before: u32, after: u32, seen: Sight, event: &Event)
+    fn count(&mut self, shape: &Shape, before: u32, after: u32, seen: Sight, item: &RecordView<'_>)
         requires block { shape.now.block ≤ 64 }
         requires factor { 0 < shape.now.factor }
         requires few { AreFew self.old }
         ensures { (count : BankPoint → ℕ) → AreCounts self.old count → AreCounts self.new
-            (λ point. count point + (if reaches shape.now point before after seen event.now then 1 else 0)) }
+            (λ point. count point + (if reaches shape.now point before after seen item.now.event then 1 else 0)) }
     {
-        let dirty_blocks = Measure::DirtyBlocks.number_of(shape, before, after, seen, event);
-        let registers = Measure::Registers.number_of(shape, before, after, seen, event);
-        let targets = Measure::Targets.number_of(shape, before, after, seen, event);
-        let field = Measure::Field.number_of(shape, before, after, seen, event);
-        let merge_port = Measure::MergePort.number_of(shape, before, after, seen, event);
-        let second_targets = Measure::SecondTargets.number_of(shape, before, after, seen, event);
-        let second_field = Measure::SecondField.number_of(shape, before, after, seen, event);
-        add_kinds(&mut self.kinds, shape, before, after, seen, event);
+        let dirty_blocks = Measure::DirtyBlocks.number_of(shape, before, after, seen, item);
+        let registers = Measure::Registers.number_of(shape, before, after, seen, item);
+        let targets = Measure::Targets.number_of(shape, before, after, seen, item);
+        let field = Measure::Field.number_of(shape, before, after, seen, item);
+        let merge_port = Measure::MergePort.number_of(shape, before, after, seen, item);
+        let second_targets = Measure::SecondTargets.number_of(shape, before, after, seen, item);
+        let second_field = Measure::SecondField.number_of(shape, before, after, seen, item);
+        add_kinds(&mut self.kinds, shape, before, after, seen, item);
         add_number(&mut self.dirty_blocks, dirty_blocks);
         add_number(&mut self.registers, registers);
         add_number(&mut self.targets, targets);
@@ -186,12 +186,12 @@ pub(crate) fn counted<L: LogRecords>(
 {
     let mut kept = Kept::new(alloc)?;
     let mut counts = Counts::new();
-    let mut room = room();
+    let mut room = RecordView::blank();
     for (i, place) in places.iter().enumerate() {
-        let item = logs.lend(*place, &mut room);
-        let seen = kept.sight(shape, &item.event);
-        counts.count(shape, held[i], held[i + 1], seen, &item.event);
-        kept.take(shape, item)?;
+        logs.lend(*place, &mut room);
+        let seen = kept.sight(shape, &room);
+        counts.count(shape, held[i], held[i + 1], seen, &room);
+        kept.take(shape, &room)?;
     }
     Ok(counts)
 }

@@ -8,9 +8,9 @@ ghost use Rattle.lf_coverage.specs.Coverage.{port_tallies};
 
 use crate::point::{Point, PortPoint};
 use crate::tally::Tally;
-use lf_codec::room;
 use lf_logs::{LogRecords, Place};
-use lf_rules::{Event, NoMemory};
+use lf_rules::NoMemory;
+use lf_views::RecordView;
 
 /// The points of a port.
 const PORT_POINTS: [PortPoint; 10] = [
@@ -27,13 +27,13 @@ const PORT_POINTS: [PortPoint; 10] = [
 ];
 
 /// Adds one to the count of each point that the event reaches.
-fn count(counts: &mut [u32; 10], event: &Event)
+fn count(counts: &mut [u32; 10], item: &RecordView<'_>)
     requires few { (n : ℕ) → n < 10 → slice_index counts.old n < 2 ^ 24 }
     ensures { (n : ℕ) → n < 10 → slice_index counts.new n ≡ slice_index counts.old n
-        + (if port_reaches (port_point_at n) event.now then 1 else 0) }
+        + (if port_reaches (port_point_at n) item.now.event then 1 else 0) }
 {
     for (i, point) in PORT_POINTS.iter().enumerate() {
-        if point.reaches(event) {
+        if point.reaches(item) {
             counts[i] += 1;
         }
     }
@@ -46,14 +46,15 @@ fn counted<L: LogRecords>(logs: &L, port: u8) -> [u32; 10]
     ensures { (n : ℕ) → n < 10 → slice_index result n
         ≡ port_reached (slice_index_or (L.lists logs.now) port []) (port_point_at n) }
 {
-    let mut room = room();
+    let mut room = RecordView::blank();
     let mut counts = [0; 10];
     for at in 0..logs.log_len(usize::from(port)) {
         let place = Place {
             log: port,
             at: at as u32,
         };
-        count(&mut counts, &logs.lend(place, &mut room).event);
+        logs.lend(place, &mut room);
+        count(&mut counts, &room);
     }
     counts
 }

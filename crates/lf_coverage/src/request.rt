@@ -4,7 +4,8 @@ ghost use Rattle.std.specs.Prelude.{◌≡◌, ◌+◌, ◌*◌, ◌<◌, ℕ, N
 ghost use Rattle.lf_coverage.specs.Standing.{latest_after};
 ghost use Rattle.lf_coverage.specs.Kept.{latest_in};
 
-use lf_rules::{Event, NoMemory, Op, Record, Shape, wide_quotient, wide_remainder};
+use lf_rules::{NoMemory, Op, Shape, wide_quotient, wide_remainder};
+use lf_views::{EventView, RecordView};
 use std::alloc::Global;
 
 /// As many as there are numbers of a port and a tag.
@@ -59,22 +60,22 @@ impl Requests {
     }
 
     /// Keeps the request, where the record issues one.
-    pub fn keep(&mut self, shape: &Shape, item: &Record)
+    pub fn keep(&mut self, shape: &Shape, item: &RecordView<'_>)
         requires block { 0 < shape.now.block }
         requires len { length self.old.0.items ≡ 65536 }
         ensures len { length self.new.0.items ≡ 65536 }
         ensures latest { (port tag : ℕ) → port < 256 → tag < 256
             → latest_in self.new port tag ≡ latest_after shape.now item.now port tag (latest_in self.old port tag) }
     {
-        if let Event::Issue {
+        if let EventView::Issue {
             op,
             tag,
             address,
             ..
-        } = &item.event
+        } = item.event()
         {
             let size = u64::from(shape.block);
-            self.0[place_of(item.log, *tag)] = Some(Request {
+            self.0[place_of(item.log(), *tag)] = Some(Request {
                 op: *op,
                 block: wide_quotient(*address, size),
                 field: wide_remainder(*address, size) as u32 / 8,

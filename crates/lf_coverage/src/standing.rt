@@ -11,7 +11,8 @@ ghost use Rattle.lf_coverage.specs.Kept.{IsKept, is_in};
 use crate::reach::dirty_blocks;
 use crate::request::{Request, Requests};
 use crate::sight::Sight;
-use lf_rules::{Event, NoMemory, Op, Record, Shape, quotient};
+use lf_rules::{NoMemory, Op, Shape, quotient};
+use lf_views::{EventView, RecordView};
 use std::alloc::Global;
 use std::collections::HashSet;
 
@@ -192,29 +193,32 @@ impl Kept {
     }
 
     /// What is seen of the next event.
-    pub fn sight(&self, shape: &Shape, event: &Event) -> Sight
+    pub fn sight(&self, shape: &Shape, item: &RecordView<'_>) -> Sight
         requires factor { 0 < shape.now.factor }
         requires len { length self.now.requests.0.items ≡ 65536 }
         requires few { vec_len self.now.waiting < 2 ^ 29 }
         requires few2 { vec_len self.now.waiting2 < 2 ^ 29 }
-        ensures { (s : Standing) → IsKept self.now s → result ≡ sight_by shape.now s event.now }
+        ensures { (s : Standing) → IsKept self.now s → result ≡ sight_by shape.now s item.now.event }
     {
         let waiting = self.waiting.as_slice();
         let waiting2 = self.waiting2.as_slice();
-        match event {
-            Event::Primary { port, tag, .. } => self.taken(*port, *tag),
-            Event::Merge { port, tag, .. } => {
+        match item.event() {
+            EventView::Primary { port, tag, .. } => self.taken(*port, *tag),
+            EventView::Merge { port, tag, .. } => {
                 joined_if(waiting, self.requests.latest(*port, *tag))
             }
-            Event::Stall { port, tag } => stalled_if(waiting, self.requests.latest(*port, *tag)),
-            Event::Fill1 { block, .. } => filled(waiting, u64::from(*block)),
-            Event::SecondPrimary { block, .. } => Sight::SecondTaken {
+            EventView::Stall { port, tag } => stalled_if(
+                waiting,
+                self.requests.latest(*port, *tag),
+            ),
+            EventView::Fill1 { block, .. } => filled(waiting, u64::from(*block)),
+            EventView::SecondPrimary { block, .. } => Sight::SecondTaken {
                 again: self.written2.contains(&quotient(*block, shape.factor)),
             },
-            Event::SecondMerge { block, .. } => {
+            EventView::SecondMerge { block, .. } => {
                 second_joined(waiting2, quotient(*block, shape.factor))
             }
-            Event::SecondStall { block } => Sight::SecondStalled {
+            EventView::SecondStall { block } => Sight::SecondStalled {
                 held: waits_for2(waiting2, quotient(*block, shape.factor)),
             },
             _ => Sight::Plain,
@@ -222,57 +226,57 @@ impl Kept {
     }
 
     /// Keeps what waits after the event.
-    fn wait(&mut self, event: &Event) -> Result<(), NoMemory>
+    fn wait(&mut self, item: &RecordView<'_>) -> Result<(), NoMemory>
         requires len { length self.old.requests.0.items ≡ 65536 }
         ensures requests { self.new.requests ≡ self.old.requests }
         ensures written { self.new.written ≡ self.old.written }
         ensures waiting2 { self.new.waiting2 ≡ self.old.waiting2 }
         ensures written2 { self.new.written2 ≡ self.old.written2 }
         ensures waiting { OnOk result ((s : Standing) → IsKept self.old s
-            → self.new.waiting.items ≡ waiting_after s.latest event.now s.waiting) }
+            → self.new.waiting.items ≡ waiting_after s.latest item.now.event s.waiting) }
     {
-        match event {
-            Event::Primary { port, tag, .. } | Event::Merge { port, tag, .. } => {
+        match item.event() {
+            EventView::Primary { port, tag, .. } | EventView::Merge { port, tag, .. } => {
                 if let Some(request) = self.requests.latest(*port, *tag) {
                     self.waiting.push(request)?;
                 }
             }
-            Event::Fill1 { block, .. } => leave(&mut self.waiting, u64::from(*block)),
+            EventView::Fill1 { block, .. } => leave(&mut self.waiting, u64::from(*block)),
             _ => {}
         }
         Ok(())
     }
 
     /// Keeps what waits for level two after the event.
-    fn wait2(&mut self, shape: &Shape, event: &Event) -> Result<(), NoMemory>
+    fn wait2(&mut self, shape: &Shape, item: &RecordView<'_>) -> Result<(), NoMemory>
         requires factor { 0 < shape.now.factor }
         ensures requests { self.new.requests ≡ self.old.requests }
         ensures waiting { self.new.waiting ≡ self.old.waiting }
         ensures written { self.new.written ≡ self.old.written }
         ensures written2 { self.new.written2 ≡ self.old.written2 }
         ensures waiting2 { OnOk result (self.new.waiting2.items
-            ≡ waiting2_after shape.now event.now self.old.waiting2.items) }
+            ≡ waiting2_after shape.now item.now.event self.old.waiting2.items) }
     {
-        match event {
-            Event::SecondPrimary { block, .. } | Event::SecondMerge { block, .. } => {
+        match item.event() {
+            EventView::SecondPrimary { block, .. } | EventView::SecondMerge { block, .. } => {
                 self.waiting2.push(quotient(*block, shape.factor))?;
             }
-            Event::Fill2 { block, .. } => leave2(&mut self.waiting2, *block),
+            EventView::Fill2 { block, .. } => leave2(&mut self.waiting2, *block),
             _ => {}
         }
         Ok(())
     }
 
     /// Keeps a block that is written back.
-    fn write_back(&mut self, event: &Event) -> Result<(), NoMemory>
+    fn write_back(&mut self, item: &RecordView<'_>) -> Result<(), NoMemory>
         ensures requests { self.new.requests ≡ self.old.requests }
         ensures waiting { self.new.waiting ≡ self.old.waiting }
         ensures waiting2 { self.new.waiting2 ≡ self.old.waiting2 }
         ensures written2 { self.new.written2 ≡ self.old.written2 }
         ensures written { OnOk result ((block : ℕ)
-            → is_in self.new.written block ≡ (writes_back event.now block || is_in self.old.written block)) }
+            → is_in self.new.written block ≡ (writes_back item.now.event block || is_in self.old.written block)) }
     {
-        if let Event::Evict1 { block, mask, .. } = event {
+        if let EventView::Evict1 { block, mask, .. } = item.event() {
             if mask.0 != 0 {
                 let _ = self.written.insert(u64::from(*block))?;
             }
@@ -281,15 +285,15 @@ impl Kept {
     }
 
     /// Keeps a second-level block that is written back.
-    fn write_back2(&mut self, event: &Event) -> Result<(), NoMemory>
+    fn write_back2(&mut self, item: &RecordView<'_>) -> Result<(), NoMemory>
         ensures requests { self.new.requests ≡ self.old.requests }
         ensures waiting { self.new.waiting ≡ self.old.waiting }
         ensures written { self.new.written ≡ self.old.written }
         ensures waiting2 { self.new.waiting2 ≡ self.old.waiting2 }
         ensures written2 { OnOk result ((second : ℕ)
-            → is_in self.new.written2 second ≡ (writes_back2 event.now second || is_in self.old.written2 second)) }
+            → is_in self.new.written2 second ≡ (writes_back2 item.now.event second || is_in self.old.written2 second)) }
     {
-        if let Event::Evict2 { block, masks, .. } = event {
+        if let EventView::Evict2 { block, masks, .. } = item.event() {
             if dirty_blocks(masks) != 0 {
                 let _ = self.written2.insert(*block)?;
             }
@@ -298,17 +302,17 @@ impl Kept {
     }
 
     /// Takes one more record.
-    pub fn take(&mut self, shape: &Shape, item: &Record) -> Result<(), NoMemory>
+    pub fn take(&mut self, shape: &Shape, item: &RecordView<'_>) -> Result<(), NoMemory>
         requires block { 0 < shape.now.block }
         requires factor { 0 < shape.now.factor }
         requires len { length self.old.requests.0.items ≡ 65536 }
         ensures { OnOk result ((s : Standing) → IsKept self.old s
             → IsKept self.new (standing_after shape.now item.now s)) }
     {
-        self.wait(&item.event)?;
-        self.wait2(shape, &item.event)?;
-        self.write_back(&item.event)?;
-        self.write_back2(&item.event)?;
+        self.wait(item)?;
+        self.wait2(shape, item)?;
+        self.write_back(item)?;
+        self.write_back2(item)?;
         self.requests.keep(shape, item);
         Ok(())
     }

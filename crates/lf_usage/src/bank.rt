@@ -8,9 +8,9 @@ ghost use Rattle.lf_usage.specs.Usage.{bank_use};
 use crate::change::{change1, change2};
 use crate::tally::Tally;
 use crate::usage::BankUse;
-use lf_codec::room;
 use lf_logs::{LogRecords, Place};
 use lf_rules::{NoMemory, Shape};
+use lf_views::RecordView;
 use std::alloc::Global;
 
 /// What the records at these places use at most of each level.
@@ -27,9 +27,10 @@ pub(crate) fn bank_use<L: LogRecords>(
 {
     let mut one = Tally::new(alloc);
     let mut two = Tally::new(alloc);
-    let mut room = room();
+    let mut room = RecordView::blank();
     for place in places {
-        let event = &logs.lend(*place, &mut room).event;
+        logs.lend(*place, &mut room);
+        let event = room.event();
         one.note(change1(shape, event))?;
         two.note(change2(shape, event))?;
     }

@@ -3,10 +3,12 @@
 ghost use Rattle.std.specs.Prelude.{◌≡◌};
 ghost use Rattle.lf_rules.specs.InRange.{IsShape};
 ghost use Rattle.lf_rules.specs.Address.{set1_of, set2_of};
+ghost use Rattle.lf_views.specs.Views.{event_of};
 ghost use Rattle.lf_usage.specs.Changes.{change1, change2};
 
 use lf_levels::{Level, One, Two};
-use lf_rules::{Event, Shape};
+use lf_rules::Shape;
+use lf_views::EventView;
 
 /// What an event changes in a level of its bank.
 #[derive(Clone, Copy, Debug, PartialEq, Eq)]
@@ -40,29 +42,29 @@ fn set2_of(shape: &Shape, second: u32) -> u32
 }
 
 /// What the event changes in level one.
-pub(crate) fn change1(shape: &Shape, event: &Event) -> Change
+pub(crate) fn change1(shape: &Shape, event: &EventView<'_>) -> Change
     requires { IsShape shape.now }
-    ensures { result ≡ change1 shape.now event.now }
+    ensures { result ≡ change1 shape.now (event_of event.now) }
 {
     match event {
-        Event::Primary { register, .. } => Change::Taken(u32::from(*register)),
-        Event::Merge { register, .. } => Change::Joined(u32::from(*register)),
-        Event::Fill1 { block, .. } => Change::Filled(set1_of(shape, *block)),
-        Event::Evict1 { block, .. } => Change::Evicted(set1_of(shape, *block)),
+        EventView::Primary { register, .. } => Change::Taken(u32::from(*register)),
+        EventView::Merge { register, .. } => Change::Joined(u32::from(*register)),
+        EventView::Fill1 { block, .. } => Change::Filled(set1_of(shape, *block)),
+        EventView::Evict1 { block, .. } => Change::Evicted(set1_of(shape, *block)),
         _ => Change::Nothing,
     }
 }
 
 /// What the event changes in level two.
-pub(crate) fn change2(shape: &Shape, event: &Event) -> Change
+pub(crate) fn change2(shape: &Shape, event: &EventView<'_>) -> Change
     requires { IsShape shape.now }
-    ensures { result ≡ change2 shape.now event.now }
+    ensures { result ≡ change2 shape.now (event_of event.now) }
 {
     match event {
-        Event::SecondPrimary { register, .. } => Change::Taken(u32::from(*register)),
-        Event::SecondMerge { register, .. } => Change::Joined(u32::from(*register)),
-        Event::Fill2 { block, .. } => Change::Filled(set2_of(shape, *block)),
-        Event::Evict2 { block, .. } => Change::Evicted(set2_of(shape, *block)),
+        EventView::SecondPrimary { register, .. } => Change::Taken(u32::from(*register)),
+        EventView::SecondMerge { register, .. } => Change::Joined(u32::from(*register)),
+        EventView::Fill2 { block, .. } => Change::Filled(set2_of(shape, *block)),
+        EventView::Evict2 { block, .. } => Change::Evicted(set2_of(shape, *block)),
         _ => Change::Nothing,
     }
 }

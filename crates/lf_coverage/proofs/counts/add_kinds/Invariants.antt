@@ -7,6 +7,6 @@ abbrev pub invariant-loop-i : goal.invariant-loop-i
 invariant-loop-i l = record {
   done : (n : ℕ) → n < l.i
       → get_or l.counts n 0 ≡ get_or l.initial.counts n 0
-      + cond (reaches l.shape (kind_at n) l.before l.after l.seen l.event) 1 0;
+      + cond (reaches l.shape (kind_at n) l.before l.after l.seen l.item.event) 1 0;
   rest : (n : ℕ) → l.i ≤ n → get_or l.counts n 0 ≡ get_or l.initial.counts n 0;
 }

@@ -74,11 +74,11 @@ loop-i-preserved g c =
     let shape = c.args.shape.now in
     let rs : List Record = records_at (g.L.LogRecords.lists c.args.logs.now) c.args.places.now in
     let n = c.loop-i.i in
-    let item = c.lend-item.result.now in
+    let item = c.lend.new.room in
     let at_rs : slice_get rs n ≡ Some item =
     get_found (record_at (g.L.LogRecords.lists c.args.logs.now)) c.args.places.now n nowhere c.requires.named
     c.loop-i-test.true
-    ∙ c.lend-item.ensures in
+    ∙ c.lend.ensures in
     let long : length rs ≡ length c.args.places.now = length_found (record_at (g.L.LogRecords.lists c.args.logs.now))
     c.args.places.now c.requires.named in
     let held = λ (k : ℕ) (inside : k < length rs + 1).

@@ -12,7 +12,7 @@ loop-i-preserved c =
     let now : List ℕ = c.loop-i.counts in
     let i : ℕ = c.loop-i.i in
     let more = λ (b : Bool). cond b (set now i (get_or now i 0 + 1)) now in
-    let bit = λ (n : ℕ). port_reaches (port_point_at n) c.args.event.now in
+    let bit = λ (n : ℕ). port_reaches (port_point_at n) c.args.item.now.event in
     let added : c.if-reaches.counts ≡ more (bit i) = elim c.if-reaches.branch [
       | then-reaches w ↦ w.counts-is ∙ ap more (sym w.if-reaches.true)
       | else-reaches w ↦ w.counts-is ∙ ap more (sym w.if-reaches.false)

@@ -6,6 +6,6 @@ use Rattle.lf_coverage.proofs.ports.count.Given as goal
 abbrev pub invariant-loop-i : goal.invariant-loop-i
 invariant-loop-i l = record {
   done : (n : ℕ) → n < l.i
-      → get_or l.counts n 0 ≡ get_or l.initial.counts n 0 + cond (port_reaches (port_point_at n) l.event) 1 0;
+      → get_or l.counts n 0 ≡ get_or l.initial.counts n 0 + cond (port_reaches (port_point_at n) l.item.event) 1 0;
   rest : (n : ℕ) → l.i ≤ n → get_or l.counts n 0 ≡ get_or l.initial.counts n 0;
 }

@@ -16,14 +16,14 @@ count-requires g c =
         c.loop-at.invariant n h,
         count_le (λ (r : Record). port_reaches (port_point_at n) r.event) log c.loop-at.at,
         c.requires.short,
-        slice_get_within log c.loop-at.at c.lend.result.now c.lend.ensures,
+        slice_get_within log c.loop-at.at c.lend.new.room c.lend.ensures,
       );
     }
 
 pub loop-at-preserved : goal.loop-at-preserved
 loop-at-preserved g c n h =
     let log : List Record = get_or (g.L.LogRecords.lists c.args.logs.now) c.args.port [] in
-    let item : Record = c.lend.result.now in
+    let item : Record = c.lend.new.room in
     c.count.ensures n h
     ∙ ap (λ (k : ℕ). k + cond (port_reaches (port_point_at n) item.event) 1 0) (c.loop-at.invariant n h)
     ∙ sym (count_at (λ (r : Record). port_reaches (port_point_at n) r.event) log c.loop-at.at item c.lend.ensures)

@@ -1,6 +1,10 @@
-use Rattle.std.proofs.Common.{◌≡◌, take}
+use Rattle.std.proofs.Common.{◌≡◌, length, take}
+use Rattle.lf_views.specs.Views.{masks_of}
 use Rattle.lf_coverage.specs.Kinds.{dirty_blocks}
 use Rattle.lf_coverage.proofs.reach.dirty_blocks.Given as goal
 
-abbrev pub invariant-loop-mask : goal.invariant-loop-mask
-invariant-loop-mask l = l.dirty ≡ dirty_blocks (take l.mask-index l.masks)
+abbrev pub invariant-loop-place : goal.invariant-loop-place
+invariant-loop-place l = record {
+  dirty : l.dirty ≡ dirty_blocks (take l.place (masks_of l.masks).items);
+  some : l.place-end ≡ length (masks_of l.masks).items;
+}

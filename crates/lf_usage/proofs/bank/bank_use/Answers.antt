@@ -46,7 +46,7 @@ loop-place-preserved g c =
     let shape : Shape = c.args.shape.now in
     let rs : List Record = records_at (g.L.LogRecords.lists c.args.logs.now) c.args.places.now in
     let n = c.loop-place.place-index in
-    let item = c.lend.result.now in
+    let item = c.lend.new.room in
     let at_rs : slice_get rs n ≡ Some item =
     get_found (record_at (g.L.LogRecords.lists c.args.logs.now)) c.args.places.now n nowhere c.requires.named
     c.loop-place-test.true ∙ c.lend.ensures in
@@ -54,11 +54,13 @@ loop-place-preserved g c =
     let before2 = latest_first (change2 shape) (take n rs) in
     record {
       one = subst (λ (cs : List Change). IsTally c.note.new.self cs)
-          (ap (λ (change : Change). change ∷ before1) c.change1.ensures
+          (ap (λ (change : Change). change ∷ before1)
+          (c.change1.ensures ∙ ap (change1 shape) c.event-event.ensures.shown)
           ∙ sym (latest_next (change1 shape) rs n item at_rs))
           (c.in_ok-note.ensures before1 c.loop-place.invariant.one);
       two = subst (λ (cs : List Change). IsTally c.note-in-loop-place.new.self cs)
-          (ap (λ (change : Change). change ∷ before2) c.change2.ensures
+          (ap (λ (change : Change). change ∷ before2)
+          (c.change2.ensures ∙ ap (change2 shape) c.event-event.ensures.shown)
           ∙ sym (latest_next (change2 shape) rs n item at_rs))
           (c.in_ok-note-2.ensures before2 c.loop-place.invariant.two);
     }

@@ -10,8 +10,9 @@ pub loop-at-preserved : goal.loop-at-preserved
 loop-at-preserved g c =
     let log : List Record = get_or (g.L.LogRecords.lists c.args.logs.now) c.args.port [] in
     let at = c.loop-at.at in
-    let item : Record = c.lend.result.now in
+    let item : Record = c.lend.new.room in
     c.higher-highest.ensures
+    ∙ ap (higher c.loop-at.highest) c.event.ensures.shown
     ∙ ap (λ (tag : Option ℕ). higher tag item.event) c.loop-at.invariant
     ∙ ap (λ (r : Record). higher (highest_tag (take at log)) r.event)
     (sym (get_or_from_slice_get log at item item c.lend.ensures))
