@@ -49,10 +49,10 @@ fn packed_records_of_a_bank(rt: HostRuntime) -> Result<(), Fail> {
     assert_eq!(rt; order.as_slice(), places.as_slice());
     let [first, second, third, last] = rows;
     let sorted = records_at(rt.alloc(), &C1, &[second, last, third, first])?;
-    let mut room = RecordView::blank();
     for (number, place) in order.iter().enumerate() {
         let (bank, found) = logs.entry(*place);
         assert_eq!(rt; (bank, found as usize), (0, number));
+        let mut room = RecordView::blank();
         logs.lend(*place, &mut room);
         assert_eq!(rt; Some(&room.to_record()), sorted.get(number));
     }
