@@ -6,6 +6,7 @@ use Rattle.lf_rules.specs.InRange.{IsShape}
 use Rattle.lf_rules.specs.Registers.{Held, holds, holds_in}
 use Rattle.lf_rules.specs.State.{Request, Missed, Ready, Asked}
 use Rattle.lf_rules.specs.Table.{destinations, destinations2}
+use Rattle.lf_levels.specs.SetsView.{SetsView}
 use Rattle.lf_mshr.specs.Alike.{AreAlike}
 use Rattle.lf_mshr.specs.RegisterFile.{RegisterFile}
 use Rattle.lf_mshr.specs.declared.level_one.Request1.{Request1}
@@ -45,6 +46,16 @@ pub record IsFramed (view : BankView) : Type 0 where
   pub sets2 : length view.counts2 ≡ view.shape.level2.sets
   pub file1 : IsFile1 view.shape view.waiting
   pub file2 : IsFile2 view.shape view.regs2
+
+-- so many sets of a level of a bank of the shape
+abbrev pub sets_of : Shape → ℕ → SetsView
+sets_of shape count = record { banks = shape.banks; factor = shape.factor; count = count }
+
+-- a bank that is framed so, with the sets of its levels
+pub record IsKept (view : BankView) (one two : SetsView) : Type 0 where
+  pub framed : IsFramed view
+  pub sets1 : one ≡ sets_of view.shape view.shape.level1.sets
+  pub sets2 : two ≡ sets_of view.shape view.shape.level2.sets
 
 -- what the bank knows, where these requests wait in its registers
 abbrev pub known_of : BankView → List (Held Missed) → List (Held Asked) → Known

@@ -10,6 +10,7 @@ ghost use Rattle.lf_bank.specs.Opening.{IsNew};
 
 use crate::counts::no_lines;
 use lf_cells::Cells;
+use lf_levels::Sets;
 use lf_mshr::{Organisation, Request1, Request2, Targets};
 use lf_rules::{Block, NoMemory, OrgShape, Shape};
 use lf_state::{Queue, Ready, empty_queues};
@@ -23,9 +24,13 @@ pub struct Bank<O1: Organisation<Target = Request1>, O2: Organisation<Target = R
     pub cells: Cells,
     /// One for each port.
     pub queues: Vec<Queue>,
-    /// How many lines each set of level one has.
+    /// The sets of level one.
+    pub sets1: Sets,
+    /// How many lines each of them has.
     pub counts1: Vec<u32>,
-    /// And each of level two.
+    /// The sets of level two.
+    pub sets2: Sets,
+    /// How many lines each of them has.
     pub counts2: Vec<u32>,
     /// The level-one registers.
     pub waiting: O1::File,
@@ -40,7 +45,7 @@ pub struct Bank<O1: Organisation<Target = Request1>, O2: Organisation<Target = R
 
 impl<O1: Organisation<Target = Request1>, O2: Organisation<Target = Request2>> Model
     for Bank<O1, O2> {
-    ghost use Rattle.lf_bank.specs.BankView.{BankView, IsFramed};
+    ghost use Rattle.lf_bank.specs.BankView.{BankView, IsKept};
 
     ghost Value = { BankView };
 
@@ -55,7 +60,7 @@ impl<O1: Organisation<Target = Request1>, O2: Organisation<Target = Request2>> M
       ready = b.ready.items;
     } };
 
-    ghost invariant = { λ b. IsFramed (record {
+    ghost invariant = { λ b. IsKept (record {
       shape = b.shape;
       cells = b.cells;
       queues = b.queues.items;
@@ -64,7 +69,7 @@ impl<O1: Organisation<Target = Request1>, O2: Organisation<Target = Request2>> M
       waiting = O1.seen b.waiting;
       regs2 = O2.seen b.regs2;
       ready = b.ready.items;
-    }) };
+    }) b.sets1 b.sets2 };
 }
 
 /// How many requests may wait at level one: one for each port and tag.
@@ -109,7 +114,9 @@ impl<O1: Organisation<Target = Request1>, O2: Organisation<Target = Request2>> B
             shape: *shape,
             cells: Cells::of_bank(alloc, memory, shape, bank)?,
             queues: empty_queues(alloc, shape.ports)?,
+            sets1: Sets::new(shape.banks, shape.factor, level1.sets),
             counts1: no_lines(alloc, level1.sets)?,
+            sets2: Sets::new(shape.banks, shape.factor, level2.sets),
             counts2: no_lines(alloc, level2.sets)?,
             waiting: O1::new(alloc, &level1.organisation, destinations(shape))?,
             regs2: O2::new(alloc, &level2.organisation, destinations2(shape))?,

@@ -20,7 +20,7 @@ use crate::holders::holder_of;
 use crate::replies::add_replies;
 use crate::target::{asking, missed};
 use lf_cells::{Cells, Fetch, First};
-use lf_levels::{Level, One};
+use lf_levels::One;
 use lf_mshr::{Organisation, Request1, Request2};
 use lf_rules::{Mask, NoMemory, Rule};
 use lf_state::{Queue, Ready, Request, drop_head, enqueue, head, push, ready_at};
@@ -214,8 +214,7 @@ impl<O1: Organisation<Target = Request1>, O2: Organisation<Target = Request2>> B
         ensures set { result ≡ set1 self.now.shape block }
         ensures inside { result < length self.now.counts1 }
     {
-        let shape = &self.shape;
-        One::set_of(shape.banks, shape.factor, shape.level1.sets, block) as usize
+        self.sets1.set_of::<One>(block) as usize
     }
 
     /// The block comes into level one, and each request that waits for it may have its reply.

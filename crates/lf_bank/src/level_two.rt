@@ -21,7 +21,7 @@ use crate::leaving::{all_absent, are_dirty};
 use crate::registers::{has_room2, second_merge_rule, second_primary_rule};
 use crate::supply::{clean, supply};
 use lf_cells::{Fetch, First, Second};
-use lf_levels::{Level, Two};
+use lf_levels::Two;
 use lf_mshr::{Organisation, Request1, Request2};
 use lf_rules::Rule;
 use lf_state::{place_of, second_of};
@@ -190,8 +190,7 @@ impl<O1: Organisation<Target = Request1>, O2: Organisation<Target = Request2>> B
         ensures set { result ≡ set2 self.now.shape second }
         ensures inside { result < length self.now.counts2 }
     {
-        let shape = &self.shape;
-        Two::set_of(shape.banks, shape.factor, shape.level2.sets, second) as usize
+        self.sets2.set_of::<Two>(second) as usize
     }
 
     /// Where the second-level block stands that may come into level two, or the rule that is broken.

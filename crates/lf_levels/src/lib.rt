@@ -15,6 +15,7 @@ mod level;
 mod lines;
 mod lines_one;
 mod lines_two;
+mod sets;
 mod way_key;
 mod ways;
 
@@ -22,3 +23,4 @@ pub use fault::LineFault;
 pub use level::{Level, One, Two};
 pub use lf_rules::{NoMemory, same_masks};
 pub use lines::Lines;
+pub use sets::Sets;

@@ -32,9 +32,9 @@ pub supply-requires-clause-inside : goal.supply-requires-clause-inside
 supply-requires-clause-inside g c =
     let steady = rw (← c.self.view_is) at c.requires.steady in
     let shape = c.self.inside.shape in
-    let factor = c.clean.ensures.placed.factor ∙ c.set_second.ensures.placed.factor ∙ c.self.invariant.factor in
+    let factor = c.clean.ensures.placed.factor ∙ c.set_second.ensures.placed.factor ∙ c.self.invariant.framed.factor in
     λ i t lt is. subst (λ n. t.1.position < n) (sym factor)
-    (place_below shape c.args.second (factor_some shape.factor c.self.invariant.in_range.factor)
+    (place_below shape c.args.second (factor_some shape.factor c.self.invariant.framed.in_range.factor)
     (g.O2.Organisation.seen c.self.inside.regs2).held steady.now_regs2 steady.alike.level2 c.as_slice.result.now
     (c.as_slice.ensures.value ∙ c.release_of.ensures.targets) i t lt is)
 
@@ -54,7 +54,7 @@ returns g c =
     let inside = rw (← c.self.view_is) at c.in-Ok.ensures.inside in
     let there = (λ i. c.set_second.ensures.placed.places i second) ∙ place in
     let now = (λ i. c.clean.ensures.placed.places i second) ∙ there in
-    let factor = c.clean.ensures.placed.factor ∙ c.set_second.ensures.placed.factor ∙ c.self.invariant.factor in
+    let factor = c.clean.ensures.placed.factor ∙ c.set_second.ensures.placed.factor ∙ c.self.invariant.framed.factor in
     let released = c.as_slice.ensures.value ∙ c.release_of.ensures.targets in
     let memory = c.supply.ensures.memory ∙ c.clean.ensures.memory ∙ c.set_second.ensures.memory in
     let firsts = c.supply.ensures.first second now

@@ -23,12 +23,12 @@ pub returns-in-Some-merge_fault_in : goal.returns-in-Some-merge_fault_in
 returns-in-Some-merge_fault_in g c = rw (← c.self.view_is) (λ log waiting regs2 alike held.
     let head = rw c.deref.ensures.value at c.in-Some.ensures in (
       merge_judged c.self.inside.shape c.self.inside.queues.items c.args.port c.args.tag c.in-Some.request.now
-          c.self.invariant.ports head.0 head.1 waiting c.args.register c.block-block.result
+          c.self.invariant.framed.ports head.0 head.1 waiting c.args.register c.block-block.result
           c.asking-asked.result.destination c.asking-asked.result.position (Some c.rule.result)
           c.block-block.ensures c.asking-asked.ensures.destination c.asking-asked.ensures.position
           (ap Some c.rule.ensures ∙ c.in-Some-merge_fault_in.ensures
           ∙ ap (first_failing OfBank) (merge_told c.self.inside.shape (g.O1.Organisation.seen c.self.inside.waiting)
-          c.self.invariant.file1 waiting alike.level1 c.block-block.result c.args.register
+          c.self.invariant.framed.file1 waiting alike.level1 c.block-block.result c.args.register
           c.asking-asked.result.destination c.asking-asked.result.position)),
       refl,
     ))
@@ -42,12 +42,12 @@ returns g c = rw (← c.self.view_is) (λ log waiting regs2 alike held.
     let more = c.accept.ensures.written
     ∙ ap (λ (r : Request). update written r.block (bit_or (written r.block) (store_mask r))) head.1 in record {
       kept = merge_judged c.self.inside.shape c.self.inside.queues.items c.args.port c.args.tag
-          c.in-Some.request.now c.self.invariant.ports head.0 head.1 waiting c.args.register c.block-block.result
+          c.in-Some.request.now c.self.invariant.framed.ports head.0 head.1 waiting c.args.register c.block-block.result
           c.asking-asked.result.destination c.asking-asked.result.position None
           c.block-block.ensures c.asking-asked.ensures.destination c.asking-asked.ensures.position
           (c.in_default-merge_fault_in.ensures
           ∙ ap (first_failing OfBank) (merge_told c.self.inside.shape (g.O1.Organisation.seen c.self.inside.waiting)
-          c.self.invariant.file1 waiting alike.level1 c.block-block.result c.args.register
+          c.self.invariant.framed.file1 waiting alike.level1 c.block-block.result c.args.register
           c.asking-asked.result.destination c.asking-asked.result.position));
       shape = refl;
       waiting = record {

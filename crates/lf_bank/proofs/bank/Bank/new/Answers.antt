@@ -25,7 +25,7 @@ returns-clause-new g c = record {
   };
   known = λ i. record {
     queue = fun_ext c.in_ok-empty_queues.ensures.empty i;
-    ready = c.new-3.ensures.items i;
+    ready = c.new-5.ensures.items i;
     memory = c.in_ok-of_bank.ensures.memory i;
     first = c.in_ok-of_bank.ensures.others.first i;
     written = c.in_ok-of_bank.ensures.others.written i;

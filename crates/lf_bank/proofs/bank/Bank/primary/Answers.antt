@@ -34,13 +34,13 @@ pub returns-in-Some-fresh_fault : goal.returns-in-Some-fresh_fault
 returns-in-Some-fresh_fault g c = rw (← c.self.view_is) (λ log waiting regs2 alike held.
     let head = rw c.deref.ensures.value at c.in-Some.ensures in (
       primary_judged c.self.inside.shape c.self.inside.queues.items c.args.port c.args.tag
-          c.in-Some.request.now c.self.invariant.ports head.0 head.1 (first_at c.self.inside.cells) waiting
+          c.in-Some.request.now c.self.invariant.framed.ports head.0 head.1 (first_at c.self.inside.cells) waiting
           c.args.register c.block-block.result c.asking-asked.result.destination (Some c.rule.result)
           (ap is_present (sym (c.in-Absent.ensures c.block-block.result c.find-found.ensures)))
           c.block-block.ensures c.asking-asked.ensures.destination
           (ap Some c.rule.ensures ∙ c.in-Some-fresh_fault.ensures
           ∙ ap (first_failing OfBank) (primary_told c.self.inside.shape (g.O1.Organisation.seen c.self.inside.waiting)
-          c.self.invariant.file1 waiting alike.level1 c.block-block.result c.args.register
+          c.self.invariant.framed.file1 waiting alike.level1 c.block-block.result c.args.register
           c.asking-asked.result.destination)),
       refl,
     ))
@@ -49,13 +49,13 @@ pub returns-in_default-cell_for : goal.returns-in_default-cell_for
 returns-in_default-cell_for g c = rw (← c.self.view_is) (λ log waiting regs2 alike held.
     let head = rw c.deref.ensures.value at c.in-Some.ensures in (
       primary_judged c.self.inside.shape c.self.inside.queues.items c.args.port c.args.tag
-          c.in-Some.request.now c.self.invariant.ports head.0 head.1 (first_at c.self.inside.cells) waiting
+          c.in-Some.request.now c.self.invariant.framed.ports head.0 head.1 (first_at c.self.inside.cells) waiting
           c.args.register c.block-block.result c.asking-asked.result.destination None
           (ap is_present (sym (c.in-Absent.ensures c.block-block.result c.find-found.ensures)))
           c.block-block.ensures c.asking-asked.ensures.destination
           (c.in_default-fresh_fault.ensures
           ∙ ap (first_failing OfBank) (primary_told c.self.inside.shape (g.O1.Organisation.seen c.self.inside.waiting)
-          c.self.invariant.file1 waiting alike.level1 c.block-block.result c.args.register
+          c.self.invariant.framed.file1 waiting alike.level1 c.block-block.result c.args.register
           c.asking-asked.result.destination)),
       search (rules, c.in_default-cell_for.ensures.err),
     ))
@@ -80,13 +80,13 @@ returns g c = rw (← c.self.view_is) (λ log waiting regs2 alike held.
     ∙ (λ j. update ((c.accept.ensures.first ∙ words.first) j) (block_is j)
     (level1.InFlight c.args.register fetch.Asked)) in record {
       kept = primary_judged c.self.inside.shape c.self.inside.queues.items c.args.port c.args.tag
-          c.in-Some.request.now c.self.invariant.ports head.0 head.1 (first_at c.self.inside.cells) waiting
+          c.in-Some.request.now c.self.invariant.framed.ports head.0 head.1 (first_at c.self.inside.cells) waiting
           c.args.register c.block-block.result c.asking-asked.result.destination None
           (ap is_present (sym (c.in-Absent.ensures c.block-block.result c.find-found.ensures)))
           c.block-block.ensures c.asking-asked.ensures.destination
           (c.in_default-fresh_fault.ensures
           ∙ ap (first_failing OfBank) (primary_told c.self.inside.shape (g.O1.Organisation.seen c.self.inside.waiting)
-          c.self.invariant.file1 waiting alike.level1 c.block-block.result c.args.register
+          c.self.invariant.framed.file1 waiting alike.level1 c.block-block.result c.args.register
           c.asking-asked.result.destination));
       shape = refl;
       waiting = record {

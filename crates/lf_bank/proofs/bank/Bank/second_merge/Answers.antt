@@ -11,7 +11,7 @@ second_merge_rule-requires-clause-holder g c =
     let asked = rw (← c.self.view_is) at c.in-Some.ensures.some in
     one_fetches _ steady c.second_of-second.result _
     (c.in-InFlight.ensures c.args.block asked.0
-    ∙ (λ i. second_at c.self.inside.cells (c.args.block / c.self.invariant.factor i))
+    ∙ (λ i. second_at c.self.inside.cells (c.args.block / c.self.invariant.framed.factor i))
     ∙ ap (second_at c.self.inside.cells) (sym c.second_of-second.ensures)) refl
 
 pub returns : goal.returns

@@ -16,7 +16,7 @@ second_primary_rule-requires-clause-apart g c =
     let asked = rw (← c.self.view_is) at c.in-Some.ensures.some in
     none_fetches _ steady c.second_of-second.result level2.Absent
     (c.in-Absent.ensures c.args.block asked.0
-    ∙ (λ i. second_at c.self.inside.cells (c.args.block / c.self.invariant.factor i))
+    ∙ (λ i. second_at c.self.inside.cells (c.args.block / c.self.invariant.framed.factor i))
     ∙ ap (second_at c.self.inside.cells) (sym c.second_of-second.ensures)) refl
 
 pub set_first-requires : goal.set_first-requires
@@ -35,7 +35,7 @@ returns g c =
     let firsts = c.set_first.ensures.first block cell
     ∙ (λ i. update (c.set_second_of.ensures.first i) block (level1.InFlight (asks i) fetch.Missed)) in
     let seconds = c.set_first.ensures.second ∙ c.set_second_of.ensures.second block asked.0
-    ∙ (λ i. update (second_at c.self.inside.cells) (block / c.self.invariant.factor i)
+    ∙ (λ i. update (second_at c.self.inside.cells) (block / c.self.invariant.framed.factor i)
     (level2.InFlight c.args.register)) in
     rw (← c.self.view_is) (λ log waiting regs2 wait held. record {
       kept = search rules;

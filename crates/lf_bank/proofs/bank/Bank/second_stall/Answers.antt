@@ -9,7 +9,7 @@ has_room2-requires-clause-some g c =
     let asked = rw (← c.self.view_is) at c.in-Some.ensures.some in
     second_some _ steady c.second_of-second.result c.second_of-now.result c.second_holder_of-holder.result
     (c.second_of-now.ensures c.args.block asked.0
-    ∙ (λ i. second_at c.self.inside.cells (c.args.block / c.self.invariant.factor i))
+    ∙ (λ i. second_at c.self.inside.cells (c.args.block / c.self.invariant.framed.factor i))
     ∙ ap (second_at c.self.inside.cells) (sym c.second_of-second.ensures))
     c.second_holder_of-holder.ensures.some
 
@@ -19,6 +19,6 @@ has_room2-requires-clause-none g c =
     let asked = rw (← c.self.view_is) at c.in-Some.ensures.some in
     second_none _ steady c.second_of-second.result c.second_of-now.result c.second_holder_of-holder.result
     (c.second_of-now.ensures c.args.block asked.0
-    ∙ (λ i. second_at c.self.inside.cells (c.args.block / c.self.invariant.factor i))
+    ∙ (λ i. second_at c.self.inside.cells (c.args.block / c.self.invariant.framed.factor i))
     ∙ ap (second_at c.self.inside.cells) (sym c.second_of-second.ensures))
     c.second_holder_of-holder.ensures.none

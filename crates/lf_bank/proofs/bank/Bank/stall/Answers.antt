@@ -21,13 +21,13 @@ pub returns-then-room_in : goal.returns-then-room_in
 returns-then-room_in g c = rw (← c.self.view_is) (λ log waiting regs2 alike held.
     let head = rw c.deref.ensures.value at c.in-Some.ensures in (
       stall_judged c.self.inside.shape c.self.inside.queues.items c.args.port c.args.tag c.in-Some.request.now
-          c.self.invariant.ports head.0 head.1 (first_at c.self.inside.cells) waiting c.block-block.result
+          c.self.invariant.framed.ports head.0 head.1 (first_at c.self.inside.cells) waiting c.block-block.result
           c.asking-asked.result.destination c.asking-asked.result.position c.first_in-first.result _
           (c.first_in-first.ensures c.block-block.result c.find.ensures)
           c.in_default-first.not-Present c.block-block.ensures
           c.asking-asked.ensures.destination c.asking-asked.ensures.position
           (c.if-room_in.ensures.value ∙ room_told c.self.inside.shape (g.O1.Organisation.seen c.self.inside.waiting)
-          c.self.invariant.file1 waiting alike.level1 c.block-block.result c.asking-asked.result.destination
+          c.self.invariant.framed.file1 waiting alike.level1 c.block-block.result c.asking-asked.result.destination
           c.asking-asked.result.position),
       refl,
     ))
@@ -36,13 +36,13 @@ pub returns : goal.returns
 returns g c = rw (← c.self.view_is) (λ log waiting regs2 alike held.
     let head = rw c.deref.ensures.value at c.in-Some.ensures in record {
       kept = stall_judged c.self.inside.shape c.self.inside.queues.items c.args.port c.args.tag c.in-Some.request.now
-          c.self.invariant.ports head.0 head.1 (first_at c.self.inside.cells) waiting c.block-block.result
+          c.self.invariant.framed.ports head.0 head.1 (first_at c.self.inside.cells) waiting c.block-block.result
           c.asking-asked.result.destination c.asking-asked.result.position c.first_in-first.result _
           (c.first_in-first.ensures c.block-block.result c.find.ensures)
           c.in_default-first.not-Present c.block-block.ensures
           c.asking-asked.ensures.destination c.asking-asked.ensures.position
           (c.if-room_in.ensures.value ∙ room_told c.self.inside.shape (g.O1.Organisation.seen c.self.inside.waiting)
-          c.self.invariant.file1 waiting alike.level1 c.block-block.result c.asking-asked.result.destination
+          c.self.invariant.framed.file1 waiting alike.level1 c.block-block.result c.asking-asked.result.destination
           c.asking-asked.result.position);
       shape = refl;
       waiting = alike;
