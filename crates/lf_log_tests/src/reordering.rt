@@ -1,8 +1,13 @@
 //! The records of a bank by their numbers, while they come.
 
 ghost use Rattle.std.specs.Prelude.{◌≡◌, IfOk};
+ghost use Rattle.lf_rules.specs.Fits.{FitsRecord};
+ghost use Rattle.lf_rules.specs.declared.event.Record.{Record};
+ghost use Rattle.lf_codec.specs.Layout.{record_bytes};
+ghost use Rattle.lf_logs.specs.Reordering.{CanKeep};
 ghost use Rattle.lf_log_tests.specs.Ordered.{IsInOrder};
 
+use lf_codec::{Header, encode, fits_trace};
 use lf_logs::{NumberFault, Reorder};
 use lf_rules::{Block, Event, Op, Record};
 use lf_samples::{C1, record};
@@ -165,6 +170,62 @@ fn records_that_are_lent(rt: HostRuntime) -> Result<(), Fail> {
     assert!(rt; gives_next(&order, &made(0)));
     order.drop_next();
     assert!(rt; gives_next(&order, &made(1)));
+    Ok(())
+}
+
+/// The bytes that spell this record, where it is one of `C1`.
+fn bytes_of(alloc: Global, item: &RecordView<'_>) -> Result<Vec<u8>, Fail>
+    ensures spelled { IfOk result (λ v. v.items ≡ record_bytes item.now) }
+    ensures fits { IfOk result (λ v. FitsRecord 1 1 8 1 item.now) }
+{
+    let header = Header {
+        version: 3,
+        ports: 1,
+        banks: 1,
+        block: 8,
+        factor: 1,
+        memory_count: 0,
+    };
+    let memory = Vec::new(alloc);
+    let one = [item.to_record()];
+    if !fits_trace(&header, &memory, &one) {
+        return Err(Fail::from("not of this hierarchy"));
+    }
+    let trace = encode(alloc, &header, &memory, &one)?;
+    let end = trace.len() - 8;
+    Ok(Vec::from_slice(alloc, &trace[16..end])?)
+}
+
+/// Puts a record that is lent with its bytes.
+fn put_bytes(alloc: Global, order: &mut Reorder, item: &Record) -> Result<(), Fail>
+    requires bank { item.now.bank ≡ order.old.bank }
+    requires sizes { (r : Record) → FitsRecord 1 1 8 1 r → CanKeep order.old.header r }
+    ensures bank { order.new.bank ≡ order.old.bank }
+    ensures header { order.new.header ≡ order.old.header }
+{
+    let view = RecordView::of(item);
+    let bytes = bytes_of(alloc, &view)?;
+    order.put_view(&view, bytes.as_slice())?;
+    Ok(())
+}
+
+#[test]
+fn records_kept_as_their_bytes(rt: HostRuntime) -> Result<(), Fail> {
+    let mut order = Reorder::of_shape(rt.alloc(), &C1, 0);
+    let store = record(rt.alloc(), &C1, 0, 0, 2, "S 3 2@6=aabb")?;
+    let fill = record(rt.alloc(), &C1, 1, 0, 1, "F1 7=0102030405060708")?;
+    put_bytes(rt.alloc(), &mut order, &store)?;
+    put_bytes(rt.alloc(), &mut order, &fill)?;
+    order.put(made(65))?;
+    put_bytes(rt.alloc(), &mut order, &made(0))?;
+    put_bytes(rt.alloc(), &mut order, &made(1))?;
+    assert_eq!(rt; order.fault(), Some(NumberFault::Double(1)));
+    for expected in [made(0), fill, store] {
+        assert!(rt; gives_next(&order, &expected));
+        order.drop_next();
+    }
+    assert!(rt; !order.is_empty());
+    assert_eq!(rt; order.next(), None);
     Ok(())
 }
 
