@@ -1,69 +1,15 @@
-//! What the registers of both levels say of the requests that they tell of.
+//! What the level-two registers say of the requests that they tell of.
 
 ghost use Rattle.std.specs.Prelude.{◌≡◌, true, false, IfSome, IfNone};
 ghost use Rattle.lf_rules.specs.Registers.{has_room, holds, holds_in};
-ghost use Rattle.lf_rules.specs.Table.{destinations, destinations2, position, position2};
+ghost use Rattle.lf_rules.specs.Table.{destinations2, position2};
 ghost use Rattle.lf_rules.specs.declared.shape.Shape.{Shape};
-ghost use Rattle.lf_bank.specs.BankView.{IsFile1, IsFile2};
-ghost use Rattle.lf_bank.specs.RegisterRules.{OfMissed, OfAsked, primary_held, merge_held, primary_told};
-ghost use Rattle.lf_bank.specs.RegisterRules.{merge_told, second_primary_held};
-ghost use Rattle.lf_bank.specs.RegisterRules.{second_merge_held, second_primary_told, second_merge_told};
+ghost use Rattle.lf_bank.specs.BankView.{IsFile2};
+ghost use Rattle.lf_bank.specs.RegisterRules.{OfAsked, second_primary_held, second_merge_held};
+ghost use Rattle.lf_bank.specs.RegisterRules.{second_primary_told, second_merge_told};
 
-use lf_mshr::{Organisation, Request1, Request2};
+use lf_mshr::{Organisation, Request2};
 use lf_rules::{Rule, Shape};
-
-/// The first rule that the target breaks as a primary miss of the register.
-pub fn primary_rule<O: Organisation<Target = Request1>>(
-    waiting: &O::File,
-    shape: &Shape,
-    block: u32,
-    target: &Request1,
-    register: u16,
-) -> Option<Rule>
-    requires { IsFile1 shape.now (O.seen waiting.now) }
-    ensures held { result ≡ primary_held (O.seen waiting.now) register block target.now }
-    ensures told { OfMissed shape.now (O.seen waiting.now) (λ missed. result
-        ≡ primary_told shape.now missed register block target.now) }
-{
-    match O::primary_fault(waiting, register, block, target) {
-        Some(fault) => Some(fault.rule()),
-        None => None,
-    }
-}
-
-/// The first rule that the target breaks as a merge into the register.
-pub fn merge_rule<O: Organisation<Target = Request1>>(
-    waiting: &O::File,
-    shape: &Shape,
-    block: u32,
-    target: &Request1,
-    register: u16,
-) -> Option<Rule>
-    requires { IsFile1 shape.now (O.seen waiting.now) }
-    ensures held { result ≡ merge_held (O.seen waiting.now) register block target.now }
-    ensures told { OfMissed shape.now (O.seen waiting.now) (λ missed. result
-        ≡ merge_told shape.now missed register block target.now) }
-{
-    match O::merge_fault(waiting, register, block, target) {
-        Some(fault) => Some(fault.rule()),
-        None => None,
-    }
-}
-
-/// Whether some level-one register takes the target.
-pub fn has_room1<O: Organisation<Target = Request1>>(
-    waiting: &O::File,
-    shape: &Shape,
-    block: u32,
-    target: &Request1,
-) -> bool
-    requires { IsFile1 shape.now (O.seen waiting.now) }
-    ensures { OfMissed shape.now (O.seen waiting.now) (λ missed.
-        result ≡ has_room shape.now.level1.organisation (destinations shape.now) position missed block
-        target.now.destination target.now.position) }
-{
-    O::room(waiting, block, target)
-}
 
 /// The first rule that the target breaks as a primary miss of the level-two register.
 pub fn second_primary_rule<O: Organisation<Target = Request2>>(

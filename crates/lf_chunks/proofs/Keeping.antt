@@ -82,12 +82,6 @@ module _ (chunks : List (List ℕ × ℕ)) (chunk : ℕ) (now : List ℕ × ℕ)
       (λ (not : k ≡ chunk → ⊥). others k not ∙ sym (ap (λ (c : List ℕ × ℕ). c.1) (in_other k not)))
       (cases_eq k chunk)
 
-  pub keeps_on_where_all_stays : Stays → now.1 ≡ count_in chunks chunk → KeepsOn chunks (set chunks chunk now)
-  keeps_on_where_all_stays stays same kept keeps = record {
-    each = All-weaker (StandsIn chunks) (StandsIn (set chunks chunk now)) (all_stay stays) kept keeps.each;
-    counted = count_at (λ k. count_by (is_in k) kept) (keeps.counted chunk ∙ sym same) (λ k not. keeps.counted k);
-  }
-
   -- an item more
   pub keeps_one_more : Stays → now.1 ≡ count_in chunks chunk + 1 → (place : ℕ) (item : List ℕ) → chunk_of place ≡ chunk
       → IsAt now.0 (start_of place) item → (kept : List (ℕ × List ℕ)) → Keeps chunks kept
@@ -195,9 +189,6 @@ module _ (chunks : List (List ℕ × ℕ)) (chunk : ℕ) (was now : List ℕ × 
 
   count_there : was.1 ≡ count_in chunks chunk
   count_there = ap (λ (c : List ℕ × ℕ). c.1) read_there
-
-  pub keeps_on_put : now.1 ≡ was.1 → KeepsOn chunks (set chunks chunk now)
-  keeps_on_put same = keeps_on_where_all_stays chunks chunk now there stays_there (same ∙ count_there)
 
   pub keeps_what_is_put : now.1 ≡ was.1 + 1 → (place step : ℕ) (item : List ℕ) → place ≡ 16384 * chunk + step
       → step < 16384 → IsAt now.0 (4 * step) item → (kept : List (ℕ × List ℕ)) → Keeps chunks kept

@@ -1,8 +1,10 @@
 -- An item that is put behind others stands there.
-use Rattle.std.proofs.Common.{◌≡◌, ℕ, ◌+◌, ◌*◌, ◌%◌, ◌/◌, zero, suc, List, [], ◌∷◌, ◌++◌, length, take, drop}
-use Rattle.std.proofs.Common.{refl, sym, ap, ◌∙◌, subst, arith, append_assoc, slice_index}
-use Rattle.std.proofs.Math.Seq.{drop-append-add}
-use Rattle.std.proofs.lemmas.List.{get_or-append-add, get_or_at, take_all, length-append}
+use Rattle.std.proofs.Common.{◌≡◌, ℕ, ◌+◌, ◌*◌, ◌-◌, ◌≤◌, List, ◌∷◌, ◌++◌, length, take, drop}
+use Rattle.std.proofs.Common.{[], set, refl, sym, ap, ◌∙◌, subst, arith, append_assoc, slice_index, length-set}
+use borrow.Rule.Slice.PartMut.{put_mid}
+use Rattle.std.proofs.Math.Seq.{drop-append-add, take-add}
+use Rattle.std.proofs.lemmas.List.{get_or-append-add, get_or_append_left, get_or_at, take_all, length-append}
+use Rattle.std.proofs.lemmas.List.{length-drop, length-take, drop-append-le, take-append-le, take_at, take_more_set}
 use Rattle.lf_chunks.specs.Kept.{IsAt, length_at}
 
 stands_behind : (front : List ℕ) (low high : ℕ) (item : List ℕ) → length item ≡ low + 256 * high
@@ -20,28 +22,72 @@ stands_behind front low high item long =
           ∙ take_all (length item) item (omega arith);
     }
 
--- behind bytes up to a multiple of four, and its length
-pub stands_put : (bytes : List ℕ) (skip low high : ℕ) (item : List ℕ) → skip ≡ (length bytes + 3) % 4
-    → length item ≡ low + 256 * high
-    → IsAt ((bytes ++ drop skip (0 ∷ 0 ∷ 0 ∷ low ∷ high ∷ [])) ++ item) (4 * ((length bytes + 3) / 4)) item
-stands_put bytes skip low high item is long = go skip is
-  where
-    at : (zeros : List ℕ) → length bytes + length zeros ≡ 4 * ((length bytes + 3) / 4)
-        → IsAt ((bytes ++ (zeros ++ low ∷ high ∷ [])) ++ item) (4 * ((length bytes + 3) / 4)) item
-    at zeros e =
-        let parts : (bytes ++ zeros) ++ low ∷ high ∷ item ≡ (bytes ++ (zeros ++ low ∷ high ∷ [])) ++ item =
-        append_assoc bytes zeros (low ∷ high ∷ item)
-        ∙ ap (λ ys. bytes ++ ys) (sym (append_assoc zeros (low ∷ high ∷ []) item))
-        ∙ sym (append_assoc bytes (zeros ++ low ∷ high ∷ []) item) in
-        subst (λ (start : ℕ). IsAt ((bytes ++ (zeros ++ low ∷ high ∷ [])) ++ item) start item)
-        (length-append bytes zeros ∙ e)
-        (subst (λ (all : List ℕ). IsAt all (length (bytes ++ zeros)) item) parts
-        (stands_behind (bytes ++ zeros) low high item long))
+-- what stands somewhere stands there before more bytes
+stays : (bytes more : List ℕ) (start : ℕ) (item : List ℕ) → IsAt bytes start item → IsAt (bytes ++ more) start item
+stays bytes more start item at =
+    let first : slice_index (bytes ++ more) start ≡ slice_index bytes start =
+    get_or_append_left bytes more 0 start (omega (arith, at.within)) in
+    let second : slice_index (bytes ++ more) (start + 1) ≡ slice_index bytes (start + 1) =
+    get_or_append_left bytes more 0 (start + 1) (omega (arith, at.within)) in
+    let len : length_at (bytes ++ more) start ≡ length_at bytes start = λ i. first i + 256 * second i in
+    record {
+      within = omega (arith, len, length-append bytes more, at.within);
+      same = ap (λ n. take n (drop (start + 2) (bytes ++ more))) len
+          ∙ ap (take (length_at bytes start)) (drop-append-le (start + 2) bytes more (omega (arith, at.within)))
+          ∙ take-append-le (length_at bytes start) (drop (start + 2) bytes) more
+          (omega (arith, length-drop (start + 2) bytes, at.within))
+          ∙ at.same;
+    }
 
-    go : (n : ℕ) → n ≡ (length bytes + 3) % 4
-        → IsAt ((bytes ++ drop n (0 ∷ 0 ∷ 0 ∷ low ∷ high ∷ [])) ++ item) (4 * ((length bytes + 3) / 4)) item
-    go zero e = at (0 ∷ 0 ∷ 0 ∷ []) (omega arith)
-    go (suc zero) e = at (0 ∷ 0 ∷ []) (omega arith)
-    go (suc (suc zero)) e = at (0 ∷ []) (omega arith)
-    go (suc (suc (suc zero))) e = at [] (omega arith)
-    go (suc (suc (suc (suc n)))) e = absurd (omega arith)
+-- ---- an item is put behind what is in use
+
+pub written : (bytes : List ℕ) (start low high k : ℕ) (item : List ℕ) → start + 2 + length item ≤ length bytes
+    → take (start + 2 + length item)
+    (put_mid (start + 2) k (set (set bytes start low) (start + 1) high) item) ≡ take start bytes ++ low ∷ high ∷ item
+written bytes start low high k item room =
+    let one = set bytes start low in
+    let two = set one (start + 1) high in
+    let rest = drop k (drop (start + 2) two) in
+    let next : start + 2 ≡ start + 1 + 1 = omega arith in
+    let front : take (start + 2) two ≡ take start bytes ++ low ∷ high ∷ [] =
+    ap (λ n. take n two) next
+    ∙ take_more_set one (start + 1) high (omega (arith, length-set bytes start low))
+    ∙ ap (λ xs. xs ++ high ∷ []) (take_more_set bytes start low (omega arith))
+    ∙ append_assoc (take start bytes) (low ∷ []) (high ∷ []) in
+    let len : length (take (start + 2) two ++ item) ≡ start + 2 + length item = omega (
+      arith,
+      length-append (take (start + 2) two) item,
+      length-take (start + 2) two,
+      length-set one (start + 1) high,
+      length-set bytes start low,
+    ) in
+    ap (take (start + 2 + length item)) (sym (append_assoc (take (start + 2) two) item rest))
+    ∙ take_at (take (start + 2) two ++ item) rest (start + 2 + length item) len
+    ∙ ap (λ xs. xs ++ item) front
+    ∙ append_assoc (take start bytes) (low ∷ high ∷ []) item
+
+-- a vector whose slice was written whole
+pub all_written : (n : ℕ) (old new : List ℕ) → length new ≡ length old → n ≡ length old
+    → take n (new ++ drop (length new) old) ≡ new
+all_written n old new same all = take_at new (drop (length new) old) n (omega arith)
+
+module _ (old new : List ℕ) (used start low high : ℕ) (item : List ℕ) (behind : used ≤ start)
+    (room : start ≤ length old) (long : length item ≡ low + 256 * high)
+    (is : take (start + 2 + length item) new ≡ take start old ++ low ∷ high ∷ item) where
+  pub stands_put : IsAt (take (start + 2 + length item) new) start item
+  stands_put = subst (λ (all : List ℕ). IsAt all start item) (sym is)
+      (subst (λ (from : ℕ). IsAt (take start old ++ low ∷ high ∷ item) from item)
+      (omega (arith, length-take start old))
+      (stands_behind (take start old) low high item long))
+
+  parts : take start old ≡ take used old ++ take (start - used) (drop used old)
+  parts =
+      let whole : start ≡ used + (start - used) = omega arith in
+      ap (λ n. take n old) whole ∙ take-add used (start - used) old
+
+  pub stays_put : (from : ℕ) (other : List ℕ) → IsAt (take used old) from other
+      → IsAt (take (start + 2 + length item) new) from other
+  stays_put from other at = subst (λ (all : List ℕ). IsAt all from other)
+      (sym (is ∙ ap (λ front. front ++ low ∷ high ∷ item) parts
+      ∙ append_assoc (take used old) (take (start - used) (drop used old)) (low ∷ high ∷ item)))
+      (stays (take used old) (take (start - used) (drop used old) ++ low ∷ high ∷ item) from other at)

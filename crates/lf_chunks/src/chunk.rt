@@ -1,6 +1,7 @@
 //! A chunk of bytes.
 
-ghost use Rattle.std.specs.Prelude.{◌≡◌, ◌<◌, ◌≤◌, ◌+◌, ◌*◌, ◌-◌, ◌↔◌, [], IsTrue, IfOk, OnErr, List, ℕ, length, take};
+ghost use Rattle.std.specs.Prelude.{◌≡◌, ◌<◌, ◌≤◌, ◌+◌, ◌*◌, ◌-◌, ◌/◌, ◌%◌, ◌↔◌, ◌++◌, ◌∷◌, [], IsTrue, IfOk, List, ℕ, length};
+ghost use Rattle.std.specs.Prelude.{take};
 ghost use Rattle.lf_chunks.specs.Kept.{IsAt, length_at, item_at};
 
 use std::alloc::{AllocError, Global};
@@ -15,18 +16,36 @@ pub const HEAD: usize = 5;
 /// Items one after another, each behind its length, from a multiple of four bytes on. It counts those that are kept.
 #[derive(Drop)]
 pub struct Chunk {
+    /// All bytes that it can have, in use or not.
     bytes: Vec<u8>,
+    /// How many are in use.
+    used: usize,
     count: u32,
 }
 
 impl Model for Chunk {
-    ghost use Rattle.std.specs.Prelude.{ℕ, List, ◌≤◌, length};
+    ghost use Rattle.std.specs.Prelude.{ℕ, List, ◌≡◌, ◌≤◌, length, take};
 
     ghost Value = { List ℕ × ℕ };
 
-    ghost view = { λ c. (c.bytes.items, c.count) };
+    ghost view = { λ c. (take c.used c.bytes.items, c.count) };
 
-    ghost invariant = { λ c. (length c.bytes.items ≤ 65536) × (c.count ≤ length c.bytes.items) };
+    ghost invariant = { λ c. (length c.bytes.items ≡ 65536) × ((c.used ≤ 65536) × (c.count ≤ c.used)) };
+}
+
+/// Writes an item behind its length from here on.
+#[inline(always)]
+fn write(bytes: &mut [u8], start: usize, item: &[u8])
+    requires small { length item.now < 65536 }
+    requires room { start + 2 + length item.now ≤ length bytes.old }
+    ensures len { length bytes.new ≡ length bytes.old }
+    ensures item { take (start + 2 + length item.now) bytes.new ≡
+        take start bytes.old ++ length item.now % 256 ∷ length item.now / 256 ∷ item.now }
+{
+    let at = start + 2;
+    bytes[start] = (item.len() % 256) as u8;
+    bytes[start + 1] = (item.len() / 256) as u8;
+    bytes[at..at + item.len()].copy_from_slice(item);
 }
 
 impl Chunk {
@@ -35,7 +54,8 @@ impl Chunk {
         ensures { IfOk result (λ chunk. chunk ≡ ([], 0)) }
     {
         Ok(Chunk {
-            bytes: Vec::with_capacity(alloc, CHUNK)?,
+            bytes: vec![in alloc; 0; CHUNK]?,
+            used: 0,
             count: 0,
         })
     }
@@ -46,7 +66,7 @@ impl Chunk {
         requires { len ≤ 65531 }
         ensures { IsTrue result ↔ (length self.now.0 + 5 + len ≤ 65536) }
     {
-        self.bytes.len() + HEAD + len <= CHUNK
+        self.used + HEAD + len <= CHUNK
     }
 
     /// Whether it keeps none.
@@ -57,23 +77,21 @@ impl Chunk {
         self.count == 0
     }
 
-    /// Keeps an item behind those before it, and gives the multiple of four bytes where it stands. Where a growth was
-    /// refused, all that stood there stands there.
+    /// Keeps an item behind those before it, and gives the multiple of four bytes where it stands.
     #[inline(always)]
-    pub fn put(&mut self, item: &[u8]) -> Result<usize, AllocError>
+    pub fn put(&mut self, item: &[u8]) -> usize
         requires { length self.old.0 + 5 + length item.now ≤ 65536 }
         ensures old { (start : ℕ) (other : List ℕ) → IsAt self.old.0 start other → IsAt self.new.0 start other }
-        ensures own { IfOk result (λ step. IsAt self.new.0 (4 * step) item.now) }
-        ensures step_in { IfOk result (λ step. step < 16384) }
-        ensures one_more { IfOk result (λ _. self.new.1 ≡ self.old.1 + 1) }
-        ensures refused { OnErr result (self.new.1 ≡ self.old.1) }
+        ensures own { IsAt self.new.0 (4 * result) item.now }
+        ensures step_in { result < 16384 }
+        ensures one_more { self.new.1 ≡ self.old.1 + 1 }
     {
-        let len = self.bytes.len() + 3;
-        let head = [0, 0, 0, (item.len() % 256) as u8, (item.len() / 256) as u8];
-        self.bytes.extend_from_slice(&head[len % 4..])?;
-        self.bytes.extend_from_slice(item)?;
+        let step = (self.used + 3) / 4;
+        let start = 4 * step;
+        write(&mut self.bytes, start, item);
+        self.used = start + 2 + item.len();
         self.count += 1;
-        Ok(len / 4)
+        step
     }
 
     /// The item that stands here.
@@ -95,7 +113,7 @@ impl Chunk {
     {
         self.count -= 1;
         if self.count == 0 {
-            self.bytes.clear();
+            self.used = 0;
         }
     }
 
@@ -104,6 +122,6 @@ impl Chunk {
         requires { self.old.1 ≡ 0 }
         ensures { self.new ≡ ([], 0) }
     {
-        self.bytes.clear();
+        self.used = 0;
     }
 }

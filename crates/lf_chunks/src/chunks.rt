@@ -130,7 +130,7 @@ impl Chunks {
         )?;
         self.current = number;
         let chunk = &mut self.chunks[number];
-        let step = chunk.put(item)?;
+        let step = chunk.put(item);
         Ok(Place::new(number, step))
     }
 

@@ -71,11 +71,6 @@ pub record IsAsBefore (old new : Reordering) : Type 0 where
   pub early : (k : ℕ) → early_at new k ≡ early_at old k
   pub waiting : waiting_count new ≡ waiting_count old
 
--- after some records that were put in and given out, none of the next number waits
-abbrev pub NoneIsReady : Reordering → Type 0
-NoneIsReady o = (put : List Record) × (gave : List Record) × HasOrdered o put gave ×
-    (first_with (length gave) put ≡ None)
-
 -- ---- records that are kept as their bytes
 
 -- how the records of a hierarchy are laid out

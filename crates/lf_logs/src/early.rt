@@ -58,6 +58,9 @@ fn lend_whole<'a>(
 ) -> bool
     ensures { if_given result place.new ≡ lookup (is_at (nat_cmp number)) (kept_whole whole.now.entries) }
 {
+    if whole.is_empty() {
+        return false;
+    }
     match whole.get(&number) {
         Some(item) => {
             *place = RecordView::of(item);

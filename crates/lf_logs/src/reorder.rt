@@ -1,14 +1,14 @@
 //! A bank's records, put into the order of their numbers as they come.
 
 ghost use Rattle.std.specs.Prelude.{◌≡◌, ◌≢◌, ◌<◌, ◌≤◌, ◌^◌, ◌↔◌, ℕ, IsTrue, List, [], ◌∷◌, ◌++◌, length};
-ghost use Rattle.std.specs.Prelude.{option_to_list, IsSome, None, Some, OnOk, OnErr, IfSome, IfNone};
+ghost use Rattle.std.specs.Prelude.{option_to_list, is_some, IsSome, None, Some, OnOk, OnErr, IfSome, IfNone};
 ghost use Rattle.lf_rules.specs.declared.event.Record.{Record};
 ghost use Rattle.lf_rules.specs.InRange.{IsShape};
 ghost use Rattle.lf_rules.specs.Numbers.{numbers_of, times, IsMissing, IsWhole};
 ghost use Rattle.lf_codec.specs.Lent.{IsSpelling};
 ghost use Rattle.lf_logs.specs.Places.{IsNumberFault};
 ghost use Rattle.lf_logs.specs.Reordering.{first_with, early_at, if_given, waiting_count, has_come};
-ghost use Rattle.lf_logs.specs.Reordering.{header_of, CanKeep, IsAsBefore, NoneIsReady, least_double};
+ghost use Rattle.lf_logs.specs.Reordering.{header_of, CanKeep, IsAsBefore, least_double};
 ghost use Rattle.lf_logs.specs.Reordering.{IsLeastDouble, HasOrdered};
 
 use crate::early::Early;
@@ -123,7 +123,6 @@ impl Reorder {
     /// kept of it. It takes no memory.
     #[inline(always)]
     pub fn pass(&mut self, item: &RecordView<'_>) -> bool
-        requires { NoneIsReady self.old }
         ensures bank { self.new.bank ≡ self.old.bank }
         ensures header { self.new.header ≡ self.old.header }
         ensures passed { IsTrue result → (put : List Record) (gave : List Record) → HasOrdered self.old put gave →
@@ -182,6 +181,18 @@ impl Reorder {
         self.early.put_view(item, bytes)?;
         self.greatest = self.greatest.max(number);
         Ok(())
+    }
+
+    /// Whether the record with the bank's next number is there, so that `lend_next` lends it. It takes no memory.
+    #[inline(always)]
+    pub fn has_next(&self) -> bool
+        ensures { (put : List Record) (gave : List Record) → HasOrdered self.now put gave
+            → result ≡ is_some (first_with (length gave) put) }
+    {
+        if self.early.is_empty() || self.next > u64::from(u32::MAX) {
+            return false;
+        }
+        self.early.contains(self.next as u32)
     }
 
     /// Lends the record with the bank's next number by `place`, and says whether it is there. It takes no memory.

@@ -149,14 +149,14 @@ impl BankJudge {
         ensures settles { Settles self.old result self.new }
         ensures counts { IsSome self.old.count → IsSome self.new.count }
     {
-        if self.order.is_empty() {
+        if !self.order.has_next() {
             return Ok(());
         }
         self.settle_waiting()
     }
 
     /// Judges those of the waiting records whose turn has come. It is apart from `settle`, so that little is done
-    /// where none waits.
+    /// where there is none.
     #[inline(never)]
     fn settle_waiting(&mut self) -> Result<(), NoMemory>
         requires { CanSettle self.old }

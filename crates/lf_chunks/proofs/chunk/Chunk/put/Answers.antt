@@ -1,17 +1,32 @@
-use Rattle.std.proofs.Common.{◌≡◌, ◌+◌, ◌%◌, ◌/◌, [], ◌∷◌, ◌++◌, length, drop, ◌∙◌, ap, refl, arith}
-use Rattle.std.proofs.lemmas.List.{take_rest}
-use Rattle.lf_chunks.proofs.Standing.{stands_put}
+use Rattle.std.proofs.Common.{◌≡◌, ◌+◌, ◌*◌, ◌/◌, ◌%◌, ◌∷◌, ◌++◌, List, ℕ, length, take, drop, ap, ◌∙◌, sym, subst}
+use Rattle.std.proofs.Common.{arith}
+use Rattle.lf_chunks.specs.Kept.{IsAt}
+use Rattle.lf_chunks.proofs.Standing.{all_written, stands_put, stays_put}
 use Rattle.lf_chunks.proofs.chunk.Chunk.put.Goals as goal
+
+pub returns-clause-old : goal.returns-clause-old
+returns-clause-old c =
+    let t = c.self.inside in
+    let n = length c.args.item.now in
+    let start = 4 * ((t.used + 3) / 4) in
+    let value = c.deref_mut.ensures.value in
+    let all = all_written t.bytes.len t.bytes.items c.write.new.bytes
+    (c.write.ensures.len ∙ ap length value) t.bytes.ok.0 in
+    let is = c.write.ensures.item ∙ ap (λ (xs : List ℕ). take start xs ++ n % 256 ∷ n / 256 ∷ c.args.item.now) value in
+    λ from other at. subst (λ (xs : List ℕ). IsAt (take (start + 2 + n) xs) from other) (sym all)
+    (stays_put t.bytes.items c.write.new.bytes t.used start (n % 256) (n / 256) c.args.item.now
+    (omega arith) (omega (arith, c.self.invariant)) (omega arith) is from other
+    (subst (λ (view : List ℕ × ℕ). IsAt view.0 from other) (sym c.self.view_is) at))
 
 pub returns-clause-own : goal.returns-clause-own
 returns-clause-own c =
-    let bytes = c.self.inside.bytes.items in
-    let item = c.args.item.now in
-    let len : c.len-len.result ≡ length bytes = c.len-len.ensures ∙ c.self.inside.bytes.ok.0 in
-    let skip = (c.len-len.result + 3) % 4 in
-    let head = 0 ∷ 0 ∷ 0 ∷ length item % 256 ∷ length item / 256 ∷ [] in
-    let all : c.extend_from_slice-2.new.self.items ≡ (bytes ++ drop skip head) ++ item =
-    c.in_ok-extend_from_slice-2.ensures.items
-    ∙ ap (λ xs. xs ++ item) (c.in_ok-extend_from_slice.ensures.items ∙ ap (λ xs. bytes ++ xs) (take_rest head skip)) in
-    rw (all, len)
-    (stands_put bytes ((length bytes + 3) % 4) (length item % 256) (length item / 256) item refl (omega arith))
+    let t = c.self.inside in
+    let n = length c.args.item.now in
+    let start = 4 * ((t.used + 3) / 4) in
+    let value = c.deref_mut.ensures.value in
+    let all = all_written t.bytes.len t.bytes.items c.write.new.bytes
+    (c.write.ensures.len ∙ ap length value) t.bytes.ok.0 in
+    let is = c.write.ensures.item ∙ ap (λ (xs : List ℕ). take start xs ++ n % 256 ∷ n / 256 ∷ c.args.item.now) value in
+    subst (λ (xs : List ℕ). IsAt (take (start + 2 + n) xs) start c.args.item.now) (sym all)
+    (stands_put t.bytes.items c.write.new.bytes t.used start (n % 256) (n / 256) c.args.item.now
+    (omega arith) (omega (arith, c.self.invariant)) (omega arith) is)

@@ -1,7 +1,7 @@
 use Rattle.std.proofs.Common.{List, ℕ, sym, subst}
 use Rattle.std.proofs.lemmas.Result.{err_from_is_err_and}
 use Rattle.lf_chunks.specs.Kept.{Keeps}
-use Rattle.lf_chunks.proofs.Keeping.{keeps_on_put, keeps_what_is_put}
+use Rattle.lf_chunks.proofs.Keeping.{keeps_what_is_put}
 use Rattle.lf_chunks.proofs.chunks.Chunks.put.Goals as goal
 
 pub returns-in_err-number-clause-refused : goal.returns-in_err-number-clause-refused
@@ -10,20 +10,11 @@ returns-in_err-number-clause-refused c =
     rw p.1 (λ kept keeps. c.in_err-number.ensures.kept kept
     (subst (λ (chunks : List (List ℕ × ℕ)). Keeps chunks kept) (sym c.self.view_is) keeps))
 
-pub returns-in_err-step-clause-refused : goal.returns-in_err-step-clause-refused
-returns-in_err-step-clause-refused c =
-    let p = err_from_is_err_and c.from_residual-in_err-step.result c.from_residual-in_err-step.ensures.1 in
-    rw p.1 (λ kept keeps. keeps_on_put c.with_room.new.chunks.items c.in_ok-number.number c.index_mut-chunk.result.now
-    c.put.new.self c.in_ok-number.ensures.number.0 c.index_mut-chunk.ensures.value c.in_err-step.ensures.old
-    c.in_err-step.ensures.refused kept
-    (c.in_ok-number.ensures.kept kept
-    (subst (λ (chunks : List (List ℕ × ℕ)). Keeps chunks kept) (sym c.self.view_is) keeps)))
-
 pub returns-clause-one_more : goal.returns-clause-one_more
 returns-clause-one_more c kept keeps =
-    keeps_what_is_put c.with_room.new.chunks.items c.in_ok-number.number c.index_mut-chunk.result.now c.put.new.self
-    c.in_ok-number.ensures.number.0 c.index_mut-chunk.ensures.value c.in_ok-step.ensures.old
-    c.in_ok-step.ensures.one_more c.new.result c.in_ok-step.step c.args.item.now c.new.ensures
-    c.in_ok-step.ensures.step_in c.in_ok-step.ensures.own kept
+    keeps_what_is_put c.with_room.new.chunks.items c.in_ok-number.number c.index_mut-chunk.result.now c.put-step.new.self
+    c.in_ok-number.ensures.number.0 c.index_mut-chunk.ensures.value c.put-step.ensures.old
+    c.put-step.ensures.one_more c.new.result c.put-step.result c.args.item.now c.new.ensures
+    c.put-step.ensures.step_in c.put-step.ensures.own kept
     (c.in_ok-number.ensures.kept kept
     (subst (λ (chunks : List (List ℕ × ℕ)). Keeps chunks kept) (sym c.self.view_is) keeps))

@@ -7,11 +7,6 @@ use Rattle.lf_verdict.specs.Standing.{IsBankSettled}
 use Rattle.lf_verdict.proofs.Judges.{steady_if, can_keep, judged_pass, settled_put}
 use Rattle.lf_verdict.proofs.session.standing.bank_judge.BankJudge.take.Goals as goal
 
-pub pass-requires : goal.pass-requires
-pass-requires c =
-    let r = c.requires.can in
-    (r.came, r.gave, r.settled.bank_judged.ordered, r.settled.drained)
-
 pub keep-requires-clause-bank : goal.keep-requires-clause-bank
 keep-requires-clause-bank c =
     let r = c.requires.can in
