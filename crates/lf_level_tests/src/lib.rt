@@ -12,3 +12,5 @@ mod lines;
 mod masks_and_blocks;
 #[cfg(test)]
 mod register_files;
+#[cfg(test)]
+mod sets;

@@ -65,8 +65,10 @@ fn records_come_out_by_number(rt: HostRuntime) -> Result<(), Fail> {
     assert!(rt; order.is_empty());
     assert!(rt; gives(rt.alloc(), &mut order, &[])?);
     put(rt.alloc(), &mut order, &[(2, 2), (1, 1)])?;
+    assert!(rt; !order.has_next());
     assert!(rt; gives(rt.alloc(), &mut order, &[])?);
     put(rt.alloc(), &mut order, &[(0, 0)])?;
+    assert!(rt; order.has_next());
     assert!(rt; !order.is_empty());
     assert!(rt; gives(rt.alloc(), &mut order, &[(0, 0), (1, 1), (2, 2)])?);
     assert!(rt; order.is_empty());

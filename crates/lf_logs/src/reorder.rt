@@ -189,10 +189,7 @@ impl Reorder {
         ensures { (put : List Record) (gave : List Record) → HasOrdered self.now put gave
             → result ≡ is_some (first_with (length gave) put) }
     {
-        if self.early.is_empty() || self.next > u64::from(u32::MAX) {
-            return false;
-        }
-        self.early.contains(self.next as u32)
+        self.next <= u64::from(u32::MAX) && self.early.contains(self.next as u32)
     }
 
     /// Lends the record with the bank's next number by `place`, and says whether it is there. It takes no memory.

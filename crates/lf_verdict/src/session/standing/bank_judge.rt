@@ -144,7 +144,22 @@ impl BankJudge {
     }
 
     /// Judges the records whose turn has come.
+    #[inline(always)]
     fn settle(&mut self) -> Result<(), NoMemory>
+        requires { CanSettle self.old }
+        ensures settles { Settles self.old result self.new }
+        ensures counts { IsSome self.old.count → IsSome self.new.count }
+    {
+        if self.order.is_empty() {
+            return Ok(());
+        }
+        self.settle_waiting()
+    }
+
+    /// Judges those of the waiting records whose turn has come. It is apart from `settle`, so that little is done
+    /// where none waits.
+    #[inline(never)]
+    fn settle_waiting(&mut self) -> Result<(), NoMemory>
         requires { CanSettle self.old }
         ensures settles { Settles self.old result self.new }
         ensures counts { IsSome self.old.count → IsSome self.new.count }
@@ -152,13 +167,13 @@ impl BankJudge {
         if !self.order.has_next() {
             return Ok(());
         }
-        self.settle_waiting()
+        self.settle_ready()
     }
 
-    /// Judges those of the waiting records whose turn has come. It is apart from `settle`, so that little is done
-    /// where there is none.
+    /// Judges one waiting record after another, from the one whose turn has come. It is apart from `settle_waiting`, so
+    /// that little is done where some wait and none of them is the next.
     #[inline(never)]
-    fn settle_waiting(&mut self) -> Result<(), NoMemory>
+    fn settle_ready(&mut self) -> Result<(), NoMemory>
         requires { CanSettle self.old }
         ensures settles { Settles self.old result self.new }
         ensures counts { IsSome self.old.count → IsSome self.new.count }
@@ -191,6 +206,7 @@ impl BankJudge {
 
     /// Takes a record of the bank, and judges those whose turn has come. One that came before its turn is kept: by
     /// the bytes that spell it, where they are given.
+    #[inline(always)]
     pub fn take(&mut self, item: &RecordView<'_>, bytes: &[u8]) -> Result<(), NoMemory>
         requires can { CanTake item.now self.old }
         requires spelled { IsSpelling bytes.now item.now }

@@ -5,7 +5,7 @@ use Rattle.lf_rules.specs.declared.event.Record.{Record}
 use Rattle.lf_rules.specs.Address.{FlatMemory}
 use Rattle.lf_logs.specs.Reordering.{waiting_count}
 use Rattle.lf_verdict.specs.Standing.{IsBankJudged}
-use Rattle.lf_verdict.proofs.session.standing.bank_judge.BankJudge.settle_waiting.Given as goal
+use Rattle.lf_verdict.proofs.session.standing.bank_judge.BankJudge.settle_ready.Given as goal
 
 abbrev pub invariant-loop-item : goal.invariant-loop-item
 invariant-loop-item l = record {

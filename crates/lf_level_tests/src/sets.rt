@@ -1,0 +1,17 @@
+//! The set that a block is in.
+
+use lf_levels::{One, Sets, Two};
+
+#[test]
+fn sets_of_both_levels(rt: HostRuntime) {
+    let sets = Sets::new(4, 2, 8);
+    assert_eq!(rt; sets.set_of::<One>(77), 3);
+    assert_eq!(rt; sets.set_of::<Two>(38), 1);
+}
+
+#[test]
+fn sets_whose_count_is_no_power_of_two(rt: HostRuntime) {
+    let sets = Sets::new(3, 1, 5);
+    assert_eq!(rt; sets.set_of::<One>(100), 3);
+    assert_eq!(rt; sets.set_of::<Two>(100), 3);
+}
