@@ -220,19 +220,33 @@ impl ByNumber {
         ensures unchanged { OnErr result ((k : ℕ) → numbered_as k self.new ≡ numbered_as k self.old) }
         ensures as_many { OnErr result (length self.new ≡ length self.old) }
     {
-        self.prepare(number)?;
+        if has_slot(&self.slots, number) {
+            return self.enter(number, item);
+        }
+        self.put_with_room(number, item)
+    }
+
+    /// Keeps a copy of these bytes as `put` does, where the number has no free slot. It is apart, so that a slot is
+    /// looked up once where it is free.
+    #[cold]
+    #[inline(never)]
+    fn put_with_room(&mut self, number: u32, item: &[u8]) -> Result<(), AllocError>
+        requires len { length item.now ≤ 65531 }
+        requires absent { numbered_as number self.old ≡ None }
+        ensures own { OnOk result (numbered_as number self.new ≡ Some item.now) }
+        ensures others { OnOk result ((k : ℕ) → ¬ (k ≡ number) → numbered_as k self.new ≡ numbered_as k self.old) }
+        ensures unchanged { OnErr result ((k : ℕ) → numbered_as k self.new ≡ numbered_as k self.old) }
+        ensures as_many { OnErr result (length self.new ≡ length self.old) }
+    {
+        self.prepare()?;
         self.enter(number, item)
     }
 
-    /// Makes room in the table where the number has no free slot, and it may have one then.
-    #[inline(always)]
-    fn prepare(&mut self, number: u32) -> Result<(), AllocError>
+    /// Makes room in the table, where a wider one may have a free slot for a number that has none.
+    fn prepare(&mut self) -> Result<(), AllocError>
         ensures same { (k : ℕ) → numbered_as k self.new ≡ numbered_as k self.old }
         ensures as_many { length self.new ≡ length self.old }
     {
-        if has_slot(&self.slots, number) {
-            return Ok(());
-        }
         make_room(self.alloc, &mut self.slots, self.taken)
     }
 

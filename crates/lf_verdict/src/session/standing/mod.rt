@@ -65,7 +65,6 @@ impl Standing {
     }
 
     /// Judges the next record of the trace.
-    #[inline(always)]
     fn judge(&mut self, item: &RecordView<'_>, bytes: &[u8]) -> Result<(), NoMemory>
         requires next { CanStand item.now self.old }
         requires spelled { IsSpelling bytes.now item.now }

@@ -1,4 +1,4 @@
-use Rattle.std.proofs.Common.{◌≡◌, ◌+◌, ◌*◌, ◌/◌, ◌%◌, ◌∷◌, ◌++◌, List, ℕ, length, take, drop, ap, ◌∙◌, sym, subst}
+use Rattle.std.proofs.Common.{◌+◌, ◌*◌, ◌/◌, ◌%◌, ◌∷◌, ◌++◌, List, ℕ, length, take, ap, ◌∙◌, sym, subst}
 use Rattle.std.proofs.Common.{arith}
 use Rattle.lf_chunks.specs.Kept.{IsAt}
 use Rattle.lf_chunks.proofs.Standing.{all_written, stands_put, stays_put}
