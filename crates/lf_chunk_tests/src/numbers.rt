@@ -52,3 +52,19 @@ fn each_number_has_its_bytes_until_they_are_let_go(rt: HostRuntime) -> Result<()
     assert!(&rt; table.is_empty());
     Ok(())
 }
+
+/// Items of which two do not fit one chunk. One goes, and a longer one stands where it stood.
+#[test]
+fn chunks_are_begun_anew(rt: HostRuntime) -> Result<(), Fail> {
+    let long = vec![in rt.alloc(); 1; 40_000]?;
+    let longer = vec![in rt.alloc(); 2; 60_000]?;
+    let mut table = ByNumber::new(rt.alloc());
+    assert!(&rt; keep(&mut table, 0, long.as_slice())?);
+    assert!(&rt; keep(&mut table, 1, long.as_slice())?);
+    table.drop(0);
+    assert!(&rt; keep(&mut table, 2, longer.as_slice())?);
+    assert!(&rt; table.get(0).is_none());
+    assert_eq!(rt; table.get(1), Some(long.as_slice()));
+    assert_eq!(rt; table.get(2), Some(longer.as_slice()));
+    Ok(())
+}

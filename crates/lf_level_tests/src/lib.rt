@@ -1,7 +1,9 @@
-//! Tests of lines, registers, masks, and what a run keeps beside them, in a crate of their own so that each
-//! part is proved once.
+//! Tests of lines, sets, registers, masks, cells, and what a run keeps beside them, in a crate of their own so that
+//! each part is proved once.
 #![tactic(auto)]
 
+#[cfg(test)]
+mod cells;
 #[cfg(test)]
 mod divisions;
 #[cfg(test)]
