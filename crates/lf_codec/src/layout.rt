@@ -78,6 +78,18 @@ pub(crate) fn lend_front<'a>(header: &Header, bytes: &'a [u8], place: &mut Recor
     lend_parts(header, head_at(first), rest, place);
 }
 
+/// Lends the record at the front of these bytes as `lend_front` does, by code that serves all kinds. So `lend_parts` has
+/// one caller, and is compiled into it.
+pub(crate) fn lend_any<'a>(header: &Header, bytes: &'a [u8], place: &mut RecordView<'a>)
+    requires range { IsInRange header.now }
+    requires begins { (item : Record) × BeginWith header.now bytes.now item }
+    ensures { place.new ≡ spelled_record header.now bytes.now }
+{
+    let (first, rest) = bytes.split_at(8);
+    let head = head_at(first);
+    *place = parts_view(header, head.kind, head, rest);
+}
+
 impl Layout {
     /// The layout of records that fit this header.
     pub fn of(header: &Header) -> Layout

@@ -11,7 +11,7 @@ ghost use Rattle.lf_codec.specs.Lent.{IsSpelling, spelled_record};
 ghost use Rattle.lf_codec.specs.Packed.{SpellOne, StandLast, slice_of};
 
 use crate::header::Header;
-use crate::layout::lend_front;
+use crate::layout::lend_any;
 use crate::stage::Head;
 use crate::step::head_at;
 use lf_rules::{Event, NO_BANK, NoMemory, Record};
@@ -241,7 +241,7 @@ impl Packed {
     {
         match &self.forms[at] {
             Form::Spelled { start, len } => {
-                lend_front(&self.header, slice_of(&self.bytes, *start, *len), place);
+                lend_any(&self.header, slice_of(&self.bytes, *start, *len), place);
             }
             Form::Apart(item) => *place = RecordView::of(item),
         }
@@ -266,7 +266,7 @@ impl Packed {
         match &self.forms[at] {
             Form::Spelled { start, len } => {
                 let mut view = RecordView::blank();
-                lend_front(&self.header, slice_of(&self.bytes, *start, *len), &mut view);
+                lend_any(&self.header, slice_of(&self.bytes, *start, *len), &mut view);
                 *place = view.to_record();
                 place
             }

@@ -120,6 +120,7 @@ impl Entries {
     }
 
     /// Keeps the entry of the next record, and judges it by its port where it stands in a port's log.
+    #[inline(always)]
     pub fn enter(&mut self, item: &RecordView<'_>) -> Result<(), NoMemory>
         requires { CanEnter item.now self.old }
         ensures entered { (shape : Shape) (records : List Record) → MayCome shape records item.now →

@@ -4,8 +4,8 @@ use Rattle.lf_codec.proofs.Again.{begin_alone}
 use Rattle.lf_codec.proofs.Packing.{stands_in}
 use Rattle.lf_codec.proofs.packed.Packed.lend_view.Goals as goal
 
-pub lend_front-requires-clause-begins : goal.lend_front-requires-clause-begins
-lend_front-requires-clause-begins c =
+pub lend_any-requires-clause-begins : goal.lend_any-requires-clause-begins
+lend_any-requires-clause-begins c =
     let s = c.self.inside in let f = c.in-Spelled in
     let here = stands_in c.args.self.now s.header s.bytes.items s.forms.items c.args.at c.index.result.now
     f.start f.len c.slice_of.result.now c.self.view_is c.self.invariant c.requires c.index.ensures f.is
@@ -18,4 +18,4 @@ returns-in-Spelled c d =
     let here = stands_in c.args.self.now s.header s.bytes.items s.forms.items c.args.at c.index.result.now
     f.start f.len c.slice_of.result.now c.self.view_is c.self.invariant c.requires c.index.ensures f.is
     (c.slice_of.ensures ∙ ap (λ (xs : List ℕ). slice_of xs f.start f.len) c.deref.ensures.value) in
-    c.lend_front.ensures ∙ here.is d
+    c.lend_any.ensures ∙ here.is d
