@@ -66,15 +66,10 @@ written bytes start low high k item room =
     ∙ ap (λ xs. xs ++ item) front
     ∙ append_assoc (take start bytes) (low ∷ high ∷ []) item
 
--- a vector whose slice was written whole
-pub all_written : (n : ℕ) (old new : List ℕ) → length new ≡ length old → n ≡ length old
-    → take n (new ++ drop (length new) old) ≡ new
-all_written n old new same all = take_at new (drop (length new) old) n (omega arith)
-
 module _ (old new : List ℕ) (used start low high : ℕ) (item : List ℕ) (behind : used ≤ start)
     (room : start ≤ length old) (long : length item ≡ low + 256 * high)
     (is : take (start + 2 + length item) new ≡ take start old ++ low ∷ high ∷ item) where
-  pub stands_put : IsAt (take (start + 2 + length item) new) start item
+  stands_put : IsAt (take (start + 2 + length item) new) start item
   stands_put = subst (λ (all : List ℕ). IsAt all start item) (sym is)
       (subst (λ (from : ℕ). IsAt (take start old ++ low ∷ high ∷ item) from item)
       (omega (arith, length-take start old))
@@ -85,9 +80,32 @@ module _ (old new : List ℕ) (used start low high : ℕ) (item : List ℕ) (beh
       let whole : start ≡ used + (start - used) = omega arith in
       ap (λ n. take n old) whole ∙ take-add used (start - used) old
 
-  pub stays_put : (from : ℕ) (other : List ℕ) → IsAt (take used old) from other
+  stays_put : (from : ℕ) (other : List ℕ) → IsAt (take used old) from other
       → IsAt (take (start + 2 + length item) new) from other
   stays_put from other at = subst (λ (all : List ℕ). IsAt all from other)
       (sym (is ∙ ap (λ front. front ++ low ∷ high ∷ item) parts
       ∙ append_assoc (take used old) (take (start - used) (drop used old)) (low ∷ high ∷ item)))
       (stays (take used old) (take (start - used) (drop used old) ++ low ∷ high ∷ item) from other at)
+
+-- the same of a vector of so many bytes whose slice was written: what is in use of it afterwards
+module _ (count : ℕ) (old slice new : List ℕ) (used start low high : ℕ) (item : List ℕ) (value : slice ≡ old)
+    (whole : count ≡ length old) (same : length new ≡ length slice) (behind : used ≤ start) (room : start ≤ length old)
+    (long : length item ≡ low + 256 * high)
+    (is : take (start + 2 + length item) new ≡ take start slice ++ low ∷ high ∷ item) where
+  abbrev in_use : List ℕ → List ℕ
+  in_use bytes = take (start + 2 + length item) bytes
+
+  written_whole : take count (new ++ drop (length new) old) ≡ new
+  written_whole = take_at new (drop (length new) old) count (omega (arith, same, ap length value))
+
+  of_old : take (start + 2 + length item) new ≡ take start old ++ low ∷ high ∷ item
+  of_old = is ∙ ap (λ (bytes : List ℕ). take start bytes ++ low ∷ high ∷ item) value
+
+  pub stands_written : IsAt (in_use (take count (new ++ drop (length new) old))) start item
+  stands_written = subst (λ (bytes : List ℕ). IsAt (in_use bytes) start item) (sym written_whole)
+      (stands_put old new used start low high item behind room long of_old)
+
+  pub stays_written : (from : ℕ) (other : List ℕ) → IsAt (take used old) from other
+      → IsAt (in_use (take count (new ++ drop (length new) old))) from other
+  stays_written from other at = subst (λ (bytes : List ℕ). IsAt (in_use bytes) from other) (sym written_whole)
+      (stays_put old new used start low high item behind room long of_old from other at)
