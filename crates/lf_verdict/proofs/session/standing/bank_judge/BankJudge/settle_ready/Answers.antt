@@ -1,4 +1,4 @@
-use Rattle.std.proofs.Common.{◌++◌, ◌∷◌, [], Some, sym}
+use Rattle.std.proofs.Common.{◌++◌, ◌∷◌, [], sym}
 use Rattle.lf_verdict.proofs.Judges.{steady_if, turn_fits, judged_more}
 use Rattle.lf_verdict.proofs.session.standing.bank_judge.BankJudge.settle_ready.Goals as goal
 
