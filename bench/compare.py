@@ -64,12 +64,18 @@ def milliseconds(words: list[str]) -> float:
     return ran.processor * 1000
 
 
-def rows(name: str, options: str, events: int, turns: int, programs: list[Program], folder: Path) -> None:
-    """Writes the trace, runs the programs in turns, and prints a row for each."""
-    trace, config = folder / "trace.lfts", folder / "shape.toml"
+def written(options: str, events: int, folder: Path) -> tuple[Path, Path]:
+    """The configuration and the trace that make_trace.py writes with these options."""
+    config, trace = folder / "shape.toml", folder / "trace.lfts"
     words: list[str | Path] = [sys.executable, HERE / "make_trace.py", "--events", str(events)]
     words += ["--out", trace, "--config", config, *options.split()]
     subprocess.run(words, check=True, stdout=subprocess.DEVNULL)
+    return config, trace
+
+
+def rows(name: str, options: str, events: int, turns: int, programs: list[Program], folder: Path) -> None:
+    """Runs the programs on the trace in turns, and prints a row for each."""
+    config, trace = written(options, events, folder)
     times: dict[str, list[float]] = {program.name: [] for program in programs}
     for _ in range(turns):
         for program in programs:
