@@ -83,11 +83,11 @@ on_found (Some n) holds each = each n holds
 on_found None holds each = tt
 
 pub lent_sound : (p q : Progress) (bytes : List ℕ) (item : Record) (found : Option ℕ) (pending : List ℕ) →
-    IfSome found (λ n. ReadsInto p bytes n (Some item) q) → IfNone found (q ≡ p) → pending ≡ []
+    IfSome found (λ n. ReadsInto p bytes n item q) → IfNone found (q ≡ p) → pending ≡ []
     → IsSoundReader p pending → IsSoundReader q pending
 lent_sound p q bytes item (Some n) pending into none empty sound =
-    rw (empty, into.is_counted) (sound_reader (counted p n into.item.log)
-    (sound_behind p bytes into.item n into.whole into.stage sound.sound))
+    rw (empty, into.is_counted) (sound_reader (counted p n item.log)
+    (sound_behind p bytes item n into.whole into.stage sound.sound))
 lent_sound p q bytes item None pending into none empty sound =
     subst (λ (x : Progress). IsSoundReader x pending) (sym none) sound
 
@@ -161,25 +161,23 @@ module _ (p : Progress) (bytes : List ℕ) (item : Record) (n : ℕ) (whole : Is
 
 -- the record that is lent stands in front of those that wait, of which there is none
 pub lends_part : (r new : Reading) (bytes : List ℕ) (n : ℕ) (item : Record) →
-    ReadsInto r.progress bytes n (Some item) new.progress → CanLend r → IsSound r.progress
+    ReadsInto r.progress bytes n item new.progress → CanLend r → IsSound r.progress
     → IsBytes bytes → new ≡ record r { progress = new.progress } → LendsPart r bytes n item new
 lends_part r new bytes n item into can sound fits rest =
-    let placed : Some item ≡ Some into.item = into.is_placed in
-    let one : item ≡ into.item = cc in
-    let moved : item ∷ r.records ≡ r.records ++ into.item ∷ [] =
-    ap (λ (rs : List Record). item ∷ rs) can.none_waits ∙ ap (λ (i : Record). i ∷ []) one
-    ∙ sym (ap (λ (rs : List Record). rs ++ into.item ∷ []) can.none_waits) in
+    let moved : item ∷ r.records ≡ r.records ++ item ∷ [] =
+    ap (λ (rs : List Record). item ∷ rs) can.none_waits
+    ∙ sym (ap (λ (rs : List Record). rs ++ item ∷ []) can.none_waits) in
     let same : with_record (Some item) new
-    ≡ record r { progress = counted r.progress n into.item.log; records = r.records ++ into.item ∷ [] } =
+    ≡ record r { progress = counted r.progress n item.log; records = r.records ++ item ∷ [] } =
     ap (with_record (Some item)) rest
     ∙ ap (λ (q : Progress). record r { progress = q; records = item ∷ r.records }) into.is_counted
-    ∙ ap (λ (rs : List Record). record r { progress = counted r.progress n into.item.log; records = rs }) moved in
+    ∙ ap (λ (rs : List Record). record r { progress = counted r.progress n item.log; records = rs }) moved in
+    let range = range_at r.progress into.stage sound in
     record {
-      takes = taken_at_once r (with_record (Some item) new) bytes into.item n can.fine can.between into.stage into.whole
-          sound same;
-      spelled = whole_spelled r.progress bytes into.item n into.whole (range_at r.progress into.stage sound) fits
-          ∙ ap record_bytes (sym one);
-      fits = rw one (whole_fits r.progress bytes into.item n into.whole (range_at r.progress into.stage sound) fits);
+      takes = taken_at_once r (with_record (Some item) new) bytes item n can.fine can.between into.stage into.whole sound
+          same;
+      spelled = whole_spelled r.progress bytes item n into.whole range fits;
+      fits = whole_fits r.progress bytes item n into.whole range fits;
       rest = rest;
       header = ap (λ (q : Progress). header_unless q.stage q.header) into.is_counted
           ∙ sym (ap (λ (s : Stage). header_unless s r.progress.header) into.stage);

@@ -9,7 +9,7 @@ use Rattle.lf_codec.specs.declared.fault.CodecFault.{CodecFault}
 use Rattle.lf_codec.specs.declared.fault.Told.{Told}
 use Rattle.lf_codec.specs.declared.fault.Told.TheVariants.{Fault, Failed}
 use Rattle.lf_codec.specs.Reading.{Reading, reading_of, read_on, header_of, fault_so_far}
-use Rattle.lf_codec.specs.Reader.{told, fault_in, answer_of, bytes_taken, IsKept, HasRead, Gives, HasFailed, RanOut}
+use Rattle.lf_codec.specs.Reader.{told, fault_in, IsKept, HasRead, Gives, HasFailed, RanOut}
 use Rattle.lf_codec.specs.Reader.{WantsMemory}
 use Rattle.lf_codec.specs.Takes.{WasRefused, WasCutShort, HasReadOn}
 use Rattle.lf_codec.proofs.Numbers.{IsBytes, IsBytes-take}
@@ -133,16 +133,6 @@ refused old new piece (Err t) fits is outcome = λ before memory records has.
     (failed_stays old new piece outcome some)) in
     has_failed new (before ++ piece) memory records (fault_in t) now
     (read_or_wants new (before ++ piece) memory records (fed old new before piece memory records fits outcome has))
-
--- the same of a feed that says how many bytes it took
-pub refused_taking : (old new : Reading) (bytes : List ℕ) (answer : Result ℕ (Told CodecFault)) → IsBytes bytes →
-    answer_of answer ≡ told old.fault new.fault
-    → (new ≡ read_on old (bytes_taken answer bytes)) ⊎ WasRefused old (bytes_taken answer bytes) new
-    → IfErr answer (λ t. (before : List ℕ) (memory : List (ℕ × Bytes)) (records : List Record) →
-    HasRead old before memory records
-    → HasFailed new (before ++ bytes) memory records (fault_in t))
-refused_taking old new bytes (Ok n) fits is outcome = tt
-refused_taking old new bytes (Err t) fits is outcome = refused old new bytes (Err t) fits is outcome
 
 -- ---- a reader and the caller's records, seen as one
 

@@ -17,7 +17,7 @@ use Rattle.lf_codec.specs.Checks.{byte_at, judged, head_checks, fixed_checks, st
 use Rattle.lf_codec.specs.Steps.{fixed_len, data_len, head_at, counted, record_of, past_head, advanced}
 use Rattle.lf_codec.specs.Sound.{IsInRange, HasRoom, IsSoundAt, IsSound, most_data}
 use Rattle.lf_codec.specs.Reading.{Reading, read_on, memory_in, records_in}
-use Rattle.lf_codec.specs.Takes.{IsWholeRecord, TakesPart}
+use Rattle.lf_codec.specs.Takes.{IsWholeHead, AreWholeParts, IsWholeRecord, TakesPart}
 use Rattle.lf_codec.proofs.Soundness.{room_of_head, data_limit, most_data-le, fixed_len-le, sound_past_record}
 use Rattle.lf_codec.proofs.EachKind.{no_data_behind}
 use Rattle.lf_codec.proofs.Forward.{clean, step_read}
@@ -248,6 +248,21 @@ module _ (p : Progress) (at : p.stage ≡ stages.Head) (bytes : List ℕ) (head 
       (omega arith, whole_within p bytes head fixed carried whole range_here, sym steps, refl)
 
 -- ---- a record that stands whole
+
+-- the record whose parts stand whole
+module _ (p : Progress) (bytes rest fixed carried : List ℕ) (head : Head) (front : IsWholeHead p bytes head rest)
+    (parts : AreWholeParts p.header head.kind head.bank rest fixed carried) where
+  pub whole_record : IsWholeRecord p bytes (record_of p.header head fixed carried) (8 + length fixed + length carried)
+  whole_record = record {
+    head = head;
+    rest = rest;
+    fixed = fixed;
+    carried = carried;
+    at_front = front;
+    behind = parts;
+    item_is = refl;
+    len_is = refl;
+  }
 
 module _ (p : Progress) (bytes : List ℕ) (item : Record) (len : ℕ) (whole : IsWholeRecord p bytes item len) where
   pub parts_of : HasParts p bytes whole.head whole.fixed whole.carried

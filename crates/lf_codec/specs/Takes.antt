@@ -127,10 +127,8 @@ TakesStep old bytes (Ok _) new = (new ≡ stepped old bytes) × (new.fault ≡ N
 TakesStep old bytes (Err fault) new = (new.fault ≡ Some fault) ×
     ((new ≡ stepped old bytes) ⊎ IsUnkept old bytes new fault)
 
--- the record at the front of these bytes, of so many of them, is put into the place and counted
-pub record ReadsInto (old : Progress) (bytes : List ℕ) (n : ℕ) (place : Option Record) (new : Progress) : Type 0 where
-  pub item : Record
-  pub is_placed : place ≡ Some item
+-- this is the record at the front of these bytes, of so many of them, and it is counted
+pub record ReadsInto (old : Progress) (bytes : List ℕ) (n : ℕ) (item : Record) (new : Progress) : Type 0 where
   pub stage : old.stage ≡ stages.Head
   pub whole : IsWholeRecord old bytes item n
   pub is_counted : new ≡ counted old n item.log

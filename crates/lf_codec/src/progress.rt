@@ -7,12 +7,13 @@ ghost use Rattle.lf_codec.specs.Steps.{fixed_len, stage_len, within, at_next, pa
 ghost use Rattle.lf_codec.specs.Steps.{past_head, past_fixed, advanced};
 
 use crate::checks::{check_end, check_fixed, check_head, check_header, check_memory};
-use crate::event::block_of;
 use crate::fault::CodecCause;
 use crate::fields::u32_at;
 use crate::header::Header;
 use crate::stage::{Found, Head, Stage};
-use crate::step::{between, data_len, fixed_len, fixed_of, head_at, header_at, record_of};
+use crate::step::{
+    between, block_of, data_len, fixed_len, fixed_of, head_at, header_at, record_of,
+};
 use std::mem;
 
 /// How far the reading of a trace has come.

@@ -5,12 +5,10 @@ ghost use Rattle.lf_codec.specs.declared.stage.Stage.TheVariants as stages;
 ghost use Rattle.lf_codec.specs.Layout.{code_of};
 ghost use Rattle.lf_codec.specs.Checks.{byte_at};
 ghost use Rattle.lf_codec.specs.Packed.{StandLast};
-ghost use Rattle.lf_codec.specs.Carrying.{carrying, CanCarry};
 ghost use Rattle.lf_codec.specs.Takes.{IsWholeHead, AreWholeParts, IsWholeRecord, ReadsInto, MayPack};
 ghost use Rattle.lf_codec.specs.Sound.{most_data};
 
 use crate::checks::{check_fixed, check_head_of};
-use crate::event::{event_at, put_bytes};
 use crate::packed::Packed;
 use crate::progress::Progress;
 use crate::stage::{Head, Kind, Stage};
@@ -39,19 +37,6 @@ fn first_kind(bytes: &[u8]) -> Option<Kind>
     match Kind::try_from(bytes[0]) {
         Ok(kind) => Some(kind),
         Err(_) => None,
-    }
-}
-
-/// Puts the record into the place, and then the bytes into its event, so that neither is copied.
-#[inline(always)]
-fn put_record(place: &mut Option<Record>, bare: Record, carried: &[u8])
-    requires { CanCarry bare.event carried.now }
-    ensures { place.new ≡ Some (record bare { event = carrying bare.event carried.now }) }
-{
-    *place = Some(bare);
-    match place {
-        Some(item) => put_bytes(&mut item.event, carried),
-        None => unreachable!(),
     }
 }
 
@@ -101,56 +86,6 @@ impl Progress {
             fixed,
             carried,
         })
-    }
-
-    /// Reads the next record, which is of this kind, where the bytes have it whole and its checks pass: puts
-    /// it into `place`, counts it and says how many bytes it has. Otherwise nothing changes.
-    #[inline(always)]
-    fn read_event(&mut self, kind: Kind, bytes: &[u8], place: &mut Option<Record>) -> Option<usize>
-        requires sound { IsSound self.old }
-        requires kind { code_of kind ≡ byte_at 0 bytes.now }
-        ensures some { IfSome result (λ n. ReadsInto self.old bytes.now n place.new self.new) }
-        ensures none { IfNone result (self.new ≡ self.old) }
-    {
-        let whole = self.whole(kind, bytes)?;
-        let len = 8 + whole.fixed.len() + whole.carried.len();
-        let bare = Record {
-            log: whole.head.log,
-            bank: whole.head.bank,
-            number: whole.head.number,
-            event: event_at(&self.header, kind, whole.fixed, &[]),
-        };
-        put_record(place, bare, whole.carried);
-        self.count_on(len as u64, whole.head.log);
-        Some(len)
-    }
-
-    /// Reads the next record, where the bytes have it whole and all of its checks pass: puts it into
-    /// `place`, counts it and says how many bytes it has. Otherwise nothing changes. Each call of
-    /// `read_event` names its kind: that and what it calls are inlined, so that the code of a kind has its
-    /// own checks and lengths, has no test of another kind, and writes the record once.
-    pub(crate) fn read_record(&mut self, bytes: &[u8], place: &mut Option<Record>) -> Option<usize>
-        requires { IsSound self.old }
-        ensures some { IfSome result (λ n. ReadsInto self.old bytes.now n place.new self.new) }
-        ensures none { IfNone result (self.new ≡ self.old) }
-    {
-        match first_kind(bytes)? {
-            Kind::Issue => self.read_event(Kind::Issue, bytes, place),
-            Kind::Reply => self.read_event(Kind::Reply, bytes, place),
-            Kind::Hit => self.read_event(Kind::Hit, bytes, place),
-            Kind::Primary => self.read_event(Kind::Primary, bytes, place),
-            Kind::Merge => self.read_event(Kind::Merge, bytes, place),
-            Kind::Stall => self.read_event(Kind::Stall, bytes, place),
-            Kind::Fill1 => self.read_event(Kind::Fill1, bytes, place),
-            Kind::Evict1 => self.read_event(Kind::Evict1, bytes, place),
-            Kind::SecondHit => self.read_event(Kind::SecondHit, bytes, place),
-            Kind::SecondPrimary => self.read_event(Kind::SecondPrimary, bytes, place),
-            Kind::SecondStall => self.read_event(Kind::SecondStall, bytes, place),
-            Kind::Fill2 => self.read_event(Kind::Fill2, bytes, place),
-            Kind::Evict2 => self.read_event(Kind::Evict2, bytes, place),
-            Kind::Fence => self.read_event(Kind::Fence, bytes, place),
-            Kind::SecondMerge => self.read_event(Kind::SecondMerge, bytes, place),
-        }
     }
 
     /// Lends the next record, which is of this kind, where the bytes have it whole and its checks pass, and says how many
@@ -208,7 +143,8 @@ impl Progress {
         self.see_event(first_kind(bytes)?, bytes, place)
     }
 
-    /// Reads the next record as `read_record` does, and lends it where it stands.
+    /// Reads the next record where the bytes have it whole and all of its checks pass: lends it, counts it and says how
+    /// many bytes it has. Otherwise nothing changes.
     #[inline(always)]
     pub(crate) fn lend_record<'a>(
         &mut self,
@@ -216,7 +152,7 @@ impl Progress {
         place: &mut RecordView<'a>,
     ) -> Option<usize>
         requires { IsSound self.old }
-        ensures some { IfSome result (λ n. ReadsInto self.old bytes.now n (Some place.new) self.new) }
+        ensures some { IfSome result (λ n. ReadsInto self.old bytes.now n place.new self.new) }
         ensures none { IfNone result (self.new ≡ self.old) }
     {
         let len = self.see_record(bytes, place)?;
@@ -224,7 +160,22 @@ impl Progress {
         Some(len)
     }
 
-    /// Reads the next record as `read_record` does, and keeps it with the others where it stands. The bytes are the
+    /// Reads the next record as `lend_record` does, by code that serves all kinds.
+    pub(crate) fn lend_any<'a>(
+        &mut self,
+        bytes: &'a [u8],
+        place: &mut RecordView<'a>,
+    ) -> Option<usize>
+        requires { IsSound self.old }
+        ensures some { IfSome result (λ n. ReadsInto self.old bytes.now n place.new self.new) }
+        ensures none { IfNone result (self.new ≡ self.old) }
+    {
+        let len = self.see_any(bytes, place)?;
+        self.count_on(len as u64, place.log());
+        Some(len)
+    }
+
+    /// Reads the next record as `lend_record` does, and keeps it with the others where it stands. The bytes are the
     /// last of those that are kept.
     #[inline(always)]
     pub(crate) fn pack_record(&mut self, bytes: &[u8], records: &mut Packed) -> Option<usize>

@@ -1,4 +1,4 @@
-use Rattle.std.proofs.Common.{ℕ, refl, ap, ◌∙◌}
+use Rattle.std.proofs.Common.{ℕ, ap, ◌∙◌}
 use Rattle.lf_codec.specs.Steps.{counted}
 use Rattle.lf_codec.proofs.WholeRecord.{log_exists, room_behind}
 use Rattle.lf_codec.proofs.progress.Progress.lend_record.Goals as goal
@@ -18,8 +18,6 @@ count_on-requires-clause-log c =
 pub returns-clause-some : goal.returns-clause-some
 returns-clause-some c =
     let p = c.args.self.now in let found = c.in_ok-len.ensures in record {
-      item = c.see_record.new.place;
-      is_placed = refl;
       stage = found.stage;
       whole = found.whole;
       is_counted = c.count_on.ensures ∙ ap (λ (log : ℕ). counted p c.in_ok-len.len log) c.log.ensures;

@@ -1,7 +1,7 @@
 use Rattle.std.proofs.Common.{◌+◌, length, sym, subst}
 use Rattle.lf_rules.specs.declared.event.Record.{Record}
 use Rattle.lf_codec.specs.Takes.{IsWholeRecord}
-use Rattle.lf_codec.proofs.Carried.{whole_record}
+use Rattle.lf_codec.proofs.WholeRecord.{whole_record}
 use Rattle.lf_codec.proofs.progress.Progress.see_event.Goals as goal
 
 pub returns-clause-whole : goal.returns-clause-whole

@@ -16,12 +16,12 @@ returns-then-rest-lacks-clause-takes c =
       fault = c.self.inside.fault;
     } in
     let fine : r.fault ≡ None = rw (← c.self.view_is) at c.requires.fine in
-    let short : length c.args.rest.now < lacks r = omega (
+    let here : length c.args.rest.now < lacks c.args.self.now = omega (
       arith,
       c.if-rest-lacks.true,
-      c.step_len.ensures,
-      c.len.ensures.value,
+      c.lacks-lacks.ensures.step,
     ) in
+    let short : length c.args.rest.now < lacks r = rw (← c.self.view_is) at here in
     let few = (some_len c.self.inside.progress c.self.invariant.sound).1 in
     let fits = c.try_extend_from_slice.ensures.variant.1 (omega (arith, short, few)) in
     let longer : c.try_extend_from_slice.new.self.items ≡ c.self.inside.pending.items ++ c.args.rest.now =
@@ -34,16 +34,14 @@ pub returns-in-Ok-clause-takes : goal.returns-in-Ok-clause-takes
 returns-in-Ok-clause-takes c =
     let part : length c.args.self.now.pending < stage_len c.args.self.now.progress.header
     c.args.self.now.progress.stage = rw (← c.self.view_is) c.self.invariant.part in
-    let n : c.step_len.result - c.len.result ≡ lacks c.args.self.now =
-    rw (← c.self.view_is) (omega (arith, c.step_len.ensures, c.len.ensures.value)) in
-    part_ends c.args.self.now c.end_step.new.self c.args.rest.now (c.step_len.result - c.len.result) n c.requires.fine
+    let n : c.lacks-lacks.result ≡ lacks c.args.self.now = omega (arith, c.lacks-lacks.ensures.step) in
+    part_ends c.args.self.now c.end_step.new.self c.args.rest.now c.lacks-lacks.result n c.requires.fine
     part c.if-rest-lacks.false tt c.in-Ok.ensures.takes
 
 pub returns-in-Err-clause-takes : goal.returns-in-Err-clause-takes
 returns-in-Err-clause-takes c =
     let part : length c.args.self.now.pending < stage_len c.args.self.now.progress.header
     c.args.self.now.progress.stage = rw (← c.self.view_is) c.self.invariant.part in
-    let n : c.step_len.result - c.len.result ≡ lacks c.args.self.now =
-    rw (← c.self.view_is) (omega (arith, c.step_len.ensures, c.len.ensures.value)) in
-    part_ends_badly c.args.self.now c.end_step.new.self c.args.rest.now (c.step_len.result - c.len.result)
+    let n : c.lacks-lacks.result ≡ lacks c.args.self.now = omega (arith, c.lacks-lacks.ensures.step) in
+    part_ends_badly c.args.self.now c.end_step.new.self c.args.rest.now (c.lacks-lacks.result)
     c.in-Err.fault n c.requires.fine part c.if-rest-lacks.false c.in-Err.ensures.takes

@@ -2,7 +2,7 @@ use Rattle.std.proofs.Common.{ap, arith}
 use Rattle.lf_codec.specs.Reading.{Reading}
 use Rattle.lf_codec.specs.Reader.{with_records}
 use Rattle.lf_codec.proofs.Refused.{packed, packed_faults, packed_kept, packed_well, packed_refused}
-use Rattle.lf_codec.proofs.reader.Reader.feed_into.Goals as goal
+use Rattle.lf_codec.proofs.reader.Reader.pack.Goals as goal
 
 pub returns-clause-kept : goal.returns-clause-kept
 returns-clause-kept c =
