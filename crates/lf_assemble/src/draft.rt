@@ -35,7 +35,7 @@ fn judge(reader: &mut Reader, piece: &[u8]) -> Result<(), AssembleCause>
     match reader.feed(piece) {
         Ok(()) => {
             let _ = reader.take_memory();
-            reader.drop_front();
+            let _ = reader.take();
             Ok(())
         }
         Err(told) => match told.fault().cause {

@@ -36,7 +36,7 @@ pub fn packed_in(alloc: Global, bytes: &[u8]) -> Result<Packing, NoMemory>
 {
     let mut reader = Reader::new(alloc);
     let mut records = Packed::new(alloc);
-    let Ok(()) = reader.feed_into(bytes, &mut records) else {
+    let Ok(()) = reader.pack(bytes, &mut records) else {
         return Err(NoMemory);
     };
     let mut memory = Vec::new(alloc);

@@ -52,17 +52,14 @@ fn refused_growth_of_a_reader(rt: HostRuntime) -> Result<(), Fail> {
 fn refused_growth_of_packed_records(rt: HostRuntime) -> Result<(), Fail> {
     let mut packed = Packed::new(rt.alloc());
     let mut reader = Reader::new(rt.alloc());
-    let Err(told) = reader.feed_into(&LOAD_MISSES_BOTH_LEVELS, &mut packed) else {
+    let Err(told) = reader.pack(&LOAD_MISSES_BOTH_LEVELS, &mut packed) else {
         assert_eq!(rt; packed.len(), 6);
         return Ok(());
     };
     let fault = told.fault();
     assert_eq!(rt; fault.cause, CodecCause::NoMemory);
     assert_eq!(rt; reader.feed(&[]), Err(Told::Failed(fault)));
-    assert_eq!(rt;
-        reader.feed_into(&[], &mut packed),
-        Err(Told::Failed(fault))
-    );
+    assert_eq!(rt; reader.pack(&[], &mut packed), Err(Told::Failed(fault)));
     let mut there = packed.len();
     for _ in 0..6 {
         if reader.take().is_some() {

@@ -36,8 +36,8 @@ pub fn feed(reader: &mut Reader, piece: &[u8]) -> Result<(), Fail> {
 }
 
 /// Feeds a piece that has no fault, whose records go behind these.
-pub fn feed_into(reader: &mut Reader, piece: &[u8], records: &mut Packed) -> Result<(), Fail> {
-    reader.feed_into(piece, records)?;
+pub fn pack(reader: &mut Reader, piece: &[u8], records: &mut Packed) -> Result<(), Fail> {
+    reader.pack(piece, records)?;
     Ok(())
 }
 
@@ -66,10 +66,8 @@ pub fn finish(reader: &mut Reader) -> Result<Header, Fail> {
 /// Fails where other records come out than these.
 pub fn assert_taken(rt: &impl Abort, reader: &mut Reader, records: &[Record]) {
     for item in records {
-        assert_eq!(rt; reader.front(), Some(item));
         assert_eq!(rt; reader.take().as_ref(), Some(item));
     }
-    assert_eq!(rt; reader.front(), None);
     assert_eq!(rt; reader.take(), None);
 }
 

@@ -1,6 +1,6 @@
 //! Traces of one record, which are read and written again.
 
-use crate::reading::{assert_packed, encoded, feed, feed_into, finish};
+use crate::reading::{assert_packed, encoded, feed, finish, pack};
 use lf_codec::{Packed, Reader};
 use lf_rules::{Event, Record, WideBlock};
 use lf_samples::{C1, bytes_of, event};
@@ -41,7 +41,7 @@ fn assert_one(
     assert_eq!(rt; reader.take().as_ref(), Some(&item));
     let items = [item];
     let mut packed = Packed::new(alloc);
-    feed_into(&mut Reader::new(alloc), &whole, &mut packed)?;
+    pack(&mut Reader::new(alloc), &whole, &mut packed)?;
     assert_packed(rt, &packed, &items);
     let written = encoded(rt, alloc, &header, &Vec::new(alloc), &items)?;
     assert_eq!(rt; written.as_slice(), whole.as_slice());

@@ -1,8 +1,7 @@
 //! Whole traces, however they are cut, and their encodings.
 
 use crate::reading::{
-    ONE_BANK, assert_fault, assert_packed, assert_reads, assert_taken, encoded, feed, feed_into,
-    finish,
+    ONE_BANK, assert_fault, assert_packed, assert_reads, assert_taken, encoded, feed, finish, pack,
 };
 use lf_codec::{CodecCause, CodecFault, Header, Packed, Reader, Told, fits_trace};
 use lf_rules::{Memory, Record};
@@ -96,10 +95,10 @@ fn bytes_that_wait(rt: HostRuntime) -> Result<(), Fail> {
     assert_pending(&rt, rt.alloc(), &whole, 255)
 }
 
-/// Feeds the front of these bytes up to the end of a record, and gives those behind it.
-fn feed_some<'a>(reader: &mut Reader, bytes: &'a [u8]) -> Result<&'a [u8], Fail> {
-    let n = reader.feed_some(bytes)?;
-    let (_, behind) = bytes.split_at(n.min(bytes.len()));
+/// Feeds what these bytes have of the next step, and gives those behind it.
+fn feed_step<'a>(reader: &mut Reader, bytes: &'a [u8]) -> Result<&'a [u8], Fail> {
+    let (front, behind) = bytes.split_at(reader.lacks().min(bytes.len()));
+    feed(reader, front)?;
     Ok(behind)
 }
 
@@ -108,8 +107,8 @@ fn assert_ended(rt: &impl Abort, reader: &mut Reader) -> Result<(), Fail> {
     assert_eq!(rt; finish(reader)?, ONE_BANK);
     let cause = CodecCause::Trailing;
     let fault = CodecFault { cause, offset: 132 };
-    assert_eq!(rt; reader.feed_some(&[0]), Err(Told::Fault(fault)));
-    assert_eq!(rt; reader.feed_some(&[0]), Err(Told::Failed(fault)));
+    assert_eq!(rt; reader.feed(&[0]), Err(Told::Fault(fault)));
+    assert_eq!(rt; reader.feed(&[0]), Err(Told::Failed(fault)));
     Ok(())
 }
 
@@ -121,11 +120,10 @@ fn record_by_record(rt: HostRuntime) -> Result<(), Fail> {
     let mut reader = Reader::new(rt.alloc());
     let mut rest: &[u8] = &LOAD_MISSES_BOTH_LEVELS;
     for _ in 0..132u8 {
-        rest = feed_some(&mut reader, rest)?;
-        if reader.front().is_some() {
-            assert_eq!(rt; reader.front(), expected.next());
-            reader.drop_front();
-            assert_eq!(rt; reader.front(), None);
+        rest = feed_step(&mut reader, rest)?;
+        if let Some(item) = reader.take() {
+            assert_eq!(rt; Some(&item), expected.next());
+            assert_eq!(rt; reader.take(), None);
         }
     }
     assert!(rt; rest.is_empty());
@@ -145,7 +143,7 @@ fn lend_one<'a>(reader: &mut Reader, bytes: &'a [u8]) -> Result<LentPart<'a>, Fa
             return Ok((Some((place, front)), behind));
         }
     }
-    Ok((None, feed_some(reader, bytes)?))
+    Ok((None, feed_step(reader, bytes)?))
 }
 
 /// Each record is lent where it stands, with its bytes, and none waits with the reader.
@@ -162,7 +160,7 @@ fn records_that_are_lent(rt: HostRuntime) -> Result<(), Fail> {
             assert_eq!(rt; Some(&item.to_record()), expected.next());
             spelled.extend_from_slice(bytes)?;
         }
-        assert_eq!(rt; reader.front(), None);
+        assert_eq!(rt; reader.take(), None);
         rest = behind;
     }
     assert!(rt; rest.is_empty());
@@ -177,8 +175,8 @@ fn pack_cut(alloc: Global, n: usize, packed: &mut Packed) -> Result<(), Fail> {
     let whole: &[u8] = &LOAD_MISSES_BOTH_LEVELS;
     let (front, back) = whole.split_at(n.min(132));
     let mut reader = Reader::new(alloc);
-    feed_into(&mut reader, front, packed)?;
-    feed_into(&mut reader, back, packed)?;
+    pack(&mut reader, front, packed)?;
+    pack(&mut reader, back, packed)?;
     finish(&mut reader)?;
     Ok(())
 }
@@ -219,19 +217,13 @@ fn a_fault_behind_packed_records(rt: HostRuntime) -> Result<(), Fail> {
     let records = records(rt.alloc(), &C1, &[LOAD, LOADED])?;
     let mut packed = Packed::new(rt.alloc());
     let mut reader = Reader::new(rt.alloc());
-    feed_into(&mut reader, &LOAD_MISSES_BOTH_LEVELS, &mut packed)?;
+    pack(&mut reader, &LOAD_MISSES_BOTH_LEVELS, &mut packed)?;
     let fault = CodecFault {
         cause: CodecCause::Trailing,
         offset: 132,
     };
-    assert_eq!(rt;
-        reader.feed_into(&[0], &mut packed),
-        Err(Told::Fault(fault))
-    );
-    assert_eq!(rt;
-        reader.feed_into(&[0], &mut packed),
-        Err(Told::Failed(fault))
-    );
+    assert_eq!(rt; reader.pack(&[0], &mut packed), Err(Told::Fault(fault)));
+    assert_eq!(rt; reader.pack(&[0], &mut packed), Err(Told::Failed(fault)));
     assert_packed(&rt, &packed, &records);
     Ok(())
 }

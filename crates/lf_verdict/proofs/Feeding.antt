@@ -1,9 +1,8 @@
 -- A piece that is fed a record at a time.
-use Rattle.std.proofs.Common.{◌≡◌, ℕ, ◌+◌, ◌-◌, ◌≤◌, List, [], ◌∷◌, ◌++◌, length, take, drop, Option, Some, None, Ok}
+use Rattle.std.proofs.Common.{◌≡◌, ℕ, ◌+◌, ◌-◌, ◌≤◌, List, [], ◌++◌, length, take, drop, Option, Some, None, Ok}
 use Rattle.std.proofs.Common.{refl, sym, ap, subst, ◌∙◌, arith, append_assoc}
 use Rattle.std.proofs.Math.Seq.{take-add}
 use Rattle.std.proofs.lemmas.List.{append-nil, length-drop, take-append-drop, take_all}
-use Rattle.lf_rules.specs.declared.event.Record.{Record}
 use Rattle.lf_verdict.specs.declared.session.intake.Intake.{Intake}
 use Rattle.lf_verdict.specs.declared.stop.Stop.{Stop}
 use Rattle.lf_verdict.specs.Session.{HasFed, stop_told}
@@ -49,7 +48,3 @@ fed_rest s bytes piece at fed =
 pub fed_all : (s : Intake) (bytes piece : List ℕ) (at : ℕ) → length piece ≤ at → HasFed s (bytes ++ take at piece) →
     HasFed s (bytes ++ piece)
 fed_all s bytes piece at past fed = subst (λ (xs : List ℕ). HasFed s (bytes ++ xs)) (take_all at piece past) fed
-
--- the record at the front
-pub front_of : (there rest : List Record) (front : Record) → there ≡ front ∷ rest → take 1 there ≡ front ∷ []
-front_of there rest front is = ap (λ (xs : List Record). take 1 xs) is

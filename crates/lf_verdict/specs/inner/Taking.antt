@@ -1,5 +1,5 @@
 -- What an intake takes from its reader.
-use Rattle.std.specs.Prelude.{◌≡◌, Bool, true, ℕ, List, [], ◌++◌, length, Some}
+use Rattle.std.specs.Prelude.{◌≡◌, ◌<◌, ◌≤◌, Bool, true, ℕ, List, [], ◌++◌, length, take, Some, Result, Ok, Err}
 use Rattle.lf_rules.specs.declared.shape.Shape.{Shape}
 use Rattle.lf_rules.specs.declared.event.Record.{Record}
 use Rattle.lf_rules.specs.Address.{flat_memory}
@@ -61,3 +61,19 @@ pub record Begins (old : Intake) (start : ℕ) (new : Intake) : Type 0 where
   pub known : old.asked.watched ≡ true → IsKnown running.watch
   pub keeps : running.entries.keeps ≡ old.asked.ordered
   pub counts : old.asked.counted ≡ true → Counts running
+
+-- ---- what is fed in parts
+
+-- the answer of a feed that says how many bytes it took, without their number
+abbrev pub answer_of : {F : Type 0} → Result ℕ F → Result (Unit {0}) F
+answer_of (Ok n) = Ok tt
+answer_of (Err fault) = Err fault
+
+-- the bytes that such a feed took; those behind a fault change nothing
+abbrev pub bytes_taken : {F : Type 0} → Result ℕ F → List ℕ → List ℕ
+bytes_taken (Ok n) bytes = take n bytes
+bytes_taken (Err fault) bytes = bytes
+
+-- it took no more bytes than there are, and one at least where there is one
+abbrev pub TakesSome : List ℕ → ℕ → Type 0
+TakesSome bytes n = (n ≤ length bytes) × (0 < length bytes → 0 < n)

@@ -211,7 +211,7 @@ impl<G: Gate + Sync + Send + Copy + 'static> Ahead<G> {
         ensures { ReadsOn self.old self.new piece.now result }
     {
         header_of_bytes();
-        self.intake.reader.feed_into(piece, &mut self.records)?;
+        self.intake.reader.pack(piece, &mut self.records)?;
         if self.is_due() {
             self.hand_over(rt)?;
         }

@@ -13,7 +13,8 @@ ghost use Rattle.lf_verdict.specs.Session.{refusal_of, stop_told, IsRunning, Has
 ghost use Rattle.lf_verdict.specs.Session.{IsCounting, IsOfAnotherHeader, HeaderAgrees};
 ghost use Rattle.lf_verdict.specs.Statistics.{AreStatisticsOf, IsYesVerdict};
 ghost use Rattle.lf_verdict.specs.inner.Taking.{IsLackingIf, IsDrained, CanJudge, RunsOn, Begins};
-ghost use Rattle.lf_codec.specs.Reader.{answer_of, bytes_taken, TakesSome, CanLend};
+ghost use Rattle.lf_verdict.specs.inner.Taking.{answer_of, bytes_taken, TakesSome};
+ghost use Rattle.lf_codec.specs.Reader.{CanLend};
 ghost use Rattle.lf_verdict.specs.declared.session.intake.Judging.TheVariants.{Waiting};
 ghost use Rattle.lf_rules.specs.declared.shape.Shape.{Shape};
 ghost use Rattle.lf_rules.specs.declared.event.Record.{Record};
@@ -79,9 +80,8 @@ fn judge_records(reader: &mut Reader, standing: &mut Standing) -> Result<(), NoM
     ensures counts { Counts standing.old → Counts standing.new }
 {
     read_so_far();
-    while let Some(item) = reader.front() {
-        standing.take(&RecordView::of(item), &[])?;
-        reader.drop_front();
+    while let Some(item) = reader.take() {
+        standing.take(&RecordView::of(&item), &[])?;
     }
     Ok(())
 }
@@ -269,9 +269,9 @@ impl Intake {
         Ok(())
     }
 
-    /// Takes the next record of these bytes, or what there is of it, and judges it.
+    /// Takes what these bytes have of the next step, and judges what that gives.
     #[inline(never)]
-    fn feed_some(&mut self, bytes: &[u8]) -> Result<usize, Told<Refusal>>
+    fn feed_step(&mut self, bytes: &[u8]) -> Result<usize, Told<Refusal>>
         requires fed { (fed : List ℕ) × HasFed self.old fed }
         requires going { self.old.stop ≡ None }
         ensures shape { self.new.shape ≡ self.old.shape }
@@ -282,10 +282,11 @@ impl Intake {
         ensures in_turn { IsInTurn self.old → IsInTurn self.new }
     {
         header_of_bytes();
-        let n = match self.reader.feed_some(bytes) {
-            Ok(n) => n,
-            Err(told) => return Err(self.stop_with(Stop::from(told))),
-        };
+        faults_stand();
+        let n = bytes.len().min(self.reader.lacks());
+        if let Err(told) = self.reader.feed(&bytes[..n]) {
+            return Err(self.stop_with(Stop::from(told)));
+        }
         match self.take_all() {
             Ok(()) => Ok(n),
             Err(NoMemory) => Err(self.stop_with(Stop::Memory)),
@@ -332,7 +333,7 @@ impl Intake {
             Ok(n) => n,
             Err(told) => return Err(told),
         };
-        match self.feed_some(&bytes[n..]) {
+        match self.feed_step(&bytes[n..]) {
             Ok(more) => Ok(n + more),
             Err(told) => Err(told),
         }

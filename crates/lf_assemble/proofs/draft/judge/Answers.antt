@@ -1,4 +1,4 @@
-use Rattle.std.proofs.Common.{◌++◌, ◌∙◌, ◌≢◌, Some, ap, sym, inr, rules, option_to_list, take}
+use Rattle.std.proofs.Common.{◌++◌, ◌∙◌, ◌≢◌, Some, ap, sym, inr, rules, option_to_list}
 use Rattle.lf_codec.specs.declared.fault.CodecCause.TheVariants.{NoMemory}
 use Rattle.lf_codec.specs.declared.fault.CodecFault.{CodecFault}
 use Rattle.lf_codec.specs.Reader.{fault_in}
@@ -15,8 +15,8 @@ returns-in-Ok c = λ bytes so_far.
     let memory = so_far.memory ++ option_to_list c.take_memory.result in
     record {
       memory = memory;
-      records = so_far.records ++ take 1 c.take_memory.new.self.records;
-      read = c.drop_front.ensures.taken fed memory so_far.records second;
+      records = so_far.records ++ option_to_list c.take.result;
+      read = c.take.ensures.taken fed memory so_far.records second;
       fine = ap (λ (r : Reading). r.fault) read.same ∙ taken_is_fine c.args.reader.now.fault c.feed.new.self.fault
           c.in-Ok.ensures.told;
     }

@@ -11,8 +11,8 @@ pub returns : goal.returns
 returns c =
     let bytes = c.args.bytes.now in
     let begun = c.new-reader.result in
-    let fed = c.feed_into.new.self in
-    let records = c.feed_into.new.records.records in
+    let fed = c.pack.new.self in
+    let records = c.pack.new.records.records in
     let memory = c.take_memory.new.memory.items in
     let header = c.in-Ok-finish.header in
     let first = subst (λ (rs : List Record). HasRead (with_records rs begun) [] [] []) (sym c.new-records.ensures)
