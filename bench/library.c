@@ -1,6 +1,6 @@
 // What it costs to ask a board after each record whether something broke:
 //
-//     cc -O2 -I../library -o library library.c ../crates/lf_c/out/libwudzark.a && ./library CONFIG TRACE [TURNS]
+//     cc -O2 -I../library -o library library.c ../crates/library_c/out/libwudzark.a && ./library CONFIG TRACE [TURNS]
 //
 // In each turn the trace is fed in four ways, one after another, so that each meets the same machine: in pieces of 64
 // KiB, record by record, record by record with a question after each, and in pieces with a question after each. The

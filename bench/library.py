@@ -17,7 +17,7 @@ from pathlib import Path
 
 HERE = Path(__file__).resolve().parent
 PROGRAM = HERE.parent / "crates/score/out/score"
-LIBRARY = HERE.parent / "crates/lf_c/out/libwudzark.a"
+LIBRARY = HERE.parent / "crates/library_c/out/libwudzark.a"
 
 
 def run(*words: object) -> None:

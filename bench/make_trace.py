@@ -317,7 +317,7 @@ def run(shape: Shape, out: Out) -> lfts.Recorder:
     """Runs the cache, and records the trace into a file. The recorder, when the trace is whole."""
     chance = random.Random(shape.seed)
     memory = {block: bytearray(chance.randbytes(shape.block)) for block in range(0, shape.footprint, 3)}
-    with lfts.Recorder(out, shape.ports, shape.banks, shape.block, shape.version, shape.factor) as recorder:
+    with lfts.Recorder(out, shape.ports, shape.banks, shape.block, shape.factor, shape.version) as recorder:
         for block, data in memory.items():
             recorder.memory(block, data)
         drive(shape, recorder, memory, chance)

@@ -1,13 +1,14 @@
 #!/usr/bin/env python3
 """Writes tables of answers as a JUnit report, with a test suite for each table.
 
-    to_junit.py [--due DUE] [--out REPORT] [NAME=]TABLE ..
+    to_junit.py [--due DUE] [--failures] [--out REPORT] [NAME=]TABLE ..
 
 A table has the form of docs/FARM.md. A trace passes if its answer is yes. A no is a failure, and its type is the rule
 that was broken. A refusal and a trace without an answer are errors. DUE has lines `TRACE<tab>WORD` or
 `TRACE<tab>WORD<tab>RULE` for traces that must have another answer, for example those of a design with a known fault.
 Such a trace passes if its answer has that word and, if a rule is named, that rule. If it is in no table, that is an
-error. The exit status is 0 if all pass, and 1 otherwise."""
+error. With --failures the traces of a table that pass are one case together. The exit status is 0 if all pass, and 1
+otherwise."""
 
 from __future__ import annotations
 
@@ -17,43 +18,12 @@ import sys
 import xml.etree.ElementTree as xml
 from dataclasses import dataclass
 from pathlib import Path
-from typing import Dict, Iterator, List, Optional
+from typing import Dict, List, Optional
+
+from table import Row, lines, rows
 
 # what XML 1.0 cannot hold, not even by an entity
 UNWRITABLE = re.compile("[^\t\n\r\x20-\ud7ff\ue000-\ufffd\U00010000-\U0010ffff]")
-WORDS = {"0": "yes", "1": "no", "2": "refused"}
-
-
-@dataclass(frozen=True)
-class Row:
-    """A row of a table."""
-
-    status: str
-    microseconds: str
-    trace: str
-    line: str
-    host: str = "-"
-    restarts: str = "0"
-
-    @property
-    def seconds(self) -> float:
-        return int(self.microseconds) / 1e6
-
-    @property
-    def word(self) -> str:
-        """The first word of the answer, if it is one that goes with the status."""
-        word = self.line.split(" ")[0]
-        return word if WORDS.get(self.status) == word else "unanswered"
-
-    @property
-    def rule(self) -> Optional[str]:
-        found = re.search(r" rule=(\w+)", self.line)
-        return found[1] if found else None
-
-    @property
-    def kind(self) -> str:
-        """What is wrong, in a word or two, by which a report groups: a rule, `no numbering`, `refused format`."""
-        return self.rule or " ".join(self.line.split(" ")[:2])
 
 
 @dataclass(frozen=True)
@@ -94,25 +64,14 @@ def writable(text: str) -> str:
     return UNWRITABLE.sub(lambda found: f"\\x{ord(found[0]):02x}", text)
 
 
-def lines(path: Path) -> Iterator[List[str]]:
-    """The cells of each line of a file."""
-    with open(path, encoding="utf-8", errors="backslashreplace", newline="\n") as file:
-        for number, line in enumerate(file, 1):
-            cells = line.rstrip("\n").split("\t")
-            if len(cells) < 2:
-                raise SystemExit(f"to_junit.py: {path}, line {number}: no tab in it")
-            yield cells
-
-
-def rows(path: Path) -> Iterator[Row]:
-    for number, cells in enumerate(lines(path), 1):
-        if not 4 <= len(cells) <= 6 or not cells[1].isdecimal():
-            raise SystemExit(f"to_junit.py: {path}, line {number}: not a row of a table")
-        yield Row(*cells)
-
-
-def suite_of(name: str, table: List[Row], due: Dict[str, Due]) -> Suite:
+def suite_of(name: str, table: List[Row], due: Dict[str, Due], only_failures: bool) -> Suite:
     suite = Suite(xml.Element("testsuite", name=writable(name)))
+    if only_failures:
+        passing = [row for row in table if due.get(row.trace, Due()).is_met(row)]
+        table = [row for row in table if not due.get(row.trace, Due()).is_met(row)]
+        suite.tests, suite.seconds = 1, sum(row.seconds for row in passing)
+        attributes = {"classname": writable(name), "name": f"{len(passing)} traces that pass"}
+        xml.SubElement(suite.element, "testcase", attributes, time=f"{suite.seconds:.6f}")
     for row in table:
         attributes = {"classname": writable(name), "name": writable(row.trace), "time": f"{row.seconds:.6f}"}
         case = xml.SubElement(suite.element, "testcase", attributes)
@@ -131,16 +90,17 @@ def suite_of(name: str, table: List[Row], due: Dict[str, Due]) -> Suite:
     return suite
 
 
-def report_of(tables: Dict[str, List[Row]], due: Dict[str, Due]) -> List[Suite]:
-    suites = [suite_of(name, table, due) for name, table in tables.items()]
+def report_of(tables: Dict[str, List[Row]], due: Dict[str, Due], only_failures: bool) -> List[Suite]:
+    suites = [suite_of(name, table, due, only_failures) for name, table in tables.items()]
     judged = {row.trace for table in tables.values() for row in table}
     lacking = [Row("3", "0", trace, "missing in each table") for trace in due if trace not in judged]
-    return suites + ([suite_of("due", lacking, due)] if lacking else [])
+    return suites + ([suite_of("due", lacking, due, False)] if lacking else [])
 
 
 def main() -> int:
     parser = argparse.ArgumentParser(description=__doc__, formatter_class=argparse.RawDescriptionHelpFormatter)
     parser.add_argument("--due", type=Path, help="the answers that are due where they are not yes")
+    parser.add_argument("--failures", action="store_true", help="a case only for each trace that does not pass")
     parser.add_argument("--out", type=Path, metavar="REPORT", help="where the report goes, if not to standard output")
     parser.add_argument("tables", nargs="+", metavar="[NAME=]TABLE")
     given = parser.parse_args()
@@ -149,7 +109,7 @@ def main() -> int:
     for table in given.tables:
         name, equals, path = table.partition("=")
         tables[name] = list(rows(Path(path if equals else table)))
-    suites = report_of(tables, due)
+    suites = report_of(tables, due, given.failures)
     top = xml.Element("testsuites", counts(suites))
     top.extend(suite.element for suite in suites)
     xml.indent(top)

@@ -6,20 +6,18 @@
 
 #include <stdio.h>
 
-// The last answer, with its line. After a final fault no more is read.
+// Feeds the trace. The first final fault stays what is told, and after it no more is read.
 static wudzark_answer judge(wudzark_board *board, FILE *trace, char *line) {
     char piece[64];
     size_t length;
-    wudzark_answer answer;
-    while ((length = fread(piece, 1, sizeof piece, trace)) > 0) {
+    wudzark_answer answer = {WUDZARK_FINE, 0};
+    while (answer.status == WUDZARK_FINE && (length = fread(piece, 1, sizeof piece, trace)) > 0) {
         if (wudzark_feed(board, piece, length) != WUDZARK_FINE) break;
         answer = wudzark_broken(board, line, WUDZARK_LINE_BYTES);
-        if (answer.status != WUDZARK_FINE) {
-            wudzark_finish(board, line, 0); // closes the board, and keeps the line
-            return answer;
-        }
     }
-    return wudzark_finish(board, line, WUDZARK_LINE_BYTES);
+    if (answer.status == WUDZARK_FINE) return wudzark_finish(board, line, WUDZARK_LINE_BYTES);
+    wudzark_abort(board);
+    return answer;
 }
 
 int main(int count, char **words) {
@@ -34,7 +32,7 @@ int main(int count, char **words) {
     }
     answer = wudzark_open(&board, config, fread(config, 1, sizeof config, file), line, sizeof line);
     if (answer.status == WUDZARK_FINE) answer = judge(&board, trace, line);
-    printf("%.*s\n", (int)answer.length, line);
+    printf("%.*s\n", (int)wudzark_shown(answer, sizeof line), line);
     fclose(trace);
     fclose(file);
     return (int)answer.status;

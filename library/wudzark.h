@@ -1,23 +1,29 @@
 // wudzark.h - judges the trace of a two-level lockup-free cache inside the process that records it.
 //
-// For C99 and C++11; a class for C++17 stands at the end. Link libwudzark.a. Its calls are proved: what each of them
-// answers is a contract that the code was checked against, and docs/TRUST.md says what that means for a caller in C.
+// For C99 and C++11; a class for C++17 stands at the end. Link libwudzark.a, or libwudzark.so. Its calls are proved:
+// what each of them answers is a contract that the code was checked against, and docs/TRUST.md says what that means
+// for a caller in C.
 //
 // A board judges one trace. Open it for a hierarchy, and feed it the bytes of the trace in pieces of any length. Ask
-// after each piece whether there is a final fault. Finish the board for the verdict:
+// after each piece whether there is a final fault. The first one is the answer: no later bytes can make it a yes, and
+// the board is given up. Without one, finish the board for the verdict:
 //
 //     wudzark_board board = WUDZARK_BOARD;
 //     char line[WUDZARK_LINE_BYTES];
 //     wudzark_answer answer = wudzark_open(&board, config, config_length, line, sizeof line);
 //     while (answer.status == WUDZARK_FINE && (piece = next_piece(&length))) {
-//         if (wudzark_feed(&board, piece, length) != WUDZARK_FINE) break;
+//         if (wudzark_feed(&board, piece, length) != WUDZARK_FINE) break; // wudzark_finish says why
 //         answer = wudzark_broken(&board, line, sizeof line);
 //     }
-//     answer = wudzark_finish(&board, line, sizeof line);
+//     if (answer.status == WUDZARK_FINE)
+//         answer = wudzark_finish(&board, line, sizeof line);
+//     else
+//         wudzark_abort(&board);
+//     printf("%.*s\n", (int)wudzark_shown(answer, sizeof line), line);
 //
 // A line is what `score` prints for the same bytes, without a newline and without a zero at its end. `length` is that
-// of the whole line. Only as many bytes of it are written as there is room for. A length of 0 says that there is no
-// line, or that memory ran out while the line was made; the status is right in both cases.
+// of the whole line. Only as many bytes of it are written as there is room for: wudzark_shown says how many. A length
+// of 0 says that there is no line, or that memory ran out while the line was made; the status is right in both cases.
 //
 // Boards share nothing, so a program may have any number of them, for example one on each thread. The library keeps
 // nothing itself: it reads no file, starts no thread, prints nothing, and never ends the process. If memory runs out,
@@ -28,13 +34,16 @@
 //     | about          | condition                                                                                   |
 //     |----------------|---------------------------------------------------------------------------------------------|
 //     | a board        | it is made by WUDZARK_BOARD, or of zeros, and after that only the calls write to it         |
-//     | a board        | while it is open it stays where it is: it is not copied, and not freed                      |
-//     | a board        | from its opening on only one thread uses it, with one call at a time                        |
-//     | a board        | it is finished; otherwise its memory is never freed                                         |
-//     | a pointer      | it is not NULL, not even for 0 bytes, and that many bytes can be read or written there      |
+//     | a board        | it may be moved between calls: of a board and its copies only one is used and closed        |
+//     | a board        | one call at a time. Between calls it may go to another thread, as any memory may: by a lock |
+//     | a board        | it is finished or aborted; otherwise its memory is never freed                              |
+//     | a pointer      | that many bytes can be read or written there; with 0 bytes it may be NULL                   |
 //     | a call         | none of its arguments overlap: the board, the bytes that are read, the line                 |
 //     | a call         | not in a signal handler, and not in the forked child of a process with threads              |
 //     | the C library  | malloc, realloc and free are one allocator, and align blocks as C says, up to 16 bytes      |
+//
+// NULL for 0 bytes is what this header allows. Whoever calls the symbols of the library without it gives a pointer
+// that is not NULL.
 
 #ifndef WUDZARK_H
 #define WUDZARK_H
@@ -43,17 +52,21 @@
 #include <stddef.h>
 #include <stdint.h>
 
+// The version of this header, as text and as major * 10000 + minor * 100 + patch.
+#define WUDZARK_VERSION "0.3.0"
+#define WUDZARK_VERSION_NUMBER 300
+
 #ifdef __cplusplus
 extern "C" {
 #endif
 
 // The status of an answer: that of `score` for the same bytes.
-enum {
+typedef enum wudzark_status {
     WUDZARK_FINE = 0,    // opened, taken, nothing broke so far, or a yes
     WUDZARK_BROKEN = 1,  // a no, or a final fault
     WUDZARK_REFUSED = 2, // the input cannot be judged, or memory ran out
     WUDZARK_MISUSED = 3  // the board is not open, or wudzark_open found it open: nothing was done
-};
+} wudzark_status;
 
 // Enough room for every line, except the refusal of a configuration with a very long key.
 #define WUDZARK_LINE_BYTES 256
@@ -67,7 +80,7 @@ typedef struct wudzark_board {
     { false, NULL }
 
 typedef struct wudzark_answer {
-    uint32_t status;
+    wudzark_status status;
     size_t length; // of the line, in bytes
 } wudzark_answer;
 
@@ -77,7 +90,7 @@ wudzark_answer wudzark_open(wudzark_board *board, const void *config, size_t con
 
 // Feeds the next bytes of the trace. WUDZARK_REFUSED says that the bytes are not a trace, or that memory ran out.
 // Later bytes are then ignored, and wudzark_finish says which of the two it was.
-uint32_t wudzark_feed(wudzark_board *board, const void *bytes, size_t length);
+wudzark_status wudzark_feed(wudzark_board *board, const void *bytes, size_t length);
 
 // Whether there is a final fault: no bytes that follow can lead to a yes. Then the line says what broke, for example
 // `broken bank=0 number=5 rule=ReplyData upon log=0 event=1 at=104`. The status is WUDZARK_BROKEN, or WUDZARK_REFUSED
@@ -86,8 +99,33 @@ uint32_t wudzark_feed(wudzark_board *board, const void *bytes, size_t length);
 wudzark_answer wudzark_broken(wudzark_board *board, char *line, size_t room);
 
 // The verdict on all bytes that were fed, with its line: WUDZARK_FINE for a yes, WUDZARK_BROKEN for a no. The board is
-// then closed, and may be opened again.
+// then closed, and may be opened again. After a final fault this is the verdict on a trace that was cut, and mostly
+// `refused format Truncated`: then use wudzark_abort, and keep the line of wudzark_broken.
 wudzark_answer wudzark_finish(wudzark_board *board, char *line, size_t room);
+
+// How many bytes of an answer's line were written into so much room.
+static inline size_t wudzark_shown(wudzark_answer answer, size_t room) {
+    return answer.length < room ? answer.length : room;
+}
+
+// The library wants pointers that are not NULL. These have nothing behind them that is read or written.
+static inline const void *wudzark_bytes(const void *bytes) { return bytes ? bytes : ""; }
+static inline char *wudzark_line(char *line) {
+    static char none;
+    return line ? line : &none;
+}
+
+#define wudzark_open(board, config, length, line, room)                                                               \
+    wudzark_open(board, wudzark_bytes(config), length, wudzark_line(line), room)
+#define wudzark_feed(board, bytes, length) wudzark_feed(board, wudzark_bytes(bytes), length)
+#define wudzark_broken(board, line, room) wudzark_broken(board, wudzark_line(line), room)
+#define wudzark_finish(board, line, room) wudzark_finish(board, wudzark_line(line), room)
+
+// Closes the board without telling a verdict, and frees what it has. It may be opened again. WUDZARK_MISUSED where it
+// was not open, which does no harm.
+static inline wudzark_status wudzark_abort(wudzark_board *board) {
+    return wudzark_finish(board, NULL, 0).status == WUDZARK_MISUSED ? WUDZARK_MISUSED : WUDZARK_FINE;
+}
 
 #ifdef __cplusplus
 }
@@ -96,6 +134,7 @@ wudzark_answer wudzark_finish(wudzark_board *board, char *line, size_t room);
 #if defined(__cplusplus) && __cplusplus >= 201703L
 
 #include <string_view>
+#include <utility>
 
 namespace wudzark {
 
@@ -112,33 +151,68 @@ struct answer {
     explicit operator bool() const { return status == wudzark::status::fine; }
 };
 
-// A board that its destructor finishes.
+// A board that is moved and not copied, and that its destructor aborts. The first answer that is a refusal or a final
+// fault stays: `broken` and `finish` answer it from then on, until the scoreboard is opened again.
 class scoreboard {
   public:
     scoreboard() = default;
-    explicit scoreboard(std::string_view configuration) { open(configuration); }
+    explicit scoreboard(std::string_view configuration) { (void)open(configuration); }
     scoreboard(const scoreboard &) = delete;
     scoreboard &operator=(const scoreboard &) = delete;
-    ~scoreboard() { finish(); }
+    scoreboard(scoreboard &&other) noexcept { take(other); }
+    scoreboard &operator=(scoreboard &&other) noexcept {
+        if (this != &other) {
+            abort();
+            take(other);
+        }
+        return *this;
+    }
+    ~scoreboard() { abort(); }
 
-    answer open(std::string_view configuration) {
-        return told(wudzark_open(&board, at(configuration), configuration.size(), line, sizeof line));
+    [[nodiscard]] answer open(std::string_view configuration) {
+        if (board.live) return {status::misused, {}};
+        first = {WUDZARK_FINE, 0};
+        return kept(wudzark_open(&board, configuration.data(), configuration.size(), line, sizeof line));
     }
-    status feed(std::string_view bytes) { return status(wudzark_feed(&board, at(bytes), bytes.size())); }
-    status feed(const void *bytes, std::size_t length) {
-        return feed(std::string_view(static_cast<const char *>(bytes), length));
+    [[nodiscard]] status feed(std::string_view bytes) { return feed(bytes.data(), bytes.size()); }
+    [[nodiscard]] status feed(const void *bytes, std::size_t length) {
+        if (stays() && !board.live) return status(first.status);
+        const wudzark_status now = wudzark_feed(&board, bytes, length);
+        // the verdict says why
+        if (now == WUDZARK_REFUSED && !stays()) kept(wudzark_finish(&board, line, sizeof line));
+        return status(now);
     }
-    answer broken() { return told(wudzark_broken(&board, line, sizeof line)); }
-    answer finish() { return told(wudzark_finish(&board, line, sizeof line)); }
-    bool is_open() const { return board.live; }
+    [[nodiscard]] answer broken() {
+        if (stays()) return told(first);
+        return kept(wudzark_broken(&board, line, sizeof line));
+    }
+    [[nodiscard]] answer finish() {
+        if (!stays()) return told(wudzark_finish(&board, line, sizeof line));
+        abort();
+        return told(first);
+    }
+    // Closes it without a verdict.
+    void abort() noexcept { wudzark_abort(&board); }
+
+    [[nodiscard]] bool is_open() const { return board.live; }
+    // The answer that stays, or one that is fine.
+    [[nodiscard]] answer refusal() const { return told(first); }
 
   private:
-    static const char *at(std::string_view text) { return text.empty() ? "" : text.data(); }
-    answer told(wudzark_answer a) const {
-        return {status(a.status), std::string_view(line, a.length < sizeof line ? a.length : sizeof line)};
+    [[nodiscard]] bool stays() const { return first.status != WUDZARK_FINE; }
+    answer told(wudzark_answer a) const { return {status(a.status), {line, wudzark_shown(a, sizeof line)}}; }
+    answer kept(wudzark_answer a) {
+        if (a.status == WUDZARK_BROKEN || a.status == WUDZARK_REFUSED) first = a;
+        return told(a);
+    }
+    void take(scoreboard &other) {
+        board = std::exchange(other.board, wudzark_board{false, nullptr});
+        first = std::exchange(other.first, wudzark_answer{WUDZARK_FINE, 0});
+        for (std::size_t i = 0; i < sizeof line; i++) line[i] = other.line[i];
     }
 
     wudzark_board board = WUDZARK_BOARD;
+    wudzark_answer first = {WUDZARK_FINE, 0};
     char line[WUDZARK_LINE_BYTES] = {};
 };
 

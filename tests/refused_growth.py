@@ -2,11 +2,12 @@
 """Runs the program and tests of the crates with their first growth refused, then with their second, and so on
 until a run meets no refusal, and tells each run in which a refused growth was not answered as out of memory.
 
-    refused_growth.py [WORD]      only the runs whose name has the word
+    refused_growth.py [WORD] [--program PROGRAM]      only the runs whose name has the word
 
 The programs are those that `rt run` in crates/score and `rt test` in each crate left in out/. It needs a C compiler
 (cc, or the one that CC names), for a library that refuses one call of malloc, of realloc or of pthread_create. Where a
-growth is refused, the program must print `refused memory`, or `refused thread` where it was the making of a thread.
+growth is refused, the program must print `refused memory`, or `refused thread` where it was the making of a thread, and
+end with status 2. The file that it writes then has its old bytes or all the new ones, and no part of it lies beside it.
 Runs of `demo` are tried at some growths alone, since their number changes from run to run.
 
 Each test whose name begins with `refused_growth_of_` must then end with `out of memory`, where the call told it
@@ -21,12 +22,16 @@ has the name is told as not built.
 The last lines are a table: for each run how many growths of the call were refused and told, how many of the
 samples before it, and the findings."""
 
+from __future__ import annotations
+
+import argparse
 import glob
 import os
 import re
 import subprocess
 import sys
 import tempfile
+from typing import Callable, Dict, Iterator, List, Optional, Tuple
 
 TOP = os.path.join(os.path.dirname(os.path.abspath(__file__)), "..")
 EXAMPLES = os.path.join(TOP, "examples")
@@ -79,24 +84,53 @@ int pthread_create(pthread_t *thread, const pthread_attr_t *how, void *(*start)(
 }
 """
 
-# Commands of the program, each with what it prints with ample memory.
+# Commands of the program, each with how that begins which it prints with ample memory. Files of examples/ are named so,
+# MAP is a time map, and OUT.vcd and its like are written.
 COMMANDS = [
-    ("check", "small.toml", "empty_trace.lfts", "yes events=0"),
-    ("check", "small.toml", "load_misses_both_levels.lfts", "yes events=6"),
-    ("check", "small.toml", "load_merges_behind_store.lfts", "yes events=9"),
-    ("check", "small.toml", "reply_with_a_wrong_byte.lfts", "no bank=0 number=5 rule=ReplyData"),
-    ("check", "small.toml", "initial_memory.lfts", "yes events=6"),
-    ("check", "two_ports.toml", "cycle_of_two_logs.lfts", "no cycle logs=0,1"),
-    ("check", "four_banks.toml", "lowest_bank.lfts", "no bank=1 number=0 rule=NotHead"),
-    ("check", "four_ports.toml", "four_ports.lfts", "yes events="),
-    ("check", "four_ports_wide.toml", "four_ports_wide.lfts", "yes events="),
-    ("stats", "small.toml", "load_merges_behind_store.lfts", "bank=0 hits=0 primary=1 merges=1 stalls=0 peak=1"),
-    ("stats", "small.toml", "explicit_entries_full.lfts", "bank=0 hits=0 primary=1 merges=1 stalls=1 peak=1"),
-    ("stats", "inverted.toml", "inverted_two_registers.lfts", "bank=0 hits=0 primary=1 merges=1 stalls=0 peak=2"),
+    ("check small.toml empty_trace.lfts", "yes events=0"),
+    ("check small.toml load_misses_both_levels.lfts", "yes events=6"),
+    ("check small.toml load_merges_behind_store.lfts", "yes events=9"),
+    ("check small.toml reply_with_a_wrong_byte.lfts", "no bank=0 number=5 rule=ReplyData"),
+    ("check small.toml initial_memory.lfts", "yes events=6"),
+    ("check two_ports.toml cycle_of_two_logs.lfts", "no cycle logs=0,1"),
+    ("check four_banks.toml lowest_bank.lfts", "no bank=1 number=0 rule=NotHead"),
+    ("check four_ports.toml four_ports.lfts", "yes events="),
+    ("check four_ports_wide.toml four_ports_wide.lfts", "yes events="),
+    ("check --complete --progress small.toml load_misses_both_levels.lfts", "yes events=6"),
+    ("stats small.toml load_merges_behind_store.lfts", "bank=0 hits=0 primary=1 merges=1 stalls=0 peak=1"),
+    ("stats small.toml explicit_entries_full.lfts", "bank=0 hits=0 primary=1 merges=1 stalls=1 peak=1"),
+    ("stats inverted.toml inverted_two_registers.lfts", "bank=0 hits=0 primary=1 merges=1 stalls=0 peak=2"),
+    ("watch small.toml load_misses_both_levels.lfts", "yes events=6"),
+    ("watch small.toml reply_with_a_wrong_byte.lfts", "broken bank=0 number=5 rule=ReplyData upon"),
+    ("explain small.toml load_misses_both_levels.lfts", "yes events=6"),
+    ("explain small.toml reply_with_a_wrong_byte.lfts", "no bank=0 number=5 rule=ReplyData"),
+    ("explain --map MAP small.toml reply_with_a_wrong_byte.lfts", "no bank=0 number=5 rule=ReplyData"),
+    ("explain --json small.toml load_misses_both_levels.lfts", '{"events":6,"line":"yes events=6"'),
+    ("explain --json small.toml reply_with_a_wrong_byte.lfts", '{"fault":{"asks":"the reply has the bytes'),
+    ("explain --json --map MAP small.toml load_misses_both_levels.lfts", '{"events":6,"line":"yes events=6"'),
+    ("explain two_ports.toml cycle_of_two_logs.lfts", "no cycle logs=0,1"),
+    ("cover small.toml load_misses_both_levels.lfts", "bank=0 "),
+    ("cover --dat OUT.dat small.toml load_misses_both_levels.lfts", "bank=0 "),
+    ("cover --dat OUT.dat small.toml reply_with_a_wrong_byte.lfts", "no bank=0 number=5 rule=ReplyData"),
+    ("dump initial_memory.lfts", "lfts version=1 "),
+    ("dump --bank 0 initial_memory.lfts", "lfts version=1 "),
+    ("dump --last 2 initial_memory.lfts", "lfts version=1 "),
+    ("assemble load_misses_both_levels.text OUT.lfts", ""),
+    ("shrink small.toml load_misses_both_levels.lfts OUT.lfts", "yes events=6"),
+    ("shrink small.toml reply_with_a_wrong_byte.lfts OUT.lfts", "no bank=0 number="),
+    ("view small.toml load_misses_both_levels.lfts OUT.vcd", "yes events=6"),
+    ("view small.toml reply_with_a_wrong_byte.lfts OUT.vcd", "no bank=0 number=5 rule=ReplyData"),
+    ("view --map MAP small.toml load_misses_both_levels.lfts OUT.vcd", "yes events=6"),
 ]
 
+# A time map of a trace with one port and one bank.
+MAP = "".join(f"{log} {place} {10 * place + log}\n" for log in (0, 1) for place in range(8))
+
+# What lies in a file before it is written.
+BEFORE_IT = b"as it was"
+
 # Where more workers are taken, the making of a thread is refused too.
-WITH_WORKERS = ("check", "four_banks.toml", "lowest_bank.lfts", "no bank=1 number=0 rule=NotHead")
+WITH_WORKERS = ("check --workers 2 four_banks.toml lowest_bank.lfts", "no bank=1 number=0 rule=NotHead")
 
 # Tests that say how a call answered, in whichever crates have them. Each is at least one run of these.
 SWEPT = "refused_growth_of_"
@@ -120,11 +154,11 @@ RUNS = [
 # Examples that fail where a growth is refused, with the crate that has them. The engine's example of the first name
 # writes its line to a list of its own, whose growth is none of the call's.
 TOLD = [
-    ("lf_log_tests", "gaps_and_doubles"),
-    ("lf_verdict_tests", "gaps_and_doubles"),
-    ("lf_log_tests", "many_records_before_their_turn"),
-    ("lf_log_tests", "least_order"),
-    ("lf_replay_tests", "load_merges_behind_store_by_replay"),
+    ("log_tests", "gaps_and_doubles"),
+    ("verdict_tests", "gaps_and_doubles"),
+    ("log_tests", "many_records_before_their_turn"),
+    ("log_tests", "least_order"),
+    ("bank_tests", "load_merges_behind_store_by_replay"),
 ]
 
 # A session with several workers goes on without a thread that was refused, or the memory for it: so many bytes for the
@@ -136,7 +170,7 @@ THREAD_BYTES = b"96"
 FAILED = 101
 
 
-def shim_in(folder):
+def shim_in(folder: str) -> str:
     source, shim = os.path.join(folder, "shim.c"), os.path.join(folder, "shim.so")
     with open(source, "w", encoding="ascii") as file:
         file.write(SHIM)
@@ -144,33 +178,44 @@ def shim_in(folder):
     return shim
 
 
+# What a run answered, and what the library says of the growth that it refused, where it did.
+Ran = subprocess.CompletedProcess[bytes]
+Told = Optional["re.Match[bytes]"]
+Judge = Callable[[Ran, Told], Optional[str]]
+
+# A growth of the samples that a test makes was refused.
+BEFORE = "before the call"
+
+
 class Runs:
     """Runs with one growth refused, a row of counts for each name, and the faults found in them."""
 
-    def __init__(self, shim, word):
+    def __init__(self, shim: str, word: str) -> None:
         self.shim, self.word = shim, word
         self.count = self.faults = self.missing = 0
-        self.rows = []
+        self.rows: List[Tuple[str, int, int, int]] = []
 
-    def refusing(self, n, words, folder):
+    def refusing(self, n: int, words: List[str], folder: str) -> Tuple[Ran, Told]:
         env = {"LD_PRELOAD": self.shim, "REFUSED_GROWTH": str(n)}
         ran = subprocess.run(words, env=env, cwd=folder, capture_output=True, timeout=120)
         self.count += 1
         told = re.search(rb"^refused (bytes|thread) (\d+)$", ran.stderr, re.M)
         return ran, told
 
-    def fault(self, name, n, told, text):
+    def fault(self, name: str, n: int, told: Told, text: str) -> None:
         self.faults += 1
         what = f"{told[1].decode()} {told[2].decode()}" if told else "none"
         print(f"  {name}, growth {n} refused ({what}): {text!r}", flush=True)
 
-    def lacks(self, name):
+    def lacks(self, name: str) -> None:
         if self.word in name:
             self.missing += 1
             print(f"{name} is not built", flush=True)
 
-    def sweep(self, name, words, judge, folder, numbers=None):
-        """Refuses each growth in turn. `judge` says what is wrong with a run, `BEFORE` or None."""
+    def sweep(
+        self, name: str, words: List[str], judge: Judge, folder: str, numbers: Optional[Iterator[int]] = None
+    ) -> None:
+        """Refuses each growth in turn. `judge` says what is wrong with a run, or `BEFORE`, or None."""
         if self.word not in name:
             return
         refused = before = findings = n = 0
@@ -180,7 +225,7 @@ class Runs:
                 break
             ran, told = self.refusing(n, words, folder)
             wrong = judge(ran, told)
-            if wrong is BEFORE:
+            if wrong == BEFORE:
                 before += 1
             elif wrong is not None:
                 findings += 1
@@ -192,26 +237,74 @@ class Runs:
         self.rows.append((name, refused, before, findings))
         print(f"{name}: {refused} growths refused", flush=True)
 
-    def table(self):
+    def table(self) -> None:
         print("\n| Run | Growths refused and told | Before the call | Findings |\n|---|---|---|---|")
         for row in self.rows:
             print("| {} | {} | {} | {} |".format(*row))
 
 
-def judge_line(line):
-    """For a run of the program that prints this line with ample memory."""
+def is_cut(text: str, whole: str) -> bool:
+    """Whether these are some lines of the whole, in their order."""
+    lines = iter(whole.splitlines())
+    return all(line in lines for line in text.splitlines())
 
-    def judge(ran, told):
-        text = ran.stdout.decode(errors="replace")
+
+class ProgramRun:
+    """A command of the program, with what it prints and writes with ample memory."""
+
+    def __init__(self, program: str, line: str, begin: str, folder: str) -> None:
+        self.name, self.begin = f"score {line}", begin
+        self.outs = [os.path.join(folder, name) for name in ("OUT.dat", "OUT.lfts", "OUT.vcd", "OUT.gtkw")]
+        places = {os.path.basename(out): out for out in self.outs} | {"MAP": os.path.join(folder, "MAP")}
+        self.words = [program, *(places.get(word) or example(word) for word in line.split())]
+        self.folder = folder
+        self.prepare()
+        ran = subprocess.run(self.words, cwd=folder, capture_output=True)
+        self.text, self.status, self.written = ran.stdout.decode(errors="replace"), ran.returncode, self.files()
+        self.prepare()
+
+    def prepare(self) -> None:
+        for out in self.outs:
+            with open(out, "wb") as file:
+                file.write(BEFORE_IT)
+
+    def files(self) -> List[bytes]:
+        found = []
+        for out in self.outs:
+            with open(out, "rb") as file:
+                found.append(file.read())
+        return found
+
+    def is_told(self, text: str, refused: bytes) -> bool:
+        """Whether the program says that a growth was refused. `dump` says so below what it has printed by then, and
+        JSON is printed once the words are read."""
+        lawful = ["refused memory\n"] + ["refused thread\n"] * (refused == b"thread")
+        if "--json" in self.words:
+            lawful.append('{"line":"refused memory","verdict":"refused"}\n')
+        if "dump" in self.words:
+            return text.endswith(lawful[0]) and is_cut(text.removesuffix(lawful[0]), self.text)
+        return text in lawful
+
+    def judge(self, ran: Ran, told: Told) -> Optional[str]:
+        text, files = ran.stdout.decode(errors="replace"), self.files()
+        parts = glob.glob(os.path.join(self.folder, "*.part"))
+        self.prepare()
+        if parts:
+            return f"{text} and {parts}"
         if not told:
-            return None if text.startswith(line) else text
-        lawful = ["refused memory\n"] + ["refused thread\n"] * (told[1] == b"thread")
-        return None if text in lawful and ran.returncode == 2 else text
+            same = (text, ran.returncode, files) == (self.text, self.status, self.written)
+            return None if same and text.startswith(self.begin) else text
+        if any(found not in (BEFORE_IT, whole) for found, whole in zip(files, self.written)):
+            return f"{text} and a file of other bytes"
+        return None if self.is_told(text, told[1]) and ran.returncode == 2 else text
 
-    return judge
+
+def example(word: str) -> str:
+    path = os.path.join(EXAMPLES, word)
+    return path if os.path.exists(path) else word
 
 
-def judge_told(ran, told):
+def judge_told(ran: Ran, told: Told) -> Optional[str]:
     passed = ran.returncode == 0
     said = (ran.stdout + ran.stderr).decode(errors="replace")
     if not told:
@@ -219,11 +312,7 @@ def judge_told(ran, told):
     return None if not passed and re.search(r"[mM]emory|Alloc(Failed|Error)|Thread", said) else said
 
 
-# A growth of the samples that a test makes was refused.
-BEFORE = object()
-
-
-def judge_swept(ran, told):
+def judge_swept(ran: Ran, told: Told) -> Optional[str]:
     said = (ran.stdout + ran.stderr).decode(errors="replace")
     if not told:
         return None if ran.returncode == 0 else said
@@ -233,22 +322,22 @@ def judge_swept(ran, told):
     return None if ran.returncode == FAILED and is_told else said
 
 
-def judge_beside(ran, told):
+def judge_beside(ran: Ran, told: Told) -> Optional[str]:
     if told and ran.returncode == 0 and (told[1] == b"thread" or told[2] == THREAD_BYTES):
         return None
     return judge_swept(ran, told)
 
 
-def judge_demo(ran, told):
+def judge_demo(ran: Ran, told: Told) -> Optional[str]:
     text = ran.stdout.decode(errors="replace")
     if not told:
         return None if text.startswith("demo events=") else text
     return None if text in ("refused memory\n", "refused thread\n") and ran.returncode == 2 else text
 
 
-def tests_by_name():
+def tests_by_name() -> Dict[str, List[Tuple[str, str]]]:
     """The tests that are built: for each name of a function the programs and the full names."""
-    found = {}
+    found: Dict[str, List[Tuple[str, str]]] = {}
     for program in sorted(glob.glob(os.path.join(TOP, "crates", "*", "out", "*_tests"))):
         listed = subprocess.run([program, "--list"], capture_output=True, text=True).stdout
         for test in re.findall(r"^(\S+): test$", listed, re.M):
@@ -256,30 +345,27 @@ def tests_by_name():
     return found
 
 
-def crate_of(program):
+def crate_of(program: str) -> str:
     """The crate whose tests the program runs."""
     return os.path.basename(program).removesuffix("_tests")
 
 
-def sweep_program(runs, folder):
-    score = os.path.join(TOP, "crates", "score", "out", "score")
+def sweep_program(runs: Runs, score: str, folder: str) -> None:
     if not os.path.exists(score):
         runs.lacks("score")
         return
-    for command, config, trace, line in COMMANDS:
-        words = [score, command, os.path.join(EXAMPLES, config), os.path.join(EXAMPLES, trace)]
-        runs.sweep(f"score {command} {trace}", words, judge_line(line), folder)
-    command, config, trace, line = WITH_WORKERS
-    words = [score, command, os.path.join(EXAMPLES, config), os.path.join(EXAMPLES, trace), "--workers", "2"]
-    if subprocess.run(words, capture_output=True).stdout.startswith(line.encode()):
-        runs.sweep(f"score {command} {trace} --workers 2", words, judge_line(line), folder)
+    with open(os.path.join(folder, "MAP"), "w", encoding="ascii") as file:
+        file.write(MAP)
+    for line, begin in [*COMMANDS, WITH_WORKERS]:
+        run = ProgramRun(score, line, begin, folder)
+        runs.sweep(run.name, run.words, run.judge, folder)
     for shape in ("small.toml", "two_ports.toml", "four_ports_wide.toml"):
         words = [score, "demo", os.path.join(EXAMPLES, shape), os.path.join(folder, "demo.lfts")]
         numbers = iter([*range(1, 150), *range(150, 3000, 37)])
         runs.sweep(f"score demo {shape}", words, judge_demo, folder, numbers)
 
 
-def sweep_tests(runs, folder):
+def sweep_tests(runs: Runs, folder: str) -> None:
     built = tests_by_name()
     swept = sorted({SWEPT + run for run in RUNS} | {name for name in built if name.startswith(SWEPT)})
     rows = [(crate_of(program), name, program, test) for name in built for program, test in built[name]]
@@ -294,10 +380,14 @@ def sweep_tests(runs, folder):
             runs.lacks(name)
 
 
-def main():
+def main() -> int:
+    parser = argparse.ArgumentParser(description=__doc__, formatter_class=argparse.RawDescriptionHelpFormatter)
+    parser.add_argument("word", nargs="?", default="")
+    parser.add_argument("--program", default=os.path.join(TOP, "crates", "score", "out", "score"))
+    arguments = parser.parse_args()
     with tempfile.TemporaryDirectory() as folder:
-        runs = Runs(shim_in(folder), sys.argv[1] if len(sys.argv) > 1 else "")
-        sweep_program(runs, folder)
+        runs = Runs(shim_in(folder), arguments.word)
+        sweep_program(runs, os.path.abspath(arguments.program), folder)
         sweep_tests(runs, folder)
         runs.table()
         print(f"runs={runs.count} not_answered={runs.faults} not_built={runs.missing}")

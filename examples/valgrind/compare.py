@@ -36,7 +36,7 @@ def record(program: Sequence[str], geometry: Geometry, folder: Path) -> Counts:
     words = ["valgrind", "--tool=lackey", "--trace-mem=yes", f"--log-fd={write_end}", *program]
     lackey = subprocess.Popen(words, stdout=subprocess.DEVNULL, stderr=subprocess.DEVNULL, pass_fds=[write_end])
     os.close(write_end)
-    with open(read_end) as lines, lfts.Recorder(trace, 1, 1, geometry.block, 2, time_map=time_map) as recorder:
+    with open(read_end) as lines, lfts.Recorder(trace, 1, 1, geometry.block, time_map=time_map) as recorder:
         Cache(geometry, recorder, counts).run(accesses(lines, geometry.block, counts))
         recorder.fence(0)
     lackey.wait()

@@ -1,14 +1,16 @@
 // lfts.h - records a trace of a two-level lockup-free cache, in the format that `score` judges.
 //
 // One header for C99 and C++11. Include it wherever events are recorded. In one C or C++ file of the program
-// define LFTS_IMPLEMENTATION before the include: the bodies stand there. README.md shows how it is used.
+// define LFTS_IMPLEMENTATION before the include: the bodies stand there. README.md shows how it is used. For C++17
+// there is a class beside it, in lfts.hpp.
 //
 // Each call answers with a status. A call that is refused records nothing, lfts_error says what was wrong
 // with it, and the recorder goes on. A failure of the output stays: each later call answers LFTS_IO.
 //
 // A model with a clock calls lfts_cycle before the events of each cycle. The events of one cycle are numbered
 // when it ends, in the order of their phases: replies, level two, level one, issues. Events of one phase keep
-// the order of the calls. Without lfts_cycle each event is numbered at its call.
+// the order of the calls. A fence stands right behind the last reply of its port in that cycle, and without one
+// before all other events. Without lfts_cycle each event is numbered at its call.
 //
 // The format is in docs/FORMAT.md, what to record and when in docs/RECORDING.md.
 
@@ -23,6 +25,10 @@
 #ifdef __cplusplus
 extern "C" {
 #endif
+
+// The version of this header, as text and as major * 10000 + minor * 100 + patch.
+#define LFTS_HEADER_VERSION "0.3.0"
+#define LFTS_HEADER_VERSION_NUMBER 300
 
 // The most events of one cycle.
 #define LFTS_CYCLE_EVENTS 1024
@@ -44,7 +50,8 @@ typedef enum lfts_status {
     LFTS_CYCLE_FULL,    // more than LFTS_CYCLE_EVENTS events in a cycle
     LFTS_LOG_FULL,      // more records of one log than the format has
     LFTS_OUT_OF_MEMORY, // the one allocation failed
-    LFTS_IO             // the output failed
+    LFTS_IO,            // the output failed
+    LFTS_UNKNOWN        // a signal of the event has no value: X or Z
 } lfts_status;
 
 typedef enum lfts_op { LFTS_LOAD = 0, LFTS_STORE = 1 } lfts_op;
@@ -77,7 +84,8 @@ typedef struct lfts_stream {
     bool begun; // some bytes were written
 } lfts_stream;
 
-// The recorder. Its fields are its own, and while it is open it stays where it is.
+// The recorder. Its fields are its own, and while it is open it stays where it is. Before lfts_open it is LFTS_INIT,
+// or static, or of zeros: each other call is then refused as LFTS_NOT_OPEN.
 typedef struct lfts_recorder {
     unsigned ports, banks, block, factor, version;
     unsigned block_shift, factor_shift; // the powers of two that these are
@@ -88,7 +96,8 @@ typedef struct lfts_recorder {
     bool in_cycle;
     uint64_t time;
     unsigned staged;            // events of the cycle
-    unsigned first[4], *end[4]; // the first of each phase, by its place plus one, and where the next goes
+    unsigned first[5], *end[5]; // the first of each phase, by its place plus one, and where the next goes; then fences
+    unsigned replies[16];       // of each port, in the cycle
     uint32_t events;            // records in the trace
     uint32_t accepted[32];      // records of each log, with those of the cycle
     uint32_t written[32];       // and without
@@ -99,6 +108,15 @@ typedef struct lfts_recorder {
     uint64_t refused;
     char error[256];
 } lfts_recorder;
+
+// A recorder that is not open.
+#ifdef __cplusplus
+#define LFTS_INIT                                                                                                     \
+    {}
+#else
+#define LFTS_INIT                                                                                                     \
+    { 0 }
+#endif
 
 // A file that is created, and closed by lfts_close.
 static inline lfts_output lfts_to_path(const char *path) {
@@ -140,7 +158,7 @@ lfts_status lfts_memory(lfts_recorder *r, uint32_t block, const void *bytes);
 lfts_status lfts_cycle(lfts_recorder *r, uint64_t time);
 // The cycle ends. What follows is outside any cycle.
 lfts_status lfts_end_cycle(lfts_recorder *r);
-// Gives the next event that phase in place of its own.
+// Gives the next event that phase in place of its own. A fence with a phase stands in it as other events do.
 lfts_status lfts_set_phase(lfts_recorder *r, lfts_phase phase);
 
 // Events of ports. `bank` is that of the request's block. Tags are below 256.
@@ -151,8 +169,8 @@ lfts_status lfts_issue(lfts_recorder *r, unsigned port, unsigned bank, lfts_op o
                        uint64_t address, const void *bytes);
 // A port takes a reply. To a load: its size and what it read. To a store: size 0 and NULL.
 lfts_status lfts_reply(lfts_recorder *r, unsigned port, unsigned bank, unsigned tag, unsigned size, const void *bytes);
-// No request of the port is outstanding. In a cycle it stands with level one, so after the port's replies and
-// before its issues. From version 2 on.
+// No request of the port is outstanding. In a cycle it stands right behind the port's last reply, or first of all.
+// From version 2 on.
 lfts_status lfts_fence(lfts_recorder *r, unsigned port);
 
 // Events of a bank's level one. `port` and `tag` (below 256) are those of the request; the block is that of
@@ -181,7 +199,8 @@ lfts_status lfts_fill2(lfts_recorder *r, unsigned bank, uint32_t second, const v
 // may be NULL where all masks are 0.
 lfts_status lfts_evict2(lfts_recorder *r, unsigned bank, uint32_t second, const uint64_t *masks, const void *bytes);
 
-// Writes what has its number.
+// Writes what has its number. Before the first event it does nothing, unless the memory records were counted: the
+// header has their number.
 lfts_status lfts_flush(lfts_recorder *r);
 // Ends the trace. Where it is refused the trace has no end, which `score` calls Truncated.
 lfts_status lfts_close(lfts_recorder *r);
@@ -191,6 +210,9 @@ lfts_status lfts_close(lfts_recorder *r);
 const char *lfts_error(const lfts_recorder *r);
 // How many calls were refused.
 uint64_t lfts_refused(const lfts_recorder *r);
+// Refuses an event for code around the recorder that knows more: a monitor that finds an X, a class that knows how
+// many bytes there are. Nothing is recorded, the text becomes that of lfts_error, and the status is answered.
+lfts_status lfts_reject(lfts_recorder *r, lfts_status status, const char *text);
 
 #ifdef __cplusplus
 }
@@ -200,6 +222,15 @@ uint64_t lfts_refused(const lfts_recorder *r);
 
 #if defined(LFTS_IMPLEMENTATION) && !defined(LFTS_IMPLEMENTED)
 #define LFTS_IMPLEMENTED
+
+// The bodies are C, so their casts are those of C.
+#if defined(__cplusplus) && defined(__GNUC__)
+#pragma GCC diagnostic push
+#pragma GCC diagnostic ignored "-Wold-style-cast"
+#ifndef __clang__
+#pragma GCC diagnostic ignored "-Wuseless-cast"
+#endif
+#endif
 
 #include <errno.h>
 #include <inttypes.h>
@@ -214,11 +245,12 @@ enum {
     LFTS_SECOND_HIT, LFTS_SECOND_PRIMARY, LFTS_SECOND_STALL, LFTS_FILL2, LFTS_EVICT2, LFTS_FENCE, LFTS_SECOND_MERGE
 };
 
+enum { LFTS_NO_PHASE = LFTS_PHASE_ISSUES + 1 };
+
 // Of each kind, from 1 on, its call, its phase, and the version from which it may stand.
 static const struct lfts_kind {
     const char *call;
-    lfts_phase phase;
-    unsigned version;
+    unsigned phase, version;
 } lfts_kinds[] = {
     {"lfts_issue", LFTS_PHASE_ISSUES, 1}, {"lfts_reply", LFTS_PHASE_REPLIES, 1},
     {"lfts_hit", LFTS_PHASE_LEVEL_ONE, 1}, {"lfts_primary", LFTS_PHASE_LEVEL_ONE, 1},
@@ -226,14 +258,13 @@ static const struct lfts_kind {
     {"lfts_fill1", LFTS_PHASE_LEVEL_ONE, 1}, {"lfts_evict1", LFTS_PHASE_LEVEL_ONE, 1},
     {"lfts_second_hit", LFTS_PHASE_LEVEL_TWO, 1}, {"lfts_second_primary", LFTS_PHASE_LEVEL_TWO, 1},
     {"lfts_second_stall", LFTS_PHASE_LEVEL_TWO, 1}, {"lfts_fill2", LFTS_PHASE_LEVEL_TWO, 1},
-    {"lfts_evict2", LFTS_PHASE_LEVEL_TWO, 1}, {"lfts_fence", LFTS_PHASE_LEVEL_ONE, 2},
+    {"lfts_evict2", LFTS_PHASE_LEVEL_TWO, 1}, {"lfts_fence", LFTS_NO_PHASE, 2},
     {"lfts_second_merge", LFTS_PHASE_LEVEL_TWO, 3},
 };
 // clang-format on
 
 enum {
     LFTS_NO_BANK = 255,
-    LFTS_NO_PHASE = LFTS_PHASE_ISSUES + 1,
     LFTS_HEAD_BYTES = 8,
     LFTS_COUNT_AT = 12,                                // where the header has the number of memory records
     LFTS_LONGEST = LFTS_HEAD_BYTES + 4 + 4 * (8 + 64), // an Evict2 of four blocks
@@ -462,7 +493,7 @@ static bool lfts_enter_event(lfts_recorder *r, unsigned kind, unsigned log, unsi
     r->kind = kind;
     r->log = log;
     r->bank = bank;
-    r->phase = r->next_phase == LFTS_NO_PHASE ? (unsigned)row->phase : r->next_phase;
+    r->phase = r->next_phase == LFTS_NO_PHASE ? row->phase : r->next_phase;
     r->next_phase = LFTS_NO_PHASE;
     if (!lfts_enter(r, row->call)) return false;
     if (r->version < row->version)
@@ -505,26 +536,55 @@ static lfts_status lfts_end(lfts_recorder *r, uint8_t *end) {
         event->next = 0;
         *r->end[r->phase] = ++r->staged;
         r->end[r->phase] = &event->next;
+        if (r->kind == LFTS_REPLY) r->replies[r->log]++;
     } else {
         lfts_commit(r, (unsigned)(end - (r->trace.bytes + r->trace.used)));
     }
     return r->status;
 }
 
+static bool lfts_put_staged(lfts_recorder *r, const lfts_staged *event) {
+    uint8_t *at;
+    if (!lfts_has_room(r, &r->trace, LFTS_LONGEST)) return false;
+    at = r->trace.bytes + r->trace.used;
+    memcpy(at, event->bytes, 40); // a fixed size is copied fast, and few events have more
+    if (event->length > 40) memcpy(at + 40, event->bytes + 40, event->length - 40);
+    lfts_commit(r, event->length);
+    return true;
+}
+
+// The fences of ports that have no further reply in the cycle.
+static bool lfts_put_fences(lfts_recorder *r) {
+    unsigned *from = &r->first[LFTS_NO_PHASE];
+    while (*from > 0) {
+        lfts_staged *event = &r->buffers->staged[*from - 1];
+        if (r->replies[event->bytes[1]] > 0) {
+            from = &event->next;
+        } else {
+            if (!lfts_put_staged(r, event)) return false;
+            *from = event->next;
+        }
+    }
+    return true;
+}
+
+static bool lfts_put_phase(lfts_recorder *r, unsigned phase) {
+    for (unsigned place = r->first[phase]; place > 0; place = r->buffers->staged[place - 1].next) {
+        const lfts_staged *event = &r->buffers->staged[place - 1];
+        if (!lfts_put_staged(r, event)) return false;
+        if (event->bytes[0] == LFTS_REPLY && --r->replies[event->bytes[1]] == 0 && !lfts_put_fences(r)) return false;
+    }
+    return true;
+}
+
 // The staged events get their numbers, phase by phase.
 static bool lfts_number_cycle(lfts_recorder *r) {
-    for (unsigned phase = LFTS_PHASE_REPLIES; phase <= LFTS_PHASE_ISSUES; phase++) {
-        for (unsigned place = r->first[phase]; place > 0; place = r->buffers->staged[place - 1].next) {
-            const lfts_staged *event = &r->buffers->staged[place - 1];
-            uint8_t *at;
-            if (!lfts_has_room(r, &r->trace, LFTS_LONGEST)) return false;
-            at = r->trace.bytes + r->trace.used;
-            memcpy(at, event->bytes, 40); // a fixed size is copied fast, and few events have more
-            if (event->length > 40) memcpy(at + 40, event->bytes + 40, event->length - 40);
-            lfts_commit(r, event->length);
-        }
-        r->first[phase] = 0;
-        r->end[phase] = &r->first[phase];
+    if (!lfts_put_fences(r)) return false;
+    for (unsigned phase = 0; phase < LFTS_NO_PHASE; phase++)
+        if (!lfts_put_phase(r, phase)) return false;
+    for (unsigned list = 0; list <= LFTS_NO_PHASE; list++) {
+        r->first[list] = 0;
+        r->end[list] = &r->first[list];
     }
     r->staged = 0;
     return r->status == LFTS_OK;
@@ -542,7 +602,7 @@ static bool lfts_is_shape(lfts_recorder *r) {
 }
 
 static bool lfts_allocate(lfts_recorder *r) {
-    r->buffers = (lfts_buffers *)malloc(sizeof *r->buffers);
+    r->buffers = (lfts_buffers *)calloc(1, sizeof *r->buffers);
     return r->buffers || lfts_refuse(r, LFTS_OUT_OF_MEMORY, "out of memory; needed: %zu bytes", sizeof *r->buffers);
 }
 
@@ -771,7 +831,8 @@ lfts_status lfts_evict2(lfts_recorder *r, unsigned bank, uint32_t second, const 
 }
 
 lfts_status lfts_flush(lfts_recorder *r) {
-    if (lfts_enter(r, "lfts_flush") && lfts_write_stream(r, &r->trace)) lfts_write_stream(r, &r->map);
+    if (lfts_enter(r, "lfts_flush") && (r->memory_ended || r->memory_told) && lfts_write_stream(r, &r->trace))
+        lfts_write_stream(r, &r->map);
     return r->status;
 }
 
@@ -795,5 +856,17 @@ lfts_status lfts_close(lfts_recorder *r) {
 
 const char *lfts_error(const lfts_recorder *r) { return r->error; }
 uint64_t lfts_refused(const lfts_recorder *r) { return r->refused; }
+
+lfts_status lfts_reject(lfts_recorder *r, lfts_status status, const char *text) {
+    r->next_phase = LFTS_NO_PHASE;
+    if (!lfts_enter(r, "lfts_reject")) return r->status;
+    snprintf(r->error, sizeof r->error, "%s", text);
+    r->refused++;
+    return r->status = status;
+}
+
+#if defined(__cplusplus) && defined(__GNUC__)
+#pragma GCC diagnostic pop
+#endif
 
 #endif // LFTS_IMPLEMENTATION

@@ -18,16 +18,33 @@
 extern "C" {
 #endif
 
+// A recorder, and the time of the last edge that its monitors saw.
+typedef struct monitored {
+    lfts_recorder r;
+    double edge;
+} monitored;
+
 // A null handle is a recorder that is not open.
-static lfts_recorder *recorder(void *handle) {
-    static lfts_recorder closed;
-    return handle ? (lfts_recorder *)handle : &closed;
+static monitored *handled(void *handle) {
+    static monitored closed;
+    return handle ? (monitored *)handle : &closed;
+}
+
+static lfts_recorder *recorder(void *handle) { return &handled(handle)->r; }
+
+// Memory for a recorder, which lfts_dpi_free frees. Also for wudzark_dpi.c.
+lfts_recorder *lfts_dpi_new(void);
+lfts_recorder *lfts_dpi_new(void) {
+    monitored *m = (monitored *)calloc(1, sizeof *m);
+    if (!m) return NULL;
+    m->edge = -1;
+    return &m->r;
 }
 
 // NULL where memory is out.
 void *lfts_dpi_open(const char *path, unsigned ports, unsigned banks, unsigned block, unsigned factor,
                     unsigned version) {
-    lfts_recorder *r = (lfts_recorder *)malloc(sizeof *r);
+    lfts_recorder *r = lfts_dpi_new();
     if (r) lfts_open(r, lfts_to_path(path), ports, banks, block, factor, version);
     return r;
 }
@@ -49,6 +66,15 @@ int lfts_dpi_memory(void *r, unsigned block, const svBitVecVal *data) { return l
 int lfts_dpi_cycle(void *r, uint64_t time) { return lfts_cycle(recorder(r), time); }
 
 int lfts_dpi_end_cycle(void *r) { return lfts_end_cycle(recorder(r)); }
+
+int lfts_dpi_edge(void *handle, double at, uint64_t shown) {
+    monitored *m = handled(handle);
+    if (at < m->edge || at > m->edge) lfts_end_cycle(&m->r);
+    m->edge = at;
+    return lfts_cycle(&m->r, shown);
+}
+
+int lfts_dpi_unknown(void *r, const char *text) { return lfts_reject(recorder(r), LFTS_UNKNOWN, text); }
 
 int lfts_dpi_set_phase(void *r, unsigned phase) { return lfts_set_phase(recorder(r), (lfts_phase)phase); }
 
@@ -115,11 +141,11 @@ int lfts_dpi_evict2(void *handle, unsigned bank, unsigned second, const svBitVec
     uint64_t masks[4] = {0, 0, 0, 0};
     for (size_t i = 0; i < r->factor; i++) memcpy(&masks[i], bytes + i * of_block, of_block);
     for (size_t i = most; i < 32; i++) {
+        char text[sizeof r->error];
         if (bytes[i] == 0) continue;
-        r->call = "lfts_evict2";
-        lfts_refuse(r, LFTS_RANGE, "mask has a bit above %u; allowed: bits 0 to %u", (unsigned)i * 8 - 1,
-                    (unsigned)most * 8 - 1);
-        return r->status;
+        snprintf(text, sizeof text, "lfts_evict2: mask has a bit above %u; allowed: bits 0 to %u", (unsigned)i * 8 - 1,
+                 (unsigned)most * 8 - 1);
+        return lfts_reject(r, LFTS_RANGE, text);
     }
     return lfts_evict2(r, bank, second, masks, data);
 }

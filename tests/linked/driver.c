@@ -1,13 +1,14 @@
 // Calls the library as the words of the command line say, and prints what it answered. tests/library knows what is
 // due.
 //
-//     driver judge STEP CONFIG TRACE..    each trace in pieces of STEP bytes, 0 for one piece: whether something
-//     broke,
-//                                         after how many bytes, and the verdict
-//     driver many CONFIG TRACE..          the same of all traces at once, a byte of each in turn
-//     driver misuse CONFIG TRACE          calls that a board refuses, and lines that have no room
-//     driver damaged COUNT CONFIG TRACE   so many copies of the trace with other bytes in it, whole and in pieces
-//     driver memory CONFIG TRACE          the trace with each allocation refused in turn; linked with --wrap=malloc
+//     driver judge STEP CONFIG TRACE..  each trace in pieces of STEP bytes, 0 for one piece: whether something broke,
+//                                       after how many bytes, and the verdict
+//     driver many CONFIG TRACE..        the same of all traces at once, a byte of each in turn
+//     driver misuse CONFIG TRACE        calls that a board refuses, and lines that have no room
+//     driver first CONFIG TRACE         its first final fault, and why a feed is refused
+//     driver null CONFIG TRACE          calls with NULL for no bytes
+//     driver damaged COUNT CONFIG TRACE so many copies of the trace with other bytes in it, whole and in pieces
+//     driver memory CONFIG TRACE        the trace with each allocation refused in turn; linked with --wrap=malloc
 
 #include "wudzark.h"
 
@@ -51,7 +52,7 @@ static bytes read_file(const char *path) {
     return b;
 }
 
-static int shown(wudzark_answer answer) { return answer.length < ROOM ? (int)answer.length : ROOM; }
+static int shown(wudzark_answer answer) { return (int)wudzark_shown(answer, ROOM); }
 
 static void print(const told *t) {
     if (t->broke.length) printf("%u after=%zu %.*s | ", t->broke.status, t->after, shown(t->broke), t->broke_line);
@@ -65,7 +66,7 @@ static bool is_same(const told *a, const told *b) {
 
 // Feeds a piece, and asks. Whether more are wanted.
 static bool feed(wudzark_board *board, told *t, const char *piece, size_t length) {
-    uint32_t status = wudzark_feed(board, piece, length);
+    wudzark_status status = wudzark_feed(board, piece, length);
     t->after += length;
     if (status != WUDZARK_FINE) return false;
     t->broke = wudzark_broken(board, t->broke_line, ROOM);
@@ -133,6 +134,45 @@ static void judge_together(char **words, int count) {
     free(traces);
     free(boards);
     free(t);
+    free(config.at);
+}
+
+// The first final fault stays what is told, and the board is given up.
+static void first_fault(char **words) {
+    bytes config = read_file(words[0]), trace = read_file(words[1]);
+    wudzark_board board = WUDZARK_BOARD, moved;
+    char line[ROOM];
+    wudzark_answer answer = wudzark_open(&board, config.at, config.length, line, ROOM);
+    for (size_t at = 0; at < trace.length && answer.status == WUDZARK_FINE; at++) {
+        if (wudzark_feed(&board, trace.at + at, 1) != WUDZARK_FINE) break;
+        moved = board; // a board may be moved between calls
+        memset(&board, '#', sizeof board);
+        board = moved;
+        answer = wudzark_broken(&board, line, ROOM);
+    }
+    expect(wudzark_abort(&board) == WUDZARK_FINE && !board.live, "not given up");
+    expect(wudzark_abort(&board) == WUDZARK_MISUSED, "given up twice");
+    printf("%u %.*s\n", answer.status, shown(answer), line);
+    wudzark_open(&board, config.at, config.length, line, ROOM);
+    expect(wudzark_feed(&board, trace.at, 8) == WUDZARK_FINE, "fed");
+    expect(wudzark_feed(&board, "\0\0\0\0\0\0\0\0", 8) == WUDZARK_REFUSED, "not refused");
+    answer = wudzark_finish(&board, line, ROOM);
+    printf("%u %.*s\n", answer.status, shown(answer), line);
+    free(trace.at);
+    free(config.at);
+}
+
+// NULL stands for no bytes.
+static void no_bytes(char **words) {
+    bytes config = read_file(words[0]), trace = read_file(words[1]);
+    wudzark_board board = WUDZARK_BOARD;
+    expect(wudzark_open(&board, NULL, 0, NULL, 0).status == WUDZARK_REFUSED, "no configuration was taken");
+    expect(wudzark_open(&board, config.at, config.length, NULL, 0).status == WUDZARK_FINE, "not opened");
+    expect(wudzark_feed(&board, NULL, 0) == WUDZARK_FINE, "no bytes were refused");
+    expect(wudzark_feed(&board, trace.at, trace.length) == WUDZARK_FINE, "refused");
+    printf("%u ", wudzark_broken(&board, NULL, 0).status);
+    printf("%u\n", wudzark_finish(&board, NULL, 0).status);
+    free(trace.at);
     free(config.at);
 }
 
@@ -238,6 +278,10 @@ int main(int count, char **words) {
         judge_together(words + 2, count - 2);
     else if (strcmp(word, "misuse") == 0)
         misuse(words + 2);
+    else if (strcmp(word, "first") == 0)
+        first_fault(words + 2);
+    else if (strcmp(word, "null") == 0)
+        no_bytes(words + 2);
     else if (strcmp(word, "damaged") == 0)
         damage(strtoul(words[2], NULL, 10), words + 3);
 #ifdef REFUSE_MEMORY
@@ -245,6 +289,6 @@ int main(int count, char **words) {
         refuse_memory(words + 2);
 #endif
     else
-        fail("driver judge|many|misuse|damaged|memory ..");
+        fail("driver judge|many|misuse|first|null|damaged|memory ..");
     return 0;
 }

@@ -7,7 +7,7 @@ import shutil
 from functools import partial
 from pathlib import Path
 
-from outside import TOP, Checks, Failure, expect, judge, run
+from outside import TOP, Checks, Failure, Word, expect, judge, run
 from recording.cache import EXAMPLE, ROW
 
 # A time step of the testbench's clock, and so many of them after a fault the simulation must have ended.
@@ -15,6 +15,7 @@ CYCLE = 10
 CYCLES = 100
 STOPPED = re.compile(r"^\[(\d+)\] %Error: wudzark_pkg.sv:\d+: .*: wudzark: (broken .*)$", re.M)
 DPI = TOP / "recorders/systemverilog/wudzark_dpi.c"
+HERE = Path(__file__).resolve().parent
 
 
 class Simulation:
@@ -65,6 +66,31 @@ class Simulation:
             if f"{due}" not in printed or "wudzark: " not in printed:
                 raise Failure(printed)
 
+    def misused(self) -> None:
+        """`check` before `record` and after `finish`, `finish` twice and without a recorder, and a shape that is none."""
+        built, sv = self.folder / "misuse", TOP / "recorders/systemverilog"
+        words: list[Word] = ["verilator", "--binary", "--timing", "-j", "1", "--top-module", "misuse", "-Mdir", built]
+        flags = f"-I{TOP / 'recorders/c'} -I{TOP / 'library'}"
+        sources: list[Word] = [
+            sv / "lfts_pkg.sv",
+            sv / "wudzark_pkg.sv",
+            HERE / "misuse.sv",
+            sv / "lfts_dpi.c",
+            DPI,
+            self.library,
+        ]
+        run([*words, "-CFLAGS", flags, "-MAKEFLAGS", "OPT_FAST=-O0", *sources], seconds=300, cwd=self.folder)
+        plus: list[Word] = [f"+judge={TOP / 'examples/small.toml'}", "+verilator+error+limit+9"]
+        done = run([built / "Vmisuse", *plus], cwd=self.folder).stdout
+        found = [line for line in done.splitlines() if "wudzark: " in line or line == "done"]
+        expect([found[0], *found[2:]], ["wudzark: yes events=1", "done"])
+        if not found[1].endswith("wudzark: refused format Truncated at=0"):
+            raise Failure(done)
+        refused = run([built / "Vmisuse", *plus, "+refused"], status=None, cwd=self.folder)
+        due = "wudzark: no recorder: lfts_open: block is 12; allowed: 8, 16, 32 or 64"
+        if due not in refused.stdout + refused.stderr:
+            raise Failure(refused.stdout + refused.stderr)
+
 
 def compiles() -> None:
     include = run(["verilator", "--getenv", "VERILATOR_ROOT"]).stdout.strip() + "/include/vltstd"
@@ -87,4 +113,5 @@ def check(checks: Checks, program: Path, library: Path, folder: Path) -> None:
         if rule:
             checks.check(f"in a simulator: stopped by fault {number}, {name}", partial(simulation.fault, number))
     checks.check("in a simulator: no configuration", simulation.no_configuration)
+    checks.check("in a simulator: calls too early, twice or refused", simulation.misused)
     checks.check("in a simulator: wudzark_dpi.c as C and as C++", compiles)

@@ -29,7 +29,7 @@ COMPILERS = {
 SANITIZED = "-g -O1 -fsanitize=address,undefined -fno-sanitize-recover=all".split()
 STATUSES = (
     "OK NOT_OPEN RANGE SIZE ALIGNMENT WRONG_BANK BYTES VERSION MEMORY_ORDER MEMORY_COUNT TIME CYCLE_FULL LOG_FULL "
-    "OUT_OF_MEMORY IO"
+    "OUT_OF_MEMORY IO UNKNOWN"
 ).split()
 CYCLE_EVENTS = 1024
 BUFFER_BYTES = 65536
@@ -165,6 +165,8 @@ class CRecorder:
         return {
             "the events of a cycle are numbered by phase": self.phases,
             "a fence stands after replies and before issues": self.fence_in_cycle,
+            "a flush before the first event": self.early_flush,
+            "what code around it refuses": self.rejected,
             "a cycle has a bound": self.cycle_full,
             "a log has a bound": self.log_full,
             "the time map": self.time_map,
@@ -252,7 +254,32 @@ class CRecorder:
 
     def fence_in_cycle(self) -> None:
         reply, issue = "reply 0 0 0 0 -", "issue 0 0 0 0 8 0x0 -"
+        other = "reply 1 0 0 0 -"
         self.same("open 1 1 8 1 2", ["cycle 1", issue, "fence 0", reply], [reply, "fence 0", issue])
+        self.same("open 2 1 8 1 2", ["cycle 1", other, "fence 0"], ["fence 0", other])
+        late = ["cycle 1", "set_phase 3", reply, "fence 0", "fence 0", other, "fence 1", issue]
+        self.same("open 2 1 8 1 2", late, [other, "fence 1", reply, "fence 0", "fence 0", issue])
+        given = ["cycle 1", reply, "set_phase 2", "fence 0", "second_hit 0 0", "fence 0", "hit 0 0 0"]
+        self.same("open 2 1 8 1 2", given, [reply, "fence 0", "second_hit 0 0", "fence 0", "hit 0 0 0"])
+
+    def early_flush(self) -> None:
+        """Before the first event a flush does nothing: the count of the memory records may still come."""
+        script = Chance(10).script(Shape(2, 4, 64, 1, 2), memory=3, events=20)
+        count, memory, events = "memory_count 3", script[1:4], script[4:]
+        for output in ("path trace.lfts", "file trace.lfts", "function trace.lfts 100000"):
+            for calls in (["flush", count, "flush", *memory], ["flush", memory[0], "flush", *memory[1:], "flush"]):
+                self.driver.record(opened([script[0], *calls, "cycle 1", "flush", "end_cycle", *events], output))
+                expect((self.folder / "trace.lfts").read_bytes(), reference(script), output)
+
+    def rejected(self) -> None:
+        """What code around the recorder refuses is counted, and is not recorded."""
+        script = ["open path trace.lfts 1 1 8 1 2", "set_phase 0", "reject 15 the data is X", "cycle 1", "hit 0 0 0"]
+        found = self.driver.run([*script, "reply 0 0 0 0 -", "refused 1", "close", "reject 15 closed"])
+        expect(found.pop(2), Answer("reject", "UNKNOWN", "the data is X"))
+        expect(found.pop().status, "NOT_OPEN")
+        all_pass(found)
+        due = reference(["open 1 1 8 1 2", "reply 0 0 0 0 -", "hit 0 0 0"])
+        expect((self.folder / "trace.lfts").read_bytes(), due)
 
     def cycle_full(self) -> None:
         script = ["open path trace.lfts 1 1 8 1 2", "cycle 9", *["stall 0 0 0"] * CYCLE_EVENTS]
@@ -281,7 +308,7 @@ class CRecorder:
     def time_map(self) -> None:
         script = ["hit 0 0 0", "cycle 5", "issue 1 0 0 0 8 0x0 -", "reply 1 0 0 0 -", "hit 0 0 0", "fence 1"]
         script += ["cycle 18446744073709551615", "hit 0 0 0", "fill1 1 1 0000000000000000", "end_cycle", "hit 0 0 0"]
-        due = "1 0 5\n2 1 5\n1 1 5\n1 2 5\n2 2 18446744073709551615\n3 0 18446744073709551615\n"
+        due = "1 0 5\n1 1 5\n2 1 5\n1 2 5\n2 2 18446744073709551615\n3 0 18446744073709551615\n"
         for output in ("path trace.map", "file trace.map", "function trace.map 1000"):
             self.driver.record(["open path trace.lfts 2 2 8 1 2", f"map {output}", *script, "close"])
             expect((self.folder / "trace.map").read_text(encoding="utf-8"), due, output)
@@ -382,7 +409,8 @@ class CRecorder:
             raise Failure(line)
 
     def formatted(self) -> None:
-        files = [C / "lfts.h", C / "example.c", HERE / "driver.c", TOP / "bench/recorder.c"]
+        folders = (C, HERE, TOP / "recorders/systemverilog", TOP / "library", TOP / "tests/linked", TOP / "bench")
+        files = [path for folder in folders for path in folder.iterdir() if path.suffix in (".c", ".cpp", ".h", ".hpp")]
         run(["clang-format", "--dry-run", "-Werror", *files])
 
 

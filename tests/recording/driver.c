@@ -159,6 +159,17 @@ static lfts_status memory(lfts_recorder *r) {
     return lfts_memory(r, named, bytes());
 }
 
+// A status, and the words of a text.
+static lfts_status reject(lfts_recorder *r) {
+    char text[256] = "";
+    lfts_status status = (lfts_status)number();
+    while (next_word < word_count) {
+        if (*text) strcat(text, " ");
+        strcat(text, word());
+    }
+    return lfts_reject(r, status, text);
+}
+
 static lfts_status call_of_recorder(recorder *one, const char *name) {
     lfts_recorder *r = &one->r;
     if (strcmp(name, "open") == 0) return open_recorder(one);
@@ -169,6 +180,8 @@ static lfts_status call_of_recorder(recorder *one, const char *name) {
     if (strcmp(name, "end_cycle") == 0) return lfts_end_cycle(r);
     if (strcmp(name, "set_phase") == 0) return lfts_set_phase(r, (lfts_phase)number());
     if (strcmp(name, "flush") == 0) return lfts_flush(r);
+    if (strcmp(name, "reject") == 0) return reject(r);
+    if (strcmp(name, "refused") == 0) return lfts_refused(r) == number() ? LFTS_OK : LFTS_RANGE;
     if (strcmp(name, "close") == 0) return lfts_close(r);
     fprintf(stderr, "driver: no call %s\n", name);
     exit(2);

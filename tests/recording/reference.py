@@ -134,6 +134,28 @@ def reference(script: list[str]) -> bytes:
     return trace.spelled()
 
 
+def hexadecimal(line: str, shape: Shape) -> str:
+    """A call as driver.sv reads it: the name, five numbers, an address, a mask and data."""
+    name, *words = line.split()
+    numbers, address, mask, data = [0] * 5, 0, 0, 0
+    if name == "cycle":
+        address = number(words[0])
+    elif name == "evict2":
+        numbers[:2] = map(number, words[:2])
+        mask = sum(number(word) << place * shape.block for place, word in enumerate(words[2:-1]))
+    elif name == "evict1":
+        numbers[:2], mask = map(number, words[:2]), number(words[2])
+    elif name == "issue":
+        numbers, address = [number(word) for word in words[:5]], number(words[5])
+    else:
+        count = {"memory": 1, "reply": 4, "fill1": 2, "fill2": 2, "map": 0}.get(name, len(words))
+        numbers[:count] = map(number, words[:count])
+    if name in ("memory", "issue", "reply", "fill1", "fill2", "evict1", "evict2") and words[-1] != "-":
+        data = int.from_bytes(bytes.fromhex(words[-1]), "little")
+    numbers += [0] * (5 - len(numbers))
+    return " ".join([name, *(f"{value:x}" for value in (*numbers, address, mask, data))])
+
+
 def every_kind(version: int) -> list[str]:
     """A script that has each kind of event of a version."""
     return (HERE / f"every_kind_v{version}.txt").read_text(encoding="utf-8").splitlines()

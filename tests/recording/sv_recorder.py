@@ -11,34 +11,13 @@ from typing import Optional
 from outside import TOP, Checks, Failure, expect, run
 
 from recording.c_recorder import ABBREVIATIONS, misuses
-from recording.reference import EVERY_KIND, Chance, Shape, every_kind, every_kind_trace, number, reference, shape_of
+from recording import monitors, same_calls
+from recording.reference import EVERY_KIND, Chance, every_kind, every_kind_trace, hexadecimal, reference, shape_of
 
 C = TOP / "recorders/c"
 SV = TOP / "recorders/systemverilog"
 HERE = Path(__file__).resolve().parent
 SOURCES = [SV / "lfts_pkg.sv", HERE / "driver.sv"]
-
-
-def hexadecimal(line: str, shape: Shape) -> str:
-    """A call as the driver in SystemVerilog reads it: the name, five numbers, an address, a mask and data."""
-    name, *words = line.split()
-    numbers, address, mask, data = [0] * 5, 0, 0, 0
-    if name == "cycle":
-        address = number(words[0])
-    elif name == "evict2":
-        numbers[:2] = map(number, words[:2])
-        mask = sum(number(word) << place * shape.block for place, word in enumerate(words[2:-1]))
-    elif name == "evict1":
-        numbers[:2], mask = map(number, words[:2]), number(words[2])
-    elif name == "issue":
-        numbers, address = [number(word) for word in words[:5]], number(words[5])
-    else:
-        count = {"memory": 1, "reply": 4, "fill1": 2, "fill2": 2, "map": 0}.get(name, len(words))
-        numbers[:count] = map(number, words[:count])
-    if name in ("memory", "issue", "reply", "fill1", "fill2", "evict1", "evict2") and words[-1] != "-":
-        data = int.from_bytes(bytes.fromhex(words[-1]), "little")
-    numbers += [0] * (5 - len(numbers))
-    return " ".join([name, *(f"{value:x}" for value in (*numbers, address, mask, data))])
 
 
 class SvRecorder:
@@ -89,9 +68,9 @@ class SvRecorder:
         issue, reply, fence, hit = "issue 1 0 0 0 8 0x0 -", "reply 1 0 0 0 -", "fence 1", "hit 0 1 0"
         calls = ["map", "cycle 5", issue, hit, reply, fence, "cycle 5", hit, "set_phase 0", hit, "cycle 70", hit]
         self.play([shape, *calls, "end_cycle", issue, "flush", "close"])
-        due = [shape, reply, hit, hit, fence, hit, issue, hit, issue]
+        due = [shape, reply, fence, hit, hit, hit, issue, hit, issue]
         expect(self.trace.read_bytes(), reference(due))
-        lines = "1 0 5\n2 0 5\n2 1 5\n1 1 5\n2 2 5\n1 2 5\n2 3 70\n"
+        lines = "1 0 5\n1 1 5\n2 0 5\n2 1 5\n2 2 5\n1 2 5\n2 3 70\n"
         expect((self.folder / "trace.lfts.map").read_text(encoding="utf-8"), lines)
 
     def misuses(self) -> None:
@@ -126,8 +105,11 @@ def check(checks: Checks) -> None:
     """Makes the checks of recorders/systemverilog."""
     if shutil.which("verilator") is None:
         checks.skip("recorders/systemverilog", "verilator not installed")
+        same_calls.check(checks, None)
         return
     with tempfile.TemporaryDirectory(prefix="recorders_sv_") as folder:
         recorder = SvRecorder(checks, Path(folder))
         checks.check("recorders/systemverilog: the driver, by Verilator without a warning", recorder.build)
         recorder.all()
+        monitors.check(checks, Path(folder))
+        same_calls.check(checks, Path(folder, "driver/Vdriver"))

@@ -7,7 +7,7 @@ use Rattle.std.specs.Int.{from_le_bytes, w64}
 use Rattle.lf_rules.specs.Fits.{Bytes}
 use Rattle.lf_rules.specs.declared.mask.Mask.{Mask}
 use Rattle.lf_rules.specs.declared.event.Record.{Record}
-use Rattle.lf_views.specs.Views.{spelled_masks, CanBeKept}
+use Rattle.trace_views.specs.Views.{spelled_masks, CanBeKept}
 use Rattle.lf_codec.specs.declared.header.Header.{Header}
 use Rattle.lf_codec.specs.declared.stage.Kind.{Kind}
 use Rattle.lf_codec.specs.declared.stage.Kind.TheVariants as kinds

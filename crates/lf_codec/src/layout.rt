@@ -9,11 +9,11 @@ use crate::header::Header;
 use crate::stage::{Head, Kind};
 use crate::step::{data_len, fixed_len, head_at};
 use crate::view::record_view;
-use lf_views::RecordView;
 use std::marker::Model;
+use trace_views::RecordView;
 
 /// What the lengths of records hang on beside their bytes. A contract sees it as the header that they fit.
-#[derive(Debug, Drop)]
+#[derive(Drop)]
 pub struct Layout {
     header: Header,
 }

@@ -15,9 +15,9 @@ use crate::layout::lend_any;
 use crate::stage::Head;
 use crate::step::head_at;
 use lf_rules::{Event, NO_BANK, NoMemory, Record};
-use lf_views::RecordView;
 use std::alloc::{AllocFailed, Global};
 use std::marker::Model;
+use trace_views::RecordView;
 
 /// Where the bytes of a record stand, or the record elsewhere. The numbers are short, since one thread writes the forms
 /// and others read them.

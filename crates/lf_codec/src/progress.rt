@@ -17,7 +17,7 @@ use crate::step::{
 use std::mem;
 
 /// How far the reading of a trace has come.
-#[derive(Debug, Drop)]
+#[derive(Drop)]
 pub struct Progress {
     /// Zeros until it is read.
     pub header: Header,

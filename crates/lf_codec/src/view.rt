@@ -1,7 +1,7 @@
 //! The view of a record: its fields, and its bytes and masks where they stand.
 
 ghost use Rattle.std.specs.Prelude.{◌≡◌, ◌+◌, ◌*◌, length, drop};
-ghost use Rattle.lf_views.specs.Views.{event_of, masks_of};
+ghost use Rattle.trace_views.specs.Views.{event_of, masks_of};
 ghost use Rattle.lf_codec.specs.Checks.{masks_at};
 ghost use Rattle.lf_codec.specs.Sound.{AreOfKind};
 ghost use Rattle.lf_codec.specs.Steps.{event_at, record_of};
@@ -10,7 +10,7 @@ use crate::fields::{u16_at, u32_at, u64_at};
 use crate::header::Header;
 use crate::stage::{Head, Kind};
 use lf_rules::{Mask, Op};
-use lf_views::{EventView, MasksView, RecordView};
+use trace_views::{EventView, MasksView, RecordView};
 
 /// The masks of the fixed part of an eviction from level two.
 #[inline(always)]

@@ -15,7 +15,7 @@ use crate::stage::{Head, Kind, Stage};
 use crate::step::{data_len, fixed_len};
 use crate::view::record_view;
 use lf_rules::Record;
-use lf_views::RecordView;
+use trace_views::RecordView;
 
 /// The first bytes and those behind them, where there are so many.
 fn split(bytes: &[u8], len: usize) -> Option<(&[u8], &[u8])>

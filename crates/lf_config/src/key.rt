@@ -36,7 +36,7 @@ pub enum Key {
 }
 
 /// What a value has to be.
-#[derive(Clone, Copy, Debug, PartialEq, Eq)]
+#[derive(Clone, Copy, PartialEq, Eq)]
 pub(crate) enum Sort {
     Integer,
     Text,
@@ -44,7 +44,7 @@ pub(crate) enum Sort {
 }
 
 /// Which values are allowed.
-#[derive(Clone, Copy, Debug, PartialEq, Eq)]
+#[derive(Clone, Copy, PartialEq, Eq)]
 pub(crate) enum Limits {
     /// The whole numbers from the first to the second.
     Between(u32, u32),
@@ -58,7 +58,7 @@ pub(crate) enum Limits {
 }
 
 /// When a key has to be there.
-#[derive(Clone, Copy, Debug, PartialEq, Eq)]
+#[derive(Clone, Copy, PartialEq, Eq)]
 pub(crate) enum Need {
     Always,
     /// Unless the organisation is inverted.

@@ -103,12 +103,12 @@ pub trait Level {
 }
 
 /// The first level, which the ports' requests look at.
-#[derive(Clone, Copy, Debug, PartialEq, Eq)]
+#[derive(Clone, Copy, PartialEq, Eq)]
 pub struct One;
 
 /// The second level, which holds each block that the first holds. Its blocks are wide: each has so many
 /// first-level blocks, and its lines have a mask for each of them.
-#[derive(Clone, Copy, Debug, PartialEq, Eq)]
+#[derive(Clone, Copy, PartialEq, Eq)]
 pub struct Two;
 
 impl Level for One {

@@ -13,7 +13,7 @@ use Rattle.std.proofs.lemmas.List.{length-append, length-map, append-nil}
 use Rattle.std.proofs.lemmas.Map.Made.{lookup-map_values}
 use Rattle.lf_rules.specs.Fits.{FitsRecord}
 use Rattle.lf_rules.specs.declared.event.Record.{Record}
-use Rattle.lf_chunks.specs.Table.{numbered_as}
+use Rattle.trace_early.specs.Table.{numbered_as}
 use Rattle.lf_codec.specs.declared.header.Header.{Header}
 use Rattle.lf_codec.specs.declared.stage.Head.{Head}
 use Rattle.lf_codec.specs.Checks.{fixed_checks}

@@ -5,7 +5,7 @@ use Rattle.std.specs.BTreeMap.{is_at}
 use Rattle.std.specs.Ordering.{nat_cmp}
 use Rattle.std.specs.Global.{Box}
 use Rattle.lf_rules.specs.declared.event.Record.{Record}
-use Rattle.lf_chunks.specs.Table.{numbered_as}
+use Rattle.trace_early.specs.Table.{numbered_as}
 use Rattle.lf_codec.specs.declared.header.Header.{Header}
 use Rattle.lf_codec.specs.Lent.{BeginWith, record_in}
 use Rattle.lf_codec.specs.Sound.{IsInRange}

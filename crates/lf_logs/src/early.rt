@@ -10,13 +10,13 @@ ghost use Rattle.lf_codec.specs.Sound.{IsInRange};
 ghost use Rattle.lf_logs.specs.EarlyRecords.{kept_at, kept_whole};
 ghost use Rattle.lf_logs.specs.Reordering.{CanKeep, if_given};
 
-use lf_chunks::ByNumber;
 use lf_codec::{Header, Layout};
 use lf_rules::{NoMemory, Record};
-use lf_views::RecordView;
 use std::alloc::Global;
 use std::collections::BTreeMap;
 use std::marker::Model;
+use trace_early::ByNumber;
+use trace_views::RecordView;
 
 /// The records that came before their turn, by number. Where it is known how their bytes are laid out, those that came
 /// with their bytes are kept as these, and read again where they stand. The others are kept whole.

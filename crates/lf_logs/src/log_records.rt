@@ -7,7 +7,7 @@ ghost use Rattle.lf_logs.specs.Places.{record_at, Names};
 
 use crate::order::{Place, record_at};
 use lf_rules::Logs;
-use lf_views::RecordView;
+use trace_views::RecordView;
 
 /// The records of a trace by their logs, however they are kept.
 pub trait LogRecords {

@@ -10,9 +10,9 @@ use crate::log_records::LogRecords;
 use crate::order::Place;
 use lf_codec::Packed;
 use lf_rules::NoMemory;
-use lf_views::RecordView;
 use std::alloc::Global;
 use std::marker::Model;
+use trace_views::RecordView;
 
 /// Where a record stands among all records, with the bank that it names and its number: so a walk over all records of
 /// a bank reads no other part of them.

@@ -9,7 +9,7 @@ ghost use Rattle.lf_rules.specs.Run.{first_failing, effect};
 ghost use Rattle.lf_logs.specs.Tags.{with_tags, IsLowestBusy};
 
 use lf_rules::{Outcome, Record, Rule, Shape};
-use lf_views::{EventView, RecordView};
+use trace_views::{EventView, RecordView};
 
 /// A tag is a byte, whatever the shape allows of it.
 const TAGS: usize = 256;

@@ -7,8 +7,8 @@ ghost use Rattle.lf_logs.specs.Tags.{PortStandsAfter, IsPortFaultAfter};
 
 use crate::port::BusyTags;
 use lf_rules::{Record, Rule, Shape};
-use lf_views::RecordView;
 use std::marker::Model;
+use trace_views::RecordView;
 
 /// Judges the log of one port, a record at a time.
 #[derive(Drop)]

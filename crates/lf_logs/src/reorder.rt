@@ -15,9 +15,9 @@ use crate::early::Early;
 use crate::order::NumberFault;
 use lf_codec::Header;
 use lf_rules::{NoMemory, Record, Shape};
-use lf_views::RecordView;
 use std::alloc::Global;
 use std::marker::Model;
+use trace_views::RecordView;
 
 /// Takes a bank's records as they come and gives them in the order of their numbers, each as soon as
 /// all before it are there. It keeps those alone that came before their turn.

@@ -2,7 +2,7 @@
 use Rattle.std.proofs.Common.{◌≡◌, ℕ, List, [], ◌∷◌, replicate, length, slice_index, refl, ap}
 use mathlib.Core.Path.{fun_ext}
 use Rattle.lf_rules.specs.declared.event.Record.{Record}
-use Rattle.lf_state.proofs.Bytes.{zeros}
+use Rattle.bank_state.proofs.Bytes.{zeros}
 use Rattle.lf_model.specs.Walk.{left_of}
 
 pub left_all : (logs : List (List Record)) → left_of (replicate (length logs) 0) logs ≡ logs

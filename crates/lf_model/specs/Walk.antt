@@ -10,7 +10,7 @@ use Rattle.lf_rules.specs.Order.{log_at, after_next}
 use Rattle.lf_rules.specs.Run.{first_failing, state_after}
 use Rattle.lf_rules.specs.State.{update, State, opening, seen_by}
 use Rattle.lf_rules.specs.Table.{OfBoth, clauses}
-use Rattle.lf_plain.specs.Plain.{state_of, IsMachine}
+use Rattle.model_plain.specs.Plain.{state_of, IsMachine}
 use Rattle.lf_model.specs.declared.outcome.Recheck.{Recheck}
 use Rattle.lf_model.specs.declared.outcome.Recheck.TheVariants.{Accepted, NotAnOrder, Broken}
 use Rattle.lf_model.specs.declared.walk.Walk.{Walk}

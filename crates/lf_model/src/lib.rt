@@ -1,4 +1,4 @@
-//! `recheck`, which walks the plain machine of `lf_plain` along an order of the logs. It is made to be read
+//! `recheck`, which walks the plain machine of `model_plain` along an order of the logs. It is made to be read
 //! beside the table of rules, not to be fast.
 //!
 //! The types, the definitions and their laws stand in `lf_rules`, and are offered here again.

@@ -3,7 +3,7 @@
 use lf_rules::Rule;
 
 /// What the plain machine answers to an order of the logs.
-#[derive(Clone, Copy, Debug, PartialEq, Eq)]
+#[derive(Clone, Copy, PartialEq, Eq)]
 pub enum Recheck {
     /// The order names a run of all records.
     Accepted,

@@ -14,12 +14,12 @@ ghost use Rattle.lf_rules.specs.Run.{NameTheirLogs};
 ghost use Rattle.lf_model.specs.Recheck.{lists_of, IsRecheck};
 
 use crate::outcome::Recheck;
-use lf_plain::Machine;
 use lf_rules::{Logs, Memory, NoMemory, Record, Rule, Shape};
+use model_plain::Machine;
 use std::alloc::Global;
 
 /// What came of one place of an order.
-#[derive(Clone, Copy, Debug, PartialEq, Eq)]
+#[derive(Clone, Copy, PartialEq, Eq)]
 pub(crate) enum Taken {
     /// The record took effect.
     Next,

@@ -6,7 +6,7 @@ use crate::target::Target;
 use lf_rules::Mask;
 
 /// A target at level one.
-#[derive(Clone, Copy, Debug, PartialEq, Eq)]
+#[derive(Clone, Copy, PartialEq, Eq)]
 pub struct Request1 {
     /// The word of the block, below 8.
     pub position: u8,

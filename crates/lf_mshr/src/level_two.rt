@@ -6,7 +6,7 @@ use crate::target::Target;
 use lf_rules::Mask;
 
 /// A target at level two: a block that level one asked for. It is never a store.
-#[derive(Clone, Copy, Debug, PartialEq, Eq)]
+#[derive(Clone, Copy, PartialEq, Eq)]
 pub struct Request2 {
     /// The part of the second-level block, below 8.
     pub position: u8,

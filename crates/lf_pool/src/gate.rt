@@ -13,7 +13,7 @@ impl<G: Gate> Gate for &G {
 }
 
 /// Returns at once.
-#[derive(Clone, Copy, Debug)]
+#[derive(Clone, Copy)]
 pub struct NoGate;
 
 impl Gate for NoGate {

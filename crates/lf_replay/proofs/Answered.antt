@@ -6,19 +6,19 @@ use Rattle.lf_rules.specs.declared.event.Event.{Event}
 use Rattle.lf_rules.specs.declared.shape.Shape.{Shape}
 use Rattle.lf_rules.specs.Registers.{Held}
 use Rattle.lf_rules.specs.State.{Request, Missed, Asked, Local}
-use Rattle.lf_cells.specs.declared.known.First.{First}
-use Rattle.lf_bank.specs.declared.fault.BankFault.{BankFault}
-use Rattle.lf_bank.specs.declared.fault.BankFault.TheVariants.{Rule, NoMemory}
-use Rattle.lf_bank.specs.Agrees.{Agrees, IsFetched, rule_broken, after_event}
-use Rattle.lf_bank.specs.Answers.{IsAnswer, AnswerOf, Goes}
-use Rattle.lf_bank.specs.Apart.{AreHome, EachStands}
-use Rattle.lf_bank.specs.BankView.{BankView, AreHeld, AreWaiting, IsSteady, known_of}
-use Rattle.lf_bank.specs.Faults.{IsStepFault}
-use Rattle.lf_bank.specs.Known.{Known}
-use Rattle.lf_bank.specs.KnownAfter.{known_after}
-use Rattle.lf_bank.specs.KnownRules.{known_broken}
-use Rattle.lf_bank.proofs.BreaksAll.{breaks_alike}
-use Rattle.lf_bank.proofs.GoesOn.{goes_on_alike}
+use Rattle.bank_cells.specs.declared.known.First.{First}
+use Rattle.bank_events.specs.declared.fault.BankFault.{BankFault}
+use Rattle.bank_events.specs.declared.fault.BankFault.TheVariants.{Rule, NoMemory}
+use Rattle.bank_events.specs.Agrees.{Agrees, IsFetched, rule_broken, after_event}
+use Rattle.bank_events.specs.Answers.{IsAnswer, AnswerOf, Goes}
+use Rattle.bank_events.specs.Apart.{AreHome, EachStands}
+use Rattle.bank_events.specs.BankView.{BankView, AreHeld, AreWaiting, IsSteady, known_of}
+use Rattle.bank_events.specs.Faults.{IsStepFault}
+use Rattle.bank_events.specs.Known.{Known}
+use Rattle.bank_events.specs.KnownAfter.{known_after}
+use Rattle.bank_events.specs.KnownRules.{known_broken}
+use Rattle.bank_events.proofs.BreaksAll.{breaks_alike}
+use Rattle.bank_events.proofs.GoesOn.{goes_on_alike}
 use Rattle.lf_replay.specs.Shows.{Shows, ShowsReached}
 
 -- what the bank knows, where it shows this state

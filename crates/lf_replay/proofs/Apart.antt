@@ -12,11 +12,11 @@ use Rattle.lf_rules.specs.Lines.{has_line}
 use Rattle.lf_rules.specs.State.{Missed, Ready, Asked, Slice}
 use Rattle.lf_rules.specs.Table.{OfBank, rules_of, slice_after, is_asked, is_among, oldest, miss, block_asked}
 use Rattle.lf_rules.specs.Run.{first_failing}
-use Rattle.lf_bank.specs.Apart.{asks_for, AreHome, stands, EachStands}
+use Rattle.bank_events.specs.Apart.{asks_for, AreHome, stands, EachStands}
 use Rattle.lf_rules.proofs.CopyStep.{asked_among, asks_gone}
 use Rattle.lf_rules.proofs.CopyStep.{is_apart_at}
-use Rattle.lf_bank.proofs.Blocks.{has_put, has_gone, any_push, any_gone}
-use Rattle.lf_bank.proofs.Holding.{BankHolds, bank_holds, no_way, is_not, implied, every4, every5}
+use Rattle.bank_events.proofs.Blocks.{has_put, has_gone, any_push, any_gone}
+use Rattle.bank_events.proofs.Holding.{BankHolds, bank_holds, no_way, is_not, implied, every4, every5}
 
 -- ---- one block
 

@@ -7,8 +7,8 @@ use Rattle.std.specs.Prelude.{replicate, slice_index}
 use Rattle.lf_rules.specs.declared.mask.Mask.{Mask}
 use Rattle.lf_rules.specs.declared.shape.Shape.{Shape}
 use Rattle.lf_rules.specs.Address.{sub_block}
-use Rattle.lf_cells.specs.Cells.{CellsView, cell_at, cell_of, dirty_at, memory_at}
-use Rattle.lf_bank.proofs.Opening.{no_counts}
+use Rattle.bank_cells.specs.Cells.{CellsView, cell_at, cell_of, dirty_at, memory_at}
+use Rattle.bank_events.proofs.Opening.{no_counts}
 use Rattle.lf_replay.specs.Seen.{mask_in}
 
 none_there : (i : ℕ) → 0 ≡ slice_index [] i

@@ -3,12 +3,12 @@ use Rattle.std.proofs.Common.{◌≡◌, ℕ, refl, sym, ap, ◌∙◌}
 use Rattle.lf_rules.specs.Address.{FlatMemory, block_bytes, second_of}
 use Rattle.lf_rules.specs.State.{Slice}
 use Rattle.lf_rules.specs.Table.{store_bytes}
-use Rattle.lf_cells.specs.declared.known.First.{First}
-use Rattle.lf_cells.specs.declared.known.First.TheVariants as level1
-use Rattle.lf_cells.specs.Cells.{first_at, written_at}
-use Rattle.lf_bank.specs.Agrees.{BlockAgrees}
-use Rattle.lf_bank.specs.BankView.{BankView}
-use Rattle.lf_bank.proofs.AtBlock.{none_store}
+use Rattle.bank_cells.specs.declared.known.First.{First}
+use Rattle.bank_cells.specs.declared.known.First.TheVariants as level1
+use Rattle.bank_cells.specs.Cells.{first_at, written_at}
+use Rattle.bank_events.specs.Agrees.{BlockAgrees}
+use Rattle.bank_events.specs.BankView.{BankView}
+use Rattle.bank_events.proofs.AtBlock.{none_store}
 use Rattle.lf_replay.specs.declared.look.BlockState.{BlockState}
 use Rattle.lf_replay.specs.Looks.{IsBlockState, OfShown}
 use Rattle.lf_replay.specs.Seen.{IsSeen, stores_of}

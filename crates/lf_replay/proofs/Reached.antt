@@ -16,13 +16,13 @@ use Rattle.lf_rules.specs.State.{Request, Ready, Slice, Local, update}
 use Rattle.lf_rules.specs.Table.{OfBank, rules_of, slice_after, carries, value_at, accepts, replies_at, request_of}
 use Rattle.lf_rules.specs.Table.{bank_effect, block_asked, second_miss}
 use Rattle.lf_rules.proofs.CopyStep.{push_all, filter_all}
-use Rattle.lf_bank.specs.declared.fault.BankFault.{BankFault}
-use Rattle.lf_bank.specs.Agrees.{Agrees, rule_broken, after_event}
-use Rattle.lf_bank.specs.Answers.{IsAnswer}
-use Rattle.lf_bank.specs.Apart.{AreHome}
-use Rattle.lf_bank.specs.BankView.{BankView}
-use Rattle.lf_bank.specs.Opening.{IsNew}
-use Rattle.lf_bank.proofs.Opening.{opening_agrees, opening_stands}
+use Rattle.bank_events.specs.declared.fault.BankFault.{BankFault}
+use Rattle.bank_events.specs.Agrees.{Agrees, rule_broken, after_event}
+use Rattle.bank_events.specs.Answers.{IsAnswer}
+use Rattle.bank_events.specs.Apart.{AreHome}
+use Rattle.bank_events.specs.BankView.{BankView}
+use Rattle.bank_events.specs.Opening.{IsNew}
+use Rattle.bank_events.proofs.Opening.{opening_agrees, opening_stands}
 use Rattle.lf_replay.specs.Shows.{AreTagged, IsReached, ShowsReached, Shows}
 use Rattle.lf_replay.specs.Step.{bank_after}
 use Rattle.lf_replay.proofs.Answered.{AnswerAt, answer_at, are_held}

@@ -18,18 +18,18 @@ use Rattle.lf_rules.specs.Outcomes.{first_local, IsBankOutcome}
 use Rattle.lf_rules.specs.State.{Local}
 use Rattle.lf_rules.specs.Table.{OfBank, clauses, bank_effect, value_at, accepts, replies_at}
 use Rattle.lf_rules.specs.Run.{first_failing, IsRunOf, BreaksAt}
-use Rattle.lf_bank.specs.declared.fault.BankFault.{BankFault}
-use Rattle.lf_bank.specs.declared.fault.BankFault.TheVariants.{Rule, NoMemory}
+use Rattle.bank_events.specs.declared.fault.BankFault.{BankFault}
+use Rattle.bank_events.specs.declared.fault.BankFault.TheVariants.{Rule, NoMemory}
 use Rattle.lf_rules.specs.declared.outcome.Outcome.{Outcome}
 use Rattle.lf_rules.specs.declared.outcome.Outcome.TheVariants as outcome
 use Rattle.lf_rules.proofs.FitFacts.{names_home}
 use Rattle.lf_rules.proofs.Locality.{SameBank, IsHome, bank_clauses_same, bank_effect_same, home_after}
-use Rattle.lf_state.specs.Bytes.{bank_part}
+use Rattle.bank_state.specs.Bytes.{bank_part}
 use Rattle.std.specs.Prelude.{OnOk, IfOk, IfErr}
-use Rattle.lf_bank.specs.Agrees.{rule_broken, after_event}
-use Rattle.lf_bank.specs.Answers.{IsAnswer}
-use Rattle.lf_bank.specs.Apart.{EachStands}
-use Rattle.lf_bank.specs.BankView.{BankView}
+use Rattle.bank_events.specs.Agrees.{rule_broken, after_event}
+use Rattle.bank_events.specs.Answers.{IsAnswer}
+use Rattle.bank_events.specs.Apart.{EachStands}
+use Rattle.bank_events.specs.BankView.{BankView}
 use Rattle.lf_replay.specs.Shows.{Shows, ShowsReached}
 use Rattle.lf_replay.specs.Step.{bank_after, IsBankAfter, IsFaultAfter, IsBankOrder}
 use Rattle.lf_replay.proofs.Answered.{AnswerAt, answer_at}

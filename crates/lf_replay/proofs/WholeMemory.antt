@@ -1,7 +1,7 @@
 -- The bank's blocks of the memory do for its records, and the whole memory does.
 use Rattle.lf_rules.specs.Outcomes.{first_local}
 use Rattle.lf_rules.proofs.Locality.{SameBank-sym}
-use Rattle.lf_state.specs.Bytes.{bank_part}
+use Rattle.bank_state.specs.Bytes.{bank_part}
 use Rattle.lf_replay.specs.WholeMemory.{BankPartsRunAlike, BankPartsBreakAlike}
 use Rattle.lf_replay.proofs.Runs.{part_does, run_same, breaks_same}
 

@@ -3,7 +3,7 @@ use Rattle.lf_replay.specs.declared.any_bank.AnyBank.{AnyBank}
 use Rattle.lf_replay.specs.declared.any_bank.AnyBank.TheVariants as any
 use Rattle.lf_replay.specs.declared.any_bank.SecondBank.{SecondBank}
 use Rattle.lf_replay.specs.declared.any_bank.SecondBank.TheVariants as second
-use Rattle.lf_bank.specs.BankView.{BankView}
+use Rattle.bank_events.specs.BankView.{BankView}
 
 abbrev pub second_view_of : {O1 File1 : Type 0} → SecondBank O1 File1 → BankView
 second_view_of (second.Implicit bank) = bank

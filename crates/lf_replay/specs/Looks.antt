@@ -9,7 +9,7 @@ use Rattle.lf_rules.specs.Registers.{holds}
 use Rattle.lf_rules.specs.State.{Local}
 use Rattle.lf_rules.specs.Table.{is_asked, is_among, store_bytes}
 use Rattle.lf_replay.specs.declared.look.BlockState.{BlockState}
-use Rattle.lf_bank.specs.BankView.{BankView}
+use Rattle.bank_events.specs.BankView.{BankView}
 use Rattle.lf_replay.specs.Shows.{Shows}
 use Rattle.lf_replay.specs.Step.{StepView, IsStepAfter, bank_after}
 

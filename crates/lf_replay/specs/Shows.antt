@@ -4,9 +4,9 @@ use Rattle.std.specs.List.{AllByRecursion}
 use Rattle.lf_rules.specs.declared.shape.Shape.{Shape}
 use Rattle.lf_rules.specs.InRange.{IsShape}
 use Rattle.lf_rules.specs.State.{Slice, Local}
-use Rattle.lf_bank.specs.Agrees.{Agrees}
-use Rattle.lf_bank.specs.Apart.{EachStands}
-use Rattle.lf_bank.specs.BankView.{BankView, AreWaiting, known_of}
+use Rattle.bank_events.specs.Agrees.{Agrees}
+use Rattle.bank_events.specs.Apart.{EachStands}
+use Rattle.bank_events.specs.BankView.{BankView, AreWaiting, known_of}
 
 -- The bank shows this state: its registers hold targets of the requests that wait in them, and what it knows is this
 -- state.

@@ -10,9 +10,9 @@ use Rattle.lf_rules.specs.Outcomes.{first_local}
 use Rattle.lf_rules.specs.State.{Local}
 use Rattle.lf_rules.specs.Table.{OfBank, bank_effect}
 use Rattle.lf_rules.specs.Run.{IsRunOf, BreaksAt}
-use Rattle.lf_bank.specs.declared.fault.BankFault.{BankFault}
-use Rattle.lf_bank.specs.declared.fault.BankFault.TheVariants.{Rule, NoMemory}
-use Rattle.lf_bank.specs.BankView.{BankView}
+use Rattle.bank_events.specs.declared.fault.BankFault.{BankFault}
+use Rattle.bank_events.specs.declared.fault.BankFault.TheVariants.{Rule, NoMemory}
+use Rattle.bank_events.specs.BankView.{BankView}
 use Rattle.lf_replay.specs.Shows.{Shows}
 
 -- what a step is seen as: its bank, and the state of it

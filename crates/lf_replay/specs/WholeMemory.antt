@@ -9,7 +9,7 @@ use Rattle.lf_rules.specs.Fits.{Fits}
 use Rattle.lf_rules.specs.Outcomes.{first_local}
 use Rattle.lf_rules.specs.Run.{IsSliceRun, BreaksAt}
 use Rattle.lf_rules.specs.Table.{OfBank}
-use Rattle.lf_state.specs.Bytes.{bank_part}
+use Rattle.bank_state.specs.Bytes.{bank_part}
 
 -- records of the bank that a trace of the shape may have
 pub record AreOfBank (shape : Shape) (bank : ℕ) (rs : List Record) : Type 0 where

@@ -3,12 +3,12 @@
 ghost use Rattle.std.specs.Prelude.{◌≡◌, true};
 ghost use Rattle.lf_replay.specs.AnyBank.{view_of, second_view_of};
 
-use crate::bank_state::BankState;
-use lf_bank::{Bank, BankFault};
+use crate::state::BankState;
+use bank_events::{Bank, BankFault};
 use lf_mshr::{Explicit, Implicit, Inverted, Organisation, Request1, Request2};
 use lf_rules::{Block, NoMemory, OrgShape, Shape};
-use lf_views::RecordView;
 use std::alloc::Global;
+use trace_views::RecordView;
 
 /// A bank with this organisation of level one, by that of level two.
 #[derive(Drop)]

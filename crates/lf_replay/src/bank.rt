@@ -2,12 +2,12 @@
 
 ghost use Rattle.std.specs.Prelude.{◌≡◌, true};
 
-use crate::bank_state::BankState;
-use lf_bank::{Bank, BankFault};
+use crate::state::BankState;
+use bank_events::{Bank, BankFault};
 use lf_mshr::{Organisation, Request1, Request2};
 use lf_rules::{Block, NoMemory, Shape};
-use lf_views::RecordView;
 use std::alloc::Global;
+use trace_views::RecordView;
 
 impl<O1: Organisation<Target = Request1>, O2: Organisation<Target = Request2>> BankState
     for Bank<O1, O2> {

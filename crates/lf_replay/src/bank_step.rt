@@ -5,16 +5,16 @@ ghost use Rattle.lf_rules.specs.declared.shape.Shape.{Shape};
 ghost use Rattle.lf_rules.specs.declared.event.Record.{Record};
 ghost use Rattle.lf_rules.specs.Address.{FlatMemory, flat_memory};
 ghost use Rattle.lf_rules.specs.InRange.{IsShape};
-ghost use Rattle.lf_state.specs.Bytes.{bank_part};
+ghost use Rattle.bank_state.specs.Bytes.{bank_part};
 ghost use Rattle.lf_replay.specs.Step.{IsStepAfter, IsForStep, IsFaultAfter};
 
 use crate::any_bank::AnyBank;
-use crate::bank_state::BankState;
-use lf_bank::BankFault;
+use crate::state::BankState;
+use bank_events::BankFault;
 use lf_rules::{Memory, NoMemory, Record, Shape};
-use lf_views::RecordView;
 use std::alloc::Global;
 use std::marker::Model;
+use trace_views::RecordView;
 
 /// The state of one bank's replay: what the bank of both levels holds after the records that it took,
 /// and flat memory.

@@ -9,17 +9,17 @@
 
 mod any_bank;
 mod bank;
-mod bank_state;
 mod bank_step;
 mod laws;
 mod lends;
 mod look;
 mod replays;
 mod seen;
+mod state;
 
+pub use bank_events::BankFault;
 pub use bank_step::Step;
 pub use laws::bank_parts_are_alike;
-pub use lf_bank::BankFault;
 pub use lf_rules::{NoMemory, Outcome};
 pub use look::BlockState;
 pub use replays::{bank_replay, replay, replay_lent};

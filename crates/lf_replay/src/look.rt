@@ -9,13 +9,13 @@ ghost use Rattle.lf_replay.specs.Looks.{IsBlockState, OfShown, OfStep};
 use crate::any_bank::{AnyBank, SecondBank};
 use crate::bank_step::Step;
 use crate::seen::seen_in;
-use lf_bank::Bank;
+use bank_events::Bank;
+use bank_state::ready_for;
 use lf_mshr::{Organisation, Request1, Request2};
 use lf_rules::{Block, Mask, Masks};
-use lf_state::ready_for;
 
 /// What a bank of both levels has of a block.
-#[derive(Debug, Drop, PartialEq, Eq)]
+#[derive(Drop, PartialEq, Eq)]
 pub struct BlockState {
     /// The dirty mask of its line in level one, where there is one.
     pub line1: Option<Mask>,

@@ -8,13 +8,13 @@ ghost use Rattle.lf_replay.specs.Lent.{lent};
 ghost use Rattle.lf_replay.specs.Step.{IsBankOrder};
 
 use crate::any_bank::AnyBank;
-use crate::bank_state::BankState;
 use crate::lends::Lends;
-use lf_bank::{Bank, BankFault};
+use crate::state::BankState;
+use bank_events::{Bank, BankFault};
 use lf_mshr::{Organisation, Request1, Request2};
 use lf_rules::{Memory, Outcome, Record, Shape};
-use lf_views::RecordView;
 use std::alloc::Global;
+use trace_views::RecordView;
 
 /// Judges a bank's records, in the order of their numbers, by the rules of banks: `Passed` where they
 /// are a run from the opening state with this memory, `Broken` with the number of the first that does

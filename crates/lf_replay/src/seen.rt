@@ -3,15 +3,15 @@
 ghost use Rattle.std.specs.Prelude.{◌≡◌, ◌<◌, ◌/◌, option_map, slice_index};
 ghost use Rattle.lf_rules.specs.Address.{block_bytes};
 ghost use Rattle.lf_rules.specs.InRange.{IsShape};
-ghost use Rattle.lf_cells.specs.Cells.{first_at, written_at, dirty_at, second_at, memory_at};
-ghost use Rattle.lf_bank.specs.Agrees.{line1_of, line2_of};
-ghost use Rattle.lf_bank.specs.Known.{is_asking, is_supplied, is_in_flight, is_second_in_flight};
+ghost use Rattle.bank_cells.specs.Cells.{first_at, written_at, dirty_at, second_at, memory_at};
+ghost use Rattle.bank_events.specs.Agrees.{line1_of, line2_of};
+ghost use Rattle.bank_events.specs.Known.{is_asking, is_supplied, is_in_flight, is_second_in_flight};
 ghost use Rattle.lf_replay.specs.Seen.{IsSeen, masks_in, stores_of};
 
 use crate::look::BlockState;
-use lf_cells::{Cells, Fetch, First, Second};
+use bank_cells::{Cells, Fetch, First, Second};
+use bank_state::{second_of, sub_block};
 use lf_rules::{Block, Mask, Masks, Shape};
-use lf_state::{second_of, sub_block};
 
 /// What level one has of a block.
 fn first_at(cells: &Cells, block: u32) -> First

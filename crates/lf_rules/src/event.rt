@@ -22,7 +22,7 @@ pub type Logs = Vec<Vec<Record>>;
 pub const NO_BANK: u8 = 255;
 
 /// What a request asks for.
-#[derive(Clone, Copy, Debug, PartialEq, Eq)]
+#[derive(Clone, Copy, PartialEq, Eq)]
 pub enum Op {
     /// It reads bytes.
     Load,
@@ -31,7 +31,7 @@ pub enum Op {
 }
 
 /// What happened. Issues, replies and fences stand in a port's log, the others in a bank's.
-#[derive(Clone, Debug, Drop, PartialEq, Eq)]
+#[derive(Drop, PartialEq, Eq)]
 pub enum Event {
     /// A port sends a request. `bytes` is what a store writes, and empty for a load.
     Issue {
@@ -115,7 +115,7 @@ pub enum Event {
 }
 
 /// One event, with the log that it stands in and its place in the order of its bank.
-#[derive(Clone, Debug, Drop, PartialEq, Eq)]
+#[derive(Drop, PartialEq, Eq)]
 pub struct Record {
     /// 0 to P-1 for a port's log, P+b for that of bank b.
     pub log: u8,

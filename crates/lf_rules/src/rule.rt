@@ -6,7 +6,7 @@ ghost use Rattle.lf_rules.specs.Text.{rule_text};
 use std::fmt;
 
 /// The clauses that a record can break, by name.
-#[derive(Clone, Copy, Debug, PartialEq, Eq)]
+#[derive(Clone, Copy, PartialEq, Eq)]
 pub enum Rule {
     /// The tag is below the number of tags of a port.
     TagRange,
@@ -111,5 +111,12 @@ impl fmt::Display for Rule {
     fn fmt<W: fmt::Write>(&self, f: &mut fmt::Formatter<W>) -> fmt::Result {
         let name = self.name();
         write!(f, "{name}")
+    }
+}
+
+/// The rule's name.
+impl fmt::Debug for Rule {
+    fn fmt<W: fmt::Write>(&self, f: &mut fmt::Formatter<W>) -> fmt::Result {
+        f.write_str(self.name())
     }
 }

@@ -1,7 +1,7 @@
 //! The configured hierarchy.
 
 /// How the registers of a level name what they hold.
-#[derive(Clone, Copy, Debug, PartialEq, Eq)]
+#[derive(Clone, Copy, PartialEq, Eq)]
 pub enum OrgShape {
     /// Each register holds one block and has a field for each word of it; at level two, for each
     /// first-level block of it.
@@ -13,7 +13,7 @@ pub enum OrgShape {
 }
 
 /// One level of the cache. All numbers count per bank.
-#[derive(Clone, Copy, Debug, PartialEq, Eq)]
+#[derive(Clone, Copy, PartialEq, Eq)]
 pub struct Level {
     /// 1 to 4,096.
     pub sets: u32,
@@ -24,7 +24,7 @@ pub struct Level {
 }
 
 /// A two-level lockup-free cache.
-#[derive(Clone, Copy, Debug, PartialEq, Eq)]
+#[derive(Clone, Copy, PartialEq, Eq)]
 pub struct Shape {
     /// 1 to 16.
     pub ports: u32,

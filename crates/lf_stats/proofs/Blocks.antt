@@ -13,9 +13,9 @@ use Rattle.arrayvec.specs.ArrayVec.{ArrayVec}
 use Rattle.lf_rules.specs.declared.event.Op.{Op}
 use Rattle.lf_rules.specs.declared.event.Event.{Event}
 use Rattle.lf_rules.specs.declared.event.Event.TheVariants.{Issue}
-use Rattle.lf_views.specs.declared.event_view.EventView.{EventView}
-use Rattle.lf_views.specs.declared.event_view.EventView.TheVariants as views
-use Rattle.lf_views.specs.Views.{event_of}
+use Rattle.trace_views.specs.declared.event_view.EventView.{EventView}
+use Rattle.trace_views.specs.declared.event_view.EventView.TheVariants as views
+use Rattle.trace_views.specs.Views.{event_of}
 use Rattle.lf_rules.specs.Address.{block_of}
 use Rattle.lf_logs.specs.declared.order.Place.{Place}
 use Rattle.lf_logs.specs.Places.{record_at, records_at}

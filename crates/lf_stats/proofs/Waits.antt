@@ -10,9 +10,9 @@ use Rattle.std.proofs.lemmas.List.FromFn.{fill_by_all}
 use Rattle.std.proofs.lemmas.Bool.{cases_eq, eq-eqb, ne_eqb}
 use Rattle.lf_rules.specs.declared.event.Op.{Op}
 use Rattle.lf_rules.specs.declared.event.Record.{Record}
-use Rattle.lf_views.specs.declared.event_view.EventView.{EventView}
-use Rattle.lf_views.specs.declared.event_view.EventView.TheVariants as views
-use Rattle.lf_views.specs.Views.{event_of}
+use Rattle.trace_views.specs.declared.event_view.EventView.{EventView}
+use Rattle.trace_views.specs.declared.event_view.EventView.TheVariants as views
+use Rattle.trace_views.specs.Views.{event_of}
 use Rattle.lf_logs.specs.Incomplete.{waits, waits_after}
 use Rattle.lf_stats.specs.Statistics.{unanswered}
 

@@ -1,7 +1,7 @@
 //! The counts of a bank, in the order of its numbers.
 
 ghost use Rattle.std.specs.Prelude.{◌≡◌, ◌<◌, ◌≤◌, ◌^◌, ℕ, List, Option, length, All, OnOk, IfOk, IsSome};
-ghost use Rattle.lf_views.specs.Views.{event_of};
+ghost use Rattle.trace_views.specs.Views.{event_of};
 ghost use Rattle.lf_logs.specs.Places.{record_at, records_at};
 ghost use Rattle.lf_stats.specs.Standing.{next_of, named, AreAlike, IsHeld};
 ghost use Rattle.lf_stats.specs.Statistics.{held_by, held_counts, bank_stats};
@@ -11,8 +11,8 @@ use crate::held::Held;
 use crate::issued::{Accepted, blocks_issued};
 use lf_logs::{LogRecords, Place};
 use lf_rules::{NoMemory, Shape};
-use lf_views::{EventView, RecordView};
 use std::alloc::Global;
+use trace_views::{EventView, RecordView};
 
 /// Changes what is held.
 fn hold(

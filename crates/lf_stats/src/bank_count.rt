@@ -11,9 +11,9 @@ ghost use Rattle.lf_stats.specs.Tally.{IsCounted, IsSteady, QueuesAre, head_of, 
 use crate::counts::BankStats;
 use crate::held::Held;
 use lf_rules::{NoMemory, Record};
-use lf_views::{EventView, RecordView};
 use std::alloc::Global;
 use std::collections::VecDeque;
+use trace_views::{EventView, RecordView};
 
 /// As many as there are numbers of ports.
 const PORTS: usize = 256;

@@ -1,10 +1,10 @@
 //! What is counted.
 
 ghost use Rattle.std.specs.Prelude.{◌≡◌, ◌+◌, ◌<◌, ◌^◌, if◌then◌else◌};
-ghost use Rattle.lf_views.specs.Views.{event_of};
+ghost use Rattle.trace_views.specs.Views.{event_of};
 ghost use Rattle.lf_stats.specs.Statistics.{is_hit, is_primary, is_merge, is_stall};
 
-use lf_views::EventView;
+use trace_views::EventView;
 
 /// What happened in level one of a bank.
 #[derive(Clone, Copy, Debug, Default, PartialEq, Eq)]

@@ -3,15 +3,15 @@
 ghost use Rattle.std.specs.Prelude.{◌≡◌, ◌+◌, ◌<◌, ◌^◌, ℕ, [], length, All, IfOk, IsSome, slice_index};
 ghost use Rattle.std.specs.Prelude.{slice_index_or, if◌then◌else◌};
 ghost use Rattle.lf_rules.specs.Lists.{lists_of};
-ghost use Rattle.lf_views.specs.Views.{event_of};
+ghost use Rattle.trace_views.specs.Views.{event_of};
 ghost use Rattle.lf_logs.specs.Places.{record_at, records_at};
 ghost use Rattle.lf_stats.specs.Standing.{next_of};
 ghost use Rattle.lf_stats.specs.Statistics.{accepts, issued};
 
 use lf_logs::{LogRecords, Place};
 use lf_rules::{NoMemory, Shape};
-use lf_views::{EventView, RecordView};
 use std::alloc::Global;
+use trace_views::{EventView, RecordView};
 
 /// As many as there are numbers of ports.
 const PORTS: usize = 256;

@@ -1,11 +1,11 @@
 //! The requests of a port that have no reply.
 
 ghost use Rattle.std.specs.Prelude.{◌≡◌, ◌<◌, ◌≤◌, ◌^◌, ℕ, false, [], length, filter, slice_index_or};
-ghost use Rattle.lf_views.specs.Views.{event_of};
+ghost use Rattle.trace_views.specs.Views.{event_of};
 ghost use Rattle.lf_logs.specs.Incomplete.{unanswered, waits, waits_after};
 
 use lf_logs::{LogRecords, Place};
-use lf_views::{EventView, RecordView};
+use trace_views::{EventView, RecordView};
 
 /// As many as there are tags.
 const TAGS: usize = 256;

@@ -14,18 +14,17 @@ use Rattle.lf_codec.specs.Reading.{Reading}
 use Rattle.lf_codec.specs.Reader.{told, HasRead, with_records}
 use Rattle.lf_verdict.specs.declared.session.intake.Intake.{Intake}
 use Rattle.lf_verdict.specs.inner.Coming.{MayAllCome}
-use Rattle.lf_verdict.specs.inner.Ahead.{CanRead, ReadsOn}
+use Rattle.lf_verdict.specs.inner.Ahead.{CanRead, ReadsOn, session_of, lent_records}
 use Rattle.lf_verdict.specs.inner.Shares.{MayFollow, StandsAfterNext}
 use Rattle.lf_verdict.specs.declared.stop.Stop.{Stop}
 use Rattle.lf_verdict.specs.declared.stop.Stop.TheVariants as stops
-use Rattle.lf_verdict.specs.Session.{HasTaken, HasFed, HasFedUntil}
+use Rattle.lf_verdict.specs.inner.Fed.{HasTaken, HasFed, HasFedUntil}
 use Rattle.lf_verdict.specs.declared.session.workers.Workers.{Workers}
 use Rattle.lf_verdict.specs.declared.session.standing.Standing.{Standing}
 use Rattle.lf_verdict.specs.declared.session.ahead.Ahead.{Ahead}
 use Rattle.lf_verdict.specs.declared.session.breaking.Watch.{Watch}
 use Rattle.lf_verdict.specs.Breaking.{first_offset}
 use Rattle.lf_verdict.specs.Standing.{IsWatch}
-use Rattle.lf_verdict.specs.Ahead.{session_of, lent_records}
 use Rattle.lf_verdict.specs.inner.Taking.{running_before}
 use Rattle.lf_verdict.proofs.Batches.{first_come}
 use Rattle.lf_verdict.proofs.Pieces.{told_fine}

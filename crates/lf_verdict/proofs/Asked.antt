@@ -13,7 +13,8 @@ use Rattle.lf_verdict.specs.declared.session.standing.Standing.{Standing}
 use Rattle.lf_verdict.specs.Breaking.{NoneBroke}
 use Rattle.lf_verdict.specs.Legal.{Agrees}
 use Rattle.lf_verdict.specs.Named.{IsNamedFault, IsNamedSoFar, HasBegun, NoneBrokeSoFar}
-use Rattle.lf_verdict.specs.Session.{HasJudged, IsRunning, HeaderAgrees}
+use Rattle.lf_verdict.specs.Session.{HeaderAgrees}
+use Rattle.lf_verdict.specs.inner.Fed.{HasJudged, IsRunning}
 use Rattle.lf_verdict.specs.inner.Taking.{IsLacking}
 use Rattle.lf_verdict.proofs.Finals.{begins_fed}
 use Rattle.lf_verdict.proofs.Named.{same_header}

@@ -5,7 +5,8 @@ use Rattle.std.proofs.Math.Seq.{take-add}
 use Rattle.std.proofs.lemmas.List.{append-nil, length-drop, take-append-drop, take_all}
 use Rattle.lf_verdict.specs.declared.session.intake.Intake.{Intake}
 use Rattle.lf_verdict.specs.declared.stop.Stop.{Stop}
-use Rattle.lf_verdict.specs.Session.{HasFed, stop_told}
+use Rattle.lf_verdict.specs.Session.{stop_told}
+use Rattle.lf_verdict.specs.inner.Fed.{HasFed}
 
 -- what of the piece is still to be fed
 abbrev pub rest_of : List ℕ → ℕ → List ℕ

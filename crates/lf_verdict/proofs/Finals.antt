@@ -36,7 +36,7 @@ use Rattle.lf_verdict.specs.declared.session.intake.Intake.{Intake}
 use Rattle.lf_verdict.specs.declared.session.standing.Standing.{Standing}
 use Rattle.lf_verdict.specs.Legal.{Agrees, IsTraceFor}
 use Rattle.lf_verdict.specs.Parts.{HasWholeNumbers, PortRuns, BankRuns, PartsRun}
-use Rattle.lf_verdict.specs.Session.{IsRunning, HasJudged}
+use Rattle.lf_verdict.specs.inner.Fed.{IsRunning, HasJudged}
 use Rattle.lf_verdict.specs.inner.Coming.{logs_so_far}
 use Rattle.lf_verdict.specs.Verdict.{Differs, IsFaultOfLogs, IsVerdictOf}
 use Rattle.lf_verdict.proofs.Counts.{no_double}

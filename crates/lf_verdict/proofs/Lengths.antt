@@ -32,7 +32,7 @@ use Rattle.lf_verdict.specs.Breaking.{first_offset, offset_after}
 use Rattle.lf_verdict.specs.Standing.{IsWatch, StandsAfterAll}
 use Rattle.lf_verdict.specs.inner.Noting.{EndsInRange}
 use Rattle.lf_verdict.specs.Legal.{Agrees}
-use Rattle.lf_verdict.specs.Session.{IsRunning}
+use Rattle.lf_verdict.specs.inner.Fed.{IsRunning}
 
 -- ---- the header and the memory
 

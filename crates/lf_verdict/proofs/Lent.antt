@@ -19,7 +19,7 @@ use Rattle.lf_verdict.specs.Standing.{IsWatch, StandsAfterAll}
 use Rattle.lf_verdict.specs.inner.Coming.{MayCome}
 use Rattle.lf_verdict.specs.inner.Noting.{EndsInRange}
 use Rattle.lf_verdict.specs.inner.Taking.{RunsOn}
-use Rattle.lf_verdict.specs.Session.{IsRunning, IsJudging, HasFed, HasFedUntil}
+use Rattle.lf_verdict.specs.inner.Fed.{IsRunning, IsJudging, HasFed, HasFedUntil}
 use Rattle.lf_verdict.proofs.Feeding.{rest_of, rest_is, more_bytes}
 use Rattle.lf_verdict.proofs.Lengths.{ends_in_range}
 use Rattle.lf_verdict.proofs.Sessions.{may_come, given_one, running_on, running_more, going}

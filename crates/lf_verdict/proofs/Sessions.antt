@@ -37,7 +37,8 @@ use Rattle.lf_verdict.specs.inner.Gathering.{IsFaultOrWant, IsStopOf}
 use Rattle.lf_verdict.specs.Breaking.{first_offset}
 use Rattle.lf_verdict.specs.Standing.{IsWatch, StandsAfterAll}
 use Rattle.lf_verdict.specs.inner.Coming.{MayCome, MayAllCome, IsShort, logs_so_far}
-use Rattle.lf_verdict.specs.Session.{IsRunning, IsOfAnotherHeader, IsJudging, HasJudged, HasFedUntil, HasTaken, HasFed}
+use Rattle.lf_verdict.specs.Session.{IsOfAnotherHeader}
+use Rattle.lf_verdict.specs.inner.Fed.{IsRunning, IsJudging, HasJudged, HasFedUntil, HasTaken, HasFed}
 use Rattle.lf_verdict.specs.Session.{refusal_of, stop_told, IsRefusalSoFar}
 use Rattle.lf_verdict.specs.inner.Taking.{IsLacking}
 use Rattle.lf_verdict.specs.declared.answer.Refusal.{Refusal}

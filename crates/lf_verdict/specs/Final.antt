@@ -15,10 +15,7 @@ use Rattle.lf_verdict.specs.declared.session.breaking.Broken.TheVariants as brok
 use Rattle.lf_verdict.specs.declared.answer.HeaderField.{HeaderField}
 use Rattle.lf_verdict.specs.Breaking.{first_offset, IsFaultOfPart, NoneBroke, IsFirstBreak}
 use Rattle.lf_verdict.specs.Legal.{Agrees, IsTraceFor}
-use Rattle.lf_verdict.specs.declared.session.intake.Intake.{Intake}
-use Rattle.lf_verdict.specs.declared.session.intake.Judging.{Judging}
-use Rattle.lf_verdict.specs.declared.session.intake.Judging.TheVariants.{Waiting, Running, Another}
-use Rattle.lf_verdict.specs.Session.{HasJudged, IsOfAnotherHeader, HeaderAgrees}
+use Rattle.lf_verdict.specs.Session.{IsOfAnotherHeader}
 use Rattle.lf_verdict.specs.declared.answer.Fault.{Fault}
 use Rattle.lf_verdict.specs.declared.answer.Fault.TheVariants.{Missing, Double, Port, Bank}
 use Rattle.lf_verdict.specs.declared.answer.Verdict.{Verdict}
@@ -91,17 +88,6 @@ abbrev pub IsEarliest : Shape → List ℕ → Broken → Type 0
 IsEarliest shape bytes (broken.Header field) = IsOfAnotherHeader shape bytes field
 IsEarliest shape bytes (broken.Part fault None) = ⊥
 IsEarliest shape bytes (broken.Part fault (Some upon)) = IsFirstOf shape bytes fault upon
-
--- Unless it was stopped, the trace is of no other hierarchy so far, and no part of the records that the session took
--- is at fault.
-abbrev pub IsUnbrokenSoFar : Intake → List ℕ → Judging → List Record → Type 0
-IsUnbrokenSoFar s bytes Waiting records = HeaderAgrees s.shape bytes
-IsUnbrokenSoFar s bytes (Running running) records = NoneBroke s.shape (flat_memory s.memory.items) records
-IsUnbrokenSoFar s bytes (Another field) records = ⊥
-
-abbrev pub IsUnbroken : Intake → List ℕ → Type 0
-IsUnbroken s bytes = s.stop ≡ None → (records : List Record) → HasJudged s bytes records →
-    IsUnbrokenSoFar s bytes s.judging records
 
 -- Where the bytes are a trace for the shape, no part of its records is at fault.
 abbrev pub NoneBrokeInTrace : Shape → List ℕ → Type 0

@@ -13,9 +13,9 @@ pub mod Laws
 pub mod ConfiguredLaws
 pub mod Collected
 pub mod Text
--- What a session was fed, and how its parts stand then.
+-- What is seen of a session, what it answers, and how its parts stand.
+pub mod Seen
 pub mod Session
 pub mod Standing
-pub mod Ahead
 -- What no public contract needs.
 pub mod inner

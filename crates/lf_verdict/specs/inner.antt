@@ -1,5 +1,6 @@
 -- What only the contracts of the crate's own functions and their proofs use. No file beside this folder names a file in
 -- it.
+pub mod Fed
 pub mod Coming
 pub mod Counting
 pub mod Noting

@@ -2,8 +2,8 @@
 
 ghost use Rattle.std.specs.Prelude.{◌≤◌, IfOk, vec_len};
 
-use crate::trace::STANDARD_INPUT;
-use lf_engine::InputFault;
+use command_line::STANDARD;
+use run_engine::InputFault;
 use std::alloc::Global;
 use std::io;
 use std::io::{ErrorKind, Read};
@@ -32,7 +32,7 @@ pub fn bytes_at<T: Input + Files + AllocGlobal>(rt: &T, path: &str) -> io::Resul
 where
     T::File: Drop,
 {
-    if path == STANDARD_INPUT {
+    if path == STANDARD {
         return bytes_within(rt.alloc(), rt.reader(), MOST_BYTES);
     }
     bytes_within(rt.alloc(), std::fs::open(rt, path)?, MOST_BYTES)

@@ -2,37 +2,16 @@
 
 ghost use Rattle.lf_rules.specs.InRange.{IsShape};
 
+use crate::ending::Ending;
+use crate::output::put;
 use lf_config::{ConfigFault, read};
-use lf_demo::{DemoFault, demo_trace};
 use lf_rules::Shape;
-use std::fmt;
+use recorder_demo::{DemoFault, demo_trace};
+use std::io::ErrorKind;
 use std::rt::Files;
 use std::sync::Wait;
 use std::thread::Threads;
-
-/// What the help says of `demo`.
-pub const ABOUT: &str = "Runs a small cache in threads for a configuration, and writes its trace";
-
-/// What the help says after the arguments.
-pub const HELP: &str = "\
-Answers:
-  demo events=200              so many events are written
-  refused write                the file cannot be written
-  refused turns                a thread made no progress
-  refused thread               a thread was refused
-  refused config Missing tags  the configuration says no hierarchy
-  refused read config          the file cannot be read
-  refused usage                the words are none of a command
-  refused memory               there is not enough memory
-
-Two runs may write different traces: the threads run as they come.
-
-Exit status:
-  0  written
-  2  refused
-
-Examples:
-  score demo small.toml demo.lfts && score check small.toml demo.lfts";
+use std::{fmt, io};
 
 /// A thread that makes so many turns without an event gives up.
 pub const DEMO_TURNS: u32 = 10_000_000;
@@ -46,8 +25,18 @@ pub enum Demonstration {
     Config(ConfigFault),
     /// There is no trace.
     Failed(DemoFault),
-    /// The trace could not be written.
-    Unwritten,
+    /// The trace was not written, for this reason.
+    Unwritten(io::Error),
+}
+
+impl Demonstration {
+    pub fn ending(&self) -> Ending {
+        match self {
+            Demonstration::Written(_) => Ending::Done,
+            Demonstration::Unwritten(why) => Ending::Unwritten(*why),
+            _ => Ending::Refused,
+        }
+    }
 }
 
 impl fmt::Display for Demonstration {
@@ -59,35 +48,41 @@ impl fmt::Display for Demonstration {
             Demonstration::Failed(DemoFault::Turns) => write!(f, "refused turns"),
             Demonstration::Failed(DemoFault::Memory) => write!(f, "refused memory"),
             Demonstration::Failed(DemoFault::Thread) => write!(f, "refused thread"),
-            Demonstration::Unwritten => write!(f, "refused write"),
+            Demonstration::Unwritten(_) => write!(f, "refused write"),
         }
     }
 }
 
-/// Runs the demonstration for the shape, and then creates or empties the file and writes its trace.
-fn record<T: Files + AllocGlobal + Threads + Wait + Sync>(
+/// Runs the demonstration for the shape, and then writes its trace.
+fn record<T: Print + Files + AllocGlobal + Threads + Wait + Sync>(
     rt: &T,
     shape: &Shape,
     out: &str,
 ) -> Demonstration
+where
+    T::File: Drop,
     requires { IsShape shape.now }
 {
     let (events, bytes) = match demo_trace(rt, shape, DEMO_TURNS) {
         Ok(demo) => demo,
         Err(fault) => return Demonstration::Failed(fault),
     };
-    match std::fs::write(rt, out, bytes) {
+    match put(rt, out, bytes.as_slice()) {
         Ok(()) => Demonstration::Written(events),
-        Err(_) => Demonstration::Unwritten,
+        Err(e) if e.kind() == ErrorKind::OutOfMemory => Demonstration::Failed(DemoFault::Memory),
+        Err(why) => Demonstration::Unwritten(why),
     }
 }
 
 /// Runs the demonstration for the hierarchy that the configuration says, and writes its trace.
-pub fn demonstrate<T: Files + AllocGlobal + Threads + Wait + Sync>(
+pub fn demonstrate<T: Print + Files + AllocGlobal + Threads + Wait + Sync>(
     rt: &T,
     config: &str,
     out: &str,
-) -> Demonstration {
+) -> Demonstration
+where
+    T::File: Drop,
+{
     match read(rt.alloc(), config) {
         Ok(shape) => record(rt, &shape, out),
         Err(fault) => Demonstration::Config(fault),

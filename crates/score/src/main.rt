@@ -9,13 +9,13 @@
 
 mod assemble;
 mod check;
-mod command;
 mod configuration;
 mod cover;
 mod demonstration;
 mod dump;
+mod ending;
 mod explain;
-mod help;
+mod hint;
 mod map;
 mod output;
 mod progress;
@@ -27,14 +27,16 @@ mod watch;
 
 use assemble::assemble;
 use check::check;
-use command::{CommandFault, Request, asked};
+use command_line::{CommandFault, Request, asked};
 use configuration::{bytes_at, text_in};
 use cover::cover;
-use demonstration::{Demonstration, demonstrate};
+use demonstration::demonstrate;
 use dump::dump;
+use ending::Ending;
 use explain::explain;
-use lf_engine::{Completion, InputFault, Line, RunFault};
-use lf_verdict::Verdict;
+use hint::{hint, hint_of_words};
+use output::{refuse, tell};
+use run_engine::{InputFault, Line};
 use shrink::shrink;
 use stats::stats;
 use std::io;
@@ -46,60 +48,29 @@ use std::thread::Threads;
 use view::view;
 use watch::watch;
 
-const NO: u8 = 1;
-
-const REFUSED: u8 = 2;
-
-fn refused<T: Print>(rt: &T, why: InputFault) -> io::Result<ExitCode> {
+fn refused<T: Print>(rt: &T, why: InputFault) -> io::Result<Ending> {
     let line = Line::Refused(why);
     println!(rt; "{line}")?;
-    Ok(ExitCode::from(REFUSED))
-}
-
-fn status_of_verdict(verdict: &Verdict) -> ExitCode {
-    match verdict {
-        Verdict::Yes { .. } => ExitCode::SUCCESS,
-        Verdict::No(_) => ExitCode::from(NO),
-        Verdict::Refused(_) => ExitCode::from(REFUSED),
-    }
-}
-
-fn status_of(answer: &Result<Verdict, RunFault>) -> ExitCode {
-    match answer {
-        Ok(verdict) => status_of_verdict(verdict),
-        Err(_) => ExitCode::from(REFUSED),
-    }
-}
-
-/// A request without a reply is a no.
-fn status_of_completion(answer: &Result<Completion, RunFault>) -> ExitCode {
-    match answer {
-        Ok(completion) if completion.incomplete.is_some() => ExitCode::from(NO),
-        Ok(completion) => status_of_verdict(&completion.verdict),
-        Err(_) => ExitCode::from(REFUSED),
-    }
+    Ok(Ending::Refused)
 }
 
 /// Reads the configuration before the demonstration runs.
-fn demo<T: Print + Input + Files + AllocGlobal + Threads + Wait + Sync>(
+fn demo<T: Print + Eprint + Input + Files + AllocGlobal + Threads + Wait + Sync>(
     rt: &T,
     config: &str,
     out: &str,
-) -> io::Result<ExitCode>
+) -> io::Result<Ending>
 where
     T::File: Drop,
 {
     let read = bytes_at(rt, config);
     let text = match text_in(&read) {
         Ok(text) => text,
-        Err(why) => return refused(rt, why),
+        Err(why) => return refuse(rt, out, Line::Refused(why)),
     };
     let demonstration = demonstrate(rt, text, out);
-    println!(rt; "{demonstration}")?;
-    match demonstration {
-        Demonstration::Written(_) => Ok(ExitCode::SUCCESS),
-        _ => Ok(ExitCode::from(REFUSED)),
-    }
+    tell(rt, out, &demonstration)?;
+    Ok(demonstration.ending())
 }
 
 /// The words of the command line, the program's own name first.
@@ -122,7 +93,7 @@ fn words_of<T: Env + AllocGlobal>(rt: &T) -> Result<Vec<String>, InputFault> {
 /// Does what was asked for. `on_terminal` says whether standard error is a terminal.
 fn answer<
     T: Print + Eprint + Input + Files + AllocGlobal + Threads + Wait + Sync + Send + Copy + 'static,
->(rt: &T, request: Request<'_>, on_terminal: bool) -> io::Result<ExitCode>
+>(rt: &T, request: Request<'_>, on_terminal: bool) -> io::Result<Ending>
 where
     T::File: Drop,
 {
@@ -131,23 +102,23 @@ where
             config,
             trace,
             options,
-        } => check(rt, config, trace, options),
+        } => check(rt, config, trace, options, on_terminal),
         Request::Stats {
             config,
             trace,
             progress,
-        } => stats(rt, config, trace, progress),
+        } => stats(rt, config, trace, progress, on_terminal),
         Request::Explain {
             config,
             trace,
             options,
-        } => explain(rt, config, trace, options),
+        } => explain(rt, config, trace, options, on_terminal),
         Request::Cover {
             config,
             trace,
             dat,
             progress,
-        } => cover(rt, config, trace, dat, progress),
+        } => cover(rt, config, trace, dat, progress, on_terminal),
         Request::Shrink {
             config,
             trace,
@@ -162,9 +133,23 @@ where
         } => view(rt, config, trace, out, options, on_terminal),
         Request::Demo { config, out } => demo(rt, config, out),
         Request::Watch { config, trace } => watch(rt, config, trace),
-        Request::Dump { trace, choice } => Ok(dump(rt, trace, choice)),
+        Request::Dump { trace, options } => Ok(dump(rt, trace, options)),
         Request::Assemble { text, out } => assemble(rt, text, out),
     }
+}
+
+/// Does what was asked for, and tells a terminal what was wrong where it was refused.
+fn answer_and_hint<
+    T: Print + Eprint + Input + Files + AllocGlobal + Threads + Wait + Sync + Send + Copy + 'static,
+>(rt: &T, request: Request<'_>, on_terminal: bool) -> io::Result<Ending>
+where
+    T::File: Drop,
+{
+    let ending = answer(rt, request, on_terminal)?;
+    if on_terminal {
+        hint(rt, &request, &ending)?;
+    }
+    Ok(ending)
 }
 
 fn start<
@@ -180,7 +165,7 @@ fn start<
         + Send
         + Copy
         + 'static,
->(rt: &T, on_terminal: bool) -> io::Result<ExitCode>
+>(rt: &T, on_terminal: bool) -> io::Result<Ending>
 where
     T::File: Drop,
 {
@@ -189,20 +174,24 @@ where
         Err(why) => return refused(rt, why),
     };
     match asked(rt.alloc(), words.as_slice()) {
-        Ok(request) => answer(rt, request, on_terminal),
+        Ok(request) => answer_and_hint(rt, request, on_terminal),
         Err(CommandFault::Help(help)) => {
             print!(rt; "{help}")?;
-            Ok(ExitCode::SUCCESS)
+            Ok(Ending::Done)
         }
-        Err(CommandFault::Usage) => refused(rt, InputFault::Usage),
         Err(CommandFault::Memory) => refused(rt, InputFault::Memory),
+        Err(CommandFault::Usage(fault)) => {
+            let ending = refused(rt, InputFault::Usage)?;
+            if on_terminal {
+                hint_of_words(rt, &fault, words.as_slice())?;
+            }
+            Ok(ending)
+        }
     }
 }
 
 fn main(rt: HostRuntime) -> ExitCode {
     let on_terminal = rt.stderr().is_terminal();
-    match start(&rt, on_terminal) {
-        Ok(code) => code,
-        Err(_) => ExitCode::from(REFUSED),
-    }
+    let ending = start(&rt, on_terminal).unwrap_or(Ending::Refused);
+    ending.code()
 }

@@ -1,7 +1,7 @@
 //! The times that a recorder wrote beside a trace.
 
 use crate::configuration::bytes_within;
-use lf_map::{MapFault, Times};
+use explain_lines::{MapCause, MapFault, Times};
 use std::io::ErrorKind;
 use std::rt::Files;
 use std::{fmt, io};
@@ -33,10 +33,17 @@ impl fmt::Display for MapRefusal {
     }
 }
 
-fn refusal_of(kind: ErrorKind) -> MapRefusal {
+fn refusal_of_read(kind: ErrorKind) -> MapRefusal {
     match kind {
         ErrorKind::OutOfMemory => MapRefusal::Memory,
         _ => MapRefusal::Read,
+    }
+}
+
+fn refusal_of(fault: MapFault) -> MapRefusal {
+    match fault.cause {
+        MapCause::OutOfMemory => MapRefusal::Memory,
+        _ => MapRefusal::Fault(fault),
     }
 }
 
@@ -55,12 +62,12 @@ where
 {
     let bytes = match bytes_of(rt, path) {
         Ok(bytes) => bytes,
-        Err(e) => return Err(refusal_of(e.kind())),
+        Err(e) => return Err(refusal_of_read(e.kind())),
     };
     let Ok(text) = std::str::from_utf8(&bytes) else {
         return Err(MapRefusal::NotText);
     };
-    Times::parse(rt.alloc(), text).map_err(MapRefusal::Fault)
+    Times::parse(rt.alloc(), text).map_err(refusal_of)
 }
 
 /// The times in the map at this path, where there is one.

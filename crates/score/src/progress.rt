@@ -1,12 +1,12 @@
-//! How far the reading of a trace is, line by line on standard error.
+//! How far the reading of a trace is, on standard error: one line that is written over and over where that is a
+//! terminal, and a line for each part elsewhere.
 
 ghost use Rattle.std.specs.Prelude.{◌≡◌};
 
 use crate::trace::{Trace, size_of_file};
-use std::alloc::{AllocError, Global};
-use std::io;
-use std::io::Read;
+use std::io::{Read, Write};
 use std::rt::Files;
+use std::{fmt, io};
 
 /// Where the size of the trace is known, a line comes each time that this part of it was read.
 const PARTS: u64 = 20;
@@ -17,48 +17,59 @@ const STRIDE: u64 = 64 << 20;
 /// A shorter trace is read within a moment. Nothing is told of it where that was not asked for.
 const LONG: u64 = 4 << 20;
 
+/// What a line says: this was done with so many bytes, of so many.
+#[derive(Clone, Copy)]
+struct Reading {
+    done: &'static str,
+    read: u64,
+    /// All bytes that there are, where that is known.
+    size: Option<u64>,
+}
+
+impl fmt::Display for Reading {
+    fn fmt<W: fmt::Write>(&self, f: &mut fmt::Formatter<W>) -> fmt::Result {
+        let Reading { done, read, size } = *self;
+        match size {
+            Some(size) if size > 0 => {
+                let percent = u128::from(read) * 100 / u128::from(size);
+                write!(f, "{done} {read} of {size} bytes, {percent}%")
+            }
+            _ => write!(f, "{done} {read} bytes"),
+        }
+    }
+}
+
+/// Clears the line that is written over.
+pub fn clear<P: Eprint>(rt: &P) {
+    let _ = eprint!(rt; "\r\x1b[K");
+}
+
 /// A reader that tells how many bytes it gave.
 #[derive(Drop)]
 pub struct Progress<'a, P, R> {
     rt: &'a P,
     reader: R,
-    /// What is done with the bytes.
-    done: &'static str,
-    /// All bytes that there are, where that is known.
-    size: Option<u64>,
+    reading: Reading,
     /// So many bytes are read between two lines. Without it there are no lines.
     stride: Option<u64>,
-    read: u64,
+    on_terminal: bool,
     /// The bytes that the last line told.
     told: u64,
 }
 
-/// What a line says: this was done with so many bytes, of so many.
-pub fn line_of(
-    alloc: Global,
-    done: &str,
-    read: u64,
-    size: Option<u64>,
-) -> Result<String, AllocError> {
-    match size {
-        Some(size) if size > 0 => {
-            let percent = u128::from(read) * 100 / u128::from(size);
-            format!(in alloc; "{done} {read} of {size} bytes, {percent}%")
-        }
-        _ => format!(in alloc; "{done} {read} bytes"),
-    }
-}
-
-impl<'a, P: Eprint + AllocGlobal, R> Progress<'a, P, R> {
+impl<'a, P: Eprint, R> Progress<'a, P, R> {
     /// A reader that tells nothing.
     pub fn silent(rt: &'a P, reader: R) -> Progress<'a, P, R> {
         Progress {
             rt,
             reader,
-            done: "read",
-            size: None,
+            reading: Reading {
+                done: "read",
+                read: 0,
+                size: None,
+            },
             stride: None,
-            read: 0,
+            on_terminal: false,
             told: 0,
         }
     }
@@ -69,6 +80,7 @@ impl<'a, P: Eprint + AllocGlobal, R> Progress<'a, P, R> {
         reader: R,
         done: &'static str,
         size: Option<u64>,
+        on_terminal: bool,
     ) -> Progress<'a, P, R> {
         let stride = match size {
             Some(size) => size / PARTS,
@@ -77,10 +89,13 @@ impl<'a, P: Eprint + AllocGlobal, R> Progress<'a, P, R> {
         Progress {
             rt,
             reader,
-            done,
-            size,
+            reading: Reading {
+                done,
+                read: 0,
+                size,
+            },
             stride: Some(stride),
-            read: 0,
+            on_terminal,
             told: 0,
         }
     }
@@ -92,19 +107,27 @@ impl<'a, P: Eprint + AllocGlobal, R> Progress<'a, P, R> {
         let Some(stride) = self.stride else {
             return;
         };
-        self.read = self.read.saturating_add(count as u64);
-        let untold = self.read.saturating_sub(self.told);
+        let read = self.reading.read.saturating_add(count as u64);
+        self.reading.read = read;
+        let untold = read.saturating_sub(self.told);
         if untold > 0 && (untold >= stride || count == 0) {
-            self.told = self.read;
-            if let Ok(line) = line_of(self.rt.alloc(), self.done, self.read, self.size) {
-                let _ = eprintln!(self.rt; "{line}");
-            }
+            self.told = read;
+            self.print();
         }
+    }
+
+    fn print(&self) {
+        let reading = self.reading;
+        let _ = if self.on_terminal {
+            eprint!(self.rt; "\r{reading}\x1b[K")
+        } else {
+            eprintln!(self.rt; "{reading}")
+        };
     }
 }
 
 /// The bytes that are left are those of the reader below, so what is proved of that one holds of this one.
-impl<P: Eprint + AllocGlobal, R: Read> Read for Progress<'_, P, R> {
+impl<P: Eprint, R: Read> Read for Progress<'_, P, R> {
     ghost remaining = { λ p. R.remaining p.reader };
 
     fn read(&mut self, buf: &mut [u8]) -> io::Result<usize> {
@@ -115,32 +138,72 @@ impl<P: Eprint + AllocGlobal, R: Read> Read for Progress<'_, P, R> {
 }
 
 /// The reader of the trace at this path, which tells how far it is where that is asked for.
-pub fn reader_of<'a, T: Eprint + Input + Files + AllocGlobal>(
+pub fn reader_of<'a, T: Eprint + Input + Files>(
     rt: &'a T,
     trace: &str,
     progress: bool,
+    on_terminal: bool,
 ) -> Progress<'a, T, Trace<T::File, T::Reader>> {
     let reader = Trace::open(rt, trace);
     if progress {
-        Progress::telling(rt, reader, "read", size_of_file(rt, trace))
+        Progress::telling(rt, reader, "read", size_of_file(rt, trace), on_terminal)
     } else {
         Progress::silent(rt, reader)
     }
 }
 
+/// Whether a terminal is told of the reading of a file that has so many bytes without being asked for.
+pub fn tells_by_itself(size: Option<u64>, on_terminal: bool) -> bool {
+    match size {
+        Some(size) => on_terminal && size >= LONG,
+        None => false,
+    }
+}
+
 /// The reader of a regular file, which tells what is done with the bytes, and how far it is, where standard error is a
 /// terminal and the file is long.
-pub fn reader_by_itself<'a, T: Eprint + Input + Files + AllocGlobal>(
+pub fn reader_by_itself<'a, T: Eprint + Input + Files>(
     rt: &'a T,
     trace: &str,
     done: &'static str,
     on_terminal: bool,
 ) -> Progress<'a, T, Trace<T::File, T::Reader>> {
     let reader = Trace::open(rt, trace);
-    match size_of_file(rt, trace) {
-        Some(size) if on_terminal && size >= LONG => {
-            Progress::telling(rt, reader, done, Some(size))
+    let size = size_of_file(rt, trace);
+    if tells_by_itself(size, on_terminal) {
+        Progress::telling(rt, reader, done, size, true)
+    } else {
+        Progress::silent(rt, reader)
+    }
+}
+
+/// Writes an answer. Where the terminal shows how far the reading is, that line is cleared first.
+#[derive(Drop)]
+pub struct Answer<'a, P, W> {
+    rt: &'a P,
+    writer: W,
+    clears: bool,
+}
+
+impl<'a, P: Eprint, W> Answer<'a, P, W> {
+    pub fn new(rt: &'a P, writer: W, clears: bool) -> Answer<'a, P, W> {
+        Answer { rt, writer, clears }
+    }
+}
+
+/// What was written is what the writer below has.
+impl<P: Eprint, W: Write> Write for Answer<'_, P, W> {
+    ghost contents = { λ a. W.contents a.writer };
+
+    fn write(&mut self, buf: &[u8]) -> io::Result<usize> {
+        if self.clears {
+            self.clears = false;
+            clear(self.rt);
         }
-        _ => Progress::silent(rt, reader),
+        self.writer.write(buf)
+    }
+
+    fn flush(&mut self) -> io::Result<()> {
+        self.writer.flush()
     }
 }

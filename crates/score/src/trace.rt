@@ -1,11 +1,9 @@
 //! The trace to be judged.
 
+use command_line::STANDARD;
 use std::io;
 use std::io::{ErrorKind, Read};
 use std::rt::Files;
-
-/// The word of the command line that stands for standard input where a file is read.
-pub const STANDARD_INPUT: &str = "-";
 
 /// A file, standard input, or a file that could not be opened, whose reads fail.
 #[derive(Drop)]
@@ -19,7 +17,7 @@ pub enum Trace<F, I> {
 impl<F, I> Trace<F, I> {
     /// The file at this path, or standard input for `-`.
     pub fn open<R: Files<File = F> + Input<Reader = I>>(rt: &R, path: &str) -> Trace<F, I> {
-        if path == STANDARD_INPUT {
+        if path == STANDARD {
             return Trace::Input(rt.reader());
         }
         match std::fs::open(rt, path) {
@@ -41,6 +39,9 @@ impl<F: Read, I: Read> Read for Trace<F, I> {
 
 /// How many bytes the file at this path has, where it is a regular one.
 pub fn size_of_file<R: Files>(files: &R, path: &str) -> Option<u64> {
+    if path == STANDARD {
+        return None;
+    }
     let metadata = std::fs::metadata(files, path).ok()?;
     if metadata.is_file() {
         Some(metadata.len())

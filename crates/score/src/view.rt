@@ -1,107 +1,41 @@
 //! `score view`: writes a waveform of a trace.
 
+ghost use Rattle.lf_rules.specs.InRange.{IsShape};
+
 use crate::configuration::{bytes_at, bytes_within, text_in};
+use crate::ending::Ending;
 use crate::map::times_if;
-use crate::output::{Target, finish, part_of, put, refuse, target_of, tell};
-use crate::progress::reader_by_itself;
-use crate::status_of;
+use crate::output::{
+    Part, Target, create_part, finish, put, refuse, refuse_write, target_of, tell,
+};
+use crate::progress::{clear, reader_by_itself, tells_by_itself};
 use crate::trace::{Trace, size_of_file};
-use lf_engine::{Counted, InputFault, Line, run, shape_for};
-use lf_map::Times;
+use command_line::{ViewOptions, Window};
+use explain_lines::Times;
 use lf_rules::{Rule, Shape};
 use lf_verdict::{Fault, Verdict};
-use lf_view::{Drawing, Sought, ViewFault, place_of, view as draw};
-use lf_wave::{Marker, SaveFile, View};
+use run_engine::{Counted, InputFault, Line, run_shape, shape_for};
 use std::alloc::{AllocError, Global};
 use std::io::{ErrorKind, Read, Write};
-use std::process::ExitCode;
 use std::rt::Files;
 use std::thread::Threads;
 use std::{io, mem};
-
-/// What the help says of `view`.
-pub const ABOUT: &str = "Writes a waveform of a trace, which GTKWave shows";
-
-/// What the help says after the arguments.
-pub const HELP: &str = "\
-The line is that of check; see score help check. For a yes or a no, OUT is
-written, in the text form VCD. A second file makes GTKWave show all signals:
-its name is that of OUT with .gtkw instead of .vcd.
-
-For a yes, the records stand in an order of all events that is a legal run:
-the order of the yes, see docs/RULES.md. For a no, they stand in the order of
-TRACE. The record at place N of the order, from 0, is at N nanoseconds. A port
-has its record (event), with tag and address, how many of its requests have no
-reply (outstanding), and whether each tag is busy. A bank has its record, its
-number, its block, the port and the tag of its request, its register, how many
-registers of each level are held, how many blocks level one asks level two for
-(asked), how many level two has supplied that are not filled in (supplied),
-how many lines of each level are dirty, and for each of the first 64 registers
-of a level the block that it holds (z: none) and how many targets wait in it.
-If a record of a port or of a bank breaks a rule, fault rises at that record,
-and rule is the name of the rule.
-
-Without --from, the waveform begins 200 records before the one that breaks a
-rule, and without --to it ends with that one. Otherwise it is that of the
-whole trace.
-
-With --map FILE, time is the time of each record, and the empty text for a
-record that FILE does not name. FILE is the time map that a recorder wrote
-beside the trace; see score help explain. GTKWave shows time first.
-
-A TRACE that is a pipe or a FIFO is kept in memory. For a yes, the order is
-kept too, a byte for each record, and the records that stand in TRACE before
-their turn. OUT is written beside its place first and then renamed. If OUT is
--, it is standard output, the line goes to standard error, and there is no
-second file. If standard error is a terminal, it shows how far a long TRACE is
-read.
-
-Answers:
-  no bank=0 number=5 rule=ReplyData  what check says; OUT is written
-  refused write                      OUT cannot be written
-  refused read map                   FILE cannot be read
-
-Exit status:
-  0  yes
-  1  no
-  2  refused
-
-Examples:
-  score view small.toml run.lfts run.vcd && gtkwave run.vcd run.gtkw
-  score view --from 0 --to 999 small.toml run.lfts run.vcd
-  score view --map run.map small.toml run.lfts run.vcd
-  score view small.toml run.lfts - | vcd2fst - run.fst";
+use wave_draw::{Drawing, Sought, ViewFault, place_of, view as draw};
+use wave_signals::{Marker, SaveFile, View};
 
 /// So many records before the one that breaks a rule are shown, where nothing else is asked for.
 const BEFORE: u64 = 200;
 
-/// The places of the first and the last record that are asked for.
-#[derive(Clone, Copy)]
-pub struct Window {
-    pub from: Option<u64>,
-    pub to: Option<u64>,
-}
-
-impl Window {
-    /// What the wave shows of a trace of this shape, in which this record breaks a rule.
-    fn view(self, shape: &Shape, marker: Option<Marker>) -> View {
-        let fault = marker.map(|marker| marker.place);
-        let begin = fault.map(|place| place.saturating_sub(BEFORE)).unwrap_or(0);
-        View {
-            from: self.from.unwrap_or(begin),
-            to: self.to.or(fault).unwrap_or(u64::MAX),
-            marker,
-            ..View::whole(shape)
-        }
+/// What the wave shows of a trace of this shape, in which this record breaks a rule.
+fn view_in(window: Window, shape: &Shape, marker: Option<Marker>) -> View {
+    let fault = marker.map(|marker| marker.place);
+    let begin = fault.map(|place| place.saturating_sub(BEFORE)).unwrap_or(0);
+    View {
+        from: window.from.unwrap_or(begin),
+        to: window.to.or(fault).unwrap_or(u64::MAX),
+        marker,
+        ..View::whole(shape)
     }
-}
-
-/// What `view` is asked for.
-#[derive(Clone, Copy)]
-pub struct ViewOptions<'a> {
-    pub window: Window,
-    /// The file in which a recorder wrote the time of each record.
-    pub map: Option<&'a str>,
 }
 
 /// Where the wave goes, and what it shows.
@@ -110,6 +44,8 @@ struct Output<'a> {
     out: &'a str,
     window: Window,
     times: Option<Times>,
+    /// A terminal shows how far the reading is.
+    clears: bool,
 }
 
 /// Three readers of one trace.
@@ -166,6 +102,14 @@ fn marker_of<T: AllocGlobal, R: Read + Drop>(
     }))
 }
 
+/// Tells why the trace was not read to its end.
+fn refuse_read<T: Print + Eprint>(rt: &T, out: &str, why: ViewFault) -> io::Result<Ending> {
+    match why {
+        ViewFault::Memory => refuse(rt, out, Line::Refused(InputFault::Memory)),
+        _ => refuse(rt, out, "refused read trace"),
+    }
+}
+
 /// Writes the wave of the trace. A trace that is none any more, or is not that of the order, was changed while it was
 /// read.
 fn write_wave<T: AllocGlobal, R: Read + Drop, W: Write + Drop>(
@@ -178,6 +122,7 @@ fn write_wave<T: AllocGlobal, R: Read + Drop, W: Write + Drop>(
     let mut writer = Counted::new(writer);
     match draw(rt, &mut reader, &mut writer, drawing, u32::MAX) {
         Ok(None) => Ok(()),
+        Err(ViewFault::Memory) => Err(io::Error::from(ErrorKind::OutOfMemory)),
         _ => Err(io::Error::from(ErrorKind::Other)),
     }
 }
@@ -188,15 +133,38 @@ fn save_name<T: AllocGlobal>(rt: &T, out: &str) -> Result<String, AllocError> {
     format!(in rt.alloc(); "{name}.gtkw")
 }
 
-/// Writes the file of signals beside the wave.
-fn put_save<T: Print + Files + AllocGlobal>(
+/// The text of the file of signals.
+fn save_text<T: AllocGlobal>(
+    rt: &T,
+    drawing: &Drawing,
+    shape: &Shape,
+) -> Result<String, AllocError> {
+    let save = SaveFile {
+        times: drawing.times.is_some(),
+        view: &drawing.view,
+        ports: u8::try_from(shape.ports).unwrap_or(u8::MAX),
+        banks: u8::try_from(shape.banks).unwrap_or(u8::MAX),
+    };
+    format!(in rt.alloc(); "{save}")
+}
+
+/// Writes the wave beside its place and renames it, and then the file of signals.
+fn put_files<T: Print + Files + AllocGlobal, R: Read + Drop>(
     rt: &T,
     out: &str,
-    save: SaveFile<'_>,
-) -> io::Result<()> {
-    let text = format!(in rt.alloc(); "{save}")?;
-    let name = save_name(rt, out)?;
-    put(rt, name.as_str(), text.as_bytes())
+    drawing: Drawing,
+    shape: &Shape,
+    reader: R,
+) -> io::Result<()>
+where
+    T::File: Drop,
+{
+    let save = save_text(rt, &drawing, shape)?;
+    let beside = save_name(rt, out)?;
+    let Part { name, file } = create_part(rt, out)?;
+    let written = write_wave(rt, drawing, reader, file);
+    finish(rt, name.as_str(), out, written)?;
+    put(rt, beside.as_str(), save.as_bytes())
 }
 
 /// Writes the wave to standard output or to a file, and to a regular file also that of the signals.
@@ -213,20 +181,7 @@ where
     match target_of(rt, out) {
         Target::StandardOutput => write_wave(rt, drawing, reader, io::writer(rt)),
         Target::Special => write_wave(rt, drawing, reader, std::fs::create(rt, out)?),
-        Target::File => {
-            let view = drawing.view;
-            let save = SaveFile {
-                times: drawing.times.is_some(),
-                view: &view,
-                ports: u8::try_from(shape.ports).unwrap_or(u8::MAX),
-                banks: u8::try_from(shape.banks).unwrap_or(u8::MAX),
-            };
-            let part = part_of(rt, out)?;
-            let file = std::fs::create(rt, part.as_str())?;
-            let written = write_wave(rt, drawing, reader, file);
-            finish(rt, part.as_str(), out, written)?;
-            put_save(rt, out, save)
-        }
+        Target::File => put_files(rt, out, drawing, shape, reader),
     }
 }
 
@@ -238,33 +193,48 @@ fn hand_out<T: Print + Eprint + Files + AllocGlobal, R: Read + Drop>(
     mut verdict: Verdict,
     searched: R,
     shown: R,
-) -> io::Result<ExitCode>
+) -> io::Result<Ending>
 where
     T::File: Drop,
 {
-    let Output { out, window, times } = output;
-    let Ok(marker) = marker_of(rt, &verdict, searched) else {
-        return refuse(rt, out, "refused read trace");
+    let Output {
+        out,
+        window,
+        times,
+        clears,
+    } = output;
+    let found = marker_of(rt, &verdict, searched);
+    if clears {
+        clear(rt);
+    }
+    let marker = match found {
+        Ok(marker) => marker,
+        Err(why) => return refuse_read(rt, out, why),
     };
     let drawing = Drawing {
-        view: window.view(shape, marker),
+        view: view_in(window, shape, marker),
         times,
         order: take_order(rt.alloc(), &mut verdict),
     };
-    if put_wave(rt, out, drawing, shape, shown).is_err() {
-        return refuse(rt, out, "refused write");
+    let written = put_wave(rt, out, drawing, shape, shown);
+    if clears {
+        clear(rt);
+    }
+    if let Err(why) = written {
+        return refuse_write(rt, out, why);
     }
     tell(rt, out, Line::Judged(&verdict))?;
-    Ok(status_of(&Ok(verdict)))
+    Ok(Ending::of(&verdict))
 }
 
 /// Judges the trace, and shows one that has a yes or a no.
 fn view_of<
     T: Print + Eprint + Files + AllocGlobal + Threads + Sync + Send + Copy + 'static,
     R: Read + Drop,
->(rt: &T, text: &str, output: Output<'_>, readers: Readers<R>) -> io::Result<ExitCode>
+>(rt: &T, shape: &Shape, output: Output<'_>, readers: Readers<R>) -> io::Result<Ending>
 where
     T::File: Drop,
+    requires { IsShape shape.now }
 {
     let out = output.out;
     let Readers {
@@ -273,23 +243,50 @@ where
         shown,
     } = readers;
     let mut reader = Counted::new(judged);
-    let mut line = Counted::new(Vec::new(rt.alloc()));
-    let Ok(verdict) = run(rt, &mut reader, &mut line, text, 1, u32::MAX) else {
-        return refuse(rt, out, "refused read trace");
-    };
-    match (shape_for(rt.alloc(), text, 1), verdict) {
-        (Ok(shape), verdict @ (Verdict::Yes { .. } | Verdict::No(_))) => {
-            hand_out(rt, &shape, output, verdict, searched, shown)
-        }
-        (_, verdict) => {
-            tell(rt, out, Line::Judged(&verdict))?;
-            Ok(status_of(&Ok(verdict)))
-        }
+    let mut nowhere = Counted::new(io::sink());
+    let judged = run_shape(rt, &mut reader, &mut nowhere, shape, 1, u32::MAX);
+    if output.clears {
+        clear(rt);
+    }
+    match judged {
+        Ok(verdict @ Verdict::Refused(_)) => refuse(rt, out, Line::Judged(&verdict)),
+        Ok(verdict) => hand_out(rt, shape, output, verdict, searched, shown),
+        Err(_) => refuse_read(rt, out, ViewFault::Read),
     }
 }
 
-/// Judges the configuration and reads the map before the trace is read. A trace that is no regular file is kept, since
-/// it can be read once alone.
+/// Judges and shows the trace at this path. One that is no regular file is kept, since it can be read once alone.
+fn view_at<
+    T: Print + Eprint + Input + Files + AllocGlobal + Threads + Sync + Send + Copy + 'static,
+>(rt: &T, shape: &Shape, trace: &str, output: Output<'_>, on_terminal: bool) -> io::Result<Ending>
+where
+    T::File: Drop,
+    requires { IsShape shape.now }
+{
+    if size_of_file(rt, trace).is_some() {
+        let readers = Readers {
+            judged: reader_by_itself(rt, trace, "judged", on_terminal),
+            searched: reader_by_itself(rt, trace, "searched", on_terminal),
+            shown: reader_by_itself(rt, trace, "drawn", on_terminal),
+        };
+        return view_of(rt, shape, output, readers);
+    }
+    let kept = match bytes_within(rt.alloc(), Trace::open(rt, trace), u32::MAX) {
+        Ok(kept) => kept,
+        Err(e) if e.kind() == ErrorKind::OutOfMemory => {
+            return refuse_read(rt, output.out, ViewFault::Memory);
+        }
+        Err(_) => return refuse_read(rt, output.out, ViewFault::Read),
+    };
+    let readers = Readers {
+        judged: kept.as_slice(),
+        searched: kept.as_slice(),
+        shown: kept.as_slice(),
+    };
+    view_of(rt, shape, output, readers)
+}
+
+/// Judges the configuration and reads the map before the trace is read.
 pub fn view<
     T: Print + Eprint + Input + Files + AllocGlobal + Threads + Sync + Send + Copy + 'static,
 >(
@@ -299,7 +296,7 @@ pub fn view<
     out: &str,
     options: ViewOptions<'_>,
     on_terminal: bool,
-) -> io::Result<ExitCode>
+) -> io::Result<Ending>
 where
     T::File: Drop,
 {
@@ -312,30 +309,18 @@ where
         Ok(times) => times,
         Err(why) => return refuse(rt, out, format_args!("refused {why}")),
     };
+    let shape = match shape_for(rt.alloc(), text, 1) {
+        Ok(shape) => shape,
+        Err(refusal) => {
+            let verdict = Verdict::Refused(refusal);
+            return refuse(rt, out, Line::Judged(&verdict));
+        }
+    };
     let output = Output {
         out,
         window: options.window,
         times,
+        clears: tells_by_itself(size_of_file(rt, trace), on_terminal),
     };
-    if size_of_file(rt, trace).is_some() {
-        let readers = Readers {
-            judged: reader_by_itself(rt, trace, "judged", on_terminal),
-            searched: reader_by_itself(rt, trace, "searched", on_terminal),
-            shown: reader_by_itself(rt, trace, "drawn", on_terminal),
-        };
-        return view_of(rt, text, output, readers);
-    }
-    let kept = match bytes_within(rt.alloc(), Trace::open(rt, trace), u32::MAX) {
-        Ok(kept) => kept,
-        Err(e) if e.kind() == ErrorKind::OutOfMemory => {
-            return refuse(rt, out, Line::Refused(InputFault::Memory));
-        }
-        Err(_) => return refuse(rt, out, "refused read trace"),
-    };
-    let readers = Readers {
-        judged: kept.as_slice(),
-        searched: kept.as_slice(),
-        shown: kept.as_slice(),
-    };
-    view_of(rt, text, output, readers)
+    view_at(rt, &shape, trace, output, on_terminal)
 }

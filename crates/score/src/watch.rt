@@ -1,52 +1,19 @@
 //! `score watch`: judges a trace while it comes, and ends as soon as it broke for good.
 
 use crate::configuration::{bytes_at, text_in};
+use crate::ending::Ending;
+use crate::refused;
 use crate::trace::Trace;
-use crate::{NO, REFUSED, refused, status_of};
-use lf_engine::{Counted, RunFault, Watched, run_watch};
 use lf_verdict::Broken;
+use run_engine::{Counted, RunFault, Watched, run_watch};
 use std::io;
-use std::process::ExitCode;
 use std::rt::Files;
 
-/// What the help says of `watch`.
-pub const ABOUT: &str = "Judges a trace while it comes, and stops at the first fault that is final";
-
-/// What the help says after the arguments.
-pub const HELP: &str = "\
-Answers:
-  broken bank=0 number=5 rule=ReplyData upon log=0 event=1 at=104
-  broken port=0 event=1 rule=TagBusy upon log=0 event=1 at=36
-  broken numbering bank=0 double=2 upon log=1 event=7 at=128
-  broken header Ports
-
-The first three name the fault as check does, and the event of the trace
-upon which a port or a bank broke first: here the one at place 1 of log 0,
-which begins at byte 104 of the trace. The last one says that the trace is
-one of another hierarchy. No bytes that follow can make such a trace legal.
-
-The line is printed as soon as that record or header is read, and watch
-ends. That closes the pipe, which ends a simulation that writes its trace
-into it. TRACE may be a FIFO too.
-
-If nothing broke before the end of the trace, the line is that of check;
-see score help check.
-
-Exit status:
-  0  yes
-  1  no, or something broke
-  2  refused, or the header is one of another hierarchy
-
-Examples:
-  score watch small.toml run.lfts
-  simulate | score watch small.toml -";
-
-fn status_of_watch(answer: Result<Watched, RunFault>) -> ExitCode {
+fn ending_of(answer: Result<Watched, RunFault>) -> Ending {
     match answer {
-        Ok(Watched::Judged(verdict)) => status_of(&Ok(verdict)),
-        Ok(Watched::Broken(Broken::Header(_))) => ExitCode::from(REFUSED),
-        Ok(Watched::Broken(Broken::Part { .. })) => ExitCode::from(NO),
-        Err(fault) => status_of(&Err(fault)),
+        Ok(Watched::Judged(verdict)) => Ending::of(&verdict),
+        Ok(Watched::Broken(Broken::Part { .. })) => Ending::No,
+        Ok(Watched::Broken(Broken::Header(_))) | Err(_) => Ending::Refused,
     }
 }
 
@@ -55,7 +22,7 @@ pub fn watch<T: Print + Input + Files + AllocGlobal>(
     rt: &T,
     config: &str,
     trace: &str,
-) -> io::Result<ExitCode>
+) -> io::Result<Ending>
 where
     T::File: Drop,
 {
@@ -67,5 +34,5 @@ where
     let mut reader = Counted::new(Trace::open(rt, trace));
     let mut writer = Counted::new(io::writer(rt));
     let answer = run_watch(rt, &mut reader, &mut writer, text, u32::MAX);
-    Ok(status_of_watch(answer))
+    Ok(ending_of(answer))
 }

@@ -1,10 +1,34 @@
 -- What a session keeps that reads ahead of its judges.
-use Rattle.std.specs.Prelude.{◌≡◌, ◌⊎◌, ◌++◌, ℕ, List, [], Some, None, IsSome, IfSome, Result, OnOk, IfErr}
+use Rattle.std.specs.Prelude.{◌≡◌, ◌⊎◌, ◌++◌, ℕ, List, [], Option, Some, None, IsSome, IfSome, Result, OnOk, IfErr}
+use Rattle.std.specs.Arc.{arc_value}
+use Rattle.lf_rules.specs.declared.event.Record.{Record}
+use Rattle.lf_codec.specs.Reader.{with_records}
 use Rattle.lf_verdict.specs.declared.session.ahead.Ahead.{Ahead}
-use Rattle.lf_verdict.specs.Ahead.{session_of}
-use Rattle.lf_verdict.specs.Session.{HasTaken, HasFedUntil, IsRunningNow}
+use Rattle.lf_verdict.specs.declared.session.intake.Intake.{Intake}
+use Rattle.lf_verdict.specs.declared.session.intake.Judging.{Judging}
+use Rattle.lf_verdict.specs.declared.session.intake.Judging.TheVariants.{Running}
+use Rattle.lf_verdict.specs.declared.session.workers.Workers.{Workers}
 use Rattle.lf_verdict.specs.declared.stop.Stop.{Stop}
+use Rattle.lf_verdict.specs.inner.Fed.{HasTaken, HasFedUntil, IsRunningNow}
 use Rattle.lf_verdict.specs.inner.Workers.{AreWorkers}
+
+-- the records that the workers judge
+abbrev pub lent_records : Option Workers → List Record
+lent_records None = []
+lent_records (Some workers) = (arc_value workers.batch).records
+
+-- how far the judging was before
+abbrev pub judging_before : Judging → Option Workers → Judging
+judging_before judging None = judging
+judging_before judging (Some workers) = Running workers.standing.value
+
+-- The session as if no worker judged records, and those that are not judged were still to be taken from its reader.
+abbrev pub session_of : {G : Type 0} → Ahead G → Intake
+session_of a = record a.intake {
+  judging = judging_before a.intake.judging a.at_work;
+  reader =
+      with_records (lent_records a.at_work ++ a.records.records) a.intake.reader;
+}
 
 -- Unless it was stopped, it reads ahead only while records are judged; once it was, no worker is there.
 pub record IsAhead {G : Type 0} (a : Ahead G) : Type 0 where

@@ -6,9 +6,9 @@ ghost use Rattle.lf_rules.specs.InRange.{IsShape};
 ghost use Rattle.lf_codec.specs.declared.fault.Told.TheVariants as tolds;
 ghost use Rattle.lf_verdict.specs.declared.answer.Verdict.{Verdict};
 ghost use Rattle.lf_verdict.specs.inner.Ending.{IsAnswerAsAsked};
-ghost use Rattle.lf_verdict.specs.Session.{refusal_of, stop_told, HasTaken, HasFed, IsRunningNow};
-ghost use Rattle.lf_verdict.specs.Ahead.{session_of};
-ghost use Rattle.lf_verdict.specs.inner.Ahead.{IsAhead, CanRead, ReadsOn};
+ghost use Rattle.lf_verdict.specs.Session.{refusal_of, stop_told};
+ghost use Rattle.lf_verdict.specs.inner.Fed.{HasTaken, HasFed, IsRunningNow};
+ghost use Rattle.lf_verdict.specs.inner.Ahead.{session_of, IsAhead, CanRead, ReadsOn};
 ghost use Rattle.lf_verdict.specs.inner.Workers.{AreWorkers};
 ghost use Rattle.lf_verdict.specs.Final.{IsFinal};
 ghost use Rattle.lf_verdict.specs.Named.{IsNamed, NoneBrokeSoFar};
@@ -65,6 +65,7 @@ impl<G: Gate + Sync + Send + Copy + 'static> Ahead<G> {
         requires { IsShape shape.now }
         ensures shape { result.intake.shape ≡ shape.now }
         ensures ordered { result.intake.asked.ordered ≡ ordered }
+        ensures fresh { result.intake.stop ≡ None }
         ensures fed { HasFed (session_of result) [] }
         ensures ahead { IsAhead result }
     {

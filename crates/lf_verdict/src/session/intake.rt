@@ -8,11 +8,13 @@ ghost use Rattle.lf_verdict.specs.Standing.{Counts, IsKnown};
 ghost use Rattle.lf_verdict.specs.Named.{IsNamed, NoneBrokeSoFar};
 ghost use Rattle.lf_verdict.specs.Verdict.{IsDecided};
 ghost use Rattle.lf_verdict.specs.Incomplete.{IsIncompleteFor};
-ghost use Rattle.lf_verdict.specs.Final.{IsFinal, IsEarliest, IsUnbroken, NoneBrokeInTrace};
-ghost use Rattle.lf_verdict.specs.Session.{refusal_of, stop_told, IsRunning, HasTaken, IsInTurn, HasFed};
-ghost use Rattle.lf_verdict.specs.Session.{IsCounting, IsOfAnotherHeader, HeaderAgrees};
+ghost use Rattle.lf_verdict.specs.Final.{IsFinal, IsEarliest, NoneBrokeInTrace};
+ghost use Rattle.lf_verdict.specs.Session.{refusal_of, stop_told};
+ghost use Rattle.lf_verdict.specs.inner.Fed.{IsRunning, HasTaken, IsInTurn, HasFed};
+ghost use Rattle.lf_verdict.specs.Session.{IsOfAnotherHeader, HeaderAgrees};
+ghost use Rattle.lf_verdict.specs.inner.Fed.{IsCounting};
 ghost use Rattle.lf_verdict.specs.Statistics.{AreStatisticsOf, IsYesVerdict};
-ghost use Rattle.lf_verdict.specs.inner.Taking.{IsLackingIf, IsDrained, CanJudge, RunsOn, Begins};
+ghost use Rattle.lf_verdict.specs.inner.Taking.{IsLackingIf, IsDrained, IsSettled, CanJudge, RunsOn, Begins};
 ghost use Rattle.lf_verdict.specs.inner.Taking.{answer_of, bytes_taken, TakesSome};
 ghost use Rattle.lf_codec.specs.Reader.{CanLend};
 ghost use Rattle.lf_verdict.specs.declared.session.intake.Judging.TheVariants.{Waiting};
@@ -31,8 +33,8 @@ use crate::session::standing::{Judged, Standing};
 use crate::stop::Stop;
 use lf_codec::{Reader, Told, exact_reading, faults_stand, header_of_bytes, read_so_far};
 use lf_rules::{Memory, NoMemory, Shape};
-use lf_views::RecordView;
 use std::alloc::Global;
+use trace_views::RecordView;
 
 /// How far the judging is.
 #[derive(Drop)]
@@ -115,8 +117,10 @@ impl Intake {
         requires { IsShape shape.now }
         ensures shape { result.shape ≡ shape.now }
         ensures asked { result.asked ≡ asked }
+        ensures fresh { result.stop ≡ None }
         ensures fed { HasFed result [] }
         ensures in_turn { asked.watched ≡ true → asked.ordered ≡ true → IsInTurn result }
+        ensures settled { IsSettled result }
     {
         Intake {
             alloc,
@@ -254,6 +258,7 @@ impl Intake {
         ensures told { result ≡ stop_told self.old.stop self.new.stop }
         ensures failed { IsSome self.old.stop → self.new ≡ self.old }
         ensures in_turn { IsInTurn self.old → IsInTurn self.new }
+        ensures settled { IsSettled self.old → IsSettled self.new }
     {
         faults_stand();
         if let Some(stop) = self.stop {
@@ -280,6 +285,7 @@ impl Intake {
         ensures fed { (fed : List ℕ) → HasFed self.old fed → HasFed self.new (fed ++ bytes_taken result bytes.now) }
         ensures told { answer_of result ≡ stop_told self.old.stop self.new.stop }
         ensures in_turn { IsInTurn self.old → IsInTurn self.new }
+        ensures settled { IsSettled self.new }
     {
         header_of_bytes();
         faults_stand();
@@ -328,6 +334,7 @@ impl Intake {
         ensures fed { (fed : List ℕ) → HasFed self.old fed → HasFed self.new (fed ++ bytes_taken result bytes.now) }
         ensures told { answer_of result ≡ stop_told self.old.stop self.new.stop }
         ensures in_turn { IsInTurn self.old → IsInTurn self.new }
+        ensures settled { IsSettled self.new }
     {
         let n = match self.feed_run(bytes) {
             Ok(n) => n,
@@ -502,7 +509,8 @@ impl Intake {
         ensures stands { (bytes : List ℕ) → HasFed self.now bytes → IfSome result (IsFinal self.now.shape bytes) }
         ensures earliest { IsInTurn self.now → (bytes : List ℕ) → HasFed self.now bytes
             → IfSome result (IsEarliest self.now.shape bytes) }
-        ensures none { (bytes : List ℕ) → IfNone result (IsUnbroken self.now bytes) }
+        ensures none { IsSettled self.now → self.now.stop ≡ None → (bytes : List ℕ) → HasFed self.now bytes
+            → IfNone result (NoneBrokeSoFar self.now.shape bytes) }
     {
         read_so_far();
         part_faults_are_final();

@@ -1,7 +1,6 @@
 //! The verdict of a trace, judged while its bytes come.
 
-ghost use Rattle.std.specs.Prelude.{◌≡◌, ◌++◌, ℕ, true, List, [], Ok, None, IfOk, IfErr, IfSome, IfNone};
-ghost use Rattle.std.specs.Prelude.{IsSome, OnOk};
+ghost use Rattle.std.specs.Prelude.{◌≡◌, ◌++◌, true, [], Ok, None, IfOk, IfErr, IfSome, IfNone, IsSome, OnOk};
 ghost use Rattle.lf_rules.specs.InRange.{IsShape};
 ghost use Rattle.lf_codec.specs.Reader.{fault_in};
 ghost use Rattle.lf_codec.specs.Reading.{fault_so_far};
@@ -12,8 +11,9 @@ ghost use Rattle.lf_verdict.specs.Verdict.{IsDecided, IsVerdictOf, IsLegalYes};
 ghost use Rattle.lf_verdict.specs.Incomplete.{IsIncompleteFor};
 ghost use Rattle.lf_verdict.specs.Laws.{IsRunlessNo};
 ghost use Rattle.lf_verdict.specs.Statistics.{AreStatisticsOf, IsYesVerdict};
-ghost use Rattle.lf_verdict.specs.Final.{IsFinal, IsEarliest, IsUnbroken, NoneBrokeInTrace};
-ghost use Rattle.lf_verdict.specs.Session.{IsConfigRefusal, refusal_of, stop_told, IsRefusalSoFar, HasFed};
+ghost use Rattle.lf_verdict.specs.Final.{IsFinal, IsEarliest, NoneBrokeInTrace};
+ghost use Rattle.lf_verdict.specs.Named.{NoneBrokeSoFar};
+ghost use Rattle.lf_verdict.specs.Session.{IsConfigRefusal, refusal_of, stop_told, IsRefusalSoFar};
 
 mod ahead;
 mod asked;
@@ -37,22 +37,30 @@ use lf_rules::Shape;
 pub use parallel::ParallelSession;
 use std::alloc::Global;
 use std::marker::Model;
+use trace_fed::Fed;
 
 /// Judges a trace while its bytes come, by one worker, and keeps no whole trace.
 #[derive(Drop)]
 pub struct Session {
     intake: Intake,
+    fed: Fed,
 }
 
 impl Model for Session {
-    ghost use Rattle.lf_verdict.specs.declared.session.intake.Intake.{Intake};
-    ghost use Rattle.lf_verdict.specs.Session.{WasFed, IsInTurn};
+    ghost use Rattle.lf_verdict.specs.Seen.{Seen};
+    ghost use Rattle.lf_verdict.specs.inner.Fed.{HasFed, IsInTurn};
+    ghost use Rattle.lf_verdict.specs.inner.Taking.{IsSettled};
 
-    ghost Value = { Intake };
+    ghost Value = { Seen };
 
-    ghost view = { λ s. s.intake };
+    ghost view = { λ s. record {
+      shape = s.intake.shape;
+      asked = s.intake.asked;
+      fed = s.fed.bytes;
+      stop = s.intake.stop;
+    } };
 
-    ghost invariant = { λ s. WasFed s.intake × IsInTurn s.intake };
+    ghost invariant = { λ s. HasFed s.intake s.fed.bytes × (IsInTurn s.intake × IsSettled s.intake) };
 }
 
 impl Session {
@@ -60,7 +68,8 @@ impl Session {
     pub fn for_shape(alloc: Global, shape: &Shape) -> Session
         requires { IsShape shape.now }
         ensures shape { result.shape ≡ shape.now }
-        ensures fed { HasFed result [] }
+        ensures fresh { result.stop ≡ None }
+        ensures fed { result.fed ≡ [] }
     {
         Session::with_counts(alloc, shape, false)
     }
@@ -70,7 +79,8 @@ impl Session {
         requires { IsShape shape.now }
         ensures shape { result.shape ≡ shape.now }
         ensures counted { result.asked.counted ≡ counted }
-        ensures fed { HasFed result [] }
+        ensures fresh { result.stop ≡ None }
+        ensures fed { result.fed ≡ [] }
     {
         let asked = Asked {
             watched: true,
@@ -79,13 +89,15 @@ impl Session {
         };
         Session {
             intake: Intake::new(alloc, shape, asked),
+            fed: Fed::new(),
         }
     }
 
     /// A session for the hierarchy that the configuration says, that was fed nothing.
     pub fn new(alloc: Global, config: &str) -> Result<Session, Refusal>
         ensures configured { IfOk result (λ s. configuration_of config.now ≡ Ok s.shape) }
-        ensures fed { IfOk result (λ s. HasFed s []) }
+        ensures fresh { IfOk result (λ s. s.stop ≡ None) }
+        ensures fed { IfOk result (λ s. s.fed ≡ []) }
         ensures refused { IfErr result (IsConfigRefusal config.now) }
     {
         let shape = read(alloc, config)?;
@@ -97,7 +109,8 @@ impl Session {
         requires { IsShape shape.now }
         ensures shape { result.shape ≡ shape.now }
         ensures counted { result.asked.counted ≡ true }
-        ensures fed { HasFed result [] }
+        ensures fresh { result.stop ≡ None }
+        ensures fed { result.fed ≡ [] }
     {
         Session::with_counts(alloc, shape, true)
     }
@@ -107,16 +120,16 @@ impl Session {
     pub fn feed(&mut self, piece: &[u8]) -> Result<(), Told<Refusal>>
         ensures shape { self.new.shape ≡ self.old.shape }
         ensures asked { self.new.asked ≡ self.old.asked }
-        ensures fed { (bytes : List ℕ) → HasFed self.old bytes → HasFed self.new (bytes ++ piece.now) }
+        ensures fed { self.new.fed ≡ self.old.fed ++ piece.now }
         // When it answers what.
         ensures told { result ≡ stop_told self.old.stop self.new.stop }
-        ensures failed { IsSome self.old.stop → self.new ≡ self.old }
-        ensures fine { OnOk result ((bytes : List ℕ) → HasFed self.old bytes →
-            fault_so_far (bytes ++ piece.now) ≡ None) }
-        ensures fault { IfErr result (λ t. (bytes : List ℕ) → HasFed self.old bytes →
-            IsRefusalSoFar (bytes ++ piece.now) (fault_in t)) }
+        ensures failed { IsSome self.old.stop → self.new.stop ≡ self.old.stop }
+        ensures fine { OnOk result (fault_so_far self.new.fed ≡ None) }
+        ensures fault { IfErr result (λ t. IsRefusalSoFar self.new.fed (fault_in t)) }
     {
-        self.intake.feed(piece)
+        let answer = self.intake.feed(piece);
+        self.fed.add(piece);
+        answer
     }
 
     /// What broke, where something did for which no bytes that follow lead to a yes: a header of another hierarchy, or
@@ -124,9 +137,9 @@ impl Session {
     /// that fault, one that is named before it, or that the bytes are no trace. The header is told as soon as it is
     /// there. After a refused `feed` nothing is told.
     pub fn broken(&self) -> Option<Broken>
-        ensures stands { (bytes : List ℕ) → HasFed self.now bytes → IfSome result (IsFinal self.now.shape bytes) }
-        ensures earliest { (bytes : List ℕ) → HasFed self.now bytes → IfSome result (IsEarliest self.now.shape bytes) }
-        ensures none { (bytes : List ℕ) → IfNone result (IsUnbroken self.now bytes) }
+        ensures stands { IfSome result (IsFinal self.now.shape self.now.fed) }
+        ensures earliest { IfSome result (IsEarliest self.now.shape self.now.fed) }
+        ensures none { self.now.stop ≡ None → IfNone result (NoneBrokeSoFar self.now.shape self.now.fed) }
     {
         self.intake.broken()
     }
@@ -136,55 +149,49 @@ impl Session {
     /// at fault. After a refused `feed`, and where memory ran out, nothing is told. After a yes it also says which
     /// request is the first without a reply at the end of the trace: the lowest tag of the lowest port that has one.
     pub fn conclude(self) -> Conclusion
-        ensures legal { (bytes : List ℕ) → HasFed self bytes → IsLegalYes self.shape bytes result.verdict }
-        ensures runless { (bytes : List ℕ) → HasFed self bytes → IsRunlessNo self.shape bytes result.verdict }
-        ensures verdict { (bytes : List ℕ) → HasFed self bytes → IsDecided result.verdict →
-            IsVerdictOf self.shape 1 bytes result.verdict }
+        ensures legal { IsLegalYes self.shape self.fed result.verdict }
+        ensures runless { IsRunlessNo self.shape self.fed result.verdict }
+        ensures verdict { IsDecided result.verdict → IsVerdictOf self.shape 1 self.fed result.verdict }
         ensures stopped { IfSome self.stop (λ stop. result.verdict ≡ Verdict.Refused (refusal_of stop)) }
         ensures thread { ¬ (result.verdict ≡ Verdict.Refused Refusal.Thread) }
         // What broke.
-        ensures stands { (bytes : List ℕ) → HasFed self bytes → IfSome result.broken (IsFinal self.shape bytes) }
-        ensures earliest { (bytes : List ℕ) → HasFed self bytes → IfSome result.broken (IsEarliest self.shape bytes) }
-        ensures none { IsDecided result.verdict → (bytes : List ℕ) → HasFed self bytes →
-            IfNone result.broken (NoneBrokeInTrace self.shape bytes) }
+        ensures stands { IfSome result.broken (IsFinal self.shape self.fed) }
+        ensures earliest { IfSome result.broken (IsEarliest self.shape self.fed) }
+        ensures none { IsDecided result.verdict → IfNone result.broken (NoneBrokeInTrace self.shape self.fed) }
         // Which request has no reply.
-        ensures incomplete { (bytes : List ℕ) → HasFed self bytes →
-            IsIncompleteFor self.shape bytes result.verdict result.incomplete }
+        ensures incomplete { IsIncompleteFor self.shape self.fed result.verdict result.incomplete }
     {
         yes_is_legal();
         no_has_no_run();
-        let Session { mut intake } = self;
+        let Session { mut intake, fed: _ } = self;
         intake.conclude()
     }
 
     /// The verdict of the bytes that were fed, as that of `finish`, and after a yes the statistics of the trace, where
     /// the session counts. Where a growth for these is refused, the verdict is that memory ran out.
     pub fn statistics(self) -> Counted
-        ensures legal { (bytes : List ℕ) → HasFed self bytes → IsLegalYes self.shape bytes result.verdict }
-        ensures runless { (bytes : List ℕ) → HasFed self bytes → IsRunlessNo self.shape bytes result.verdict }
-        ensures verdict { (bytes : List ℕ) → HasFed self bytes → IsDecided result.verdict →
-            IsVerdictOf self.shape 1 bytes result.verdict }
+        ensures legal { IsLegalYes self.shape self.fed result.verdict }
+        ensures runless { IsRunlessNo self.shape self.fed result.verdict }
+        ensures verdict { IsDecided result.verdict → IsVerdictOf self.shape 1 self.fed result.verdict }
         ensures stopped { IfSome self.stop (λ stop. result.verdict ≡ Verdict.Refused (refusal_of stop)) }
         ensures thread { ¬ (result.verdict ≡ Verdict.Refused Refusal.Thread) }
         // What was counted.
-        ensures counted { (bytes : List ℕ) → HasFed self bytes →
-            IfSome result.stats (AreStatisticsOf self.shape bytes) }
+        ensures counted { IfSome result.stats (AreStatisticsOf self.shape self.fed) }
         ensures told { self.asked.counted ≡ true → IsYesVerdict result.verdict → IsSome result.stats }
         ensures yes { IsSome result.stats → IsYesVerdict result.verdict }
     {
         yes_is_legal();
         no_has_no_run();
-        let Session { mut intake } = self;
+        let Session { mut intake, fed: _ } = self;
         intake.counted()
     }
 
     /// The verdict of the bytes that were fed: that of `check_shape`. After a refused
     /// `feed` it is that refusal.
     pub fn finish(self) -> Verdict
-        ensures legal { (bytes : List ℕ) → HasFed self bytes → IsLegalYes self.shape bytes result }
-        ensures runless { (bytes : List ℕ) → HasFed self bytes → IsRunlessNo self.shape bytes result }
-        ensures verdict { (bytes : List ℕ) → HasFed self bytes → IsDecided result →
-            IsVerdictOf self.shape 1 bytes result }
+        ensures legal { IsLegalYes self.shape self.fed result }
+        ensures runless { IsRunlessNo self.shape self.fed result }
+        ensures verdict { IsDecided result → IsVerdictOf self.shape 1 self.fed result }
         ensures stopped { IfSome self.stop (λ stop. result ≡ Verdict.Refused (refusal_of stop)) }
         ensures thread { ¬ (result ≡ Verdict.Refused Refusal.Thread) }
     {

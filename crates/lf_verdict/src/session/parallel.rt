@@ -1,6 +1,6 @@
 //! The verdict of a trace, judged by several workers while its bytes come.
 
-ghost use Rattle.std.specs.Prelude.{◌≡◌, ◌++◌, ℕ, true, false, List, [], None, IfErr, IfSome, IfNone, IsSome, OnOk};
+ghost use Rattle.std.specs.Prelude.{◌≡◌, ◌++◌, true, false, [], None, IfErr, IfSome, IfNone, IsSome, OnOk};
 ghost use Rattle.lf_rules.specs.InRange.{IsShape};
 ghost use Rattle.lf_codec.specs.Reader.{fault_in};
 ghost use Rattle.lf_codec.specs.Reading.{fault_so_far};
@@ -11,7 +11,7 @@ ghost use Rattle.lf_verdict.specs.Laws.{IsRunlessNo};
 ghost use Rattle.lf_verdict.specs.Unordered.{IsLegalAsAsked, IsVerdictAsAsked};
 ghost use Rattle.lf_verdict.specs.Final.{IsFinal};
 ghost use Rattle.lf_verdict.specs.Named.{IsNamed, NoneBrokeSoFar};
-ghost use Rattle.lf_verdict.specs.Session.{refusal_of, stop_told, IsRefusalSoFar, HasFed};
+ghost use Rattle.lf_verdict.specs.Session.{refusal_of, stop_told, IsRefusalSoFar};
 ghost use Rattle.lf_verdict.specs.declared.stop.Stop.TheVariants as stops;
 
 use crate::answer::{Refusal, Verdict};
@@ -24,6 +24,7 @@ use lf_rules::Shape;
 use std::alloc::Global;
 use std::marker::Model;
 use std::thread::Threads;
+use trace_fed::Fed;
 
 /// So many records are judged at a time. Fewer are not worth the threads that are made for them, and more
 /// fill the caches of the processors.
@@ -37,19 +38,24 @@ const BATCH: usize = 16384;
 /// It is ended by `finish` alone, so that no thread is left at work.
 pub struct ParallelSession<G = NoGate> {
     ahead: Ahead<G>,
+    fed: Fed,
 }
 
 impl<G> Model for ParallelSession<G> {
-    ghost use Rattle.lf_verdict.specs.declared.session.intake.Intake.{Intake};
-    ghost use Rattle.lf_verdict.specs.Session.{WasFed};
-    ghost use Rattle.lf_verdict.specs.Ahead.{session_of};
-    ghost use Rattle.lf_verdict.specs.inner.Ahead.{IsAhead};
+    ghost use Rattle.lf_verdict.specs.Seen.{Seen};
+    ghost use Rattle.lf_verdict.specs.inner.Fed.{HasFed};
+    ghost use Rattle.lf_verdict.specs.inner.Ahead.{session_of, IsAhead};
 
-    ghost Value = { Intake };
+    ghost Value = { Seen };
 
-    ghost view = { λ s. session_of s.ahead };
+    ghost view = { λ s. record {
+      shape = s.ahead.intake.shape;
+      asked = s.ahead.intake.asked;
+      fed = s.fed.bytes;
+      stop = s.ahead.intake.stop;
+    } };
 
-    ghost invariant = { λ s. WasFed (session_of s.ahead) × IsAhead s.ahead };
+    ghost invariant = { λ s. HasFed (session_of s.ahead) s.fed.bytes × IsAhead s.ahead };
 }
 
 impl ParallelSession {
@@ -58,7 +64,8 @@ impl ParallelSession {
         requires { IsShape shape.now }
         ensures shape { result.shape ≡ shape.now }
         ensures ordered { result.asked.ordered ≡ true }
-        ensures fed { HasFed result [] }
+        ensures fresh { result.stop ≡ None }
+        ensures fed { result.fed ≡ [] }
     {
         ParallelSession::in_batches(alloc, shape, workers, BATCH, NoGate, true)
     }
@@ -68,7 +75,8 @@ impl ParallelSession {
         requires { IsShape shape.now }
         ensures shape { result.shape ≡ shape.now }
         ensures unordered { result.asked.ordered ≡ false }
-        ensures fed { HasFed result [] }
+        ensures fresh { result.stop ≡ None }
+        ensures fed { result.fed ≡ [] }
     {
         ParallelSession::in_batches(alloc, shape, workers, BATCH, NoGate, false)
     }
@@ -90,10 +98,12 @@ impl<G: Gate + Sync + Send + Copy + 'static> ParallelSession<G> {
         requires { IsShape shape.now }
         ensures shape { result.shape ≡ shape.now }
         ensures ordered { result.asked.ordered ≡ ordered }
-        ensures fed { HasFed result [] }
+        ensures fresh { result.stop ≡ None }
+        ensures fed { result.fed ≡ [] }
     {
         ParallelSession {
             ahead: Ahead::new(alloc, shape, workers, batch, gate, ordered),
+            fed: Fed::new(),
         }
     }
 
@@ -107,16 +117,16 @@ impl<G: Gate + Sync + Send + Copy + 'static> ParallelSession<G> {
     ) -> Result<(), Told<Refusal>>
         ensures shape { self.new.shape ≡ self.old.shape }
         ensures asked { self.new.asked ≡ self.old.asked }
-        ensures fed { (bytes : List ℕ) → HasFed self.old bytes → HasFed self.new (bytes ++ piece.now) }
+        ensures fed { self.new.fed ≡ self.old.fed ++ piece.now }
         // When it answers what.
         ensures told { result ≡ stop_told self.old.stop self.new.stop }
-        ensures failed { IsSome self.old.stop → self.new ≡ self.old }
-        ensures fine { OnOk result ((bytes : List ℕ) → HasFed self.old bytes →
-            fault_so_far (bytes ++ piece.now) ≡ None) }
-        ensures fault { IfErr result (λ t. (bytes : List ℕ) → HasFed self.old bytes →
-            IsRefusalSoFar (bytes ++ piece.now) (fault_in t)) }
+        ensures failed { IsSome self.old.stop → self.new.stop ≡ self.old.stop }
+        ensures fine { OnOk result (fault_so_far self.new.fed ≡ None) }
+        ensures fault { IfErr result (λ t. IsRefusalSoFar self.new.fed (fault_in t)) }
     {
-        self.ahead.feed(rt, piece)
+        let answer = self.ahead.feed(rt, piece);
+        self.fed.add(piece);
+        answer
     }
 
     /// What broke, where something did for which no bytes that follow lead to a yes, as `Session::broken` tells it. It
@@ -127,15 +137,14 @@ impl<G: Gate + Sync + Send + Copy + 'static> ParallelSession<G> {
     pub fn broken<R: Threads + Sync>(&mut self, rt: &R) -> Option<Broken>
         ensures shape { self.new.shape ≡ self.old.shape }
         ensures asked { self.new.asked ≡ self.old.asked }
-        ensures fed { (bytes : List ℕ) → HasFed self.old bytes → HasFed self.new bytes }
-        ensures failed { IsSome self.old.stop → self.new ≡ self.old }
+        ensures fed { self.new.fed ≡ self.old.fed }
+        ensures failed { IsSome self.old.stop → self.new.stop ≡ self.old.stop }
         ensures memory { self.old.stop ≡ None → IfSome self.new.stop (λ stop. stop ≡ stops.Memory) }
         // What is told.
         ensures stopped { IsSome self.new.stop → result ≡ None }
-        ensures stands { (bytes : List ℕ) → HasFed self.old bytes → IfSome result (IsFinal self.old.shape bytes) }
-        ensures named { (bytes : List ℕ) → HasFed self.old bytes → IfSome result (IsNamed self.old.shape bytes) }
-        ensures none { self.new.stop ≡ None → (bytes : List ℕ) → HasFed self.old bytes →
-            IfNone result (NoneBrokeSoFar self.old.shape bytes) }
+        ensures stands { IfSome result (IsFinal self.old.shape self.old.fed) }
+        ensures named { IfSome result (IsNamed self.old.shape self.old.fed) }
+        ensures none { self.new.stop ≡ None → IfNone result (NoneBrokeSoFar self.old.shape self.old.fed) }
     {
         self.ahead.broken(rt)
     }
@@ -144,18 +153,16 @@ impl<G: Gate + Sync + Send + Copy + 'static> ParallelSession<G> {
     /// Otherwise the list is empty, and where each record of a bank came in the turn of its number no order is looked
     /// for. After a refused `feed` it is that refusal.
     pub fn finish<R: Threads + Sync>(self, rt: &R) -> Verdict
-        ensures legal { (bytes : List ℕ) → HasFed self bytes →
-            IsLegalAsAsked self.asked.ordered self.shape bytes result }
-        ensures runless { (bytes : List ℕ) → HasFed self bytes → IsRunlessNo self.shape bytes result }
-        ensures verdict { (bytes : List ℕ) → HasFed self bytes → IsDecided result →
-            IsVerdictAsAsked self.asked.ordered self.shape 1 bytes result }
+        ensures legal { IsLegalAsAsked self.asked.ordered self.shape self.fed result }
+        ensures runless { IsRunlessNo self.shape self.fed result }
+        ensures verdict { IsDecided result → IsVerdictAsAsked self.asked.ordered self.shape 1 self.fed result }
         ensures stopped { IfSome self.stop (λ stop. result ≡ Verdict.Refused (refusal_of stop)) }
         ensures thread { ¬ (result ≡ Verdict.Refused Refusal.Thread) }
     {
         yes_is_legal();
         ordered_yes_is_legal();
         no_has_no_run();
-        let ParallelSession { mut ahead } = self;
+        let ParallelSession { mut ahead, fed: _ } = self;
         let verdict = ahead.answer(rt);
         ahead.end();
         verdict

@@ -5,7 +5,7 @@ and `write` spells a trace from records. The format is that of docs/FORMAT.md of
 
 from lfts.errors import Fault, FormatError, RecordError
 from lfts.reader import Reader
-from lfts.recorder import Phase, Recorder
+from lfts.recorder import Cycle, Phase, Recorder
 from lfts.trace import (
     NO_BANK,
     Event,
@@ -32,12 +32,15 @@ from lfts.trace import (
     write,
 )
 
+__version__ = "0.3.0"
+
 LOAD, STORE = Op.LOAD, Op.STORE
 
 __all__ = [
     "LOAD",
     "NO_BANK",
     "STORE",
+    "Cycle",
     "Event",
     "Evict1",
     "Evict2",
@@ -65,5 +68,6 @@ __all__ = [
     "SecondPrimary",
     "SecondStall",
     "Stall",
+    "__version__",
     "write",
 ]

@@ -14,13 +14,14 @@ from lfts.trace import Event, Header, Kind, Memory, Op, Record
 
 BLOCK_NUMBERS = 1 << 32
 
-Source = Union[str, "os.PathLike[str]", bytes, BinaryIO]
+Source = Union[str, "os.PathLike[str]", bytes, bytearray, memoryview, BinaryIO]
 
 
 class Reader:
     """Iterates over the memory records of a trace and then over its event records, once.
 
-    The source is a path, the bytes of a trace, or a binary file object, which may be a pipe. The header and the number
+    The source is a path, the bytes of a trace (as bytes, a bytearray or a memoryview), or a binary file object, which may
+    be a pipe. The header and the number
     of memory records are read at once. `offset` is the place of the first byte of what was given last. A trace that
     does not keep the format is a `FormatError`, and nothing is given after it."""
 
@@ -60,7 +61,7 @@ class Reader:
         self.close()
 
     def _opened(self, source: Source) -> BinaryIO:
-        if isinstance(source, bytes):
+        if isinstance(source, (bytes, bytearray, memoryview)):
             return io.BytesIO(source)
         if isinstance(source, (str, os.PathLike)):
             self._owned = open(source, "rb")
@@ -95,7 +96,7 @@ class Reader:
             raise self._fault(Fault.RESERVED, f"{factor} and not 0 in bytes 10 and 11")
         if version == 3 and factor not in trace.FACTORS:
             raise self._fault(Fault.HEADER_RANGE, f"second-level blocks of {factor} blocks and not of 1, 2 or 4")
-        return Header(ports, banks, block, version, factor if version == 3 else 1), memory_records
+        return Header(ports, banks, block, factor if version == 3 else 1, version), memory_records
 
     def _all(self) -> Iterator[Union[Memory, Record]]:
         yield from self._memory()

@@ -33,7 +33,6 @@ class Phase(enum.IntEnum):
 
 _PHASES: Dict[Kind, Phase] = {
     Kind.REPLY: Phase.REPLIES,
-    Kind.FENCE: Phase.REPLIES,
     Kind.SECOND_HIT: Phase.LEVEL_TWO,
     Kind.SECOND_PRIMARY: Phase.LEVEL_TWO,
     Kind.SECOND_MERGE: Phase.LEVEL_TWO,
@@ -56,7 +55,7 @@ class _Staged(NamedTuple):
     log: int
     bank: int
     event: Event
-    phase: int
+    phase: Optional[int]  # none where a fence was given none
 
 
 class Recorder:
@@ -70,7 +69,8 @@ class Recorder:
     A model without a clock calls in the order in which things happen, and each event takes the next number of its bank
     at once. A model with a clock calls `cycle` when a cycle begins. The events of a cycle are put in order by their
     phase when it ends: replies, level two, level one, issues, and within a phase the order of the calls. A fence stands
-    behind the replies of its port, and before its issues. A `phase` that is given outside a cycle means nothing.
+    right behind the last reply of its port in that cycle, and without one before all other events. A `phase` that is
+    given to a call takes the place of its own; outside a cycle it means nothing.
 
     `time_map` is a path or a text file. It gets a line `log place time` for each event of a cycle: the log, the place
     of the record in that log, from 0, and the time that `cycle` was given.
@@ -90,8 +90,8 @@ class Recorder:
         ports: int,
         banks: int,
         block: int,
-        version: int = 2,
         factor: int = 1,
+        version: int = 2,
         time_map: TimeMap = None,
     ) -> None:
         version = one_of("Recorder", "version", version, trace.VERSIONS)
@@ -99,8 +99,8 @@ class Recorder:
             ports=within("Recorder", "ports", ports, 1, trace.MOST_PORTS),
             banks=within("Recorder", "banks", banks, 1, trace.MOST_BANKS),
             block=one_of("Recorder", "block", block, trace.BLOCKS),
-            version=version,
             factor=one_of("Recorder", "factor", factor, trace.FACTORS if version == 3 else (1,)),
+            version=version,
         )
         self._memory: List[bytes] = []
         self._last_block = -1
@@ -110,6 +110,7 @@ class Recorder:
         self._places = [0] * self._header.logs
         self._staged: Optional[List[_Staged]] = None  # where a cycle goes on
         self._time = ""
+        self._last_time: Union[int, float, None] = None
         self._header_written = self._closed = False
         self._error: Optional[BaseException] = None
         self._files = contextlib.ExitStack()
@@ -176,40 +177,42 @@ class Recorder:
         bank = within("reply", "bank", bank, 0, self._header.banks - 1)
         self._record("reply", port, bank, trace.Reply(tag, carried("reply", "data", data, (0, *trace.SIZES))), phase)
 
-    def fence(self, port: int) -> None:
+    def fence(self, port: int, *, phase: Optional[Phase] = None) -> None:
         """No tag of the port is busy. From version 2 on."""
         self._version("fence", 2)
         port = within("fence", "port", port, 0, self._header.ports - 1)
-        self._record("fence", port, NO_BANK, trace.Fence(), None)
+        self._record("fence", port, NO_BANK, trace.Fence(), phase)
 
     def hit(self, bank: int, port: int, tag: int, *, phase: Optional[Phase] = None) -> None:
         """The oldest request of the port in the bank finds its block in level one."""
-        self._of_bank("hit", bank, trace.Hit(*self._tag("hit", port, tag)), phase)
+        self._of_bank("hit", bank, trace.Hit(*self._request("hit", port, tag)), phase)
 
     def primary(self, bank: int, port: int, tag: int, register: int, *, phase: Optional[Phase] = None) -> None:
         """The oldest request of the port in the bank misses a block that no register holds, and takes a register."""
-        placed = (*self._tag("primary", port, tag), within("primary", "register", register, 0, U16))
+        placed = (*self._request("primary", port, tag), within("primary", "register", register, 0, U16))
         self._of_bank("primary", bank, trace.Primary(*placed), phase)
 
     def merge(self, bank: int, port: int, tag: int, register: int, *, phase: Optional[Phase] = None) -> None:
         """The oldest request of the port in the bank misses a block that a register holds, and is recorded beside the
         first."""
-        placed = (*self._tag("merge", port, tag), within("merge", "register", register, 0, U16))
+        placed = (*self._request("merge", port, tag), within("merge", "register", register, 0, U16))
         self._of_bank("merge", bank, trace.Merge(*placed), phase)
 
     def stall(self, bank: int, port: int, tag: int, *, phase: Optional[Phase] = None) -> None:
         """The oldest request of the port in the bank misses, finds no room in the registers and waits. It may be
         recorded once, in each cycle, or never."""
-        self._of_bank("stall", bank, trace.Stall(*self._tag("stall", port, tag)), phase)
+        self._of_bank("stall", bank, trace.Stall(*self._request("stall", port, tag)), phase)
 
     def fill1(self, bank: int, block: int, data: Bytes, *, phase: Optional[Phase] = None) -> None:
         """Level one gets a block."""
         block = self._block("fill1", bank, block)
         self._of_bank("fill1", bank, trace.Fill1(block, carried("fill1", "data", data, (self._header.block,))), phase)
 
-    def evict1(self, bank: int, block: int, mask: int, data: Bytes, *, phase: Optional[Phase] = None) -> None:
+    def evict1(
+        self, bank: int, block: int, mask: int, data: Optional[Bytes] = None, *, phase: Optional[Phase] = None
+    ) -> None:
         """Level one gives up a line. Bit i of the mask says that byte i is dirty. `data` are all bytes of the block, of
-        which the trace gets the dirty ones."""
+        which the trace gets the dirty ones. A clean line, of mask 0, needs none."""
         block = self._block("evict1", bank, block)
         dirty, data = self._dirty("evict1", ("mask", mask), ("data", data))
         self._of_bank("evict1", bank, trace.Evict1(block, dirty, data), phase)
@@ -247,13 +250,22 @@ class Recorder:
         self._of_bank("fill2", bank, trace.Fill2(second, filled), phase)
 
     def evict2(
-        self, bank: int, second: int, masks: Iterable[int], parts: Iterable[Bytes], *, phase: Optional[Phase] = None
+        self,
+        bank: int,
+        second: int,
+        masks: Iterable[int],
+        parts: Optional[Iterable[Optional[Bytes]]] = None,
+        *,
+        phase: Optional[Phase] = None,
     ) -> None:
         """Level two gives up the line of a second-level block. Of each of its blocks it has the mask of the dirty
-        bytes, and all bytes, of which the trace gets the dirty ones."""
+        bytes, and all bytes, of which the trace gets the dirty ones. A clean block, of mask 0, needs no bytes, and a
+        clean line no parts."""
         second = self._second("evict2", bank, second)
         factor = self._header.factor
-        pairs = zip(each("evict2", "masks", masks, factor), each("evict2", "parts", parts, factor))
+        whole: Iterable[Optional[Bytes]] = (None,) * factor if parts is None else parts
+        given = each("evict2", "parts", whole, factor)
+        pairs = zip(each("evict2", "masks", masks, factor), given)
         dirty = [
             self._dirty("evict2", (f"masks[{place}]", mask), (f"parts[{place}]", part))
             for place, (mask, part) in enumerate(pairs)
@@ -264,14 +276,19 @@ class Recorder:
     def cycle(self, time: object) -> Cycle:
         """A cycle begins at a time, which is any number or text, and the cycle before it ends. It lasts until `cycle`
         is called with another time, to a call of `end_cycle` or `close`, or to the end of a `with` block over the
-        result. A call with the time of the cycle that is under way does nothing."""
+        result. A call with the time of the cycle that is under way does nothing. A number is not below the one before.
+        """
         self._ready()
         text = str(time)
         if not text.strip() or len(text.splitlines()) > 1:
             raise RecordError("cycle", "time", time, "a text of one line")
+        number = time if isinstance(time, (int, float)) else None
+        if number is not None and self._last_time is not None and number < self._last_time:
+            raise RecordError("cycle", "time", time, f"from {self._last_time} on")
         if self._staged is None or text != self._time:
             self.end_cycle()
             self._staged, self._time = [], text
+        self._last_time = number
         return Cycle(self)
 
     def end_cycle(self) -> None:
@@ -291,8 +308,8 @@ class Recorder:
         self._staged = None
 
     def flush(self) -> None:
-        """Hands on what was written. The events of a cycle that has not ended are not among it, and before the first
-        event nothing is, since the header counts the memory records."""
+        """Hands on what was written. The events of a cycle that has not ended are not among it. Before the first event
+        it does nothing, since the header counts the memory records."""
         self._ready()
         self._guarded(self._out.flush)
         if self._map is not None:
@@ -347,6 +364,10 @@ class Recorder:
     def _tag(self, call: str, port: int, tag: int) -> Tuple[int, int]:
         return within(call, "port", port, 0, self._header.ports - 1), within(call, "tag", tag, 0, U8)
 
+    def _request(self, call: str, port: int, tag: int) -> Tuple[int, int]:
+        """The request that a bank names. Whether there is one is for `score` to judge."""
+        return within(call, "port", port, 0, U8), within(call, "tag", tag, 0, U8)
+
     def _bank(self, call: str, bank: int, due: int, whose: str) -> None:
         if within(call, "bank", bank, 0, self._header.banks - 1) != due:
             raise RecordError(call, "bank", bank, f"{due}, the bank {whose}")
@@ -361,10 +382,17 @@ class Recorder:
         self._bank(call, bank, self._header.bank_of_second(number), f"of second-level block {number}")
         return number
 
-    def _dirty(self, call: str, mask: Tuple[str, int], data: Tuple[str, Bytes]) -> Tuple[int, bytes]:
+    def _dirty(self, call: str, mask: Tuple[str, int], data: Tuple[str, Optional[Bytes]]) -> Tuple[int, bytes]:
         """The mask of a block and the bytes under it. Both come with the names of their arguments."""
         dirty = within(call, *mask, 0, (1 << self._header.block) - 1)
-        whole = carried(call, *data, (self._header.block,))
+        argument, given = data
+        if given is None:
+            if dirty:
+                raise RecordError(
+                    call, argument, given, f"bytes, {self._header.block} of them, since the mask is not 0"
+                )
+            return dirty, b""
+        whole = carried(call, argument, given, (self._header.block,))
         return dirty, bytes(byte for place, byte in enumerate(whole) if dirty >> place & 1)
 
     def _of_bank(self, call: str, bank: int, event: Event, phase: Optional[Phase]) -> None:
@@ -376,7 +404,7 @@ class Recorder:
         if self._counts[log] == self._header.records_of_a_log:
             argument, value = ("port", log) if log < self._header.ports else ("bank", bank)
             raise RecordError(call, argument, value, f"one with less than {self._counts[log]} events")
-        chosen = _PHASES[event.kind] if phase is None else one_of(call, "phase", phase, tuple(Phase))
+        chosen = _PHASES.get(event.kind) if phase is None else one_of(call, "phase", phase, tuple(Phase))
         self._begun = True
         self._counts[log] += 1
         if self._staged is None:
@@ -437,14 +465,15 @@ def _write_all(out: BinaryIO, data: bytes) -> None:
 
 
 def _in_order(staged: List[_Staged]) -> List[_Staged]:
-    """The events of a cycle by their phases. A fence comes behind the last reply of its port."""
-    replied: Dict[int, int] = {}
+    """The events of a cycle by their phases. A fence without one comes right behind the last reply of its port, or
+    first of all."""
+    ordered = sorted((item for item in staged if item.phase is not None), key=lambda item: item.phase or 0)
+    last = {item.log: place for place, item in enumerate(ordered) if item.event.kind == Kind.REPLY}
+    fences: Dict[int, List[_Staged]] = {}
     for item in staged:
-        if item.event.kind == Kind.REPLY:
-            replied[item.log] = max(item.phase, replied.get(item.log, item.phase))
-
-    def place(item: _Staged) -> Tuple[int, bool]:
-        is_fence = item.event.kind == Kind.FENCE
-        return (replied.get(item.log, item.phase) if is_fence else item.phase), is_fence
-
-    return sorted(staged, key=place)
+        if item.phase is None:
+            fences.setdefault(last.get(item.log, -1), []).append(item)
+    result = fences.get(-1, [])
+    for place, item in enumerate(ordered):
+        result += [item, *fences.get(place, [])]
+    return result

@@ -67,8 +67,8 @@ class Header:
     ports: int
     banks: int
     block: int
-    version: int = 2
     factor: int = 1
+    version: int = 2
 
     @property
     def logs(self) -> int:

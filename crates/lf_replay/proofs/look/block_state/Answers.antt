@@ -1,5 +1,5 @@
 use Rattle.std.proofs.Common.{subst}
-use Rattle.lf_bank.specs.BankView.{BankView}
+use Rattle.bank_events.specs.BankView.{BankView}
 use Rattle.lf_replay.specs.Seen.{IsSeen}
 use Rattle.lf_replay.proofs.Looks.{seen_is}
 use Rattle.lf_replay.proofs.look.block_state.Goals as goal

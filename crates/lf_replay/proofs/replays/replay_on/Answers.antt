@@ -8,7 +8,7 @@ use Rattle.lf_rules.specs.Fits.{Fits}
 use Rattle.lf_rules.specs.Outcomes.{first_local}
 use Rattle.lf_rules.specs.Run.{IsRunOf}
 use Rattle.lf_rules.specs.Table.{OfBank}
-use Rattle.lf_state.specs.Bytes.{bank_part}
+use Rattle.bank_state.specs.Bytes.{bank_part}
 use Rattle.lf_replay.proofs.Runs.{lent_count, lent_at, stands_next, breaks_at, all_at, outcome_same}
 use Rattle.lf_replay.proofs.replays.replay_on.Goals as goal
 

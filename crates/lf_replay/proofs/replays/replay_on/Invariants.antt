@@ -1,6 +1,6 @@
 use Rattle.std.proofs.Common.{take, map}
 use Rattle.lf_rules.specs.Address.{flat_memory}
-use Rattle.lf_state.specs.Bytes.{bank_part}
+use Rattle.bank_state.specs.Bytes.{bank_part}
 use Rattle.lf_replay.specs.Shows.{ShowsReached}
 use Rattle.lf_replay.specs.Step.{IsBankAfter}
 use Rattle.lf_replay.proofs.replays.replay_on.Given as goal

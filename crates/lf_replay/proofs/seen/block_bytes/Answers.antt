@@ -1,5 +1,5 @@
 use Rattle.std.proofs.Common.{refl, arith}
-use Rattle.lf_state.proofs.Bytes.{more_read}
+use Rattle.bank_state.proofs.Bytes.{more_read}
 use Rattle.lf_replay.proofs.seen.block_bytes.Goals as goal
 
 pub loop-i-preserved : goal.loop-i-preserved

@@ -6,7 +6,7 @@ use Rattle.std.proofs.lemmas.List.{length-set}
 use Rattle.lf_rules.specs.Address.{block_of}
 use Rattle.lf_rules.specs.Lists.{lists_of}
 use Rattle.lf_logs.specs.Places.{records_at}
-use Rattle.lf_views.specs.Views.{event_of}
+use Rattle.trace_views.specs.Views.{event_of}
 use Rattle.lf_stats.specs.Statistics.{issued, block_issued}
 use Rattle.lf_stats.proofs.Blocks.{block_if, not_issue, issued_same, issued_new, placed}
 use Rattle.lf_stats.proofs.issued.blocks_issued.Goals as goal

@@ -1,5 +1,5 @@
 use Rattle.std.proofs.Common.{true, false, set, get_or, sym, ap, ◌∙◌, arith}
-use Rattle.lf_views.specs.Views.{event_of}
+use Rattle.trace_views.specs.Views.{event_of}
 use Rattle.lf_logs.specs.Incomplete.{waits_after}
 use Rattle.lf_stats.proofs.Waits.{set_at, waits_same}
 use Rattle.lf_stats.proofs.port.note.Goals as goal

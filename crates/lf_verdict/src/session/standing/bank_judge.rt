@@ -21,8 +21,8 @@ use lf_logs::Reorder;
 use lf_replay::{BankFault, Step};
 use lf_rules::{Memory, NoMemory, Outcome, Shape};
 use lf_stats::BankCount;
-use lf_views::RecordView;
 use std::alloc::Global;
+use trace_views::RecordView;
 
 /// A bank, the records that came before their turn, and the first that broke a rule.
 #[derive(Drop)]

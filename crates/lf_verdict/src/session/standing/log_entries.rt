@@ -19,7 +19,7 @@ use crate::session::standing::port_judge::PortJudge;
 use lf_codec::Packed;
 use lf_join::{Progress, entries_stay};
 use lf_rules::{NoMemory, Outcome, Skeleton};
-use lf_views::RecordView;
+use trace_views::RecordView;
 
 /// Each log's entries so far, and how each port stands. No bank is among them, so that records can be
 /// entered while the banks are judged.

@@ -22,10 +22,10 @@ mod verdict;
 
 use crate::session::breaking::{FirstBreak, PartFault, Upon, Watch};
 pub use bank_judge::BankJudge;
-use lf_lengths::view_len;
+use lf_codec::view_len;
 use lf_rules::{NoMemory, Outcome};
-use lf_views::RecordView;
 pub use log_entries::Entries;
+use trace_views::RecordView;
 pub use verdict::Judged;
 
 /// The entries of the logs so far, with how each port stands, how each bank stands, and whether one of them broke.

@@ -8,7 +8,7 @@ ghost use Rattle.lf_verdict.specs.Standing.{IsPortJudged};
 use crate::broken_part::Part;
 use lf_logs::PortStep;
 use lf_rules::{Outcome, Shape};
-use lf_views::RecordView;
+use trace_views::RecordView;
 
 /// A port, and the first of its records that broke a rule.
 #[derive(Drop)]

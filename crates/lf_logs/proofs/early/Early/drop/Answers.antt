@@ -1,6 +1,6 @@
 use Rattle.std.proofs.Common.{Bool, is_some, length, refl, sym, ap, ◌∙◌, ◌||◌, arith}
 use Rattle.std.specs.Prelude.{IsSome}
-use Rattle.lf_chunks.specs.Table.{numbered_as}
+use Rattle.trace_early.specs.Table.{numbered_as}
 use Rattle.lf_logs.specs.EarlyRecords.{EarlyRecords, kept_at, kept_whole}
 use Rattle.lf_logs.proofs.EarlyLookups.{at_rest, at_same, without_one, is_some_parts, length_parts, length_whole}
 use Rattle.lf_logs.proofs.EarlyLookups.{first_of, none_from}

@@ -1,7 +1,7 @@
 use Rattle.std.proofs.Common.{◌≡◌, None, ap, sym, ◌∙◌, option_copied}
 use Rattle.lf_logs.specs.EarlyRecords.{EarlyRecords, kept_at, kept_whole}
 use Rattle.lf_logs.proofs.EarlyLookups.{lent_again, at_rest, none_without}
-use Rattle.lf_chunks.specs.Table.{numbered_as}
+use Rattle.trace_early.specs.Table.{numbered_as}
 use Rattle.lf_logs.proofs.early.Early.lend.Goals as goal
 use Rattle.lf_logs.proofs.early.Early.lend.Goals.{in-Some+in_default-get, in_default}
 

@@ -1,7 +1,7 @@
 use Rattle.std.proofs.Common.{◌≡◌, None, Some, refl, ap, ◌∙◌, option_map}
 use Rattle.std.specs.Global.{Box}
 use Rattle.lf_rules.specs.declared.event.Record.{Record}
-use Rattle.lf_chunks.specs.Table.{numbered_as}
+use Rattle.trace_early.specs.Table.{numbered_as}
 use Rattle.lf_logs.specs.EarlyRecords.{EarlyRecords, kept_at, kept_whole}
 use Rattle.lf_logs.proofs.EarlyLookups.{at_whole, whole_same, none_read, at_rest, at_same}
 use Rattle.lf_logs.proofs.Reordered.{apart_at}

@@ -1,5 +1,5 @@
 use Rattle.std.proofs.Common.{◌≡◌, true, is_some, refl, sym, ap, ◌∙◌, subst, not}
-use Rattle.lf_chunks.specs.Table.{numbered_as}
+use Rattle.trace_early.specs.Table.{numbered_as}
 use Rattle.lf_codec.specs.Layout.{record_bytes}
 use Rattle.lf_logs.specs.EarlyRecords.{EarlyRecords, kept_at, kept_whole}
 use Rattle.lf_logs.specs.Reordering.{CanKeep}

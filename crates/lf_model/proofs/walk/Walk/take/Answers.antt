@@ -4,7 +4,7 @@ use Rattle.std.specs.Prelude.{slice_index}
 use Rattle.std.proofs.lemmas.List.{get_or_default, length-map}
 use Rattle.std.specs.Global.{Vec}
 use Rattle.lf_rules.specs.declared.shape.Shape.{Shape}
-use Rattle.lf_plain.specs.Plain.{state_of}
+use Rattle.model_plain.specs.Plain.{state_of}
 use Rattle.lf_model.specs.Walk.{NamesBankBelow, count_left, left_of, recheck_from}
 use Rattle.lf_model.proofs.Walks.{items_of, left_next, count_next, fits_found, names_below, wrong_number, rule_broken}
 use Rattle.lf_model.proofs.Walks.{walked_on}

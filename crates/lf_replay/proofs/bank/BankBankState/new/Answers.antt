@@ -1,5 +1,5 @@
 use Rattle.lf_rules.specs.Address.{flat_memory}
-use Rattle.lf_state.specs.Bytes.{bank_part}
+use Rattle.bank_state.specs.Bytes.{bank_part}
 use Rattle.lf_replay.proofs.Reached.{new_shows, new_reached}
 use Rattle.lf_replay.proofs.Runs.{if_ok}
 use Rattle.lf_replay.proofs.bank.BankBankState.new.Goals as goal

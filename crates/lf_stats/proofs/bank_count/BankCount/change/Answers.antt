@@ -1,6 +1,6 @@
 use Rattle.std.proofs.Common.{not, ◌==◌, sym, ap, ◌∙◌, subst}
 use Rattle.std.specs.List.{filter}
-use Rattle.lf_views.specs.Views.{event_of}
+use Rattle.trace_views.specs.Views.{event_of}
 use Rattle.lf_stats.specs.Standing.{IsHeld}
 use Rattle.lf_stats.specs.Statistics.{held_by}
 use Rattle.lf_stats.proofs.bank_count.BankCount.change.Goals as goal

@@ -1,11 +1,22 @@
-use Rattle.std.proofs.Common.{ℕ, List, subst}
-use Rattle.std.specs.Prelude.{IfSome}
-use Rattle.lf_verdict.specs.declared.session.intake.Intake.{Intake}
-use Rattle.lf_verdict.specs.Session.{HasFed}
-use Rattle.lf_verdict.specs.Final.{IsEarliest}
+use Rattle.std.proofs.Common.{◌≡◌, None, sym, ap, ◌∙◌, subst}
+use Rattle.std.specs.Prelude.{IfSome, IfNone}
+use Rattle.lf_verdict.specs.Seen.{Seen}
+use Rattle.lf_verdict.specs.Final.{IsFinal, IsEarliest}
+use Rattle.lf_verdict.specs.Named.{NoneBrokeSoFar}
 use Rattle.lf_verdict.proofs.session.Session.broken.Goals as goal
+
+pub returns-clause-stands : goal.returns-clause-stands
+returns-clause-stands c =
+    subst (λ (s : Seen). IfSome c.broken.result (IsFinal s.shape s.fed)) c.self.view_is
+    (c.broken.ensures.stands c.self.inside.fed.bytes c.self.invariant.0)
 
 pub returns-clause-earliest : goal.returns-clause-earliest
 returns-clause-earliest c =
-    subst (λ (s : Intake). (bytes : List ℕ) → HasFed s bytes → IfSome c.broken.result (IsEarliest s.shape bytes))
-    c.self.view_is (c.broken.ensures.earliest c.self.invariant.1)
+    subst (λ (s : Seen). IfSome c.broken.result (IsEarliest s.shape s.fed)) c.self.view_is
+    (c.broken.ensures.earliest c.self.invariant.1.0 c.self.inside.fed.bytes c.self.invariant.0)
+
+pub returns-clause-none : goal.returns-clause-none
+returns-clause-none c on =
+    subst (λ (s : Seen). IfNone c.broken.result (NoneBrokeSoFar s.shape s.fed)) c.self.view_is
+    (c.broken.ensures.none c.self.invariant.1.1 (ap (λ (s : Seen). s.stop) c.self.view_is ∙ on)
+    c.self.inside.fed.bytes c.self.invariant.0)

@@ -4,7 +4,7 @@ use Rattle.lf_rules.specs.declared.event.Record.{Record}
 use Rattle.lf_rules.specs.Fits.{Bytes}
 use Rattle.lf_codec.specs.Reader.{HasRead}
 use Rattle.lf_verdict.specs.Standing.{Counts, IsKnown}
-use Rattle.lf_verdict.specs.Session.{IsRunning}
+use Rattle.lf_verdict.specs.inner.Fed.{IsRunning}
 use Rattle.lf_verdict.proofs.session.intake.judge_records.Given as goal
 
 abbrev pub invariant-loop-item : goal.invariant-loop-item

@@ -2,7 +2,7 @@ use Rattle.std.proofs.Common.{◌≡◌, Bool, true, false, sym, ap, ◌∙◌, 
 use Rattle.lf_rules.specs.declared.shape.Shape.{Shape}
 use Rattle.lf_verdict.specs.declared.session.asked.Asked.{Asked}
 use Rattle.lf_verdict.specs.inner.Ending.{IsVerdictOrWant, IsUnorderedOrWant, IsAnswerAsAsked}
-use Rattle.lf_verdict.specs.Ahead.{session_of}
+use Rattle.lf_verdict.specs.inner.Ahead.{session_of}
 use Rattle.lf_verdict.proofs.Sessions.{going}
 use Rattle.lf_verdict.proofs.Aheads.{still_going}
 use Rattle.lf_verdict.proofs.session.ahead.Ahead.answer.Goals as goal

@@ -1,5 +1,5 @@
 use Rattle.std.proofs.Common.{◌∙◌}
-use Rattle.lf_verdict.specs.Ahead.{session_of}
+use Rattle.lf_verdict.specs.inner.Ahead.{session_of}
 use Rattle.lf_verdict.proofs.Sessions.{going}
 use Rattle.lf_verdict.proofs.Aheads.{still_going, none_ahead}
 use Rattle.lf_verdict.proofs.session.ahead.Ahead.broken.Goals as goal

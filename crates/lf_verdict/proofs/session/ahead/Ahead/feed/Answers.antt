@@ -1,4 +1,4 @@
-use Rattle.lf_verdict.specs.Ahead.{session_of}
+use Rattle.lf_verdict.specs.inner.Ahead.{session_of}
 use Rattle.lf_verdict.proofs.Sessions.{going}
 use Rattle.lf_verdict.proofs.session.ahead.Ahead.feed.Goals as goal
 

@@ -1,5 +1,5 @@
 use Rattle.std.proofs.Common.{◌++◌}
-use Rattle.lf_verdict.specs.Ahead.{session_of}
+use Rattle.lf_verdict.specs.inner.Ahead.{session_of}
 use Rattle.lf_verdict.proofs.Aheads.{stopped}
 use Rattle.lf_verdict.proofs.session.ahead.Ahead.feed_ahead.Goals as goal
 

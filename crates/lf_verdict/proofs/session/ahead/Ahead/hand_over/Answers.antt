@@ -1,8 +1,8 @@
 use Rattle.std.proofs.Common.{[], Option, Some, sym, subst}
 use Rattle.lf_verdict.specs.declared.session.ahead.Ahead.{Ahead}
 use Rattle.lf_verdict.specs.declared.session.workers.Workers.{Workers}
-use Rattle.lf_verdict.specs.Ahead.{session_of}
-use Rattle.lf_verdict.specs.Session.{HasTaken}
+use Rattle.lf_verdict.specs.inner.Ahead.{session_of}
+use Rattle.lf_verdict.specs.inner.Fed.{HasTaken}
 use Rattle.lf_verdict.proofs.Aheads.{may_follow, alone, handed}
 use Rattle.lf_verdict.proofs.session.ahead.Ahead.hand_over.Goals as goal
 

@@ -2,7 +2,7 @@ use Rattle.std.proofs.Common.{List, sym, ap, ◌∙◌, subst}
 use Rattle.lf_rules.specs.declared.event.Record.{Record}
 use Rattle.lf_codec.specs.Packed.{PackedRecords}
 use Rattle.lf_verdict.specs.declared.session.ahead.Ahead.{Ahead}
-use Rattle.lf_verdict.specs.Session.{HasTaken}
+use Rattle.lf_verdict.specs.inner.Fed.{HasTaken}
 use Rattle.lf_verdict.specs.inner.Taking.{running_before}
 use Rattle.lf_verdict.proofs.session.ahead.Ahead.next_batch.Goals as goal
 

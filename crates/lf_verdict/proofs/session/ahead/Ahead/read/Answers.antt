@@ -1,6 +1,6 @@
 use Rattle.std.proofs.Common.{rules, refl, ◌++◌, sym}
 use Rattle.lf_codec.specs.Reader.{with_records}
-use Rattle.lf_verdict.specs.Ahead.{lent_records}
+use Rattle.lf_verdict.specs.inner.Ahead.{lent_records}
 use Rattle.lf_verdict.proofs.Refusals.{if_err_from}
 use Rattle.lf_verdict.proofs.Sessions.{packed_stop}
 use Rattle.lf_verdict.proofs.Aheads.{taken_too, reads_more, can_still}

@@ -1,7 +1,7 @@
 use Rattle.std.proofs.Common.{[], sym, subst}
 use Rattle.lf_verdict.specs.declared.session.ahead.Ahead.{Ahead}
 use Rattle.lf_verdict.specs.declared.session.intake.Judging.TheVariants.{Running}
-use Rattle.lf_verdict.specs.Session.{HasTaken}
+use Rattle.lf_verdict.specs.inner.Fed.{HasTaken}
 use Rattle.lf_verdict.proofs.Aheads.{may_follow, judged_next, alone}
 use Rattle.lf_verdict.proofs.session.ahead.Ahead.settle.Goals as goal
 

@@ -1,7 +1,7 @@
 use Rattle.std.proofs.Common.{None, subst}
 use Rattle.lf_rules.specs.Address.{flat_memory}
 use Rattle.lf_verdict.specs.declared.session.intake.Judging.{Judging}
-use Rattle.lf_verdict.specs.Session.{IsJudging}
+use Rattle.lf_verdict.specs.inner.Fed.{IsJudging}
 use Rattle.lf_verdict.specs.inner.Taking.{IsDrained}
 use Rattle.lf_verdict.proofs.Asked.{named_of_all, none_of_all}
 use Rattle.lf_verdict.proofs.Finals.{begins_fed}

@@ -3,12 +3,13 @@ use Rattle.std.specs.Prelude.{IfSome, IfNone}
 use Rattle.lf_verdict.specs.declared.session.intake.Intake.{Intake}
 use Rattle.lf_verdict.specs.declared.session.intake.Judging.{Judging}
 use Rattle.lf_verdict.specs.declared.stop.Stop.{Stop}
-use Rattle.lf_verdict.specs.Session.{IsJudging, IsWatched, HasJudged}
+use Rattle.lf_verdict.specs.inner.Fed.{IsJudging, IsWatched, HasJudged}
 use Rattle.lf_codec.specs.declared.header.Header.{Header}
 use Rattle.lf_verdict.specs.Breaking.{first_offset}
 use Rattle.lf_verdict.specs.inner.Noting.{IsPartBroken}
+use Rattle.lf_verdict.specs.inner.Taking.{IsDrained}
 use Rattle.lf_verdict.specs.declared.session.breaking.Broken.{Broken}
-use Rattle.lf_verdict.specs.Final.{IsUnbrokenSoFar, IsUnbroken}
+use Rattle.lf_verdict.proofs.Asked.{none_of_all}
 use Rattle.lf_verdict.proofs.Breaks.{if_none}
 use Rattle.lf_verdict.proofs.Finals.{begins_fed, begins_fed-header, final_if, earliest_if}
 use Rattle.lf_verdict.proofs.Sessions.{going}
@@ -24,14 +25,8 @@ not_none : (o : Option Stop) → is_some o ≡ true → o ≡ None → ⊥
 not_none None e is = absurd (cc)
 not_none (Some stop) e is = absurd (cc)
 
-unbroken_if : (s : Intake) (bytes : List ℕ) (found : Option Broken)
-    → (s.stop ≡ None → (records : List Record) → HasJudged s bytes records →
-    IfNone found (IsUnbrokenSoFar s bytes s.judging records)) → IfNone found (IsUnbroken s bytes)
-unbroken_if s bytes None f = f
-unbroken_if s bytes (Some found) f = tt
-
 pub returns-then-is_some-clause-none : goal.returns-then-is_some-clause-none
-returns-then-is_some-clause-none c bytes on records judged =
+returns-then-is_some-clause-none c settled on bytes fed =
     absurd (not_none c.args.self.now.stop (sym c.is_some.ensures ∙ c.if-is_some.true) on)
 
 pub returns-in_ok-other_header-in-Waiting-clause-stands : goal.returns-in_ok-other_header-in-Waiting-clause-stands
@@ -85,11 +80,12 @@ returns-in-Running-clause-earliest c turn bytes fed =
     (c.broken.ensures.named (subst IsWatched c.in-Running.is turn.known))
 
 pub returns-in-Running-clause-none : goal.returns-in-Running-clause-none
-returns-in-Running-clause-none c bytes =
+returns-in-Running-clause-none c settled on bytes fed =
     let s = c.args.self.now in
-    unbroken_if s bytes c.broken.result (λ on records judged.
-    let run = subst (λ (j : Judging). IsJudging s.shape s.asked.ordered bytes s.memory.items records j) c.in-Running.is
-    judged.judging in
+    let m = going s bytes on fed in
+    let run = subst (λ (j : Judging). IsJudging s.shape s.asked.ordered bytes s.memory.items m.0 j) c.in-Running.is
+    m.1.judging in
+    let empty = subst (λ (j : Judging). IsDrained j s.reader s.memory.items) c.in-Running.is (settled on) in
     if_none c.broken.result (c.broken.ensures.none (first_offset run.header s.memory.items) s.shape
-    (flat_memory s.memory.items) records run.stands run.watched)
-    (λ none. subst (λ (j : Judging). IsUnbrokenSoFar s bytes j records) (sym c.in-Running.is) none))
+    (flat_memory s.memory.items) m.0 run.stands run.watched)
+    (none_of_all s bytes m.0 m.1 c.read_so_far.ensures c.in-Running.standing run empty)

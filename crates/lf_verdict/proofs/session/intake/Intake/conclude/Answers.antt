@@ -7,7 +7,7 @@ use Rattle.lf_verdict.specs.declared.stop.Stop.{Stop}
 use Rattle.lf_verdict.specs.inner.Ending.{IsVerdictOrWant}
 use Rattle.lf_verdict.specs.Final.{IsFinal, IsEarliest, NoneBrokeInTrace}
 use Rattle.lf_verdict.specs.Incomplete.{IsIncompleteFor}
-use Rattle.lf_verdict.specs.Session.{HasFedUntil}
+use Rattle.lf_verdict.specs.inner.Fed.{HasFedUntil}
 use Rattle.lf_verdict.specs.Verdict.{IsDecided}
 use Rattle.lf_verdict.proofs.Aheads.{still_going}
 use Rattle.lf_verdict.proofs.Breaks.{if_none}
@@ -66,10 +66,11 @@ returns-clause-none c decided bytes fed =
     let s = c.args.self.now in
     let t = c.take_all.new.self in
     let m = c.in_default-take_all.ensures.taken bytes (going s bytes c.in_default.is fed) in
-    if_none c.broken-found.result (c.broken-found.ensures.none bytes) (λ unbroken.
-    subst (λ (shape : Shape). NoneBrokeInTrace shape bytes) c.in_default-take_all.ensures.shape
-    (none_in_trace c.exact_reading.ensures c.read_so_far.ensures t bytes m.0 m.1 c.in_default-take_all.ensures.drained
-    (unbroken (c.in_default-take_all.ensures.stop ∙ c.in_default.is) m.0 m.1)))
+    let on = c.in_default-take_all.ensures.stop ∙ c.in_default.is in
+    if_none c.broken-found.result
+    (c.broken-found.ensures.none (λ _. c.in_default-take_all.ensures.drained) on bytes (still_going t bytes on m))
+    (λ none. subst (λ (shape : Shape). NoneBrokeInTrace shape bytes) c.in_default-take_all.ensures.shape
+    (none_in_trace c.exact_reading.ensures t.shape bytes m.1.read.are_bytes none))
 
 pub returns-clause-incomplete : goal.returns-clause-incomplete
 returns-clause-incomplete c bytes fed =

@@ -1,6 +1,6 @@
 use Rattle.std.proofs.Common.{◌++◌, Option, take, refl, sym, ◌∙◌, subst, arith}
 use Rattle.lf_verdict.specs.declared.stop.Stop.{Stop}
-use Rattle.lf_verdict.specs.Session.{HasFedUntil}
+use Rattle.lf_verdict.specs.inner.Fed.{HasFedUntil}
 use Rattle.lf_verdict.proofs.Feeding.{fed_nothing, fed_more, fed_rest, fed_all, rest_len, told_going}
 use Rattle.lf_verdict.proofs.Sessions.{stop_stays}
 use Rattle.lf_verdict.proofs.session.intake.Intake.feed.Goals as goal
@@ -20,6 +20,7 @@ loop-at-init c = record {
   asked = refl;
   going = c.in_default.is;
   in_turn = λ turn. turn;
+  settled = λ settled. settled;
   fed = λ bytes fed. fed_nothing c.args.self.now bytes fed;
 }
 
@@ -38,6 +39,7 @@ loop-at-preserved c = record {
   going = told_going c.loop-at.self.stop c.feed_part.new.self.stop c.loop-at.invariant.going
       (sym c.in-Ok.ensures.told);
   in_turn = λ turn. c.in-Ok.ensures.in_turn (c.loop-at.invariant.in_turn turn);
+  settled = λ _. c.in-Ok.ensures.settled;
   fed = λ bytes fed. fed_more c.feed_part.new.self bytes c.args.piece.now c.loop-at.at c.in-Ok.n
       (c.in-Ok.ensures.fed (bytes ++ take c.loop-at.at c.args.piece.now) (c.loop-at.invariant.fed bytes fed));
 }

@@ -1,5 +1,6 @@
 use Rattle.std.proofs.Common.{◌≡◌, ◌≤◌, ◌-◌, ◌++◌, ℕ, List, length, take, None}
-use Rattle.lf_verdict.specs.Session.{HasFed, IsInTurn}
+use Rattle.lf_verdict.specs.inner.Fed.{HasFed, IsInTurn}
+use Rattle.lf_verdict.specs.inner.Taking.{IsSettled}
 use Rattle.lf_verdict.proofs.session.intake.Intake.feed.Given as goal
 
 abbrev pub invariant-loop-at : goal.invariant-loop-at
@@ -9,6 +10,7 @@ invariant-loop-at l = record {
   asked : l.self.asked ≡ l.fn.self.asked;
   going : l.self.stop ≡ None;
   in_turn : IsInTurn l.fn.self → IsInTurn l.self;
+  settled : IsSettled l.fn.self → IsSettled l.self;
   fed : (bytes : List ℕ) → HasFed l.fn.self bytes → HasFed l.self (bytes ++ take l.at l.piece);
 }
 

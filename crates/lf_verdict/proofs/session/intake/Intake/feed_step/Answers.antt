@@ -3,7 +3,7 @@ use Rattle.std.proofs.lemmas.List.{take-append-drop}
 use Rattle.lf_codec.proofs.Numbers.{IsBytes-drop}
 use Rattle.lf_verdict.specs.declared.session.intake.Intake.{Intake}
 use Rattle.lf_verdict.specs.declared.stop.Stop.{Stop}
-use Rattle.lf_verdict.specs.Session.{HasFed, HasFedUntil}
+use Rattle.lf_verdict.specs.inner.Fed.{HasFed, HasFedUntil}
 use Rattle.lf_verdict.proofs.Pieces.{told_fine}
 use Rattle.lf_verdict.proofs.Sessions.{going, read_stop, stop_stays, judged_feed}
 use Rattle.lf_verdict.proofs.session.intake.Intake.feed_step.Goals as goal

@@ -7,7 +7,7 @@ use Rattle.lf_verdict.specs.declared.answer.Verdict.TheVariants.{Refused}
 use Rattle.lf_verdict.specs.declared.session.intake.Judging.{Judging}
 use Rattle.lf_verdict.specs.declared.session.standing.verdict.Judged.{Judged}
 use Rattle.lf_verdict.specs.inner.Ending.{IsVerdictOrWant}
-use Rattle.lf_verdict.specs.Session.{IsJudging}
+use Rattle.lf_verdict.specs.inner.Fed.{IsJudging}
 use Rattle.lf_verdict.specs.inner.Taking.{IsDrained}
 use Rattle.lf_verdict.specs.inner.Coming.{logs_so_far}
 use Rattle.lf_verdict.proofs.Answered.{of_logs}

@@ -6,7 +6,7 @@ use Rattle.lf_verdict.specs.declared.answer.Refusal.{Refusal}
 use Rattle.lf_verdict.specs.declared.answer.Verdict.TheVariants.{Refused}
 use Rattle.lf_verdict.specs.declared.session.intake.Judging.{Judging}
 use Rattle.lf_verdict.specs.inner.Ending.{IsUnorderedOrWant}
-use Rattle.lf_verdict.specs.Session.{IsJudging}
+use Rattle.lf_verdict.specs.inner.Fed.{IsJudging}
 use Rattle.lf_verdict.specs.inner.Taking.{IsDrained}
 use Rattle.lf_verdict.specs.inner.Coming.{logs_so_far}
 use Rattle.lf_verdict.proofs.Pieces.{finish_failed}

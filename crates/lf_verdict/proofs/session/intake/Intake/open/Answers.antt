@@ -3,7 +3,7 @@ use Rattle.lf_rules.specs.declared.event.Record.{Record}
 use Rattle.lf_codec.specs.Reading.{header_of}
 use Rattle.lf_verdict.specs.declared.session.intake.Intake.{Intake}
 use Rattle.lf_verdict.specs.declared.session.intake.Judging.{Judging}
-use Rattle.lf_verdict.specs.Session.{HasTaken, IsJudging, IsRunning}
+use Rattle.lf_verdict.specs.inner.Fed.{HasTaken, IsJudging, IsRunning}
 use Rattle.lf_verdict.proofs.Lengths.{opened}
 use Rattle.lf_verdict.proofs.Sessions.{on_ok}
 use Rattle.lf_verdict.proofs.session.intake.Intake.open.Goals as goal

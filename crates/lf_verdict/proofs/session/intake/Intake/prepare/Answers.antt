@@ -1,6 +1,6 @@
 use Rattle.std.proofs.Common.{sym, ap, ◌∙◌, subst}
 use Rattle.lf_verdict.specs.declared.session.asked.Asked.{Asked}
-use Rattle.lf_verdict.specs.Session.{IsCounting, IsWatched}
+use Rattle.lf_verdict.specs.inner.Fed.{IsCounting, IsWatched}
 use Rattle.lf_verdict.proofs.session.intake.Intake.prepare.Goals as goal
 
 pub returns-in_err-take_memory-clause-in_turn : goal.returns-in_err-take_memory-clause-in_turn

@@ -1,6 +1,6 @@
 use Rattle.std.proofs.Common.{◌≡◌, ℕ, List, length}
 use Rattle.lf_verdict.specs.declared.session.intake.Judging.TheVariants.{Waiting}
-use Rattle.lf_verdict.specs.Session.{HasTaken}
+use Rattle.lf_verdict.specs.inner.Fed.{HasTaken}
 use Rattle.lf_verdict.proofs.session.intake.Intake.take_memory.Given as goal
 
 abbrev pub invariant-loop-item : goal.invariant-loop-item

@@ -1,0 +1,20 @@
+use Rattle.std.proofs.Common.{◌≡◌, None, ◌∙◌, rules}
+use Rattle.std.specs.Cmp.{nat_eq_equiv}
+use Rattle.std.specs.Map.Iter.{deref_pair}
+use Rattle.std.proofs.lemmas.Map.Iter.{hash_map_turn}
+use Rattle.bank_state.proofs.NearBlocks.{at}
+use Rattle.bank_state.proofs.TwoParts.{copied, none_found}
+use Rattle.bank_state.proofs.memory.copy_near.Goals as goal
+
+pub loop-block-preserved-then-is_none : goal.loop-block-preserved-then-is_none
+loop-block-preserved-then-is_none c =
+    let far = c.args.far.now in
+    let gives = c.into_iter-block-iterator.ensures.into_iter_gives in
+    let turn = hash_map_turn deref_pair c.loop-block.yielded c.into_iter-block-iterator.result
+    c.loop-block.block-iterator c.next.new.self c.next.result (c.in-Some.block, c.in-Some.bytes)
+    c.loop-block.yielded_by c.in-Some.is c.next.ensures.steps nat_eq_equiv far
+    (search (gives, rules)) (search (gives, rules)) in
+    let none : at c.in-Some.block.now c.loop-block.near ≡ None =
+    none_found c.get.result _ c.get.ensures c.if-is_none.ensures in
+    copied c.loop-block.near c.add.new.self far.entries c.in-Some.block.now c.in-Some.bytes.now none turn.1
+    c.add.result c.add.ensures.added (λ no. (c.add.ensures.other no).0) ∙ c.loop-block.invariant

@@ -1,0 +1,5 @@
+use Rattle.std.proofs.Common.{◌≡◌}
+use Rattle.bank_tests.proofs.steps.applied.Given as goal
+
+abbrev pub invariant-loop-turn : goal.invariant-loop-turn
+invariant-loop-turn l = record { same_shape : l.step.state.shape ≡ l.shape; first_bank : l.step.bank ≡ 0 }

@@ -1,0 +1,96 @@
+//! `score check CONFIG TRACE`.
+
+use crate::Request;
+use crate::argument::{Argument, COMPLETE, CONFIG, PROGRESS, TRACE, Takes};
+use crate::files::{LEFT_OUT, files_of};
+use clap::ArgMatches;
+
+/// What the help says of `check`.
+pub const ABOUT: &str = "Judges a trace for the hierarchy of a configuration, and prints one line";
+
+/// What the help says after the arguments.
+pub const HELP: &str = "\
+Answers:
+  yes events=6                       some order of all events is a legal run
+  no port=0 event=1 rule=TagBusy     the port's event of this place breaks
+                                     the rule
+  no bank=0 number=5 rule=ReplyData  the bank's event of this number breaks
+                                     the rule
+  no numbering bank=0 missing=2      no event of the bank has this number
+  no numbering bank=0 double=2       two events of the bank have it
+  no cycle logs=0,1                  the logs wait for one another
+  no incomplete port=0 tag=3         with --complete alone: the tag's last
+                                     request has no reply in the trace
+  refused format Truncated at=16     the record or header at byte 16 is wrong
+  refused header Ports               the trace is one of another hierarchy
+  refused config Missing tags        the configuration is not valid
+  refused read trace                 the file cannot be read
+  refused read config                the file cannot be read, or has more
+                                     than 1 MiB
+  refused workers 17                 there are 1 to 16
+  refused usage                      the command line is wrong
+  refused memory                     there is not enough memory
+
+Places, numbers, ports, banks and logs count from 0. docs/RULES.md has
+each rule, docs/GUIDE.md what usually breaks it.
+
+A trace may end anywhere, so the trace of a design that hangs can be legal.
+With --complete, each request of a legal trace must also have a reply. The
+line names the lowest port and its lowest tag without one. One thread judges
+the trace then.
+
+With --progress, standard error gets a line for each twentieth of a file,
+or for each 64 MiB of a TRACE whose size is not known. If it is a terminal,
+that is one line, which is written over and cleared before the answer.
+
+If standard error is a terminal and the answer is refused, a line there says
+what was wrong. Without --progress nothing else is written there.
+
+Exit status:
+  0  yes
+  1  no
+  2  refused
+
+Examples:
+  score check small.toml run.lfts
+  score check --complete small.toml run.lfts
+  score check --workers 4 --progress small.toml run.lfts
+  zstd -dc run.lfts.zst | score check small.toml -";
+
+/// How a trace is judged.
+#[derive(Clone, Copy)]
+pub struct CheckOptions {
+    /// So many threads judge it.
+    pub workers: u16,
+    /// Each request has to have a reply.
+    pub complete: bool,
+    /// Standard error is told how far it is.
+    pub progress: bool,
+}
+
+pub const ARGUMENTS: &[Argument] = &[
+    CONFIG,
+    TRACE,
+    Argument {
+        name: "workers",
+        takes: Takes::U16,
+        value: "N",
+        default: "1",
+        help: "How many threads judge the trace, 1 to 16",
+    },
+    COMPLETE,
+    PROGRESS,
+];
+
+pub fn request<'a>(matches: &ArgMatches<'a>) -> Result<Request<'a>, &'static str> {
+    let (config, trace) = files_of(matches)?;
+    Ok(Request::Check {
+        config,
+        trace,
+        options: CheckOptions {
+            workers: matches.get_one::<u16>("workers").ok_or(LEFT_OUT)?,
+            complete: matches.get_flag("complete"),
+            progress: matches.get_flag("progress"),
+        },
+    })
+}

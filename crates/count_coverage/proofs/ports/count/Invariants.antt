@@ -1,0 +1,11 @@
+use Rattle.std.proofs.Common.{◌≡◌, ℕ, ◌+◌, ◌<◌, ◌≤◌, cond, get_or}
+use Rattle.count_coverage.specs.Points.{port_reaches}
+use Rattle.count_coverage.specs.Counted.{port_point_at}
+use Rattle.count_coverage.proofs.ports.count.Given as goal
+
+abbrev pub invariant-loop-i : goal.invariant-loop-i
+invariant-loop-i l = record {
+  done : (n : ℕ) → n < l.i
+      → get_or l.counts n 0 ≡ get_or l.initial.counts n 0 + cond (port_reaches (port_point_at n) l.item.event) 1 0;
+  rest : (n : ℕ) → l.i ≤ n → get_or l.counts n 0 ≡ get_or l.initial.counts n 0;
+}

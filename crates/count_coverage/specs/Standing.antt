@@ -1,0 +1,135 @@
+-- What a bank's records, in the order of their numbers, leave for the records behind them.
+use Rattle.std.specs.Prelude.{ℕ, zero, suc, ◌/◌, Bool, true, false, not, ◌&&◌, ◌||◌, ◌==◌, if◌then◌else◌}
+use Rattle.std.specs.Prelude.{List, [], ◌∷◌, ◌++◌, filter, fold, length, slice_get, Option, Some, None}
+use Rattle.std.specs.List.{list_any}
+use Rattle.lf_rules.specs.declared.shape.Shape.{Shape}
+use Rattle.lf_rules.specs.declared.event.Op.{Op}
+use Rattle.lf_rules.specs.declared.event.Op.TheVariants.{Load, Store}
+use Rattle.lf_rules.specs.declared.event.Record.{Record}
+use Rattle.lf_rules.specs.declared.event.Event.{Event}
+use Rattle.lf_rules.specs.declared.event.Event.TheVariants.{Issue, Primary, Merge, Fill1, Evict1}
+use Rattle.lf_rules.specs.declared.event.Event.TheVariants.{SecondPrimary, SecondMerge, Fill2, Evict2}
+use Rattle.lf_rules.specs.Address.{block_of, offset_of, second_of}
+use Rattle.count_coverage.specs.declared.request.Request.{Request}
+use Rattle.count_coverage.specs.Kinds.{dirty_blocks}
+
+pub record Standing : Type 0 where
+  -- the latest request of each port and tag
+  pub latest : ℕ → ℕ → Option Request
+  -- the requests that missed and wait for level one to get their block, in the order of their misses
+  pub waiting : List Request
+  -- has level one given up the block with a dirty byte?
+  pub written : ℕ → Bool
+  -- the second-level blocks of the misses that wait for level two, in the order of these misses
+  pub waiting2 : List ℕ
+  -- has level two given up the second-level block with a dirty byte?
+  pub written2 : ℕ → Bool
+
+-- ---- the latest request of a port and a tag
+
+abbrev pub request_of : Shape → Op → ℕ → Request
+request_of shape op address = record { op = op; block = block_of shape address; field = offset_of shape address / 8 }
+
+abbrev pub issued_with : Shape → Event → ℕ → Option Request → Option Request
+issued_with shape (Issue op t size address bytes) tag before =
+    if t == tag then Some (request_of shape op address) else before
+issued_with shape _ tag before = before
+
+-- that of the record, where the port issues it with the tag, and otherwise the one before
+abbrev pub latest_after : Shape → Record → ℕ → ℕ → Option Request → Option Request
+latest_after shape r port tag before = if r.log == port then issued_with shape r.event tag before else before
+
+-- ---- the requests that wait
+
+abbrev pub with_request : Option Request → List Request → List Request
+with_request None waiting = waiting
+with_request (Some request) waiting = waiting ++ request ∷ []
+
+-- a miss waits until level one gets its block
+abbrev pub waiting_after : (ℕ → ℕ → Option Request) → Event → List Request → List Request
+waiting_after latest (Primary port tag register) waiting = with_request (latest port tag) waiting
+waiting_after latest (Merge port tag register) waiting = with_request (latest port tag) waiting
+waiting_after latest (Fill1 block bytes) waiting = filter (λ request. not (request.block == block)) waiting
+waiting_after latest _ waiting = waiting
+
+-- the kind of the last of these that asks for the block
+abbrev pub last_kind : ℕ → List Request → Option Op
+last_kind block waiting = fold (λ last request. if request.block == block then Some request.op else last) None waiting
+
+-- does one of these ask for the block?
+abbrev pub waits_for : ℕ → List Request → Bool
+waits_for block waiting = list_any (λ request. request.block == block) waiting
+
+-- how many of these ask for the block
+abbrev pub targets : ℕ → List Request → ℕ
+targets block waiting = length (filter (λ request. request.block == block) waiting)
+
+-- does the first of these ask for another block?
+abbrev pub is_behind_others : ℕ → List Request → Bool
+is_behind_others block [] = false
+is_behind_others block (oldest ∷ waiting) = not (oldest.block == block)
+
+abbrev pub is_store : Op → Bool
+is_store Load = false
+is_store Store = true
+
+-- is one of these a store to the block?
+abbrev pub has_store : ℕ → List Request → Bool
+has_store block waiting = list_any (λ request. request.block == block && is_store request.op) waiting
+
+-- ---- the misses of level two that wait
+
+-- a miss waits until level two gets its second-level block
+abbrev pub waiting2_after : Shape → Event → List ℕ → List ℕ
+waiting2_after shape (SecondPrimary block register) waiting = waiting ++ second_of shape block ∷ []
+waiting2_after shape (SecondMerge block register) waiting = waiting ++ second_of shape block ∷ []
+waiting2_after shape (Fill2 second bytes) waiting = filter (λ other. not (other == second)) waiting
+waiting2_after shape _ waiting = waiting
+
+-- does one of these ask for the second-level block?
+abbrev pub waits_for2 : ℕ → List ℕ → Bool
+waits_for2 second waiting = list_any (λ other. other == second) waiting
+
+-- how many of these ask for the second-level block
+abbrev pub targets2 : ℕ → List ℕ → ℕ
+targets2 second waiting = length (filter (λ other. other == second) waiting)
+
+-- ---- blocks that were written back
+
+abbrev pub writes_back : Event → ℕ → Bool
+writes_back (Evict1 block mask bytes) b = block == b && not (mask.0 == 0)
+writes_back _ b = false
+
+abbrev pub writes_back2 : Event → ℕ → Bool
+writes_back2 (Evict2 second masks bytes) s = second == s && not (dirty_blocks masks.items == 0)
+writes_back2 _ s = false
+
+-- ---- all of these
+
+abbrev pub at_first : Standing
+at_first = record {
+  latest = λ port tag. None;
+  waiting = [];
+  written = λ block. false;
+  waiting2 = [];
+  written2 = λ second. false;
+}
+
+-- after one more record
+abbrev pub standing_after : Shape → Record → Standing → Standing
+standing_after shape r s = record {
+  latest = λ port tag. latest_after shape r port tag (s.latest port tag);
+  waiting = waiting_after s.latest r.event s.waiting;
+  written = λ block. writes_back r.event block || s.written block;
+  waiting2 = waiting2_after shape r.event s.waiting2;
+  written2 = λ second. writes_back2 r.event second || s.written2 second;
+}
+
+abbrev pub after_if : Shape → Option Record → Standing → Standing
+after_if shape None s = s
+after_if shape (Some r) s = standing_after shape r s
+
+-- after the first n records
+abbrev pub standing : Shape → List Record → ℕ → Standing
+standing shape rs zero = at_first
+standing shape rs (suc n) = after_if shape (slice_get rs n) (standing shape rs n)

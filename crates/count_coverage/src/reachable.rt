@@ -1,0 +1,211 @@
+//! The points that a hierarchy can reach.
+
+ghost use Rattle.std.specs.Prelude.{◌≡◌};
+ghost use Rattle.lf_rules.specs.InRange.{IsShape};
+ghost use Rattle.count_coverage.specs.Reachable.{requests, most_held, joins, can_merge, most_targets, fields};
+ghost use Rattle.count_coverage.specs.Reachable.{exceeds_registers, exceeds_entries, exceeds_field, can_stall};
+ghost use Rattle.count_coverage.specs.Reachable.{joins2, can_merge2, most_asked, most_targets2, can_stall2};
+ghost use Rattle.count_coverage.specs.Reachable.{can_have, can_reach};
+
+use crate::point::{BankPoint, Measure};
+use crate::reach::is_implicit;
+use lf_rules::{OrgShape, Shape};
+
+/// How many requests can be outstanding at once.
+fn requests(shape: &Shape) -> u32
+    requires { IsShape shape.now }
+    ensures { result ≡ requests shape.now }
+{
+    shape.ports * shape.tags
+}
+
+/// How many registers of level one can be held at once.
+fn most_held(shape: &Shape) -> u32
+    requires { IsShape shape.now }
+    ensures { result ≡ most_held shape.now }
+{
+    let requests = requests(shape);
+    match shape.level1.organisation {
+        OrgShape::Implicit { registers } | OrgShape::Explicit { registers, .. } => {
+            registers.min(requests)
+        }
+        OrgShape::Inverted => requests,
+    }
+}
+
+/// Whether a register of level one can take a second target.
+fn joins(organisation: &OrgShape, size: u32) -> bool
+    ensures { result ≡ joins organisation.now size }
+{
+    match *organisation {
+        OrgShape::Implicit { .. } => 8 < size,
+        OrgShape::Explicit { entries, .. } => 1 < entries,
+        OrgShape::Inverted => true,
+    }
+}
+
+fn can_merge(shape: &Shape) -> bool
+    requires { IsShape shape.now }
+    ensures { result ≡ can_merge shape.now }
+{
+    1 < requests(shape) && joins(&shape.level1.organisation, shape.block)
+}
+
+/// How many targets a register of level one can take, of so many requests.
+fn most_targets(organisation: &OrgShape, size: u32, requests: u32) -> u32
+    ensures { result ≡ most_targets organisation.now size requests }
+{
+    match *organisation {
+        OrgShape::Implicit { .. } => (size / 8).min(requests),
+        OrgShape::Explicit { entries, .. } => entries.min(requests),
+        OrgShape::Inverted => requests,
+    }
+}
+
+/// How many fields a register of level one has.
+fn fields(organisation: &OrgShape, size: u32) -> u32
+    ensures { result ≡ fields organisation.now size }
+{
+    match *organisation {
+        OrgShape::Implicit { .. } => size / 8,
+        _ => 0,
+    }
+}
+
+/// Whether so many blocks can ask for more registers than there are.
+fn exceeds_registers(organisation: &OrgShape, most: u32) -> bool
+    ensures { result ≡ exceeds_registers organisation.now most }
+{
+    match *organisation {
+        OrgShape::Implicit { registers } | OrgShape::Explicit { registers, .. } => registers < most,
+        OrgShape::Inverted => false,
+    }
+}
+
+/// Whether so many requests for one block can ask for more entries than there are.
+fn exceeds_entries(organisation: &OrgShape, most: u32) -> bool
+    ensures { result ≡ exceeds_entries organisation.now most }
+{
+    match *organisation {
+        OrgShape::Explicit { entries, .. } => entries < most,
+        _ => false,
+    }
+}
+
+/// Whether so many requests for one block can ask for one field.
+fn exceeds_field(organisation: &OrgShape, most: u32) -> bool
+    ensures { result ≡ exceeds_field organisation.now most }
+{
+    match *organisation {
+        OrgShape::Implicit { .. } => 1 < most,
+        _ => false,
+    }
+}
+
+/// Whether a miss of level one can find no room.
+fn can_stall(organisation: &OrgShape, most: u32) -> bool
+    ensures { result ≡ can_stall organisation.now most }
+{
+    exceeds_registers(organisation, most)
+        || exceeds_entries(organisation, most)
+        || exceeds_field(organisation, most)
+}
+
+/// Whether a register of level two can take a second target.
+fn joins2(organisation: &OrgShape) -> bool
+    ensures { result ≡ joins2 organisation.now }
+{
+    match *organisation {
+        OrgShape::Explicit { entries, .. } => 1 < entries,
+        _ => true,
+    }
+}
+
+fn can_merge2(shape: &Shape) -> bool
+    requires { IsShape shape.now }
+    ensures { result ≡ can_merge2 shape.now }
+{
+    1 < shape.factor && 1 < most_held(shape) && joins2(&shape.level2.organisation)
+}
+
+/// How many blocks of a second-level block level two can be asked for at once.
+fn most_asked(shape: &Shape) -> u32
+    requires { IsShape shape.now }
+    ensures { result ≡ most_asked shape.now }
+{
+    shape.factor.min(most_held(shape))
+}
+
+/// How many targets a register of level two can take, of so many blocks.
+fn most_targets2(organisation: &OrgShape, asked: u32) -> u32
+    ensures { result ≡ most_targets2 organisation.now asked }
+{
+    match *organisation {
+        OrgShape::Explicit { entries, .. } => entries.min(asked),
+        _ => asked,
+    }
+}
+
+/// Whether a miss of level two can find no room.
+fn can_stall2(shape: &Shape) -> bool
+    requires { IsShape shape.now }
+    ensures { result ≡ can_stall2 shape.now }
+{
+    let organisation = &shape.level2.organisation;
+    exceeds_registers(organisation, most_held(shape))
+        || exceeds_entries(organisation, most_asked(shape))
+}
+
+/// Whether an event can have the number.
+fn can_have(shape: &Shape, measure: Measure, number: u32) -> bool
+    requires { IsShape shape.now }
+    ensures { result ≡ can_have shape.now measure number }
+{
+    match measure {
+        Measure::DirtyBlocks => number <= shape.factor,
+        Measure::Registers => 1 <= number && number <= most_held(shape),
+        Measure::Targets => {
+            let most = most_targets(&shape.level1.organisation, shape.block, requests(shape));
+            2 <= number && number <= 16 && number <= most
+        }
+        Measure::Field => number < fields(&shape.level1.organisation, shape.block),
+        Measure::MergePort => can_merge(shape) && number < shape.ports,
+        Measure::SecondTargets => {
+            let most = most_targets2(&shape.level2.organisation, most_asked(shape));
+            2 <= number && number <= most
+        }
+        Measure::SecondField => is_implicit(&shape.level2.organisation) && number < shape.factor,
+    }
+}
+
+/// Whether a bank can reach the point.
+pub(crate) fn can_reach(shape: &Shape, point: BankPoint) -> bool
+    requires { IsShape shape.now }
+    ensures { result ≡ can_reach shape.now point }
+{
+    match point {
+        BankPoint::Merge
+        | BankPoint::LoadBehindLoad
+        | BankPoint::LoadBehindStore
+        | BankPoint::StoreBehindLoad
+        | BankPoint::StoreBehindStore => can_merge(shape),
+        BankPoint::Stall => can_stall(&shape.level1.organisation, requests(shape)),
+        BankPoint::StallNoRegister => {
+            exceeds_registers(&shape.level1.organisation, requests(shape))
+        }
+        BankPoint::StallNoEntry => exceeds_entries(&shape.level1.organisation, requests(shape)),
+        BankPoint::StallField => exceeds_field(&shape.level1.organisation, requests(shape)),
+        BankPoint::HitUnderMiss => 1 < requests(shape),
+        BankPoint::SecondMerge => can_merge2(shape),
+        BankPoint::SecondStall => can_stall2(shape),
+        BankPoint::SecondStallNoRegister => {
+            exceeds_registers(&shape.level2.organisation, most_held(shape))
+        }
+        BankPoint::SecondStallNoEntry => {
+            exceeds_entries(&shape.level2.organisation, most_asked(shape))
+        }
+        BankPoint::FillOutOfOrder => 1 < most_held(shape),
+        BankPoint::Numbered(measure, number) => can_have(shape, measure, number),
+        _ => true,
+    }
+}

@@ -1,0 +1,189 @@
+//! What the records before an event say of it.
+
+ghost use Rattle.std.specs.Prelude.{◌≡◌};
+ghost use Rattle.count_coverage.specs.Sights.{load_behind_load, load_behind_store, store_behind_load, store_behind_store};
+ghost use Rattle.count_coverage.specs.Sights.{lacks_register, lacks_place, lacks_register2, lacks_place2};
+ghost use Rattle.count_coverage.specs.Sights.{is_refetch, is_refetch2, overtakes, is_over_stores};
+ghost use Rattle.count_coverage.specs.Sights.{targets_made, field_taken, targets_made2};
+
+use lf_rules::Op;
+
+/// What the records before an event say of it.
+#[derive(Clone, Copy, PartialEq, Eq)]
+pub(crate) enum Sight {
+    /// Nothing that a point asks for.
+    Plain,
+    /// A miss joins others: the kinds of its request and of the last one before it, how many wait then, and its field.
+    Joined {
+        op: Op,
+        behind: Op,
+        targets: u32,
+        field: u32,
+    },
+    /// A miss takes a register, for a block that was written back before or not, and its field.
+    Taken {
+        again: bool,
+        field: u32,
+    },
+    /// A miss finds no room, and a register holds its block or none does.
+    Stalled {
+        held: bool,
+    },
+    /// Level one gets a block: before one that was asked for earlier or not, with stores that wait for it or not.
+    Filled {
+        early: bool,
+        stores: bool,
+    },
+    /// A miss of level two joins others, and how many wait then.
+    SecondJoined {
+        targets: u32,
+    },
+    /// A miss of level two takes a register, for a second-level block that was written back before or not.
+    SecondTaken {
+        again: bool,
+    },
+    /// A miss of level two finds no room, and a register holds its second-level block or none does.
+    SecondStalled {
+        held: bool,
+    },
+}
+
+impl Sight {
+    pub fn load_behind_load(self) -> bool
+        ensures { result ≡ load_behind_load self }
+    {
+        matches!(
+            self,
+            Sight::Joined {
+                op: Op::Load,
+                behind: Op::Load,
+                ..
+            }
+        )
+    }
+
+    pub fn load_behind_store(self) -> bool
+        ensures { result ≡ load_behind_store self }
+    {
+        matches!(
+            self,
+            Sight::Joined {
+                op: Op::Load,
+                behind: Op::Store,
+                ..
+            }
+        )
+    }
+
+    pub fn store_behind_load(self) -> bool
+        ensures { result ≡ store_behind_load self }
+    {
+        matches!(
+            self,
+            Sight::Joined {
+                op: Op::Store,
+                behind: Op::Load,
+                ..
+            }
+        )
+    }
+
+    pub fn store_behind_store(self) -> bool
+        ensures { result ≡ store_behind_store self }
+    {
+        matches!(
+            self,
+            Sight::Joined {
+                op: Op::Store,
+                behind: Op::Store,
+                ..
+            }
+        )
+    }
+
+    /// A miss takes a register for a block that was written back.
+    pub fn is_refetch(self) -> bool
+        ensures { result ≡ is_refetch self }
+    {
+        matches!(self, Sight::Taken { again: true, .. })
+    }
+
+    /// Level one gets a block before one that was asked for earlier.
+    pub fn overtakes(self) -> bool
+        ensures { result ≡ overtakes self }
+    {
+        matches!(self, Sight::Filled { early: true, .. })
+    }
+
+    /// Level one gets a block that a store waits for.
+    pub fn is_over_stores(self) -> bool
+        ensures { result ≡ is_over_stores self }
+    {
+        matches!(self, Sight::Filled { stores: true, .. })
+    }
+
+    /// A miss finds no room, and no register holds its block.
+    pub fn lacks_register(self) -> bool
+        ensures { result ≡ lacks_register self }
+    {
+        matches!(self, Sight::Stalled { held: false })
+    }
+
+    /// A miss finds no room in the register that holds its block.
+    pub fn lacks_place(self) -> bool
+        ensures { result ≡ lacks_place self }
+    {
+        matches!(self, Sight::Stalled { held: true })
+    }
+
+    /// A miss of level two finds no room, and no register holds its second-level block.
+    pub fn lacks_register2(self) -> bool
+        ensures { result ≡ lacks_register2 self }
+    {
+        matches!(self, Sight::SecondStalled { held: false })
+    }
+
+    /// A miss of level two finds no room in the register that holds its second-level block.
+    pub fn lacks_place2(self) -> bool
+        ensures { result ≡ lacks_place2 self }
+    {
+        matches!(self, Sight::SecondStalled { held: true })
+    }
+
+    /// A miss takes a register of level two for a second-level block that was written back.
+    pub fn is_refetch2(self) -> bool
+        ensures { result ≡ is_refetch2 self }
+    {
+        matches!(self, Sight::SecondTaken { again: true })
+    }
+
+    /// How many requests wait for a block, where a miss joins them.
+    pub fn targets_made(self) -> Option<u32>
+        ensures { result ≡ targets_made self }
+    {
+        match self {
+            Sight::Joined { targets, .. } => Some(targets),
+            _ => None,
+        }
+    }
+
+    /// The field that a miss takes.
+    pub fn field_taken(self) -> Option<u32>
+        ensures { result ≡ field_taken self }
+    {
+        match self {
+            Sight::Joined { field, .. } | Sight::Taken { field, .. } => Some(field),
+            _ => None,
+        }
+    }
+
+    /// How many misses of level two wait for a second-level block, where one joins them.
+    pub fn targets_made2(self) -> Option<u32>
+        ensures { result ≡ targets_made2 self }
+    {
+        match self {
+            Sight::SecondJoined { targets } => Some(targets),
+            _ => None,
+        }
+    }
+}

@@ -1,0 +1,319 @@
+//! What a bank's records so far say of the next one.
+
+ghost use Rattle.std.specs.Prelude.{◌≡◌, ℕ, ◌+◌, ◌<◌, ◌^◌, not, ◌||◌, ◌==◌};
+ghost use Rattle.std.specs.Prelude.{length, filter, IfOk, OnOk, vec_len};
+ghost use Rattle.count_coverage.specs.Standing.{Standing, at_first, standing_after, waiting_after, writes_back};
+ghost use Rattle.count_coverage.specs.Standing.{last_kind, waits_for, targets, is_behind_others, has_store};
+ghost use Rattle.count_coverage.specs.Standing.{waiting2_after, waits_for2, targets2, writes_back2};
+ghost use Rattle.count_coverage.specs.Sights.{joined, joined_if, taken_if, stalled_if, filled, sight_by};
+ghost use Rattle.count_coverage.specs.Kept.{IsKept, is_in};
+
+use crate::reach::dirty_blocks;
+use crate::request::{Request, Requests};
+use crate::sight::Sight;
+use lf_rules::{NoMemory, Op, Shape, quotient};
+use std::alloc::Global;
+use std::collections::HashSet;
+use trace_views::{EventView, RecordView};
+
+/// The kind of the last of these that asks for the block.
+fn last_kind(waiting: &[Request], block: u64) -> Option<Op>
+    ensures { result ≡ last_kind block waiting.now }
+{
+    let mut last = None;
+    for request in waiting {
+        if request.block == block {
+            last = Some(request.op);
+        }
+    }
+    last
+}
+
+/// Whether one of these asks for the block.
+fn waits_for(waiting: &[Request], block: u64) -> bool
+    ensures { result ≡ waits_for block waiting.now }
+{
+    waiting.iter().any(|request| request.block == block)
+}
+
+/// How many of these ask for the block.
+fn targets(waiting: &[Request], block: u64) -> usize
+    ensures { result ≡ targets block waiting.now }
+{
+    waiting
+        .iter()
+        .filter(|request| request.block == block)
+        .count()
+}
+
+/// Whether the first of these asks for another block.
+fn is_behind_others(waiting: &[Request], block: u64) -> bool
+    ensures { result ≡ is_behind_others block waiting.now }
+{
+    match waiting {
+        [oldest, ..] => oldest.block != block,
+        [] => false,
+    }
+}
+
+/// Whether one of these is a store to the block.
+fn has_store(waiting: &[Request], block: u64) -> bool
+    ensures { result ≡ has_store block waiting.now }
+{
+    waiting.iter().any(|request| request.block == block && matches!(request.op, Op::Store))
+}
+
+/// What is seen of a miss that joins others.
+fn joined(waiting: &[Request], request: Request) -> Sight
+    requires few { length waiting.now < 2 ^ 29 }
+    ensures { result ≡ joined waiting.now request }
+{
+    match last_kind(waiting, request.block) {
+        Some(behind) => Sight::Joined {
+            op: request.op,
+            behind,
+            targets: targets(waiting, request.block) as u32 + 1,
+            field: request.field,
+        },
+        None => Sight::Plain,
+    }
+}
+
+/// What a merge with this request is, where the request is known.
+fn joined_if(waiting: &[Request], request: Option<Request>) -> Sight
+    requires few { length waiting.now < 2 ^ 29 }
+    ensures { result ≡ joined_if waiting.now request }
+{
+    match request {
+        Some(request) => joined(waiting, request),
+        None => Sight::Plain,
+    }
+}
+
+/// What is seen of a miss that finds no room.
+fn stalled_if(waiting: &[Request], request: Option<Request>) -> Sight
+    ensures { result ≡ stalled_if waiting.now request }
+{
+    match request {
+        Some(request) => Sight::Stalled {
+            held: waits_for(waiting, request.block),
+        },
+        None => Sight::Plain,
+    }
+}
+
+/// What is seen of a block that level one gets.
+fn filled(waiting: &[Request], block: u64) -> Sight
+    ensures { result ≡ filled waiting.now block }
+{
+    Sight::Filled {
+        early: is_behind_others(waiting, block),
+        stores: has_store(waiting, block),
+    }
+}
+
+/// Those that ask for another block stay.
+fn leave(waiting: &mut Vec<Request>, block: u64)
+    ensures { waiting.new.items ≡ filter (λ request. not (request.block == block)) waiting.old.items }
+{
+    waiting.retain(|request| request.block != block);
+}
+
+/// Whether one of these is the second-level block.
+fn waits_for2(waiting: &[u32], second: u32) -> bool
+    ensures { result ≡ waits_for2 second waiting.now }
+{
+    waiting.iter().any(|other| *other == second)
+}
+
+/// How many of these are the second-level block.
+fn targets2(waiting: &[u32], second: u32) -> usize
+    ensures { result ≡ targets2 second waiting.now }
+{
+    waiting.iter().filter(|other| **other == second).count()
+}
+
+/// What is seen of a miss of level two that joins others.
+fn second_joined(waiting: &[u32], second: u32) -> Sight
+    requires few { length waiting.now < 2 ^ 29 }
+    ensures { result ≡ Sight.SecondJoined (targets2 second waiting.now + 1) }
+{
+    Sight::SecondJoined {
+        targets: targets2(waiting, second) as u32 + 1,
+    }
+}
+
+/// The others stay.
+fn leave2(waiting: &mut Vec<u32>, second: u32)
+    ensures { waiting.new.items ≡ filter (λ other. not (other == second)) waiting.old.items }
+{
+    waiting.retain(|other| *other != second);
+}
+
+/// What a bank's records so far say of the next one.
+#[derive(Drop)]
+pub(crate) struct Kept {
+    requests: Requests,
+    /// The requests that missed and wait for their block.
+    waiting: Vec<Request>,
+    /// The blocks that were written back.
+    written: HashSet<u64>,
+    /// The second-level blocks of the misses that wait for level two.
+    waiting2: Vec<u32>,
+    /// The second-level blocks that were written back.
+    written2: HashSet<u32>,
+}
+
+impl Kept {
+    /// No record yet.
+    pub fn new(alloc: Global) -> Result<Self, NoMemory>
+        ensures { IfOk result (λ kept. IsKept kept at_first) }
+    {
+        Ok(Kept {
+            requests: Requests::new(alloc)?,
+            waiting: Vec::new(alloc),
+            written: HashSet::new(alloc),
+            waiting2: Vec::new(alloc),
+            written2: HashSet::new(alloc),
+        })
+    }
+
+    /// What is seen of a miss that takes a register.
+    fn taken(&self, port: u8, tag: u8) -> Sight
+        requires len { length self.now.requests.0.items ≡ 65536 }
+        ensures { (s : Standing) → IsKept self.now s → result ≡ taken_if s.written (s.latest port tag) }
+    {
+        match self.requests.latest(port, tag) {
+            Some(request) => Sight::Taken {
+                again: self.written.contains(&request.block),
+                field: request.field,
+            },
+            None => Sight::Plain,
+        }
+    }
+
+    /// What is seen of the next event.
+    pub fn sight(&self, shape: &Shape, item: &RecordView<'_>) -> Sight
+        requires factor { 0 < shape.now.factor }
+        requires len { length self.now.requests.0.items ≡ 65536 }
+        requires few { vec_len self.now.waiting < 2 ^ 29 }
+        requires few2 { vec_len self.now.waiting2 < 2 ^ 29 }
+        ensures { (s : Standing) → IsKept self.now s → result ≡ sight_by shape.now s item.now.event }
+    {
+        let waiting = self.waiting.as_slice();
+        let waiting2 = self.waiting2.as_slice();
+        match item.event() {
+            EventView::Primary { port, tag, .. } => self.taken(*port, *tag),
+            EventView::Merge { port, tag, .. } => {
+                joined_if(waiting, self.requests.latest(*port, *tag))
+            }
+            EventView::Stall { port, tag } => stalled_if(
+                waiting,
+                self.requests.latest(*port, *tag),
+            ),
+            EventView::Fill1 { block, .. } => filled(waiting, u64::from(*block)),
+            EventView::SecondPrimary { block, .. } => Sight::SecondTaken {
+                again: self.written2.contains(&quotient(*block, shape.factor)),
+            },
+            EventView::SecondMerge { block, .. } => {
+                second_joined(waiting2, quotient(*block, shape.factor))
+            }
+            EventView::SecondStall { block } => Sight::SecondStalled {
+                held: waits_for2(waiting2, quotient(*block, shape.factor)),
+            },
+            _ => Sight::Plain,
+        }
+    }
+
+    /// Keeps what waits after the event.
+    fn wait(&mut self, item: &RecordView<'_>) -> Result<(), NoMemory>
+        requires len { length self.old.requests.0.items ≡ 65536 }
+        ensures requests { self.new.requests ≡ self.old.requests }
+        ensures written { self.new.written ≡ self.old.written }
+        ensures waiting2 { self.new.waiting2 ≡ self.old.waiting2 }
+        ensures written2 { self.new.written2 ≡ self.old.written2 }
+        ensures waiting { OnOk result ((s : Standing) → IsKept self.old s
+            → self.new.waiting.items ≡ waiting_after s.latest item.now.event s.waiting) }
+    {
+        match item.event() {
+            EventView::Primary { port, tag, .. } | EventView::Merge { port, tag, .. } => {
+                if let Some(request) = self.requests.latest(*port, *tag) {
+                    self.waiting.push(request)?;
+                }
+            }
+            EventView::Fill1 { block, .. } => leave(&mut self.waiting, u64::from(*block)),
+            _ => {}
+        }
+        Ok(())
+    }
+
+    /// Keeps what waits for level two after the event.
+    fn wait2(&mut self, shape: &Shape, item: &RecordView<'_>) -> Result<(), NoMemory>
+        requires factor { 0 < shape.now.factor }
+        ensures requests { self.new.requests ≡ self.old.requests }
+        ensures waiting { self.new.waiting ≡ self.old.waiting }
+        ensures written { self.new.written ≡ self.old.written }
+        ensures written2 { self.new.written2 ≡ self.old.written2 }
+        ensures waiting2 { OnOk result (self.new.waiting2.items
+            ≡ waiting2_after shape.now item.now.event self.old.waiting2.items) }
+    {
+        match item.event() {
+            EventView::SecondPrimary { block, .. } | EventView::SecondMerge { block, .. } => {
+                self.waiting2.push(quotient(*block, shape.factor))?;
+            }
+            EventView::Fill2 { block, .. } => leave2(&mut self.waiting2, *block),
+            _ => {}
+        }
+        Ok(())
+    }
+
+    /// Keeps a block that is written back.
+    fn write_back(&mut self, item: &RecordView<'_>) -> Result<(), NoMemory>
+        ensures requests { self.new.requests ≡ self.old.requests }
+        ensures waiting { self.new.waiting ≡ self.old.waiting }
+        ensures waiting2 { self.new.waiting2 ≡ self.old.waiting2 }
+        ensures written2 { self.new.written2 ≡ self.old.written2 }
+        ensures written { OnOk result ((block : ℕ)
+            → is_in self.new.written block ≡ (writes_back item.now.event block || is_in self.old.written block)) }
+    {
+        if let EventView::Evict1 { block, mask, .. } = item.event() {
+            if mask.0 != 0 {
+                let _ = self.written.insert(u64::from(*block))?;
+            }
+        }
+        Ok(())
+    }
+
+    /// Keeps a second-level block that is written back.
+    fn write_back2(&mut self, item: &RecordView<'_>) -> Result<(), NoMemory>
+        ensures requests { self.new.requests ≡ self.old.requests }
+        ensures waiting { self.new.waiting ≡ self.old.waiting }
+        ensures written { self.new.written ≡ self.old.written }
+        ensures waiting2 { self.new.waiting2 ≡ self.old.waiting2 }
+        ensures written2 { OnOk result ((second : ℕ)
+            → is_in self.new.written2 second ≡ (writes_back2 item.now.event second || is_in self.old.written2 second)) }
+    {
+        if let EventView::Evict2 { block, masks, .. } = item.event() {
+            if dirty_blocks(masks) != 0 {
+                let _ = self.written2.insert(*block)?;
+            }
+        }
+        Ok(())
+    }
+
+    /// Takes one more record.
+    pub fn take(&mut self, shape: &Shape, item: &RecordView<'_>) -> Result<(), NoMemory>
+        requires block { 0 < shape.now.block }
+        requires factor { 0 < shape.now.factor }
+        requires len { length self.old.requests.0.items ≡ 65536 }
+        ensures { OnOk result ((s : Standing) → IsKept self.old s
+            → IsKept self.new (standing_after shape.now item.now s)) }
+    {
+        self.wait(item)?;
+        self.wait2(shape, item)?;
+        self.write_back(item)?;
+        self.write_back2(item)?;
+        self.requests.keep(shape, item);
+        Ok(())
+    }
+}

@@ -1,0 +1,117 @@
+//! A rule that a record breaks.
+
+ghost use Rattle.std.specs.Prelude.{◌≤◌, length};
+
+use crate::carried::set_carried;
+use crate::object::Object;
+use crate::record::{record_at_json, records_json};
+use crate::state::blocks_json;
+use explain_history::{record_at, room};
+use explain_lines::Listing;
+use explain_origins::Origins;
+use explain_replay::Broken;
+use explain_rule::{Explanation, sentence_of};
+use lf_codec::Packed;
+use lf_rules::{NoMemory, Rule};
+use serde_json::{Value, json};
+use std::alloc::Global;
+
+/// How many records of the log stand before this place.
+fn count_before(records: &Packed, log: u8, place: usize) -> usize
+    requires { place ≤ length records.now.records }
+{
+    let mut count = 0;
+    for at in 0..place {
+        if records.log(at) == log {
+            count += 1;
+        }
+    }
+    count
+}
+
+/// Where the record stands, as the line of the verdict says it: a record that breaks a rule of a bank by its number
+/// there, and one that breaks a rule of a port by its place in the log.
+fn set_place(
+    object: &mut Object,
+    listing: &Listing<'_>,
+    place: usize,
+    broken: &Option<Broken>,
+) -> Result<(), NoMemory> {
+    let records = listing.records;
+    if place >= records.len() {
+        return Ok(());
+    }
+    if let Some(broken) = broken {
+        object.set("bank", Value::from(records.bank(place)))?;
+        return object.set("number", Value::from(broken.number));
+    }
+    let log = records.log(place);
+    object.set("port", Value::from(log))?;
+    object.set("event", Value::from(count_before(records, log, place)))
+}
+
+/// The rule, and what it asks.
+fn set_rule(object: &mut Object, rule: Rule) -> Result<(), NoMemory> {
+    let name = format!(in object.alloc; "{rule}")?;
+    object.set_text("kind", "rule")?;
+    object.set_text("rule", name.as_str())?;
+    object.set_text("asks", sentence_of(rule))
+}
+
+/// The records that the state of the rule comes from, and null where it is about no such state.
+fn origins_json(
+    alloc: Global,
+    listing: &Listing<'_>,
+    origins: &Option<Origins>,
+) -> Result<Value, NoMemory> {
+    let Some(origins) = origins else {
+        return Ok(Value::Null);
+    };
+    let records = records_json(alloc, listing, &origins.places)?;
+    Ok(json!(in alloc; {"heading": origins.part.heading(), "records": records})?)
+}
+
+/// What the record that breaks the rule has to carry, and what the bank has of its blocks.
+fn set_broken(
+    object: &mut Object,
+    listing: &Listing<'_>,
+    why: &Explanation,
+) -> Result<(), NoMemory> {
+    let alloc = object.alloc;
+    for name in [
+        "expected",
+        "found",
+        "first_different",
+        "too_many",
+        "too_few",
+    ] {
+        object.set(name, Value::Null)?;
+    }
+    let Some(broken) = &why.broken else {
+        return object.set("blocks", Value::Array(Vec::new(alloc)));
+    };
+    object.set("blocks", blocks_json(alloc, &broken.blocks)?)?;
+    let mut room = room();
+    match record_at(listing.records, why.history.place, &mut room) {
+        Some(item) => set_carried(object, broken, &item.event),
+        None => Ok(()),
+    }
+}
+
+/// Why a record breaks a rule.
+pub(crate) fn breach_json(
+    alloc: Global,
+    listing: &Listing<'_>,
+    why: &Explanation,
+) -> Result<Value, NoMemory> {
+    let mut object = Object::new(alloc);
+    set_rule(&mut object, why.rule)?;
+    if let Some(place) = why.history.place {
+        set_place(&mut object, listing, place, &why.broken)?;
+    }
+    object.set("record", record_at_json(alloc, listing, why.history.place)?)?;
+    set_broken(&mut object, listing, why)?;
+    object.set("origins", origins_json(alloc, listing, &why.origins)?)?;
+    object.set("before", records_json(alloc, listing, &why.history.before)?)?;
+    Ok(object.done())
+}

@@ -1,0 +1,60 @@
+//! What a record has to carry, and what it carries.
+
+use crate::object::{Object, digits, hexadecimal, masks_json};
+use explain_replay::{Broken, Expected};
+use explain_rule::{all_beyond, first_difference, masks_of};
+use lf_rules::{Event, Masks, NoMemory};
+use serde_json::{Value, json};
+use std::alloc::Global;
+use text_print::data_of;
+
+/// The place of the first byte that differs, and its address where it is one of these.
+fn difference_json(alloc: Global, byte: usize, addresses: &[u64]) -> Result<Value, NoMemory> {
+    let address = match addresses.get(byte) {
+        Some(address) => hexadecimal(alloc, *address)?,
+        None => Value::Null,
+    };
+    Ok(json!(in alloc; {"byte": byte, "address": address})?)
+}
+
+/// The bytes that are due and those that were found.
+fn set_bytes(
+    object: &mut Object,
+    due: &[u8],
+    found: &[u8],
+    addresses: &[u64],
+) -> Result<(), NoMemory> {
+    let alloc = object.alloc;
+    object.set("expected", json!(in alloc; {"bytes": digits(alloc, due)?})?)?;
+    object.set("found", json!(in alloc; {"bytes": digits(alloc, found)?})?)?;
+    let byte = first_difference(due, found);
+    object.set("first_different", difference_json(alloc, byte, addresses)?)
+}
+
+/// The masks that are due, those that were found, and which of their bytes are too many and too few.
+fn set_masks(object: &mut Object, due: &Masks, found: &Masks) -> Result<(), NoMemory> {
+    let alloc = object.alloc;
+    object.set(
+        "expected",
+        json!(in alloc; {"masks": masks_json(alloc, due)?})?,
+    )?;
+    object.set(
+        "found",
+        json!(in alloc; {"masks": masks_json(alloc, found)?})?,
+    )?;
+    object.set("too_many", masks_json(alloc, &all_beyond(found, due))?)?;
+    object.set("too_few", masks_json(alloc, &all_beyond(due, found))?)
+}
+
+/// What a record of this event has to carry and carries, where a rule is about that, and otherwise null.
+pub(crate) fn set_carried(
+    object: &mut Object,
+    broken: &Broken,
+    event: &Event,
+) -> Result<(), NoMemory> {
+    match &broken.expected {
+        Some(Expected::Bytes(due)) => set_bytes(object, due, data_of(event), &broken.addresses),
+        Some(Expected::Masks(due)) => set_masks(object, due, &masks_of(event)),
+        None => Ok(()),
+    }
+}

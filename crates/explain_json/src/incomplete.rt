@@ -1,0 +1,24 @@
+//! A legal trace that is not complete.
+
+use crate::record::{record_at_json, records_json};
+use explain_lines::Listing;
+use explain_why::NotComplete;
+use lf_rules::NoMemory;
+use serde_json::{Value, json};
+use std::alloc::Global;
+
+/// The first request without a reply, and the last records of its bank at its block.
+pub(crate) fn incomplete_json(alloc: Global, why: &NotComplete) -> Result<Value, NoMemory> {
+    let listing = Listing {
+        records: &why.records,
+        marks: &why.marks,
+    };
+    let record = record_at_json(alloc, &listing, Some(why.place))?;
+    let at_block = records_json(alloc, &listing, &why.at_block)?;
+    Ok(json!(in alloc; {
+        "port": why.request.port,
+        "tag": why.request.tag,
+        "record": record,
+        "at_block": at_block
+    })?)
+}

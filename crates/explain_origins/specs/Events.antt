@@ -1,0 +1,114 @@
+-- What an event begins or ends, by the block or the tag that it is about.
+use Rattle.std.specs.Prelude.{ℕ, ◌+◌, Bool, false, ◌&&◌, ◌==◌, nat_le, nat_lt, Option, Some, None, if◌then◌else◌}
+use Rattle.lf_rules.specs.declared.event.Event.{Event}
+use Rattle.lf_rules.specs.declared.event.Event.TheVariants.{Issue, Reply, Hit, Primary, Merge, Fill1, Evict1}
+use Rattle.lf_rules.specs.declared.event.Event.TheVariants.{SecondPrimary, SecondMerge, Fill2, Evict2}
+use Rattle.lf_rules.specs.declared.shape.Shape.{Shape}
+use Rattle.lf_rules.specs.Address.{second_of}
+use Rattle.explain_origins.specs.declared.requests.AcceptedRequest.{AcceptedRequest}
+
+-- is it this block or tag?
+abbrev pub is_key : ℕ → Option ℕ → Bool
+is_key key None = false
+is_key key (Some other) = key == other
+
+-- ---- lines
+
+-- the block that level one gets
+abbrev pub fill1_block : Event → Option ℕ
+fill1_block (Fill1 block bytes) = Some block
+fill1_block _ = None
+
+-- the block whose line level one gives up
+abbrev pub evict1_block : Event → Option ℕ
+evict1_block (Evict1 block mask bytes) = Some block
+evict1_block _ = None
+
+-- the same of level two, whose lines are on second-level blocks
+abbrev pub fill2_second : Event → Option ℕ
+fill2_second (Fill2 second bytes) = Some second
+fill2_second _ = None
+
+abbrev pub evict2_second : Event → Option ℕ
+evict2_second (Evict2 second masks bytes) = Some second
+evict2_second _ = None
+
+-- ---- misses
+
+abbrev pub request_block : Option AcceptedRequest → Option ℕ
+request_block None = None
+request_block (Some request) = Some request.block
+
+-- the block that a primary miss or a merge is to: that of the request which it accepts
+abbrev pub miss1_block : Option AcceptedRequest → Event → Option ℕ
+miss1_block request (Primary port tag register) = request_block request
+miss1_block request (Merge port tag register) = request_block request
+miss1_block request _ = None
+
+-- the second-level block that a miss of level two is to
+abbrev pub miss2_second : Shape → Event → Option ℕ
+miss2_second shape (SecondPrimary block register) = Some (second_of shape block)
+miss2_second shape (SecondMerge block register) = Some (second_of shape block)
+miss2_second shape _ = None
+
+-- ---- blocks of a second-level block
+
+-- the block, where it is one of this second-level block
+abbrev pub within : Shape → ℕ → Option ℕ → Option ℕ
+within shape second None = None
+within shape second (Some block) = if second_of shape block == second then Some block else None
+
+-- the first that is there
+abbrev pub either : Option ℕ → Option ℕ → Option ℕ
+either None other = other
+either (Some n) other = Some n
+
+-- ---- stores
+
+-- does the request write the byte at this place of the block?
+abbrev pub writes_byte : ℕ → ℕ → AcceptedRequest → Bool
+writes_byte block offset request =
+    request.is_store && request.block == block
+    && nat_le request.offset offset && nat_lt offset (request.offset + request.size)
+
+-- the block of a store that is accepted and writes this byte
+abbrev pub store_of_byte : ℕ → ℕ → Option AcceptedRequest → Option ℕ
+store_of_byte block offset None = None
+store_of_byte block offset (Some request) = if writes_byte block offset request then Some block else None
+
+-- the block of a store that is accepted
+abbrev pub stored_block : Option AcceptedRequest → Option ℕ
+stored_block None = None
+stored_block (Some request) = if request.is_store then Some request.block else None
+
+-- the second-level block of a line of level one that is evicted with dirty bytes
+abbrev pub written_back : Shape → Event → Option ℕ
+written_back shape (Evict1 block mask bytes) = if mask.0 == 0 then None else Some (second_of shape block)
+written_back shape _ = None
+
+-- the block or the tag, where it is the one that is wanted
+abbrev pub only : ℕ → Option ℕ → Option ℕ
+only wanted None = None
+only wanted (Some block) = if block == wanted then Some block else None
+
+-- ---- requests of a port
+
+abbrev pub tag_at : ℕ → ℕ → ℕ → Option ℕ
+tag_at wanted port tag = if port == wanted then Some tag else None
+
+-- the tag of the port's request that is issued
+abbrev pub issued_tag : ℕ → ℕ → Event → Option ℕ
+issued_tag wanted log (Issue op tag size address bytes) = tag_at wanted log tag
+issued_tag wanted log _ = None
+
+-- the tag of the port's request that a hit, a primary miss or a merge accepts
+abbrev pub accepted_tag : ℕ → Event → Option ℕ
+accepted_tag wanted (Hit port tag) = tag_at wanted port tag
+accepted_tag wanted (Primary port tag register) = tag_at wanted port tag
+accepted_tag wanted (Merge port tag register) = tag_at wanted port tag
+accepted_tag wanted _ = None
+
+-- the tag of the port's request that is replied to
+abbrev pub replied_tag : ℕ → ℕ → Event → Option ℕ
+replied_tag wanted log (Reply tag size bytes) = tag_at wanted log tag
+replied_tag wanted log _ = None

@@ -1,0 +1,52 @@
+-- The parts of the state, and which records begin and end what is in them.
+use Rattle.std.specs.Prelude.{ℕ, ◌==◌, Option, Some, None, if◌then◌else◌}
+use Rattle.lf_rules.specs.declared.event.Record.{Record}
+use Rattle.lf_rules.specs.declared.shape.Shape.{Shape}
+use Rattle.lf_rules.specs.Address.{set1_of, set2_of}
+use Rattle.explain_origins.specs.declared.parts.StatePart.{StatePart}
+use Rattle.explain_origins.specs.declared.parts.StatePart.TheVariants as parts
+use Rattle.explain_origins.specs.declared.requests.AcceptedRequest.{AcceptedRequest}
+use Rattle.explain_origins.specs.Events.{fill1_block, evict1_block, fill2_second, evict2_second, miss1_block, miss2_second}
+use Rattle.explain_origins.specs.Events.{issued_tag, accepted_tag, replied_tag, only, either, within}
+use Rattle.explain_origins.specs.Events.{store_of_byte, stored_block, written_back}
+
+-- the block, where it is in this set
+abbrev pub in_set : (ℕ → ℕ) → ℕ → Option ℕ → Option ℕ
+in_set set_of set None = None
+in_set set_of set (Some block) = if set_of block == set then Some block else None
+
+-- What a record begins in a part, by its block or its tag, where it accepts this request: a fill brings a line, a miss
+-- holds a register, an issued request waits and has no reply yet, and an accepted store writes bytes.
+abbrev pub begun : Shape → StatePart → Option AcceptedRequest → Record → Option ℕ
+begun shape (parts.LinesOfSet1 set) request r =
+    in_set (set1_of shape.banks shape.factor shape.level1.sets) set (fill1_block r.event)
+begun shape (parts.LinesOfSet2 set) request r =
+    in_set (set2_of shape.banks shape.level2.sets) set (fill2_second r.event)
+begun shape parts.Registers1 request r = miss1_block request r.event
+begun shape parts.Registers2 request r = miss2_second shape r.event
+begun shape (parts.Queue port) request r = issued_tag port r.log r.event
+begun shape (parts.Unanswered port) request r = accepted_tag port r.event
+begun shape (parts.Outstanding port) request r = issued_tag port r.log r.event
+begun shape (parts.BusyTag port tag) request r = only tag (issued_tag port r.log r.event)
+begun shape (parts.WithinSecond second) request r =
+    within shape second (either (fill1_block r.event) (miss1_block request r.event))
+begun shape (parts.LastStore block offset) request r = store_of_byte block offset request
+begun shape (parts.DirtyLine1 block) request r = only block (either (fill1_block r.event) (stored_block request))
+begun shape (parts.DirtyLine2 second) request r =
+    only second (either (fill2_second r.event) (written_back shape r.event))
+
+-- What it ends: an eviction takes a line away, a fill frees the registers of its block, an accepted request waits no
+-- longer, and a request has one reply. With a store to a byte the one before is no longer the last.
+abbrev pub ended : StatePart → Option AcceptedRequest → Record → Option ℕ
+ended (parts.LinesOfSet1 set) request r = evict1_block r.event
+ended (parts.LinesOfSet2 set) request r = evict2_second r.event
+ended parts.Registers1 request r = fill1_block r.event
+ended parts.Registers2 request r = fill2_second r.event
+ended (parts.Queue port) request r = accepted_tag port r.event
+ended (parts.Unanswered port) request r = replied_tag port r.log r.event
+ended (parts.Outstanding port) request r = replied_tag port r.log r.event
+ended (parts.BusyTag port tag) request r = replied_tag port r.log r.event
+ended (parts.WithinSecond second) request r = either (fill1_block r.event) (evict1_block r.event)
+ended (parts.LastStore block offset) request r = store_of_byte block offset request
+ended (parts.DirtyLine1 block) request r = evict1_block r.event
+ended (parts.DirtyLine2 second) request r = evict2_second r.event

@@ -1,0 +1,199 @@
+//! What an event begins or ends, by the block or the tag that it is about.
+
+ghost use Rattle.std.specs.Prelude.{◌≡◌, ◌<◌};
+ghost use Rattle.explain_origins.specs.Events.{fill1_block, evict1_block, fill2_second, evict2_second};
+ghost use Rattle.explain_origins.specs.Events.{miss1_block, miss2_second, within, either, only, writes_byte};
+ghost use Rattle.explain_origins.specs.Events.{store_of_byte, stored_block, written_back, tag_at};
+ghost use Rattle.explain_origins.specs.Events.{issued_tag, accepted_tag, replied_tag};
+
+use crate::requests::AcceptedRequest;
+use lf_rules::{Event, Record, Shape};
+
+/// The block that level one gets.
+pub(crate) fn fill1_block(event: &Event) -> Option<u32>
+    ensures { result ≡ fill1_block event.now }
+{
+    match event {
+        Event::Fill1 { block, .. } => Some(*block),
+        _ => None,
+    }
+}
+
+/// The block whose line level one gives up.
+pub(crate) fn evict1_block(event: &Event) -> Option<u32>
+    ensures { result ≡ evict1_block event.now }
+{
+    match event {
+        Event::Evict1 { block, .. } => Some(*block),
+        _ => None,
+    }
+}
+
+/// The second-level block that level two gets.
+pub(crate) fn fill2_second(event: &Event) -> Option<u32>
+    ensures { result ≡ fill2_second event.now }
+{
+    match event {
+        Event::Fill2 { block, .. } => Some(*block),
+        _ => None,
+    }
+}
+
+/// The second-level block whose line level two gives up.
+pub(crate) fn evict2_second(event: &Event) -> Option<u32>
+    ensures { result ≡ evict2_second event.now }
+{
+    match event {
+        Event::Evict2 { block, .. } => Some(*block),
+        _ => None,
+    }
+}
+
+/// The block that a miss of level one is to.
+pub(crate) fn miss1_block(request: Option<AcceptedRequest>, event: &Event) -> Option<u64>
+    ensures { result ≡ miss1_block request event.now }
+{
+    match event {
+        Event::Primary { .. } | Event::Merge { .. } => Some(request?.block),
+        _ => None,
+    }
+}
+
+/// The second-level block that a miss of level two is to.
+pub(crate) fn miss2_second(shape: &Shape, event: &Event) -> Option<u64>
+    requires { 0 < shape.now.factor }
+    ensures { result ≡ miss2_second shape.now event.now }
+{
+    match event {
+        Event::SecondPrimary { block, .. } | Event::SecondMerge { block, .. } => {
+            Some(u64::from(*block / shape.factor))
+        }
+        _ => None,
+    }
+}
+
+/// The block, where it is one of this second-level block.
+pub(crate) fn within(shape: &Shape, second: u64, block: Option<u64>) -> Option<u64>
+    requires { 0 < shape.now.factor }
+    ensures { result ≡ within shape.now second block }
+{
+    let block = block?;
+    if block / u64::from(shape.factor) == second {
+        Some(block)
+    } else {
+        None
+    }
+}
+
+/// The first that is there.
+pub(crate) fn either(first: Option<u64>, second: Option<u64>) -> Option<u64>
+    ensures { result ≡ either first second }
+{
+    match first {
+        Some(block) => Some(block),
+        None => second,
+    }
+}
+
+/// Whether the request writes the byte at this place of the block.
+pub(crate) fn writes_byte(block: u64, offset: u32, request: &AcceptedRequest) -> bool
+    ensures { result ≡ writes_byte block offset request.now }
+{
+    let end = u64::from(request.offset) + u64::from(request.size);
+    request.is_store
+        && request.block == block
+        && request.offset <= offset
+        && u64::from(offset) < end
+}
+
+/// The block of a store that is accepted and writes this byte.
+pub(crate) fn store_of_byte(
+    block: u64,
+    offset: u32,
+    request: Option<AcceptedRequest>,
+) -> Option<u64>
+    ensures { result ≡ store_of_byte block offset request }
+{
+    let request = request?;
+    if writes_byte(block, offset, &request) {
+        Some(block)
+    } else {
+        None
+    }
+}
+
+/// The block of a store that is accepted.
+pub(crate) fn stored_block(request: Option<AcceptedRequest>) -> Option<u64>
+    ensures { result ≡ stored_block request }
+{
+    let request = request?;
+    if request.is_store {
+        Some(request.block)
+    } else {
+        None
+    }
+}
+
+/// The second-level block of a line of level one that is evicted with dirty bytes.
+pub(crate) fn written_back(shape: &Shape, event: &Event) -> Option<u64>
+    requires { 0 < shape.now.factor }
+    ensures { result ≡ written_back shape.now event.now }
+{
+    match event {
+        Event::Evict1 { block, mask, .. } if mask.0 != 0 => {
+            Some(u64::from(*block / shape.factor))
+        }
+        _ => None,
+    }
+}
+
+/// The block or the tag, where it is the one that is wanted.
+pub(crate) fn only(wanted: u64, block: Option<u64>) -> Option<u64>
+    ensures { result ≡ only wanted block }
+{
+    let block = block?;
+    if block == wanted { Some(block) } else { None }
+}
+
+/// The tag, where the port is the one that is wanted.
+fn tag_at(wanted: u8, port: u8, tag: u8) -> Option<u64>
+    ensures { result ≡ tag_at wanted port tag }
+{
+    if port == wanted {
+        Some(u64::from(tag))
+    } else {
+        None
+    }
+}
+
+/// The tag of the port's request that is issued.
+pub(crate) fn issued_tag(port: u8, item: &Record) -> Option<u64>
+    ensures { result ≡ issued_tag port item.now.log item.now.event }
+{
+    match &item.event {
+        Event::Issue { tag, .. } => tag_at(port, item.log, *tag),
+        _ => None,
+    }
+}
+
+/// The tag of the port's request that is accepted.
+pub(crate) fn accepted_tag(wanted: u8, event: &Event) -> Option<u64>
+    ensures { result ≡ accepted_tag wanted event.now }
+{
+    match event {
+        Event::Hit { port, tag }
+        | Event::Primary { port, tag, .. }
+        | Event::Merge { port, tag, .. } => tag_at(wanted, *port, *tag),
+        _ => None,
+    }
+}
+
+/// The tag of the port's request that is replied to.
+pub(crate) fn replied_tag(port: u8, item: &Record) -> Option<u64>
+    ensures { result ≡ replied_tag port item.now.log item.now.event }
+{
+    match &item.event {
+        Event::Reply { tag, .. } => tag_at(port, item.log, *tag),
+        _ => None,
+    }
+}

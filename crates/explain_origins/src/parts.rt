@@ -1,0 +1,150 @@
+//! The parts of the state, and what each record begins and ends in them.
+
+ghost use Rattle.std.specs.Prelude.{◌≡◌, ◌<◌};
+ghost use Rattle.lf_rules.specs.Address.{set1_of, set2_of};
+ghost use Rattle.lf_rules.specs.InRange.{IsShape};
+ghost use Rattle.explain_origins.specs.Parts.{in_set};
+
+use crate::events::{
+    accepted_tag, either, evict1_block, evict2_second, fill1_block, fill2_second, issued_tag,
+    miss1_block, miss2_second, only, replied_tag, store_of_byte, stored_block, within,
+    written_back,
+};
+use crate::requests::AcceptedRequest;
+use lf_levels::{Level, One, Two};
+use lf_rules::{Record, Shape};
+
+/// A part of the state of a bank or of a port. It has what some records began and no later ones ended.
+#[derive(Clone, Copy, PartialEq, Eq)]
+pub enum StatePart {
+    /// The lines of a set of level one: fills, until their block is evicted.
+    LinesOfSet1 { set: u32 },
+    /// The lines of a set of level two: fills, until their second-level block is evicted.
+    LinesOfSet2 { set: u32 },
+    /// The targets in the registers of level one: primary misses and merges, until their block is filled.
+    Registers1,
+    /// The targets in the registers of level two: primary misses and merges, until their second-level block
+    /// is filled.
+    Registers2,
+    /// The requests of a port that wait at the bank: issues, until a hit, a primary miss or a merge accepts
+    /// them.
+    Queue { port: u8 },
+    /// The accepted requests of a port without a reply: hits, primary misses and merges, until the reply.
+    Unanswered { port: u8 },
+    /// The requests of a port without a reply: issues, until the reply.
+    Outstanding { port: u8 },
+    /// The request of a port with this tag and without a reply.
+    BusyTag { port: u8, tag: u8 },
+    /// What level one has on a second-level block: primary misses and merges, until their block is filled, and
+    /// fills, until their block is evicted.
+    WithinSecond { second: u64 },
+    /// The last store that was accepted to a byte of a block.
+    LastStore { block: u64, offset: u32 },
+    /// What made bytes of a line of level one dirty: the fill and the accepted stores, until the eviction.
+    DirtyLine1 { block: u64 },
+    /// What made bytes of a line of level two dirty: the fill, and evictions of dirty bytes from level one,
+    /// until the eviction.
+    DirtyLine2 { second: u64 },
+}
+
+/// The block, where it is in this set of level one.
+fn in_set1(shape: &Shape, set: u32, block: Option<u32>) -> Option<u64>
+    requires { IsShape shape.now }
+    ensures { result ≡ in_set (set1_of shape.now.banks shape.now.factor shape.now.level1.sets) set block }
+{
+    let block = block?;
+    if One::set_of(shape.banks, shape.factor, shape.level1.sets, block) == set {
+        Some(u64::from(block))
+    } else {
+        None
+    }
+}
+
+/// The second-level block, where it is in this set of level two.
+fn in_set2(shape: &Shape, set: u32, second: Option<u32>) -> Option<u64>
+    requires { IsShape shape.now }
+    ensures { result ≡ in_set (set2_of shape.now.banks shape.now.level2.sets) set second }
+{
+    let second = second?;
+    if Two::set_of(shape.banks, shape.factor, shape.level2.sets, second) == set {
+        Some(u64::from(second))
+    } else {
+        None
+    }
+}
+
+/// A block's number as one of 64 bits.
+fn wide(block: Option<u32>) -> Option<u64>
+    ensures { result ≡ block }
+{
+    Some(u64::from(block?))
+}
+
+impl StatePart {
+    ghost use Rattle.std.specs.Prelude.{◌≡◌};
+    ghost use Rattle.lf_rules.specs.InRange.{IsShape};
+    ghost use Rattle.explain_origins.specs.Parts.{begun, ended};
+
+    /// What the record begins in this part, by its block or its tag. The record accepts this request.
+    pub(crate) fn begun(
+        self,
+        shape: &Shape,
+        request: Option<AcceptedRequest>,
+        item: &Record,
+    ) -> Option<u64>
+        requires { IsShape shape.now }
+        ensures { result ≡ begun shape.now self request item.now }
+    {
+        let event = &item.event;
+        match self {
+            StatePart::LinesOfSet1 { set } => in_set1(shape, set, fill1_block(event)),
+            StatePart::LinesOfSet2 { set } => in_set2(shape, set, fill2_second(event)),
+            StatePart::Registers1 => miss1_block(request, event),
+            StatePart::Registers2 => miss2_second(shape, event),
+            StatePart::Queue { port } => issued_tag(port, item),
+            StatePart::Unanswered { port } => accepted_tag(port, event),
+            StatePart::Outstanding { port } => issued_tag(port, item),
+            StatePart::BusyTag { port, tag } => only(u64::from(tag), issued_tag(port, item)),
+            StatePart::WithinSecond { second } => {
+                let block = either(wide(fill1_block(event)), miss1_block(request, event));
+                within(shape, second, block)
+            }
+            StatePart::LastStore { block, offset } => store_of_byte(block, offset, request),
+            StatePart::DirtyLine1 { block } => {
+                only(
+                    block,
+                    either(wide(fill1_block(event)), stored_block(request)),
+                )
+            }
+            StatePart::DirtyLine2 { second } => {
+                only(
+                    second,
+                    either(wide(fill2_second(event)), written_back(shape, event)),
+                )
+            }
+        }
+    }
+
+    /// What the record ends in this part, by its block or its tag. It accepts this request.
+    pub(crate) fn ended(self, request: Option<AcceptedRequest>, item: &Record) -> Option<u64>
+        ensures { result ≡ ended self request item.now }
+    {
+        let event = &item.event;
+        match self {
+            StatePart::LinesOfSet1 { .. } => wide(evict1_block(event)),
+            StatePart::LinesOfSet2 { .. } => wide(evict2_second(event)),
+            StatePart::Registers1 => wide(fill1_block(event)),
+            StatePart::Registers2 => wide(fill2_second(event)),
+            StatePart::Queue { port } => accepted_tag(port, event),
+            StatePart::Unanswered { port }
+            | StatePart::Outstanding { port }
+            | StatePart::BusyTag { port, .. } => replied_tag(port, item),
+            StatePart::WithinSecond { .. } => {
+                either(wide(fill1_block(event)), wide(evict1_block(event)))
+            }
+            StatePart::LastStore { block, offset } => store_of_byte(block, offset, request),
+            StatePart::DirtyLine1 { .. } => wide(evict1_block(event)),
+            StatePart::DirtyLine2 { .. } => wide(evict2_second(event)),
+        }
+    }
+}

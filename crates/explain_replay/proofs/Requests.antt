@@ -1,0 +1,105 @@
+-- The request that a record names is one that a trace of the shape may have.
+use Rattle.std.proofs.Common.{◌≡◌, ℕ, ◌+◌, ◌*◌, ◌/◌, ◌<◌, ◌≤◌, ◌^◌, Bool, true, false, ◌&&◌, ◌==◌, if◌then◌else◌}
+use Rattle.std.proofs.Common.{List, [], ◌∷◌, Option, Some, None, subst, arith}
+use Rattle.std.specs.Prelude.{fold}
+use Rattle.std.specs.Option.{ForSome}
+use Rattle.std.specs.List.{AllByRecursion}
+use Rattle.std.proofs.Math.Nat.{lt-div-mul-add, mul-le-mul_left}
+use Rattle.std.proofs.lemmas.Bool.Decides.{nat_tests}
+use Rattle.std.proofs.lemmas.Option.{none-some, same_Some}
+use Rattle.lf_rules.specs.declared.shape.Shape.{Shape}
+use Rattle.lf_rules.specs.declared.event.Event.{Event}
+use Rattle.lf_rules.specs.declared.event.Event.TheVariants as events
+use Rattle.lf_rules.specs.declared.event.Record.{Record}
+use Rattle.lf_rules.specs.Address.{block_of}
+use Rattle.lf_rules.specs.Fits.{Fits, FitsEvent, is_block_size}
+use Rattle.explain_history.specs.Request.{address_by}
+use Rattle.explain_replay.specs.Request.{requested}
+
+-- the block of the address has a number
+abbrev pub HasBlock : Shape → Option ℕ → Type 0
+HasBlock shape request = ForSome request (λ address. block_of shape address < 0x1_0000_0000)
+
+chosen : (P : Option ℕ → Type 0) (b : Bool) (address : ℕ) (earlier : Option ℕ) → P (Some address) → P earlier →
+    P (if b then Some address else earlier)
+chosen P true address earlier now before = now
+chosen P false address earlier now before = before
+
+asked_fits : (shape : Shape) (bank port tag log : ℕ) (event : Event) (earlier : Option ℕ) →
+    FitsEvent shape.banks shape.block shape.factor bank event
+    → HasBlock shape earlier → HasBlock shape (address_by port tag log event earlier)
+asked_fits shape bank port tag log (events.Issue op t size address bytes) earlier fits before =
+    chosen (HasBlock shape) ((log == port) && (t == tag)) address earlier
+    (λ x e. subst (λ y. block_of shape y < 0x1_0000_0000) (same_Some address x e) fits.block_fits) before
+asked_fits shape bank port tag log (events.Reply t size bytes) earlier fits before = before
+asked_fits shape bank port tag log (events.Hit p t) earlier fits before = before
+asked_fits shape bank port tag log (events.Primary p t register) earlier fits before = before
+asked_fits shape bank port tag log (events.Merge p t register) earlier fits before = before
+asked_fits shape bank port tag log (events.Stall p t) earlier fits before = before
+asked_fits shape bank port tag log (events.Fill1 block bytes) earlier fits before = before
+asked_fits shape bank port tag log (events.Evict1 block mask bytes) earlier fits before = before
+asked_fits shape bank port tag log (events.SecondHit block) earlier fits before = before
+asked_fits shape bank port tag log (events.SecondPrimary block register) earlier fits before = before
+asked_fits shape bank port tag log (events.SecondStall block) earlier fits before = before
+asked_fits shape bank port tag log (events.Fill2 second bytes) earlier fits before = before
+asked_fits shape bank port tag log (events.Evict2 second masks bytes) earlier fits before = before
+asked_fits shape bank port tag log events.Fence earlier fits before = before
+asked_fits shape bank port tag log (events.SecondMerge block register) earlier fits before = before
+
+last_fits : (shape : Shape) (port tag : ℕ) (rs : List Record) (earlier : Option ℕ) → AllByRecursion (Fits shape) rs →
+    HasBlock shape earlier
+    → HasBlock shape (fold (λ last r. address_by port tag r.log r.event last) earlier rs)
+last_fits shape port tag [] earlier all before = before
+last_fits shape port tag (r ∷ rs) earlier all before =
+    last_fits shape port tag rs (address_by port tag r.log r.event earlier) all.1
+    (asked_fits shape r.bank port tag r.log r.event earlier all.0.event before)
+
+nothing_fits : (shape : Shape) → HasBlock shape None
+nothing_fits shape x e = absurd (none-some x e)
+
+pub requested_fits : (shape : Shape) (bank log : ℕ) (before : List Record) (event : Event) →
+    AllByRecursion (Fits shape) before
+    → FitsEvent shape.banks shape.block shape.factor bank event → HasBlock shape (requested before log event)
+requested_fits shape bank log before (events.Issue op t size address bytes) all fits =
+    λ x e. subst (λ y. block_of shape y < 0x1_0000_0000) (same_Some address x e) fits.block_fits
+requested_fits shape bank log before (events.Reply tag size bytes) all fits =
+    last_fits shape log tag before None all (nothing_fits shape)
+requested_fits shape bank log before (events.Hit port tag) all fits =
+    last_fits shape port tag before None all (nothing_fits shape)
+requested_fits shape bank log before (events.Primary port tag register) all fits =
+    last_fits shape port tag before None all (nothing_fits shape)
+requested_fits shape bank log before (events.Merge port tag register) all fits =
+    last_fits shape port tag before None all (nothing_fits shape)
+requested_fits shape bank log before (events.Stall port tag) all fits =
+    last_fits shape port tag before None all (nothing_fits shape)
+requested_fits shape bank log before (events.Fill1 block bytes) all fits = nothing_fits shape
+requested_fits shape bank log before (events.Evict1 block mask bytes) all fits = nothing_fits shape
+requested_fits shape bank log before (events.SecondHit block) all fits = nothing_fits shape
+requested_fits shape bank log before (events.SecondPrimary block register) all fits = nothing_fits shape
+requested_fits shape bank log before (events.SecondStall block) all fits = nothing_fits shape
+requested_fits shape bank log before (events.Fill2 second bytes) all fits = nothing_fits shape
+requested_fits shape bank log before (events.Evict2 second masks bytes) all fits = nothing_fits shape
+requested_fits shape bank log before events.Fence all fits = nothing_fits shape
+requested_fits shape bank log before (events.SecondMerge block register) all fits = nothing_fits shape
+
+-- ---- sizes
+
+pub block_at_most_64 : (n : ℕ) → is_block_size n ≡ true → n ≤ 64
+block_at_most_64 n e = grind (arith, nat_tests)
+
+pub some_block : (n : ℕ) → is_block_size n ≡ true → 0 < n
+some_block n e = grind (arith, nat_tests)
+
+-- an address of a block with a number is small
+pub address_small : (address size : ℕ) → is_block_size size ≡ true → address / size < 0x1_0000_0000 → address < 2 ^ 63
+address_small address size is lt =
+    let some : 0 < size = some_block size is in
+    let few : size ≤ 64 = block_at_most_64 size is in
+    let near : address < address / size * size + size = lt-div-mul-add some in
+    let most : address / size * size ≤ address / size * 64 = mul-le-mul_left (address / size) few in
+    omega (arith, near, most, few, lt)
+
+-- the same of the address of a request
+pub request_small : (shape : Shape) (request : Option ℕ) → is_block_size shape.block ≡ true → HasBlock shape request
+    → ForSome request (λ address. address < 2 ^ 63)
+request_small shape request is fits = λ x e. address_small x shape.block is (fits x e)

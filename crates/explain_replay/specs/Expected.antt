@@ -1,0 +1,46 @@
+-- What a rule asks that an event carries.
+use Rattle.std.specs.Prelude.{◌≡◌, ℕ, List, [], ◌∷◌, Option, Some, None}
+use Rattle.lf_rules.specs.declared.shape.Shape.{Shape}
+use Rattle.lf_rules.specs.declared.event.Event.{Event}
+use Rattle.lf_rules.specs.declared.event.Event.TheVariants.{Reply, Fill1, Evict1, Fill2, Evict2}
+use Rattle.lf_rules.specs.declared.rule.Rule.{Rule}
+use Rattle.lf_rules.specs.declared.rule.Rule.TheVariants.{ReplyData, FillData, EvictMask, EvictData}
+use Rattle.lf_rules.specs.Address.{Masks, block_bytes, masked, wide_masked}
+use Rattle.lf_rules.specs.Lines.{dirty_mask, dirty_masks}
+use Rattle.lf_rules.specs.State.{Local}
+use Rattle.lf_rules.specs.Table.{first_ready}
+use Rattle.explain_replay.specs.Carried.{filled, wide_filled}
+use Rattle.explain_replay.specs.declared.expected.Expected.{Expected}
+use Rattle.explain_replay.specs.declared.expected.Expected.TheVariants as expected
+
+abbrev pub AreBytes : Option Expected → List ℕ → Type 0
+AreBytes (Some (expected.Bytes due)) bytes = due.items ≡ bytes
+AreBytes _ bytes = ⊥
+
+-- one mask, that of a line of level one
+abbrev pub IsExpectedMask : Masks → ℕ → Type 0
+IsExpectedMask due mask = due.items ≡ record { 0 = mask } ∷ []
+
+abbrev pub IsMask : Option Expected → ℕ → Type 0
+IsMask (Some (expected.Masks due)) mask = IsExpectedMask due mask
+IsMask _ mask = ⊥
+
+abbrev pub AreMasks : Option Expected → Masks → Type 0
+AreMasks (Some (expected.Masks due)) masks = due ≡ masks
+AreMasks _ masks = ⊥
+
+-- This is what the rule asks of an event of a log in this state: of a reply the value that is ready, of a fill and
+-- of an eviction the bytes of
+-- memory, off the bytes of waiting stores or under the mask, and of an eviction the dirty mask of the line. Other
+-- rules ask nothing of the kind.
+abbrev pub IsExpected : Option Expected → Rule → ℕ → Event → Shape → Local → Type 0
+IsExpected due ReplyData log (Reply tag size bytes) shape now = AreBytes due (first_ready now.slice.ready log tag)
+IsExpected due FillData log (Fill1 block bytes) shape now = AreBytes due (filled shape now block bytes.items)
+IsExpected due FillData log (Fill2 second bytes) shape now = AreBytes due (wide_filled shape now second bytes.items)
+IsExpected due EvictMask log (Evict1 block mask bytes) shape now = IsMask due (dirty_mask now.slice.lines1 block)
+IsExpected due EvictMask log (Evict2 second masks bytes) shape now = AreMasks due (dirty_masks now.slice.lines2 second)
+IsExpected due EvictData log (Evict1 block mask bytes) shape now =
+    AreBytes due (masked (block_bytes shape now.memory block) mask.0)
+IsExpected due EvictData log (Evict2 second masks bytes) shape now =
+    AreBytes due (wide_masked shape now.memory second masks)
+IsExpected due rule log event shape now = due ≡ None

@@ -1,0 +1,169 @@
+//! What a rule asks that an event carries.
+
+ghost use Rattle.std.specs.Prelude.{◌≡◌, ◌<◌, ◌/◌, ◌∷◌, [], IfOk};
+ghost use Rattle.lf_rules.specs.declared.rule.Rule.TheVariants as rules;
+ghost use Rattle.lf_rules.specs.Fits.{Fits};
+ghost use Rattle.lf_rules.specs.InRange.{IsShape};
+ghost use Rattle.lf_rules.specs.Lines.{dirty_mask, dirty_masks};
+ghost use Rattle.lf_rules.specs.Table.{first_ready};
+ghost use Rattle.lf_replay.specs.Looks.{OfStep};
+ghost use Rattle.explain_replay.specs.Expected.{IsExpected, IsExpectedMask};
+
+use crate::carried::{evicted, filled, wide_evicted, wide_filled};
+use bank_state::sub_block;
+use lf_replay::{BlockState, Step};
+use lf_rules::{Event, Mask, Masks, NoMemory, Record, Rule, Shape};
+use std::alloc::Global;
+
+/// What a rule asks that an event carries.
+#[derive(Drop, PartialEq, Eq)]
+pub enum Expected {
+    /// These bytes. A fill's bytes of waiting stores are not judged: there stand those that it has.
+    Bytes(Vec<u8>),
+    /// These dirty masks: that of a line of level one, or those of a line of level two, block by block.
+    Masks(Masks),
+}
+
+/// A copy of the bytes.
+fn bytes_of(alloc: Global, bytes: &[u8]) -> Result<Vec<u8>, NoMemory>
+    ensures { IfOk result (λ copy. copy.items ≡ bytes.now) }
+{
+    let mut copy = Vec::new(alloc);
+    copy.extend_from_slice(bytes)?;
+    Ok(copy)
+}
+
+/// The value of the reply that is ready for the port and tag, and no bytes where none is.
+fn ready_value(alloc: Global, step: &Step, port: u8, tag: u8) -> Result<Vec<u8>, NoMemory>
+    ensures { IfOk result (λ value. OfStep step.now (λ _ now. value.items ≡ first_ready now.slice.ready port tag)) }
+{
+    let mut value = Vec::new(alloc);
+    let Some(ready) = step.reply_for(port, tag) else {
+        return Ok(value);
+    };
+    value.extend_from_slice(ready)?;
+    Ok(value)
+}
+
+/// The dirty mask of the block's line in level one, and a clean one where there is none.
+fn dirty_mask(step: &Step, block: u32) -> Masks
+    ensures { OfStep step.now (λ _ now. IsExpectedMask result (dirty_mask now.slice.lines1 block)) }
+{
+    let mut masks = Masks::new();
+    masks.push(step.block_state(block).line1.unwrap_or(Mask(0)));
+    masks
+}
+
+/// The dirty masks of the second-level block's line in level two, and none where there is none.
+fn dirty_masks(step: &Step, shape: &Shape, second: u32) -> Masks
+    requires in_range { IsShape shape.now }
+    requires shape { step.now.state.shape ≡ shape.now }
+    requires fits { second < 0x1_0000_0000 / shape.now.factor }
+    ensures { OfStep step.now (λ _ now. result ≡ dirty_masks now.slice.lines2 second) }
+{
+    let BlockState { line2, .. } = step.block_state(sub_block(shape, second, 0));
+    match line2 {
+        Some(masks) => masks,
+        None => Masks::new(),
+    }
+}
+
+/// What `ReplyData` asks.
+fn of_reply(alloc: Global, step: &Step, item: &Record) -> Result<Option<Expected>, NoMemory>
+    ensures { IfOk result (λ due. OfStep step.now (IsExpected due rules.ReplyData item.now.log item.now.event)) }
+{
+    match &item.event {
+        Event::Reply { tag, .. } => {
+            let value = ready_value(alloc, step, item.log, *tag)?;
+            Ok(Some(Expected::Bytes(value)))
+        }
+        _ => Ok(None),
+    }
+}
+
+/// What `FillData` asks.
+fn of_fill(
+    alloc: Global,
+    step: &Step,
+    shape: &Shape,
+    item: &Record,
+) -> Result<Option<Expected>, NoMemory>
+    requires in_range { IsShape shape.now }
+    requires shape { step.now.state.shape ≡ shape.now }
+    requires fits { Fits shape.now item.now }
+    ensures { IfOk result (λ due. OfStep step.now (IsExpected due rules.FillData item.now.log item.now.event)) }
+{
+    match &item.event {
+        Event::Fill1 { block, bytes } => {
+            let due = bytes_of(alloc, &filled(step, *block, bytes))?;
+            Ok(Some(Expected::Bytes(due)))
+        }
+        Event::Fill2 { block, bytes } => {
+            let due = wide_filled(alloc, step, shape, *block, bytes)?;
+            Ok(Some(Expected::Bytes(due)))
+        }
+        _ => Ok(None),
+    }
+}
+
+/// What `EvictMask` asks.
+fn of_mask(step: &Step, shape: &Shape, item: &Record) -> Option<Expected>
+    requires in_range { IsShape shape.now }
+    requires shape { step.now.state.shape ≡ shape.now }
+    requires fits { Fits shape.now item.now }
+    ensures { OfStep step.now (IsExpected result rules.EvictMask item.now.log item.now.event) }
+{
+    match &item.event {
+        Event::Evict1 { block, .. } => Some(Expected::Masks(dirty_mask(step, *block))),
+        Event::Evict2 { block, .. } => Some(Expected::Masks(dirty_masks(step, shape, *block))),
+        _ => None,
+    }
+}
+
+/// What `EvictData` asks.
+fn of_eviction(
+    alloc: Global,
+    step: &Step,
+    shape: &Shape,
+    item: &Record,
+) -> Result<Option<Expected>, NoMemory>
+    requires in_range { IsShape shape.now }
+    requires shape { step.now.state.shape ≡ shape.now }
+    requires fits { Fits shape.now item.now }
+    ensures { IfOk result (λ due. OfStep step.now (IsExpected due rules.EvictData item.now.log item.now.event)) }
+{
+    match &item.event {
+        Event::Evict1 { block, mask, .. } => {
+            let due = bytes_of(alloc, &evicted(step, *block, *mask))?;
+            Ok(Some(Expected::Bytes(due)))
+        }
+        Event::Evict2 { block, masks, .. } => {
+            let due = wide_evicted(alloc, step, shape, *block, masks)?;
+            Ok(Some(Expected::Bytes(due)))
+        }
+        _ => Ok(None),
+    }
+}
+
+/// What the rule asks that the record carries after the records that the step took, where it is a rule about
+/// that.
+pub(crate) fn expected_of(
+    alloc: Global,
+    step: &Step,
+    shape: &Shape,
+    rule: Rule,
+    item: &Record,
+) -> Result<Option<Expected>, NoMemory>
+    requires in_range { IsShape shape.now }
+    requires shape { step.now.state.shape ≡ shape.now }
+    requires fits { Fits shape.now item.now }
+    ensures { IfOk result (λ due. OfStep step.now (IsExpected due rule item.now.log item.now.event)) }
+{
+    match rule {
+        Rule::ReplyData => of_reply(alloc, step, item),
+        Rule::FillData => of_fill(alloc, step, shape, item),
+        Rule::EvictMask => Ok(of_mask(step, shape, item)),
+        Rule::EvictData => of_eviction(alloc, step, shape, item),
+        _ => Ok(None),
+    }
+}

@@ -1,0 +1,108 @@
+//! The blocks that a record names, and what a bank has of them.
+
+ghost use Rattle.std.specs.Prelude.{◌≡◌, ◌*◌, ◌/◌, ◌<◌, map, IfOk};
+ghost use Rattle.std.specs.Option.{ForSome};
+ghost use Rattle.lf_rules.specs.Address.{block_of, places, sub_block};
+ghost use Rattle.lf_rules.specs.Fits.{Fits};
+ghost use Rattle.lf_rules.specs.InRange.{IsShape};
+ghost use Rattle.lf_replay.specs.Looks.{IsBlockState, OfStep};
+ghost use Rattle.explain_replay.specs.Named.{blocks_of, AreNamed};
+
+use crate::addresses::first_address;
+use bank_state::sub_block;
+use lf_replay::{BlockState, Step};
+use lf_rules::{Event, NoMemory, Record, Shape};
+use std::alloc::Global;
+
+/// A block that a record names, as the bank has it before the record.
+#[derive(Drop, PartialEq, Eq)]
+pub struct NamedBlock {
+    /// Its number.
+    pub block: u32,
+    /// The address of its first byte.
+    pub address: u64,
+    /// What the bank has of it.
+    pub state: BlockState,
+}
+
+/// The blocks of a second-level block.
+fn sub_blocks(alloc: Global, shape: &Shape, second: u32) -> Result<Vec<u32>, NoMemory>
+    requires in_range { IsShape shape.now }
+    requires fits { second < 0x1_0000_0000 / shape.now.factor }
+    ensures { IfOk result (λ blocks. blocks.items ≡ map (sub_block shape.now second) (places shape.now)) }
+{
+    let mut blocks = Vec::new(alloc);
+    for place in 0..shape.factor {
+        blocks.push(sub_block(shape, second, place))?;
+    }
+    Ok(blocks)
+}
+
+/// The block of an address.
+fn block_of(shape: &Shape, address: u64) -> u32
+    requires in_range { IsShape shape.now }
+    requires fits { block_of shape.now address < 0x1_0000_0000 }
+    ensures { result ≡ block_of shape.now address }
+{
+    (address / u64::from(shape.block)) as u32
+}
+
+/// The blocks that the record names: its own, those of its second-level block, or that of the request at this
+/// address.
+pub(crate) fn blocks_of(
+    alloc: Global,
+    shape: &Shape,
+    request: Option<u64>,
+    item: &Record,
+) -> Result<Vec<u32>, NoMemory>
+    requires in_range { IsShape shape.now }
+    requires fits { Fits shape.now item.now }
+    requires request { ForSome request (λ address. block_of shape.now address < 0x1_0000_0000) }
+    ensures { IfOk result (λ blocks. blocks.items ≡ blocks_of shape.now request item.now.event) }
+{
+    match &item.event {
+        Event::Fill1 { block, .. }
+        | Event::Evict1 { block, .. }
+        | Event::SecondHit { block }
+        | Event::SecondPrimary { block, .. }
+        | Event::SecondMerge { block, .. }
+        | Event::SecondStall { block } => Ok(Vec::from_slice(alloc, &[*block])?),
+        Event::Fill2 { block, .. } | Event::Evict2 { block, .. } => {
+            sub_blocks(alloc, shape, *block)
+        }
+        _ => match request {
+            Some(address) => Ok(Vec::from_slice(alloc, &[block_of(shape, address)])?),
+            None => Ok(Vec::new(alloc)),
+        },
+    }
+}
+
+/// The block, with its address and what the bank has of it.
+fn named(step: &Step, shape: &Shape, block: u32) -> NamedBlock
+    ensures block { result.block ≡ block }
+    ensures address { result.address ≡ block * shape.now.block }
+    ensures state { OfStep step.now (IsBlockState result.state block) }
+{
+    NamedBlock {
+        block,
+        address: first_address(shape, block),
+        state: step.block_state(block),
+    }
+}
+
+/// The blocks, each with its address and what the bank has of it.
+pub(crate) fn named_blocks(
+    alloc: Global,
+    step: &Step,
+    shape: &Shape,
+    blocks: &[u32],
+) -> Result<Vec<NamedBlock>, NoMemory>
+    requires shape { step.now.state.shape ≡ shape.now }
+    ensures { IfOk result (λ all. OfStep step.now (AreNamed all.items blocks.now)) }
+{
+    let mut all = Vec::new(alloc);
+    for block in blocks {
+        all.push(named(step, shape, *block))?;
+    }
+    Ok(all)
+}

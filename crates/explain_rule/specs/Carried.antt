@@ -1,0 +1,77 @@
+-- The text of what a record has to carry, and of what it carries.
+use Rattle.std.specs.Prelude.{ℕ, nat_eq, bit_and, bit_xor, List, [], ◌∷◌, ◌++◌, length, map, slice_get, codes}
+use Rattle.std.specs.Prelude.{Option, Some, None}
+use Rattle.std.specs.Fmt.{decimal}
+use Rattle.std.specs.List.{range_with_len, common_prefix_len}
+use Rattle.lf_rules.specs.declared.mask.Mask.{Mask}
+use Rattle.lf_rules.specs.declared.event.Event.{Event}
+use Rattle.lf_rules.specs.declared.event.Event.TheVariants.{Evict1, Evict2}
+use Rattle.lf_rules.specs.declared.event.Record.{Record}
+use Rattle.lf_rules.specs.Address.{Masks, mask_at}
+use Rattle.lf_rules.specs.Lines.{no_masks}
+use Rattle.lf_codec.specs.Layout.{data_of}
+use Rattle.text_print.specs.Text.{hexadecimal, data_text, masks_text}
+use Rattle.explain_replay.specs.declared.broken.Broken.{Broken}
+use Rattle.explain_replay.specs.declared.expected.Expected.{Expected}
+use Rattle.explain_replay.specs.declared.expected.Expected.TheVariants as expected
+
+abbrev pub expected_line : List ℕ → List ℕ
+expected_line due = codes "  expected" ++ data_text due ++ 10 ∷ []
+
+-- the address of a byte, where there is one
+abbrev pub address_text : Option ℕ → List ℕ
+address_text None = []
+address_text (Some address) = codes ", address " ++ hexadecimal address
+
+-- the place of a byte, and its address among those of all
+abbrev pub place_text : List ℕ → ℕ → List ℕ
+place_text addresses place = decimal place ++ address_text (slice_get addresses place)
+
+-- the bytes that were found, with the place and the address of the first that differs
+abbrev pub found_line : List ℕ → List ℕ → List ℕ → List ℕ
+found_line due found addresses =
+    codes "  found   " ++ data_text found
+    ++ codes ", first different at byte " ++ place_text addresses (common_prefix_len nat_eq due found) ++ 10 ∷ []
+
+abbrev pub one_mask : Mask → Masks
+one_mask mask = record { items = mask ∷ [] }
+
+-- the masks that an eviction carries
+abbrev pub masks_of : Event → Masks
+masks_of (Evict1 block mask bytes) = one_mask mask
+masks_of (Evict2 second masks bytes) = masks
+masks_of _ = no_masks
+
+-- which bytes of a mask are not among those of the other
+abbrev pub beyond : ℕ → ℕ → ℕ
+beyond mask other = bit_and mask (bit_xor mask other)
+
+-- the same mask by mask
+abbrev pub all_beyond : Masks → Masks → List Mask
+all_beyond masks others = map (λ place. record { 0 = beyond (mask_at masks place) (mask_at others place) })
+    (range_with_len 0 (length masks.items))
+
+abbrev pub mask_line : List ℕ → List Mask → List ℕ
+mask_line label masks = codes "  " ++ label ++ masks_text masks ++ 10 ∷ []
+
+-- the masks that are due, those that were found, and which of their bytes are too many and too few
+abbrev pub masks_lines : Masks → Masks → List ℕ
+masks_lines due found =
+    mask_line (codes "expected") due.items ++ mask_line (codes "found   ") found.items
+    ++ mask_line (codes "too many") (all_beyond found due) ++ mask_line (codes "too few ") (all_beyond due found)
+
+-- what the rule asks that an event carries whose bytes have these addresses, and what it carries
+abbrev pub due_text : Option Expected → List ℕ → Event → List ℕ
+due_text None addresses event = []
+due_text (Some (expected.Bytes due)) addresses event =
+    expected_line due.items ++ found_line due.items (data_of event) addresses
+due_text (Some (expected.Masks due)) addresses event = masks_lines due (masks_of event)
+
+abbrev pub broken_text : Option Broken → Event → List ℕ
+broken_text None event = []
+broken_text (Some broken) event = due_text broken.expected broken.addresses.items event
+
+-- what the record has to carry and what it carries, where the rule is about that
+abbrev pub carried_text : Option Record → Option Broken → List ℕ
+carried_text None broken = []
+carried_text (Some r) broken = broken_text broken r.event

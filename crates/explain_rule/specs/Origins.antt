@@ -1,0 +1,52 @@
+-- Which records the state comes from that the broken rule is about.
+use Rattle.std.specs.Prelude.{◌≡◌, ℕ, nat_eq, List, map, take, Option, Some, None, slice_get}
+use Rattle.std.specs.List.{common_prefix_len}
+use Rattle.lf_rules.specs.declared.event.Event.{Event}
+use Rattle.lf_rules.specs.declared.event.Record.{Record}
+use Rattle.lf_rules.specs.declared.rule.Rule.{Rule}
+use Rattle.lf_rules.specs.declared.shape.Shape.{Shape}
+use Rattle.lf_codec.specs.Layout.{data_of}
+use Rattle.explain_history.specs.BankOrder.{records_at, in_order}
+use Rattle.explain_history.specs.Places.{places_of_log}
+use Rattle.explain_replay.specs.declared.broken.Broken.{Broken}
+use Rattle.explain_replay.specs.declared.expected.Expected.{Expected}
+use Rattle.explain_replay.specs.declared.expected.Expected.TheVariants as expected
+use Rattle.explain_origins.specs.declared.origins.Origins.{Origins}
+use Rattle.explain_origins.specs.Origins.{AreOrigins}
+use Rattle.explain_rule.specs.declared.explanation.Breach.{Breach}
+use Rattle.explain_rule.specs.declared.explanation.Breach.TheVariants.{Port, Bank}
+use Rattle.explain_rule.specs.Breach.{rule_of}
+
+-- the address of the first byte that differs, where the rule is about the bytes that an event carries, which have these
+-- addresses
+abbrev pub wrong_byte : Option Expected → List ℕ → Event → Option ℕ
+wrong_byte None addresses event = None
+wrong_byte (Some (expected.Bytes due)) addresses event = slice_get addresses
+    (common_prefix_len nat_eq due.items (data_of event))
+wrong_byte (Some (expected.Masks due)) addresses event = None
+
+abbrev pub wrong_address : Option Broken → Event → Option ℕ
+wrong_address None event = None
+wrong_address (Some broken) event = wrong_byte broken.expected broken.addresses.items event
+
+-- The state that the rule is about comes from these of the records at the places before, where a record breaks it.
+abbrev pub AreOriginsAt : Shape → List Record → List (Option ℕ) → Rule → Option Broken → Option Record →
+    Option Origins → Type 0
+AreOriginsAt shape rs before rule broken None origins = origins ≡ None
+AreOriginsAt shape rs before rule broken (Some r) origins =
+    AreOrigins shape rs before rule (wrong_address broken r.event) r origins
+
+-- At these places are the records before the one that breaks the rule: those of the port's log, or those of the bank
+-- with
+-- lower numbers.
+abbrev pub AreBefore : List Record → Breach → List (Option ℕ) → Type 0
+AreBefore rs (Port port at rule) before = before ≡ map Some (take at (places_of_log port rs))
+AreBefore rs (Bank bank number rule) before = records_at rs before ≡ in_order bank rs number
+
+-- The state that the rule is about comes from these of the records before, where a record breaks it.
+pub record ComeFrom (shape : Shape) (rs : List Record) (breach : Breach) (broken : Option Broken)
+    (item : Option Record) (origins : Option Origins)
+    : Type 0 where
+  pub before : List (Option ℕ)
+  pub are_before : AreBefore rs breach before
+  pub origins_are : AreOriginsAt shape rs before (rule_of breach) broken item origins

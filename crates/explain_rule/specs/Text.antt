@@ -1,0 +1,36 @@
+-- The text of an explanation.
+use Rattle.std.specs.Prelude.{ℕ, List, [], ◌∷◌, ◌++◌, Option, Some, None, codes}
+use Rattle.lf_rules.specs.declared.event.Record.{Record}
+use Rattle.lf_rules.specs.declared.rule.Rule.{Rule}
+use Rattle.lf_rules.specs.Text.{rule_text}
+use Rattle.explain_lines.specs.Marks.{Beside}
+use Rattle.explain_lines.specs.Lines.{line_at, lines_text}
+use Rattle.explain_origins.specs.declared.origins.Origins.{Origins}
+use Rattle.explain_origins.specs.Text as explain_origins
+use Rattle.explain_rule.specs.declared.explanation.Explanation.{Explanation}
+use Rattle.explain_history.specs.Touching.{record_at}
+use Rattle.explain_rule.specs.Carried.{carried_text}
+use Rattle.explain_rule.specs.Sentence.{sentence}
+use Rattle.explain_rule.specs.State.{state_text}
+
+-- what the rule asks
+abbrev pub asked_text : Rule → List ℕ
+asked_text rule = codes "  " ++ rule_text rule ++ codes " asks that " ++ sentence rule ++ 10 ∷ []
+
+-- the records before, under a heading of their own, where there are any
+abbrev pub before_text : List Record → List Beside → List ℕ → List ℕ
+before_text rs marks [] = []
+before_text rs marks (place ∷ places) = 10 ∷ codes "before it:" ++ 10 ∷ lines_text rs marks (place ∷ places)
+
+-- the records that the state of the rule comes from, where it is about such a state
+abbrev pub origins_text : List Record → List Beside → Option Origins → List ℕ
+origins_text rs marks None = []
+origins_text rs marks (Some origins) = explain_origins.origins_text rs marks origins
+
+-- the record, what the rule asks, what the record has to carry and carries, what the bank has of its blocks, the
+-- records that the state of the rule comes from, and the records before
+abbrev pub explained_text : List Record → List Beside → Explanation → List ℕ
+explained_text rs marks why =
+    line_at rs marks why.history.place ++ asked_text why.rule
+    ++ carried_text (record_at rs why.history.place) why.broken
+    ++ state_text why.broken ++ origins_text rs marks why.origins ++ before_text rs marks why.history.before.items

@@ -1,0 +1,270 @@
+//! The text of what a record has to carry, and of what it carries.
+
+ghost use Rattle.std.specs.Prelude.{◌≡◌, ◌<◌, length, nat_eq, slice_index, Some};
+ghost use Rattle.std.specs.List.{common_prefix_len};
+ghost use Rattle.explain_rule.specs.Carried.{expected_line, place_text, found_line, due_text, broken_text};
+ghost use Rattle.explain_rule.specs.Carried.{one_mask, masks_of, beyond, all_beyond, mask_line, masks_lines};
+ghost use Rattle.lf_rules.specs.Lines.{no_masks};
+
+use explain_replay::{Broken, Expected};
+use lf_rules::{Event, Mask, Masks, mask_at};
+use std::fmt;
+use text_print::{Data, MaskFields, data_of};
+
+/// Whether the bytes at a place are the same.
+fn same_at(due: &[u8], found: &[u8], place: usize) -> bool
+    requires due { place < length due.now }
+    requires found { place < length found.now }
+    ensures { result ≡ nat_eq (slice_index due.now place) (slice_index found.now place) }
+{
+    due[place] == found[place]
+}
+
+/// The place of the first byte that differs, which is behind all where none does.
+pub fn first_difference(due: &[u8], found: &[u8]) -> usize
+    ensures { result ≡ common_prefix_len nat_eq due.now found.now }
+{
+    let most = due.len().min(found.len());
+    for place in 0..most {
+        if !same_at(due, found, place) {
+            return place;
+        }
+    }
+    most
+}
+
+/// The bytes that are due.
+#[derive(Clone, Copy)]
+struct ExpectedLine<'a>(&'a [u8]);
+
+impl fmt::Display for ExpectedLine<'_> {
+    ghost output = { λ line. Some (expected_line line.0.now) };
+
+    fn fmt<W: fmt::Write>(&self, f: &mut fmt::Formatter<W>) -> fmt::Result {
+        let due = Data(self.0);
+        write!(f, "  expected{due}\n")
+    }
+}
+
+/// The place of a byte, and its address among those of all, where it is one of them.
+#[derive(Clone, Copy)]
+struct Place<'a> {
+    addresses: &'a [u64],
+    place: usize,
+}
+
+impl fmt::Display for Place<'_> {
+    ghost output = { λ it. Some (place_text it.addresses.now it.place) };
+
+    fn fmt<W: fmt::Write>(&self, f: &mut fmt::Formatter<W>) -> fmt::Result {
+        let place = self.place;
+        match self.addresses.get(place) {
+            Some(address) => write!(f, "{place}, address 0x{address:x}"),
+            None => write!(f, "{place}"),
+        }
+    }
+}
+
+/// The bytes that were found, with the place and the address of the first that differs.
+#[derive(Clone, Copy)]
+struct FoundLine<'a> {
+    due: &'a [u8],
+    found: &'a [u8],
+    addresses: &'a [u64],
+}
+
+impl fmt::Display for FoundLine<'_> {
+    ghost output = { λ line. Some (found_line line.due.now line.found.now line.addresses.now) };
+
+    fn fmt<W: fmt::Write>(&self, f: &mut fmt::Formatter<W>) -> fmt::Result {
+        let found = Data(self.found);
+        let place = Place {
+            addresses: self.addresses,
+            place: first_difference(self.due, self.found),
+        };
+        write!(f, "  found   {found}, first different at byte {place}\n")
+    }
+}
+
+fn no_masks() -> Masks
+    ensures { result ≡ no_masks }
+{
+    Masks::new()
+}
+
+fn one_mask(mask: Mask) -> Masks
+    ensures { result ≡ one_mask mask }
+{
+    let mut masks = Masks::new();
+    masks.push(mask);
+    masks
+}
+
+/// A copy of the masks.
+fn copied(masks: &Masks) -> Masks
+    ensures { result ≡ masks.now }
+{
+    let mut same = Masks::new();
+    let Ok(()) = same.try_extend_from_slice(masks) else {
+        unreachable!()
+    };
+    same
+}
+
+/// The masks that an eviction carries.
+pub fn masks_of(event: &Event) -> Masks
+    ensures { result ≡ masks_of event.now }
+{
+    match event {
+        Event::Evict1 { mask, .. } => one_mask(*mask),
+        Event::Evict2 { masks, .. } => copied(masks),
+        _ => no_masks(),
+    }
+}
+
+/// Which bytes of a mask are not among those of the other.
+fn beyond(mask: u64, other: u64) -> u64
+    ensures { result ≡ beyond mask other }
+{
+    mask & (mask ^ other)
+}
+
+/// Which bytes of the masks are not among those of the others, mask by mask.
+pub fn all_beyond(masks: &Masks, others: &Masks) -> Masks
+    ensures { result.items ≡ all_beyond masks.now others.now }
+{
+    let mut all = Masks::new();
+    let count = masks.len() as u32;
+    for place in 0..count {
+        let bytes = beyond(mask_at(masks, place), mask_at(others, place));
+        all.push(Mask(bytes));
+    }
+    all
+}
+
+/// Masks, behind what they are.
+#[derive(Clone, Copy)]
+struct MaskLine<'a> {
+    label: &'static str,
+    masks: &'a Masks,
+}
+
+impl fmt::Display for MaskLine<'_> {
+    ghost output = { λ line. Some (mask_line line.label.now line.masks.now.items) };
+
+    fn fmt<W: fmt::Write>(&self, f: &mut fmt::Formatter<W>) -> fmt::Result {
+        let label = self.label;
+        let masks = MaskFields(self.masks);
+        write!(f, "  {label}{masks}\n")
+    }
+}
+
+/// Which bytes of masks are not among those of others, behind what they are.
+#[derive(Clone, Copy)]
+struct BeyondLine<'a> {
+    label: &'static str,
+    masks: &'a Masks,
+    others: &'a Masks,
+}
+
+impl fmt::Display for BeyondLine<'_> {
+    ghost output = { λ line. Some (mask_line line.label.now (all_beyond line.masks.now line.others.now)) };
+
+    fn fmt<W: fmt::Write>(&self, f: &mut fmt::Formatter<W>) -> fmt::Result {
+        let label = self.label;
+        let all = all_beyond(self.masks, self.others);
+        let masks = MaskFields(&all);
+        write!(f, "  {label}{masks}\n")
+    }
+}
+
+/// The masks that are due, those that were found, and which bytes are too many and too few.
+#[derive(Clone, Copy)]
+struct MasksLines<'a> {
+    due: &'a Masks,
+    found: &'a Masks,
+}
+
+impl fmt::Display for MasksLines<'_> {
+    ghost output = { λ lines. Some (masks_lines lines.due.now lines.found.now) };
+
+    fn fmt<W: fmt::Write>(&self, f: &mut fmt::Formatter<W>) -> fmt::Result {
+        let MasksLines { due, found } = *self;
+        let expected = MaskLine {
+            label: "expected",
+            masks: due,
+        };
+        let carried = MaskLine {
+            label: "found   ",
+            masks: found,
+        };
+        let many = BeyondLine {
+            label: "too many",
+            masks: found,
+            others: due,
+        };
+        let few = BeyondLine {
+            label: "too few ",
+            masks: due,
+            others: found,
+        };
+        write!(f, "{expected}{carried}{many}{few}")
+    }
+}
+
+/// What a rule asks that an event carries whose bytes have these addresses, and what it carries.
+#[derive(Clone, Copy)]
+struct Due<'a> {
+    due: &'a Option<Expected>,
+    addresses: &'a [u64],
+    event: &'a Event,
+}
+
+impl fmt::Display for Due<'_> {
+    ghost output = { λ it. Some (due_text it.due.now it.addresses.now it.event.now) };
+
+    fn fmt<W: fmt::Write>(&self, f: &mut fmt::Formatter<W>) -> fmt::Result {
+        match self.due {
+            Some(Expected::Bytes(due)) => {
+                let expected = ExpectedLine(due);
+                let found = FoundLine {
+                    due,
+                    found: data_of(self.event),
+                    addresses: self.addresses,
+                };
+                write!(f, "{expected}{found}")
+            }
+            Some(Expected::Masks(due)) => {
+                let found = masks_of(self.event);
+                let lines = MasksLines { due, found: &found };
+                write!(f, "{lines}")
+            }
+            None => Ok(()),
+        }
+    }
+}
+
+/// What an event has to carry and what it carries, where a rule is about that.
+#[derive(Clone, Copy)]
+pub(crate) struct Carried<'a> {
+    pub event: &'a Event,
+    pub broken: &'a Option<Broken>,
+}
+
+impl fmt::Display for Carried<'_> {
+    ghost output = { λ carried. Some (broken_text carried.broken.now carried.event.now) };
+
+    fn fmt<W: fmt::Write>(&self, f: &mut fmt::Formatter<W>) -> fmt::Result {
+        match self.broken {
+            Some(broken) => {
+                let due = Due {
+                    due: &broken.expected,
+                    addresses: &broken.addresses,
+                    event: self.event,
+                };
+                write!(f, "{due}")
+            }
+            None => Ok(()),
+        }
+    }
+}

@@ -1,0 +1,139 @@
+//! The text of an explanation.
+
+ghost use Rattle.std.specs.Prelude.{Some};
+ghost use Rattle.explain_history.specs.Touching.{record_at};
+ghost use Rattle.explain_rule.specs.Carried.{carried_text};
+ghost use Rattle.explain_rule.specs.Text.{asked_text, before_text, origins_text, explained_text};
+ghost use Rattle.explain_lines.specs.Marks.{besides};
+
+use crate::carried::Carried;
+use crate::explanation::Explanation;
+use crate::sentence::sentence_of;
+use crate::state::State;
+use explain_history::{record_at, room};
+use explain_lines::{Listing, RecordLine, RecordLines};
+use explain_origins::{Origins, OriginsText};
+use lf_rules::Rule;
+use std::fmt;
+
+/// What a rule asks.
+#[derive(Clone, Copy)]
+struct Asked(Rule);
+
+impl fmt::Display for Asked {
+    ghost output = { λ asked. Some (asked_text asked.0) };
+
+    fn fmt<W: fmt::Write>(&self, f: &mut fmt::Formatter<W>) -> fmt::Result {
+        let rule = self.0;
+        let sentence = sentence_of(rule);
+        write!(f, "  {rule} asks that {sentence}\n")
+    }
+}
+
+/// What the record that breaks the rule has to carry and carries.
+#[derive(Clone, Copy)]
+struct RecordCarries<'a> {
+    listing: Listing<'a>,
+    why: &'a Explanation,
+}
+
+impl fmt::Display for RecordCarries<'_> {
+    ghost output = { λ it. Some
+        (carried_text (record_at it.listing.records.now.records it.why.now.history.place) it.why.now.broken) };
+
+    fn fmt<W: fmt::Write>(&self, f: &mut fmt::Formatter<W>) -> fmt::Result {
+        let mut room = room();
+        let place = self.why.history.place;
+        let Some(item) = record_at(self.listing.records, place, &mut room) else {
+            return Ok(());
+        };
+        let carried = Carried {
+            event: &item.event,
+            broken: &self.why.broken,
+        };
+        write!(f, "{carried}")
+    }
+}
+
+/// The records before, under a heading of their own, where there are any.
+#[derive(Clone, Copy)]
+struct Before<'a> {
+    listing: Listing<'a>,
+    places: &'a [usize],
+}
+
+impl fmt::Display for Before<'_> {
+    ghost output = { λ before. Some (before_text before.listing.records.now.records
+        (besides before.listing.marks.now) before.places.now) };
+
+    fn fmt<W: fmt::Write>(&self, f: &mut fmt::Formatter<W>) -> fmt::Result {
+        if self.places.is_empty() {
+            return Ok(());
+        }
+        let lines = RecordLines {
+            listing: self.listing,
+            places: self.places,
+        };
+        write!(f, "\nbefore it:\n{lines}")
+    }
+}
+
+/// The records that the state of the rule comes from, where it is about such a state.
+#[derive(Clone, Copy)]
+struct OriginsLines<'a> {
+    listing: Listing<'a>,
+    origins: &'a Option<Origins>,
+}
+
+impl fmt::Display for OriginsLines<'_> {
+    ghost output = { λ it. Some
+        (origins_text it.listing.records.now.records (besides it.listing.marks.now) it.origins.now) };
+
+    fn fmt<W: fmt::Write>(&self, f: &mut fmt::Formatter<W>) -> fmt::Result {
+        let Some(origins) = self.origins else {
+            return Ok(());
+        };
+        let text = OriginsText {
+            listing: self.listing,
+            origins,
+        };
+        write!(f, "{text}")
+    }
+}
+
+/// An explanation over the records of its trace. Its text is lines, each with its newline: the record, what
+/// the rule asks, what it asks that the record carries, what the bank has of its blocks, the records that the
+/// state of the rule comes from, and the records before.
+#[derive(Clone, Copy)]
+pub struct Explained<'a> {
+    pub listing: Listing<'a>,
+    pub why: &'a Explanation,
+}
+
+impl fmt::Display for Explained<'_> {
+    ghost output = { λ it. Some
+        (explained_text it.listing.records.now.records (besides it.listing.marks.now) it.why.now) };
+
+    fn fmt<W: fmt::Write>(&self, f: &mut fmt::Formatter<W>) -> fmt::Result {
+        let listing = self.listing;
+        let record = RecordLine {
+            listing,
+            place: self.why.history.place,
+        };
+        let asked = Asked(self.why.rule);
+        let carried = RecordCarries {
+            listing,
+            why: self.why,
+        };
+        let state = State(&self.why.broken);
+        let origins = OriginsLines {
+            listing,
+            origins: &self.why.origins,
+        };
+        let before = Before {
+            listing,
+            places: &self.why.history.before,
+        };
+        write!(f, "{record}{asked}{carried}{state}{origins}{before}")
+    }
+}

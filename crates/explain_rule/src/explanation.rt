@@ -1,0 +1,82 @@
+//! Which records explain why a trace is not legal.
+
+ghost use Rattle.std.specs.Prelude.{◌≡◌, ◌<◌, IfOk};
+ghost use Rattle.std.specs.List.{AllByRecursion};
+ghost use Rattle.lf_rules.specs.Fits.{Fits};
+ghost use Rattle.lf_rules.specs.InRange.{IsShape};
+ghost use Rattle.explain_rule.specs.Breach.{rule_of};
+ghost use Rattle.explain_rule.specs.Explanation.{HasBank, IsExplanation};
+
+use crate::found::{Found, find};
+use crate::origins::origins_at;
+use explain_history::History;
+use explain_origins::Origins;
+use explain_replay::Broken;
+use lf_codec::Packed;
+use lf_rules::{Memory, NoMemory, Rule, Shape};
+use std::alloc::Global;
+
+/// Which record breaks a rule, and which rule.
+#[derive(Clone, Copy, PartialEq, Eq)]
+pub enum Breach {
+    /// The record at the place `at` of the port's log.
+    Port { port: u8, at: u32, rule: Rule },
+    /// The record of the bank that has this number.
+    Bank { bank: u8, number: u32, rule: Rule },
+}
+
+impl Breach {
+    /// The rule that is broken.
+    pub fn rule(&self) -> Rule
+        ensures { result ≡ rule_of self.now }
+    {
+        match self {
+            Breach::Port { rule, .. } | Breach::Bank { rule, .. } => *rule,
+        }
+    }
+}
+
+/// Why a trace is not legal: a record that breaks a rule, and what came before it.
+#[derive(Drop, PartialEq, Eq)]
+pub struct Explanation {
+    /// The rule that the record breaks first.
+    pub rule: Rule,
+    /// The record, and the last before it that matter.
+    pub history: History,
+    /// What the rule asks that the record carries, and what the bank has of its blocks, where it is a rule of a bank.
+    pub broken: Option<Broken>,
+    /// The records before it that the state comes from, where the rule is about a state that records leave.
+    pub origins: Option<Origins>,
+}
+
+/// Why the trace with this memory and these records is not legal: the record that breaks the rule, what the
+/// rule asks that it carries, what the bank has of its blocks, the records that the state of the rule comes from,
+/// and the last records before it that matter, at most so many. Before a record of a port those of its log matter,
+/// and before one of a bank those with lower numbers that touch its second-level block.
+pub fn explain(
+    alloc: Global,
+    shape: &Shape,
+    memory: &Memory,
+    records: &Packed,
+    breach: &Breach,
+    most: usize,
+) -> Result<Explanation, NoMemory>
+    requires in_range { IsShape shape.now }
+    requires bank { HasBank shape.now breach.now }
+    requires fit { AllByRecursion (Fits shape.now) records.now.records }
+    ensures { IfOk result (IsExplanation shape.now memory.now.items records.now.records breach.now most) }
+{
+    let rule = breach.rule();
+    let Found {
+        history,
+        broken,
+        before,
+    } = find(alloc, shape, memory, records, breach, most)?;
+    let origins = origins_at(alloc, shape, records, &before, rule, &broken, history.place)?;
+    Ok(Explanation {
+        rule,
+        history,
+        broken,
+        origins,
+    })
+}

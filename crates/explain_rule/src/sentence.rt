@@ -1,0 +1,42 @@
+//! What each rule asks.
+
+ghost use Rattle.std.specs.Prelude.{◌≡◌};
+ghost use Rattle.explain_rule.specs.Sentence.{sentence};
+
+use lf_rules::Rule;
+
+/// What the rule asks, as a sentence that follows "asks that".
+pub fn sentence_of(rule: Rule) -> &'static str
+    ensures { result.now ≡ sentence rule }
+{
+    match rule {
+        Rule::TagRange => "the tag is below the number of tags of a port",
+        Rule::TagBusy => "the tag is not in use",
+        Rule::NotOutstanding => "the tag is owed a reply by this bank",
+        Rule::NotReady => "the bank has a reply ready for the tag",
+        Rule::ReplySize => "the reply has the size of its request",
+        Rule::ReplyData => "the reply has the bytes that its request found",
+        Rule::NotHead => "the request is the oldest of its port at this bank",
+        Rule::NotPresent => "level one has the block",
+        Rule::Present => "level one does not have the block",
+        Rule::PrimaryInFlight => "no register holds the block",
+        Rule::NotInFlight => "a register holds the block",
+        Rule::RegisterRange => "the register exists",
+        Rule::WrongRegister => "the register is the one that the organisation wants",
+        Rule::RegisterBusy => "the register is free",
+        Rule::MergeFull => "the register has room for a further target",
+        Rule::NeedlessStall => "there is no room for the target",
+        Rule::NotSupplied => "level two has supplied the block",
+        Rule::SetFull => "the set has a free way",
+        Rule::FillData => "the bytes are those of memory, off the bytes of waiting stores",
+        Rule::EvictAbsent => "the level has the line",
+        Rule::EvictMask => "the mask is the dirty mask of the line",
+        Rule::EvictData => "the bytes are those of memory under the mask",
+        Rule::NotAsked => "level one has asked for the block",
+        Rule::SecondAbsent => "level two has the second-level block",
+        Rule::SecondPresent => "level two does not have the second-level block",
+        Rule::NotFetched => "a level-two register holds the second-level block",
+        Rule::Inclusion => "level one has no line and no register on the second-level block",
+        Rule::FenceBusy => "no tag of the port is busy",
+    }
+}

@@ -1,0 +1,52 @@
+//! The records of a trace in the form of their bytes.
+
+ghost use Rattle.std.specs.Prelude.{◌≡◌, ℕ, List, IfOk};
+ghost use Rattle.lf_rules.specs.declared.event.Record.{Record};
+ghost use Rattle.lf_rules.specs.Fits.{Bytes};
+ghost use Rattle.lf_codec.specs.Trace.{FitsTrace};
+ghost use Rattle.lf_verdict.specs.Breaking.{first_offset};
+ghost use Rattle.explain_why.specs.Packing.{IsPacking};
+
+use crate::parts::take_memory;
+use lf_codec::{Header, Packed, Reader};
+use lf_rules::{Memory, NoMemory};
+use std::alloc::Global;
+
+/// The memory and the records of a trace.
+#[derive(Drop)]
+pub struct Packing {
+    pub memory: Memory,
+    pub records: Packed,
+    /// The offset of the first record, behind the header and the memory.
+    pub start: u64,
+}
+
+/// The offset of the first record of a trace with this header.
+fn first_record_at(header: &Header) -> u64
+    ensures { (memory : List (ℕ × Bytes)) (records : List Record) → FitsTrace header.now memory records
+        → result ≡ first_offset header.now memory }
+{
+    16 + u64::from(header.memory_count) * (4 + u64::from(header.block))
+}
+
+/// The memory and the records of the trace in these bytes, which have to be one. A record takes about the room of its
+/// bytes. A reader refuses a trace only where memory runs out.
+pub fn packed_in(alloc: Global, bytes: &[u8]) -> Result<Packing, NoMemory>
+    ensures { IfOk result (IsPacking bytes.now) }
+{
+    let mut reader = Reader::new(alloc);
+    let mut records = Packed::new(alloc);
+    let Ok(()) = reader.pack(bytes, &mut records) else {
+        return Err(NoMemory);
+    };
+    let mut memory = Vec::new(alloc);
+    take_memory(&mut reader, &mut memory)?;
+    let Ok(header) = reader.finish() else {
+        return Err(NoMemory);
+    };
+    Ok(Packing {
+        start: first_record_at(&header),
+        memory,
+        records,
+    })
+}

@@ -1,0 +1,127 @@
+//! Why a verdict is what it is.
+
+ghost use Rattle.std.specs.Prelude.{◌≡◌, Some, IfOk, IfSome};
+ghost use Rattle.explain_lines.specs.Marks.{told_by};
+ghost use Rattle.lf_rules.specs.InRange.{IsShape};
+ghost use Rattle.explain_why.specs.Logs.{IsCountable};
+ghost use Rattle.lf_verdict.specs.Incomplete.{IsIncompleteIn};
+ghost use Rattle.explain_why.specs.Why.{records_before, IsJudgement, IsUsageOf, IsWhyOfLegal, HasWhy};
+
+use crate::not_complete::{NotComplete, not_complete};
+use crate::not_legal::{NotLegal, not_legal};
+use crate::{packed_logs_in, records_in};
+use count_usage::{Usage, usage_of};
+use explain_lines::Times;
+use explain_refusal::up_to;
+use lf_codec::CodecFault;
+use lf_rules::{NoMemory, Shape};
+use lf_verdict::{Broken, Incomplete, Refusal, Verdict};
+use std::alloc::Global;
+
+/// Why a verdict is what it is.
+#[derive(Drop)]
+pub enum Why {
+    /// Why a trace is not legal.
+    No(NotLegal),
+    /// What a legal trace used at most.
+    Yes(Usage),
+    /// Why a legal trace is not complete.
+    NotComplete(NotComplete),
+    /// Where bytes are no trace, and how many event records stand before.
+    Format { fault: CodecFault, count: u64 },
+    /// The trace is of another hierarchy.
+    Header,
+}
+
+/// What is told of a verdict beside what explains it.
+#[derive(Clone, Copy)]
+pub struct Asked<'a> {
+    /// How many records before one that breaks a rule.
+    pub most: u16,
+    /// The time of each record, where a recorder wrote it down.
+    pub times: Option<&'a Times>,
+    /// Whether each request of a legal trace has to have a reply.
+    pub complete: bool,
+}
+
+/// What judging the bytes of a trace came to.
+#[derive(Clone, Copy)]
+pub struct Judgement<'a> {
+    pub verdict: &'a Verdict,
+    /// What broke first, where something did.
+    pub earliest: &'a Option<Broken>,
+    /// The first request of a legal trace that has no reply, where one has none and complete traces are asked for.
+    pub incomplete: Option<Incomplete>,
+}
+
+/// What the trace in these bytes uses at most.
+fn usage_in(alloc: Global, shape: &Shape, bytes: &[u8]) -> Result<Usage, NoMemory>
+    requires in_range { IsShape shape.now }
+    requires countable { IsCountable shape.now bytes.now }
+    ensures { IfOk result (IsUsageOf shape.now bytes.now) }
+{
+    let logs = packed_logs_in(alloc, shape, bytes)?;
+    usage_of(alloc, shape, &logs)
+}
+
+/// How many event records stand before an offset.
+fn records_before(alloc: Global, bytes: &[u8], offset: u64) -> Result<u64, NoMemory>
+    ensures { IfOk result (λ count. count ≡ records_before bytes.now offset) }
+{
+    let records = records_in(alloc, up_to(bytes, offset))?;
+    Ok(records.len() as u64)
+}
+
+/// Why a legal trace is not complete, or otherwise what it uses at most.
+fn why_of_legal(
+    alloc: Global,
+    shape: &Shape,
+    bytes: &[u8],
+    incomplete: Option<Incomplete>,
+    asked: &Asked<'_>,
+) -> Result<Why, NoMemory>
+    requires in_range { IsShape shape.now }
+    requires countable { IsCountable shape.now bytes.now }
+    requires incomplete { IfSome incomplete (λ found. IsIncompleteIn shape.now bytes.now (Some found)) }
+    ensures { IfOk result (IsWhyOfLegal shape.now bytes.now (told_by asked.now.times) asked.now.most incomplete) }
+{
+    match incomplete {
+        Some(found) => Ok(Why::NotComplete(not_complete(alloc, shape, bytes, found, asked)?)),
+        None => Ok(Why::Yes(usage_in(alloc, shape, bytes)?)),
+    }
+}
+
+/// Why the judgement of these bytes is what it is. A refused configuration, a refused number of workers, and that
+/// memory ran out or a thread was refused are not told of.
+pub fn why_of(
+    alloc: Global,
+    shape: &Shape,
+    bytes: &[u8],
+    judged: &Judgement<'_>,
+    asked: &Asked<'_>,
+) -> Result<Option<Why>, NoMemory>
+    requires in_range { IsShape shape.now }
+    requires judged { IsJudgement shape.now bytes.now judged.now.verdict.now judged.now.earliest.now
+        judged.now.incomplete }
+    ensures { IfOk result (HasWhy shape.now bytes.now (told_by asked.now.times) asked.now.most judged.now.verdict.now
+        judged.now.incomplete) }
+{
+    let Judgement {
+        verdict,
+        earliest,
+        incomplete,
+    } = *judged;
+    match verdict {
+        Verdict::No(fault) => {
+            let why = not_legal(alloc, shape, bytes, fault, earliest, asked)?;
+            Ok(Some(Why::No(why)))
+        }
+        Verdict::Yes { .. } => Ok(Some(why_of_legal(alloc, shape, bytes, incomplete, asked)?)),
+        Verdict::Refused(Refusal::Format(fault)) => Ok(Some(Why::Format {
+            fault: *fault,
+            count: records_before(alloc, bytes, fault.offset)?,
+        })),
+        Verdict::Refused(Refusal::Header(_)) => Ok(Some(Why::Header)),
+        Verdict::Refused(_) => Ok(None),
+    }
+}

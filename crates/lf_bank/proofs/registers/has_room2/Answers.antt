@@ -1,8 +1,0 @@
-use Rattle.std.proofs.Common.{◌∙◌}
-use Rattle.lf_bank.proofs.Told.{second_room_told}
-use Rattle.lf_bank.proofs.registers.has_room2.Goals as goal
-
-pub returns : goal.returns
-returns g c = λ fetched alike.
-    c.room_in.ensures.value ∙ second_room_told c.args.shape.now (g.O.Organisation.seen c.args.regs2.now) c.requires.file
-    fetched alike c.args.second c.args.target.now.destination c.args.target.now.position

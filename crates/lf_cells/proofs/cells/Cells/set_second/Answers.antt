@@ -1,6 +1,0 @@
-use Rattle.lf_cells.proofs.Words.{second_written}
-use Rattle.lf_cells.proofs.cells.Cells.set_second.Goals as goal
-
-pub returns-clause-second : goal.returns-clause-second
-returns-clause-second c =
-    second_written _ c.args.self.now c.self.view_is c.self.invariant.1 c.args.place c.args.second

@@ -1,6 +1,0 @@
-use Rattle.std.proofs.Common.{◌∙◌}
-use Rattle.lf_state.proofs.Bytes.{padded_is, zeros}
-use Rattle.lf_cells.proofs.padded.padded.Goals as goal
-
-pub returns : goal.returns
-returns c = c.put.ensures ∙ padded_is _ c.args.bytes.now (zeros 64)

@@ -1,8 +1,0 @@
-use Rattle.std.proofs.Common.{◌≡◌, ◌++◌, drop, map}
-use Rattle.lf_cells.specs.Index.{stands_in}
-use Rattle.lf_cells.proofs.Entries.{widened}
-use Rattle.lf_cells.proofs.table.widened.Given as goal
-
-abbrev pub invariant-loop-entry : goal.invariant-loop-entry
-invariant-loop-entry l = map stands_in l.wider.items ++ widened l.spread l.count (drop l.entry-index l.entries)
-    ≡ widened l.spread l.count l.entries

@@ -1,5 +1,0 @@
-use Rattle.lf_chunks.proofs.Widening.{IsWidened}
-use Rattle.lf_chunks.proofs.by_number.widened.Given as goal
-
-abbrev pub invariant-loop-slot : goal.invariant-loop-slot
-invariant-loop-slot l = IsWidened l.slots l.wider.items l.slot-index

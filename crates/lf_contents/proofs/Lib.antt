@@ -1,3 +1,0 @@
-pub mod Split
-mod Taken
-mod Within

@@ -1,6 +1,0 @@
-use Rattle.std.proofs.Common.{◌≡◌, ◌++◌}
-use Rattle.lf_coverage.specs.Coverage.{of_ports}
-use Rattle.lf_coverage.proofs.coverage.cover_ports.Given as goal
-
-abbrev pub invariant-loop-port : goal.invariant-loop-port
-invariant-loop-port g l = l.tallies.items ≡ l.initial.tallies.items ++ of_ports (g.L.LogRecords.lists l.logs) l.port

@@ -1,6 +1,0 @@
-use Rattle.std.proofs.Common.{◌≡◌, take}
-use Rattle.lf_coverage.specs.Standing.{last_kind}
-use Rattle.lf_coverage.proofs.standing.last_kind.Given as goal
-
-abbrev pub invariant-loop-request : goal.invariant-loop-request
-invariant-loop-request l = l.last ≡ last_kind l.block (take l.request-index l.waiting)

@@ -1,5 +1,0 @@
-use Rattle.std.proofs.Common.{rules}
-use Rattle.lf_demo.proofs.demo.written.Goals as goal
-
-pub returns : goal.returns
-returns c = search rules

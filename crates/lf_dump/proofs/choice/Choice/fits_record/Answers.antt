@@ -1,5 +1,0 @@
-use Rattle.std.proofs.Common.{rules}
-use Rattle.lf_dump.proofs.choice.Choice.fits_record.Goals as goal
-
-pub returns-then-agrees-3 : goal.returns-then-agrees-3
-returns-then-agrees-3 c = search rules

@@ -1,7 +1,0 @@
-use Rattle.lf_explanation.proofs.carried.masks_of.Goals as goal
-
-pub returns-in-Evict1 : goal.returns-in-Evict1
-returns-in-Evict1 c = rw c.in-Evict1.is c.one_mask.ensures
-
-pub returns-in-Evict2 : goal.returns-in-Evict2
-returns-in-Evict2 c = rw c.in-Evict2.is c.copied.ensures

@@ -1,7 +1,0 @@
-use Rattle.std.proofs.Common.{List, ap}
-use Rattle.lf_rules.specs.declared.mask.Mask.{Mask}
-use Rattle.lf_rules.specs.Address.{Masks}
-use Rattle.lf_explanation.proofs.carried.no_masks.Goals as goal
-
-pub returns : goal.returns
-returns c = ap (λ (ms : List Mask). let masks : Masks = record { items = ms } in masks) c.new.ensures

@@ -1,7 +1,0 @@
-use Rattle.std.proofs.Common.{◌≡◌, ◌++◌, ◌==◌, drop}
-use Rattle.lf_history.specs.Places.{places_from, places_of_log}
-use Rattle.lf_history.proofs.places.places_of_log.Given as goal
-
-abbrev pub invariant-loop-place : goal.invariant-loop-place
-invariant-loop-place l = l.places.items ++ places_from (λ r. r.log == l.log) l.place (drop l.place l.records.records)
-    ≡ places_of_log l.log l.records.records

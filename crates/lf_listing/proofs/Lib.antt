@@ -1,2 +1,0 @@
-pub mod Marking
-mod Placed

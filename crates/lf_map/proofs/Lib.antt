@@ -1,4 +1,0 @@
-mod Adding
-mod Keys
-mod Numbers
-mod Words

@@ -1,8 +1,0 @@
-use Rattle.std.proofs.Common.{◌≡◌, ◌++◌, drop}
-use Rattle.lf_numbering.specs.Cycle.{numbers_in}
-use Rattle.lf_numbering.proofs.cycle.numbers_from.Given as goal
-
-abbrev pub invariant-loop-place : goal.invariant-loop-place
-invariant-loop-place l =
-    l.numbers.items ++ numbers_in l.log l.bank (drop l.place l.records.records)
-    ≡ numbers_in l.log l.bank (drop l.from l.records.records)

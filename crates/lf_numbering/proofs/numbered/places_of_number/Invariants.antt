@@ -1,9 +1,0 @@
-use Rattle.std.proofs.Common.{◌≡◌, ◌++◌, drop}
-use Rattle.lf_history.specs.Places.{places_from, is_numbered}
-use Rattle.lf_numbering.specs.Numbered.{places_of_number}
-use Rattle.lf_numbering.proofs.numbered.places_of_number.Given as goal
-
-abbrev pub invariant-loop-place : goal.invariant-loop-place
-invariant-loop-place l =
-    l.places.items ++ places_from (is_numbered l.bank l.number) l.place (drop l.place l.records.records)
-    ≡ places_of_number l.bank l.number l.records.records

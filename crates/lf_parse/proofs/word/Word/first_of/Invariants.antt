@@ -1,6 +1,0 @@
-use Rattle.std.proofs.Common.{◌≡◌, drop}
-use Rattle.lf_parse.specs.Words.{named_in}
-use Rattle.lf_parse.proofs.word.Word.first_of.Given as goal
-
-abbrev pub invariant-loop-word : goal.invariant-loop-word
-invariant-loop-word l = named_in l.text (drop l.word-index l.words) ≡ named_in l.text l.words

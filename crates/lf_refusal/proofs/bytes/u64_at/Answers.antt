@@ -1,6 +1,0 @@
-use Rattle.std.proofs.Common.{arith}
-use Rattle.lf_refusal.proofs.Numbers.{halves_of_eight}
-use Rattle.lf_refusal.proofs.bytes.u64_at.Goals as goal
-
-pub returns : goal.returns
-returns c = omega (arith, halves_of_eight c.args.bytes.now c.args.place)

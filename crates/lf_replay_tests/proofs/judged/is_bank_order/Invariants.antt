@@ -1,6 +1,0 @@
-use Rattle.std.proofs.Common.{take}
-use Rattle.lf_replay.specs.Step.{IsBankOrder}
-use Rattle.lf_replay_tests.proofs.judged.is_bank_order.Given as goal
-
-abbrev pub invariant-loop-at : goal.invariant-loop-at
-invariant-loop-at l = IsBankOrder l.shape l.bank (take l.at l.records)

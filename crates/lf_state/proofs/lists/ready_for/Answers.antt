@@ -1,5 +1,0 @@
-use Rattle.lf_state.proofs.Finds.{ready_lent}
-use Rattle.lf_state.proofs.lists.ready_for.Goals as goal
-
-pub returns : goal.returns
-returns c = ready_lent c.args.ready.now c.args.port c.args.tag c.ready_entry.result c.ready_entry.ensures

@@ -1,6 +1,0 @@
-use Rattle.std.proofs.Common.{◌≡◌, ◌++◌}
-use Rattle.lf_state.specs.Bytes.{flat_of}
-use Rattle.lf_state.proofs.memory.copy_near.Given as goal
-
-abbrev pub invariant-loop-block : goal.invariant-loop-block
-invariant-loop-block l = flat_of (l.near ++ l.far.entries) ≡ flat_of (l.initial.near ++ l.far.entries)

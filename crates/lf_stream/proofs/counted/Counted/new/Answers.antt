@@ -1,5 +1,0 @@
-use Rattle.std.proofs.Common.{rules}
-use Rattle.lf_stream.proofs.counted.Counted.new.Goals as goal
-
-pub returns-clause-calls : goal.returns-clause-calls
-returns-clause-calls g c = search rules

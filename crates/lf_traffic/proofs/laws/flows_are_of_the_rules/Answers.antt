@@ -1,5 +1,0 @@
-use Rattle.lf_traffic.proofs.Rules.{flows_are_of_the_rules}
-use Rattle.lf_traffic.proofs.laws.flows_are_of_the_rules.Goals as goal
-
-pub returns : goal.returns
-returns c = flows_are_of_the_rules

@@ -1,5 +1,0 @@
-use Rattle.std.proofs.Common.{append_assoc}
-use Rattle.lf_wave.proofs.head.HeldVariableDisplay.fmt.Goals as goal
-
-pub returns-clause-writes : goal.returns-clause-writes
-returns-clause-writes g c plain ok = simp append_assoc (simp append_assoc at (c.write.ensures.writes plain ok))

@@ -1,8 +1,0 @@
-use Rattle.std.proofs.Common.{rules}
-use Rattle.std.proofs.lemmas.Fn.{filter_same}
-use Rattle.lf_wave.specs.Registers.{is_of_other_block}
-use Rattle.lf_wave.proofs.registers.fill.Goals as goal
-
-pub returns : goal.returns
-returns c = filter_same _ (is_of_other_block c.args.bank c.args.block) _ (λ x b f' k. search rules) _ _
-    c.retain.ensures.filtered

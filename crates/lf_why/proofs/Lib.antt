@@ -1,4 +1,0 @@
-mod Records
-mod Waits
-mod Incomplete
-pub mod Earliest

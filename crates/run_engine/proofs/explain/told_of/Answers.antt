@@ -1,0 +1,32 @@
+use Rattle.std.proofs.Common.{◌≡◌, ℕ, List, subst, sym, rules}
+use Rattle.explain_why.specs.Why.{IsJudgement}
+use Rattle.run_engine.proofs.ExplainLemmas.{completion_is, explained_complete, explained_lines}
+use Rattle.run_engine.proofs.explain.told_of.Goals as goal
+
+pub lines_for-lines-requires-clause-judged : goal.lines_for-lines-requires-clause-judged
+lines_for-lines-requires-clause-judged c =
+    let shape = c.args.shape.now in
+    let judged = c.args.judged in
+    let found = c.incomplete_if-incomplete.result in
+    let same : c.as_slice.result.now ≡ judged.bytes.items = search rules in
+    subst (λ (bytes : List ℕ). IsJudgement shape bytes judged.verdict judged.earliest found) (sym same)
+    (record {
+      verdict = c.requires.judged;
+      is_earliest = c.requires.earliest;
+      is_incomplete = completion_is c.args.asked.now.complete shape judged.bytes.items judged.verdict found
+          (c.incomplete_if-incomplete.ensures shape c.requires.incomplete);
+    })
+
+pub returns-clause-incomplete : goal.returns-clause-incomplete
+returns-clause-incomplete c =
+    let shape = c.args.shape.now in
+    let judged = c.args.judged in
+    explained_complete c.args.asked.now.complete shape judged.bytes.items judged.verdict
+    c.incomplete_if-incomplete.result c.lines_for-lines.result c.of.result c.of.ensures.told c.of.ensures.memory
+    (c.incomplete_if-incomplete.ensures shape c.requires.incomplete)
+
+pub returns-clause-why : goal.returns-clause-why
+returns-clause-why c =
+    let same : c.as_slice.result.now ≡ c.args.judged.bytes.items = search rules in
+    explained_lines _ _ _ _ c.args.judged.verdict c.incomplete_if-incomplete.result c.lines_for-lines.result c.of.result
+    c.of.ensures.told c.of.ensures.memory (rw same at c.lines_for-lines.ensures)

@@ -1,0 +1,22 @@
+use Rattle.std.proofs.Common.{◌≡◌, Ok, refl, inl, inr, rules}
+use Rattle.lf_verdict.specs.declared.answer.Refusal.TheVariants.{Memory}
+use Rattle.lf_verdict.specs.declared.answer.Verdict.TheVariants.{Refused}
+use Rattle.run_engine.specs.declared.watch.Watched.TheVariants.{Judged, Broken}
+use Rattle.run_engine.specs.Watch.{broken_line}
+use Rattle.run_engine.proofs.watch.tell_broken.Goals as goal
+
+pub returns-in_err-put-in-Ok-clause-prefix : goal.returns-in_err-put-in-Ok-clause-prefix
+returns-in_err-put-in-Ok-clause-prefix g c = λ _.
+    let text : c.as_bytes.result.now ≡ broken_line c.args.found = search rules in
+    (Ok (Broken c.args.found), inl refl, rw text at c.in_err-put-in-Ok.ensures.prefix)
+
+pub returns-in_err-put-in-Err-clause-prefix : goal.returns-in_err-put-in-Err-clause-prefix
+returns-in_err-put-in-Err-clause-prefix g c = λ _. (
+  Ok (Judged (Refused Memory)),
+  inr refl,
+  rw c.no_memory.ensures at
+      c.in_err-put-in-Err.ensures.prefix,
+)
+
+pub returns-in_ok-put-in-Err-clause-whole : goal.returns-in_ok-put-in-Err-clause-whole
+returns-in_ok-put-in-Err-clause-whole g c = λ _. rw c.no_memory.ensures at c.in_ok-put-in-Err.ensures.whole

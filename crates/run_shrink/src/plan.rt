@@ -1,0 +1,201 @@
+//! Which trace is tried next.
+
+use crate::candidate::{Candidate, Kept};
+use crate::keys::{STAGES, Stage, keys_of};
+use crate::numbers::{bank_order, copies, renumbered};
+use crate::requests::{second_of, second_touched};
+use crate::tags::tagged_anew;
+use lf_rules::{Memory, NoMemory, Shape};
+use std::alloc::Global;
+
+/// How many of the last records before the one that breaks the rule stay where they touch its second-level block. They
+/// show why it breaks the rule.
+const SHOWN: usize = 8;
+
+/// A trace of fewer events than this is short enough to be read, so what shows why the rule is broken stays.
+const SHORT: usize = 30;
+
+/// Leaves parts of the smallest trace out: a half of them, then quarters, down to single ones, stage by stage, and
+/// again from the first stage until nothing more is kept. Where the trace is not short by then, half as many records
+/// that show why the rule is broken stay, and so on until none does.
+#[derive(Drop)]
+pub(crate) struct Plan<'a> {
+    alloc: Global,
+    shape: &'a Shape,
+    stage: Stage,
+    /// How many records that show why the rule is broken stay.
+    shown: usize,
+    /// The places of the smallest trace's records, by bank and number.
+    order: Vec<usize>,
+    /// The key of the part that each of its records belongs to.
+    keys: Vec<Option<u64>>,
+    /// Those keys, each once, by size.
+    parts: Vec<u64>,
+    /// The next candidate leaves `len` of the parts out, from this one on.
+    at: usize,
+    len: usize,
+    /// Whether a candidate was kept since the first stage began.
+    was_kept: bool,
+}
+
+/// The keys that there are, each once, by size.
+fn parts_of(alloc: Global, keys: &[Option<u64>]) -> Result<Vec<u64>, NoMemory> {
+    let mut parts = Vec::new(alloc);
+    for key in keys {
+        if let Some(key) = key {
+            parts.push(*key)?;
+        }
+    }
+    parts.sort_unstable();
+    parts.dedup();
+    Ok(parts)
+}
+
+impl<'a> Plan<'a> {
+    /// A plan that begins with the first stage.
+    pub fn new(alloc: Global, shape: &'a Shape, best: &Kept) -> Result<Plan<'a>, NoMemory> {
+        let mut plan = Plan {
+            alloc,
+            shape,
+            stage: Stage::Behind,
+            shown: SHOWN,
+            order: Vec::new(alloc),
+            keys: Vec::new(alloc),
+            parts: Vec::new(alloc),
+            at: 0,
+            len: 1,
+            was_kept: false,
+        };
+        plan.begin(best)?;
+        Ok(plan)
+    }
+
+    /// Looks at the smallest trace again.
+    fn look(&mut self, best: &Kept) -> Result<(), NoMemory> {
+        self.order = bank_order(self.alloc, &best.records)?;
+        self.keys = keys_of(
+            self.alloc,
+            self.shape,
+            self.stage,
+            self.shown,
+            best,
+            &self.order,
+        )?;
+        self.parts = parts_of(self.alloc, &self.keys)?;
+        if self.stage == Stage::Memory {
+            self.parts.push(0)?;
+        }
+        Ok(())
+    }
+
+    /// Begins a stage.
+    fn begin(&mut self, best: &Kept) -> Result<(), NoMemory> {
+        self.look(best)?;
+        self.at = 0;
+        self.len = (self.parts.len() / 2).max(1);
+        Ok(())
+    }
+
+    /// The next candidate, where there is one.
+    pub fn next(&mut self, best: &Kept) -> Result<Option<Candidate>, NoMemory> {
+        for _ in 0..2 * STAGES {
+            if self.at < self.parts.len() {
+                return Ok(Some(self.candidate(best)?));
+            }
+            if !self.goes_on(best)? {
+                return Ok(None);
+            }
+        }
+        Ok(None)
+    }
+
+    /// Goes on to half as many parts at once, to the next stage, or to the first one again.
+    fn goes_on(&mut self, best: &Kept) -> Result<bool, NoMemory> {
+        if self.len > 1 {
+            self.len /= 2;
+            self.at = 0;
+            return Ok(true);
+        }
+        match self.stage.next() {
+            Some(stage) => self.stage = stage,
+            None if self.was_kept => self.start_again(),
+            None if self.shown > 0 && best.records.len() >= SHORT => {
+                self.shown /= 2;
+                self.start_again();
+            }
+            None => return Ok(false),
+        }
+        self.begin(best)?;
+        Ok(true)
+    }
+
+    fn start_again(&mut self) {
+        self.stage = Stage::Behind;
+        self.was_kept = false;
+    }
+
+    /// Whether the last candidate was kept, and is the smallest trace now.
+    pub fn note(&mut self, best: &Kept, was_kept: bool) -> Result<(), NoMemory> {
+        if !was_kept {
+            self.at = self.at.saturating_add(self.len);
+            return Ok(());
+        }
+        self.was_kept = true;
+        if self.stage == Stage::Memory {
+            self.at = self.at.saturating_add(1);
+        }
+        self.look(best)
+    }
+
+    /// The smallest trace without the parts that are left out.
+    fn candidate(&self, best: &Kept) -> Result<Candidate, NoMemory> {
+        if self.stage == Stage::Memory {
+            return Ok(Candidate {
+                memory: self.touched_memory(best)?,
+                records: copies(self.alloc, &best.records)?,
+            });
+        }
+        let stays = self.stays()?;
+        let records = if self.stage == Stage::Replies {
+            let tagged = tagged_anew(self.alloc, self.shape, &best.records, &self.order, &stays)?;
+            renumbered(self.alloc, &tagged, &self.order, &stays)?
+        } else {
+            renumbered(self.alloc, &best.records, &self.order, &stays)?
+        };
+        Ok(Candidate {
+            memory: best.memory.clone()?,
+            records,
+        })
+    }
+
+    /// Whether each record stays.
+    fn stays(&self) -> Result<Vec<bool>, NoMemory> {
+        let first = self.parts.get(self.at).copied();
+        let next = self.parts.get(self.at.saturating_add(self.len)).copied();
+        let mut stays = Vec::new(self.alloc);
+        for key in &self.keys {
+            let leaves = key.is_some() && *key >= first && (next.is_none() || *key < next);
+            stays.push(!leaves)?;
+        }
+        Ok(stays)
+    }
+
+    /// The blocks of memory that some record touches.
+    fn touched_memory(&self, best: &Kept) -> Result<Memory, NoMemory> {
+        let mut seconds = Vec::new(self.alloc);
+        for item in &best.records {
+            if let Some(second) = second_touched(self.shape, &best.records, None, item) {
+                seconds.push(second)?;
+            }
+        }
+        seconds.sort_unstable();
+        let mut memory = Vec::new(self.alloc);
+        for (block, bytes) in &best.memory {
+            let second = second_of(self.shape, u64::from(*block)).unwrap_or(0);
+            if seconds.binary_search(&second).is_ok() {
+                memory.push((*block, bytes.clone()?))?;
+            }
+        }
+        Ok(memory)
+    }
+}

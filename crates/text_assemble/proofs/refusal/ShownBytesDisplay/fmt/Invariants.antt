@@ -1,0 +1,11 @@
+-- What has been written since the loop began is the bytes so far.
+use Rattle.std.proofs.Common.{take}
+use Rattle.std.specs.Fmt.{HasWritten, IsPlainFormatter}
+use Rattle.std.specs.List.{flat_map}
+use Rattle.text_assemble.specs.Refusal.{shown}
+use Rattle.text_assemble.proofs.refusal.ShownBytesDisplay.fmt.Given as goal
+
+abbrev pub invariant-loop-byte : goal.invariant-loop-byte
+invariant-loop-byte g l =
+    IsPlainFormatter l.initial.f → HasWritten g.W.Write.write_str_gives l.initial.f
+    (flat_map shown (take l.byte-index l.self.0.now)) l.f

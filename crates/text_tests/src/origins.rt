@@ -1,0 +1,99 @@
+//! What the state of a rule comes from, with the texts written out.
+
+use explain_history::{packed, places_in_order};
+use explain_lines::{Listing, Marks};
+use explain_origins::{BrokenRule, Origins, OriginsText, origins_of};
+use lf_codec::Packed;
+use lf_rules::{Level, OrgShape, Rule, Shape};
+use std::alloc::{AllocError, Global};
+use std::process::Abort;
+use std::test::Fail;
+use trace_samples::records;
+
+const LEVEL: Level = Level {
+    sets: 1,
+    ways: 2,
+    organisation: OrgShape::Implicit { registers: 2 },
+};
+
+const SHAPE: Shape = Shape {
+    ports: 1,
+    banks: 1,
+    block: 8,
+    tags: 4,
+    factor: 1,
+    level1: LEVEL,
+    level2: LEVEL,
+};
+
+/// The text of origins over records with these marks.
+fn text_of<'a>(
+    alloc: Global,
+    records: &'a Packed,
+    marks: &'a Marks,
+    origins: &'a Origins,
+) -> Result<String, AllocError> {
+    let listing = Listing { records, marks };
+    let text = OriginsText { listing, origins };
+    format!(in alloc; "{text}")
+}
+
+/// Fails where the state of the rule that the last of these events breaks comes from others. They stand at the
+/// offsets 16, 24, and so on.
+fn assert_origins<T: Abort + AllocGlobal>(
+    rt: &T,
+    events: &str,
+    rule: Rule,
+    address: Option<u64>,
+    due: &str,
+) -> Result<(), Fail> {
+    let records = records(rt.alloc(), &SHAPE, &[events])?;
+    let Some((item, before)) = records.split_last() else {
+        return Err(Fail::from("there is no record"));
+    };
+    let Ok(packed) = packed(rt.alloc(), &records) else {
+        return Err(Fail::from("out of memory"));
+    };
+    let Ok(places) = places_in_order(rt.alloc(), &packed, 0, before.len()) else {
+        return Err(Fail::from("out of memory"));
+    };
+    let broken = BrokenRule {
+        rule,
+        item,
+        address,
+    };
+    let Ok(Some(origins)) = origins_of(rt.alloc(), &SHAPE, &packed, &places, broken) else {
+        return Err(Fail::from("the rule has no such state"));
+    };
+    let marks = Marks {
+        offsets: Vec::from_array(rt.alloc(), [16, 24, 32, 40, 48, 56, 64, 72])?,
+        times: Vec::new(rt.alloc()),
+    };
+    let found = text_of(rt.alloc(), &packed, &marks, &origins)?;
+    assert_eq!(rt; found.as_str(), due);
+    Ok(())
+}
+
+/// A line that was evicted is not told.
+#[test]
+fn lines_of_a_set(rt: HostRuntime) -> Result<(), Fail> {
+    let due = "
+the lines of the set:
+fill1 bank=0 number=1 block=6 bytes=0000000000000000 ; at 24
+fill1 bank=0 number=3 block=7 bytes=0000000000000000 ; at 40
+";
+    let events = "F1 5, F1 6, E1 5 0, F1 7, F1 5";
+    assert_origins(&rt, events, Rule::SetFull, None, due)
+}
+
+/// A store to other bytes is not told, and neither is one that was accepted after the load.
+#[test]
+fn last_store_of_a_byte(rt: HostRuntime) -> Result<(), Fail> {
+    let stores = "S 0 4@8=00000000, L 1 8@8, S 2 4@8=00000000, S 3 4@12=00000000";
+    let events = format!(in rt.alloc(); "{stores}, H 0, H 1, H 2, H 3, R 1")?;
+    let due = "
+the last accepted store of the first byte that differs:
+hit bank=0 number=4 port=0 tag=0 ; at 48
+";
+    assert_origins(&rt, &events, Rule::ReplyData, Some(11), due)
+}

@@ -1,0 +1,6 @@
+//! Which bytes something was fed, for contracts alone.
+#![tactic(auto)]
+
+mod fed;
+
+pub use fed::Fed;

@@ -1,0 +1,17 @@
+use Rattle.std.proofs.Common.{◌++◌, ap}
+use Rattle.std.proofs.lemmas.Result.{on_ok_weaker}
+use Rattle.wave_draw.specs.declared.order.Order.{Order}
+use Rattle.wave_draw.specs.Ordered.{left_by}
+use Rattle.wave_draw.proofs.Turns.{draws_more}
+use Rattle.wave_draw.proofs.order.Order.put_records.Goals as goal
+
+pub returns-clause-drawn : goal.returns-clause-drawn
+returns-clause-drawn c records come =
+    let old = c.args.self.now in
+    let kept = c.in_ok-keep.ensures in
+    let more = c.args.reader.now.records in
+    on_ok_weaker c.put_due.result
+    (draws_more c.args.times.now old c.keep.new.self c.put_due.new.self _ _ _ _ records more come
+    (ap (λ (o : Order). o.logs) kept.rest) (ap (λ (o : Order). o.next) kept.rest) c.put_due.ensures.logs)
+    (c.put_due.ensures.due (left_by old.logs.items records ++ more)
+    (kept.kept (left_by old.logs.items records) come.waiting))

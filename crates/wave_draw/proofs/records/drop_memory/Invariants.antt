@@ -1,0 +1,9 @@
+-- Only the memory records go.
+use Rattle.std.proofs.Common.{◌≡◌, length}
+use Rattle.wave_draw.proofs.records.drop_memory.Given as goal
+
+abbrev pub invariant-all : goal.invariant-all
+invariant-all l = l.reader ≡ record l.initial.reader { memory = l.reader.memory }
+
+abbrev pub decreases-all : goal.decreases-all
+decreases-all l = length l.reader.memory

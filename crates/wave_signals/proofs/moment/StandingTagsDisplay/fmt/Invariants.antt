@@ -1,0 +1,11 @@
+-- What has been written since the loop began is the tags so far.
+use Rattle.std.proofs.Common.{take}
+use Rattle.std.specs.List.{flat_map}
+use Rattle.std.specs.Fmt.{HasWritten, IsPlainFormatter}
+use Rattle.wave_signals.specs.Wave.{standing_tag}
+use Rattle.wave_signals.proofs.moment.StandingTagsDisplay.fmt.Given as goal
+
+abbrev pub invariant-loop-entry : goal.invariant-loop-entry
+invariant-loop-entry g l =
+    IsPlainFormatter l.initial.f → HasWritten g.W.Write.write_str_gives l.initial.f
+    (flat_map (standing_tag l.self.tags l.self.busy.now) (take l.entry-index l.self.busy.now)) l.f

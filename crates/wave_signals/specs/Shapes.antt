@@ -1,0 +1,28 @@
+-- The wave of a whole trace of a shape, and which signals it has.
+use Rattle.std.specs.Prelude.{ℕ, ◌-◌, ◌^◌, min, None}
+use Rattle.lf_rules.specs.declared.shape.OrgShape.{OrgShape}
+use Rattle.lf_rules.specs.declared.shape.Shape.{Shape}
+use Rattle.lf_rules.specs.Registers.{registers_of}
+use Rattle.lf_rules.specs.Table.{destinations, destinations2}
+use Rattle.wave_signals.specs.declared.view.View.{View}
+
+-- so many registers of a level have signals at most
+abbrev pub most_registers : ℕ
+most_registers = 64
+
+abbrev pub with_signals : OrgShape → ℕ → ℕ
+with_signals organisation destinations = min (registers_of organisation destinations) most_registers
+
+-- All records, with no mark. Each tag has a signal, and of the registers of each level the first ones.
+abbrev pub whole : Shape → View
+whole shape = record {
+  from = 0;
+  to = 2 ^ 64 - 1;
+  tags = min shape.tags (2 ^ 16 - 1);
+  banks = min shape.banks (2 ^ 8 - 1);
+  level1_registers = with_signals shape.level1.organisation (destinations shape);
+  level2_registers = with_signals shape.level2.organisation (destinations2 shape);
+  block = shape.block;
+  factor = shape.factor;
+  marker = None;
+}

@@ -1,0 +1,179 @@
+//! What a record changes.
+
+ghost use Rattle.std.specs.Prelude.{◌≡◌, Some};
+ghost use Rattle.wave_signals.specs.Wave.{port_changes, request_changes, bank_changes, record_changes};
+
+use crate::change::{BusyChange, NumberChange, TextChange};
+use crate::event::{event_signal, word_of};
+use crate::signal::Signal;
+use lf_rules::{Event, Record};
+use std::fmt;
+
+/// The values that a record gives its port, of whose tags so many are busy then.
+#[derive(Clone, Copy)]
+struct PortChanges<'a> {
+    tags: u16,
+    outstanding: u64,
+    port: u8,
+    event: &'a Event,
+}
+
+impl fmt::Display for PortChanges<'_> {
+    ghost output = { λ c. Some (port_changes c.tags c.outstanding c.port c.event.now) };
+
+    fn fmt<W: fmt::Write>(&self, f: &mut fmt::Formatter<W>) -> fmt::Result {
+        let PortChanges {
+            tags,
+            outstanding,
+            port,
+            event,
+        } = *self;
+        let outstanding = NumberChange::new(outstanding, Signal::Outstanding { port });
+        match event {
+            Event::Issue { tag, address, .. } => {
+                let tag = *tag;
+                let named = NumberChange::new(u64::from(tag), Signal::PortTag { port });
+                let address = NumberChange::new(*address, Signal::Address { port });
+                let busy = BusyChange {
+                    tags,
+                    up: true,
+                    port,
+                    tag,
+                };
+                write!(f, "{named}{address}{busy}{outstanding}")
+            }
+            Event::Reply { tag, .. } => {
+                let tag = *tag;
+                let named = NumberChange::new(u64::from(tag), Signal::PortTag { port });
+                let busy = BusyChange {
+                    tags,
+                    up: false,
+                    port,
+                    tag,
+                };
+                write!(f, "{named}{busy}{outstanding}")
+            }
+            _ => Ok(()),
+        }
+    }
+}
+
+/// The request that a bank's record names.
+#[derive(Clone, Copy)]
+struct RequestChanges {
+    bank: u8,
+    port: u8,
+    tag: u8,
+}
+
+impl fmt::Display for RequestChanges {
+    ghost output = { λ c. Some (request_changes c.bank c.port c.tag) };
+
+    fn fmt<W: fmt::Write>(&self, f: &mut fmt::Formatter<W>) -> fmt::Result {
+        let RequestChanges { bank, port, tag } = *self;
+        let port = NumberChange::new(u64::from(port), Signal::Requester { bank });
+        let tag = NumberChange::new(u64::from(tag), Signal::BankTag { bank });
+        write!(f, "{port}{tag}")
+    }
+}
+
+/// The values that a record gives its bank, beside its number.
+#[derive(Clone, Copy)]
+struct BankChanges<'a> {
+    bank: u8,
+    event: &'a Event,
+}
+
+impl fmt::Display for BankChanges<'_> {
+    ghost output = { λ c. Some (bank_changes c.bank c.event.now) };
+
+    fn fmt<W: fmt::Write>(&self, f: &mut fmt::Formatter<W>) -> fmt::Result {
+        let BankChanges { bank, event } = *self;
+        match event {
+            Event::Hit { port, tag } | Event::Stall { port, tag } => {
+                let request = RequestChanges {
+                    bank,
+                    port: *port,
+                    tag: *tag,
+                };
+                write!(f, "{request}")
+            }
+            Event::Primary {
+                port,
+                tag,
+                register,
+            }
+            | Event::Merge {
+                port,
+                tag,
+                register,
+            } => {
+                let request = RequestChanges {
+                    bank,
+                    port: *port,
+                    tag: *tag,
+                };
+                let register = NumberChange::new(u64::from(*register), Signal::Register { bank });
+                write!(f, "{request}{register}")
+            }
+            Event::SecondPrimary { block, register } | Event::SecondMerge { block, register } => {
+                let block = NumberChange::new(u64::from(*block), Signal::Block { bank });
+                let register = NumberChange::new(u64::from(*register), Signal::Register { bank });
+                write!(f, "{block}{register}")
+            }
+            Event::Fill1 { block, .. }
+            | Event::Evict1 { block, .. }
+            | Event::SecondHit { block }
+            | Event::SecondStall { block }
+            | Event::Fill2 { block, .. }
+            | Event::Evict2 { block, .. } => {
+                let block = NumberChange::new(u64::from(*block), Signal::Block { bank });
+                write!(f, "{block}")
+            }
+            _ => Ok(()),
+        }
+    }
+}
+
+/// All that a record changes.
+#[derive(Clone, Copy)]
+pub struct RecordChanges<'a> {
+    pub tags: u16,
+    /// How many tags of its port are busy then.
+    pub outstanding: u64,
+    pub item: &'a Record,
+}
+
+impl fmt::Display for RecordChanges<'_> {
+    ghost output = { λ c. Some (record_changes c.tags c.outstanding c.item.now) };
+
+    fn fmt<W: fmt::Write>(&self, f: &mut fmt::Formatter<W>) -> fmt::Result {
+        let Record {
+            log,
+            bank,
+            number,
+            event,
+        } = self.item;
+        let word = TextChange {
+            text: word_of(event),
+            signal: event_signal(self.item),
+        };
+        match event {
+            Event::Issue { .. } | Event::Reply { .. } | Event::Fence => {
+                let named = PortChanges {
+                    tags: self.tags,
+                    outstanding: self.outstanding,
+                    port: *log,
+                    event,
+                };
+                write!(f, "{word}{named}")
+            }
+            _ => {
+                let bank = *bank;
+                let number = NumberChange::new(u64::from(*number), Signal::Number { bank });
+                let named = BankChanges { bank, event };
+                write!(f, "{word}{number}{named}")
+            }
+        }
+    }
+}

@@ -1,0 +1,131 @@
+//! What a record changes of the blocks that go between the levels of its bank, and of its dirty lines.
+
+ghost use Rattle.std.specs.Prelude.{◌≡◌, Some};
+ghost use Rattle.wave_signals.specs.declared.registers.Level.TheVariants as levels;
+ghost use Rattle.wave_signals.specs.declared.signal.Signal.TheVariants as signals;
+ghost use Rattle.wave_signals.specs.Wave.{all_counts, traffic_changes, standing_count, standing_counts};
+
+use crate::change::NumberChange;
+use crate::registers::Level;
+use crate::signal::Signal;
+use lf_rules::{Event, Record};
+use std::fmt;
+use wave_traffic::{Counts, Traffic};
+
+fn asked(bank: u8, counts: Counts) -> NumberChange
+    ensures { result ≡ record { value = counts.asked; signal = signals.Asked bank } }
+{
+    NumberChange::new(counts.asked, Signal::Asked { bank })
+}
+
+fn supplied(bank: u8, counts: Counts) -> NumberChange
+    ensures { result ≡ record { value = counts.supplied; signal = signals.Supplied bank } }
+{
+    NumberChange::new(counts.supplied, Signal::Supplied { bank })
+}
+
+fn dirty1(bank: u8, counts: Counts) -> NumberChange
+    ensures { result ≡ record { value = counts.dirty1; signal = signals.Dirty levels.One bank } }
+{
+    let level = Level::One;
+    NumberChange::new(counts.dirty1, Signal::Dirty { level, bank })
+}
+
+fn dirty2(bank: u8, counts: Counts) -> NumberChange
+    ensures { result ≡ record { value = counts.dirty2; signal = signals.Dirty levels.Two bank } }
+{
+    let level = Level::Two;
+    NumberChange::new(counts.dirty2, Signal::Dirty { level, bank })
+}
+
+/// All counts of a bank.
+#[derive(Clone, Copy)]
+pub struct AllCounts {
+    pub bank: u8,
+    pub counts: Counts,
+}
+
+impl fmt::Display for AllCounts {
+    ghost output = { λ c. Some (all_counts c.bank c.counts) };
+
+    fn fmt<W: fmt::Write>(&self, f: &mut fmt::Formatter<W>) -> fmt::Result {
+        let AllCounts { bank, counts } = *self;
+        let asked = asked(bank, counts);
+        let supplied = supplied(bank, counts);
+        let dirty1 = dirty1(bank, counts);
+        let dirty2 = dirty2(bank, counts);
+        write!(f, "{asked}{supplied}{dirty1}{dirty2}")
+    }
+}
+
+/// The counts that a record may change, where these are those of its bank after it.
+#[derive(Clone, Copy)]
+pub struct TrafficChanges<'a> {
+    pub counts: Counts,
+    pub item: &'a Record,
+}
+
+impl fmt::Display for TrafficChanges<'_> {
+    ghost output = { λ c. Some (traffic_changes c.item.now.bank c.counts c.item.now.event) };
+
+    fn fmt<W: fmt::Write>(&self, f: &mut fmt::Formatter<W>) -> fmt::Result {
+        let bank = self.item.bank;
+        let asked = asked(bank, self.counts);
+        let supplied = supplied(bank, self.counts);
+        let dirty1 = dirty1(bank, self.counts);
+        let dirty2 = dirty2(bank, self.counts);
+        match &self.item.event {
+            Event::Hit { .. } => write!(f, "{dirty1}"),
+            Event::Primary { .. } | Event::SecondPrimary { .. } | Event::SecondMerge { .. } => {
+                write!(f, "{asked}")
+            }
+            Event::SecondHit { .. } => write!(f, "{asked}{supplied}"),
+            Event::Fill2 { .. } => write!(f, "{supplied}{dirty2}"),
+            Event::Fill1 { .. } => write!(f, "{supplied}{dirty1}"),
+            Event::Evict1 { .. } => write!(f, "{dirty1}{dirty2}"),
+            Event::Evict2 { .. } => write!(f, "{dirty2}"),
+            _ => Ok(()),
+        }
+    }
+}
+
+/// The counts of a bank where the wave begins.
+#[derive(Clone, Copy)]
+struct StandingCount<'a> {
+    bank: u8,
+    traffic: &'a Traffic,
+}
+
+impl fmt::Display for StandingCount<'_> {
+    ghost output = { λ s. Some (standing_count s.traffic.now s.bank) };
+
+    fn fmt<W: fmt::Write>(&self, f: &mut fmt::Formatter<W>) -> fmt::Result {
+        let all = AllCounts {
+            bank: self.bank,
+            counts: self.traffic.counts(self.bank),
+        };
+        write!(f, "{all}")
+    }
+}
+
+/// Those of each of the first banks.
+#[derive(Clone, Copy)]
+pub struct StandingCounts<'a> {
+    pub banks: u8,
+    pub traffic: &'a Traffic,
+}
+
+impl fmt::Display for StandingCounts<'_> {
+    ghost output = { λ s. Some (standing_counts s.banks s.traffic.now) };
+
+    fn fmt<W: fmt::Write>(&self, f: &mut fmt::Formatter<W>) -> fmt::Result {
+        for bank in 0..self.banks {
+            let standing = StandingCount {
+                bank,
+                traffic: self.traffic,
+            };
+            write!(f, "{standing}")?;
+        }
+        Ok(())
+    }
+}
