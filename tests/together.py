@@ -3,12 +3,14 @@
     together = Together()
     together.run("rt ci", ["rt", "ci"])                  alone, and what it prints is shown as it comes
     together.start("tests/words", ["tests/words"])       on the next processor that is free
+    together.start_behind("a", ["rt", ..])               beside these, with what they leave of the processors
     sys.exit(together.finish())
 
-Those that were started first run first. The last line is `N passed, M failed, K skipped`."""
+Of each kind those that were started first run first. The last line is `N passed, M failed, K skipped`."""
 
 from __future__ import annotations
 
+import contextlib
 import os
 import re
 import signal
@@ -24,10 +26,10 @@ from typing import IO, Dict, List, NoReturn, Optional, Sequence
 TOP = Path(__file__).resolve().parent.parent
 # each test from outside, those that take longest first
 OUTSIDE = [
+    "tests/valgrind_example",
     "tests/recorders",
     "tests/farm",
     "tests/python_recorder",
-    "tests/valgrind_example",
     "tests/systemc",
     "tests/check",
     "tests/plain",
@@ -70,12 +72,20 @@ class Ended:
         return counts
 
 
+def put_behind(process: int) -> None:
+    """Lowers the priority of a process in a session of its own. Linux has one for the session too, if it was built so."""
+    os.setpriority(os.PRIO_PGRP, process, 10)
+    with contextlib.suppress(OSError):
+        Path(f"/proc/{process}/autogroup").write_text("10", encoding="utf-8")
+
+
 class Together:
     """Commands that run at the top, as many at once as there are processors."""
 
     def __init__(self) -> None:
         self.begun = time.monotonic()
-        self.pool = ThreadPoolExecutor(len(os.sched_getaffinity(0)))
+        processors = len(os.sched_getaffinity(0))
+        self.pool, self.pool_behind = ThreadPoolExecutor(processors), ThreadPoolExecutor(processors)
         self.started: List["Future[Ended]"] = []
         self.running: Dict[int, "subprocess.Popen[str]"] = {}
         self.lock, self.is_ending = threading.Lock(), False
@@ -86,6 +96,9 @@ class Together:
     def start(self, name: str, words: Sequence[str], folder: Path = TOP) -> "Future[Ended]":
         self.started.append(self.pool.submit(self._run, name, words, folder))
         return self.started[-1]
+
+    def start_behind(self, name: str, words: Sequence[str], folder: Path = TOP) -> None:
+        self.started.append(self.pool_behind.submit(self._run, name, words, folder, is_behind=True))
 
     def show(self, ended: Ended) -> None:
         """Adds what it counted, and shows what it printed."""
@@ -108,7 +121,9 @@ class Together:
         print(f"{passed} passed, {failed} failed, {skipped} skipped", flush=True)
         return 1 if failed else 0
 
-    def _run(self, name: str, words: Sequence[str], folder: Path, out: Optional[IO[str]] = None) -> Ended:
+    def _run(
+        self, name: str, words: Sequence[str], folder: Path, out: Optional[IO[str]] = None, is_behind: bool = False
+    ) -> Ended:
         start = time.monotonic()
         with self.lock:
             if self.is_ending:
@@ -124,6 +139,8 @@ class Together:
                 start_new_session=True,
             )
             self.running[process.pid] = process
+        if is_behind:
+            put_behind(process.pid)
         output = ""
         for line in process.stdout or []:
             output += line
