@@ -11,7 +11,7 @@ mod assemble;
 mod check;
 mod configuration;
 mod cover;
-mod demonstration;
+mod demo;
 mod dump;
 mod ending;
 mod explain;
@@ -28,14 +28,12 @@ mod watch;
 use assemble::assemble;
 use check::check;
 use command_line::{CommandFault, Request, asked};
-use configuration::{bytes_at, text_in};
 use cover::cover;
-use demonstration::demonstrate;
+use demo::demo;
 use dump::dump;
 use ending::Ending;
 use explain::explain;
 use hint::{hint, hint_of_words};
-use output::{refuse, tell};
 use run_engine::{InputFault, Line};
 use shrink::shrink;
 use stats::stats;
@@ -52,25 +50,6 @@ fn refused<T: Print>(rt: &T, why: InputFault) -> io::Result<Ending> {
     let line = Line::Refused(why);
     println!(rt; "{line}")?;
     Ok(Ending::Refused)
-}
-
-/// Reads the configuration before the demonstration runs.
-fn demo<T: Print + Eprint + Input + Files + AllocGlobal + Threads + Wait + Sync>(
-    rt: &T,
-    config: &str,
-    out: &str,
-) -> io::Result<Ending>
-where
-    T::File: Drop,
-{
-    let read = bytes_at(rt, config);
-    let text = match text_in(&read) {
-        Ok(text) => text,
-        Err(why) => return refuse(rt, out, Line::Refused(why)),
-    };
-    let demonstration = demonstrate(rt, text, out);
-    tell(rt, out, &demonstration)?;
-    Ok(demonstration.ending())
 }
 
 /// The words of the command line, the program's own name first.

@@ -2,11 +2,13 @@
 
 ghost use Rattle.lf_rules.specs.InRange.{IsShape};
 
+use crate::configuration::{bytes_at, text_in};
 use crate::ending::Ending;
-use crate::output::put;
+use crate::output::{put, refuse, tell};
 use lf_config::{ConfigFault, read};
 use lf_rules::Shape;
 use recorder_demo::{DemoFault, demo_trace};
+use run_engine::Line;
 use std::io::ErrorKind;
 use std::rt::Files;
 use std::sync::Wait;
@@ -14,11 +16,11 @@ use std::thread::Threads;
 use std::{fmt, io};
 
 /// A thread that makes so many turns without an event gives up.
-pub const DEMO_TURNS: u32 = 10_000_000;
+const DEMO_TURNS: u32 = 10_000_000;
 
 /// What a demonstration came to.
 #[derive(Drop)]
-pub enum Demonstration {
+enum Demonstration {
     /// Its trace of so many events is written.
     Written(u32),
     /// The text is no configuration.
@@ -30,7 +32,7 @@ pub enum Demonstration {
 }
 
 impl Demonstration {
-    pub fn ending(&self) -> Ending {
+    fn ending(&self) -> Ending {
         match self {
             Demonstration::Written(_) => Ending::Done,
             Demonstration::Unwritten(why) => Ending::Unwritten(*why),
@@ -75,7 +77,7 @@ where
 }
 
 /// Runs the demonstration for the hierarchy that the configuration says, and writes its trace.
-pub fn demonstrate<T: Print + Files + AllocGlobal + Threads + Wait + Sync>(
+fn demonstrate<T: Print + Files + AllocGlobal + Threads + Wait + Sync>(
     rt: &T,
     config: &str,
     out: &str,
@@ -87,4 +89,23 @@ where
         Ok(shape) => record(rt, &shape, out),
         Err(fault) => Demonstration::Config(fault),
     }
+}
+
+/// Reads the configuration, runs the demonstration, and tells what it came to.
+pub fn demo<T: Print + Eprint + Input + Files + AllocGlobal + Threads + Wait + Sync>(
+    rt: &T,
+    config: &str,
+    out: &str,
+) -> io::Result<Ending>
+where
+    T::File: Drop,
+{
+    let bytes = bytes_at(rt, config);
+    let text = match text_in(&bytes) {
+        Ok(text) => text,
+        Err(why) => return refuse(rt, out, Line::Refused(why)),
+    };
+    let demonstration = demonstrate(rt, text, out);
+    tell(rt, out, &demonstration)?;
+    Ok(demonstration.ending())
 }
