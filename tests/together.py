@@ -41,6 +41,7 @@ OUTSIDE = [
     "tests/view",
     "tests/assemble",
     "tests/library",
+    "tests/installed",
     "tests/look_and_build",
     "tests/words",
     "tests/watch",
