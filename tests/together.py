@@ -42,6 +42,7 @@ OUTSIDE = [
     "tests/assemble",
     "tests/library",
     "tests/installed",
+    "tests/documents",
     "tests/look_and_build",
     "tests/words",
     "tests/watch",
