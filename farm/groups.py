@@ -25,11 +25,9 @@ from dataclasses import dataclass
 from pathlib import Path
 from typing import Dict, List, Tuple
 
+from program import LIMIT, SCORE, score
 from table import Row, rows
 
-SCORE = os.environ.get("SCORE", "score")
-LIMIT = float(os.environ.get("LIMIT", "600"))
-UNPACK = {".gz": ["gzip", "-dc", "--"], ".zst": ["zstd", "-dc", "--"]}
 NO_EVENT = ("lfts", "memory", "end")  # the first words of lines of `score dump` that are of no event
 
 
@@ -51,25 +49,13 @@ class Fault:
         return ".".join([what, *([part[1] + part[2]] if part else []), digest])
 
 
-def score(row: Row, command: List[str], *after: str) -> str:
-    """What a command of the program prints of a trace, which is unpacked on the way."""
-    unpack = UNPACK.get(Path(row.trace).suffix)
-    words = [SCORE, *command, row.configuration, "-" if unpack else row.trace, *after]
-    if not unpack:
-        done = subprocess.run(words, stdin=subprocess.DEVNULL, stdout=subprocess.PIPE, timeout=LIMIT, check=False)
-        return done.stdout.decode(errors="backslashreplace")
-    with subprocess.Popen([*unpack, row.trace], stdin=subprocess.DEVNULL, stdout=subprocess.PIPE) as unpacking:
-        done = subprocess.run(words, stdin=unpacking.stdout, stdout=subprocess.PIPE, timeout=LIMIT, check=False)
-    return done.stdout.decode(errors="backslashreplace")
-
-
 def fault_of(number: int, row: Row, folder: Path) -> Fault:
     """Shrinks a trace to a file of the folder. A request without a reply breaks no rule, and leaves nothing to shrink;
     a search that takes too long is given up. Then the trace has no kinds."""
     small = folder / f"{number}.lfts"
     if not small.exists():
         try:
-            score(row, ["shrink"], str(small))
+            score(["shrink", row.configuration], row.trace, str(small))
         except subprocess.TimeoutExpired:
             print(f"groups.py: {row.trace} is not shrunk after {LIMIT:g} seconds", file=sys.stderr)
     if not small.exists():
@@ -89,7 +75,7 @@ def keep(folder: Path, shrunk: Path, faults: List[Fault]) -> None:
         shutil.copy(small, folder / "small.lfts")
         row = Row("1", "0", str(folder / "small.lfts"), row.line, configuration=row.configuration)
     complete = ["--complete"] if row.line.startswith("no incomplete") else []
-    (folder / "explained").write_text(score(row, ["explain", *complete]))
+    (folder / "explained").write_text(score(["explain", *complete, row.configuration], row.trace))
     traces = sorted((fault.number, fault.row) for fault in faults)
     (folder / "traces").write_text("".join(f"{row.trace}\t{row.configuration}\n" for _, row in traces))
 

@@ -66,6 +66,7 @@ def writable(text: str) -> str:
 
 def suite_of(name: str, table: List[Row], due: Dict[str, Due], only_failures: bool) -> Suite:
     suite = Suite(xml.Element("testsuite", name=writable(name)))
+    is_mixed = len({row.configuration for row in table}) > 1
     if only_failures:
         passing = [row for row in table if due.get(row.trace, Due()).is_met(row)]
         table = [row for row in table if not due.get(row.trace, Due()).is_met(row)]
@@ -73,7 +74,8 @@ def suite_of(name: str, table: List[Row], due: Dict[str, Due], only_failures: bo
         attributes = {"classname": writable(name), "name": f"{len(passing)} traces that pass"}
         xml.SubElement(suite.element, "testcase", attributes, time=f"{suite.seconds:.6f}")
     for row in table:
-        attributes = {"classname": writable(name), "name": writable(row.trace), "time": f"{row.seconds:.6f}"}
+        case_name = f"{row.trace} of {row.configuration}" if is_mixed else row.trace
+        attributes = {"classname": writable(name), "name": writable(case_name), "time": f"{row.seconds:.6f}"}
         case = xml.SubElement(suite.element, "testcase", attributes)
         wanted = due.get(row.trace, Due())
         if not wanted.is_met(row):

@@ -43,6 +43,8 @@ OUTSIDE = [
     "tests/view",
     "tests/assemble",
     "tests/library",
+    "tests/installed",
+    "tests/documents",
     "tests/look_and_build",
     "tests/words",
     "tests/watch",

@@ -18,6 +18,8 @@ C = TOP / "recorders/c"
 SV = TOP / "recorders/systemverilog"
 HERE = Path(__file__).resolve().parent
 SOURCES = [SV / "lfts_pkg.sv", HERE / "driver.sv"]
+# the bytes of the end record
+END = 8
 
 
 class SvRecorder:
@@ -40,16 +42,17 @@ class SvRecorder:
         self.checks.check("recorders/systemverilog: random scripts give the bytes of the format", self.random_scripts)
         self.checks.check("recorders/systemverilog: cycles, phases and the time map", self.cycles)
         self.checks.check("recorders/systemverilog: each misuse is an $error with its text", self.misuses)
+        self.checks.check("recorders/systemverilog: a $fatal leaves what was flushed", self.fatal)
         self.checks.check("recorders/systemverilog: lfts_dpi.c as C and as C++", self.compiles)
 
-    def play(self, script: list[str], limit: int = 1) -> str:
+    def play(self, script: list[str], limit: int = 1, status: Optional[int] = 0) -> str:
         """Makes the calls of a script, and gives what the simulator printed."""
         shape = next(shape_of(line) for line in script if line.startswith("open"))
         lines = [hexadecimal(line, shape) for line in script]
         calls = self.folder / "calls.txt"
         calls.write_text("\n".join([*lines, ""]), encoding="utf-8")
         plus = [f"+script={calls}", f"+trace={self.trace}", f"+verilator+error+limit+{limit}"]
-        done = run([self.folder / "driver/Vdriver", *plus], cwd=self.folder)
+        done = run([self.folder / "driver/Vdriver", *plus], cwd=self.folder, status=status)
         return done.stdout + done.stderr
 
     def same(self, script: list[str], due: Optional[Path] = None) -> None:
@@ -92,6 +95,23 @@ class SvRecorder:
             made += 1
         if made < 40:
             raise Failure(f"only {made} misuses")
+
+    def fatal(self) -> None:
+        """It closes no recorder, so the trace has no end. Before the first event nothing is flushed, unless the number of
+        memory records was told."""
+        shape, told, issue, later = "open 1 1 8 1 2", "memory_count 0", "issue 0 0 0 0 8 0x0 -", "issue 0 0 0 1 8 0x0 -"
+        header, one = reference([shape])[:-END], reference([shape, issue])[:-END]
+        cases: list[tuple[list[str], bytes]] = [
+            ([], b""),
+            ([told], header),
+            ([issue], one),
+            (["cycle 5", issue], header),
+            (["cycle 5", issue, "end_cycle"], one),
+        ]
+        for calls, due in cases:
+            printed = self.play([shape, *calls, "flush", later, "fatal"], status=None)
+            expect("driver: no call fatal" in printed, True, printed)
+            expect(self.trace.read_bytes(), due, str(calls))
 
     def compiles(self) -> None:
         include = run(["verilator", "--getenv", "VERILATOR_ROOT"]).stdout.strip() + "/include/vltstd"

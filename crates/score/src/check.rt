@@ -12,30 +12,28 @@ use std::io::{Read, Write};
 use std::rt::Files;
 use std::thread::Threads;
 
-fn judge<T: AllocGlobal + Threads + Sync + Send + Copy + 'static, R: Read + Drop, W: Write + Drop>(
-    rt: &T,
-    config: &str,
-    trace: R,
-    writer: W,
-    workers: u32,
-) -> Ending {
+fn judge<
+    T: Eprint + AllocGlobal + Threads + Sync + Send + Copy + 'static,
+    R: Read + Drop,
+    W: Write + Drop,
+>(rt: &T, config: &str, trace: R, writer: Answer<'_, T, W>, workers: u32) -> io::Result<Ending> {
     let mut reader = Counted::new(trace);
     let mut writer = Counted::new(writer);
     let answer = run_check(rt, &mut reader, &mut writer, config, workers, u32::MAX);
-    Ending::of_answer(&answer)
+    writer.inner().ending(Ending::of_answer(&answer))
 }
 
 /// Judges with one worker, and asks whether each request has a reply.
-fn judge_complete<T: AllocGlobal, R: Read + Drop, W: Write + Drop>(
+fn judge_complete<T: Eprint + AllocGlobal, R: Read + Drop, W: Write + Drop>(
     rt: &T,
     config: &str,
     trace: R,
-    writer: W,
-) -> Ending {
+    writer: Answer<'_, T, W>,
+) -> io::Result<Ending> {
     let mut reader = Counted::new(trace);
     let mut writer = Counted::new(writer);
     let answer = run_complete(rt, &mut reader, &mut writer, config, u32::MAX);
-    Ending::of_completion(&answer)
+    writer.inner().ending(Ending::of_completion(&answer))
 }
 
 /// Judges the workers before it opens a file, and the configuration before the trace is read.
@@ -47,7 +45,8 @@ where
 {
     let workers = u32::from(options.workers);
     if !is_worker_count(workers) {
-        return Ok(judge(rt, "", io::empty(), io::writer(rt), workers));
+        let answer = Answer::new(rt, io::writer(rt), false);
+        return judge(rt, "", io::empty(), answer, workers);
     }
     let read = bytes_at(rt, config);
     let text = match text_in(&read) {
@@ -57,7 +56,7 @@ where
     let reader = reader_of(rt, trace, options.progress, on_terminal);
     let answer = Answer::new(rt, io::writer(rt), options.progress && on_terminal);
     if options.complete {
-        return Ok(judge_complete(rt, text, reader, answer));
+        return judge_complete(rt, text, reader, answer);
     }
-    Ok(judge(rt, text, reader, answer, workers))
+    judge(rt, text, reader, answer, workers)
 }

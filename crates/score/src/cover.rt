@@ -12,15 +12,16 @@ use std::io::{ErrorKind, Read, Write};
 use std::rt::Files;
 
 /// Prints the lines of the coverage, or that of the verdict.
-fn print_cover<T: AllocGlobal, R: Read + Drop, W: Write + Drop>(
+fn print_cover<T: Eprint + AllocGlobal, R: Read + Drop, W: Write + Drop>(
     rt: &T,
     text: &str,
     trace: R,
-    writer: W,
-) -> Ending {
+    writer: Answer<'_, T, W>,
+) -> io::Result<Ending> {
     let mut reader = Counted::new(trace);
     let mut writer = Counted::new(writer);
-    Ending::of_answer(&run_cover(rt, &mut reader, &mut writer, text, u32::MAX))
+    let answer = run_cover(rt, &mut reader, &mut writer, text, u32::MAX);
+    writer.inner().ending(Ending::of_answer(&answer))
 }
 
 fn tell_verdict<T: Print>(rt: &T, verdict: &Verdict) -> io::Result<Ending> {
@@ -50,7 +51,7 @@ where
     if let Err(why) = put(rt, dat, writer.inner().as_slice()) {
         return refuse_write(rt, dat, why);
     }
-    Ok(print_cover(rt, text, trace, io::writer(rt)))
+    print_cover(rt, text, trace, Answer::new(rt, io::writer(rt), false))
 }
 
 /// Keeps the trace, since it is read twice. The configuration is judged before. `clears` says whether the terminal
@@ -103,6 +104,6 @@ where
     let reader = reader_of(rt, trace, progress, on_terminal);
     match dat {
         Some(dat) => keep_and_write(rt, text, reader, dat, clears),
-        None => Ok(print_cover(rt, text, reader, Answer::new(rt, io::writer(rt), clears))),
+        None => print_cover(rt, text, reader, Answer::new(rt, io::writer(rt), clears)),
     }
 }

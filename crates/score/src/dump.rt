@@ -1,6 +1,7 @@
 //! `score dump`: prints the text of a trace.
 
 use crate::ending::Ending;
+use crate::progress::Answer;
 use crate::trace::Trace;
 use command_line::DumpOptions;
 use run_engine::Counted;
@@ -21,24 +22,24 @@ fn choice_of(options: DumpOptions) -> Choice {
 }
 
 /// Prints the text of the trace, or a part of it where something is chosen.
-pub fn dump<T: Print + Input + Files + AllocGlobal>(
+pub fn dump<T: Print + Eprint + Input + Files + AllocGlobal>(
     rt: &T,
     trace: &str,
     options: DumpOptions,
-) -> Ending
+) -> io::Result<Ending>
 where
     T::File: Drop,
 {
     let choice = choice_of(options);
     let mut reader = Counted::new(Trace::open(rt, trace));
-    let mut writer = Counted::new(io::writer(rt));
+    let mut writer = Counted::new(Answer::new(rt, io::writer(rt), false));
     let told = if choice == Choice::default() {
         text_dump::dump(rt, &mut reader, &mut writer, u32::MAX)
     } else {
         dump_chosen(rt, &mut reader, &mut writer, u32::MAX, choice)
     };
-    match told {
+    writer.inner().ending(match told {
         Ok(None) => Ending::Done,
         _ => Ending::Refused,
-    }
+    })
 }

@@ -78,11 +78,11 @@ where
     let mut writer = Counted::new(answer);
     if options.json {
         let answer = run_explain_json(rt, &mut reader, &mut writer, text, &asked, u32::MAX);
-        return Ok(Ending::of_completion(&answer));
+        return writer.inner().ending(Ending::of_completion(&answer));
     }
     let answer = run_explain(rt, &mut reader, &mut writer, text, &asked, u32::MAX);
     if let Ok(completion) = &answer {
         tell_config(rt, &completion.verdict, text)?;
     }
-    Ok(Ending::of_completion(&answer))
+    writer.inner().ending(Ending::of_completion(&answer))
 }

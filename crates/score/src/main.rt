@@ -27,13 +27,13 @@ mod watch;
 
 use assemble::assemble;
 use check::check;
-use command_line::{CommandFault, Request, asked};
+use command_line::{CommandFault, Request, STANDARD, asked};
 use cover::cover;
 use demo::demo;
 use dump::dump;
 use ending::Ending;
 use explain::explain;
-use hint::{hint, hint_of_words};
+use hint::{hint, hint_of_words, hint_of_writing};
 use run_engine::{InputFault, Line};
 use shrink::shrink;
 use stats::stats;
@@ -112,7 +112,7 @@ where
         } => view(rt, config, trace, out, options, on_terminal),
         Request::Demo { config, out } => demo(rt, config, out),
         Request::Watch { config, trace } => watch(rt, config, trace),
-        Request::Dump { trace, options } => Ok(dump(rt, trace, options)),
+        Request::Dump { trace, options } => dump(rt, trace, options),
         Request::Assemble { text, out } => assemble(rt, text, out),
     }
 }
@@ -171,6 +171,13 @@ where
 
 fn main(rt: HostRuntime) -> ExitCode {
     let on_terminal = rt.stderr().is_terminal();
-    let ending = start(&rt, on_terminal).unwrap_or(Ending::Refused);
-    ending.code()
+    match start(&rt, on_terminal) {
+        Ok(ending) => ending.code(),
+        Err(why) => {
+            if on_terminal {
+                let _ = hint_of_writing(&rt, STANDARD, why);
+            }
+            Ending::Refused.code()
+        }
+    }
 }

@@ -3,8 +3,9 @@
 
 ghost use Rattle.std.specs.Prelude.{◌≡◌};
 
+use crate::ending::Ending;
 use crate::trace::{Trace, size_of_file};
-use std::io::{Read, Write};
+use std::io::{ErrorKind, Read, Write};
 use std::rt::Files;
 use std::{fmt, io};
 
@@ -183,11 +184,26 @@ pub struct Answer<'a, P, W> {
     rt: &'a P,
     writer: W,
     clears: bool,
+    /// Why the last write failed that did.
+    failure: Option<io::Error>,
 }
 
 impl<'a, P: Eprint, W> Answer<'a, P, W> {
     pub fn new(rt: &'a P, writer: W, clears: bool) -> Answer<'a, P, W> {
-        Answer { rt, writer, clears }
+        Answer {
+            rt,
+            writer,
+            clears,
+            failure: None,
+        }
+    }
+
+    /// How a command ends that wrote this answer: so, where it could be written.
+    pub fn ending(&self, ending: Ending) -> io::Result<Ending> {
+        match self.failure {
+            Some(why) => Err(why),
+            None => Ok(ending),
+        }
     }
 }
 
@@ -200,7 +216,14 @@ impl<P: Eprint, W: Write> Write for Answer<'_, P, W> {
             self.clears = false;
             clear(self.rt);
         }
-        self.writer.write(buf)
+        let written = self.writer.write(buf);
+        if let Err(why) = &written {
+            // an interrupted write is made again
+            if why.kind() != ErrorKind::Interrupted {
+                self.failure = Some(*why);
+            }
+        }
+        written
     }
 
     fn flush(&mut self) -> io::Result<()> {

@@ -27,5 +27,5 @@ where
     let mut reader = Counted::new(reader_of(rt, trace, progress, on_terminal));
     let mut writer = Counted::new(Answer::new(rt, io::writer(rt), progress && on_terminal));
     let answer = run_stats(rt, &mut reader, &mut writer, text, u32::MAX);
-    Ok(Ending::of_answer(&answer))
+    writer.inner().ending(Ending::of_answer(&answer))
 }

@@ -2,6 +2,7 @@
 
 use crate::configuration::{bytes_at, text_in};
 use crate::ending::Ending;
+use crate::progress::Answer;
 use crate::refused;
 use crate::trace::Trace;
 use lf_verdict::Broken;
@@ -18,7 +19,7 @@ fn ending_of(answer: Result<Watched, RunFault>) -> Ending {
 }
 
 /// Judges the configuration before the trace is read.
-pub fn watch<T: Print + Input + Files + AllocGlobal>(
+pub fn watch<T: Print + Eprint + Input + Files + AllocGlobal>(
     rt: &T,
     config: &str,
     trace: &str,
@@ -32,7 +33,7 @@ where
         Err(why) => return refused(rt, why),
     };
     let mut reader = Counted::new(Trace::open(rt, trace));
-    let mut writer = Counted::new(io::writer(rt));
+    let mut writer = Counted::new(Answer::new(rt, io::writer(rt), false));
     let answer = run_watch(rt, &mut reader, &mut writer, text, u32::MAX);
-    Ok(ending_of(answer))
+    writer.inner().ending(ending_of(answer))
 }
