@@ -12,8 +12,8 @@
 //     char line[WUDZARK_LINE_BYTES];
 //     wudzark_answer answer = wudzark_open(&board, config, config_length, line, sizeof line);
 //     while (answer.status == WUDZARK_FINE && (piece = next_piece(&length))) {
-//         if (wudzark_feed(&board, piece, length) != WUDZARK_FINE) break; // wudzark_finish says why
-//         answer = wudzark_broken(&board, line, sizeof line);
+//         answer = wudzark_feed_told(&board, piece, length, line, sizeof line);
+//         if (answer.status == WUDZARK_FINE) answer = wudzark_broken(&board, line, sizeof line);
 //     }
 //     if (answer.status == WUDZARK_FINE)
 //         answer = wudzark_finish(&board, line, sizeof line);
@@ -84,13 +84,20 @@ typedef struct wudzark_answer {
     size_t length; // of the line, in bytes
 } wudzark_answer;
 
+// The version of the library, as the number of WUDZARK_VERSION_NUMBER.
+uint32_t wudzark_version(void);
+
 // Opens the board for the hierarchy that the text of a configuration says. With WUDZARK_REFUSED it is not open, and
 // the line says why: `refused config ..` or `refused memory`.
 wudzark_answer wudzark_open(wudzark_board *board, const void *config, size_t config_length, char *line, size_t room);
 
 // Feeds the next bytes of the trace. WUDZARK_REFUSED says that the bytes are not a trace, or that memory ran out.
-// Later bytes are then ignored, and wudzark_finish says which of the two it was.
+// Later bytes are then ignored.
 wudzark_status wudzark_feed(wudzark_board *board, const void *bytes, size_t length);
+
+// The same, and with WUDZARK_REFUSED the line says why: `refused format ..` or `refused memory`. The board stays open,
+// and each later feed is refused for the same reason, so with 0 bytes it only asks.
+wudzark_answer wudzark_feed_told(wudzark_board *board, const void *bytes, size_t length, char *line, size_t room);
 
 // Whether there is a final fault: no bytes that follow can lead to a yes. Then the line says what broke, for example
 // `broken bank=0 number=5 rule=ReplyData upon log=0 event=1 at=104`. The status is WUDZARK_BROKEN, or WUDZARK_REFUSED
@@ -102,6 +109,10 @@ wudzark_answer wudzark_broken(wudzark_board *board, char *line, size_t room);
 // then closed, and may be opened again. After a final fault this is the verdict on a trace that was cut, and mostly
 // `refused format Truncated`: then use wudzark_abort, and keep the line of wudzark_broken.
 wudzark_answer wudzark_finish(wudzark_board *board, char *line, size_t room);
+
+// Closes the board without a verdict, and frees what it has. It may be opened again. WUDZARK_MISUSED says that it was
+// not open, which does no harm.
+wudzark_status wudzark_abort(wudzark_board *board);
 
 // How many bytes of an answer's line were written into so much room.
 static inline size_t wudzark_shown(wudzark_answer answer, size_t room) {
@@ -118,14 +129,10 @@ static inline char *wudzark_line(char *line) {
 #define wudzark_open(board, config, length, line, room)                                                               \
     wudzark_open(board, wudzark_bytes(config), length, wudzark_line(line), room)
 #define wudzark_feed(board, bytes, length) wudzark_feed(board, wudzark_bytes(bytes), length)
+#define wudzark_feed_told(board, bytes, length, line, room)                                                           \
+    wudzark_feed_told(board, wudzark_bytes(bytes), length, wudzark_line(line), room)
 #define wudzark_broken(board, line, room) wudzark_broken(board, wudzark_line(line), room)
 #define wudzark_finish(board, line, room) wudzark_finish(board, wudzark_line(line), room)
-
-// Closes the board without telling a verdict, and frees what it has. It may be opened again. WUDZARK_MISUSED where it
-// was not open, which does no harm.
-static inline wudzark_status wudzark_abort(wudzark_board *board) {
-    return wudzark_finish(board, NULL, 0).status == WUDZARK_MISUSED ? WUDZARK_MISUSED : WUDZARK_FINE;
-}
 
 #ifdef __cplusplus
 }
@@ -176,11 +183,8 @@ class scoreboard {
     }
     [[nodiscard]] status feed(std::string_view bytes) { return feed(bytes.data(), bytes.size()); }
     [[nodiscard]] status feed(const void *bytes, std::size_t length) {
-        if (stays() && !board.live) return status(first.status);
-        const wudzark_status now = wudzark_feed(&board, bytes, length);
-        // the verdict says why
-        if (now == WUDZARK_REFUSED && !stays()) kept(wudzark_finish(&board, line, sizeof line));
-        return status(now);
+        if (stays()) return status(board.live ? wudzark_feed(&board, bytes, length) : first.status);
+        return kept(wudzark_feed_told(&board, bytes, length, line, sizeof line)).status;
     }
     [[nodiscard]] answer broken() {
         if (stays()) return told(first);

@@ -79,8 +79,7 @@ const char *wudzark_dpi_line(void *handle) { return ((scoreboard *)handle)->line
 // A piece that is refused is an answer that stays.
 static int take(void *context, const void *bytes, size_t count) {
     scoreboard *s = (scoreboard *)context;
-    if (!stays(s) && wudzark_feed(&s->board, bytes, count) == WUDZARK_REFUSED)
-        told(s, wudzark_finish(&s->board, s->line, WUDZARK_LINE_BYTES)); // which says why
+    if (!stays(s) && s->board.live) told(s, wudzark_feed_told(&s->board, bytes, count, s->line, WUDZARK_LINE_BYTES));
     return s->copy && fwrite(bytes, 1, count, s->copy) != count;
 }
 

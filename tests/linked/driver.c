@@ -5,7 +5,7 @@
 //                                       after how many bytes, and the verdict
 //     driver many CONFIG TRACE..        the same of all traces at once, a byte of each in turn
 //     driver misuse CONFIG TRACE        calls that a board refuses, and lines that have no room
-//     driver first CONFIG TRACE         its first final fault, and why a feed is refused
+//     driver first CONFIG TRACE         its first final fault, and a refused feed that is told while the board is open
 //     driver null CONFIG TRACE          calls with NULL for no bytes
 //     driver damaged COUNT CONFIG TRACE so many copies of the trace with other bytes in it, whole and in pieces
 //     driver memory CONFIG TRACE        the trace with each allocation refused in turn; linked with --wrap=malloc
@@ -137,7 +137,7 @@ static void judge_together(char **words, int count) {
     free(config.at);
 }
 
-// The first final fault stays what is told, and the board is given up.
+// The first final fault stays what is told, and the board is given up. A refused feed is told without closing it.
 static void first_fault(char **words) {
     bytes config = read_file(words[0]), trace = read_file(words[1]);
     wudzark_board board = WUDZARK_BOARD, moved;
@@ -154,10 +154,12 @@ static void first_fault(char **words) {
     expect(wudzark_abort(&board) == WUDZARK_MISUSED, "given up twice");
     printf("%u %.*s\n", answer.status, shown(answer), line);
     wudzark_open(&board, config.at, config.length, line, ROOM);
-    expect(wudzark_feed(&board, trace.at, 8) == WUDZARK_FINE, "fed");
+    answer = wudzark_feed_told(&board, trace.at, 8, line, ROOM);
+    expect(answer.status == WUDZARK_FINE && answer.length == 0, "fed");
     expect(wudzark_feed(&board, "\0\0\0\0\0\0\0\0", 8) == WUDZARK_REFUSED, "not refused");
-    answer = wudzark_finish(&board, line, ROOM);
+    answer = wudzark_feed_told(&board, NULL, 0, line, ROOM);
     printf("%u %.*s\n", answer.status, shown(answer), line);
+    expect(board.live && wudzark_abort(&board) == WUDZARK_FINE, "a refused board is open");
     free(trace.at);
     free(config.at);
 }
@@ -166,10 +168,12 @@ static void first_fault(char **words) {
 static void no_bytes(char **words) {
     bytes config = read_file(words[0]), trace = read_file(words[1]);
     wudzark_board board = WUDZARK_BOARD;
+    expect(wudzark_version() == WUDZARK_VERSION_NUMBER, "another version");
     expect(wudzark_open(&board, NULL, 0, NULL, 0).status == WUDZARK_REFUSED, "no configuration was taken");
     expect(wudzark_open(&board, config.at, config.length, NULL, 0).status == WUDZARK_FINE, "not opened");
     expect(wudzark_feed(&board, NULL, 0) == WUDZARK_FINE, "no bytes were refused");
     expect(wudzark_feed(&board, trace.at, trace.length) == WUDZARK_FINE, "refused");
+    expect(wudzark_feed_told(&board, NULL, 0, NULL, 0).status == WUDZARK_FINE, "refused");
     printf("%u ", wudzark_broken(&board, NULL, 0).status);
     printf("%u\n", wudzark_finish(&board, NULL, 0).status);
     free(trace.at);

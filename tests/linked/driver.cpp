@@ -55,7 +55,8 @@ static void check_class(const std::string &config, const std::string &trace) {
     expect(moved.feed(trace.substr(0, 8)) == status::fine && moved.feed(std::string(8, '\0')) == status::refused,
            "fed");
     const std::string line(moved.refusal().line);
-    expect(line == "refused format HeaderRange at=0" && moved.feed(trace) == status::refused, "told");
+    expect(line == "refused format HeaderRange at=0" && moved.is_open() && moved.feed(trace) == status::refused,
+           "told");
     none = std::move(moved);
     expect(none.refusal().line == line && none.broken().line == line && none.finish().line == line, "kept");
     none.abort();

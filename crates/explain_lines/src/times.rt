@@ -109,9 +109,13 @@ impl Times {
     }
 }
 
-/// The lines of a text.
+/// The lines of a text. `collect` would go on where one growth was refused.
 fn lines_of(alloc: Global, text: &str) -> Result<Vec<&str>, AllocError>
     ensures { IfOk result (λ all. texts all.items ≡ lines text.now) }
 {
-    text.lines().collect(alloc)
+    let mut all = Vec::new(alloc);
+    for line in text.lines() {
+        all.push(line)?;
+    }
+    Ok(all)
 }

@@ -1,6 +1,6 @@
 -- What the calls answer.
 use Rattle.std.specs.Prelude.{◌≡◌, ◌⊎◌, ℕ, List, [], ◌++◌, length, take, drop, min, codes, Option, Some, None, Ok}
-use Rattle.std.specs.Prelude.{IfSome, IsUtf8}
+use Rattle.std.specs.Prelude.{IfSome, IsSome, IsUtf8}
 use Rattle.lf_config.specs.Configuration.{configuration_of}
 use Rattle.lf_config.specs.declared.fault.ConfigFault.TheVariants.{NotToml}
 use Rattle.lf_codec.specs.Reading.{fault_so_far}
@@ -15,7 +15,7 @@ use Rattle.lf_verdict.specs.Final.{IsFinal, IsEarliest}
 use Rattle.lf_verdict.specs.Laws.{IsRunlessNo}
 use Rattle.lf_verdict.specs.Named.{NoneBrokeSoFar}
 use Rattle.lf_verdict.specs.Seen.{Seen}
-use Rattle.lf_verdict.specs.Session.{IsConfigRefusal, refusal_of}
+use Rattle.lf_verdict.specs.Session.{IsConfigRefusal, IsRefusalSoFar, refusal_of}
 use Rattle.lf_verdict.specs.Text.{broken_text}
 use Rattle.lf_verdict.specs.Verdict.{IsDecided, IsVerdictOf, IsLegalYes}
 use Rattle.run_engine.specs.Line.{verdict_text}
@@ -72,17 +72,41 @@ abbrev pub feed_status : Option Stop → ℕ
 feed_status None = 0
 feed_status (Some stop) = 2
 
--- The piece is what the session was fed behind all that it was fed before.
+-- The piece is what the session was fed behind all that it was fed before. What stops it is the fault of the format
+-- that stands in the bytes so far, or out of memory, and stays.
 pub record IsFedMore (piece : List ℕ) (s s' : Seen) (status : ℕ) : Type 0 where
   pub shape : s'.shape ≡ s.shape
   pub fed : s'.fed ≡ s.fed ++ piece
   pub status_is : status ≡ feed_status s'.stop
   pub fine : status ≡ 0 → fault_so_far s'.fed ≡ None
+  pub reason : IfSome s'.stop (λ stop. IsRefusalSoFar s'.fed (refusal_of stop))
+  pub stays : IsSome s.stop → s'.stop ≡ s.stop
 
 abbrev pub IsFeeding : List ℕ → Option Seen → Option Seen → ℕ → Type 0
 IsFeeding piece None now status = (now ≡ None) × (status ≡ 3)
 IsFeeding piece (Some s) None status = ⊥
 IsFeeding piece (Some s) (Some s') status = IsFedMore piece s s' status
+
+-- The line says why the session is refused, where something stopped it.
+abbrev pub IsStopTold : Option Stop → Answer → List ℕ → List ℕ → Type 0
+IsStopTold None answer line line' = IsSilent 0 answer line line'
+IsStopTold (Some stop) answer line line' = IsLine 2 (verdict_text (Refused (refusal_of stop))) answer line line'
+
+pub record IsFedTold (piece : List ℕ) (s s' : Seen) (answer : Answer) (line line' : List ℕ) : Type 0 where
+  pub fed : IsFedMore piece s s' answer.status
+  pub told : IsStopTold s'.stop answer line line'
+
+abbrev pub IsFeedingTold : List ℕ → Option Seen → Option Seen → Answer → List ℕ → List ℕ → Type 0
+IsFeedingTold piece None now answer line line' = (now ≡ None) × IsSilent 3 answer line line'
+IsFeedingTold piece (Some s) None answer line line' = ⊥
+IsFeedingTold piece (Some s) (Some s') answer line line' = IsFedTold piece s s' answer line line'
+
+-- ---- giving a board up
+
+-- 0 where it was open
+abbrev pub abort_status : Option Seen → ℕ
+abort_status None = 3
+abort_status (Some s) = 0
 
 -- ---- what broke for good
 

@@ -1,9 +1,12 @@
 //! What C calls. `Global` has no place in C: each call takes what is written before and after it.
 
 ghost use Rattle.std.specs.Prelude.{◌≡◌, None, IfOk, IfErr, IfSome, IfNone};
+ghost use Rattle.lf_verdict.specs.declared.answer.Verdict.{Verdict};
 ghost use Rattle.lf_verdict.specs.Named.{NoneBrokeSoFar};
-ghost use Rattle.library_c.specs.Answers.{IsOpened, IsNoConfiguration, IsOpening, IsFedMore, IsFeeding, IsBroken};
-ghost use Rattle.library_c.specs.Answers.{IsAsking, IsJudged, IsFinishing};
+ghost use Rattle.run_engine.specs.Line.{verdict_text};
+ghost use Rattle.library_c.specs.Answers.{IsLine, IsOpened, IsNoConfiguration, IsOpening, IsFedMore, IsFeeding};
+ghost use Rattle.library_c.specs.Answers.{IsFedTold, IsFeedingTold, IsBroken, IsAsking, IsJudged, IsFinishing};
+ghost use Rattle.library_c.specs.Answers.{abort_status};
 
 use crate::answer::{Answer, FINE, MISUSED, REFUSED, broken_status, status_of};
 use crate::board::Board;
@@ -11,6 +14,24 @@ use crate::line::{tell_broken, tell_verdict};
 use lf_config::ConfigFault;
 use lf_verdict::{Broken, Refusal, Session, Verdict};
 use std::alloc::Global;
+
+/// The version of the library, as major * 10000 + minor * 100 + patch.
+#[unsafe(no_mangle)]
+pub extern "C" fn wudzark_version() -> u32
+    ensures { result ≡ 300 }
+{
+    300
+}
+
+/// The answer of a refusal, with its line.
+fn refused(alloc: Global, refusal: Refusal, line: &mut [u8]) -> Answer
+    ensures { IsLine 2 (verdict_text (Verdict.Refused refusal)) result line.old line.new }
+{
+    Answer {
+        status: REFUSED,
+        length: tell_verdict(alloc, &Verdict::Refused(refusal), line),
+    }
+}
 
 /// A session on the heap, for the hierarchy that the bytes say.
 fn session_for(alloc: Global, config: &[u8]) -> Result<Box<Session>, Refusal>
@@ -46,10 +67,7 @@ pub extern "C" fn wudzark_open(
             *board = Board::with(session);
             Answer::silent(FINE)
         }
-        Err(refusal) => Answer {
-            status: REFUSED,
-            length: tell_verdict(alloc, &Verdict::Refused(refusal), line),
-        },
+        Err(refusal) => refused(alloc, refusal, line),
     }
 }
 
@@ -64,8 +82,8 @@ fn feed(session: &mut Session, piece: &[u8]) -> u32
 }
 
 /// Feeds the board the next piece of its trace, of any length. Status 0: the bytes so far may begin a trace. Status 2:
-/// a fault of the format stands in them, or memory ran out, and from then on nothing is taken; `wudzark_finish` says
-/// which. Status 3: the board is not open.
+/// a fault of the format stands in them, or memory ran out, and from then on nothing is taken; `wudzark_feed_told` and
+/// `wudzark_finish` say which. Status 3: the board is not open.
 #[unsafe(no_mangle)]
 pub extern "C" fn wudzark_feed(alloc: Global, board: &mut Board, piece: &[u8]) -> u32
     ensures { IsFeeding piece.now board.old.held.session board.new.held.session result }
@@ -77,6 +95,36 @@ pub extern "C" fn wudzark_feed(alloc: Global, board: &mut Board, piece: &[u8]) -
     let status = feed(&mut session, piece);
     *board = Board::with(session);
     status
+}
+
+/// Feeds the session, and tells why it is refused, where something stopped it, now or before.
+fn feed_told(alloc: Global, session: &mut Session, piece: &[u8], line: &mut [u8]) -> Answer
+    ensures { IsFedTold piece.now session.old session.new result line.old line.new }
+{
+    match session.feed(piece) {
+        Ok(()) => Answer::silent(FINE),
+        Err(told) => refused(alloc, told.fault(), line),
+    }
+}
+
+/// Feeds the board as `wudzark_feed` does. With status 2 the line says why the bytes are refused, or why those before
+/// them were, so a piece of no bytes only asks.
+#[unsafe(no_mangle)]
+pub extern "C" fn wudzark_feed_told(
+    alloc: Global,
+    board: &mut Board,
+    piece: &[u8],
+    line: &mut [u8],
+) -> Answer
+    ensures { IsFeedingTold piece.now board.old.held.session board.new.held.session result line.old line.new }
+{
+    if !board.live {
+        return Answer::silent(MISUSED);
+    }
+    let mut session = board.take(alloc);
+    let answer = feed_told(alloc, &mut session, piece, line);
+    *board = Board::with(session);
+    answer
 }
 
 /// What broke of the session's trace for good.
@@ -133,4 +181,17 @@ pub extern "C" fn wudzark_finish(alloc: Global, board: &mut Board, line: &mut [u
         status: status_of(&verdict),
         length: tell_verdict(alloc, &verdict, line),
     }
+}
+
+/// Closes the board without a verdict, and frees what it had. Status 3: it was not open.
+#[unsafe(no_mangle)]
+pub extern "C" fn wudzark_abort(alloc: Global, board: &mut Board) -> u32
+    ensures closed { board.new.held.session ≡ None }
+    ensures status { result ≡ abort_status board.old.held.session }
+{
+    if !board.live {
+        return MISUSED;
+    }
+    drop(board.take(alloc));
+    FINE
 }

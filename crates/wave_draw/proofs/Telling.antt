@@ -52,7 +52,13 @@ no_wave_out drawing w = subst (WentOut w w) (sym (no_wave drawing)) (nothing_out
 -- no byte was read, and nothing went out
 pub nothing_viewed : (drawing : Drawing) (a w : Account) → IsViewedInPart drawing a a w w
 nothing_viewed drawing a w =
-    record { bytes = []; more = []; part = begun IsNone a (λ bad. bad); out = no_wave_out drawing w }
+    record {
+      bytes = [];
+      more = [];
+      part = begun IsNone a (λ bad. bad);
+      few = omega arith;
+      out = no_wave_out drawing w;
+    }
 
 -- ---- one more read
 
@@ -151,6 +157,7 @@ module _ (drawing : Drawing) (a b c w x : Account) (turn : ℕ) (old : Drawer) (
           bytes = t.bytes;
           more = piece;
           part = part_read;
+          few = one_read;
           out =
               subst (λ (z : Account). WentOut w z (wave_of drawing t.bytes)) (sym same) t.out;
         }

@@ -1,6 +1,6 @@
 -- The wave of a trace that is read in pieces.
-use Rattle.std.specs.Prelude.{◌≡◌, ◌↔◌, ℕ, ◌<◌, ◌≤◌, Bool, true, false, List, [], ◌++◌, take, string_bytes, Option}
-use Rattle.std.specs.Prelude.{Some, None, is_some, Result, Ok, Err}
+use Rattle.std.specs.Prelude.{◌≡◌, ◌↔◌, ℕ, ◌<◌, ◌≤◌, Bool, true, false, List, [], ◌++◌, length, take, string_bytes}
+use Rattle.std.specs.Prelude.{Option, Some, None, is_some, Result, Ok, Err}
 use Rattle.std.specs.Prelude.{IfOk, IfErr, IsErrOf, IsTrue}
 use Rattle.lf_rules.specs.declared.event.Record.{Record}
 use Rattle.lf_codec.specs.declared.header.Header.{Header}
@@ -85,11 +85,12 @@ pub record IsViewedSoFar (drawing : Drawing) (old new writer writer' : Account) 
   pub part : IsPartRead HasFault old new bytes
   pub out : WentOut writer writer' (wave_of drawing bytes)
 
--- The wave of a front of the bytes that the reads answered went out.
+-- The wave of the bytes that the reads answered went out, but for those of at most one read at the end.
 pub record IsViewedInPart (drawing : Drawing) (old new writer writer' : Account) : Type 0 where
   pub bytes : List ℕ
   pub more : List ℕ
   pub part : IsPartRead IsNone old new (bytes ++ more)
+  pub few : length more ≤ piece_len
   pub out : WentOut writer writer' (wave_of drawing bytes)
 
 -- The wave of the bytes that the reads answered went out as far as the writer took it.
