@@ -42,6 +42,18 @@ def data(digits: str) -> str:
     return f" bytes={digits}" if digits else ""
 
 
+def limit_lines(limit: Optional[Object]) -> List[str]:
+    """How many there are of what the rule is about."""
+    if limit is None:
+        return []
+    if "ways" in limit:
+        return [f"  there are ways={limit['ways']} in set={limit['set']}"]
+    ((name, count),) = limit.items()
+    if name in ("words", "blocks"):
+        return [f"  a register takes one target for each of {name}={count}"]
+    return [f"  a register takes targets={count}" if name == "targets" else f"  there are {name}={count}"]
+
+
 def carried(fault: Object) -> List[str]:
     """What the record has to carry and carries."""
     due, found, first = fault["expected"], fault["found"], fault["first_different"]
@@ -51,6 +63,9 @@ def carried(fault: Object) -> List[str]:
         names = ("expected", "found   ", "too many", "too few ")
         bits = (due["masks"], found["masks"], fault["too_many"], fault["too_few"])
         return [f"  {name}{masks(told)}" for name, told in zip(names, bits)]
+    if "bytes" not in due:
+        ((name, number),) = due.items()
+        return [f"  expected {name}={number}", f"  found    {name}={found[name]}"]
     address = "" if first["address"] is None else f", address {first['address']}"
     return [
         f"  expected{data(due['bytes'])}",
@@ -91,6 +106,7 @@ def rule_lines(fault: Object) -> List[str]:
     return [
         *line_of(fault["record"]),
         f"  {fault['rule']} asks that {fault['asks']}",
+        *limit_lines(fault["limit"]),
         *carried(fault),
         *(line for block in fault["blocks"] for line in block_lines(block)),
         *origins_lines(fault["origins"]),

@@ -10,7 +10,7 @@ use explain_history::{record_at, room};
 use explain_lines::Listing;
 use explain_origins::Origins;
 use explain_replay::Broken;
-use explain_rule::{Explanation, sentence_of};
+use explain_rule::{Explanation, Limit, sentence_of};
 use lf_codec::Packed;
 use lf_rules::{NoMemory, Rule};
 use serde_json::{Value, json};
@@ -56,6 +56,20 @@ fn set_rule(object: &mut Object, rule: Rule) -> Result<(), NoMemory> {
     object.set_text("kind", "rule")?;
     object.set_text("rule", name.as_str())?;
     object.set_text("asks", sentence_of(rule))
+}
+
+/// How many the configuration has of what the rule is about, and null where it is not told.
+fn limit_json(alloc: Global, limit: Option<Limit>) -> Result<Value, NoMemory> {
+    let value = match limit {
+        Some(Limit::Tags(tags)) => json!(in alloc; {"tags": tags})?,
+        Some(Limit::Registers(registers)) => json!(in alloc; {"registers": registers})?,
+        Some(Limit::Ways { set, ways }) => json!(in alloc; {"set": set, "ways": ways})?,
+        Some(Limit::Targets(targets)) => json!(in alloc; {"targets": targets})?,
+        Some(Limit::Words(words)) => json!(in alloc; {"words": words})?,
+        Some(Limit::Blocks(blocks)) => json!(in alloc; {"blocks": blocks})?,
+        None => Value::Null,
+    };
+    Ok(value)
 }
 
 /// The records that the state of the rule comes from, and null where it is about no such state.
@@ -106,6 +120,7 @@ pub(crate) fn breach_json(
 ) -> Result<Value, NoMemory> {
     let mut object = Object::new(alloc);
     set_rule(&mut object, why.rule)?;
+    object.set("limit", limit_json(alloc, why.limit)?)?;
     if let Some(place) = why.history.place {
         set_place(&mut object, listing, place, &why.broken)?;
     }

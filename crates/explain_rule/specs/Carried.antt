@@ -5,7 +5,7 @@ use Rattle.std.specs.Fmt.{decimal}
 use Rattle.std.specs.List.{range_with_len, common_prefix_len}
 use Rattle.lf_rules.specs.declared.mask.Mask.{Mask}
 use Rattle.lf_rules.specs.declared.event.Event.{Event}
-use Rattle.lf_rules.specs.declared.event.Event.TheVariants.{Evict1, Evict2}
+use Rattle.lf_rules.specs.declared.event.Event.TheVariants.{Reply, Primary, Merge, Evict1, Evict2}
 use Rattle.lf_rules.specs.declared.event.Record.{Record}
 use Rattle.lf_rules.specs.Address.{Masks, mask_at}
 use Rattle.lf_rules.specs.Lines.{no_masks}
@@ -60,12 +60,30 @@ masks_lines due found =
     mask_line (codes "expected") due.items ++ mask_line (codes "found   ") found.items
     ++ mask_line (codes "too many") (all_beyond found due) ++ mask_line (codes "too few ") (all_beyond due found)
 
+-- the size of the reply, and the register of the miss of level one
+abbrev pub size_of : Event → ℕ
+size_of (Reply tag size bytes) = size
+size_of _ = 0
+
+abbrev pub register_of : Event → ℕ
+register_of (Primary port tag register) = register
+register_of (Merge port tag register) = register
+register_of _ = 0
+
+-- a number, behind what it is
+abbrev pub number_line : List ℕ → ℕ → List ℕ
+number_line label number = codes "  " ++ label ++ decimal number ++ 10 ∷ []
+
 -- what the rule asks that an event carries whose bytes have these addresses, and what it carries
 abbrev pub due_text : Option Expected → List ℕ → Event → List ℕ
 due_text None addresses event = []
 due_text (Some (expected.Bytes due)) addresses event =
     expected_line due.items ++ found_line due.items (data_of event) addresses
 due_text (Some (expected.Masks due)) addresses event = masks_lines due (masks_of event)
+due_text (Some (expected.Size due)) addresses event =
+    number_line (codes "expected size=") due ++ number_line (codes "found    size=") (size_of event)
+due_text (Some (expected.Register due)) addresses event =
+    number_line (codes "expected register=") due ++ number_line (codes "found    register=") (register_of event)
 
 abbrev pub broken_text : Option Broken → Event → List ℕ
 broken_text None event = []

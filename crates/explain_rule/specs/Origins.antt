@@ -23,7 +23,7 @@ abbrev pub wrong_byte : Option Expected → List ℕ → Event → Option ℕ
 wrong_byte None addresses event = None
 wrong_byte (Some (expected.Bytes due)) addresses event = slice_get addresses
     (common_prefix_len nat_eq due.items (data_of event))
-wrong_byte (Some (expected.Masks due)) addresses event = None
+wrong_byte (Some _) addresses event = None
 
 abbrev pub wrong_address : Option Broken → Event → Option ℕ
 wrong_address None event = None

@@ -3,6 +3,7 @@
 ghost use Rattle.std.specs.Prelude.{◌≡◌, ◌<◌, length, nat_eq, slice_index, Some};
 ghost use Rattle.std.specs.List.{common_prefix_len};
 ghost use Rattle.explain_rule.specs.Carried.{expected_line, place_text, found_line, due_text, broken_text};
+ghost use Rattle.explain_rule.specs.Carried.{size_of, register_of, number_line};
 ghost use Rattle.explain_rule.specs.Carried.{one_mask, masks_of, beyond, all_beyond, mask_line, masks_lines};
 ghost use Rattle.lf_rules.specs.Lines.{no_masks};
 
@@ -212,6 +213,42 @@ impl fmt::Display for MasksLines<'_> {
     }
 }
 
+/// The size of a reply.
+pub fn size_of(event: &Event) -> u8
+    ensures { result ≡ size_of event.now }
+{
+    match event {
+        Event::Reply { size, .. } => *size,
+        _ => 0,
+    }
+}
+
+/// The register of a miss of level one.
+pub fn register_of(event: &Event) -> u16
+    ensures { result ≡ register_of event.now }
+{
+    match event {
+        Event::Primary { register, .. } | Event::Merge { register, .. } => *register,
+        _ => 0,
+    }
+}
+
+/// A number, behind what it is.
+#[derive(Clone, Copy)]
+struct NumberLine {
+    label: &'static str,
+    number: u64,
+}
+
+impl fmt::Display for NumberLine {
+    ghost output = { λ line. Some (number_line line.label.now line.number) };
+
+    fn fmt<W: fmt::Write>(&self, f: &mut fmt::Formatter<W>) -> fmt::Result {
+        let NumberLine { label, number } = *self;
+        write!(f, "  {label}{number}\n")
+    }
+}
+
 /// What a rule asks that an event carries whose bytes have these addresses, and what it carries.
 #[derive(Clone, Copy)]
 struct Due<'a> {
@@ -238,6 +275,28 @@ impl fmt::Display for Due<'_> {
                 let found = masks_of(self.event);
                 let lines = MasksLines { due, found: &found };
                 write!(f, "{lines}")
+            }
+            Some(Expected::Size(due)) => {
+                let expected = NumberLine {
+                    label: "expected size=",
+                    number: *due as u64,
+                };
+                let found = NumberLine {
+                    label: "found    size=",
+                    number: u64::from(size_of(self.event)),
+                };
+                write!(f, "{expected}{found}")
+            }
+            Some(Expected::Register(due)) => {
+                let expected = NumberLine {
+                    label: "expected register=",
+                    number: u64::from(*due),
+                };
+                let found = NumberLine {
+                    label: "found    register=",
+                    number: u64::from(register_of(self.event)),
+                };
+                write!(f, "{expected}{found}")
             }
             None => Ok(()),
         }

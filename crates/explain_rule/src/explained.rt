@@ -8,6 +8,7 @@ ghost use Rattle.explain_lines.specs.Marks.{besides};
 
 use crate::carried::Carried;
 use crate::explanation::Explanation;
+use crate::limit::LimitLine;
 use crate::sentence::sentence_of;
 use crate::state::State;
 use explain_history::{record_at, room};
@@ -102,7 +103,7 @@ impl fmt::Display for OriginsLines<'_> {
 }
 
 /// An explanation over the records of its trace. Its text is lines, each with its newline: the record, what
-/// the rule asks, what it asks that the record carries, what the bank has of its blocks, the records that the
+/// the rule asks, how many there are of what it is about, what it asks that the record carries, what the bank has of its blocks, the records that the
 /// state of the rule comes from, and the records before.
 #[derive(Clone, Copy)]
 pub struct Explained<'a> {
@@ -121,6 +122,7 @@ impl fmt::Display for Explained<'_> {
             place: self.why.history.place,
         };
         let asked = Asked(self.why.rule);
+        let limit = LimitLine(self.why.limit);
         let carried = RecordCarries {
             listing,
             why: self.why,
@@ -134,6 +136,6 @@ impl fmt::Display for Explained<'_> {
             listing,
             places: &self.why.history.before,
         };
-        write!(f, "{record}{asked}{carried}{state}{origins}{before}")
+        write!(f, "{record}{asked}{limit}{carried}{state}{origins}{before}")
     }
 }

@@ -8,6 +8,7 @@ ghost use Rattle.explain_rule.specs.Breach.{rule_of};
 ghost use Rattle.explain_rule.specs.Explanation.{HasBank, IsExplanation};
 
 use crate::found::{Found, find};
+use crate::limit::{Limit, limit_at};
 use crate::origins::origins_at;
 use explain_history::History;
 use explain_origins::Origins;
@@ -41,6 +42,8 @@ impl Breach {
 pub struct Explanation {
     /// The rule that the record breaks first.
     pub rule: Rule,
+    /// How many the configuration has of what the rule is about, where it is about that.
+    pub limit: Option<Limit>,
     /// The record, and the last before it that matter.
     pub history: History,
     /// What the rule asks that the record carries, and what the bank has of its blocks, where it is a rule of a bank.
@@ -49,7 +52,8 @@ pub struct Explanation {
     pub origins: Option<Origins>,
 }
 
-/// Why the trace with this memory and these records is not legal: the record that breaks the rule, what the
+/// Why the trace with this memory and these records is not legal: the record that breaks the rule, how many there
+/// are of what the rule is about, what the
 /// rule asks that it carries, what the bank has of its blocks, the records that the state of the rule comes from,
 /// and the last records before it that matter, at most so many. Before a record of a port those of its log matter,
 /// and before one of a bank those with lower numbers that touch its second-level block.
@@ -73,8 +77,10 @@ pub fn explain(
         before,
     } = find(alloc, shape, memory, records, breach, most)?;
     let origins = origins_at(alloc, shape, records, &before, rule, &broken, history.place)?;
+    let limit = limit_at(shape, records, rule, &broken, history.place);
     Ok(Explanation {
         rule,
+        limit,
         history,
         broken,
         origins,

@@ -23,7 +23,7 @@ fn wrong_byte(due: &Option<Expected>, addresses: &[u64], event: &Event) -> Optio
             let place = first_difference(due, data_of(event));
             addresses.get(place).copied()
         }
-        Some(Expected::Masks(_)) | None => None,
+        Some(Expected::Masks(_) | Expected::Size(_) | Expected::Register(_)) | None => None,
     }
 }
 
