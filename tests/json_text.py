@@ -5,7 +5,7 @@ are the same, the JSON has each fact that the text has.
 
 from __future__ import annotations
 
-from typing import Any, Dict, List, Optional
+from typing import Any, Dict, List, Optional, Tuple
 
 Object = Dict[str, Any]
 
@@ -62,7 +62,9 @@ def carried(fault: Object) -> List[str]:
     if "masks" in due:
         names = ("expected", "found   ", "too many", "too few ")
         bits = (due["masks"], found["masks"], fault["too_many"], fault["too_few"])
-        return [f"  {name}{masks(told)}" for name, told in zip(names, bits)]
+        where: Tuple[List[str], ...] = ([], [], fault["too_many_addresses"], fault["too_few_addresses"])
+        tails = [f", addresses {' '.join(addresses)}" if addresses else "" for addresses in where]
+        return [f"  {name}{masks(told)}{tail}" for name, told, tail in zip(names, bits, tails)]
     if "bytes" not in due:
         ((name, number),) = due.items()
         return [f"  expected {name}={number}", f"  found    {name}={found[name]}"]
@@ -98,7 +100,12 @@ def origins_lines(origins: Optional[Object]) -> List[str]:
         return []
     if not origins["records"]:
         return ["", f"{origins['heading']}: none"]
-    return ["", f"{origins['heading']}:", *lines_of(origins["records"])]
+    lines = [
+        line
+        for record, request in zip(origins["records"], origins["requests"])
+        for line in [*line_of(record), *(f"  of {asked}" for asked in line_of(request))]
+    ]
+    return ["", f"{origins['heading']}:", *lines]
 
 
 def rule_lines(fault: Object) -> List[str]:
@@ -107,9 +114,11 @@ def rule_lines(fault: Object) -> List[str]:
         *line_of(fault["record"]),
         f"  {fault['rule']} asks that {fault['asks']}",
         *limit_lines(fault["limit"]),
+        *([] if fault["free_register"] is None else [f"  free register={fault['free_register']}"]),
         *carried(fault),
         *(line for block in fault["blocks"] for line in block_lines(block)),
         *origins_lines(fault["origins"]),
+        *(line for part in fault["further"] for line in origins_lines(part)),
         *(["", "before it:", *lines_of(fault["before"])] if fault["before"] else []),
     ]
 

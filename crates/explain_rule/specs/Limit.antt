@@ -109,3 +109,8 @@ limit_line (Blocks blocks) = codes "  a register takes one target for each of bl
 abbrev pub limit_text : Option Limit → List ℕ
 limit_text None = []
 limit_text (Some limit) = limit_line limit
+
+-- the register that is free, as a line of its own
+abbrev pub free_text : Option ℕ → List ℕ
+free_text None = []
+free_text (Some register) = codes "  free register=" ++ decimal register ++ 10 ∷ []

@@ -7,7 +7,7 @@ ghost use Rattle.lf_rules.specs.Table.{destinations};
 ghost use Rattle.explain_history.specs.Touching.{record_at};
 ghost use Rattle.explain_rule.specs.Limit.{registers1, registers2, registers_limit, targets_of, targets1, targets2};
 ghost use Rattle.explain_rule.specs.Limit.{targets_limit, ways_limit, is_held, is_any_held, room_of, room_limit};
-ghost use Rattle.explain_rule.specs.Limit.{limit_of, limit_at, limit_text, limit_line};
+ghost use Rattle.explain_rule.specs.Limit.{limit_of, limit_at, limit_text, limit_line, free_text};
 
 use explain_history::{record_at, room};
 use explain_replay::{Broken, NamedBlock};
@@ -259,6 +259,21 @@ impl fmt::Display for LimitLine {
     fn fmt<W: fmt::Write>(&self, f: &mut fmt::Formatter<W>) -> fmt::Result {
         match self.0 {
             Some(limit) => write!(f, "{limit}"),
+            None => Ok(()),
+        }
+    }
+}
+
+/// The register that is free, where one is.
+#[derive(Clone, Copy)]
+pub(crate) struct FreeLine(pub Option<u32>);
+
+impl fmt::Display for FreeLine {
+    ghost output = { λ line. Some (free_text line.0) };
+
+    fn fmt<W: fmt::Write>(&self, f: &mut fmt::Formatter<W>) -> fmt::Result {
+        match self.0 {
+            Some(register) => write!(f, "  free register={register}\n"),
             None => Ok(()),
         }
     }
