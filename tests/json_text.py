@@ -177,7 +177,7 @@ def text_of(answer: Object) -> str:
     if answer["verdict"] == "no":
         lines = fault_lines(answer["fault"])
         if answer["first"] is not None:
-            lines += ["", "the first record of the trace upon which something broke:", *fault_lines(answer["first"])]
+            lines += ["", "what broke first in the trace:", *fault_lines(answer["first"])]
     elif answer["verdict"] == "yes":
         lines = usage_lines(answer["used"])
     elif "explanation" in answer:
