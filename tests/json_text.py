@@ -5,7 +5,7 @@ are the same, the JSON has each fact that the text has.
 
 from __future__ import annotations
 
-from typing import Any, Dict, List, Optional
+from typing import Any, Dict, List, Optional, Tuple
 
 Object = Dict[str, Any]
 
@@ -42,6 +42,18 @@ def data(digits: str) -> str:
     return f" bytes={digits}" if digits else ""
 
 
+def limit_lines(limit: Optional[Object]) -> List[str]:
+    """How many there are of what the rule is about."""
+    if limit is None:
+        return []
+    if "ways" in limit:
+        return [f"  there are ways={limit['ways']} in set={limit['set']}"]
+    ((name, count),) = limit.items()
+    if name in ("words", "blocks"):
+        return [f"  a register takes one target for each of {name}={count}"]
+    return [f"  a register takes targets={count}" if name == "targets" else f"  there are {name}={count}"]
+
+
 def carried(fault: Object) -> List[str]:
     """What the record has to carry and carries."""
     due, found, first = fault["expected"], fault["found"], fault["first_different"]
@@ -50,7 +62,12 @@ def carried(fault: Object) -> List[str]:
     if "masks" in due:
         names = ("expected", "found   ", "too many", "too few ")
         bits = (due["masks"], found["masks"], fault["too_many"], fault["too_few"])
-        return [f"  {name}{masks(told)}" for name, told in zip(names, bits)]
+        where: Tuple[List[str], ...] = ([], [], fault["too_many_addresses"], fault["too_few_addresses"])
+        tails = [f", addresses {' '.join(addresses)}" if addresses else "" for addresses in where]
+        return [f"  {name}{masks(told)}{tail}" for name, told, tail in zip(names, bits, tails)]
+    if "bytes" not in due:
+        ((name, number),) = due.items()
+        return [f"  expected {name}={number}", f"  found    {name}={found[name]}"]
     address = "" if first["address"] is None else f", address {first['address']}"
     return [
         f"  expected{data(due['bytes'])}",
@@ -83,7 +100,12 @@ def origins_lines(origins: Optional[Object]) -> List[str]:
         return []
     if not origins["records"]:
         return ["", f"{origins['heading']}: none"]
-    return ["", f"{origins['heading']}:", *lines_of(origins["records"])]
+    lines = [
+        line
+        for record, request in zip(origins["records"], origins["requests"])
+        for line in [*line_of(record), *(f"  of {asked}" for asked in line_of(request))]
+    ]
+    return ["", f"{origins['heading']}:", *lines]
 
 
 def rule_lines(fault: Object) -> List[str]:
@@ -91,9 +113,12 @@ def rule_lines(fault: Object) -> List[str]:
     return [
         *line_of(fault["record"]),
         f"  {fault['rule']} asks that {fault['asks']}",
+        *limit_lines(fault["limit"]),
+        *([] if fault["free_register"] is None else [f"  free register={fault['free_register']}"]),
         *carried(fault),
         *(line for block in fault["blocks"] for line in block_lines(block)),
         *origins_lines(fault["origins"]),
+        *(line for part in fault["further"] for line in origins_lines(part)),
         *(["", "before it:", *lines_of(fault["before"])] if fault["before"] else []),
     ]
 
@@ -152,7 +177,7 @@ def text_of(answer: Object) -> str:
     if answer["verdict"] == "no":
         lines = fault_lines(answer["fault"])
         if answer["first"] is not None:
-            lines += ["", "the first record of the trace upon which something broke:", *fault_lines(answer["first"])]
+            lines += ["", "what broke first in the trace:", *fault_lines(answer["first"])]
     elif answer["verdict"] == "yes":
         lines = usage_lines(answer["used"])
     elif "explanation" in answer:

@@ -10,7 +10,7 @@ use explain_history::{record_at, room};
 use explain_lines::Listing;
 use explain_origins::Origins;
 use explain_replay::Broken;
-use explain_rule::{Explanation, sentence_of};
+use explain_rule::{Explanation, Limit, sentence_of};
 use lf_codec::Packed;
 use lf_rules::{NoMemory, Rule};
 use serde_json::{Value, json};
@@ -58,17 +58,66 @@ fn set_rule(object: &mut Object, rule: Rule) -> Result<(), NoMemory> {
     object.set_text("asks", sentence_of(rule))
 }
 
+/// How many the configuration has of what the rule is about, and null where it is not told.
+fn limit_json(alloc: Global, limit: Option<Limit>) -> Result<Value, NoMemory> {
+    let value = match limit {
+        Some(Limit::Tags(tags)) => json!(in alloc; {"tags": tags})?,
+        Some(Limit::Registers(registers)) => json!(in alloc; {"registers": registers})?,
+        Some(Limit::Ways { set, ways }) => json!(in alloc; {"set": set, "ways": ways})?,
+        Some(Limit::Targets(targets)) => json!(in alloc; {"targets": targets})?,
+        Some(Limit::Words(words)) => json!(in alloc; {"words": words})?,
+        Some(Limit::Blocks(blocks)) => json!(in alloc; {"blocks": blocks})?,
+        None => Value::Null,
+    };
+    Ok(value)
+}
+
+/// The register that is free, and null where none is told.
+fn free_json(free: Option<u32>) -> Value {
+    match free {
+        Some(register) => Value::from(register),
+        None => Value::Null,
+    }
+}
+
+/// What the records of a part are called, and the records.
+fn part_json(alloc: Global, listing: &Listing<'_>, origins: &Origins) -> Result<Value, NoMemory> {
+    let mut records = Vec::new(alloc);
+    let mut requests = Vec::new(alloc);
+    for origin in origins.records.iter() {
+        records.push(record_at_json(alloc, listing, Some(origin.place))?)?;
+        requests.push(record_at_json(alloc, listing, origin.request)?)?;
+    }
+    Ok(json!(in alloc; {
+        "heading": origins.part.heading(),
+        "records": Value::Array(records),
+        "requests": Value::Array(requests),
+    })?)
+}
+
 /// The records that the state of the rule comes from, and null where it is about no such state.
 fn origins_json(
     alloc: Global,
     listing: &Listing<'_>,
     origins: &Option<Origins>,
 ) -> Result<Value, NoMemory> {
-    let Some(origins) = origins else {
-        return Ok(Value::Null);
-    };
-    let records = records_json(alloc, listing, &origins.places)?;
-    Ok(json!(in alloc; {"heading": origins.part.heading(), "records": records})?)
+    match origins {
+        Some(origins) => part_json(alloc, listing, origins),
+        None => Ok(Value::Null),
+    }
+}
+
+/// The records that are told beside these, part by part.
+fn further_json(
+    alloc: Global,
+    listing: &Listing<'_>,
+    further: &[Origins],
+) -> Result<Value, NoMemory> {
+    let mut list = Vec::new(alloc);
+    for origins in further {
+        list.push(part_json(alloc, listing, origins)?)?;
+    }
+    Ok(Value::Array(list))
 }
 
 /// What the record that breaks the rule has to carry, and what the bank has of its blocks.
@@ -84,6 +133,8 @@ fn set_broken(
         "first_different",
         "too_many",
         "too_few",
+        "too_many_addresses",
+        "too_few_addresses",
     ] {
         object.set(name, Value::Null)?;
     }
@@ -106,12 +157,15 @@ pub(crate) fn breach_json(
 ) -> Result<Value, NoMemory> {
     let mut object = Object::new(alloc);
     set_rule(&mut object, why.rule)?;
+    object.set("limit", limit_json(alloc, why.limit)?)?;
+    object.set("free_register", free_json(why.free))?;
     if let Some(place) = why.history.place {
         set_place(&mut object, listing, place, &why.broken)?;
     }
     object.set("record", record_at_json(alloc, listing, why.history.place)?)?;
     set_broken(&mut object, listing, why)?;
     object.set("origins", origins_json(alloc, listing, &why.origins)?)?;
+    object.set("further", further_json(alloc, listing, &why.further)?)?;
     object.set("before", records_json(alloc, listing, &why.history.before)?)?;
     Ok(object.done())
 }

@@ -2,7 +2,7 @@
 
 use crate::object::{Object, digits, hexadecimal, masks_json};
 use explain_replay::{Broken, Expected};
-use explain_rule::{all_beyond, first_difference, masks_of};
+use explain_rule::{all_beyond, first_difference, is_among, masks_of, register_of, size_of};
 use lf_rules::{Event, Masks, NoMemory};
 use serde_json::{Value, json};
 use std::alloc::Global;
@@ -31,9 +31,40 @@ fn set_bytes(
     object.set("first_different", difference_json(alloc, byte, addresses)?)
 }
 
-/// The masks that are due, those that were found, and which of their bytes are too many and too few.
-fn set_masks(object: &mut Object, due: &Masks, found: &Masks) -> Result<(), NoMemory> {
+/// The addresses that are none of the others.
+fn other_addresses(alloc: Global, others: &[u64], addresses: &[u64]) -> Result<Value, NoMemory> {
+    let mut list = Vec::new(alloc);
+    for address in addresses {
+        if !is_among(others, *address) {
+            list.push(hexadecimal(alloc, *address)?)?;
+        }
+    }
+    Ok(Value::Array(list))
+}
+
+/// Where the bytes are that masks have too many or too few.
+fn set_addresses(object: &mut Object, broken: &Broken) -> Result<(), NoMemory> {
+    let Broken {
+        addresses,
+        due_addresses,
+        ..
+    } = broken;
     let alloc = object.alloc;
+    let many = other_addresses(alloc, due_addresses, addresses)?;
+    object.set("too_many_addresses", many)?;
+    let few = other_addresses(alloc, addresses, due_addresses)?;
+    object.set("too_few_addresses", few)
+}
+
+/// The masks that are due, those that were found, and which of their bytes are too many and too few.
+fn set_masks(
+    object: &mut Object,
+    broken: &Broken,
+    due: &Masks,
+    found: &Masks,
+) -> Result<(), NoMemory> {
+    let alloc = object.alloc;
+    set_addresses(object, broken)?;
     object.set(
         "expected",
         json!(in alloc; {"masks": masks_json(alloc, due)?})?,
@@ -46,6 +77,20 @@ fn set_masks(object: &mut Object, due: &Masks, found: &Masks) -> Result<(), NoMe
     object.set("too_few", masks_json(alloc, &all_beyond(due, found))?)
 }
 
+/// A number behind what it is.
+fn number_json(alloc: Global, name: &str, number: u64) -> Result<Value, NoMemory> {
+    let mut object = Object::new(alloc);
+    object.set(name, Value::from(number))?;
+    Ok(object.done())
+}
+
+/// The number that is due and the one that was found.
+fn set_numbers(object: &mut Object, name: &str, due: u64, found: u64) -> Result<(), NoMemory> {
+    let alloc = object.alloc;
+    object.set("expected", number_json(alloc, name, due)?)?;
+    object.set("found", number_json(alloc, name, found)?)
+}
+
 /// What a record of this event has to carry and carries, where a rule is about that, and otherwise null.
 pub(crate) fn set_carried(
     object: &mut Object,
@@ -54,7 +99,14 @@ pub(crate) fn set_carried(
 ) -> Result<(), NoMemory> {
     match &broken.expected {
         Some(Expected::Bytes(due)) => set_bytes(object, due, data_of(event), &broken.addresses),
-        Some(Expected::Masks(due)) => set_masks(object, due, &masks_of(event)),
+        Some(Expected::Masks(due)) => set_masks(object, broken, due, &masks_of(event)),
+        Some(Expected::Size(due)) => {
+            set_numbers(object, "size", *due as u64, u64::from(size_of(event)))
+        }
+        Some(Expected::Register(due)) => {
+            let found = u64::from(register_of(event));
+            set_numbers(object, "register", u64::from(*due), found)
+        }
         None => Ok(()),
     }
 }

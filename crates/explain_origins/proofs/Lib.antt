@@ -2,3 +2,6 @@ mod BeforeLast
 mod Steps
 mod ToCome
 mod LastStoreLemmas
+mod FurtherLemmas
+mod FreedLemmas
+mod AcceptedLemmas

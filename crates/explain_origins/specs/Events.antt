@@ -51,6 +51,18 @@ miss2_second shape (SecondPrimary block register) = Some (second_of shape block)
 miss2_second shape (SecondMerge block register) = Some (second_of shape block)
 miss2_second shape _ = None
 
+-- the register that a miss takes or joins
+abbrev pub named_register : Event → Option ℕ
+named_register (Primary port tag register) = Some register
+named_register (Merge port tag register) = Some register
+named_register (SecondPrimary block register) = Some register
+named_register (SecondMerge block register) = Some register
+named_register _ = None
+
+-- the block of a miss, where it takes or joins this register
+abbrev pub in_register : ℕ → Event → Option ℕ → Option ℕ
+in_register register event block = if is_key register (named_register event) then block else None
+
 -- ---- blocks of a second-level block
 
 -- the block, where it is one of this second-level block
@@ -90,6 +102,10 @@ written_back shape _ = None
 abbrev pub only : ℕ → Option ℕ → Option ℕ
 only wanted None = None
 only wanted (Some block) = if block == wanted then Some block else None
+
+-- the block, where the event accepts the port's request with this tag: what was stored before counts no longer
+abbrev pub cleared_by : ℕ → Option ℕ → ℕ → Option ℕ
+cleared_by tag accepted block = if is_key tag accepted then Some block else None
 
 -- ---- requests of a port
 

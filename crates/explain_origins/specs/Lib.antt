@@ -1,5 +1,8 @@
 -- Which records the state comes from that a rule is about, and their text.
+pub mod Accepted
 pub mod Events
+pub mod Freed
+pub mod Further
 pub mod Kept
 pub mod Origins
 pub mod Parts

@@ -1,5 +1,5 @@
 -- Which records the state comes from that a rule is about.
-use Rattle.std.specs.Prelude.{◌≡◌, ℕ, Bool, List, [], ◌∷◌, ◌++◌, Option, Some, None, if◌then◌else◌}
+use Rattle.std.specs.Prelude.{◌≡◌, ℕ, Bool, List, [], ◌∷◌, ◌++◌, map, Option, Some, None, if◌then◌else◌}
 use Rattle.std.specs.List.{list_any}
 use Rattle.lf_rules.specs.declared.event.Event.{Event}
 use Rattle.lf_rules.specs.declared.event.Event.TheVariants as events
@@ -7,13 +7,14 @@ use Rattle.lf_rules.specs.declared.event.Record.{Record}
 use Rattle.lf_rules.specs.declared.rule.Rule.{Rule}
 use Rattle.lf_rules.specs.declared.rule.Rule.TheVariants as rules
 use Rattle.lf_rules.specs.declared.shape.Shape.{Shape}
-use Rattle.lf_rules.specs.Address.{block_of, offset_of, set1_of, set2_of}
+use Rattle.lf_rules.specs.Address.{block_of, second_of, offset_of, set1_of, set2_of}
 use Rattle.lf_rules.specs.History.{accepted_by}
 use Rattle.explain_history.specs.Touching.{record_at, and_then}
 use Rattle.explain_origins.specs.declared.origins.Origins.{Origins}
 use Rattle.explain_origins.specs.declared.parts.StatePart.{StatePart}
 use Rattle.explain_origins.specs.declared.parts.StatePart.TheVariants as parts
 use Rattle.explain_origins.specs.declared.requests.AcceptedRequest.{AcceptedRequest}
+use Rattle.explain_origins.specs.Accepted.{origin_at}
 use Rattle.explain_origins.specs.Events.{is_key}
 use Rattle.explain_origins.specs.Parts.{begun, ended}
 use Rattle.explain_origins.specs.Requests.{asked_for}
@@ -103,7 +104,24 @@ abbrev pub busy_tag : ℕ → Event → Option StatePart
 busy_tag log (events.Issue op tag size address bytes) = Some (parts.BusyTag log tag)
 busy_tag log _ = None
 
--- the part of the state that a rule is about, where this record breaks it and the byte at this address is wrong
+-- the request that a reply is to
+abbrev pub replied : ℕ → Event → Option StatePart
+replied log (events.Reply tag size bytes) = Some (parts.BusyTag log tag)
+replied log _ = None
+
+-- the line of level one on the block at an address
+abbrev pub line1_at : Shape → Option ℕ → Option StatePart
+line1_at shape None = None
+line1_at shape (Some address) = Some (parts.Line1 (block_of shape address))
+
+-- the line of level two that a miss at level two is beside
+abbrev pub line2_of : Shape → Event → Option StatePart
+line2_of shape (events.SecondPrimary block register) = Some (parts.Line2 (second_of shape block))
+line2_of shape (events.SecondMerge block register) = Some (parts.Line2 (second_of shape block))
+line2_of shape (events.SecondStall block) = Some (parts.Line2 (second_of shape block))
+line2_of shape _ = None
+
+-- the part of the state that a rule is about, where this record breaks it and the fault is at this address
 abbrev pub part_of : Shape → Rule → Option ℕ → Record → Option StatePart
 part_of shape rules.SetFull address r = filled_set shape r.event
 part_of shape rules.PrimaryInFlight address r = registers r.event
@@ -117,6 +135,9 @@ part_of shape rules.NotReady address r = Some (parts.Unanswered r.log)
 part_of shape rules.NotOutstanding address r = Some (parts.Outstanding r.log)
 part_of shape rules.FenceBusy address r = Some (parts.Outstanding r.log)
 part_of shape rules.TagBusy address r = busy_tag r.log r.event
+part_of shape rules.ReplySize address r = replied r.log r.event
+part_of shape rules.Present address r = line1_at shape address
+part_of shape rules.SecondPresent address r = line2_of shape r.event
 part_of shape rules.Inclusion address r = evicted_second r.event
 part_of shape rules.EvictMask address r = dirty_line r.event
 part_of shape rules.ReplyData address r = last_store shape address
@@ -124,18 +145,19 @@ part_of shape rules.FillData address r = last_store shape address
 part_of shape rules.EvictData address r = last_store shape address
 part_of shape _ address r = None
 
--- They are of this part: the places of the records that it comes from, of these before.
-pub record AreOriginsOf (shape : Shape) (before : List Step) (part : StatePart) (origins : Origins) : Type 0 where
+-- They are of this part: the records that it comes from, of those at the places before, each with its request.
+pub record AreOriginsOf (shape : Shape) (rs : List Record) (before : List (Option ℕ)) (part : StatePart)
+    (origins : Origins) : Type 0 where
   pub part_is : origins.part ≡ part
-  pub places : origins.places.items ≡ standing shape part before
+  pub records : origins.records.items ≡ map (origin_at rs before) (standing shape part (steps shape [] rs before))
 
-abbrev pub AreOriginsOfAny : Shape → List Step → Option StatePart → Option Origins → Type 0
-AreOriginsOfAny shape before None origins = origins ≡ None
-AreOriginsOfAny shape before (Some part) None = ⊥
-AreOriginsOfAny shape before (Some part) (Some origins) = AreOriginsOf shape before part origins
+abbrev pub AreOriginsOfAny : Shape → List Record → List (Option ℕ) → Option StatePart → Option Origins → Type 0
+AreOriginsOfAny shape rs before None origins = origins ≡ None
+AreOriginsOfAny shape rs before (Some part) None = ⊥
+AreOriginsOfAny shape rs before (Some part) (Some origins) = AreOriginsOf shape rs before part origins
 
 -- The part of the state that the rule is about, where there is one, by the records that it comes from, of those at
 -- these places that the rule looks at.
 abbrev pub AreOrigins : Shape → List Record → List (Option ℕ) → Rule → Option ℕ → Record → Option Origins → Type 0
 AreOrigins shape rs before rule address r origins =
-    AreOriginsOfAny shape (steps shape [] rs (seen_by rs rule r before)) (part_of shape rule address r) origins
+    AreOriginsOfAny shape rs (seen_by rs rule r before) (part_of shape rule address r) origins

@@ -7,7 +7,7 @@ use Rattle.explain_origins.specs.declared.parts.StatePart.{StatePart}
 use Rattle.explain_origins.specs.declared.parts.StatePart.TheVariants as parts
 use Rattle.explain_origins.specs.declared.requests.AcceptedRequest.{AcceptedRequest}
 use Rattle.explain_origins.specs.Events.{fill1_block, evict1_block, fill2_second, evict2_second, miss1_block, miss2_second}
-use Rattle.explain_origins.specs.Events.{issued_tag, accepted_tag, replied_tag, only, either, within}
+use Rattle.explain_origins.specs.Events.{issued_tag, accepted_tag, replied_tag, only, either, within, in_register, cleared_by}
 use Rattle.explain_origins.specs.Events.{store_of_byte, stored_block, written_back}
 
 -- the block, where it is in this set
@@ -30,6 +30,18 @@ begun shape (parts.Outstanding port) request r = issued_tag port r.log r.event
 begun shape (parts.BusyTag port tag) request r = only tag (issued_tag port r.log r.event)
 begun shape (parts.WithinSecond second) request r =
     within shape second (either (fill1_block r.event) (miss1_block request r.event))
+begun shape (parts.Register1 register) request r = in_register register r.event (miss1_block request r.event)
+begun shape (parts.Register2 register) request r = in_register register r.event (miss2_second shape r.event)
+begun shape (parts.Freed1 register) request r = in_register register r.event (miss1_block request r.event)
+begun shape (parts.Freed2 register) request r = in_register register r.event (miss2_second shape r.event)
+begun shape (parts.Targets1 block) request r = only block (miss1_block request r.event)
+begun shape (parts.Targets2 second) request r = only second (miss2_second shape r.event)
+begun shape (parts.Line1 block) request r = only block (fill1_block r.event)
+begun shape (parts.Line2 second) request r = only second (fill2_second r.event)
+begun shape (parts.NamedRequest port tag bank number) request r = only tag (issued_tag port r.log r.event)
+begun shape (parts.Accepted port tag) request r = only tag (accepted_tag port r.event)
+begun shape (parts.LaterStores port tag block offset address value) request r = store_of_byte block offset request
+begun shape (parts.Served bank) request r = miss1_block request r.event
 begun shape (parts.LastStore block offset) request r = store_of_byte block offset request
 begun shape (parts.DirtyLine1 block) request r = only block (either (fill1_block r.event) (stored_block request))
 begun shape (parts.DirtyLine2 second) request r =
@@ -47,6 +59,19 @@ ended (parts.Unanswered port) request r = replied_tag port r.log r.event
 ended (parts.Outstanding port) request r = replied_tag port r.log r.event
 ended (parts.BusyTag port tag) request r = replied_tag port r.log r.event
 ended (parts.WithinSecond second) request r = either (fill1_block r.event) (evict1_block r.event)
+ended (parts.Register1 register) request r = fill1_block r.event
+ended (parts.Register2 register) request r = fill2_second r.event
+ended (parts.Freed1 register) request r = fill1_block r.event
+ended (parts.Freed2 register) request r = fill2_second r.event
+ended (parts.Targets1 block) request r = fill1_block r.event
+ended (parts.Targets2 second) request r = fill2_second r.event
+ended (parts.Line1 block) request r = evict1_block r.event
+ended (parts.Line2 second) request r = evict2_second r.event
+ended (parts.NamedRequest port tag bank number) request r = accepted_tag port r.event
+ended (parts.Accepted port tag) request r = replied_tag port r.log r.event
+ended (parts.LaterStores port tag block offset address value) request r =
+    cleared_by tag (accepted_tag port r.event) block
+ended (parts.Served bank) request r = fill1_block r.event
 ended (parts.LastStore block offset) request r = store_of_byte block offset request
 ended (parts.DirtyLine1 block) request r = evict1_block r.event
 ended (parts.DirtyLine2 second) request r = evict2_second r.event

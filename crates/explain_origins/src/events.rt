@@ -4,7 +4,7 @@ ghost use Rattle.std.specs.Prelude.{◌≡◌, ◌<◌};
 ghost use Rattle.explain_origins.specs.Events.{fill1_block, evict1_block, fill2_second, evict2_second};
 ghost use Rattle.explain_origins.specs.Events.{miss1_block, miss2_second, within, either, only, writes_byte};
 ghost use Rattle.explain_origins.specs.Events.{store_of_byte, stored_block, written_back, tag_at};
-ghost use Rattle.explain_origins.specs.Events.{issued_tag, accepted_tag, replied_tag};
+ghost use Rattle.explain_origins.specs.Events.{issued_tag, accepted_tag, replied_tag, named_register, in_register, cleared_by};
 
 use crate::requests::AcceptedRequest;
 use lf_rules::{Event, Record, Shape};
@@ -69,6 +69,35 @@ pub(crate) fn miss2_second(shape: &Shape, event: &Event) -> Option<u64>
             Some(u64::from(*block / shape.factor))
         }
         _ => None,
+    }
+}
+
+/// The register that a miss takes or joins.
+pub fn named_register(event: &Event) -> Option<u16>
+    ensures { result ≡ named_register event.now }
+{
+    match event {
+        Event::Primary { register, .. }
+        | Event::Merge { register, .. }
+        | Event::SecondPrimary { register, .. }
+        | Event::SecondMerge { register, .. } => Some(*register),
+        _ => None,
+    }
+}
+
+/// The block of a miss, where it takes or joins this register.
+pub(crate) fn in_register(register: u32, event: &Event, block: Option<u64>) -> Option<u64>
+    ensures { result ≡ in_register register event.now block }
+{
+    match named_register(event) {
+        Some(named) => {
+            if register == u32::from(named) {
+                block
+            } else {
+                None
+            }
+        }
+        None => None,
     }
 }
 
@@ -153,6 +182,22 @@ pub(crate) fn only(wanted: u64, block: Option<u64>) -> Option<u64>
 {
     let block = block?;
     if block == wanted { Some(block) } else { None }
+}
+
+/// The block, where the event accepts the request with this tag: what was stored before counts no longer.
+pub(crate) fn cleared_by(tag: u8, accepted: Option<u64>, block: u64) -> Option<u64>
+    ensures { result ≡ cleared_by tag accepted block }
+{
+    match accepted {
+        Some(accepted) => {
+            if u64::from(tag) == accepted {
+                Some(block)
+            } else {
+                None
+            }
+        }
+        None => None,
+    }
 }
 
 /// The tag, where the port is the one that is wanted.

@@ -7,7 +7,10 @@
 //! `OriginsText` is their text, which `specs/Text` says exactly.
 #![tactic(auto)]
 
+mod accepted;
 mod events;
+mod freed;
+mod further;
 mod last_store;
 mod origins;
 mod parts;
@@ -16,6 +19,9 @@ mod seen;
 mod standing;
 mod text;
 
+pub use accepted::Origin;
+pub use events::named_register;
+pub use further::further_of;
 pub use lf_rules::NoMemory;
 pub use origins::{BrokenRule, Origins, origins_of};
 pub use parts::StatePart;

@@ -1,10 +1,12 @@
 //! Which records the state comes from that a rule is about.
 
-ghost use Rattle.std.specs.Prelude.{◌≡◌, ◌<◌, [], IfOk};
+ghost use Rattle.std.specs.Prelude.{◌≡◌, ◌<◌, IfOk};
 ghost use Rattle.lf_rules.specs.InRange.{IsShape};
 ghost use Rattle.explain_origins.specs.Origins.{filled_set, registers, queue, evicted_second, dirty_line};
-ghost use Rattle.explain_origins.specs.Origins.{last_store, busy_tag, part_of, steps, AreOriginsOfAny, AreOrigins};
+ghost use Rattle.explain_origins.specs.Origins.{last_store, busy_tag, replied, line1_at, line2_of, part_of};
+ghost use Rattle.explain_origins.specs.Origins.{AreOriginsOfAny, AreOrigins};
 
+use crate::accepted::{Origin, with_requests};
 use crate::parts::StatePart;
 use crate::requests::{block_at, offset_at};
 use crate::seen::seen_by;
@@ -19,15 +21,20 @@ use std::alloc::Global;
 pub struct BrokenRule<'a> {
     pub rule: Rule,
     pub item: &'a Record,
-    /// Where the rule is about bytes, the address of the first that differs.
+    /// Where the rule is about bytes, the address of the first that differs, and where it is about the block of a
+    /// request, an address in that.
     pub address: Option<u64>,
+    /// Where a stall is needless, the register that is free.
+    pub free: Option<u32>,
+    /// Where the rule is about bytes, the first that differs as the record has it.
+    pub value: Option<u8>,
 }
 
-/// A part of the state, and the places of the records that it comes from, in their order.
+/// A part of the state, and the records that it comes from, in their order.
 #[derive(Drop, PartialEq, Eq)]
 pub struct Origins {
     pub part: StatePart,
-    pub places: Vec<usize>,
+    pub records: Vec<Origin>,
 }
 
 /// The set that a block is to be filled into.
@@ -126,6 +133,44 @@ fn busy_tag(item: &Record) -> Option<StatePart>
     }
 }
 
+/// The request that a reply is to.
+fn replied(item: &Record) -> Option<StatePart>
+    ensures { result ≡ replied item.now.log item.now.event }
+{
+    match &item.event {
+        Event::Reply { tag, .. } => Some(StatePart::BusyTag {
+            port: item.log,
+            tag: *tag,
+        }),
+        _ => None,
+    }
+}
+
+/// The line of level one on the block at an address.
+fn line1_at(shape: &Shape, address: Option<u64>) -> Option<StatePart>
+    requires { 0 < shape.now.block }
+    ensures { result ≡ line1_at shape.now address }
+{
+    Some(StatePart::Line1 {
+        block: block_at(shape, address?),
+    })
+}
+
+/// The line of level two that a miss at level two is beside.
+fn line2_of(shape: &Shape, event: &Event) -> Option<StatePart>
+    requires { 0 < shape.now.factor }
+    ensures { result ≡ line2_of shape.now event.now }
+{
+    match event {
+        Event::SecondPrimary { block, .. }
+        | Event::SecondMerge { block, .. }
+        | Event::SecondStall { block } => Some(StatePart::Line2 {
+            second: u64::from(*block / shape.factor),
+        }),
+        _ => None,
+    }
+}
+
 /// The part of the state that the rule is about.
 fn part_of(shape: &Shape, broken: BrokenRule<'_>) -> Option<StatePart>
     requires { IsShape shape.now }
@@ -135,6 +180,7 @@ fn part_of(shape: &Shape, broken: BrokenRule<'_>) -> Option<StatePart>
         rule,
         item,
         address,
+        ..
     } = broken;
     let event = &item.event;
     match rule {
@@ -149,6 +195,9 @@ fn part_of(shape: &Shape, broken: BrokenRule<'_>) -> Option<StatePart>
         Rule::NotReady => Some(StatePart::Unanswered { port: item.log }),
         Rule::NotOutstanding | Rule::FenceBusy => Some(StatePart::Outstanding { port: item.log }),
         Rule::TagBusy => busy_tag(item),
+        Rule::ReplySize => replied(item),
+        Rule::Present => line1_at(shape, address),
+        Rule::SecondPresent => line2_of(shape, event),
         Rule::Inclusion => evicted_second(event),
         Rule::EvictMask => dirty_line(event),
         Rule::ReplyData | Rule::FillData | Rule::EvictData => last_store(shape, address),
@@ -165,13 +214,14 @@ fn origins_in(
     part: Option<StatePart>,
 ) -> Result<Option<Origins>, NoMemory>
     requires { IsShape shape.now }
-    ensures { IfOk result (AreOriginsOfAny shape.now (steps shape.now [] records.now.records before.now) part) }
+    ensures { IfOk result (AreOriginsOfAny shape.now records.now.records before.now part) }
 {
     let Some(part) = part else {
         return Ok(None);
     };
     let places = standing(alloc, shape, records, before, part)?;
-    Ok(Some(Origins { part, places }))
+    let records = with_requests(alloc, records, before, &places)?;
+    Ok(Some(Origins { part, records }))
 }
 
 /// The records that the state comes from which a rule is about, of those at the places before. None where it is

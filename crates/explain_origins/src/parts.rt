@@ -6,9 +6,9 @@ ghost use Rattle.lf_rules.specs.InRange.{IsShape};
 ghost use Rattle.explain_origins.specs.Parts.{in_set};
 
 use crate::events::{
-    accepted_tag, either, evict1_block, evict2_second, fill1_block, fill2_second, issued_tag,
-    miss1_block, miss2_second, only, replied_tag, store_of_byte, stored_block, within,
-    written_back,
+    accepted_tag, cleared_by, either, evict1_block, evict2_second, fill1_block, fill2_second,
+    in_register, issued_tag, miss1_block, miss2_second, only, replied_tag, store_of_byte,
+    stored_block, within, written_back,
 };
 use crate::requests::AcceptedRequest;
 use lf_levels::{Level, One, Two};
@@ -18,9 +18,13 @@ use lf_rules::{Record, Shape};
 #[derive(Clone, Copy, PartialEq, Eq)]
 pub enum StatePart {
     /// The lines of a set of level one: fills, until their block is evicted.
-    LinesOfSet1 { set: u32 },
+    LinesOfSet1 {
+        set: u32,
+    },
     /// The lines of a set of level two: fills, until their second-level block is evicted.
-    LinesOfSet2 { set: u32 },
+    LinesOfSet2 {
+        set: u32,
+    },
     /// The targets in the registers of level one: primary misses and merges, until their block is filled.
     Registers1,
     /// The targets in the registers of level two: primary misses and merges, until their second-level block
@@ -28,23 +32,101 @@ pub enum StatePart {
     Registers2,
     /// The requests of a port that wait at the bank: issues, until a hit, a primary miss or a merge accepts
     /// them.
-    Queue { port: u8 },
+    Queue {
+        port: u8,
+    },
     /// The accepted requests of a port without a reply: hits, primary misses and merges, until the reply.
-    Unanswered { port: u8 },
+    Unanswered {
+        port: u8,
+    },
     /// The requests of a port without a reply: issues, until the reply.
-    Outstanding { port: u8 },
+    Outstanding {
+        port: u8,
+    },
     /// The request of a port with this tag and without a reply.
-    BusyTag { port: u8, tag: u8 },
+    BusyTag {
+        port: u8,
+        tag: u8,
+    },
     /// What level one has on a second-level block: primary misses and merges, until their block is filled, and
     /// fills, until their block is evicted.
-    WithinSecond { second: u64 },
+    WithinSecond {
+        second: u64,
+    },
+    /// The targets in a register of level one: the misses that named it, until their block is filled.
+    Register1 {
+        register: u32,
+    },
+    /// The targets in a register of level two: the misses that named it, until their second-level block is
+    /// filled.
+    Register2 {
+        register: u32,
+    },
+    /// The last fill that freed a register of level one.
+    Freed1 {
+        register: u32,
+    },
+    /// The last fill that freed a register of level two.
+    Freed2 {
+        register: u32,
+    },
+    /// The targets of a block in registers of level one, until it is filled.
+    Targets1 {
+        block: u64,
+    },
+    /// The targets of a second-level block in registers of level two, until it is filled.
+    Targets2 {
+        second: u64,
+    },
+    /// The line of level one on a block: its fill, until the eviction.
+    Line1 {
+        block: u64,
+    },
+    /// The line of level two on a second-level block: its fill, until the eviction.
+    Line2 {
+        second: u64,
+    },
+    /// The request of a port with this tag that waits at the bank. Where none does, the first one behind this
+    /// number of the bank.
+    NamedRequest {
+        port: u8,
+        tag: u8,
+        bank: u8,
+        number: u32,
+    },
+    /// The accepted request of a port with this tag and without a reply.
+    Accepted {
+        port: u8,
+        tag: u8,
+    },
+    /// The stores of this value to the byte at the address, which is at this offset of the block, that were accepted
+    /// after the request of the port with this tag.
+    LaterStores {
+        port: u8,
+        tag: u8,
+        block: u64,
+        offset: u32,
+        address: u64,
+        value: u8,
+    },
+    /// The last fill of level one of a bank that served targets.
+    Served {
+        bank: u8,
+    },
     /// The last store that was accepted to a byte of a block.
-    LastStore { block: u64, offset: u32 },
+    LastStore {
+        block: u64,
+        offset: u32,
+    },
     /// What made bytes of a line of level one dirty: the fill and the accepted stores, until the eviction.
-    DirtyLine1 { block: u64 },
+    DirtyLine1 {
+        block: u64,
+    },
     /// What made bytes of a line of level two dirty: the fill, and evictions of dirty bytes from level one,
     /// until the eviction.
-    DirtyLine2 { second: u64 },
+    DirtyLine2 {
+        second: u64,
+    },
 }
 
 /// The block, where it is in this set of level one.
@@ -109,7 +191,23 @@ impl StatePart {
                 let block = either(wide(fill1_block(event)), miss1_block(request, event));
                 within(shape, second, block)
             }
-            StatePart::LastStore { block, offset } => store_of_byte(block, offset, request),
+            StatePart::Register1 { register } | StatePart::Freed1 { register } => {
+                in_register(register, event, miss1_block(request, event))
+            }
+            StatePart::Register2 { register } | StatePart::Freed2 { register } => {
+                in_register(register, event, miss2_second(shape, event))
+            }
+            StatePart::Targets1 { block } => only(block, miss1_block(request, event)),
+            StatePart::Targets2 { second } => only(second, miss2_second(shape, event)),
+            StatePart::Line1 { block } => only(block, wide(fill1_block(event))),
+            StatePart::Line2 { second } => only(second, wide(fill2_second(event))),
+            StatePart::NamedRequest { port, tag, .. } => {
+                only(u64::from(tag), issued_tag(port, item))
+            }
+            StatePart::Accepted { port, tag } => only(u64::from(tag), accepted_tag(port, event)),
+            StatePart::LaterStores { block, offset, .. } | StatePart::LastStore { block, offset } =>
+                store_of_byte(block, offset, request),
+            StatePart::Served { .. } => miss1_block(request, event),
             StatePart::DirtyLine1 { block } => {
                 only(
                     block,
@@ -131,14 +229,30 @@ impl StatePart {
     {
         let event = &item.event;
         match self {
-            StatePart::LinesOfSet1 { .. } => wide(evict1_block(event)),
-            StatePart::LinesOfSet2 { .. } => wide(evict2_second(event)),
-            StatePart::Registers1 => wide(fill1_block(event)),
-            StatePart::Registers2 => wide(fill2_second(event)),
-            StatePart::Queue { port } => accepted_tag(port, event),
+            StatePart::LinesOfSet1 { .. } | StatePart::Line1 { .. } => wide(evict1_block(event)),
+            StatePart::LinesOfSet2 { .. } | StatePart::Line2 { .. } => wide(evict2_second(event)),
+            StatePart::Registers1
+            | StatePart::Register1 { .. }
+            | StatePart::Freed1 { .. }
+            | StatePart::Served { .. }
+            | StatePart::Targets1 { .. } => wide(fill1_block(event)),
+            StatePart::Registers2
+            | StatePart::Register2 { .. }
+            | StatePart::Freed2 { .. }
+            | StatePart::Targets2 { .. } => wide(fill2_second(event)),
+            StatePart::Queue { port } | StatePart::NamedRequest { port, .. } => {
+                accepted_tag(port, event)
+            }
             StatePart::Unanswered { port }
             | StatePart::Outstanding { port }
+            | StatePart::Accepted { port, .. }
             | StatePart::BusyTag { port, .. } => replied_tag(port, item),
+            StatePart::LaterStores {
+                port,
+                tag,
+                block,
+                ..
+            } => cleared_by(tag, accepted_tag(port, event), block),
             StatePart::WithinSecond { .. } => {
                 either(wide(fill1_block(event)), wide(evict1_block(event)))
             }

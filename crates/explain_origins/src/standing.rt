@@ -40,7 +40,7 @@ fn remove(begun: &mut Vec<Begun>, key: u64)
 }
 
 /// A record came that ends and begins this.
-fn keep(
+pub(crate) fn keep(
     standing: &mut Vec<Begun>,
     place: usize,
     begun: Option<u64>,

@@ -5,6 +5,8 @@ use Rattle.lf_rules.specs.declared.shape.Shape.{Shape}
 use Rattle.lf_rules.specs.declared.event.Event.{Event}
 use Rattle.lf_rules.specs.declared.event.Event.TheVariants.{Reply, Fill1, Evict1, Fill2, Evict2}
 use Rattle.lf_rules.specs.Address.{Masks, is_under, mask_at, places, sub_block}
+use Rattle.explain_replay.specs.declared.expected.Expected.{Expected}
+use Rattle.explain_replay.specs.declared.expected.Expected.TheVariants as expected
 
 -- the addresses of a block's bytes under a mask
 abbrev pub masked_addresses : Shape → ℕ → ℕ → List ℕ
@@ -20,6 +22,12 @@ wide_addresses shape second masks =
 abbrev pub addresses_from : Option ℕ → ℕ → List ℕ
 addresses_from None count = []
 addresses_from (Some first) count = range_with_len first count
+
+-- the addresses of the bytes that an eviction has to carry, by the masks that are expected of it
+abbrev pub due_addresses : Shape → Option Expected → Event → List ℕ
+due_addresses shape (Some (expected.Masks due)) (Evict1 block mask bytes) = masked_addresses shape block (mask_at due 0)
+due_addresses shape (Some (expected.Masks due)) (Evict2 second masks bytes) = wide_addresses shape second due
+due_addresses shape due event = []
 
 -- the addresses of the bytes that a reply, a fill or an eviction carries
 abbrev pub addresses_of : Shape → Option ℕ → Event → List ℕ

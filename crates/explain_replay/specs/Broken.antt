@@ -11,19 +11,19 @@ use Rattle.lf_rules.specs.Table.{OfBank}
 use Rattle.lf_replay.specs.Step.{bank_after}
 use Rattle.explain_replay.specs.declared.broken.Broken.{Broken}
 use Rattle.explain_replay.specs.Expected.{IsExpected}
-use Rattle.explain_replay.specs.Addresses.{addresses_of}
+use Rattle.explain_replay.specs.Addresses.{addresses_of, due_addresses}
 use Rattle.explain_replay.specs.Named.{blocks_of, AreNamed}
 use Rattle.explain_replay.specs.Request.{requested}
 
--- This is told of a record that breaks a rule in this state, where its request is at this address: what the rule
--- asks of
--- it, the addresses of its bytes, and what the state has of its blocks.
+-- This is told of a record that breaks a rule in this state, where its request is at this address: what the rule asks of
+-- it, the addresses of its bytes and of those that it has to carry, and what the state has of its blocks.
 pub record IsTold (broken : Broken) (first : Rule) (request : Option ℕ) (r : Record) (shape : Shape) (now : Local)
     : Type 0 where
   pub number : broken.number ≡ r.number
   pub rule : broken.rule ≡ first
   pub expected : IsExpected broken.expected first r.log r.event shape now
   pub addresses : broken.addresses.items ≡ addresses_of shape request r.event
+  pub due_addresses : broken.due_addresses.items ≡ due_addresses shape broken.expected r.event
   pub blocks : AreNamed broken.blocks.items (blocks_of shape request r.event) shape now
 
 -- The records before it are a run of the bank, it breaks the rule first, and what is told of it is told of the state

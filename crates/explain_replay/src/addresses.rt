@@ -7,8 +7,10 @@ ghost use Rattle.lf_rules.specs.Address.{mask_at, sub_block};
 ghost use Rattle.lf_rules.specs.Fits.{Fits};
 ghost use Rattle.lf_rules.specs.InRange.{IsShape};
 ghost use Rattle.explain_replay.specs.Addresses.{addresses_from, addresses_of, masked_addresses, wide_addresses};
+ghost use Rattle.explain_replay.specs.Addresses.{due_addresses};
 
 use crate::carried::is_under;
+use crate::expected::Expected;
 use arrayvec::ArrayVec;
 use bank_state::sub_block;
 use lf_rules::{Event, Mask, Masks, NoMemory, Record, Shape, mask_at};
@@ -119,6 +121,30 @@ pub(crate) fn addresses_of(
             Ok(Vec::from_slice(alloc, &addresses)?)
         }
         Event::Evict2 { block, masks, .. } => wide_addresses(alloc, shape, *block, masks),
+        _ => Ok(Vec::new(alloc)),
+    }
+}
+
+/// The addresses of the bytes that an eviction has to carry, by the masks that are expected of it.
+pub(crate) fn due_addresses(
+    alloc: Global,
+    shape: &Shape,
+    due: &Option<Expected>,
+    item: &Record,
+) -> Result<Vec<u64>, NoMemory>
+    requires in_range { IsShape shape.now }
+    requires fits { Fits shape.now item.now }
+    ensures { IfOk result (λ addresses. addresses.items ≡ due_addresses shape.now due.now item.now.event) }
+{
+    let Some(Expected::Masks(due)) = due else {
+        return Ok(Vec::new(alloc));
+    };
+    match &item.event {
+        Event::Evict1 { block, .. } => {
+            let addresses = masked_addresses(shape, *block, Mask(mask_at(due, 0)));
+            Ok(Vec::from_slice(alloc, &addresses)?)
+        }
+        Event::Evict2 { block, .. } => wide_addresses(alloc, shape, *block, due),
         _ => Ok(Vec::new(alloc)),
     }
 }

@@ -11,7 +11,7 @@ ghost use Rattle.explain_history.specs.BankOrder.{records_at};
 ghost use Rattle.lf_replay.specs.Looks.{OfStep};
 ghost use Rattle.explain_replay.specs.Broken.{IsFirstBroken, IsTold};
 
-use crate::addresses::addresses_of;
+use crate::addresses::{addresses_of, due_addresses};
 use crate::expected::{Expected, expected_of};
 use crate::named::{NamedBlock, blocks_of, named_blocks};
 use crate::request::requested;
@@ -32,6 +32,8 @@ pub struct Broken {
     pub expected: Option<Expected>,
     /// The address of each byte that it carries, where it is a reply, a fill or an eviction.
     pub addresses: Vec<u64>,
+    /// The address of each byte that it has to carry, where the rule asks for other masks.
+    pub due_addresses: Vec<u64>,
     /// The blocks that it names, as the bank has them before it: its own, those of its second-level block, or that
     /// of the last request with its port and tag.
     pub blocks: Vec<NamedBlock>,
@@ -54,11 +56,14 @@ fn told(
     ensures { IfOk result (λ broken. OfStep step.now (IsTold broken rule request item.now)) }
 {
     let blocks = blocks_of(alloc, shape, request, item)?;
+    let expected = expected_of(alloc, step, shape, rule, item)?;
+    let due_addresses = due_addresses(alloc, shape, &expected, item)?;
     Ok(Broken {
         number: item.number,
         rule,
-        expected: expected_of(alloc, step, shape, rule, item)?,
+        expected,
         addresses: addresses_of(alloc, shape, request, item)?,
+        due_addresses,
         blocks: named_blocks(alloc, step, shape, &blocks)?,
     })
 }

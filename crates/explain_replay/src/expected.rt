@@ -1,18 +1,19 @@
 //! What a rule asks that an event carries.
 
-ghost use Rattle.std.specs.Prelude.{◌≡◌, ◌<◌, ◌/◌, ◌∷◌, [], IfOk};
+ghost use Rattle.std.specs.Prelude.{◌≡◌, ◌<◌, ◌/◌, ◌∷◌, [], length, IfOk};
 ghost use Rattle.lf_rules.specs.declared.rule.Rule.TheVariants as rules;
 ghost use Rattle.lf_rules.specs.Fits.{Fits};
 ghost use Rattle.lf_rules.specs.InRange.{IsShape};
 ghost use Rattle.lf_rules.specs.Lines.{dirty_mask, dirty_masks};
-ghost use Rattle.lf_rules.specs.Table.{first_ready};
+ghost use Rattle.lf_rules.specs.State.{Local};
+ghost use Rattle.lf_rules.specs.Table.{destination, first_ready};
 ghost use Rattle.lf_replay.specs.Looks.{OfStep};
-ghost use Rattle.explain_replay.specs.Expected.{IsExpected, IsExpectedMask};
+ghost use Rattle.explain_replay.specs.Expected.{IsExpected, IsExpectedMask, IsWanted};
 
 use crate::carried::{evicted, filled, wide_evicted, wide_filled};
 use bank_state::sub_block;
 use lf_replay::{BlockState, Step};
-use lf_rules::{Event, Mask, Masks, NoMemory, Record, Rule, Shape};
+use lf_rules::{Event, Mask, Masks, NoMemory, OrgShape, Record, Rule, Shape};
 use std::alloc::Global;
 
 /// What a rule asks that an event carries.
@@ -22,6 +23,10 @@ pub enum Expected {
     Bytes(Vec<u8>),
     /// These dirty masks: that of a line of level one, or those of a line of level two, block by block.
     Masks(Masks),
+    /// So many bytes: those of the reply that is ready.
+    Size(usize),
+    /// This register of an inverted file, which is that of the request's port and tag.
+    Register(u32),
 }
 
 /// A copy of the bytes.
@@ -43,6 +48,34 @@ fn ready_value(alloc: Global, step: &Step, port: u8, tag: u8) -> Result<Vec<u8>,
     };
     value.extend_from_slice(ready)?;
     Ok(value)
+}
+
+/// How many bytes the reply has that is ready for the port and tag, and none where none is.
+fn ready_size(step: &Step, port: u8, tag: u8) -> usize
+    ensures { OfStep step.now (λ _ now. result ≡ length (first_ready now.slice.ready port tag)) }
+{
+    match step.reply_for(port, tag) {
+        Some(ready) => ready.len(),
+        None => 0,
+    }
+}
+
+/// The register of an inverted file that a request of the port and tag has to take.
+fn destination(shape: &Shape, port: u8, tag: u8) -> u32
+    requires { IsShape shape.now }
+    ensures { result ≡ destination shape.now port tag }
+{
+    u32::from(port) * shape.tags + u32::from(tag)
+}
+
+/// What a file asks of a register where an inverted one wants this.
+fn wanted(organisation: OrgShape, register: u32) -> Option<Expected>
+    ensures { IsWanted result organisation register }
+{
+    match organisation {
+        OrgShape::Inverted => Some(Expected::Register(register)),
+        OrgShape::Implicit { .. } | OrgShape::Explicit { .. } => None,
+    }
 }
 
 /// The dirty mask of the block's line in level one, and a clean one where there is none.
@@ -78,6 +111,29 @@ fn of_reply(alloc: Global, step: &Step, item: &Record) -> Result<Option<Expected
             Ok(Some(Expected::Bytes(value)))
         }
         _ => Ok(None),
+    }
+}
+
+/// What `ReplySize` asks.
+fn of_size(step: &Step, item: &Record) -> Option<Expected>
+    ensures { OfStep step.now (IsExpected result rules.ReplySize item.now.log item.now.event) }
+{
+    match &item.event {
+        Event::Reply { tag, .. } => Some(Expected::Size(ready_size(step, item.log, *tag))),
+        _ => None,
+    }
+}
+
+/// What `WrongRegister` asks of a miss of level one.
+fn of_register(shape: &Shape, item: &Record) -> Option<Expected>
+    requires { IsShape shape.now }
+    ensures { (now : Local) → IsExpected result rules.WrongRegister item.now.log item.now.event shape.now now }
+{
+    match &item.event {
+        Event::Primary { port, tag, .. } | Event::Merge { port, tag, .. } => {
+            wanted(shape.level1.organisation, destination(shape, *port, *tag))
+        }
+        _ => None,
     }
 }
 
@@ -160,7 +216,9 @@ pub(crate) fn expected_of(
     ensures { IfOk result (λ due. OfStep step.now (IsExpected due rule item.now.log item.now.event)) }
 {
     match rule {
+        Rule::ReplySize => Ok(of_size(step, item)),
         Rule::ReplyData => of_reply(alloc, step, item),
+        Rule::WrongRegister => Ok(of_register(shape, item)),
         Rule::FillData => of_fill(alloc, step, shape, item),
         Rule::EvictMask => Ok(of_mask(step, shape, item)),
         Rule::EvictData => of_eviction(alloc, step, shape, item),

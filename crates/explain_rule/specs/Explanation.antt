@@ -15,6 +15,8 @@ use Rattle.explain_rule.specs.declared.explanation.Breach.{Breach}
 use Rattle.explain_rule.specs.declared.explanation.Breach.TheVariants.{Port, Bank}
 use Rattle.explain_rule.specs.declared.explanation.Explanation.{Explanation}
 use Rattle.explain_rule.specs.Breach.{rule_of}
+use Rattle.explain_rule.specs.Free.{free_at}
+use Rattle.explain_rule.specs.Limit.{limit_at}
 use Rattle.explain_rule.specs.Origins.{ComeFrom}
 
 -- The record that breaks the rule, and the last before it that matter: those of the port's log, or those of the bank
@@ -36,12 +38,15 @@ IsBrokenBy shape memory rs (Port port at rule) broken = broken ≡ None
 IsBrokenBy shape memory rs (Bank bank number rule) broken =
     IsFirstBroken shape (bank_part shape bank (flat_memory memory)) (in_order bank rs (number + 1)) broken
 
--- It tells of the rule, of the record that breaks it, of what that has to carry and which blocks it names, of the
--- records
--- that the state of the rule comes from, and of the records before.
+-- It tells of the rule, of how many there are of what it is about and which one is free, of the record that breaks it,
+-- of what that has to carry and which blocks it names, of the records that the state of the rule comes from, of those
+-- that are told beside them, and of the records before.
 pub record IsExplanation (shape : Shape) (memory : List (ℕ × Bytes)) (rs : List Record) (breach : Breach) (most : ℕ)
     (why : Explanation) : Type 0 where
   pub rule : why.rule ≡ rule_of breach
+  pub limit : why.limit ≡ limit_at shape (rule_of breach) why.broken (record_at rs why.history.place)
   pub history : IsHistoryOf shape rs breach most why.history
   pub broken : IsBrokenBy shape memory rs breach why.broken
-  pub origins : ComeFrom shape rs breach why.broken (record_at rs why.history.place) why.origins
+  pub free : why.free ≡ free_at shape rs (rule_of breach) why.limit why.origins (record_at rs why.history.place)
+  pub origins : ComeFrom shape rs breach why.broken why.free (record_at rs why.history.place) why.origins
+      why.further.items

@@ -3,6 +3,8 @@ pub mod Breach
 pub mod Carried
 pub mod Explanation
 pub mod Found
+pub mod Free
+pub mod Limit
 pub mod Origins
 pub mod Sentence
 pub mod State

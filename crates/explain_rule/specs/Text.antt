@@ -1,5 +1,6 @@
 -- The text of an explanation.
 use Rattle.std.specs.Prelude.{ℕ, List, [], ◌∷◌, ◌++◌, Option, Some, None, codes}
+use Rattle.std.specs.List.{flat_map}
 use Rattle.lf_rules.specs.declared.event.Record.{Record}
 use Rattle.lf_rules.specs.declared.rule.Rule.{Rule}
 use Rattle.lf_rules.specs.Text.{rule_text}
@@ -10,6 +11,7 @@ use Rattle.explain_origins.specs.Text as explain_origins
 use Rattle.explain_rule.specs.declared.explanation.Explanation.{Explanation}
 use Rattle.explain_history.specs.Touching.{record_at}
 use Rattle.explain_rule.specs.Carried.{carried_text}
+use Rattle.explain_rule.specs.Limit.{limit_text, free_text}
 use Rattle.explain_rule.specs.Sentence.{sentence}
 use Rattle.explain_rule.specs.State.{state_text}
 
@@ -27,10 +29,16 @@ abbrev pub origins_text : List Record → List Beside → Option Origins → Lis
 origins_text rs marks None = []
 origins_text rs marks (Some origins) = explain_origins.origins_text rs marks origins
 
--- the record, what the rule asks, what the record has to carry and carries, what the bank has of its blocks, the
--- records that the state of the rule comes from, and the records before
+-- those that are told beside them
+abbrev pub further_text : List Record → List Beside → List Origins → List ℕ
+further_text rs marks further = flat_map (explain_origins.origins_text rs marks) further
+
+-- the record, what the rule asks, how many there are of what it is about, what the record has to carry and carries, what
+-- the bank has of its blocks, the records that the state of the rule comes from, those that are told beside them, and
+-- the records before
 abbrev pub explained_text : List Record → List Beside → Explanation → List ℕ
 explained_text rs marks why =
-    line_at rs marks why.history.place ++ asked_text why.rule
+    line_at rs marks why.history.place ++ asked_text why.rule ++ limit_text why.limit ++ free_text why.free
     ++ carried_text (record_at rs why.history.place) why.broken
-    ++ state_text why.broken ++ origins_text rs marks why.origins ++ before_text rs marks why.history.before.items
+    ++ state_text why.broken ++ origins_text rs marks why.origins ++ further_text rs marks why.further.items
+    ++ before_text rs marks why.history.before.items

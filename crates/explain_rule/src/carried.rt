@@ -1,9 +1,11 @@
 //! The text of what a record has to carry, and of what it carries.
 
-ghost use Rattle.std.specs.Prelude.{◌≡◌, ◌<◌, length, nat_eq, slice_index, Some};
-ghost use Rattle.std.specs.List.{common_prefix_len};
+ghost use Rattle.std.specs.Prelude.{◌≡◌, ◌<◌, not, length, nat_eq, slice_index, Some};
+ghost use Rattle.std.specs.List.{common_prefix_len, list_any};
 ghost use Rattle.explain_rule.specs.Carried.{expected_line, place_text, found_line, due_text, broken_text};
+ghost use Rattle.explain_rule.specs.Carried.{size_of, register_of, number_line};
 ghost use Rattle.explain_rule.specs.Carried.{one_mask, masks_of, beyond, all_beyond, mask_line, masks_lines};
+ghost use Rattle.explain_rule.specs.Carried.{is_among, other_address, other_addresses, addresses_text, beyond_line};
 ghost use Rattle.lf_rules.specs.Lines.{no_masks};
 
 use explain_replay::{Broken, Expected};
@@ -159,22 +161,100 @@ impl fmt::Display for MaskLine<'_> {
     }
 }
 
-/// Which bytes of masks are not among those of others, behind what they are.
+/// Whether it is one of these addresses.
+pub fn is_among(others: &[u64], address: u64) -> bool
+    ensures { result ≡ is_among others.now address }
+{
+    others.iter().any(|other| *other == address)
+}
+
+/// Whether one of the addresses is none of the others.
+fn has_other(others: &[u64], addresses: &[u64]) -> bool
+    ensures { result ≡ list_any (λ address. not (is_among others.now address)) addresses.now }
+{
+    addresses.iter().any(|address| !is_among(others, *address))
+}
+
+/// The address, where it is none of the others.
+#[derive(Clone, Copy)]
+struct OtherAddress<'a> {
+    others: &'a [u64],
+    address: u64,
+}
+
+impl fmt::Display for OtherAddress<'_> {
+    ghost output = { λ it. Some (other_address it.others.now it.address) };
+
+    fn fmt<W: fmt::Write>(&self, f: &mut fmt::Formatter<W>) -> fmt::Result {
+        let OtherAddress { others, address } = *self;
+        if is_among(others, address) {
+            return Ok(());
+        }
+        write!(f, " 0x{address:x}")
+    }
+}
+
+/// The addresses that are none of the others, one after another.
+#[derive(Clone, Copy)]
+struct OtherAddresses<'a> {
+    others: &'a [u64],
+    addresses: &'a [u64],
+}
+
+impl fmt::Display for OtherAddresses<'_> {
+    ghost output = { λ it. Some (other_addresses it.others.now it.addresses.now) };
+
+    fn fmt<W: fmt::Write>(&self, f: &mut fmt::Formatter<W>) -> fmt::Result {
+        for address in self.addresses {
+            let text = OtherAddress {
+                others: self.others,
+                address: *address,
+            };
+            write!(f, "{text}")?;
+        }
+        Ok(())
+    }
+}
+
+/// The addresses that are none of the others, where there are any.
+#[derive(Clone, Copy)]
+struct Addresses<'a> {
+    others: &'a [u64],
+    addresses: &'a [u64],
+}
+
+impl fmt::Display for Addresses<'_> {
+    ghost output = { λ it. Some (addresses_text it.others.now it.addresses.now) };
+
+    fn fmt<W: fmt::Write>(&self, f: &mut fmt::Formatter<W>) -> fmt::Result {
+        let Addresses { others, addresses } = *self;
+        if !has_other(others, addresses) {
+            return Ok(());
+        }
+        let all = OtherAddresses { others, addresses };
+        write!(f, ", addresses{all}")
+    }
+}
+
+/// Which bytes of masks are not among those of others, behind what they are, with their addresses.
 #[derive(Clone, Copy)]
 struct BeyondLine<'a> {
     label: &'static str,
     masks: &'a Masks,
     others: &'a Masks,
+    addresses: Addresses<'a>,
 }
 
 impl fmt::Display for BeyondLine<'_> {
-    ghost output = { λ line. Some (mask_line line.label.now (all_beyond line.masks.now line.others.now)) };
+    ghost output = { λ line. Some (beyond_line line.label.now (all_beyond line.masks.now line.others.now)
+        line.addresses.others.now line.addresses.addresses.now) };
 
     fn fmt<W: fmt::Write>(&self, f: &mut fmt::Formatter<W>) -> fmt::Result {
         let label = self.label;
         let all = all_beyond(self.masks, self.others);
         let masks = MaskFields(&all);
-        write!(f, "  {label}{masks}\n")
+        let addresses = self.addresses;
+        write!(f, "  {label}{masks}{addresses}\n")
     }
 }
 
@@ -183,13 +263,21 @@ impl fmt::Display for BeyondLine<'_> {
 struct MasksLines<'a> {
     due: &'a Masks,
     found: &'a Masks,
+    due_addresses: &'a [u64],
+    addresses: &'a [u64],
 }
 
 impl fmt::Display for MasksLines<'_> {
-    ghost output = { λ lines. Some (masks_lines lines.due.now lines.found.now) };
+    ghost output = { λ lines. Some
+        (masks_lines lines.due.now lines.found.now lines.due_addresses.now lines.addresses.now) };
 
     fn fmt<W: fmt::Write>(&self, f: &mut fmt::Formatter<W>) -> fmt::Result {
-        let MasksLines { due, found } = *self;
+        let MasksLines {
+            due,
+            found,
+            due_addresses,
+            addresses,
+        } = *self;
         let expected = MaskLine {
             label: "expected",
             masks: due,
@@ -202,13 +290,57 @@ impl fmt::Display for MasksLines<'_> {
             label: "too many",
             masks: found,
             others: due,
+            addresses: Addresses {
+                others: due_addresses,
+                addresses,
+            },
         };
         let few = BeyondLine {
             label: "too few ",
             masks: due,
             others: found,
+            addresses: Addresses {
+                others: addresses,
+                addresses: due_addresses,
+            },
         };
         write!(f, "{expected}{carried}{many}{few}")
+    }
+}
+
+/// The size of a reply.
+pub fn size_of(event: &Event) -> u8
+    ensures { result ≡ size_of event.now }
+{
+    match event {
+        Event::Reply { size, .. } => *size,
+        _ => 0,
+    }
+}
+
+/// The register of a miss of level one.
+pub fn register_of(event: &Event) -> u16
+    ensures { result ≡ register_of event.now }
+{
+    match event {
+        Event::Primary { register, .. } | Event::Merge { register, .. } => *register,
+        _ => 0,
+    }
+}
+
+/// A number, behind what it is.
+#[derive(Clone, Copy)]
+struct NumberLine {
+    label: &'static str,
+    number: u64,
+}
+
+impl fmt::Display for NumberLine {
+    ghost output = { λ line. Some (number_line line.label.now line.number) };
+
+    fn fmt<W: fmt::Write>(&self, f: &mut fmt::Formatter<W>) -> fmt::Result {
+        let NumberLine { label, number } = *self;
+        write!(f, "  {label}{number}\n")
     }
 }
 
@@ -216,12 +348,13 @@ impl fmt::Display for MasksLines<'_> {
 #[derive(Clone, Copy)]
 struct Due<'a> {
     due: &'a Option<Expected>,
+    due_addresses: &'a [u64],
     addresses: &'a [u64],
     event: &'a Event,
 }
 
 impl fmt::Display for Due<'_> {
-    ghost output = { λ it. Some (due_text it.due.now it.addresses.now it.event.now) };
+    ghost output = { λ it. Some (due_text it.due.now it.due_addresses.now it.addresses.now it.event.now) };
 
     fn fmt<W: fmt::Write>(&self, f: &mut fmt::Formatter<W>) -> fmt::Result {
         match self.due {
@@ -236,8 +369,35 @@ impl fmt::Display for Due<'_> {
             }
             Some(Expected::Masks(due)) => {
                 let found = masks_of(self.event);
-                let lines = MasksLines { due, found: &found };
+                let lines = MasksLines {
+                    due,
+                    found: &found,
+                    due_addresses: self.due_addresses,
+                    addresses: self.addresses,
+                };
                 write!(f, "{lines}")
+            }
+            Some(Expected::Size(due)) => {
+                let expected = NumberLine {
+                    label: "expected size=",
+                    number: *due as u64,
+                };
+                let found = NumberLine {
+                    label: "found    size=",
+                    number: u64::from(size_of(self.event)),
+                };
+                write!(f, "{expected}{found}")
+            }
+            Some(Expected::Register(due)) => {
+                let expected = NumberLine {
+                    label: "expected register=",
+                    number: u64::from(*due),
+                };
+                let found = NumberLine {
+                    label: "found    register=",
+                    number: u64::from(register_of(self.event)),
+                };
+                write!(f, "{expected}{found}")
             }
             None => Ok(()),
         }
@@ -259,6 +419,7 @@ impl fmt::Display for Carried<'_> {
             Some(broken) => {
                 let due = Due {
                     due: &broken.expected,
+                    due_addresses: &broken.due_addresses,
                     addresses: &broken.addresses,
                     event: self.event,
                 };

@@ -3,11 +3,12 @@
 ghost use Rattle.std.specs.Prelude.{Some};
 ghost use Rattle.explain_history.specs.Touching.{record_at};
 ghost use Rattle.explain_rule.specs.Carried.{carried_text};
-ghost use Rattle.explain_rule.specs.Text.{asked_text, before_text, origins_text, explained_text};
+ghost use Rattle.explain_rule.specs.Text.{asked_text, before_text, origins_text, further_text, explained_text};
 ghost use Rattle.explain_lines.specs.Marks.{besides};
 
 use crate::carried::Carried;
 use crate::explanation::Explanation;
+use crate::limit::{FreeLine, LimitLine};
 use crate::sentence::sentence_of;
 use crate::state::State;
 use explain_history::{record_at, room};
@@ -101,9 +102,33 @@ impl fmt::Display for OriginsLines<'_> {
     }
 }
 
+/// Records that are told beside those that the state comes from.
+#[derive(Clone, Copy)]
+struct FurtherLines<'a> {
+    listing: Listing<'a>,
+    further: &'a [Origins],
+}
+
+impl fmt::Display for FurtherLines<'_> {
+    ghost output = { λ it. Some
+        (further_text it.listing.records.now.records (besides it.listing.marks.now) it.further.now) };
+
+    fn fmt<W: fmt::Write>(&self, f: &mut fmt::Formatter<W>) -> fmt::Result {
+        for origins in self.further {
+            let text = OriginsText {
+                listing: self.listing,
+                origins,
+            };
+            write!(f, "{text}")?;
+        }
+        Ok(())
+    }
+}
+
 /// An explanation over the records of its trace. Its text is lines, each with its newline: the record, what
-/// the rule asks, what it asks that the record carries, what the bank has of its blocks, the records that the
-/// state of the rule comes from, and the records before.
+/// the rule asks, how many there are of what it is about, what it asks that the record carries, what the bank has of
+/// its blocks, the records that the state of the rule comes from, those that are told beside them, and the records
+/// before.
 #[derive(Clone, Copy)]
 pub struct Explained<'a> {
     pub listing: Listing<'a>,
@@ -121,6 +146,8 @@ impl fmt::Display for Explained<'_> {
             place: self.why.history.place,
         };
         let asked = Asked(self.why.rule);
+        let limit = LimitLine(self.why.limit);
+        let free = FreeLine(self.why.free);
         let carried = RecordCarries {
             listing,
             why: self.why,
@@ -130,10 +157,17 @@ impl fmt::Display for Explained<'_> {
             listing,
             origins: &self.why.origins,
         };
+        let further = FurtherLines {
+            listing,
+            further: &self.why.further,
+        };
         let before = Before {
             listing,
             places: &self.why.history.before,
         };
-        write!(f, "{record}{asked}{carried}{state}{origins}{before}")
+        write!(
+            f,
+            "{record}{asked}{limit}{free}{carried}{state}{origins}{further}{before}"
+        )
     }
 }

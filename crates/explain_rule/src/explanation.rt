@@ -8,7 +8,9 @@ ghost use Rattle.explain_rule.specs.Breach.{rule_of};
 ghost use Rattle.explain_rule.specs.Explanation.{HasBank, IsExplanation};
 
 use crate::found::{Found, find};
-use crate::origins::origins_at;
+use crate::free::free_at;
+use crate::limit::{Limit, limit_at};
+use crate::origins::{further_at, origins_at};
 use explain_history::History;
 use explain_origins::Origins;
 use explain_replay::Broken;
@@ -41,18 +43,25 @@ impl Breach {
 pub struct Explanation {
     /// The rule that the record breaks first.
     pub rule: Rule,
+    /// How many the configuration has of what the rule is about, where it is about that.
+    pub limit: Option<Limit>,
+    /// Where a stall waits for no reason, the register that is free.
+    pub free: Option<u32>,
     /// The record, and the last before it that matter.
     pub history: History,
     /// What the rule asks that the record carries, and what the bank has of its blocks, where it is a rule of a bank.
     pub broken: Option<Broken>,
     /// The records before it that the state comes from, where the rule is about a state that records leave.
     pub origins: Option<Origins>,
+    /// The records that are told beside these.
+    pub further: Vec<Origins>,
 }
 
-/// Why the trace with this memory and these records is not legal: the record that breaks the rule, what the
-/// rule asks that it carries, what the bank has of its blocks, the records that the state of the rule comes from,
-/// and the last records before it that matter, at most so many. Before a record of a port those of its log matter,
-/// and before one of a bank those with lower numbers that touch its second-level block.
+/// Why the trace with this memory and these records is not legal: the record that breaks the rule, how many there
+/// are of what the rule is about, what the rule asks that it carries, what the bank has of its blocks, the records that
+/// the state of the rule comes from, those that are told beside them, and the last records before it that matter, at
+/// most so many. Before a record of a port those of its log matter, and before one of a bank those with lower numbers
+/// that touch its second-level block.
 pub fn explain(
     alloc: Global,
     shape: &Shape,
@@ -73,10 +82,25 @@ pub fn explain(
         before,
     } = find(alloc, shape, memory, records, breach, most)?;
     let origins = origins_at(alloc, shape, records, &before, rule, &broken, history.place)?;
+    let limit = limit_at(shape, records, rule, &broken, history.place);
+    let free = free_at(shape, records, rule, limit, &origins, history.place);
+    let further = further_at(
+        alloc,
+        shape,
+        records,
+        &before,
+        breach,
+        &broken,
+        free,
+        history.place,
+    )?;
     Ok(Explanation {
         rule,
+        limit,
+        free,
         history,
         broken,
         origins,
+        further,
     })
 }

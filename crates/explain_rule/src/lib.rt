@@ -10,11 +10,14 @@ mod carried;
 mod explained;
 mod explanation;
 mod found;
+mod free;
+mod limit;
 mod origins;
 mod sentence;
 mod state;
 
-pub use carried::{all_beyond, first_difference, masks_of};
+pub use carried::{all_beyond, first_difference, is_among, masks_of, register_of, size_of};
 pub use explained::Explained;
 pub use explanation::{Breach, Explanation, explain};
+pub use limit::Limit;
 pub use sentence::sentence_of;

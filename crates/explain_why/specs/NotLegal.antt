@@ -76,7 +76,7 @@ pub record IsNotLegal (shape : Shape) (bytes : List ℕ) (time : ℕ → ℕ →
 abbrev pub first_text : List Record → List Beside → Option Cause → List ℕ
 first_text rs marks None = []
 first_text rs marks (Some cause) =
-    10 ∷ codes "the first record of the trace upon which something broke:" ++ 10 ∷ cause_text rs marks cause
+    10 ∷ codes "what broke first in the trace:" ++ 10 ∷ cause_text rs marks cause
 
 abbrev pub not_legal_text : NotLegal → List ℕ
 not_legal_text why =

@@ -33,10 +33,7 @@ impl fmt::Display for First<'_> {
             listing: self.listing,
             cause,
         };
-        write!(
-            f,
-            "\nthe first record of the trace upon which something broke:\n{why}"
-        )
+        write!(f, "\nwhat broke first in the trace:\n{why}")
     }
 }
 

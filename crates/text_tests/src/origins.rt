@@ -61,6 +61,8 @@ fn assert_origins<T: Abort + AllocGlobal>(
         rule,
         item,
         address,
+        free: None,
+        value: None,
     };
     let Ok(Some(origins)) = origins_of(rt.alloc(), &SHAPE, &packed, &places, broken) else {
         return Err(Fail::from("the rule has no such state"));

@@ -2,7 +2,7 @@ use Rattle.std.proofs.Common.{◌≡◌, ℕ, List, refl, sym, ap, ◌∙◌, su
 use Rattle.lf_rules.specs.declared.shape.Shape.{Shape}
 use Rattle.lf_rules.specs.Outcomes.{first_local}
 use Rattle.lf_replay.specs.Step.{bank_after}
-use Rattle.explain_replay.specs.Addresses.{addresses_of}
+use Rattle.explain_replay.specs.Addresses.{addresses_of, due_addresses}
 use Rattle.explain_replay.specs.Named.{blocks_of, AreNamed}
 use Rattle.explain_replay.proofs.Requests.{request_small}
 use Rattle.explain_replay.proofs.broken.told.Goals as goal
@@ -22,7 +22,9 @@ returns c = λ shape memory bank rs stands.
     record {
       number = refl;
       rule = refl;
-      expected = c.in_ok-expected_of.ensures shape memory bank rs stands;
+      expected = c.in_ok-expected.ensures shape memory bank rs stands;
       addresses = c.in_ok-addresses_of.ensures ∙ ap (λ (s : Shape). addresses_of s c.args.request event) same;
+      due_addresses = c.in_ok-due_addresses.ensures
+          ∙ ap (λ (s : Shape). due_addresses s c.in_ok-expected.expected event) same;
       blocks = subst (λ (bs : List ℕ). AreNamed c.in_ok-named_blocks.field-0.items bs shape now) blocks named;
     }
