@@ -7,7 +7,7 @@ _score() {
     return
   fi
   case ${COMP_WORDS[1]} in
-    check) options='--workers --complete --progress -h --help' valued='--workers' ;;
+    check) options='--workers --complete --list --progress -h --help' valued='--workers' ;;
     stats) options='--progress -h --help' valued='' ;;
     explain) options='--events --map --complete --json --progress -h --help' valued='--events' files='--map' ;;
     cover) options='--dat --progress -h --help' valued='' files='--dat' ;;

@@ -30,6 +30,7 @@ Answers:
   refused workers 17                 there are 1 to 16
   refused usage                      the command line is wrong
   refused memory                     there is not enough memory
+  refused read list                  with --list alone: it cannot be read
 
 Places, numbers, ports, banks and logs count from 0. docs/RULES.md has
 each rule, docs/GUIDE.md what usually breaks it.
@@ -38,6 +39,11 @@ A trace may end anywhere, so the trace of a design that hangs can be legal.
 With --complete, each request of a legal trace must also have a reply. The
 line names the lowest port and its lowest tag without one. One thread judges
 the trace then.
+
+With --list, TRACE is the path of a text with the path of a trace in each
+line. Each of these traces is judged, and each answer has the trace's path
+and a colon before it. Nothing is told of progress then. The exit status is
+the greatest of all.
 
 With --progress, standard error gets a line for each twentieth of a file,
 or for each 64 MiB of a TRACE whose size is not known. If it is a terminal,
@@ -55,6 +61,7 @@ Examples:
   score check small.toml run.lfts
   score check --complete small.toml run.lfts
   score check --workers 4 --progress small.toml run.lfts
+  printf '%s\\n' *.lfts | score check --list small.toml -
   zstd -dc run.lfts.zst | score check small.toml -";
 
 /// How a trace is judged.
@@ -64,6 +71,8 @@ pub struct CheckOptions {
     pub workers: u16,
     /// Each request has to have a reply.
     pub complete: bool,
+    /// What is named as the trace is a list of traces.
+    pub list: bool,
     /// Standard error is told how far it is.
     pub progress: bool,
 }
@@ -79,6 +88,13 @@ pub const ARGUMENTS: &[Argument] = &[
         help: "How many threads judge the trace, 1 to 16",
     },
     COMPLETE,
+    Argument {
+        name: "list",
+        takes: Takes::Nothing,
+        value: "",
+        default: "",
+        help: "TRACE is a list of traces, a path in each line",
+    },
     PROGRESS,
 ];
 
@@ -90,6 +106,7 @@ pub fn request<'a>(matches: &ArgMatches<'a>) -> Result<Request<'a>, &'static str
         options: CheckOptions {
             workers: matches.get_one::<u16>("workers").ok_or(LEFT_OUT)?,
             complete: matches.get_flag("complete"),
+            list: matches.get_flag("list"),
             progress: matches.get_flag("progress"),
         },
     })

@@ -1,12 +1,13 @@
-//! `score check`: judges a trace, and prints one line.
+//! `score check`: judges a trace and prints one line, or so for each trace of a list.
 
-use crate::configuration::{bytes_at, text_in};
+use crate::configuration::{bytes_at, bytes_within, text_in};
 use crate::ending::Ending;
 use crate::progress::{Answer, reader_of};
 use crate::refused;
+use crate::trace::Trace;
 use command_line::CheckOptions;
 use lf_verdict::is_worker_count;
-use run_engine::{Counted, run_check, run_complete};
+use run_engine::{Counted, InputFault, run_check, run_complete};
 use std::io;
 use std::io::{Read, Write};
 use std::rt::Files;
@@ -36,6 +37,60 @@ fn judge_complete<T: Eprint + AllocGlobal, R: Read + Drop, W: Write + Drop>(
     writer.inner().ending(Ending::of_completion(&answer))
 }
 
+/// Judges the trace at this path.
+fn check_trace<
+    T: Print + Eprint + Input + Files + AllocGlobal + Threads + Sync + Send + Copy + 'static,
+>(rt: &T, config: &str, trace: &str, options: CheckOptions, on_terminal: bool) -> io::Result<Ending>
+where
+    T::File: Drop,
+{
+    let reader = reader_of(rt, trace, options.progress, on_terminal);
+    let answer = Answer::new(rt, io::writer(rt), options.progress && on_terminal);
+    if options.complete {
+        return judge_complete(rt, config, reader, answer);
+    }
+    judge(rt, config, reader, answer, u32::from(options.workers))
+}
+
+/// Judges each trace that this text names. Nothing is told of progress, which would go over the name of the trace.
+fn check_each<
+    T: Print + Eprint + Input + Files + AllocGlobal + Threads + Sync + Send + Copy + 'static,
+>(rt: &T, config: &str, traces: &str, options: CheckOptions) -> io::Result<Ending>
+where
+    T::File: Drop,
+{
+    let options = CheckOptions {
+        progress: false,
+        ..options
+    };
+    let mut ending = Ending::Done;
+    for trace in traces.lines() {
+        if !trace.is_empty() {
+            print!(rt; "{trace}: ")?;
+            ending = ending.worse(check_trace(rt, config, trace, options, false)?);
+        }
+    }
+    Ok(ending)
+}
+
+/// Judges the traces of the list at this path.
+fn check_list<
+    T: Print + Eprint + Input + Files + AllocGlobal + Threads + Sync + Send + Copy + 'static,
+>(rt: &T, config: &str, list: &str, options: CheckOptions) -> io::Result<Ending>
+where
+    T::File: Drop,
+{
+    let read = bytes_within(rt.alloc(), Trace::open(rt, list), u32::MAX);
+    match text_in(&read) {
+        Ok(traces) => check_each(rt, config, traces, options),
+        Err(InputFault::Memory) => refused(rt, InputFault::Memory),
+        Err(_) => {
+            println!(rt; "refused read list")?;
+            Ok(Ending::Refused)
+        }
+    }
+}
+
 /// Judges the workers before it opens a file, and the configuration before the trace is read.
 pub fn check<
     T: Print + Eprint + Input + Files + AllocGlobal + Threads + Sync + Send + Copy + 'static,
@@ -53,10 +108,8 @@ where
         Ok(text) => text,
         Err(why) => return refused(rt, why),
     };
-    let reader = reader_of(rt, trace, options.progress, on_terminal);
-    let answer = Answer::new(rt, io::writer(rt), options.progress && on_terminal);
-    if options.complete {
-        return judge_complete(rt, text, reader, answer);
+    if options.list {
+        return check_list(rt, text, trace, options);
     }
-    judge(rt, text, reader, answer, workers)
+    check_trace(rt, text, trace, options, on_terminal)
 }

@@ -45,6 +45,15 @@ impl Ending {
         }
     }
 
+    /// The one that has the greater status.
+    pub fn worse(self, other: Ending) -> Ending {
+        match self {
+            Ending::Done => other,
+            Ending::No if !matches!(other, Ending::Done) => other,
+            _ => self,
+        }
+    }
+
     /// The status of the program.
     pub fn code(self) -> ExitCode {
         match self {
