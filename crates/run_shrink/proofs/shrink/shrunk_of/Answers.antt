@@ -4,11 +4,6 @@ use Rattle.run_shrink.specs.Shrunk.{Breaks}
 use Rattle.run_shrink.proofs.Larger.{breaks}
 use Rattle.run_shrink.proofs.shrink.shrunk_of.Goals as goal
 
-pub trace_in-requires : goal.trace_in-requires
-trace_in-requires g c =
-    let is = c.requires.verdict.1 in
-    record { header = is.trace.header; memory = is.memory; records = is.trace.records; trace = is.trace.trace }
-
 pub returns-clause-shrunk : goal.returns-clause-shrunk
 returns-clause-shrunk g c =
     let shape = c.args.shape.now in
