@@ -33,12 +33,15 @@ origins_text rs marks (Some origins) = explain_origins.origins_text rs marks ori
 abbrev pub further_text : List Record → List Beside → List Origins → List ℕ
 further_text rs marks further = flat_map (explain_origins.origins_text rs marks) further
 
--- the record, what the rule asks, how many there are of what it is about, what the record has to carry and carries, what
--- the bank has of its blocks, the records that the state of the rule comes from, those that are told beside them, and
--- the records before
-abbrev pub explained_text : List Record → List Beside → Explanation → List ℕ
-explained_text rs marks why =
+-- the record, what the rule asks, how many there are of what it is about, and what the record has to carry and carries
+abbrev pub fault_text : List Record → List Beside → Explanation → List ℕ
+fault_text rs marks why =
     line_at rs marks why.history.place ++ asked_text why.rule ++ limit_text why.limit ++ free_text why.free
     ++ carried_text (record_at rs why.history.place) why.broken
-    ++ state_text why.broken ++ origins_text rs marks why.origins ++ further_text rs marks why.further.items
-    ++ before_text rs marks why.history.before.items
+
+-- that, what the bank has of its blocks, the records that the state of the rule comes from, those that are told beside
+-- them, and the records before
+abbrev pub explained_text : List Record → List Beside → Explanation → List ℕ
+explained_text rs marks why =
+    fault_text rs marks why ++ state_text why.broken ++ origins_text rs marks why.origins
+    ++ further_text rs marks why.further.items ++ before_text rs marks why.history.before.items

@@ -3,7 +3,8 @@
 ghost use Rattle.std.specs.Prelude.{Some};
 ghost use Rattle.explain_history.specs.Touching.{record_at};
 ghost use Rattle.explain_rule.specs.Carried.{carried_text};
-ghost use Rattle.explain_rule.specs.Text.{asked_text, before_text, origins_text, further_text, explained_text};
+ghost use Rattle.explain_rule.specs.Text.{asked_text, before_text, origins_text, further_text};
+ghost use Rattle.explain_rule.specs.Text.{fault_text, explained_text};
 ghost use Rattle.explain_lines.specs.Marks.{besides};
 
 use crate::carried::Carried;
@@ -125,6 +126,34 @@ impl fmt::Display for FurtherLines<'_> {
     }
 }
 
+/// The record, what the rule asks, how many there are of what it is about, and what it asks that the record carries.
+#[derive(Clone, Copy)]
+struct FaultLines<'a> {
+    listing: Listing<'a>,
+    why: &'a Explanation,
+}
+
+impl fmt::Display for FaultLines<'_> {
+    ghost output = { λ it. Some
+        (fault_text it.listing.records.now.records (besides it.listing.marks.now) it.why.now) };
+
+    fn fmt<W: fmt::Write>(&self, f: &mut fmt::Formatter<W>) -> fmt::Result {
+        let listing = self.listing;
+        let record = RecordLine {
+            listing,
+            place: self.why.history.place,
+        };
+        let asked = Asked(self.why.rule);
+        let limit = LimitLine(self.why.limit);
+        let free = FreeLine(self.why.free);
+        let carried = RecordCarries {
+            listing,
+            why: self.why,
+        };
+        write!(f, "{record}{asked}{limit}{free}{carried}")
+    }
+}
+
 /// An explanation over the records of its trace. Its text is lines, each with its newline: the record, what
 /// the rule asks, how many there are of what it is about, what it asks that the record carries, what the bank has of
 /// its blocks, the records that the state of the rule comes from, those that are told beside them, and the records
@@ -141,14 +170,7 @@ impl fmt::Display for Explained<'_> {
 
     fn fmt<W: fmt::Write>(&self, f: &mut fmt::Formatter<W>) -> fmt::Result {
         let listing = self.listing;
-        let record = RecordLine {
-            listing,
-            place: self.why.history.place,
-        };
-        let asked = Asked(self.why.rule);
-        let limit = LimitLine(self.why.limit);
-        let free = FreeLine(self.why.free);
-        let carried = RecordCarries {
+        let fault = FaultLines {
             listing,
             why: self.why,
         };
@@ -165,9 +187,6 @@ impl fmt::Display for Explained<'_> {
             listing,
             places: &self.why.history.before,
         };
-        write!(
-            f,
-            "{record}{asked}{limit}{free}{carried}{state}{origins}{further}{before}"
-        )
+        write!(f, "{fault}{state}{origins}{further}{before}")
     }
 }
