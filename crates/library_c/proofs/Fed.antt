@@ -1,5 +1,5 @@
 -- What a session answered to a piece, by what stopped it before and after.
-use Rattle.std.proofs.Common.{◌≡◌, ℕ, List, ◌++◌, Option, Some, None, Result, Ok, Err, refl, sym, ap, ◌∙◌, subst, arith}
+use Rattle.std.proofs.Common.{◌≡◌, ℕ, List, ◌++◌, Option, Some, None, Ok, Err, refl, sym, ap, ◌∙◌, subst, arith}
 use Rattle.std.specs.Prelude.{IfSome, IsSome}
 use Rattle.lf_codec.specs.declared.fault.Told.{Told}
 use Rattle.lf_codec.specs.declared.fault.Told.TheVariants.{Fault, Failed}
@@ -26,7 +26,7 @@ was_stopped None None told is stays = absurd cc
 was_stopped None (Some stop) told is stays =
     let same : told ≡ Fault (refusal_of stop) = cc in (stop, refl, sym (ap fault_in same))
 was_stopped (Some stop) after told is stays =
-    let same : told ≡ Failed (refusal_of stop) = cc in (stop, stays tt, sym (ap fault_in same))
+    let same : told ≡ Failed (refusal_of stop) = cc in (stop, stays refl, sym (ap fault_in same))
 
 module _ (piece : List ℕ) (s s' : Seen) (shape : s'.shape ≡ s.shape) (fed : s'.fed ≡ s.fed ++ piece)
     (stays : IsSome s.stop → s'.stop ≡ s.stop) where
