@@ -25,14 +25,14 @@ use Rattle.lf_verdict.proofs.Answered.{limit_is_small}
 use Rattle.lf_codec.specs.Reading.{Reading, reading_of, fault_so_far, header_now, header_of}
 use Rattle.lf_codec.specs.Reader.{HasRead, RanOut, WantsMemory, told, fault_in, with_record}
 use Rattle.lf_codec.specs.Trace.{IsTrace, FitsIn}
-use Rattle.lf_verdict.specs.declared.answer.Verdict.TheVariants.{Refused}
+use Rattle.lf_verdict.specs.declared.answer.Outcome.TheVariants.{Refused}
 use Rattle.lf_verdict.specs.declared.answer.HeaderField.{HeaderField}
 use Rattle.lf_verdict.specs.declared.session.intake.Intake.{Intake}
 use Rattle.lf_verdict.specs.declared.stop.Stop.{Stop}
 use Rattle.lf_verdict.specs.declared.stop.Stop.TheVariants as stops
 use Rattle.lf_verdict.specs.declared.session.standing.Standing.{Standing}
 use Rattle.lf_verdict.specs.Legal.{Agrees, IsTraceFor}
-use Rattle.lf_verdict.specs.inner.Ending.{IsVerdictOrWant}
+use Rattle.lf_verdict.specs.inner.Judged.{IsOutcomeOrWant}
 use Rattle.lf_verdict.specs.inner.Gathering.{IsFaultOrWant, IsStopOf}
 use Rattle.lf_verdict.specs.Breaking.{first_offset}
 use Rattle.lf_verdict.specs.Standing.{IsWatch, StandsAfterAll}
@@ -47,7 +47,7 @@ use Rattle.std.specs.Prelude.{IsSome}
 use Rattle.lf_verdict.specs.declared.session.intake.Judging.{Judging}
 use Rattle.lf_verdict.specs.declared.session.intake.Judging.TheVariants.{Waiting, Running, Another}
 use Rattle.lf_rules.specs.InRange.{IsShape}
-use Rattle.lf_verdict.specs.Verdict.{Differs, IsOfAnother}
+use Rattle.lf_verdict.specs.Outcome.{Differs, IsOfAnother}
 
 -- ---- the next record may come
 
@@ -148,7 +148,7 @@ may_all_come law shape bytes memory records r running read run =
 -- ---- what a session answers
 
 pub told_stop : (shape : Shape) (bytes : List ℕ) (fault : CodecFault) (stop : Stop) → IsFaultOrWant bytes fault →
-    IsStopOf fault stop → IsVerdictOrWant shape bytes (Refused (refusal_of stop))
+    IsStopOf fault stop → IsOutcomeOrWant shape bytes (Refused (refusal_of stop))
 told_stop shape bytes fault (stops.Format told) either is = reading_stop bytes fault (stops.Format told) either is
 told_stop shape bytes fault stops.Memory either is = tt
 

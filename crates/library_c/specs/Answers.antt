@@ -1,6 +1,6 @@
 -- What the calls answer.
 use Rattle.std.specs.Prelude.{◌≡◌, ◌⊎◌, ℕ, List, [], ◌++◌, length, take, drop, min, codes, Option, Some, None, Ok}
-use Rattle.std.specs.Prelude.{IfSome, IsUtf8}
+use Rattle.std.specs.Prelude.{true, IfSome, IsUtf8}
 use Rattle.lf_config.specs.Configuration.{configuration_of}
 use Rattle.lf_config.specs.declared.fault.ConfigFault.TheVariants.{NotToml}
 use Rattle.lf_codec.specs.Reading.{fault_so_far}
@@ -47,11 +47,13 @@ pub record IsLine (status : ℕ) (text : List ℕ) (answer : Answer) (line line'
 
 -- ---- opening, of a board that has this session or none
 
--- The session is for the hierarchy that the text says, and was fed nothing. Nothing stopped it.
+-- The session is for the hierarchy that the text says, and was fed nothing. Nothing stopped it. It is asked what breaks
+-- first.
 pub record IsOpened (text : List ℕ) (session : Seen) : Type 0 where
   pub configured : configuration_of text ≡ Ok session.shape
   pub fed : session.fed ≡ []
   pub going : session.stop ≡ None
+  pub watched : session.asked.watched ≡ true
 
 -- The bytes are no text, or no configuration, or memory ran out.
 abbrev pub IsNoConfiguration : List ℕ → Refusal → Type 0
@@ -75,6 +77,7 @@ feed_status (Some stop) = 2
 -- The piece is what the session was fed behind all that it was fed before.
 pub record IsFedMore (piece : List ℕ) (s s' : Seen) (status : ℕ) : Type 0 where
   pub shape : s'.shape ≡ s.shape
+  pub asked : s'.asked ≡ s.asked
   pub fed : s'.fed ≡ s.fed ++ piece
   pub status_is : status ≡ feed_status s'.stop
   pub fine : status ≡ 0 → fault_so_far s'.fed ≡ None

@@ -1,6 +1,6 @@
 //! What C calls. `Global` has no place in C: each call takes what is written before and after it.
 
-ghost use Rattle.std.specs.Prelude.{◌≡◌, None, IfOk, IfErr, IfSome, IfNone};
+ghost use Rattle.std.specs.Prelude.{◌≡◌, true, None, IfOk, IfErr, IfSome, IfNone};
 ghost use Rattle.lf_verdict.specs.Named.{NoneBrokeSoFar};
 ghost use Rattle.library_c.specs.Answers.{IsOpened, IsNoConfiguration, IsOpening, IsFedMore, IsFeeding, IsBroken};
 ghost use Rattle.library_c.specs.Answers.{IsAsking, IsJudged, IsFinishing};
@@ -81,6 +81,7 @@ pub extern "C" fn wudzark_feed(alloc: Global, board: &mut Board, piece: &[u8]) -
 
 /// What broke of the session's trace for good.
 fn broken(session: &Session) -> Option<Broken>
+    requires { session.now.asked.watched ≡ true }
     ensures some { IfSome result (IsBroken session.now) }
     ensures none { session.now.stop ≡ None → IfNone result (NoneBrokeSoFar session.now.shape session.now.fed) }
 {

@@ -5,7 +5,9 @@
 use crate::examples::cycle_of;
 use lf_codec::Told;
 use lf_rules::Rule;
-use lf_verdict::{Fault, NoGate, ParallelSession, Refusal, Session, Verdict, check};
+use lf_verdict::{
+    Asked, Fault, NoGate, Outcome, ParallelSession, Refusal, Session, Verdict, check,
+};
 use std::process::Abort;
 use std::sync::Wait;
 use std::test::Fail;
@@ -154,19 +156,28 @@ fn refused_growth_of_session_on_cycle_of_two_logs(rt: HostRuntime) -> Result<(),
 #[test]
 fn refused_growth_of_session_by_four_workers(rt: HostRuntime) -> Result<(), Fail> {
     let bytes = hits_and(rt.alloc(), 60, HIT)?;
-    let mut session = ParallelSession::in_batches(rt.alloc(), &C1, 4, 40, NoGate, true);
+    let asked = Asked {
+        ordered: true,
+        watched: false,
+        counted: false,
+    };
+    let mut session = ParallelSession::in_batches(rt.alloc(), &C1, 4, 40, NoGate, asked);
     for piece in bytes.chunks(1024) {
         if let Err(told) = session.feed(&rt, piece) {
             assert_eq!(rt; told, Told::Fault(Refusal::Memory));
-            assert_eq!(rt; session.finish(&rt), Verdict::Refused(Refusal::Memory));
+            assert_eq!(rt;
+                session.conclude(&rt).outcome,
+                Outcome::Refused(Refusal::Memory)
+            );
             return Err(memory_ran_out());
         }
     }
-    match session.finish(&rt) {
-        Verdict::Yes { events, .. } => {
-            assert_eq!(rt; events, 189);
+    match session.conclude(&rt).outcome {
+        Outcome::Refused(Refusal::Memory) => Err(memory_ran_out()),
+        Outcome::Refused(Refusal::Thread) => Err(thread_refused()),
+        outcome => {
+            assert_eq!(rt; outcome, Outcome::Yes { events: 189 });
             Ok(())
         }
-        other => assert_due(&rt, &other, &Due::Yes(&[])),
     }
 }

@@ -3,7 +3,7 @@ use Rattle.lf_rules.specs.Address.{flat_memory}
 use Rattle.lf_verdict.specs.declared.session.intake.Judging.{Judging}
 use Rattle.lf_verdict.specs.inner.Fed.{IsJudging}
 use Rattle.lf_verdict.specs.inner.Taking.{IsDrained}
-use Rattle.lf_verdict.proofs.Asked.{named_of_all, none_of_all}
+use Rattle.lf_verdict.proofs.SoFar.{named_of_all, none_of_all}
 use Rattle.lf_verdict.proofs.Finals.{begins_fed}
 use Rattle.lf_verdict.proofs.session.intake.Intake.at_fault.Goals as goal
 
