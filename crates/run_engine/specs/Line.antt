@@ -2,6 +2,8 @@
 use Rattle.std.specs.Prelude.{ℕ, List, [], ◌∷◌, ◌++◌, codes}
 use Rattle.std.specs.Fmt.{decimal}
 use Rattle.lf_config.specs.declared.fault.ConfigFault.TheVariants as config_faults
+use Rattle.lf_verdict.specs.declared.answer.Outcome.{Outcome}
+use Rattle.lf_verdict.specs.declared.answer.Outcome.TheVariants as outcomes
 use Rattle.lf_verdict.specs.declared.answer.Refusal.TheVariants as refusals
 use Rattle.lf_verdict.specs.declared.answer.Verdict.{Verdict}
 use Rattle.lf_verdict.specs.declared.answer.Verdict.TheVariants.{Yes, No, Refused}
@@ -11,6 +13,11 @@ use Rattle.run_engine.specs.declared.line.InputFault.{InputFault}
 use Rattle.run_engine.specs.declared.line.InputFault.TheVariants as inputs
 use Rattle.run_engine.specs.declared.line.Line.{Line}
 use Rattle.run_engine.specs.declared.line.Line.TheVariants as lines
+
+abbrev pub outcome_text : Outcome → List ℕ
+outcome_text (outcomes.Yes events) = codes "yes events=" ++ decimal events
+outcome_text (outcomes.No fault) = codes "no " ++ fault_text fault
+outcome_text (outcomes.Refused refusal) = codes "refused " ++ refusal_text refusal
 
 abbrev pub verdict_text : Verdict → List ℕ
 verdict_text (Yes events order) = codes "yes events=" ++ decimal events
@@ -27,12 +34,13 @@ input_text inputs.Memory = refusal_text refusals.Memory
 -- what a line says
 abbrev pub line_text : Line → List ℕ
 line_text (lines.Judged verdict) = verdict_text verdict.now
+line_text (lines.Concluded outcome) = outcome_text outcome.now
 line_text (lines.Incomplete request) = codes "no " ++ incomplete_text request
 line_text (lines.Refused fault) = codes "refused " ++ input_text fault
 
 -- the text and one newline
-abbrev pub line_of : Verdict → List ℕ
-line_of v = verdict_text v ++ 10 ∷ []
+abbrev pub line_of : Outcome → List ℕ
+line_of outcome = outcome_text outcome ++ 10 ∷ []
 
 -- what is written where the trace was not read
 abbrev pub not_read_line : List ℕ

@@ -1,7 +1,8 @@
 //! The coverage that is written.
 
 use crate::streams::Pieces;
-use run_engine::{Counted, run_cover, run_cover_data};
+use run_engine::Counted;
+use run_report::{run_cover, run_cover_data};
 use std::test::Fail;
 use trace_samples::{C1_TEXT, LOAD_MISSES_BOTH_LEVELS};
 

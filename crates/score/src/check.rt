@@ -22,20 +22,19 @@ fn judge<T: AllocGlobal + Threads + Sync + Send + Copy + 'static, R: Read + Drop
     let mut reader = Counted::new(trace);
     let mut writer = Counted::new(writer);
     let answer = run_check(rt, &mut reader, &mut writer, config, workers, u32::MAX);
-    Ending::of_answer(&answer)
+    Ending::of_answer(&answer, false)
 }
 
 /// Judges with one worker, and asks whether each request has a reply.
-fn judge_complete<T: AllocGlobal, R: Read + Drop, W: Write + Drop>(
-    rt: &T,
-    config: &str,
-    trace: R,
-    writer: W,
-) -> Ending {
+fn judge_complete<
+    T: AllocGlobal + Threads + Sync + Send + Copy + 'static,
+    R: Read + Drop,
+    W: Write + Drop,
+>(rt: &T, config: &str, trace: R, writer: W) -> Ending {
     let mut reader = Counted::new(trace);
     let mut writer = Counted::new(writer);
     let answer = run_complete(rt, &mut reader, &mut writer, config, u32::MAX);
-    Ending::of_completion(&answer)
+    Ending::of_answer(&answer, true)
 }
 
 /// Judges the workers before it opens a file, and the configuration before the trace is read.

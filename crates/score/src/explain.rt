@@ -8,15 +8,17 @@ use command_line::ExplainOptions;
 use explain_json::{no_memory_json, refused_json};
 use explain_refusal::ConfigRefusal;
 use lf_rules::NoMemory;
-use lf_verdict::{Refusal, Verdict};
-use run_engine::{Asked, Counted, run_explain, run_explain_json};
+use lf_verdict::{Outcome, Refusal};
+use run_engine::Counted;
+use run_report::{Asked, run_explain, run_explain_json};
 use std::alloc::Global;
 use std::rt::Files;
+use std::thread::Threads;
 use std::{fmt, io};
 
 /// Tells what the key of a configuration that is refused may have.
-fn tell_config<T: Print>(rt: &T, verdict: &Verdict, text: &str) -> io::Result<()> {
-    let Verdict::Refused(Refusal::Config(fault)) = verdict else {
+fn tell_config<T: Print>(rt: &T, outcome: &Outcome, text: &str) -> io::Result<()> {
+    let Outcome::Refused(Refusal::Config(fault)) = outcome else {
         return Ok(());
     };
     let why = ConfigRefusal { text, fault };
@@ -49,7 +51,9 @@ fn not_judged<T: Print + AllocGlobal, D: fmt::Display>(
 }
 
 /// Judges the configuration and reads the map before the trace is read.
-pub fn explain<T: Print + Eprint + Input + Files + AllocGlobal>(
+pub fn explain<
+    T: Print + Eprint + Input + Files + AllocGlobal + Threads + Sync + Send + Copy + 'static,
+>(
     rt: &T,
     config: &str,
     trace: &str,
@@ -78,11 +82,11 @@ where
     let mut writer = Counted::new(answer);
     if options.json {
         let answer = run_explain_json(rt, &mut reader, &mut writer, text, &asked, u32::MAX);
-        return Ok(Ending::of_completion(&answer));
+        return Ok(Ending::of_answer(&answer, asked.complete));
     }
     let answer = run_explain(rt, &mut reader, &mut writer, text, &asked, u32::MAX);
-    if let Ok(completion) = &answer {
-        tell_config(rt, &completion.verdict, text)?;
+    if let Ok(conclusion) = &answer {
+        tell_config(rt, &conclusion.outcome, text)?;
     }
-    Ok(Ending::of_completion(&answer))
+    Ok(Ending::of_answer(&answer, asked.complete))
 }

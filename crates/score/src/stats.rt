@@ -7,15 +7,12 @@ use crate::refused;
 use run_engine::{Counted, run_stats};
 use std::io;
 use std::rt::Files;
+use std::thread::Threads;
 
 /// Judges the configuration before the trace is read.
-pub fn stats<T: Print + Eprint + Input + Files + AllocGlobal>(
-    rt: &T,
-    config: &str,
-    trace: &str,
-    progress: bool,
-    on_terminal: bool,
-) -> io::Result<Ending>
+pub fn stats<
+    T: Print + Eprint + Input + Files + AllocGlobal + Threads + Sync + Send + Copy + 'static,
+>(rt: &T, config: &str, trace: &str, progress: bool, on_terminal: bool) -> io::Result<Ending>
 where
     T::File: Drop,
 {
@@ -27,5 +24,5 @@ where
     let mut reader = Counted::new(reader_of(rt, trace, progress, on_terminal));
     let mut writer = Counted::new(Answer::new(rt, io::writer(rt), progress && on_terminal));
     let answer = run_stats(rt, &mut reader, &mut writer, text, u32::MAX);
-    Ok(Ending::of_answer(&answer))
+    Ok(Ending::of_verdict(&answer))
 }

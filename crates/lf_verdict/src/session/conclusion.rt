@@ -45,7 +45,7 @@ fn verdict_with(outcome: Outcome, order: Option<Vec<u8>>) -> Verdict
 
 impl Conclusion {
     /// Where the bytes are refused.
-    pub(crate) fn refused(fed: Fed, refusal: Refusal) -> Conclusion
+    pub fn refused(fed: Fed, refusal: Refusal) -> Conclusion
         ensures { result ≡ refused fed refusal }
     {
         Conclusion {
