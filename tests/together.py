@@ -10,7 +10,6 @@ Of each kind those that were started first run first. The last line is `N passed
 
 from __future__ import annotations
 
-import contextlib
 import os
 import re
 import signal
@@ -75,10 +74,11 @@ class Ended:
 
 
 def put_behind(process: int) -> None:
-    """Lowers the priority of a process in a session of its own. Linux has one for the session too, if it was built so."""
+    """Lowers the priority of a process, and leaves one processor to the others: sessions of their own share these alike
+    on Linux, whatever their priority."""
     os.setpriority(os.PRIO_PGRP, process, 10)
-    with contextlib.suppress(OSError):
-        Path(f"/proc/{process}/autogroup").write_text("10", encoding="utf-8")
+    if rest := sorted(os.sched_getaffinity(0))[1:]:
+        os.sched_setaffinity(process, rest)
 
 
 class Together:
