@@ -96,6 +96,7 @@ fn last_store_of_a_byte(rt: HostRuntime) -> Result<(), Fail> {
     let due = "
 the last accepted store of the first byte that differs:
 hit bank=0 number=4 port=0 tag=0 ; at 48
+  of store port=0 bank=0 number=0 tag=0 size=4 address=0x8 bytes=00000000 ; at 16
 ";
     assert_origins(&rt, &events, Rule::ReplyData, Some(11), due)
 }
