@@ -42,6 +42,26 @@ impl Read for Pieces<'_> {
     }
 }
 
+/// Gives its first bytes, and then the same ones again and again. It never ends.
+#[derive(Drop)]
+pub struct Endless<'a> {
+    pub rest: &'a [u8],
+    pub again: &'a [u8],
+}
+
+impl Read for Endless<'_> {
+    fn read(&mut self, buf: &mut [u8]) -> io::Result<usize> {
+        if self.rest.is_empty() {
+            self.rest = self.again;
+        }
+        let n = buf.len().min(self.rest.len());
+        let (now, later) = self.rest.split_at(n);
+        buf[..n].copy_from_slice(now);
+        self.rest = later;
+        Ok(n)
+    }
+}
+
 /// Takes so many bytes, and then fails, or takes nothing where it has no failure.
 #[derive(Drop)]
 pub struct Sink {

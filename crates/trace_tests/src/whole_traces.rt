@@ -251,3 +251,24 @@ fn initial_memory(rt: HostRuntime) -> Result<(), Fail> {
     assert_eq!(rt; trace.get(..28), Some(want.as_slice()));
     assert_memory(&rt, rt.alloc(), &want, header, contents)
 }
+
+/// A header of version 2, 2^20 loads, and one more.
+#[test]
+fn longer_logs(rt: HostRuntime) -> Result<(), Fail> {
+    let header = bytes_of(rt.alloc(), "4c46545302000101 0800000000000000")?;
+    let load = bytes_of(rt.alloc(), "0100000000000000 00000800 0000000000000000")?;
+    let mut many = Vec::new(rt.alloc());
+    for _ in 0..1024 {
+        many.extend_from_slice(&load)?;
+    }
+    let mut reader = Reader::new(rt.alloc());
+    feed(&mut reader, &header)?;
+    for _ in 0..1024 {
+        feed(&mut reader, &many)?;
+        for _ in 0..1024 {
+            let _ = reader.take();
+        }
+    }
+    assert_eq!(rt; reader.feed(&load), Ok(()));
+    Ok(())
+}
